@@ -1,4 +1,9 @@
 mod Utf8
 mod Reading
+mod Keeping
 mod Storing
 pub mod Sayable
+mod Hearing
+mod Replying
+mod Exactly
+mod Telling

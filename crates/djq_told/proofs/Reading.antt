@@ -16,7 +16,7 @@ use Rattle.djq_value.specs.Literal.{is_small_value}
 use Rattle.djq_value.specs.Token.{Token, word, text, open_paren, close_paren, comma, arrow, operator}
 use Rattle.djq_lines.specs.declared.command.Command.{Command}
 use Rattle.djq_lines.specs.declared.command.Command.TheVariants.{Rel, Add, Del, Query as Register, Drop, Open, Next, Close, Has, Watch, Unwatch, Explain, Shape, Quit, Stop}
-use Rattle.djq_lines.specs.Grammar.{Item, atom, comparison, past_item, is_small_term, is_small_atom, is_in_range, command_of, Reading, says as says_command, reading_in, reading_of}
+use Rattle.djq_lines.specs.Grammar.{Item, atom, comparison, past_item, is_small_term, is_small_atom, is_in_range, command_of, Reading, past_limit, says as says_command, reading_in, reading_of}
 use Rattle.djq_proto.specs.Laws.{Spells}
 use Rattle.djq_proto.specs.Saying.{Says, SaysAtom, SaysComparison, SaysItem, SaysItems, SaysName, SaysTerm, SaysValue, list_tokens, more_tokens, atoms_among, comparisons_among}
 use Rattle.djq_proto.proofs.Spelled.{commands_are_spelled}
@@ -138,12 +138,12 @@ query_said q ts (us, (heads, body, name, head, (items, said, atoms, comparisons,
     let l = (subst HaveUtf8 parts k).1 in
     let m = (back_utf8 (list_tokens heads) (arrow ∷ body) l).1 in
     let are : are_small items ≡ true =
-    subst (λ (as : List Atom). (list_all is_small_atom as && list_all (λ (c : Comparison). is_small_value c.constant) (comparisons_among items)) ≡ true) atoms
+    subst (λ (ms : List Atom). (list_all is_small_atom ms && list_all (λ (c : Comparison). is_small_value c.constant) (comparisons_among items)) ≡ true) atoms
     (subst (λ (cs : List Comparison). (list_all is_small_atom q.atoms && list_all (λ (c : Comparison). is_small_value c.constant) cs) ≡ true) comparisons small) in
     let both = items_said 0 items body said m are in record {
       name = name;
       head = names_said q.head heads head;
-      atoms = subst (λ (as : List Atom). All IsSayableAtom as) (sym atoms) both.0;
+      atoms = subst (λ (ms : List Atom). All IsSayableAtom ms) (sym atoms) both.0;
       comparisons = subst (λ (cs : List Comparison). All IsSayableComparison cs) (sym comparisons) both.1;
     }
 
@@ -170,7 +170,7 @@ reading_says : (o : Option Command) (c : Command) → reading_in o ≡ says_comm
 reading_says None c e = absurd cc
 reading_says (Some d) c e = by (is_in_range d) refl e
   where
-    by : (b : Bool) → is_in_range d ≡ b → cond b (says_command d) _ ≡ says_command c → (Some d ≡ Some c) × (is_in_range c ≡ true)
+    by : (b : Bool) → is_in_range d ≡ b → cond b (says_command d) (past_limit d) ≡ says_command c → (Some d ≡ Some c) × (is_in_range c ≡ true)
     by false k f = absurd cc
     by true k f =
         let same : d ≡ c = cc in

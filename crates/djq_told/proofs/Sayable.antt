@@ -33,11 +33,11 @@ use Rattle.djq_laws.specs.Sound.{IsStart}
 use Rattle.djq_laws.specs.Form.{form_of, Form, asking, storing, turning, changing, ending, Turn, opens_cursor, moves_cursor, closes_cursor, starts_watching, stops_watching, Replied, is_whole, is_cut, without_cursor, Turned, DoesTurn, is_turned, is_refused, Does}
 use Rattle.djq_laws.proofs.Finding.{some_and}
 use Rattle.djq_laws.proofs.Forms.{command_does}
-use Rattle.djq_laws.proofs.Told.{change_keeps}
 use Rattle.djq_laws.proofs.Queueing.{session_changed}
 use Rattle.djq_laws.proofs.Changing.{all_changed, all_found, all_dropped, all_mapped}
 use Rattle.djq_told.specs.Sayable.{IsName, IsSayableValue, IsSayableRow, IsSayableRelation, IsSayableListed, IsSayableStore, IsSayablePosition, IsSayableCursor, IsSayableSession, IsSayableState, RunsKeepSayable, OpeningIsSayable, StatesAreSayable}
 use Rattle.djq_told.proofs.Reading.{IsSayableCommand, read_sayable}
+use Rattle.djq_told.proofs.Keeping.{change_keeps}
 use Rattle.djq_told.proofs.Storing.{answer_sayable, rel_sayable, add_sayable, del_sayable, query_sayable, drop_sayable, moved_store_sayable}
 
 -- ---- sessions

@@ -1,8 +1,8 @@
 -- What commands make of the store has names, and values within their limits.
-use Rattle.std.specs.Prelude.{ℕ, List, [], ◌∷◌, ◌==◌, ◌&&◌, ◌||◌, ◌≡◌, ◌≤◌, ◌<◌, ◌+◌, ◌++◌, ◌⊎◌, Bool, true, false, not, cond, nat_le, length, Option, None, Some, is_some, is_none, Result, Ok, Err, map, All, Contains, IsPermutation, ⊤}
+use Rattle.std.specs.Prelude.{ℕ, List, [], ◌∷◌, ◌==◌, ◌&&◌, ◌||◌, ◌≡◌, ◌≤◌, ◌<◌, ◌+◌, ◌++◌, ◌⊎◌, Bool, true, false, not, cond, nat_le, nat_lt, length, Option, None, Some, is_some, is_none, Result, Ok, Err, map, All, Contains, IsPermutation, ⊤}
 use Rattle.std.specs.List.{list_any}
 use Rattle.std.proofs.Common.{refl, sym, ap, ◌∙◌, subst, inl, inr, arith}
-use Rattle.std.proofs.lemmas.Bool.{eq-eqb, leb-false}
+use Rattle.std.proofs.lemmas.Bool.{eq-eqb, leb-false, ltb-false}
 use Rattle.std.proofs.lemmas.List.Elements.{All-nil, All-cons, All-head, All-tail, All-push, All-contains}
 use Rattle.std.proofs.lemmas.List.Sorted.{All-permutation}
 use Rattle.djq_model.specs.declared.value.Value.{Value}
@@ -20,9 +20,9 @@ use Rattle.djq_model.specs.Listed.{Listed, a_query, listed_name, AnswersOf, list
 use Rattle.djq_model.specs.Known.{texts_in}
 use Rattle.djq_model.proofs.Counted.{tuples_with_row, tuples_with_copies, tuples_without, tuples_moved}
 use Rattle.djq_lines.specs.Conditions.{first_of, Answers, OutOfMemoryWhere}
-use Rattle.djq_lines.specs.QueryFault.{query_faults, whole_query_refusal}
-use Rattle.djq_lines.specs.Variables.{constants_of, is_variable, stands_in}
-use Rattle.djq_lines.specs.declared.limits.TheConstants.{LAST_SEQ, QUERIES}
+use Rattle.djq_lines.specs.QueryFault.{is_too_large, query_faults, whole_query_refusal}
+use Rattle.djq_lines.specs.Variables.{constants_of, is_variable, stands_in, variables_of}
+use Rattle.djq_lines.specs.declared.limits.TheConstants.{LAST_SEQ, COPIES, ROWS, QUERIES, ATOMS, VARIABLES, HEAD_VARIABLES, COMPARISONS}
 use Rattle.djq_lines.specs.declared.rest.QueryOutcome.{QueryOutcome}
 use Rattle.djq_lines.specs.declared.rest.QueryOutcome.TheVariants.{Registered, Cyclic, NotConnex}
 use Rattle.djq_lines.specs.declared.answer.Refusal.{Refusal}
@@ -34,7 +34,7 @@ use Rattle.djq_lines.specs.declared.answer.DeleteOutcome.TheVariants.{Last, Left
 use Rattle.djq_deltas.specs.Finite.{IsInBody, IsBound}
 use Rattle.djq_deltas.proofs.Lists.{nothing_there, first_or_later, first_there, later_there, hold_each}
 use Rattle.djq_machine.specs.State.{Store}
-use Rattle.djq_machine.specs.Store.{RefusedByTexts, RefusedLate, RegistersAs, MakesRelation, RegistersQuery, DropsQuery, AddsRow, AddsAs, DeletesRow, DeletesAs, with_rows, with_copies_of, copies_of, rel_refusal, query_refusal, drop_refusal, add_refusal, delete_refusal}
+use Rattle.djq_machine.specs.Store.{RefusedByTexts, RefusedLate, RegistersAs, MakesRelation, RegistersQuery, DropsQuery, AddsRow, AddsAs, DeletesRow, DeletesAs, with_rows, with_copies_of, copies_of, row_refusals, rel_refusal, query_refusal, drop_refusal, add_refusal, delete_refusal}
 use Rattle.djq_machine.specs.Step.{SameRelations}
 use Rattle.djq_laws.specs.Form.{LearnsTexts}
 use Rattle.djq_laws.proofs.Forms.{done_of, none_holds, stays_learned, late_learned, refused_learned}
@@ -42,7 +42,7 @@ use Rattle.djq_laws.proofs.Changing.{all_changed, all_found, all_dropped}
 use Rattle.djq_laws.proofs.Answering.{none_pass}
 use Rattle.djq_laws.proofs.Apart.{without_dropped}
 use Rattle.djq_laws.proofs.Containing.{mapped_from}
-use Rattle.djq_told.specs.Sayable.{IsName, IsSayableValue, IsSayableRow, IsSayableRelation, IsSayableQuery, IsSayableListed, IsSayableStore}
+use Rattle.djq_told.specs.Sayable.{IsName, IsSayableValue, IsSayableRow, IsSayableRelation, IsSayableQuery, IsAskable, IsSayableListed, IsSayableStore}
 
 -- ---- conditions that all fail
 
@@ -52,11 +52,12 @@ AllFail (c ∷ cs) = (c.0 ≡ false) × AllFail cs
 
 pub all_fail : (cs : List (Bool × Refusal)) → first_of cs ≡ None → AllFail cs
 all_fail [] e = tt
-all_fail (c ∷ cs) e = by c.0 refl e
+all_fail (c ∷ cs) e = by c.0 refl e (λ f. all_fail cs f)
   where
-    by : (b : Bool) → c.0 ≡ b → cond b (Some c.1) (first_of cs) ≡ None → AllFail (c ∷ cs)
-    by true k f = absurd cc
-    by false k f = (k, all_fail cs f)
+    by : (b : Bool) → c.0 ≡ b → cond b (Some c.1) (first_of cs) ≡ None → (first_of cs ≡ None → AllFail cs)
+        → AllFail (c ∷ cs)
+    by true k f more = absurd cc
+    by false k f more = (k, more f)
 
 not_failed : (b : Bool) → not b ≡ false → b ≡ true
 not_failed true e = refl
@@ -72,11 +73,12 @@ cell_there : (P : Value → Type 0) (b : Assignment) (ts : List Term) (vs : Tupl
     → Contains ts (Variable x) → All P vs → P (b x)
 cell_there P b [] vs x h k all = absurd (nothing_there (Variable x) k)
 cell_there P b (t ∷ ts) [] x h k all = absurd h
-cell_there P b (t ∷ ts) (v ∷ vs) x h k all = by (first_or_later t ts (Variable x) k)
+cell_there P b (t ∷ ts) (v ∷ vs) x h k all =
+    by (first_or_later t ts (Variable x) k) (λ c. cell_there P b ts vs x h.1 c (All-tail P v vs all))
   where
-    by : (t ≡ Variable x) ⊎ Contains ts (Variable x) → P (b x)
-    by (inl e) = subst P (sym (subst (λ (u : Term). StandsFor b u v) e h.0)) (All-head P v vs all)
-    by (inr c) = cell_there P b ts vs x h.1 c (All-tail P v vs all)
+    by : (t ≡ Variable x) ⊎ Contains ts (Variable x) → (Contains ts (Variable x) → P (b x)) → P (b x)
+    by (inl e) more = subst P (sym (subst (λ (u : Term). StandsFor b u v) e h.0)) (All-head P v vs all)
+    by (inr c) more = more c
 
 pub rows_sayable : (rs : List Relation) (name : Bytes) → All IsSayableRelation rs → All IsSayableRow (rows_of rs name)
 rows_sayable rs name h = by (relation_of rs name) refl
@@ -91,7 +93,7 @@ answer_sayable rs h (a_query q) k t a =
     subst IsSayableRow (sym a.on_head)
     (hold_each IsSayableValue (map a.assignment q.head) (λ v c.
     let x = mapped_from a.assignment q.head v c in
-    let m = k.1 x.0 x.1 in
+    let m = k.1.bound x.0 x.1 in
     let s = All-contains (Satisfies rs a.assignment) q.atoms m.0 a.satisfies m.1 in
     subst IsSayableValue x.2
     (cell_there IsSayableValue a.assignment (m.0).terms s.row x.0 s.stands m.2
@@ -132,12 +134,32 @@ other_copies rs name row n h =
     (subst (λ (ts : List Tuple). All IsSayableRow ts) (sym (tuples_with_copies (counted_of rs name) row n))
     (rows_sayable rs name h))
 
+-- what `add`, `del` and `query` ask before they are done
+abbrev add_conditions : Store → Bytes → Tuple → List (Bool × Refusal)
+add_conditions st name row = let rows = rows_of st.relations name in row_refusals st name row
+    ++ (nat_le COPIES (copies_of st name row), Limit)
+    ∷ (not (has_row rows row) && nat_le ROWS (length rows), Limit)
+    ∷ (not (has_row rows row) && nat_le LAST_SEQ st.seq, Limit)
+    ∷ []
+
+abbrev delete_conditions : Store → Bytes → Tuple → List (Bool × Refusal)
+delete_conditions st name row = row_refusals st name row
+    ++ ((copies_of st name row == 1) && nat_le LAST_SEQ st.seq, Limit)
+    ∷ []
+
+abbrev query_conditions : Store → Query → List (Bool × Refusal)
+query_conditions st q =
+    (is_some (listed_of st.queries q.name), Taken)
+    ∷ query_faults st.relations q
+    ++ (nat_le QUERIES (length st.queries), Limit)
+    ∷ []
+
 pub add_sayable : (old : Store) (name : Bytes) (row : Tuple) (r : Result AddOutcome Refusal) (new : Store)
     → AddsRow old name row r new → IsSayableRow row → IsSayableStore old → IsSayableStore new
 add_sayable old name row (Ok First) new h said s =
     let d = done_of (add_refusal old name row) First (AddsAs old name row new) _ h.answer in
     let none = none_holds (add_refusal old name row) First (AddsAs old name row new) _ h.answer in
-    let fails = all_fail _ none in
+    let fails = all_fail (add_conditions old name row) none in
     let below = leb-false LAST_SEQ old.seq
     (second_fails (not (has_row (rows_of old.relations name) row)) (nat_le LAST_SEQ old.seq) (ap not d.0)
     fails.1.1.1.1.1.0) in
@@ -167,7 +189,7 @@ pub del_sayable : (old : Store) (name : Bytes) (row : Tuple) (r : Result DeleteO
 del_sayable old name row (Ok Last) new h s =
     let d = done_of (delete_refusal old name row) Last (DeletesAs old name row new) (OutOfMemoryWhere ⊥) h.answer in
     let none = none_holds (delete_refusal old name row) Last (DeletesAs old name row new) (OutOfMemoryWhere ⊥) h.answer in
-    let fails = all_fail _ none in
+    let fails = all_fail (delete_conditions old name row) none in
     let below = leb-false LAST_SEQ old.seq
     (second_fails (copies_of old name row == 1) (nat_le LAST_SEQ old.seq) (eq-eqb (copies_of old name row) 1 d.1)
     fails.1.1.1.0) in
@@ -198,11 +220,12 @@ del_sayable old name row (Err r) new h s = subst IsSayableStore (sym h.stays) s
 -- each variable of the head of a query that isn't refused stands in its body
 some_pass : {A : Type 0} (p : A → Bool) (xs : List A) → list_any p xs ≡ true → (x : A) × Contains xs x × (p x ≡ true)
 some_pass p [] e = absurd cc
-some_pass {A = A} p (x ∷ xs) e = by (p x) refl e
+some_pass {A = A} p (x ∷ xs) e = by (p x) refl e (λ f. some_pass p xs f)
   where
-    by : (b : Bool) → p x ≡ b → (b || list_any p xs) ≡ true → (y : A) × Contains (x ∷ xs) y × (p y ≡ true)
-    by true k f = (x, first_there x xs x refl, k)
-    by false k f = let r = some_pass p xs f in (r.0, later_there x xs r.0 r.1, r.2)
+    by : (b : Bool) → p x ≡ b → (b || list_any p xs) ≡ true
+        → (list_any p xs ≡ true → (y : A) × Contains xs y × (p y ≡ true)) → (y : A) × Contains (x ∷ xs) y × (p y ≡ true)
+    by true k f more = (x, first_there x xs x refl, k)
+    by false k f more = let r = more f in (r.0, later_there x xs r.0 r.1, r.2)
 
 variable_is : (x : Bytes) (t : Term) → is_variable x t ≡ true → t ≡ Variable x
 variable_is x (Variable y) e = ap (λ z. Variable z) ((bytes_eq-decides y x).0 e)
@@ -218,6 +241,20 @@ bound_where q e x c =
     let t = some_pass (is_variable x) (a.0).terms a.2 in
     (a.0, a.1, subst (λ (u : Term). Contains (a.0).terms u) (variable_is x t.0 t.2) t.1)
 
+few_where : (a b c d : Bool) → (a || (b || (c || d))) ≡ false → c ≡ false
+few_where false false false d e = refl
+few_where true b c d e = absurd cc
+few_where false true c d e = absurd cc
+few_where false false true d e = absurd cc
+
+askable_where : (q : Query) → list_any (λ x. not (stands_in q.atoms x)) q.head ≡ false → is_too_large q ≡ false
+    → IsAskable q
+askable_where q unbound large =
+    let few = few_where (nat_lt ATOMS (length q.atoms)) (nat_lt VARIABLES (length (variables_of q.atoms)))
+    (nat_lt HEAD_VARIABLES (length q.head)) (nat_lt COMPARISONS (length q.comparisons)) large in
+    let most = ltb-false HEAD_VARIABLES (length q.head) few in
+    record { bound = bound_where q unbound; few = omega (arith, most) }
+
 pub query_sayable : (old : Store) (q : Query) (r : Result QueryOutcome Refusal) (new : Store)
     → RegistersQuery old q r new → IsSayableQuery q → IsSayableStore old → IsSayableStore new
 query_sayable old q (Ok (Cyclic rest)) new h said s =
@@ -230,11 +267,11 @@ query_sayable old q (Ok (Registered most)) new h said s =
     let none = none_holds (query_refusal old q) (Registered most) (RegistersAs old q new) (RefusedLate old q new)
     h.answer in
     let d = done_of (query_refusal old q) (Registered most) (RegistersAs old q new) (RefusedLate old q new) h.answer in
-    let fails = all_fail _ none in
+    let fails = all_fail (query_conditions old q) none in
     subst IsSayableStore (sym d.3) (record {
       relations = s.relations;
       queries = All-push IsSayableListed old.queries (a_query q) s.queries
-          (said, bound_where q fails.1.1.1.1.1.1.1.1.0);
+          (said, askable_where q fails.1.1.1.1.1.1.1.1.0 fails.1.1.1.1.1.1.1.1.1.0);
       seq = s.seq;
     })
 query_sayable old q (Err r) new h said s =

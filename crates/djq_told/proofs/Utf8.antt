@@ -1,5 +1,5 @@
 -- The texts that a line of UTF-8 spells are of UTF-8.
-use Rattle.std.specs.Prelude.{ℕ, zero, suc, List, [], ◌∷◌, ◌++◌, ◌==◌, ◌≡◌, ◌<◌, ◌≤◌, ◌+◌, ◌||◌, ◌⊎◌, Bool, true, false, cond, length, take, drop, All, IsUtf8}
+use Rattle.std.specs.Prelude.{ℕ, zero, suc, List, [], ◌∷◌, ◌++◌, ◌==◌, ◌≡◌, ◌<◌, ◌≤◌, ◌+◌, ◌/◌, ◌%◌, ◌||◌, ◌⊎◌, Bool, true, false, cond, length, take, drop, All, IsUtf8}
 use Rattle.std.specs.List.{flat_map}
 use Rattle.std.specs.Str.{is_utf8, encode_utf8_all, all_scalars, IsCharBoundary}
 use Rattle.std.proofs.Common.{refl, sym, ap, ◌∙◌, subst, inl, inr, arith, append_assoc}
@@ -9,7 +9,8 @@ use Rattle.std.proofs.Math.Seq.{take-append_seam, drop-append_seam, get_or-appen
 use Rattle.std.proofs.lemmas.Bool.{eqb-true, cond-true, cond-false, cases_Bool, ltb-true, ltb-false, and_parts}
 use Rattle.std.proofs.lemmas.List.{length-append}
 use Rattle.std.proofs.lemmas.List.Elements.{All-head, All-tail}
-use Rattle.std.proofs.lemmas.Str.{IsUtf8-nil, IsUtf8-append, IsUtf8-encode, IsUtf8-take, IsUtf8-drop, IsUtf8-past_char, IsUtf8-from_is_utf8, is_utf8-from_IsUtf8, IsCharBoundary-before_ascii, encode_ascii, IsUtf8-from_ascii}
+use Rattle.std.proofs.lemmas.Str.{IsUtf8-nil, IsUtf8-append, IsUtf8-encode, IsUtf8-take, IsUtf8-drop, IsUtf8-past_char, IsUtf8-from_is_utf8, is_utf8-from_IsUtf8, IsCharBoundary-before_ascii, encode_ascii, IsUtf8-from_ascii, length-encode, len_utf8_bounds}
+use Rattle.std.proofs.lemmas.Str.Ascii.{IsAscii-nil, IsAscii-cons}
 use Rattle.djq_model.specs.Data.{Bytes}
 use Rattle.djq_model.specs.declared.query.Operator.{Operator}
 use Rattle.djq_model.specs.declared.query.Operator.TheVariants.{Less, LessOrEqual, Greater, GreaterOrEqual, Equal, NotEqual}
@@ -22,11 +23,7 @@ behind_ascii : (b : ℕ) (bs : Bytes) → b < 128 → IsUtf8 (b ∷ bs) → IsUt
 behind_ascii b bs lt u = IsUtf8-past_char (b ∷ bs) bs b u (sym (ap (λ x. x ++ bs) (encode_ascii b lt)))
 
 ascii_alone : (b : ℕ) → b < 128 → IsUtf8 (b ∷ [])
-ascii_alone b lt = IsUtf8-from_ascii (b ∷ []) (λ i. each i)
-  where
-    each : (i : ℕ) → _
-    each zero = lt
-    each (suc i) = omega arith
+ascii_alone b lt = IsUtf8-from_ascii (b ∷ []) (IsAscii-cons b [] lt IsAscii-nil)
 
 before_ascii : (xs ys : Bytes) (b : ℕ) → b < 128 → IsUtf8 (xs ++ b ∷ ys) → IsUtf8 xs × IsUtf8 ys
 before_ascii xs ys b lt u =
@@ -48,26 +45,28 @@ abbrev AreHigh : Bytes → Type 0
 AreHigh [] = Unit {0}
 AreHigh (b ∷ bs) = (128 ≤ b) × AreHigh bs
 
+picked : (k l m : Bool) (a b₁ b₂ c₁ c₂ c₃ d₁ d₂ d₃ d₄ : ℕ) → AreHigh (a ∷ []) → AreHigh (b₁ ∷ b₂ ∷ [])
+    → AreHigh (c₁ ∷ c₂ ∷ c₃ ∷ []) → AreHigh (d₁ ∷ d₂ ∷ d₃ ∷ d₄ ∷ [])
+    → AreHigh (cond k (a ∷ []) (cond l (b₁ ∷ b₂ ∷ []) (cond m (c₁ ∷ c₂ ∷ c₃ ∷ []) (d₁ ∷ d₂ ∷ d₃ ∷ d₄ ∷ []))))
+picked true l m a b₁ b₂ c₁ c₂ c₃ d₁ d₂ d₃ d₄ one two three four = one
+picked false true m a b₁ b₂ c₁ c₂ c₃ d₁ d₂ d₃ d₄ one two three four = two
+picked false false true a b₁ b₂ c₁ c₂ c₃ d₁ d₂ d₃ d₄ one two three four = three
+picked false false false a b₁ b₂ c₁ c₂ c₃ d₁ d₂ d₃ d₄ one two three four = four
+
 high_bytes : (c : ℕ) → 128 ≤ c → AreHigh (encode c)
 unfolding encode
-high_bytes c le = by (ltb c 128) (ltb c 2048) (ltb c 65536) refl
-  where
-    by : (k l m : Bool) → ltb c 128 ≡ k
-        → AreHigh (cond k (c ∷ []) (cond l _ (cond m _ _)))
-    by true l m e = absurd (omega (arith, le, ltb-true c 128 e))
-    by false true m e = (omega arith, omega arith, tt)
-    by false false true e = (omega arith, omega arith, omega arith, tt)
-    by false false false e = (omega arith, omega arith, omega arith, omega arith, tt)
+high_bytes c le =
+    picked (ltb c 128) (ltb c 2048) (ltb c 65536) c (192 + c / 64) (128 + c % 64) (224 + c / 4096)
+    (128 + c / 64 % 64) (128 + c % 64) (240 + c / 262144) (128 + c / 4096 % 64) (128 + c / 64 % 64) (128 + c % 64)
+    (le, tt) (omega arith, (omega arith, tt)) (omega arith, (omega arith, (omega arith, tt)))
+    (omega arith, (omega arith, (omega arith, (omega arith, tt))))
+
+not_empty : (xs : Bytes) → 1 ≤ length xs → (b : ℕ) × (bs : Bytes) × (xs ≡ b ∷ bs)
+not_empty [] le = absurd (omega arith)
+not_empty (b ∷ bs) le = (b, bs, refl)
 
 some_bytes : (c : ℕ) → (b : ℕ) × (bs : Bytes) × (encode c ≡ b ∷ bs)
-unfolding encode
-some_bytes c = by (ltb c 128) (ltb c 2048) (ltb c 65536)
-  where
-    by : (k l m : Bool) → (b : ℕ) × (bs : Bytes) × (cond k (c ∷ []) (cond l _ (cond m _ _)) ≡ b ∷ bs)
-    by true l m = (_, _, refl)
-    by false true m = (_, _, refl)
-    by false false true = (_, _, refl)
-    by false false false = (_, _, refl)
+some_bytes c = not_empty (encode c) (omega (arith, length-encode c, (len_utf8_bounds c).0))
 
 -- how a byte is printed: as it is, or behind a backslash
 pub data Escapes (b : ℕ) : Type 0 where
@@ -90,59 +89,71 @@ high_same : (es ds t : Bytes) → AreHigh es → es ++ ds ≡ flat_map escaped t
     → (rest : Bytes) × (t ≡ es ++ rest) × (ds ≡ flat_map escaped rest)
 high_same [] ds t h e = (t, refl, e)
 high_same (x ∷ es) ds [] h e = absurd cc
-high_same (x ∷ es) ds (b ∷ t) h e = by (escapes b)
+high_same (x ∷ es) ds (b ∷ t) h e = by (escapes b) (λ k. high_same es ds t h.1 k)
   where
-    by : Escapes b → (rest : Bytes) × (b ∷ t ≡ (x ∷ es) ++ rest) × (ds ≡ flat_map escaped rest)
-    by (as_is k) =
+    by : Escapes b
+        → (es ++ ds ≡ flat_map escaped t → (rest : Bytes) × (t ≡ es ++ rest) × (ds ≡ flat_map escaped rest))
+        → (rest : Bytes) × (b ∷ t ≡ (x ∷ es) ++ rest) × (ds ≡ flat_map escaped rest)
+    by (as_is k) more =
         let same = first_same x b (es ++ ds) (flat_map escaped t) (e ∙ ap (λ bs. bs ++ flat_map escaped t) k) in
-        let r = high_same es ds t h.1 same.1 in
+        let r = more same.1 in
         (r.0, ap (λ c. c ∷ t) (sym same.0) ∙ ap (λ bs. x ∷ bs) r.1, r.2)
-    by (behind_backslash lt y small k) =
+    by (behind_backslash lt y small k) more =
         let same = first_same x 92 (es ++ ds) (y ∷ flat_map escaped t) (e ∙ ap (λ bs. bs ++ flat_map escaped t) k) in
         absurd (omega (arith, h.0, same.0))
+
+-- a byte of ASCII in front of a text that has been read behind it
+low_front : (b : ℕ) (t : Bytes) → b < 128 → IsUtf8 t → IsUtf8 (b ∷ t)
+low_front b t lt more = IsUtf8-append (b ∷ []) t (ascii_alone b lt) more
+
+-- a character of several bytes, and what is behind it
+high_front : (b : ℕ) (t : Bytes) → 128 ≤ b → escaped b ≡ b ∷ [] → (cs : List ℕ) → all_scalars cs ≡ true
+    → encode_utf8_all cs ≡ b ∷ flat_map escaped t
+    → ((rest : Bytes) → length rest < length (b ∷ t) → IsUtf8 (flat_map escaped rest) → IsUtf8 rest) → IsUtf8 (b ∷ t)
+high_front b t le k [] s e more = absurd cc
+high_front b t le k (c ∷ cs) s e more = at (cases_Bool (ltb c 128))
+  where
+    f : (d : ℕ) × (bs : Bytes) × (encode c ≡ d ∷ bs)
+    f = some_bytes c
+
+    first : f.0 ≡ b
+    first =
+        (first_same f.0 b (f.1 ++ encode_utf8_all cs) (flat_map escaped t)
+        (ap (λ bs. bs ++ encode_utf8_all cs) (sym f.2) ∙ e)).0
+
+    at : (ltb c 128 ≡ true) ⊎ (ltb c 128 ≡ false) → IsUtf8 (b ∷ t)
+    at (inl small) =
+        let lt = ltb-true c 128 small in
+        let is = (first_same f.0 c f.1 [] (sym f.2 ∙ encode_ascii c lt)).0 in
+        absurd (omega (arith, le, first, is, lt))
+    at (inr large) =
+        let ge = ltb-false c 128 large in
+        let r = high_same (encode c) (encode_utf8_all cs) (b ∷ t) (high_bytes c ge)
+        (e ∙ ap (λ bs. bs ++ flat_map escaped t) (sym k)) in
+        let scalar = and_parts _ _ s in
+        let long : length (b ∷ t) ≡ length (encode c) + length r.0 = ap length r.1 ∙ length-append (encode c) r.0 in
+        let some : length (encode c) ≡ suc (length f.1) = ap length f.2 in
+        subst IsUtf8 (sym r.1)
+        (IsUtf8-append (encode c) r.0 (IsUtf8-encode c scalar.0)
+        (more r.0 (omega (arith, long, some)) (subst IsUtf8 r.2 (cs, (scalar.1, refl)))))
+
+front_escaped : (b : ℕ) (t : Bytes) → Escapes b → IsUtf8 (flat_map escaped (b ∷ t))
+    → ((rest : Bytes) → length rest < length (b ∷ t) → IsUtf8 (flat_map escaped rest) → IsUtf8 rest) → IsUtf8 (b ∷ t)
+front_escaped b t (behind_backslash lt x small k) u more =
+    low_front b t lt (more t (omega arith) (behind_ascii x (flat_map escaped t) small
+    (behind_ascii 92 (x ∷ flat_map escaped t) (omega arith) (subst IsUtf8 (ap (λ bs. bs ++ flat_map escaped t) k) u))))
+front_escaped b t (as_is k) u more = split (subst IsUtf8 (ap (λ bs. bs ++ flat_map escaped t) k) u) (cases_Bool (ltb b 128))
+  where
+    split : IsUtf8 (b ∷ flat_map escaped t) → (ltb b 128 ≡ true) ⊎ (ltb b 128 ≡ false) → IsUtf8 (b ∷ t)
+    split v (inl small) =
+        let lt = ltb-true b 128 small in low_front b t lt (more t (omega arith) (behind_ascii b (flat_map escaped t) lt v))
+    split v (inr large) = high_front b t (ltb-false b 128 large) k v.0 v.1.0 v.1.1 more
 
 unescaped : (n : ℕ) (t : Bytes) → length t ≤ n → IsUtf8 (flat_map escaped t) → IsUtf8 t
 unescaped n [] le u = IsUtf8-nil
 unescaped zero (b ∷ t) le u = absurd (omega arith)
-unescaped (suc n) (b ∷ t) le u = by (escapes b)
-  where
-    low : b < 128 → IsUtf8 (flat_map escaped t) → IsUtf8 (b ∷ t)
-    low lt more = IsUtf8-append (b ∷ []) t (ascii_alone b lt) (unescaped n t (omega arith) more)
-
-    high : 128 ≤ b → (cs : List ℕ) → all_scalars cs ≡ true → encode_utf8_all cs ≡ b ∷ flat_map escaped t → escaped b ≡ b ∷ [] → IsUtf8 (b ∷ t)
-    high le [] s e k = absurd cc
-    high le (c ∷ cs) s e k =
-        let f = some_bytes c in
-        let first = first_same (f.0) b (f.1 ++ encode_utf8_all cs) (flat_map escaped t) (ap (λ bs. bs ++ encode_utf8_all cs) (sym f.2) ∙ e) in
-        at first.0 (cases_Bool (ltb c 128))
-      where
-        at : some_bytes c .0 ≡ b → (ltb c 128 ≡ true) ⊎ (ltb c 128 ≡ false) → IsUtf8 (b ∷ t)
-        at same (inl small) =
-            let lt = ltb-true c 128 small in
-            let is = first_same (some_bytes c .0) c (some_bytes c .1) [] (sym (some_bytes c .2) ∙ encode_ascii c lt) in
-            absurd (omega (arith, le, same, is.0, lt))
-        at same (inr large) =
-            let ge = ltb-false c 128 large in
-            let r = high_same (encode c) (encode_utf8_all cs) (b ∷ t) (high_bytes c ge) (e ∙ ap (λ bs. bs ++ flat_map escaped t) (sym k)) in
-            let scalar = and_parts _ _ s in
-            let long : length (b ∷ t) ≡ length (encode c) + length r.0 = ap length r.1 ∙ length-append (encode c) r.0 in
-            let some : length (encode c) ≡ suc (length (some_bytes c .1)) = ap length (some_bytes c .2) in
-            subst IsUtf8 (sym r.1)
-            (IsUtf8-append (encode c) r.0 (IsUtf8-encode c scalar.0)
-            (unescaped n r.0 (omega (arith, long, some)) (subst IsUtf8 r.2 (cs, (scalar.1, refl)))))
-
-    by : Escapes b → IsUtf8 (b ∷ t)
-    by (behind_backslash lt x small k) =
-        low lt (behind_ascii x (flat_map escaped t) small
-        (behind_ascii 92 (x ∷ flat_map escaped t) (omega arith) (subst IsUtf8 (ap (λ bs. bs ++ flat_map escaped t) k) u)))
-    by (as_is k) =
-        let v : IsUtf8 (b ∷ flat_map escaped t) = subst IsUtf8 (ap (λ bs. bs ++ flat_map escaped t) k) u in
-        split v (cases_Bool (ltb b 128))
-      where
-        split : IsUtf8 (b ∷ flat_map escaped t) → (ltb b 128 ≡ true) ⊎ (ltb b 128 ≡ false) → IsUtf8 (b ∷ t)
-        split v (inl small) =
-            let lt = ltb-true b 128 small in low lt (behind_ascii b (flat_map escaped t) lt v)
-        split v (inr large) = high (ltb-false b 128 large) v.0 v.1.0 v.1.1 k
+unescaped (suc n) (b ∷ t) le u =
+    front_escaped b t (escapes b) u (λ rest lt v. unescaped n rest (omega (arith, le, lt)) v)
 
 -- The tokens of a line.
 abbrev pub HasUtf8Token : Token → Type 0
@@ -153,18 +164,15 @@ abbrev pub HaveUtf8 : List Token → Type 0
 HaveUtf8 [] = Unit {0}
 HaveUtf8 (t ∷ ts) = HasUtf8Token t × HaveUtf8 ts
 
-or_ascii : (b n : ℕ) (r : Bool) → n < 128 → (b == n || r) ≡ true → (r ≡ true → b < 128) → b < 128
-or_ascii b n r lt e more = by (b == n) refl e
-  where
-    by : (k : Bool) → (b == n) ≡ k → (k || r) ≡ true → b < 128
-    by true f h = let is = eqb-true b n f in omega (arith, is, lt)
-    by false f h = more h
+or_ascii : (b n : ℕ) (r : Bool) → n < 128 → (r || b == n) ≡ true → (r ≡ true → b < 128) → b < 128
+or_ascii b n true lt e more = more refl
+or_ascii b n false lt e more = let is = eqb-true b n e in omega (arith, is, lt)
 
 sign_ascii : (b : ℕ) → ends_word b ≡ true → b < 128
 sign_ascii b e =
-    or_ascii b 32 _ (omega arith) e (λ e. or_ascii b 33 _ (omega arith) e (λ e. or_ascii b 40 _ (omega arith) e
-    (λ e. or_ascii b 41 _ (omega arith) e (λ e. or_ascii b 44 _ (omega arith) e (λ e. or_ascii b 60 _ (omega arith) e
-    (λ e. or_ascii b 61 _ (omega arith) e (λ e. let is = eqb-true b 62 e in omega (arith, is))))))))
+    or_ascii b 62 _ (omega arith) e (λ e. or_ascii b 61 _ (omega arith) e (λ e. or_ascii b 60 _ (omega arith) e
+    (λ e. or_ascii b 44 _ (omega arith) e (λ e. or_ascii b 41 _ (omega arith) e (λ e. or_ascii b 40 _ (omega arith) e
+    (λ e. or_ascii b 33 _ (omega arith) e (λ e. let is = eqb-true b 32 e in omega (arith, is))))))))
 
 behind_word : (w behind : Bytes) → may_end behind ≡ true → IsUtf8 (w ++ behind) → IsUtf8 behind
 behind_word w [] e u = IsUtf8-nil

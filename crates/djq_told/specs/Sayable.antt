@@ -1,5 +1,5 @@
 -- What lines can say: names, and values within their limits.
-use Rattle.std.specs.Prelude.{ℕ, List, ◌≡◌, ◌≤◌, true, All}
+use Rattle.std.specs.Prelude.{ℕ, List, ◌≡◌, ◌≤◌, true, length, All}
 use Rattle.std.specs.Str.{is_utf8}
 use Rattle.djq_model.specs.declared.value.Value.{Value}
 use Rattle.djq_model.specs.declared.value.Value.TheVariants.{Int, Text}
@@ -12,7 +12,7 @@ use Rattle.djq_model.specs.declared.query.Query.{Query}
 use Rattle.djq_model.specs.Data.{Bytes, Tuple, tuples_in}
 use Rattle.djq_model.specs.Listed.{Listed, a_query}
 use Rattle.djq_value.specs.Literal.{is_name, is_small_value}
-use Rattle.djq_lines.specs.declared.limits.TheConstants.{LAST_SEQ}
+use Rattle.djq_lines.specs.declared.limits.TheConstants.{LAST_SEQ, HEAD_VARIABLES}
 use Rattle.djq_deltas.specs.Finite.{IsBound}
 use Rattle.djq_machine.specs.State.{Store, State, Session, Cursor, Position, open_at, stale, opening}
 use Rattle.djq_machine.specs.Run.{Did, Run}
@@ -63,9 +63,14 @@ pub record IsSayableQuery (q : Query) : Type 0 where
   pub atoms : All IsSayableAtom q.atoms
   pub comparisons : All IsSayableComparison q.comparisons
 
--- What is registered is such a query, and each variable of its head stands in its body.
+-- A query's head is bound by its body, and has no more variables than it may have.
+pub record IsAskable (q : Query) : Type 0 where
+  pub bound : IsBound q
+  pub few : length q.head ≤ HEAD_VARIABLES
+
+-- What is registered is such a query, and can be asked.
 abbrev pub IsSayableListed : Listed → Type 0
-IsSayableListed (a_query q) = IsSayableQuery q × IsBound q
+IsSayableListed (a_query q) = IsSayableQuery q × IsAskable q
 
 -- The relations and the queries are such, and changes are counted as far as may be.
 pub record IsSayableStore (st : Store) : Type 0 where

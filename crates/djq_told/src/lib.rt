@@ -2,6 +2,7 @@
 #![tactic(auto)]
 
 ghost use Rattle.djq_told.specs.Sayable.{RunsKeepSayable, OpeningIsSayable, StatesAreSayable};
+ghost use Rattle.djq_told.specs.Told.{WatchersAreToldExactly};
 
 /// Along every run from a state to start from whose names and values lines can say, all names are
 /// names, all values are within their limits and their texts of UTF-8, and each variable of a
@@ -11,4 +12,11 @@ pub fn states_are_sayable()
     ensures kept { RunsKeepSayable }
     ensures opening { OpeningIsSayable }
     ensures reached { StatesAreSayable }
+{}
+
+/// What is queued to a session that watches a query is whole reply lines, and those among them that
+/// tell of the query are its deltas, one after the other, and no others. They add up to the answers
+/// over the present rows.
+pub fn watchers_are_told_exactly()
+    ensures { WatchersAreToldExactly }
 {}
