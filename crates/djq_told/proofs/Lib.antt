@@ -1,0 +1,14 @@
+mod Utf8
+mod Reading
+mod Keeping
+mod Storing
+pub mod Sayable
+mod Hearing
+mod Replying
+mod Exactly
+mod Telling
+mod Sorting
+mod Mirroring
+mod Having
+mod Mirrored
+mod Waiting

@@ -1,0 +1,407 @@
+-- What each command that changes no rows is answered, by the forms of replies: lines that tell of no delta.
+use Rattle.std.specs.Prelude.{ℕ, List, [], ◌∷◌, ◌++◌, ◌==◌, ◌≡◌, ◌⊎◌, Bool, true, false, cond, Option, None, Some, IsSomeAnd, MatchOption, Result, Ok, Err, map, codes, filter, length, All, ⊤}
+use Rattle.std.specs.List.{flat_map}
+use Rattle.std.specs.Fmt.{decimal}
+use Rattle.std.proofs.Common.{refl, sym, ap, ap₂, ◌∙◌, subst, inl, inr, append_assoc, append-nil}
+use Rattle.std.proofs.lemmas.List.Elements.{All-nil, All-cons, All-head, All-tail, All-append}
+use Rattle.djq_model.specs.Data.{Bytes, Tuple}
+use Rattle.djq_model.specs.declared.query.Query.{Query}
+use Rattle.djq_model.specs.Listed.{Listed, a_query, listed_of}
+use Rattle.djq_hyper.specs.Hypergraph.{numbers_below}
+use Rattle.djq_hyper.specs.Naming.{name_at, edge_text, listed}
+use Rattle.djq_tree.specs.Labels.{label_at}
+use Rattle.djq_tree.specs.declared.node.Node.{Node as TreeNode}
+use Rattle.djq_tree.specs.declared.node.Node.TheVariants.{Leaf, Trim, Meet}
+use Rattle.djq_tree.specs.Tree.{Tree, node_at, is_out}
+use Rattle.djq_tree.specs.Explaining.{label_text, node_text, line_text, end_text}
+use Rattle.djq_lines.specs.declared.answer.EndLine.TheVariants.{Long, Slow, Memory}
+use Rattle.djq_lines.specs.declared.answer.Refusal.{Refusal}
+use Rattle.djq_lines.specs.declared.answer.Refusal.TheVariants.{Syntax, WrongType, NoCursor, NoQuery, NoMemory}
+use Rattle.djq_lines.specs.declared.answer.AddOutcome.{AddOutcome}
+use Rattle.djq_lines.specs.declared.answer.AddOutcome.TheVariants.{First, More}
+use Rattle.djq_lines.specs.declared.answer.DeleteOutcome.{DeleteOutcome}
+use Rattle.djq_lines.specs.declared.answer.DeleteOutcome.TheVariants.{Last, Left, Absent}
+use Rattle.djq_lines.specs.declared.answer.Shape.{Shape}
+use Rattle.djq_lines.specs.declared.answer.Shape.TheVariants.{Flat, Linear}
+use Rattle.djq_lines.specs.declared.rest.NamedRest.{NamedRest}
+use Rattle.djq_lines.specs.declared.rest.QueryOutcome.{QueryOutcome}
+use Rattle.djq_lines.specs.declared.rest.QueryOutcome.TheVariants.{Registered, Cyclic, NotConnex}
+use Rattle.djq_lines.specs.declared.command.Command.{Command}
+use Rattle.djq_lines.specs.declared.command.Command.TheVariants.{Rel, Add, Del, Query as Register, Drop, Open, Next, Close, Has, Watch, Unwatch, Explain, Shape as AskShape, Quit, Stop}
+use Rattle.djq_lines.specs.Grammar.{Reading, outside, past_limit, says as says_command}
+use Rattle.djq_lines.specs.Hypergraph.{variable_names}
+use Rattle.djq_lines.specs.Reply.{cells_text, line, text_of, answer_line, last_line, listing_lines, ok_reply, add_reply, delete_reply, query_reply, has_reply, shape_reply, watch_reply, edges_text, rest_line, end_memory}
+use Rattle.djq_mirror.specs.Replies.{Reply, Node, leaf, trim, meet, done, opened as cursor_opened, added, removed, absent, registered, cyclic, not_connex, answer, more, last, stale as gone_stale, had, shaped, watched, changed, counted, explained, refused, ended as is_ended, cut, bye, joined, edges_line, reply_text, label_text as label_of, node_text as node_of}
+use Rattle.djq_machine.specs.State.{State, Session, Cursor, Position, open_at, stale, session_of, cursor_of}
+use Rattle.djq_machine.specs.Effect.{Effect, nothing, RefusedStep, EndsWith}
+use Rattle.djq_machine.specs.Command.{NextStepAt, CloseStep, QueryStep, QueryCutStep, ExplainStepOf, TellsLines, explain_lines, CommandStep}
+use Rattle.djq_machine.specs.LineStep.{LineOutcome, long, blank, slow, no_room, run, ReadStep, FrontStep}
+use Rattle.djq_machine.specs.Step.{Event, opened, fed, stepped, took, ended, closed, FedStep, TookStep, EndedStep, Acts}
+use Rattle.djq_laws.proofs.Finding.{some_and}
+use Rattle.djq_mirror.specs.declared.mode.Mode.{Mode}
+use Rattle.djq_mirror.specs.declared.mode.Mode.TheVariants.{Idle, Listing, Live}
+use Rattle.djq_mirror.specs.Mirror.{Act, keep, turn_of, turn_of_change, turn_of_count}
+use Rattle.djq_told.specs.Told.{replies_text, is_told_of}
+use Rattle.djq_told.proofs.Hearing.{text_append}
+
+-- A reply tells of no delta.
+abbrev pub IsPlain : Reply → Type 0
+IsPlain r = (name : Bytes) → is_told_of name r ≡ false
+
+-- A reply does nothing in a mirror, unless it tells of its query.
+abbrev pub IsHarmless : Reply → Type 0
+IsHarmless r = (name : Bytes) (mode : Mode) → is_told_of name r ≡ false → turn_of name mode r ≡ Some (mode, keep)
+
+-- Some lines are queued to one session, and tell of no delta; where they are no talk of listings, they
+-- are harmless.
+pub record Replies (s : ℕ) (queued : List (ℕ × Bytes)) (talk : Bool) : Type 0 where
+  pub replies : List Reply
+  pub queued_are : queued ≡ (s, replies_text replies) ∷ []
+  pub plain : All IsPlain replies
+  pub harmless : talk ≡ false → All IsHarmless replies
+
+-- a text of one form
+pub record OfForm (text : Bytes) (talk : Bool) : Type 0 where
+  pub reply : Reply
+  pub is : text ≡ reply_text reply
+  pub plain : IsPlain reply
+  pub harmless : talk ≡ false → IsHarmless reply
+
+-- whether a reply is of a listing
+abbrev pub is_talk : Reply → Bool
+is_talk cursor_opened = true
+is_talk (answer t) = true
+is_talk more = true
+is_talk last = true
+is_talk (gone_stale c relation n) = true
+is_talk r = false
+
+told_apart : (name : Bytes) (mode : Mode) (r : Reply) (s : Mode × Act) → is_told_of name r ≡ false
+    → Some (cond (is_told_of name r) s (mode, keep)) ≡ Some (mode, keep)
+told_apart name mode r s e = ap (λ (b : Bool). Some (cond b s (mode, keep))) e
+
+pub harmless_form : (r : Reply) → is_talk r ≡ false → IsHarmless r
+harmless_form cursor_opened e name mode k = absurd cc
+harmless_form (answer t) e name mode k = absurd cc
+harmless_form more e name mode k = absurd cc
+harmless_form last e name mode k = absurd cc
+harmless_form (gone_stale c relation n) e name mode k = absurd cc
+harmless_form (changed s q t) e name Idle k = told_apart name Idle (changed s q t) (turn_of_change Idle s (cells_text t)) k
+harmless_form (changed s q t) e name Listing k = told_apart name Listing (changed s q t) (turn_of_change Listing s (cells_text t)) k
+harmless_form (changed s q t) e name Live k = told_apart name Live (changed s q t) (turn_of_change Live s (cells_text t)) k
+harmless_form (counted q n) e name Idle k = told_apart name Idle (counted q n) (turn_of_count Idle) k
+harmless_form (counted q n) e name Listing k = told_apart name Listing (counted q n) (turn_of_count Listing) k
+harmless_form (counted q n) e name Live k = told_apart name Live (counted q n) (turn_of_count Live) k
+harmless_form r e name Idle k = refl
+harmless_form r e name Listing k = refl
+harmless_form r e name Live k = refl
+
+pub of_form : (text : Bytes) (r : Reply) → text ≡ reply_text r → IsPlain r → OfForm text (is_talk r)
+of_form text r e p = record { reply = r; is = e; plain = p; harmless = λ k. harmless_form r k }
+
+ok_form : {A : Type 0} (words : Bytes) (r : Reply) → line words ≡ reply_text r → IsPlain r → (result : Result A Refusal)
+    → OfForm (ok_reply words result) (is_talk r)
+ok_form words r e p (Ok a) = of_form _ r e p
+ok_form words r e p (Err t) = record { reply = refused t; is = refl; plain = λ name. refl; harmless = λ k. harmless_form (refused t) refl }
+
+pub add_form : (result : Result AddOutcome Refusal) (n : ℕ) → OfForm (add_reply result n) false
+add_form (Ok First) n = of_form _ (added n 1) refl (λ name. refl)
+add_form (Ok (More copies)) n = of_form _ (added n copies) refl (λ name. refl)
+add_form (Err r) n = of_form _ (refused r) refl (λ name. refl)
+
+pub delete_form : (result : Result DeleteOutcome Refusal) (n : ℕ) → OfForm (delete_reply result n) false
+delete_form (Ok Last) n = of_form _ (removed n 0) refl (λ name. refl)
+delete_form (Ok (Left copies)) n = of_form _ (removed n copies) refl (λ name. refl)
+delete_form (Ok Absent) n = of_form _ (absent n) refl (λ name. refl)
+delete_form (Err r) n = of_form _ (refused r) refl (λ name. refl)
+
+-- edges by the names of their variables
+pub listed_joined : (names : List Bytes) (xs : List ℕ) → listed names xs ≡ flat_map (λ y. 44 ∷ y) (map (name_at names) xs)
+listed_joined names [] = refl
+listed_joined names (x ∷ xs) = ap (λ bytes. codes "," ++ (name_at names x ++ bytes)) (listed_joined names xs)
+
+pub edge_joined : (names : List Bytes) (e : List ℕ) → edge_text names e ≡ joined (map (name_at names) e)
+edge_joined names [] = refl
+edge_joined names (x ∷ xs) = ap (λ bytes. name_at names x ++ bytes) (listed_joined names xs)
+
+abbrev pub named_edges : NamedRest → List (List Bytes)
+named_edges rest = map (map (name_at rest.names)) rest.edges
+
+edges_joined : (names : List Bytes) (edges : List (List ℕ))
+    → edges_text names edges ≡ flat_map (λ e. 32 ∷ joined e) (map (map (name_at names)) edges)
+edges_joined names [] = refl
+edges_joined names (e ∷ edges) =
+    ap₂ (λ (xs ys : Bytes). 32 ∷ (xs ++ ys)) (edge_joined names e) (edges_joined names edges)
+
+rest_is : (words : Bytes) (rest : NamedRest) → rest_line words rest ≡ edges_line words (named_edges rest)
+rest_is words rest = ap (λ bytes. line (words ++ bytes)) (edges_joined rest.names rest.edges)
+
+query_form : (result : Result QueryOutcome Refusal) → OfForm (query_reply result) false
+query_form (Ok (Registered most)) = of_form _ (registered most) refl (λ name. refl)
+query_form (Ok (Cyclic rest)) = of_form _ (cyclic (named_edges rest)) (rest_is (codes "no cyclic") rest) (λ name. refl)
+query_form (Ok (NotConnex rest)) = of_form _ (not_connex (named_edges rest)) (rest_is (codes "no connex") rest) (λ name. refl)
+query_form (Err r) = of_form _ (refused r) refl (λ name. refl)
+
+has_form : (result : Result Bool Refusal) → OfForm (has_reply result) false
+has_form (Ok found) = of_form _ (had found) refl (λ name. refl)
+has_form (Err r) = of_form _ (refused r) refl (λ name. refl)
+
+shape_form : (result : Result Shape Refusal) → OfForm (shape_reply result) false
+shape_form (Ok s) = of_form _ (shaped s) refl (λ name. refl)
+shape_form (Err r) = of_form _ (refused r) refl (λ name. refl)
+
+watch_form : {A : Type 0} (result : Result A Refusal) (n : ℕ) → OfForm (watch_reply result n) false
+watch_form (Ok a) n = of_form _ (watched n) refl (λ name. refl)
+watch_form (Err r) n = of_form _ (refused r) refl (λ name. refl)
+
+-- ---- one line, or several
+
+pub one_line : (s : ℕ) (text : Bytes) (queued : List (ℕ × Bytes)) (talk : Bool) → OfForm text talk
+    → queued ≡ (s, text) ∷ [] → Replies s queued talk
+one_line s text queued talk f e = record {
+  replies = f.reply ∷ [];
+  queued_are = e ∙ ap (λ (bytes : Bytes). (s, bytes) ∷ []) (f.is ∙ sym (append-nil (reply_text f.reply)));
+  plain = All-cons IsPlain f.reply [] f.plain (All-nil IsPlain);
+  harmless = λ k. All-cons IsHarmless f.reply [] (f.harmless k) (All-nil IsHarmless);
+}
+
+pub memory_form : OfForm end_memory false
+memory_form = of_form _ (is_ended Memory) refl (λ name. refl)
+
+several_lines : (s : ℕ) (rs : List Reply) (queued : List (ℕ × Bytes)) → All IsPlain rs → queued ≡ (s, replies_text rs) ∷ []
+    → Replies s queued true
+several_lines s rs queued plain e = record { replies = rs; queued_are = e; plain = plain; harmless = λ k. absurd cc }
+
+-- what is harmless is so, whatever else may be said
+pub any_talk : (s : ℕ) (queued : List (ℕ × Bytes)) (talk : Bool) → Replies s queued false → Replies s queued talk
+any_talk s queued talk r = record {
+  replies = r.replies;
+  queued_are = r.queued_are;
+  plain = r.plain;
+  harmless = λ k. r.harmless refl;
+}
+
+-- the lines of answers
+pub answers_text : (ts : List Tuple) → text_of (map answer_line ts) ≡ replies_text (map (λ t. answer t) ts)
+answers_text [] = refl
+answers_text (t ∷ ts) = ap (λ bytes. answer_line t ++ bytes) (answers_text ts)
+
+pub answers_plain : (ts : List Tuple) → All IsPlain (map (λ t. answer t) ts)
+answers_plain [] = All-nil IsPlain
+answers_plain (t ∷ ts) = All-cons IsPlain (answer t) (map (λ u. answer u) ts) (λ name. refl) (answers_plain ts)
+
+-- the last line of a listing
+abbrev pub last_reply : Bool → Reply
+last_reply end = cond end last more
+
+last_is : (end : Bool) → last_line end ≡ reply_text (last_reply end)
+last_is true = refl
+last_is false = refl
+
+last_plain : (end : Bool) → IsPlain (last_reply end)
+last_plain true = λ name. refl
+last_plain false = λ name. refl
+
+pub text_append_of : (xs ys : List Bytes) → text_of (xs ++ ys) ≡ text_of xs ++ text_of ys
+text_append_of [] ys = refl
+text_append_of (x ∷ xs) ys = ap (λ bytes. x ++ bytes) (text_append_of xs ys) ∙ sym (append_assoc x (text_of xs) (text_of ys))
+
+pub behind_answers : (ts : List Tuple) (r : Reply) → text_of (map answer_line ts) ++ reply_text r
+    ≡ replies_text (map (λ t. answer t) ts ++ r ∷ [])
+behind_answers ts r =
+    ap₂ (λ (xs ys : Bytes). xs ++ ys) (answers_text ts) (sym (append-nil (reply_text r)))
+    ∙ sym (text_append (map (λ t. answer t) ts) (r ∷ []))
+
+pub listing_text : (ts : List Tuple) (end : Bool)
+    → text_of (listing_lines ts end) ≡ replies_text (map (λ t. answer t) ts ++ last_reply end ∷ [])
+listing_text ts end =
+    text_append_of (map answer_line ts) (last_line end ∷ [])
+    ∙ ap (λ bytes. text_of (map answer_line ts) ++ bytes) (append-nil (last_line end) ∙ last_is end)
+    ∙ behind_answers ts (last_reply end)
+
+behind_plain : (ts : List Tuple) (r : Reply) → IsPlain r → All IsPlain (map (λ t. answer t) ts ++ r ∷ [])
+behind_plain ts r p = All-append IsPlain (map (λ t. answer t) ts) (r ∷ []) (answers_plain ts) (All-cons IsPlain r [] p (All-nil IsPlain))
+
+-- the lines that explain a tree
+abbrev explained_node : List Bytes → TreeNode → Node
+explained_node atoms (Leaf a) = leaf (name_at atoms a)
+explained_node atoms (Trim c) = trim c
+explained_node atoms (Meet g s) = meet g s
+
+node_is : (atoms : List Bytes) (n : TreeNode) → node_text atoms n ≡ node_of (explained_node atoms n)
+node_is atoms (Leaf a) = refl
+node_is atoms (Trim c) = refl
+node_is atoms (Meet g s) = refl
+
+label_is : (variables : List Bytes) (l : List ℕ) → label_text variables l ≡ label_of (map (name_at variables) l)
+label_is variables [] = refl
+label_is variables (x ∷ xs) = ap (λ bytes. name_at variables x ++ bytes) (listed_joined variables xs)
+
+abbrev node_reply : List Bytes → List Bytes → Tree → ℕ → Reply
+node_reply atoms variables t j =
+    explained j (explained_node atoms (node_at t.nodes j)) (map (name_at variables) (label_at t.labels j)) (is_out t.out j)
+
+node_line : (atoms variables : List Bytes) (t : Tree) (j : ℕ)
+    → line_text atoms variables t j ≡ reply_text (node_reply atoms variables t j)
+node_line atoms variables t j =
+    ap₂ (λ (xs ys : Bytes). codes "n " ++ decimal j ++ codes " " ++ xs ++ codes " " ++ ys ++ end_text (is_out t.out j))
+    (node_is atoms (node_at t.nodes j)) (label_is variables (label_at t.labels j))
+
+nodes_are : (atoms variables : List Bytes) (t : Tree) (js : List ℕ)
+    → map (line_text atoms variables t) js ≡ map reply_text (map (node_reply atoms variables t) js)
+nodes_are atoms variables t [] = refl
+nodes_are atoms variables t (j ∷ js) = ap₂ (λ (x : Bytes) xs. x ∷ xs) (node_line atoms variables t j) (nodes_are atoms variables t js)
+
+nodes_plain : (atoms variables : List Bytes) (t : Tree) (js : List ℕ) → All IsPlain (map (node_reply atoms variables t) js)
+nodes_plain atoms variables t [] = All-nil IsPlain
+nodes_plain atoms variables t (j ∷ js) =
+    All-cons IsPlain (node_reply atoms variables t j) (map (node_reply atoms variables t) js) (λ name. refl) (nodes_plain atoms variables t js)
+
+map_append : (xs ys : List Reply) → map reply_text (xs ++ ys) ≡ map reply_text xs ++ map reply_text ys
+map_append [] ys = refl
+map_append (x ∷ xs) ys = ap (λ ts. reply_text x ∷ ts) (map_append xs ys)
+
+text_of_replies : (rs : List Reply) → text_of (map reply_text rs) ≡ replies_text rs
+text_of_replies [] = refl
+text_of_replies (r ∷ rs) = ap (λ bytes. reply_text r ++ bytes) (text_of_replies rs)
+
+-- the first of some lines
+record FirstOf (rs : List Reply) (told : List Bytes) : Type 0 where
+  some : List Reply
+  are : told ≡ map reply_text some
+  plain : All IsPlain some
+
+first_of : (rs : List Reply) (told rest : List Bytes) → All IsPlain rs → map reply_text rs ≡ told ++ rest → FirstOf rs told
+first_of rs [] rest plain e = record { some = []; are = refl; plain = All-nil IsPlain }
+first_of [] (t ∷ told) rest plain e = absurd cc
+first_of (r ∷ rs) (t ∷ told) rest plain e =
+    let tail : map reply_text rs ≡ told ++ rest = cc in
+    let head : reply_text r ≡ t = cc in
+    let more = first_of rs told rest (All-tail IsPlain r rs plain) tail in record {
+      some = r ∷ more.some;
+      are = ap₂ (λ (x : Bytes) xs. x ∷ xs) (sym head) more.are;
+      plain = All-cons IsPlain r more.some (All-head IsPlain r rs plain) more.plain;
+    }
+
+lines_replies : (old : State) (s : ℕ) (lines : List Bytes) (e : Effect) (new : State) (rs : List Reply) → All IsPlain rs
+    → lines ≡ map reply_text rs → TellsLines old s lines e new → Replies s e.queued true
+lines_replies old s lines e new rs plain are (inl h) =
+    several_lines s rs e.queued plain
+    (ap (λ (x : Effect). x.queued) h.0 ∙ ap (λ (bytes : Bytes). (s, bytes) ∷ []) (ap text_of are ∙ text_of_replies rs))
+lines_replies old s lines e new rs plain are (inr (told, lacking, rest, parts, ends)) =
+    let first = first_of rs told (lacking ∷ rest) plain (sym are ∙ parts) in
+    several_lines s (first.some ++ is_ended Memory ∷ []) e.queued
+    (All-append IsPlain first.some (is_ended Memory ∷ []) first.plain
+    (All-cons IsPlain (is_ended Memory) [] (λ name. refl) (All-nil IsPlain)))
+    (ap (λ (x : Effect). x.queued) ends.0
+    ∙ ap (λ (bytes : Bytes). (s, bytes) ∷ [])
+    (ap (λ bytes. bytes ++ end_memory) (ap text_of first.are ∙ text_of_replies first.some)
+    ∙ ap (λ bytes. replies_text first.some ++ bytes) (sym (append-nil end_memory))
+    ∙ sym (text_append first.some (is_ended Memory ∷ []))))
+
+explain_replies : (old : State) (s : ℕ) (o : Option Listed) (e : Effect) (new : State)
+    → MatchOption o (RefusedStep old s NoQuery e new) (λ q. ExplainStepOf old s q e new) → Replies s e.queued true
+explain_replies old s None e new h =
+    any_talk s e.queued true
+    (one_line s _ e.queued _ (of_form _ (refused NoQuery) refl (λ name. refl)) (ap (λ (x : Effect). x.queued) h.0))
+explain_replies old s (Some (a_query q)) e new h =
+    let atoms = map (λ a. a.relation) q.atoms in
+    let names = variable_names q in
+    let js = numbers_below (length h.tree.nodes) in
+    lines_replies old s (explain_lines q h.tree) e new (map (node_reply atoms names h.tree) js ++ last ∷ [])
+    (All-append IsPlain (map (node_reply atoms names h.tree) js) (last ∷ []) (nodes_plain atoms names h.tree js)
+    (All-cons IsPlain last [] (λ name. refl) (All-nil IsPlain)))
+    (ap (λ xs. xs ++ line (codes "end") ∷ []) (nodes_are atoms names h.tree js)
+    ∙ sym (map_append (map (node_reply atoms names h.tree) js) (last ∷ [])))
+    h.tells
+
+-- ---- commands
+
+next_at : (old : State) (s : ℕ) (c : Bytes) (q : Listed) (count : ℕ) (p : Position) (e : Effect) (new : State)
+    → NextStepAt old s c q count p e new → Replies s e.queued true
+next_at old s c q count (stale relation n) e new h =
+    one_line s _ e.queued _ (of_form _ (gone_stale c relation n) refl (λ name. refl)) (ap (λ (x : Effect). x.queued) h.0)
+next_at old s c q count (open_at given finished) e new (inl h) =
+    several_lines s (map (λ t. answer t) h.told ++ last_reply h.end ∷ []) e.queued
+    (behind_plain h.told (last_reply h.end) (last_plain h.end))
+    (ap (λ (x : Effect). x.queued) h.effect ∙ ap (λ (bytes : Bytes). (s, bytes) ∷ []) (listing_text h.told h.end))
+next_at old s c q count (open_at given finished) e new (inr h) =
+    several_lines s (map (λ t. answer t) h.told ++ is_ended Memory ∷ []) e.queued
+    (behind_plain h.told (is_ended Memory) (λ name. refl))
+    (ap (λ (x : Effect). x.queued) h.effect ∙ ap (λ (bytes : Bytes). (s, bytes) ∷ []) (behind_answers h.told (is_ended Memory)))
+
+next_replies : (old : State) (s : ℕ) (c : Bytes) (count : ℕ) (o : Option Cursor) (e : Effect) (new : State)
+    → MatchOption o (RefusedStep old s NoCursor e new)
+    (λ k. IsSomeAnd (listed_of old.store.queries k.query) (λ q. NextStepAt old s c q count k.position e new))
+    → Replies s e.queued true
+next_replies old s c count None e new h =
+    any_talk s e.queued true
+    (one_line s _ e.queued _ (of_form _ (refused NoCursor) refl (λ name. refl)) (ap (λ (x : Effect). x.queued) h.0))
+next_replies old s c count (Some k) e new h =
+    let f = some_and (listed_of old.store.queries k.query) (λ q. NextStepAt old s c q count k.position e new) h in
+    next_at old s c f.0 count k.position e new f.2
+
+close_replies : (old : State) (s : ℕ) (c : Bytes) (o : Option Cursor) (e : Effect) (new : State)
+    → MatchOption o (RefusedStep old s NoCursor e new) (λ k. CloseStep old s c e new) → Replies s e.queued false
+close_replies old s c None e new h =
+    one_line s _ e.queued _ (of_form _ (refused NoCursor) refl (λ name. refl)) (ap (λ (x : Effect). x.queued) h.0)
+close_replies old s c (Some k) e new h =
+    one_line s _ e.queued _ (of_form _ done refl (λ name. refl)) (ap (λ (x : Effect). x.queued) h.0)
+
+-- A command is none of rows.
+abbrev pub IsRowless : Command → Type 0
+IsRowless (Add name row) = ⊥
+IsRowless (Del name row) = ⊥
+IsRowless c = Unit {0}
+
+-- whether its replies are of a listing, or end as one
+abbrev pub talks : Command → Bool
+talks (Open c q) = true
+talks (Next c count) = true
+talks (Explain q) = true
+talks c = false
+
+pub command_replies : (old : State) (s : ℕ) (x : Session) (c : Command) (e : Effect) (new : State) → IsRowless c
+    → CommandStep old s x c e new → Replies s e.queued (talks c)
+command_replies old s x (Rel name types) e new rowless h =
+    one_line s _ e.queued _ (ok_form (codes "ok") done refl (λ name. refl) h.result) (ap (λ (y : Effect). y.queued) h.effect)
+command_replies old s x (Add name row) e new rowless h = absurd rowless
+command_replies old s x (Del name row) e new rowless h = absurd rowless
+command_replies old s x (Register q) e new rowless (inl h) =
+    one_line s _ e.queued _ (query_form h.result) (ap (λ (y : Effect). y.queued) h.effect)
+command_replies old s x (Register q) e new rowless (inr h) =
+    one_line s end_memory e.queued _ memory_form (ap (λ (y : Effect). y.queued) h.ends.0)
+command_replies old s x (Drop q) e new rowless h =
+    one_line s _ e.queued _ (ok_form (codes "ok") done refl (λ name. refl) h.result) (ap (λ (y : Effect). y.queued) h.effect)
+command_replies old s x (Open c q) e new rowless h =
+    one_line s _ e.queued _ (ok_form (codes "ok open") cursor_opened refl (λ name. refl) h.result)
+    (ap (λ (y : Effect). y.queued) h.effect)
+command_replies old s x (Next c count) e new rowless h = next_replies old s c count (cursor_of x.cursors c) e new h
+command_replies old s x (Close c) e new rowless h = close_replies old s c (cursor_of x.cursors c) e new h
+command_replies old s x (Has q row) e new rowless h =
+    one_line s _ e.queued _ (has_form h.result) (ap (λ (y : Effect). y.queued) h.effect)
+command_replies old s x (Watch q) e new rowless h =
+    one_line s _ e.queued _ (watch_form h.result old.store.seq) (ap (λ (y : Effect). y.queued) h.effect)
+command_replies old s x (Unwatch q) e new rowless h =
+    one_line s _ e.queued _ (ok_form (codes "ok") done refl (λ name. refl) h.result) (ap (λ (y : Effect). y.queued) h.effect)
+command_replies old s x (Explain q) e new rowless h = explain_replies old s (listed_of old.store.queries q) e new h
+command_replies old s x (AskShape q) e new rowless h =
+    one_line s _ e.queued _ (shape_form h.result) (ap (λ (y : Effect). y.queued) h.effect)
+command_replies old s x Quit e new rowless h =
+    one_line s _ e.queued _ (of_form _ bye refl (λ name. refl)) (ap (λ (y : Effect). y.queued) h.0)
+command_replies old s x Stop e new rowless h =
+    one_line s _ e.queued _ (of_form _ bye refl (λ name. refl)) (ap (λ (y : Effect). y.queued) h.0)
+
+pub refused_replies : (old : State) (s : ℕ) (r : Refusal) (e : Effect) (new : State) → RefusedStep old s r e new
+    → Replies s e.queued false
+refused_replies old s r e new h =
+    one_line s _ e.queued _ (of_form _ (refused r) refl (λ name. refl)) (ap (λ (y : Effect). y.queued) h.0)
+
+-- ---- what of it a session is told
+
+pub none_of : (name : Bytes) (rs : List Reply) → All IsPlain rs → filter (is_told_of name) rs ≡ []
+none_of name [] h = refl
+none_of name (r ∷ rs) h =
+    let first : is_told_of name r ≡ false = All-head IsPlain r rs h name in
+    ap (λ (b : Bool). cond b (r ∷ filter (is_told_of name) rs) (filter (is_told_of name) rs)) first
+    ∙ none_of name rs (All-tail IsPlain r rs h)

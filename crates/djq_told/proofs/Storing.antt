@@ -1,0 +1,317 @@
+-- What commands make of the store has names, and values within their limits.
+use Rattle.std.specs.Prelude.{ℕ, List, [], ◌∷◌, ◌==◌, ◌&&◌, ◌||◌, ◌≡◌, ◌≤◌, ◌<◌, ◌+◌, ◌++◌, ◌⊎◌, Bool, true, false, not, cond, nat_le, nat_lt, length, Option, None, Some, is_some, is_none, Result, Ok, Err, map, All, Contains, IsPermutation, ⊤}
+use Rattle.std.specs.List.{list_any}
+use Rattle.std.proofs.Common.{refl, sym, ap, ◌∙◌, subst, inl, inr, arith}
+use Rattle.std.proofs.lemmas.Bool.{eq-eqb, leb-false, ltb-false}
+use Rattle.std.proofs.lemmas.List.Elements.{All-nil, All-cons, All-head, All-tail, All-push, All-contains}
+use Rattle.std.proofs.lemmas.List.Sorted.{All-permutation}
+use Rattle.djq_model.specs.declared.value.Value.{Value}
+use Rattle.djq_model.specs.declared.relation.ColumnType.{ColumnType}
+use Rattle.djq_model.specs.declared.relation.Relation.{Relation}
+use Rattle.djq_model.specs.declared.relation.CountedRow.{CountedRow}
+use Rattle.djq_model.specs.declared.query.Query.{Query}
+use Rattle.djq_model.specs.declared.query.Atom.{Atom}
+use Rattle.djq_model.specs.declared.query.Term.{Term}
+use Rattle.djq_model.specs.declared.query.Term.TheVariants.{Variable, Hole, Constant}
+use Rattle.djq_model.specs.Data.{Bytes, Tuple, bytes_eq, tuple_eq, drop_first, relation_of, tuples_in, tuples_of, counted_in, counted_of, rows_of, has_row, with_row, with_copies, without_copies}
+use Rattle.djq_model.specs.Equality.{bytes_eq-decides}
+use Rattle.djq_model.specs.Answer.{Assignment, StandsFor, StandForAll, Satisfies, IsAnswer}
+use Rattle.djq_model.specs.Listed.{Listed, a_query, listed_name, AnswersOf, listed_of}
+use Rattle.djq_model.specs.Known.{texts_in}
+use Rattle.djq_model.proofs.Counted.{tuples_with_row, tuples_with_copies, tuples_without, tuples_moved}
+use Rattle.djq_lines.specs.Conditions.{first_of, Answers, OutOfMemoryWhere}
+use Rattle.djq_lines.specs.QueryFault.{is_too_large, query_faults, whole_query_refusal}
+use Rattle.djq_lines.specs.Variables.{constants_of, is_variable, stands_in, variables_of}
+use Rattle.djq_lines.specs.declared.limits.TheConstants.{LAST_SEQ, COPIES, ROWS, QUERIES, ATOMS, VARIABLES, HEAD_VARIABLES, COMPARISONS}
+use Rattle.djq_lines.specs.declared.rest.QueryOutcome.{QueryOutcome}
+use Rattle.djq_lines.specs.declared.rest.QueryOutcome.TheVariants.{Registered, Cyclic, NotConnex}
+use Rattle.djq_lines.specs.declared.answer.Refusal.{Refusal}
+use Rattle.djq_lines.specs.declared.answer.Refusal.TheVariants.{Taken, Limit}
+use Rattle.djq_lines.specs.declared.answer.AddOutcome.{AddOutcome}
+use Rattle.djq_lines.specs.declared.answer.AddOutcome.TheVariants.{First, More}
+use Rattle.djq_lines.specs.declared.answer.DeleteOutcome.{DeleteOutcome}
+use Rattle.djq_lines.specs.declared.answer.DeleteOutcome.TheVariants.{Last, Left, Absent}
+use Rattle.djq_deltas.specs.Finite.{IsInBody, IsBound}
+use Rattle.djq_deltas.proofs.Lists.{nothing_there, first_or_later, first_there, later_there, hold_each}
+use Rattle.djq_machine.specs.State.{Store}
+use Rattle.djq_machine.specs.Store.{RefusedByTexts, RefusedLate, RegistersAs, MakesRelation, RegistersQuery, DropsQuery, AddsRow, AddsAs, DeletesRow, DeletesAs, with_rows, with_copies_of, copies_of, row_refusals, rel_refusal, query_refusal, drop_refusal, add_refusal, delete_refusal}
+use Rattle.djq_machine.specs.Step.{SameRelations}
+use Rattle.djq_laws.specs.Form.{LearnsTexts}
+use Rattle.djq_laws.proofs.Forms.{done_of, none_holds, stays_learned, late_learned, refused_learned}
+use Rattle.djq_laws.proofs.Changing.{all_changed, all_found, all_dropped}
+use Rattle.djq_laws.proofs.Answering.{none_pass}
+use Rattle.djq_laws.proofs.Apart.{without_dropped}
+use Rattle.djq_laws.proofs.Containing.{mapped_from}
+use Rattle.djq_told.specs.Sayable.{IsName, IsSayableValue, IsSayableRow, IsSayableRelation, IsSayableQuery, IsAskable, IsSayableListed, IsSayableStore}
+
+-- ---- conditions that all fail
+
+abbrev pub AllFail : List (Bool × Refusal) → Type 0
+AllFail [] = Unit {0}
+AllFail (c ∷ cs) = (c.0 ≡ false) × AllFail cs
+
+pub all_fail : (cs : List (Bool × Refusal)) → first_of cs ≡ None → AllFail cs
+all_fail [] e = tt
+all_fail (c ∷ cs) e = by c.0 refl e (λ f. all_fail cs f)
+  where
+    by : (b : Bool) → c.0 ≡ b → cond b (Some c.1) (first_of cs) ≡ None → (first_of cs ≡ None → AllFail cs)
+        → AllFail (c ∷ cs)
+    by true k f more = absurd cc
+    by false k f more = (k, more f)
+
+not_failed : (b : Bool) → not b ≡ false → b ≡ true
+not_failed true e = refl
+not_failed false e = absurd cc
+
+second_fails : (a b : Bool) → a ≡ true → (a && b) ≡ false → b ≡ false
+second_fails true b e f = f
+second_fails false b e f = absurd cc
+
+-- ---- answers
+
+cell_there : (P : Value → Type 0) (b : Assignment) (ts : List Term) (vs : Tuple) (x : Bytes) → StandForAll b ts vs
+    → Contains ts (Variable x) → All P vs → P (b x)
+cell_there P b [] vs x h k all = absurd (nothing_there (Variable x) k)
+cell_there P b (t ∷ ts) [] x h k all = absurd h
+cell_there P b (t ∷ ts) (v ∷ vs) x h k all =
+    by (first_or_later t ts (Variable x) k) (λ c. cell_there P b ts vs x h.1 c (All-tail P v vs all))
+  where
+    by : (t ≡ Variable x) ⊎ Contains ts (Variable x) → (Contains ts (Variable x) → P (b x)) → P (b x)
+    by (inl e) more = subst P (sym (subst (λ (u : Term). StandsFor b u v) e h.0)) (All-head P v vs all)
+    by (inr c) more = more c
+
+pub rows_sayable : (rs : List Relation) (name : Bytes) → All IsSayableRelation rs → All IsSayableRow (rows_of rs name)
+rows_sayable rs name h = by (relation_of rs name) refl
+  where
+    by : (o : Option Relation) → relation_of rs name ≡ o → All IsSayableRow (tuples_of (counted_in o))
+    by None e = All-nil IsSayableRow
+    by (Some x) e = (all_found IsSayableRelation (λ (r : Relation). bytes_eq r.name name) rs x h e).rows
+
+pub answer_sayable : (rs : List Relation) → All IsSayableRelation rs → (q : Listed) → IsSayableListed q → (t : Tuple)
+    → AnswersOf rs q t → IsSayableRow t
+answer_sayable rs h (a_query q) k t a =
+    subst IsSayableRow (sym a.on_head)
+    (hold_each IsSayableValue (map a.assignment q.head) (λ v c.
+    let x = mapped_from a.assignment q.head v c in
+    let m = k.1.bound x.0 x.1 in
+    let s = All-contains (Satisfies rs a.assignment) q.atoms m.0 a.satisfies m.1 in
+    subst IsSayableValue x.2
+    (cell_there IsSayableValue a.assignment (m.0).terms s.row x.0 s.stands m.2
+    (All-contains IsSayableRow (rows_of rs (m.0).relation) s.row (rows_sayable rs (m.0).relation h) s.is_there))))
+
+-- ---- stores
+
+pub learned_sayable : (old new : Store) → LearnsTexts old new → IsSayableStore old → IsSayableStore new
+learned_sayable old new h s =
+    subst IsSayableStore (sym h.store) (record { relations = s.relations; queries = s.queries; seq = s.seq })
+
+pub rel_sayable : (old : Store) (name : Bytes) (types : List ColumnType) (r : Result ⊤ Refusal) (new : Store)
+    → MakesRelation old name types r new → IsName name → IsSayableStore old → IsSayableStore new
+rel_sayable old name types (Err r) new h named s = subst IsSayableStore (sym h.stays) s
+rel_sayable old name types (Ok u) new h named s =
+    let made : Relation = record { name = name; types = types; rows = [] } in
+    subst IsSayableStore
+    (sym (done_of (rel_refusal old name types) u (λ _. new ≡ record old { relations = old.relations ++ made ∷ [] })
+    (OutOfMemoryWhere ⊤) h.answer))
+    (record {
+      relations = All-push IsSayableRelation old.relations made s.relations
+          (record { name = named; rows = All-nil IsSayableRow });
+      queries = s.queries;
+      seq = s.seq;
+    })
+
+-- other rows in one relation
+other_rows : (rs : List Relation) (name : Bytes) (rows : List CountedRow) → All IsSayableRelation rs
+    → All IsSayableRow (tuples_of rows) → All IsSayableRelation (with_rows rs name rows)
+other_rows rs name rows h all =
+    all_changed IsSayableRelation (λ (x : Relation). bytes_eq x.name name)
+    (λ (x : Relation). record x { rows = rows }) rs h (λ x found k. record { name = k.name; rows = all })
+
+other_copies : (rs : List Relation) (name : Bytes) (row : Tuple) (n : ℕ) → All IsSayableRelation rs
+    → All IsSayableRelation (with_copies_of rs name row n)
+other_copies rs name row n h =
+    other_rows rs name (with_copies (counted_of rs name) row n) h
+    (subst (λ (ts : List Tuple). All IsSayableRow ts) (sym (tuples_with_copies (counted_of rs name) row n))
+    (rows_sayable rs name h))
+
+-- what `add`, `del` and `query` ask before they are done
+abbrev add_conditions : Store → Bytes → Tuple → List (Bool × Refusal)
+add_conditions st name row = let rows = rows_of st.relations name in row_refusals st name row
+    ++ (nat_le COPIES (copies_of st name row), Limit)
+    ∷ (not (has_row rows row) && nat_le ROWS (length rows), Limit)
+    ∷ (not (has_row rows row) && nat_le LAST_SEQ st.seq, Limit)
+    ∷ []
+
+abbrev delete_conditions : Store → Bytes → Tuple → List (Bool × Refusal)
+delete_conditions st name row = row_refusals st name row
+    ++ ((copies_of st name row == 1) && nat_le LAST_SEQ st.seq, Limit)
+    ∷ []
+
+abbrev query_conditions : Store → Query → List (Bool × Refusal)
+query_conditions st q =
+    (is_some (listed_of st.queries q.name), Taken)
+    ∷ query_faults st.relations q
+    ++ (nat_le QUERIES (length st.queries), Limit)
+    ∷ []
+
+pub add_sayable : (old : Store) (name : Bytes) (row : Tuple) (r : Result AddOutcome Refusal) (new : Store)
+    → AddsRow old name row r new → IsSayableRow row → IsSayableStore old → IsSayableStore new
+add_sayable old name row (Ok First) new h said s =
+    let d = done_of (add_refusal old name row) First (AddsAs old name row new) _ h.answer in
+    let none = none_holds (add_refusal old name row) First (AddsAs old name row new) _ h.answer in
+    let fails = all_fail (add_conditions old name row) none in
+    let below = leb-false LAST_SEQ old.seq
+    (second_fails (not (has_row (rows_of old.relations name) row)) (nat_le LAST_SEQ old.seq) (ap not d.0)
+    fails.1.1.1.1.1.0) in
+    let before = counted_of old.relations name in
+    subst IsSayableStore (sym d.2) (record {
+      relations = other_rows old.relations name (with_row before row) s.relations
+          (subst (λ (ts : List Tuple). All IsSayableRow ts) (sym (tuples_with_row before row))
+          (All-push IsSayableRow (tuples_of before) row (rows_sayable old.relations name s.relations) said));
+      queries = s.queries;
+      seq = omega (arith, below);
+    })
+add_sayable old name row (Ok (More copies)) new h said s =
+    let d = done_of (add_refusal old name row) (More copies) (AddsAs old name row new) _ h.answer in
+    subst IsSayableStore (sym d.2) (record {
+      relations = other_copies old.relations name row copies s.relations;
+      queries = s.queries;
+      seq = s.seq;
+    })
+add_sayable old name row (Err r) new h said s =
+    learned_sayable old new
+    (refused_learned (add_refusal old name row) r (AddsAs old name row new)
+    (λ t. (has_row (rows_of old.relations name) row ≡ false) × RefusedByTexts old (texts_in row) new t) old new h.answer
+    h.stays (λ late. late_learned old (texts_in row) new r late.1)) s
+
+pub del_sayable : (old : Store) (name : Bytes) (row : Tuple) (r : Result DeleteOutcome Refusal) (new : Store)
+    → DeletesRow old name row r new → IsSayableStore old → IsSayableStore new
+del_sayable old name row (Ok Last) new h s =
+    let d = done_of (delete_refusal old name row) Last (DeletesAs old name row new) (OutOfMemoryWhere ⊥) h.answer in
+    let none = none_holds (delete_refusal old name row) Last (DeletesAs old name row new) (OutOfMemoryWhere ⊥) h.answer in
+    let fails = all_fail (delete_conditions old name row) none in
+    let below = leb-false LAST_SEQ old.seq
+    (second_fails (copies_of old name row == 1) (nat_le LAST_SEQ old.seq) (eq-eqb (copies_of old name row) 1 d.1)
+    fails.1.1.1.0) in
+    let before = counted_of old.relations name in
+    let is : tuples_of (without_copies before row) ≡ drop_first (λ t. tuple_eq t row) (tuples_of before) =
+    tuples_without before row ∙ without_dropped (tuples_of before) row in
+    subst IsSayableStore (sym d.2) (record {
+      relations = other_rows old.relations name (without_copies before row) s.relations
+          (subst (λ (ts : List Tuple). All IsSayableRow ts) (sym is)
+          (all_dropped IsSayableRow (λ t. tuple_eq t row) (tuples_of before)
+          (rows_sayable old.relations name s.relations)));
+      queries = s.queries;
+      seq = omega (arith, below);
+    })
+del_sayable old name row (Ok (Left copies)) new h s =
+    let d = done_of (delete_refusal old name row) (Left copies) (DeletesAs old name row new) (OutOfMemoryWhere ⊥)
+    h.answer in
+    subst IsSayableStore (sym d.3) (record {
+      relations = other_copies old.relations name row copies s.relations;
+      queries = s.queries;
+      seq = s.seq;
+    })
+del_sayable old name row (Ok Absent) new h s =
+    let d = done_of (delete_refusal old name row) Absent (DeletesAs old name row new) (OutOfMemoryWhere ⊥) h.answer in
+    subst IsSayableStore (sym d.1) s
+del_sayable old name row (Err r) new h s = subst IsSayableStore (sym h.stays) s
+
+-- each variable of the head of a query that isn't refused stands in its body
+some_pass : {A : Type 0} (p : A → Bool) (xs : List A) → list_any p xs ≡ true → (x : A) × Contains xs x × (p x ≡ true)
+some_pass p [] e = absurd cc
+some_pass {A = A} p (x ∷ xs) e = by (p x) refl e (λ f. some_pass p xs f)
+  where
+    by : (b : Bool) → p x ≡ b → (b || list_any p xs) ≡ true
+        → (list_any p xs ≡ true → (y : A) × Contains xs y × (p y ≡ true)) → (y : A) × Contains (x ∷ xs) y × (p y ≡ true)
+    by true k f more = (x, first_there x xs x refl, k)
+    by false k f more = let r = more f in (r.0, later_there x xs r.0 r.1, r.2)
+
+variable_is : (x : Bytes) (t : Term) → is_variable x t ≡ true → t ≡ Variable x
+variable_is x (Variable y) e = ap (λ z. Variable z) ((bytes_eq-decides y x).0 e)
+variable_is x Hole e = absurd cc
+variable_is x (Constant v) e = absurd cc
+
+bound_where : (q : Query) → list_any (λ x. not (stands_in q.atoms x)) q.head ≡ false → IsBound q
+bound_where q e x c =
+    let stands = not_failed (stands_in q.atoms x)
+    (All-contains (λ (y : Bytes). not (stands_in q.atoms y) ≡ false) q.head x
+    (none_pass (λ y. not (stands_in q.atoms y)) q.head e) c) in
+    let a = some_pass (λ (m : Atom). list_any (is_variable x) m.terms) q.atoms stands in
+    let t = some_pass (is_variable x) (a.0).terms a.2 in
+    (a.0, a.1, subst (λ (u : Term). Contains (a.0).terms u) (variable_is x t.0 t.2) t.1)
+
+few_where : (a b c d : Bool) → (a || (b || (c || d))) ≡ false → c ≡ false
+few_where false false false d e = refl
+few_where true b c d e = absurd cc
+few_where false true c d e = absurd cc
+few_where false false true d e = absurd cc
+
+askable_where : (q : Query) → list_any (λ x. not (stands_in q.atoms x)) q.head ≡ false → is_too_large q ≡ false
+    → IsAskable q
+askable_where q unbound large =
+    let few = few_where (nat_lt ATOMS (length q.atoms)) (nat_lt VARIABLES (length (variables_of q.atoms)))
+    (nat_lt HEAD_VARIABLES (length q.head)) (nat_lt COMPARISONS (length q.comparisons)) large in
+    let most = ltb-false HEAD_VARIABLES (length q.head) few in
+    record { bound = bound_where q unbound; few = omega (arith, most) }
+
+pub query_sayable : (old : Store) (q : Query) (r : Result QueryOutcome Refusal) (new : Store)
+    → RegistersQuery old q r new → IsSayableQuery q → IsSayableStore old → IsSayableStore new
+query_sayable old q (Ok (Cyclic rest)) new h said s =
+    let d = done_of (query_refusal old q) (Cyclic rest) (RegistersAs old q new) (RefusedLate old q new) h.answer in
+    subst IsSayableStore (sym d.1) s
+query_sayable old q (Ok (NotConnex rest)) new h said s =
+    let d = done_of (query_refusal old q) (NotConnex rest) (RegistersAs old q new) (RefusedLate old q new) h.answer in
+    subst IsSayableStore (sym d.1) s
+query_sayable old q (Ok (Registered most)) new h said s =
+    let none = none_holds (query_refusal old q) (Registered most) (RegistersAs old q new) (RefusedLate old q new)
+    h.answer in
+    let d = done_of (query_refusal old q) (Registered most) (RegistersAs old q new) (RefusedLate old q new) h.answer in
+    let fails = all_fail (query_conditions old q) none in
+    subst IsSayableStore (sym d.3) (record {
+      relations = s.relations;
+      queries = All-push IsSayableListed old.queries (a_query q) s.queries
+          (said, askable_where q fails.1.1.1.1.1.1.1.1.0 fails.1.1.1.1.1.1.1.1.1.0);
+      seq = s.seq;
+    })
+query_sayable old q (Err r) new h said s =
+    learned_sayable old new
+    (refused_learned (query_refusal old q) r (RegistersAs old q new) (RefusedLate old q new) old new h.answer
+    h.stays (λ late. by late)) s
+  where
+    by : RefusedLate old q new r → LearnsTexts old new
+    by (inl k) = late_learned old (texts_in (constants_of q)) new r k.1
+    by (inr k) = stays_learned old new k.1
+
+pub drop_sayable : (old : Store) (used : Bool) (name : Bytes) (r : Result ⊤ Refusal) (new : Store)
+    → DropsQuery old used name r new → IsSayableStore old → IsSayableStore new
+drop_sayable old used name (Err r) new h s = subst IsSayableStore (sym h.stays) s
+drop_sayable old used name (Ok u) new h s =
+    let less = drop_first (λ (q : Listed). bytes_eq (listed_name q) name) old.queries in
+    subst IsSayableStore
+    (sym (done_of (drop_refusal old used name) u (λ _. new ≡ record old { queries = less }) (OutOfMemoryWhere ⊥) h.answer))
+    (record {
+      relations = s.relations;
+      queries = all_dropped IsSayableListed (λ (q : Listed). bytes_eq (listed_name q) name) old.queries s.queries;
+      seq = s.seq;
+    })
+
+-- rows in another order
+moved_sayable : (rs moved : List Relation) → SameRelations rs moved → All IsSayableRelation rs → All IsSayableRelation moved
+moved_sayable [] [] h s = s
+moved_sayable (r ∷ rs) (m ∷ ms) h s =
+    let k = All-head IsSayableRelation r rs s in
+    All-cons IsSayableRelation m ms (record {
+      name = subst IsName (sym h.0) k.name;
+      rows = All-permutation IsSayableRow (tuples_in r) (tuples_in m) (tuples_moved r.rows m.rows h.2) k.rows;
+    }) (moved_sayable rs ms h.3 (All-tail IsSayableRelation r rs s))
+moved_sayable [] (m ∷ ms) h s = absurd h
+moved_sayable (r ∷ rs) [] h s = absurd h
+
+pub moved_store_sayable : (old : Store) (relations : List Relation) → SameRelations old.relations relations
+    → IsSayableStore old → IsSayableStore (record old { relations = relations })
+moved_store_sayable old relations h s = record {
+  relations = moved_sayable old.relations relations h s.relations;
+  queries = s.queries;
+  seq = s.seq;
+}

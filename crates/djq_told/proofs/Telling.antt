@@ -1,0 +1,494 @@
+-- Along a run in which a session watches a query it is told its deltas, and nothing else of it.
+use Rattle.std.specs.Prelude.{ℕ, List, [], ◌∷◌, ◌++◌, ◌==◌, ◌≡◌, ◌≢◌, ◌<◌, ◌≤◌, ◌+◌, ◌⊎◌, ◌&&◌, Bool, true, false, not, cond, filter, Option, None, Some, is_some, IsSomeAnd, MatchOption, option_map, map, Result, Ok, Err, All, AllPairs, Contains}
+use Rattle.std.specs.List.{list_any, flat_map}
+use Rattle.std.proofs.Common.{refl, sym, ap, ap₂, ◌∙◌, subst, inl, inr, arith, append_assoc, append-nil}
+use Rattle.std.proofs.lemmas.Bool.{eqb-true, eq-eqb, ne_eqb}
+use Rattle.std.proofs.lemmas.Grind.{flat_map-append}
+use Rattle.std.proofs.lemmas.List.Elements.{All-nil, All-cons, All-append, All-weaker, filter-append}
+use Rattle.djq_model.specs.declared.relation.Relation.{Relation}
+use Rattle.djq_model.specs.Data.{Bytes, Tuple, bytes_eq, change_first}
+use Rattle.djq_model.specs.Answer.{IsListing}
+use Rattle.djq_model.specs.Listed.{Listed, listed_name, AnswersOf, listed_of}
+use Rattle.djq_lines.specs.declared.answer.EndCause.{EndCause}
+use Rattle.djq_lines.specs.declared.answer.EndCause.TheVariants.{Input, Memory}
+use Rattle.djq_lines.specs.declared.answer.EndLine.TheVariants.{Long as long_line, Slow as slow_line, Memory as memory_line}
+use Rattle.djq_lines.specs.declared.answer.Sign.{Sign}
+use Rattle.djq_lines.specs.declared.answer.Sign.TheVariants.{Came, Went}
+use Rattle.djq_lines.specs.declared.answer.Refusal.TheVariants.{Syntax, WrongType, NoMemory}
+use Rattle.djq_lines.specs.declared.command.Command.{Command}
+use Rattle.djq_lines.specs.declared.command.Command.TheVariants.{Rel, Add, Del, Query as Register, Drop, Open, Next, Close, Has, Watch, Unwatch, Explain, Shape, Quit, Stop}
+use Rattle.djq_lines.specs.Grammar.{Reading, outside, past_limit, says as says_command, reading_of}
+use Rattle.djq_lines.specs.Reply.{end_long, end_slow, end_memory, input_cut}
+use Rattle.djq_mirror.specs.Replies.{Reply, changed as changes_answer, counted, ended as is_ended, cut, reply_text}
+use Rattle.djq_machine.specs.State.{Store, State, Session, session_of, with_session, ended_by, ids_of}
+use Rattle.djq_machine.specs.Effect.{Effect, nothing, says, EndsWith, queue_all}
+use Rattle.djq_machine.specs.Delta.{Change, HasChanged, IsDelta}
+use Rattle.djq_machine.specs.Changes.{RowsChange, RowsOutcome, accepted, out_of_memory, unchanged, is_outdated, is_accepted, row_in, row_out, add_outcome, delete_outcome}
+use Rattle.djq_machine.specs.Stale.{by_relation}
+use Rattle.djq_machine.specs.Store.{AddsRow, DeletesRow}
+use Rattle.djq_machine.specs.Command.{CommandStep}
+use Rattle.djq_machine.specs.LineStep.{LineOutcome, long, blank, slow, no_room, run, ReadStep, FrontStep, behind_line}
+use Rattle.djq_machine.specs.Step.{Event, opened, fed, stepped, took, ended, closed, FedStep, TookStep, EndedStep, Acts, with_relations, Step}
+use Rattle.djq_machine.specs.Run.{Did, to_session, out}
+use Rattle.djq_machine.specs.Call.{cause_of, cause_in}
+use Rattle.djq_machine.specs.Watch.{is_watching, Delta, ChangeStep}
+use Rattle.djq_laws.specs.Added.{added_up}
+use Rattle.djq_laws.specs.Rising.{AreRising}
+use Rattle.djq_laws.specs.Sound.{AreApart, IsSoundState}
+use Rattle.djq_laws.specs.Watched.{IsWatcher, WatchesAlong, line_outdater, event_changes, number_by, numbers_along, Told, all_added_up}
+use Rattle.djq_laws.proofs.Adding.{deltas_add_up}
+use Rattle.djq_laws.proofs.Answering.{SameAnswers, reordered_same}
+use Rattle.djq_laws.proofs.Finding.{some_and}
+use Rattle.djq_laws.proofs.Queueing.{session_changed, session_other, stepped_cause}
+use Rattle.djq_laws.proofs.Rows.{RowsMade, added, deleted}
+use Rattle.djq_laws.proofs.Sounding.{step_sound}
+use Rattle.djq_laws.proofs.Watched.{watchers_have_answers}
+use Rattle.djq_laws.proofs.Watching.{StepTells, is_quiet, is_told, change_store, queued_store, step_tells}
+use Rattle.djq_told.specs.Told.{replies_text, is_told_of, delta_replies, IsToldExactly, WatchersAreToldExactly}
+use Rattle.djq_told.proofs.Exactly.{pairs_unmapped, told_one, told_none}
+use Rattle.djq_told.proofs.Hearing.{heard, all_heard, own_replies, text_append, changed_ids, change_heard}
+use Rattle.djq_told.proofs.Replying.{IsPlain, IsHarmless, harmless_form, Replies, OfForm, of_form, any_talk, add_form, delete_form, one_line, IsRowless, talks, command_replies, refused_replies, none_of}
+
+-- ---- answers over rows in another order
+
+same_changed : (before rs rs' : List Relation) (q : Listed) → SameAnswers rs rs' q → (sign : Sign) (t : Tuple)
+    → HasChanged (AnswersOf before q) (AnswersOf rs q) sign t → HasChanged (AnswersOf before q) (AnswersOf rs' q) sign t
+same_changed before rs rs' q same Came t h = (same.there t h.0, h.1)
+same_changed before rs rs' q same Went t h = (h.0, λ a. h.1 (same.back t a))
+
+same_delta : (before rs rs' : List Relation) (q : Listed) (changes : List Change) → SameAnswers rs rs' q
+    → IsDelta (AnswersOf before q) (AnswersOf rs q) changes → IsDelta (AnswersOf before q) (AnswersOf rs' q) changes
+same_delta before rs rs' q changes same h = record {
+  different = h.different;
+  changed = All-weaker (λ (c : Change). HasChanged (AnswersOf before q) (AnswersOf rs q) c.sign c.answer)
+      (λ (c : Change). HasChanged (AnswersOf before q) (AnswersOf rs' q) c.sign c.answer)
+      (λ c k. same_changed before rs rs' q same c.sign c.answer k) changes h.changed;
+  complete = λ sign t k. h.complete sign t
+      (same_changed before rs' rs q (record { there = same.back; back = same.there }) sign t k);
+}
+
+-- ---- one step
+
+-- whether a line of the session has replies of a listing
+abbrev pub reading_talks : Reading → Bool
+reading_talks (says_command c) = talks c
+reading_talks r = false
+
+abbrev pub event_talks : ℕ → Event → Bool
+event_talks s (stepped t (run l)) = (t == s) && reading_talks (reading_of l)
+event_talks s event = false
+
+-- what a step tells of a query: nothing, where its answers stay; or its delta
+pub data StepTold (q : Listed) (old new : Store) (changes : Bool) (rs : List Reply) : Type 0 where
+  tells_none : rs ≡ [] → SameAnswers old.relations new.relations q
+      → (new.seq ≡ old.seq) ⊎ ((new.seq ≡ old.seq + 1) × (changes ≡ false)) → StepTold q old new changes rs
+  tells_delta : (delta : List Change) → IsDelta (AnswersOf old.relations q) (AnswersOf new.relations q) delta
+      → rs ≡ delta_replies (listed_name q) (record { number = new.seq; changes = delta }) → new.seq ≡ old.seq + 1
+      → changes ≡ true → StepTold q old new changes rs
+
+-- the lines that it queues to a session, and what they tell of the query; where they are no talk of a
+-- listing, they are harmless
+pub record StepSays (q : Listed) (s : ℕ) (old new : Store) (queued : List (ℕ × Bytes)) (changes talk : Bool) : Type 0 where
+  pub replies : List Reply
+  pub text : to_session s queued ≡ replies_text replies
+  pub told : StepTold q old new changes (filter (is_told_of (listed_name q)) replies)
+  pub harmless : talk ≡ false → All IsHarmless replies
+
+-- Nothing is queued, or lines that tell of no delta; they are talk of a listing, where they are so to
+-- the session itself.
+abbrev pub IsQuiet : ℕ → List (ℕ × Bytes) → Bool → Type 0
+IsQuiet s queued talk = (queued ≡ []) ⊎ ((t : ℕ) × (k : Bool) × Replies t queued k × (talk ≡ ((t == s) && k)))
+
+no_talk : (b : Bool) → false ≡ (b && false)
+no_talk true = refl
+no_talk false = refl
+
+quietly : (s t : ℕ) (queued : List (ℕ × Bytes)) → Replies t queued false → IsQuiet s queued false
+quietly s t queued r = inr (t, false, r, no_talk (t == s))
+
+-- lines to one session, as another one or it is told them
+pub record Plain (s : ℕ) (queued : List (ℕ × Bytes)) (talk : Bool) : Type 0 where
+  pub replies : List Reply
+  pub text : to_session s queued ≡ replies_text replies
+  pub plain : All IsPlain replies
+  pub harmless : talk ≡ false → All IsHarmless replies
+
+pub quiet_to : (s : ℕ) (queued : List (ℕ × Bytes)) (talk : Bool) → IsQuiet s queued talk → Plain s queued talk
+quiet_to s queued talk (inl e) = record {
+  replies = [];
+  text = ap (λ qs. to_session s qs) e;
+  plain = All-nil IsPlain;
+  harmless = λ k. All-nil IsHarmless;
+}
+quiet_to s queued talk (inr (t, k, r, is)) = by (t == s) refl is
+  where
+    by : (b : Bool) → (t == s) ≡ b → talk ≡ (b && k) → Plain s queued talk
+    by true e f = record {
+      replies = r.replies;
+      text = ap (λ qs. to_session s qs) r.queued_are ∙ ap (λ (b : Bool). cond b (replies_text r.replies) [] ++ []) e
+          ∙ append-nil (replies_text r.replies);
+      plain = r.plain;
+      harmless = λ none. r.harmless (sym f ∙ none);
+    }
+    by false e f = record {
+      replies = [];
+      text = ap (λ qs. to_session s qs) r.queued_are ∙ ap (λ (b : Bool). cond b (replies_text r.replies) [] ++ []) e;
+      plain = All-nil IsPlain;
+      harmless = λ none. All-nil IsHarmless;
+    }
+
+-- where no change of the query's relations is accepted
+quiet_told : (q : Listed) (s : ℕ) (old new : Store) (queued : List (ℕ × Bytes)) (changes : Bool) (rs : List Reply)
+    → StepTells q s old new queued changes → (changes ≡ false) ⊎ (new.seq ≡ old.seq) → rs ≡ []
+    → StepTold q old new changes rs
+quiet_told q s old new queued changes rs (is_quiet same seq) stays e = tells_none e same seq
+quiet_told q s old new queued changes rs (is_told delta seq counts) (inl none) e = absurd (cc (none, counts))
+quiet_told q s old new queued changes rs (is_told delta seq counts) (inr unmoved) e = absurd (omega (arith, seq, unmoved))
+
+quiet_says : (q : Listed) (s : ℕ) (old new : Store) (queued : List (ℕ × Bytes)) (changes talk : Bool)
+    → IsQuiet s queued talk → StepTells q s old new queued changes → (changes ≡ false) ⊎ (new.seq ≡ old.seq)
+    → StepSays q s old new queued changes talk
+quiet_says q s old new queued changes talk quiet tells stays =
+    let k = quiet_to s queued talk quiet in record {
+      replies = k.replies;
+      text = k.text;
+      told = quiet_told q s old new queued changes (filter (is_told_of (listed_name q)) k.replies) tells stays
+          (none_of (listed_name q) k.replies k.plain);
+      harmless = k.harmless;
+    }
+
+-- ---- a change of rows
+
+delta_harmless : (name : Bytes) (changes : List Change) (n : ℕ)
+    → All IsHarmless (delta_replies name (record { number = n; changes = changes }))
+delta_harmless name [] n = All-cons IsHarmless (counted name n) [] (harmless_form (counted name n) refl) (All-nil IsHarmless)
+delta_harmless name (c ∷ changes) n =
+    All-cons IsHarmless (changes_answer c.sign name c.answer) (delta_replies name (record { number = n; changes = changes }))
+    (harmless_form (changes_answer c.sign name c.answer) refl) (delta_harmless name changes n)
+
+heard_harmless : (ws : List Bytes) (n : ℕ) (ds : List Delta) → All IsHarmless (all_heard ws n ds)
+heard_harmless ws n [] = All-nil IsHarmless
+heard_harmless ws n (d ∷ ds) =
+    All-append IsHarmless (heard ws n d) (all_heard ws n ds) (by (list_any (λ w. bytes_eq w (listed_name d.query)) ws))
+    (heard_harmless ws n ds)
+  where
+    by : (b : Bool)
+        → All IsHarmless (cond b (delta_replies (listed_name d.query) (record { number = n; changes = d.changes })) [])
+    by true = delta_harmless (listed_name d.query) d.changes n
+    by false = All-nil IsHarmless
+
+-- what came of a command of rows that another session or this one said
+module _ (q : Listed) (s : ℕ) (old : State) (x : Session) (is : session_of old s ≡ Some x)
+    (names : AreApart (map listed_name old.store.queries)) (rising : AreRising old) (registered : listed_of old.store.queries (listed_name q) ≡ Some q)
+    (watching : is_watching (listed_name q) x ≡ true) where
+  apart : AllPairs (λ a b. listed_name a ≢ listed_name b) old.store.queries
+  apart = pairs_unmapped (λ (a b : Bytes). a ≢ b) listed_name old.store.queries names
+
+  own_none : (b : Bool) (r : Reply) → IsPlain r → filter (is_told_of (listed_name q)) (cond b (r ∷ []) []) ≡ []
+  own_none true r plain = ap (λ (k : Bool). cond k (r ∷ []) []) (plain (listed_name q))
+  own_none false r plain = refl
+
+  own_harmless : (b : Bool) (r : Reply) → IsHarmless r → All IsHarmless (cond b (r ∷ []) [])
+  own_harmless true r h = All-cons IsHarmless r [] h (All-nil IsHarmless)
+  own_harmless false r h = All-nil IsHarmless
+
+  -- the replies, and which of them tell of the query
+  change_says : (t : ℕ) (outcome : RowsOutcome) (store : Store) (reply : Bytes) (f : OfForm reply false) (e : Effect) (mid : State)
+      → (new : Store) → (outdater : Listed → Option Bytes) → RowsMade outdater old.store outcome store
+      → SameAnswers store.relations new.relations q → new.seq ≡ store.seq
+      → ChangeStep old t outcome store reply e mid → cause_of mid s ≡ None
+      → StepTells q s old.store new e.queued (is_some (outdater q))
+      → (talk : Bool) → StepSays q s old.store new e.queued (is_some (outdater q)) talk
+  change_says t outcome store reply f e mid new outdater made same seq h running tells talk =
+      record {
+        replies = all_heard x.watches store.seq (cond (is_accepted outcome) h.deltas []) ++ own_replies s x.watches (t == s) f.reply;
+        text = change_heard s x old is t outcome store reply f.reply e mid rising f.is h running;
+        harmless = λ k. All-append IsHarmless (all_heard x.watches store.seq (cond (is_accepted outcome) h.deltas []))
+            (own_replies s x.watches (t == s) f.reply)
+            (heard_harmless x.watches store.seq (cond (is_accepted outcome) h.deltas [])) (own_harmless (t == s) f.reply (f.harmless refl));
+        told = subst (λ (rs : List Reply). StepTold q old.store new (is_some (outdater q)) rs)
+            (sym (filter-append (is_told_of (listed_name q))
+            (all_heard x.watches store.seq (cond (is_accepted outcome) h.deltas [])) (own_replies s x.watches (t == s) f.reply)
+            ∙ ap (λ rs. filter (is_told_of (listed_name q)) (all_heard x.watches store.seq (cond (is_accepted outcome) h.deltas [])) ++ rs)
+            (own_none (t == s) f.reply f.plain)
+            ∙ append-nil (filter (is_told_of (listed_name q)) (all_heard x.watches store.seq (cond (is_accepted outcome) h.deltas [])))))
+            (by outcome h made tells);
+      }
+    where
+      stays : (seq' : new.seq ≡ old.store.seq) → StepTells q s old.store new e.queued (is_some (outdater q))
+          → StepTold q old.store new (is_some (outdater q)) []
+      stays seq' (is_quiet answers so) = tells_none refl answers so
+      stays seq' (is_told delta so counts) = absurd (omega (arith, so, seq'))
+
+      by : (o : RowsOutcome) (k : ChangeStep old t o store reply e mid) → RowsMade outdater old.store o store
+          → StepTells q s old.store new e.queued (is_some (outdater q))
+          → StepTold q old.store new (is_some (outdater q))
+          (filter (is_told_of (listed_name q)) (all_heard x.watches store.seq (cond (is_accepted o) k.deltas [])))
+      by unchanged k m tells = stays (seq ∙ ap (λ (st : Store). st.seq) m.store) tells
+      by (out_of_memory change) k m tells = stays (seq ∙ ap (λ (st : Store). st.seq) m.store) tells
+      by (accepted change) k m tells =
+          subst (λ (o : Option Bytes). StepTold q old.store new (is_some o)
+          (filter (is_told_of (listed_name q)) (all_heard x.watches store.seq k.deltas))) (m.outdates q)
+          (outdates (change.outdater q) refl
+          (subst (λ (o : Option Bytes). StepTells q s old.store new e.queued (is_some o)) (sym (m.outdates q)) tells))
+        where
+          more : new.seq ≡ old.store.seq + 1
+          more = seq ∙ ap (λ (st : Store). st.seq) m.store
+
+          outdates : (o : Option Bytes) → change.outdater q ≡ o → StepTells q s old.store new e.queued (is_some (change.outdater q))
+              → StepTold q old.store new (is_some (change.outdater q))
+              (filter (is_told_of (listed_name q)) (all_heard x.watches store.seq k.deltas))
+          outdates None nothing_of (is_quiet answers so) =
+              tells_none (told_none old change change.after k.deltas apart k.listed q x.watches store.seq registered (ap is_some nothing_of))
+              answers (inr (more, ap is_some nothing_of))
+          outdates None nothing_of (is_told delta so counts) = let none : is_some (change.outdater q) ≡ false = ap is_some nothing_of in absurd (cc (none, counts))
+          outdates (Some relation) does tells =
+              let one = told_one old change change.after k.deltas apart k.listed q s x store.seq is registered (ap is_some does) watching in
+              tells_delta one.0
+              (same_delta old.store.relations change.after new.relations q one.0
+              (subst (λ (rs : List Relation). SameAnswers rs new.relations q) (ap (λ (st : Store). st.relations) m.store) same) one.1)
+              (one.2 ∙ ap (λ n. delta_replies (listed_name q) (record { number = n; changes = one.0 })) (sym seq)) more (ap is_some does)
+
+  -- what a line that is read tells
+  read_says : (o : State) (t : ℕ) (y : Session) (l : Bytes) (r : Reading) (e : Effect) (mid : State) (new : Store)
+      → SameAnswers mid.store.relations new.relations q → new.seq ≡ mid.store.seq → cause_of mid s ≡ None
+      → ReadStep old t y l r e mid → StepTells q s old.store new e.queued (is_some (line_outdater o t r q))
+      → StepSays q s old.store new e.queued (is_some (line_outdater o t r q)) ((t == s) && reading_talks r)
+  read_says o t y l outside e mid new same seq running h tells =
+      quiet_says q s old.store new e.queued false ((t == s) && false) (inr (t, false, refused_replies old t Syntax e mid h, refl)) tells
+      (inl refl)
+  read_says o t y l (past_limit c) e mid new same seq running h tells =
+      quiet_says q s old.store new e.queued false ((t == s) && false) (inr (t, false, refused_replies old t WrongType e mid h, refl)) tells
+      (inl refl)
+  read_says o t y l (says_command c) e mid new same seq running (false, h) tells =
+      quiet_says q s old.store new e.queued (is_some (line_outdater o t (says_command c) q)) ((t == s) && talks c)
+      (inr (t, talks c, any_talk t e.queued (talks c) (refused_replies old t NoMemory e mid h.1), refl)) tells (inr (seq ∙ ap (λ (st : State). st.store.seq) h.1.1))
+  read_says o t y l (says_command (Add name row)) e mid new same seq running (true, h) tells =
+      let left = change_store old t _ h.store _ e mid h.change in
+      change_says t (add_outcome (row_in old.store.relations name row) h.result) h.store _
+      (add_form h.result h.store.seq) e mid new (by_relation name) (added old.store name row h.result h.store h.done)
+      (subst (λ (st : Store). SameAnswers st.relations new.relations q) left same)
+      (seq ∙ ap (λ (st : Store). st.seq) left) h.change running tells ((t == s) && false)
+  read_says o t y l (says_command (Del name row)) e mid new same seq running (true, h) tells =
+      let left = change_store old t _ h.store _ e mid h.change in
+      change_says t (delete_outcome (row_out old.store.relations name row) h.result) h.store _
+      (delete_form h.result h.store.seq) e mid new (by_relation name) (deleted old.store name row h.result h.store h.done)
+      (subst (λ (st : Store). SameAnswers st.relations new.relations q) left same)
+      (seq ∙ ap (λ (st : Store). st.seq) left) h.change running tells ((t == s) && false)
+  read_says o t y l (says_command c) e mid new same seq running (true, h) tells =
+      quiet_says q s old.store new e.queued false ((t == s) && talks c) (inr (t, talks c, command_replies old t y c e mid tt h, refl)) tells
+      (inl refl)
+
+-- ---- the events
+
+-- a session stays, but for the line that is taken of it
+pub taken_session : (old : State) (t : ℕ) (rest : Bytes) (s : ℕ) (x : Session) → session_of old s ≡ Some x
+    → (y : Session) × (session_of (with_session old t (behind_line rest)) s ≡ Some y) × (y.watches ≡ x.watches)
+taken_session old t rest s x is = by (t == s) refl
+  where
+    by : (b : Bool) → (t == s) ≡ b
+        → (y : Session) × (session_of (with_session old t (behind_line rest)) s ≡ Some y) × (y.watches ≡ x.watches)
+    by true e = (
+      behind_line rest x,
+      subst (λ i. session_of (with_session old i (behind_line rest)) s ≡ Some (behind_line rest x))
+          (sym (eqb-true t s e))
+          (session_changed old s (behind_line rest) (λ z. refl) ∙ ap (λ o. option_map (behind_line rest) o) is),
+      refl,
+    )
+    by false e = (x, session_other old t s (behind_line rest) (λ z. refl) e ∙ is, refl)
+
+-- a session's last line
+pub ends_quiet : (s t : ℕ) (text : Bytes) (cause : EndCause) (old : State) (e : Effect) (mid : State) → OfForm text false
+    → EndsWith text cause old t e mid → IsQuiet s e.queued false
+ends_quiet s t text cause old e mid f h = quietly s t e.queued (one_line t text e.queued false f (ap (λ (y : Effect). y.queued) h.0))
+
+pub nothing_quiet : (s : ℕ) (e : Effect) → e ≡ nothing → IsQuiet s e.queued false
+nothing_quiet s e h = inl (ap (λ (y : Effect). y.queued) h)
+
+pub fed_quiet : (s : ℕ) (old : State) (t : ℕ) (bytes : Bytes) (e : Effect) (mid : State) (c : Option EndCause)
+    → MatchOption c
+    (((e ≡ nothing) × (mid ≡ with_session old t (λ y. record y { held = y.held ++ bytes }))) ⊎ EndsWith end_memory Memory old t e mid)
+    (λ _. (e ≡ nothing) × (mid ≡ old))
+    → IsQuiet s e.queued false
+fed_quiet s old t bytes e mid None (inl h) = nothing_quiet s e h.0
+fed_quiet s old t bytes e mid None (inr h) = ends_quiet s t end_memory Memory old e mid (of_form end_memory (is_ended memory_line) refl (λ name. refl)) h
+fed_quiet s old t bytes e mid (Some c) h = nothing_quiet s e h.0
+
+-- what is said where bytes are held
+cut_of : ℕ → Bytes → Effect
+cut_of s [] = nothing
+cut_of s (b ∷ bs) = says s input_cut
+
+cut_quiet : (s t : ℕ) (held : Bytes) (e : Effect) → e ≡ cut_of t held → IsQuiet s e.queued false
+unfolding cut_of
+cut_quiet s t [] e h = nothing_quiet s e h
+cut_quiet s t (b ∷ bs) e h =
+    quietly s t e.queued (one_line t input_cut e.queued false (of_form input_cut cut refl (λ name. refl)) (ap (λ (y : Effect). y.queued) h))
+
+input_quiet : (s : ℕ) (old : State) (t : ℕ) (held : Bytes) (e : Effect) (mid : State) (P : Type 0) (c : Option EndCause)
+    → MatchOption c (P × (e ≡ cut_of t held) × (mid ≡ with_session old t (ended_by Input))) (λ _. (e ≡ nothing) × (mid ≡ old))
+    → IsQuiet s e.queued false
+input_quiet s old t held e mid P None h = cut_quiet s t held e h.1
+input_quiet s old t held e mid P (Some c) h = nothing_quiet s e h.0
+
+pub ended_quiet : (s : ℕ) (old : State) (t : ℕ) (x : Session) (e : Effect) (mid : State) → EndedStep old t x e mid → IsQuiet s e.queued false
+unfolding cut_of
+ended_quiet s old t x e mid h = input_quiet s old t x.held e mid _ x.cause h
+
+module _ (q : Listed) (s : ℕ) (old : State) (x : Session) (is : session_of old s ≡ Some x) (sound : IsSoundState old)
+    (registered : listed_of old.store.queries (listed_name q) ≡ Some q)
+    (watching : is_watching (listed_name q) x ≡ true) where
+  front_says : (t : ℕ) (z : Session) (outcome : LineOutcome) (e : Effect) (mid : State) (new : Store)
+      → SameAnswers mid.store.relations new.relations q → new.seq ≡ mid.store.seq → cause_of mid s ≡ None
+      → FrontStep old t z outcome e mid → StepTells q s old.store new e.queued (event_changes q old (stepped t outcome))
+      → StepSays q s old.store new e.queued (event_changes q old (stepped t outcome)) (event_talks s (stepped t outcome))
+  front_says t z long e mid new same seq running h tells =
+      quiet_says q s old.store new e.queued false false
+      (ends_quiet s t end_long _ old e mid (of_form end_long (is_ended long_line) refl (λ name. refl)) h.1) tells (inl refl)
+  front_says t z (blank l) e mid new same seq running h tells =
+      quiet_says q s old.store new e.queued false false (nothing_quiet s e h.1.then.0) tells (inl refl)
+  front_says t z (slow l) e mid new same seq running h tells =
+      quiet_says q s old.store new e.queued false false
+      (ends_quiet s t end_slow _ _ e mid (of_form end_slow (is_ended slow_line) refl (λ name. refl)) h.2.then) tells (inl refl)
+  front_says t z (no_room l) e mid new same seq running h tells =
+      quiet_says q s old.store new e.queued false false
+      (ends_quiet s t end_memory _ _ e mid (of_form end_memory (is_ended memory_line) refl (λ name. refl)) h.2.then) tells (inl refl)
+  front_says t z (run l) e mid new same seq running h tells =
+      let rest = h.2.rest in
+      let y = taken_session old t rest s x is in
+      let ids = changed_ids (λ (k : Session). k.id == t) (behind_line rest) (λ k. refl) old.sessions in
+      read_says q s (with_session old t (behind_line rest)) y.0 y.1 sound.store.queries
+      (subst (λ (js : List ℕ). AllPairs (λ i j. i < j) js) (sym ids) sound.rising) registered
+      (ap (λ (ws : List Bytes). list_any (λ w. bytes_eq w (listed_name q)) ws) y.2 ∙ watching)
+      old t (behind_line rest z) l (reading_of l) e mid new same seq running h.2.then tells
+
+  acts_say : (event : Event) (e : Effect) (mid : State) (new : Store)
+      → SameAnswers mid.store.relations new.relations q → new.seq ≡ mid.store.seq → cause_of mid s ≡ None
+      → Acts old event e mid → StepTells q s old.store new e.queued (event_changes q old event)
+      → StepSays q s old.store new e.queued (event_changes q old event) (event_talks s event)
+  acts_say (opened t) e mid new same seq running h tells =
+      quiet_says q s old.store new e.queued false false (nothing_quiet s e h.0) tells (inl refl)
+  acts_say (fed t bytes) e mid new same seq running h tells =
+      let f = some_and (session_of old t) (λ z. FedStep old t bytes z e mid) h in
+      quiet_says q s old.store new e.queued false false (fed_quiet s old t bytes e mid (f.0).cause f.2) tells (inl refl)
+  acts_say (stepped t outcome) e mid new same seq running h tells =
+      let f = some_and (session_of old t) (λ z. (z.cause ≡ None) × FrontStep old t z outcome e mid) h in
+      front_says t f.0 outcome e mid new same seq running f.2.1 tells
+  acts_say (took t bytes) e mid new same seq running h tells =
+      let f = some_and (session_of old t) (λ z. TookStep old t bytes z e mid) h in
+      quiet_says q s old.store new e.queued false false (nothing_quiet s e f.2.0) tells (inl refl)
+  acts_say (ended t) e mid new same seq running h tells =
+      let f = some_and (session_of old t) (λ z. EndedStep old t z e mid) h in
+      quiet_says q s old.store new e.queued false false (ended_quiet s old t f.0 e mid f.2) tells (inl refl)
+  acts_say (closed t bytes) e mid new same seq running h tells =
+      quiet_says q s old.store new e.queued false false (nothing_quiet s e h.0) tells (inl refl)
+
+pub step_says : (q : Listed) (s : ℕ) (old : State) (event : Event) (e : Effect) (new : State) → IsSoundState old
+    → Step old event e new → IsWatcher q s old → IsWatcher q s new
+    → StepSays q s old.store new.store e.queued (event_changes q old event) (event_talks s event)
+step_says q s old event e new sound h before behind =
+    let f = some_and (session_of old s) (λ x. (x.cause ≡ None) × (is_watching (listed_name q) x ≡ true)) before.watches in
+    let g = some_and (session_of new s) (λ x. (x.cause ≡ None) × (is_watching (listed_name q) x ≡ true)) behind.watches in
+    let running : cause_of h.mid s ≡ None = sym (stepped_cause old event e new h s) ∙ ap cause_in g.1 ∙ g.2.0 in
+    let now : new.store ≡ record (h.mid).store { relations = h.relations } =
+    ap (λ (st : State). st.store) h.queued ∙ queued_store (with_relations h.mid h.relations) e.queued in
+    let same : SameAnswers (h.mid).store.relations new.store.relations q =
+    subst (λ (rs : List Relation). SameAnswers (h.mid).store.relations rs q) (sym (ap (λ (st : Store). st.relations) now))
+    (reordered_same (h.mid).store.relations h.relations q h.reordered) in
+    acts_say q s old f.0 f.1 sound before.registered f.2.1 event e h.mid new.store same
+    (ap (λ (st : Store). st.seq) now) running h.acts (step_tells q s old event e new h before behind)
+
+-- ---- runs
+
+out_more : (s : ℕ) (d : Did) (done : List Did) (rs ts : List Reply) → to_session s d.effect.queued ≡ replies_text rs
+    → out s done ≡ replies_text ts → out s (d ∷ done) ≡ replies_text (rs ++ ts)
+out_more s d done rs ts e f = ap₂ (λ (xs ys : Bytes). xs ++ ys) e f ∙ sym (text_append rs ts)
+
+listing_stays : (old new : Store) (q : Listed) (ts : List Tuple) → SameAnswers old.relations new.relations q
+    → IsListing (AnswersOf old.relations q) ts → IsListing (AnswersOf new.relations q) ts
+listing_stays old new q ts same h = record {
+  different = h.different;
+  answers = All-weaker (AnswersOf old.relations q) (AnswersOf new.relations q) same.there ts h.answers;
+  complete = λ t a. h.complete t (same.back t a);
+}
+
+number_none : (q : Listed) (old : State) (event : Event) (new : State)
+    → (new.store.seq ≡ old.store.seq) ⊎ ((new.store.seq ≡ old.store.seq + 1) × (event_changes q old event ≡ false))
+    → number_by q old event new ≡ []
+number_none q old event new (inl e) = let same = eq-eqb new.store.seq old.store.seq e in rw same refl
+number_none q old event new (inr h) = step (not (new.store.seq == old.store.seq)) (event_changes q old event) h.1
+  where
+    step : (a b : Bool) → b ≡ false → cond (a && b) (new.store.seq ∷ []) [] ≡ []
+    step true true e = absurd cc
+    step true false e = refl
+    step false b e = refl
+
+number_one : (q : Listed) (old : State) (event : Event) (new : State) → new.store.seq ≡ old.store.seq + 1
+    → event_changes q old event ≡ true → number_by q old event new ≡ new.store.seq ∷ []
+number_one q old event new e k =
+    let apart : (new.store.seq == old.store.seq) ≡ false = ne_eqb new.store.seq old.store.seq (λ same. omega (arith, e, same)) in
+    rw (apart, k) refl
+
+-- what is told along a run, but for the order of the numbers
+record TellsAlong (q : Listed) (s : ℕ) (old : State) (done : List Did) (new : State)
+    (walk : WatchesAlong q s old done new) : Type 0 where
+  replies : List Reply
+  whole : out s done ≡ replies_text replies
+  told : List Told
+  exactly : filter (is_told_of (listed_name q)) replies ≡ flat_map (delta_replies (listed_name q)) told
+  numbers : map (λ t. t.number) told ≡ numbers_along q s old done new walk
+  adds_up : (ts : List Tuple) → IsListing (AnswersOf old.store.relations q) ts
+      → IsListing (AnswersOf new.store.relations q) (all_added_up ts told)
+
+tells_more : (q : Listed) (s : ℕ) (old : State) (d : Did) (done : List Did) (new : State)
+    (walk : WatchesAlong q s old (d ∷ done) new) (rs : List Reply) → to_session s d.effect.queued ≡ replies_text rs
+    → StepTold q old.store walk.0.store (event_changes q old d.event) (filter (is_told_of (listed_name q)) rs)
+    → TellsAlong q s walk.0 done new walk.2 → TellsAlong q s old (d ∷ done) new walk
+tells_more q s old d done new walk rs text (tells_none none same seq) h = record {
+  replies = rs ++ h.replies;
+  whole = out_more s d done rs h.replies text h.whole;
+  told = h.told;
+  exactly = filter-append (is_told_of (listed_name q)) rs h.replies ∙ ap₂ (λ (xs ys : List Reply). xs ++ ys) none h.exactly;
+  numbers = h.numbers ∙ ap (λ ns. ns ++ numbers_along q s walk.0 done new walk.2) (sym (number_none q old d.event walk.0 seq));
+  adds_up = λ ts l. h.adds_up ts (listing_stays old.store walk.0.store q ts same l);
+}
+tells_more q s old d done new walk rs text (tells_delta delta is tells seq counts) h =
+    let mid = walk.0 in
+    let first : Told = record { number = mid.store.seq; changes = delta } in record {
+      replies = rs ++ h.replies;
+      whole = out_more s d done rs h.replies text h.whole;
+      told = first ∷ h.told;
+      exactly = filter-append (is_told_of (listed_name q)) rs h.replies ∙ ap₂ (λ (xs ys : List Reply). xs ++ ys) tells h.exactly;
+      numbers = ap (λ ns. mid.store.seq ∷ ns) h.numbers
+          ∙ ap (λ ns. ns ++ numbers_along q s mid done new walk.2) (sym (number_one q old d.event mid seq counts));
+      adds_up = λ ts l. h.adds_up (added_up ts delta) (deltas_add_up old.store.relations mid.store.relations q ts delta l is);
+    }
+
+tells_along : (q : Listed) (s : ℕ) (old : State) → IsSoundState old → (done : List Did) (new : State)
+    (walk : WatchesAlong q s old done new) → TellsAlong q s old done new walk
+tells_along q s old sound [] new walk = record {
+  replies = [];
+  whole = refl;
+  told = [];
+  exactly = refl;
+  numbers = refl;
+  adds_up = λ ts l. subst (λ (st : State). IsListing (AnswersOf st.store.relations q) ts) (sym walk) l;
+}
+tells_along q s old sound (d ∷ done) new walk =
+    let h = walk.1 in
+    let one = step_says q s old d.event d.effect walk.0 sound h.step h.before h.behind in
+    tells_more q s old d done new walk one.replies one.text one.told
+    (tells_along q s walk.0 (step_sound old d.event d.effect walk.0 h.step sound) done new walk.2)
+
+pub watchers_are_told_exactly : WatchersAreToldExactly
+watchers_are_told_exactly q s old sound done new walk =
+    let h = tells_along q s old sound done new walk in
+    let k = watchers_have_answers q s old done new walk in record {
+      replies = h.replies;
+      whole = h.whole;
+      told = h.told;
+      exactly = h.exactly;
+      numbers = h.numbers;
+      rising = subst (λ (ns : List ℕ). AllPairs (λ m n. m < n) ns) (k.numbers ∙ sym h.numbers) k.rising;
+      adds_up = h.adds_up;
+    }

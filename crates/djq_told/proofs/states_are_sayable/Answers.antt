@@ -1,0 +1,11 @@
+use Rattle.djq_told.proofs.Sayable.{runs_keep_sayable, opening_is_sayable, states_are_sayable}
+use Rattle.djq_told.proofs.states_are_sayable.Goals as goal
+
+pub returns-clause-kept : goal.returns-clause-kept
+returns-clause-kept c = runs_keep_sayable
+
+pub returns-clause-opening : goal.returns-clause-opening
+returns-clause-opening c = opening_is_sayable
+
+pub returns-clause-reached : goal.returns-clause-reached
+returns-clause-reached c = states_are_sayable

@@ -1,0 +1,5 @@
+use Rattle.djq_told.proofs.Telling.{watchers_are_told_exactly}
+use Rattle.djq_told.proofs.watchers_are_told_exactly.Goals as goal
+
+pub returns : goal.returns
+returns c = watchers_are_told_exactly
