@@ -98,9 +98,9 @@ abbrev pub Acted : List Bytes → Act → List Bytes → Type 0
 Acted old keep new = new ≡ old
 Acted old clear new = new ≡ []
 Acted old (put t) new =
-    IsInOrder new × ((u : Bytes) → has_text new u ≡ (bytes_eq u t || has_text old u))
+    IsInOrder new × ((u : Bytes) → has_text new u ≡ (bytes_eq t u || has_text old u))
 Acted old (take_out t) new =
-    IsInOrder new × ((u : Bytes) → has_text new u ≡ (not (bytes_eq u t) && has_text old u))
+    IsInOrder new × ((u : Bytes) → has_text new u ≡ (not (bytes_eq t u) && has_text old u))
 
 abbrev pub Turned : Held → Option (Mode × Act) → Held → Type 0
 Turned old None new = ⊥
