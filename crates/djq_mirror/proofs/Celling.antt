@@ -1,5 +1,5 @@
 -- Values as they are printed are read from the bytes, and nothing else is.
-use Rattle.std.proofs.Common.{◌≡◌, ℕ, zero, suc, ◌+◌, ◌<◌, ◌≤◌, Bool, true, false, cond, ◌&&◌, [], ◌∷◌, ◌++◌, take, drop, length, length-append, Option, Some, None, refl, sym, ap, subst, ◌∙◌, arith, eqb}
+use Rattle.std.proofs.Common.{◌≡◌, ℕ, zero, suc, ◌<◌, ◌≤◌, Bool, true, false, cond, ◌&&◌, [], ◌∷◌, ◌++◌, take, drop, length, length-append, Option, Some, None, refl, sym, ap, ◌∙◌, arith, eqb}
 use Rattle.std.proofs.lemmas.List.{append_cancel_right, take-append-drop}
 use Rattle.std.proofs.lemmas.Bool.{and_parts, and_from, cond-true, eqb-true}
 use Rattle.djq_model.specs.declared.value.Value.{Value}

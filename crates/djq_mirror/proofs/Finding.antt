@@ -1,9 +1,9 @@
 -- What is read of a line is told by a form that the line has.
-use Rattle.std.proofs.Common.{◌≡◌, ℕ, ◌<◌, ◌^◌, Bool, true, false, cond, ◌&&◌, ◌||◌, [], ◌∷◌, ◌++◌, List, Option, Some, None, length, drop, refl, sym, ap, subst, ◌∙◌, arith, codes, inl, inr}
+use Rattle.std.proofs.Common.{◌≡◌, ℕ, Bool, true, false, cond, ◌&&◌, ◌||◌, [], ◌∷◌, ◌++◌, List, Option, Some, None, length, drop, refl, sym, ap, subst, ◌∙◌, codes, inl, inr}
 use Rattle.std.specs.List.{list_all, list_any}
 use Rattle.std.specs.Fmt.{decimal}
 use Rattle.std.proofs.lemmas.List.{append-nil, drop_at}
-use Rattle.std.proofs.lemmas.Bool.{and_parts, and_from, or_cases, cond-true, cases_Bool}
+use Rattle.std.proofs.lemmas.Bool.{and_parts, and_from, or_cases}
 use Rattle.djq_model.specs.Data.{Bytes, bytes_eq}
 use Rattle.djq_value.specs.Literal.{is_name}
 use Rattle.djq_lines.specs.declared.answer.EndLine.TheVariants.{Long, Slow, Memory, Full}
@@ -11,9 +11,9 @@ use Rattle.djq_lines.specs.declared.answer.Refusal.TheVariants.{Syntax, Taken, N
 use Rattle.djq_lines.specs.declared.answer.Shape.TheVariants.{Flat, Linear}
 use Rattle.djq_lines.specs.declared.answer.Sign.{Sign}
 use Rattle.djq_lines.specs.declared.answer.Sign.TheVariants.{Came, Went}
-use Rattle.djq_lines.specs.Reply.{cells_text, sign_text}
+use Rattle.djq_lines.specs.Reply.{sign_text}
 use Rattle.djq_mirror.specs.Cells.{are_cells_in}
-use Rattle.djq_mirror.specs.Parts.{before, behind, parts, parts_left}
+use Rattle.djq_mirror.specs.Parts.{before, behind, parts_left}
 use Rattle.djq_mirror.specs.Reading.{News, opens, lists, goes_on, ends, makes_stale, changes, counts, nothing, news_of, change_told, count_told, fixed_lines, is_counted, is_edge_word, is_fixed, is_label_end, is_label_word, is_leaf_told, is_meet_told, is_node_kind, is_node_told, is_number, is_rest_told, is_stale_told, is_trim_told, is_worded, line_told, told_if, told_in, word_told, words_told}
 use Rattle.djq_mirror.specs.Replies.{Node, leaf, trim, meet, Reply, done, opened, added, removed, absent, registered, cyclic, not_connex, answer, more, last, stale, had, shaped, watched, changed, counted, explained, refused, ended, cut, bye, IsNode, IsPrinted, IsReply, is_edge, is_label, is_rest, joined, label_text}
 use Rattle.djq_mirror.proofs.Bodies.{body, edge_words, node_words, out_words, reply_from}

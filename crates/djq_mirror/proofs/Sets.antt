@@ -1,6 +1,6 @@
 -- Sets by the texts of their keys.
 use Rattle.std.specs.Prelude.{Vec}
-use Rattle.std.proofs.Common.{◌≡◌, ℕ, Bool, true, false, cond, not, ◌&&◌, ◌||◌, [], ◌∷◌, List, map, refl, sym, ap, ap₂, subst, ◌∙◌}
+use Rattle.std.proofs.Common.{◌≡◌, ℕ, Bool, true, false, cond, not, ◌&&◌, ◌||◌, [], ◌∷◌, List, map, refl, sym, ap, ap₂, ◌∙◌}
 use Rattle.std.specs.List.{AllByRecursion, list_any}
 use Rattle.std.specs.List.Sorted.{IsStrictlySortedBy}
 use Rattle.std.specs.Cmp.Lexicographic.{slice_cmp}
@@ -112,6 +112,16 @@ taken_out {K} f (x ∷ xs) t u h = step (is_key f t x) refl (bytes_eq u t) refl 
 
 -- The same of a set of texts.
 
+-- the test of two texts, either way round
+flipped : (s t : Bytes) → bytes_eq s t ≡ bytes_eq t s
+flipped s t = by (bytes_eq s t) (bytes_eq t s) refl refl
+  where
+    by : (a b : Bool) → bytes_eq s t ≡ a → bytes_eq t s ≡ b → a ≡ b
+    by true true e f = refl
+    by false false e f = refl
+    by true false e f = sym (bytes_are t s (sym (same_bytes s t e))) ∙ f
+    by false true e f = sym e ∙ bytes_are s t (sym (same_bytes t s f))
+
 pub set_has : {A : Type 0} (s : BTreeSet (Vec ℕ A)) (t : Bytes) → contains_by (λ k. slice_cmp nat_cmp t k.items) s ≡ has_text (texts_of s) t
 set_has s t = holds (λ v. v.items) s.keys t
 
@@ -121,7 +131,7 @@ pub put_acted : {A : Type 0} (old new : BTreeSet (Vec ℕ A)) (k : Vec ℕ A) (t
 put_acted old new k t e is order = (
   in_order (λ v. v.items) new.keys order,
   λ u. ap (λ ks. has_text (map (λ v. v.items) ks) u) is ∙ put_there (λ v. v.items) old.keys k u
-      ∙ ap (λ x. bytes_eq u x || has_text (texts_of old) u) e,
+      ∙ ap (λ x. bytes_eq u x || has_text (texts_of old) u) e ∙ ap (λ b. b || has_text (texts_of old) u) (flipped u t),
 )
 
 pub take_acted : {A : Type 0} (old new : BTreeSet (Vec ℕ A)) (t : Bytes)
@@ -130,5 +140,6 @@ pub take_acted : {A : Type 0} (old new : BTreeSet (Vec ℕ A)) (t : Bytes)
     → IsStrictlySortedBy (λ x y. slice_cmp nat_cmp x.items y.items) new.keys → Acted (texts_of old) (take_out t) (texts_of new)
 take_acted old new t is was order = (
   in_order (λ v. v.items) new.keys order,
-  λ u. ap (λ ks. has_text (map (λ v. v.items) ks) u) is ∙ taken_out (λ v. v.items) old.keys t u was,
+  λ u. ap (λ ks. has_text (map (λ v. v.items) ks) u) is ∙ taken_out (λ v. v.items) old.keys t u was
+      ∙ ap (λ b. not b && has_text (texts_of old) u) (flipped u t),
 )

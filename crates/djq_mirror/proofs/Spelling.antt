@@ -1,15 +1,15 @@
 -- Names, numbers, edges and labels have no space, and are what their words say.
-use Rattle.std.proofs.Common.{◌≡◌, ℕ, ◌+◌, ◌<◌, ◌≤◌, ◌^◌, length, Bool, true, false, cond, not, ◌&&◌, ◌||◌, [], ◌∷◌, ◌++◌, List, refl, sym, ap, subst, ◌∙◌, arith, eqb, leb, inl, inr, codes}
-use Rattle.std.specs.List.{list_all, flat_map}
+use Rattle.std.proofs.Common.{◌≡◌, ℕ, ◌<◌, ◌≤◌, ◌^◌, length, Bool, true, not, ◌&&◌, ◌||◌, [], ◌∷◌, List, refl, sym, ap, ◌∙◌, arith, eqb, leb, inl, inr, codes}
+use Rattle.std.specs.List.{list_all}
 use Rattle.std.specs.Fmt.{decimal}
 use Rattle.std.proofs.lemmas.List.Folds.{list_all-append}
-use Rattle.std.proofs.lemmas.Bool.{and_parts, and_from, or_cases, ne_eqb, eqb-true, leb-true, not_from_false, or_left, or_right}
+use Rattle.std.proofs.lemmas.Bool.{and_parts, and_from, or_cases, ne_eqb, eqb-true, leb-true, not_from_false, or_right}
 use Rattle.djq_model.specs.Data.{Bytes, bytes_eq}
 use Rattle.djq_value.specs.Literal.{is_digit, is_lower, is_name}
 use Rattle.djq_mirror.specs.Parts.{parts}
 use Rattle.djq_mirror.specs.Reading.{is_edge_word, is_label_word}
-use Rattle.djq_mirror.specs.Replies.{is_edge, is_label, is_variable, joined, label_text}
-use Rattle.djq_mirror.proofs.Numerals.{bytes_are, digits_written, same_bytes}
+use Rattle.djq_mirror.specs.Replies.{is_label, is_variable, joined, label_text}
+use Rattle.djq_mirror.proofs.Numerals.{digits_written, same_bytes}
 use Rattle.djq_mirror.proofs.Parting.{glued, lacks, parts_back, parts_spaced, spaced}
 
 -- bytes that pass a test lack a sign that doesn't

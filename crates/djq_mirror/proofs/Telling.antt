@@ -1,5 +1,5 @@
 -- A line of a form is read as what it tells.
-use Rattle.std.proofs.Common.{◌≡◌, ℕ, ◌<◌, ◌^◌, Bool, true, false, cond, ◌&&◌, ◌||◌, [], ◌∷◌, ◌++◌, List, Some, None, length, drop, refl, sym, ap, subst, ◌∙◌, arith, codes}
+use Rattle.std.proofs.Common.{◌≡◌, ℕ, ◌<◌, ◌^◌, Bool, true, false, ◌&&◌, [], ◌∷◌, ◌++◌, List, Some, length, drop, refl, sym, ap, ◌∙◌, arith, codes}
 use Rattle.std.specs.List.{list_all}
 use Rattle.std.specs.Fmt.{decimal}
 use Rattle.std.proofs.lemmas.List.{append-nil, drop_at}
@@ -16,7 +16,7 @@ use Rattle.djq_lines.specs.declared.answer.Sign.TheVariants.{Came, Went}
 use Rattle.djq_lines.specs.Reply.{cells_text}
 use Rattle.djq_mirror.specs.Cells.{are_cells_in}
 use Rattle.djq_mirror.specs.Parts.{before, parts}
-use Rattle.djq_mirror.specs.Reading.{News, opens, lists, goes_on, ends, makes_stale, changes, counts, nothing, news_of, change_told, count_told, is_counted, is_edge_word, is_label_end, is_label_word, is_node_kind, is_node_told, is_number, is_rest_told, is_stale_told, is_trim_told, told_if, told_in}
+use Rattle.djq_mirror.specs.Reading.{News, lists, makes_stale, changes, counts, nothing, news_of, change_told, count_told, is_counted, is_edge_word, is_label_end, is_label_word, is_node_kind, is_node_told, is_number, is_rest_told, is_stale_told, is_trim_told, told_if, told_in}
 use Rattle.djq_mirror.specs.Replies.{Node, leaf, trim, meet, Reply, done, opened, added, removed, absent, registered, cyclic, not_connex, answer, more, last, stale, had, shaped, watched, changed, counted, explained, refused, ended, cut, bye, IsNode, IsPrinted, IsReply, are_cells, is_edge, is_label, is_rest, joined, label_text}
 use Rattle.djq_mirror.proofs.Bodies.{body, body_of, edge_words, ended_words, node_words, out_words, refused_words}
 use Rattle.djq_mirror.proofs.Celling.{cells_read}

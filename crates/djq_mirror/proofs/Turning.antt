@@ -1,6 +1,6 @@
 -- What is read of a line decides whether it is allowed, and what it does.
-use Rattle.std.proofs.Common.{◌≡◌, ℕ, ◌<◌, ◌≤◌, Bool, true, false, [], ◌∷◌, List, Option, Some, None, length, refl, sym, ap, subst, ◌∙◌, arith}
-use Rattle.djq_model.specs.Data.{Bytes, bytes_eq}
+use Rattle.std.proofs.Common.{◌≡◌, ◌<◌, ◌≤◌, true, false, Option, Some, None, length, refl, sym, ap, subst, ◌∙◌, arith}
+use Rattle.djq_model.specs.Data.{Bytes}
 use Rattle.djq_mirror.specs.declared.mode.Mode.{Mode}
 use Rattle.djq_mirror.specs.declared.mode.Mode.TheVariants.{Idle, Listing, Live}
 use Rattle.djq_mirror.specs.declared.mode.TheConstants.{REPLY_LINE_BYTES}
@@ -8,9 +8,9 @@ use Rattle.std.specs.Prelude.{Result, Ok, Err}
 use Rattle.djq_mirror.specs.declared.mirror.MirrorRefusal.{MirrorRefusal}
 use Rattle.djq_mirror.specs.declared.mirror.MirrorRefusal.TheVariants.{Outside, NoMem}
 use Rattle.djq_mirror.specs.Acting.{LineEnds, Turns}
-use Rattle.djq_mirror.specs.Mirror.{Act, Follows, Held, IsLine, IsOutside, Seen, Turned, allows, may_turn, turn_of}
+use Rattle.djq_mirror.specs.Mirror.{Act, Follows, Held, IsOutside, Seen, Turned, may_turn, turn_of}
 use Rattle.djq_mirror.specs.Reading.{News, news_of, told_in, turn_by}
-use Rattle.djq_mirror.specs.Replies.{Reply, done, opened, added, removed, absent, registered, cyclic, not_connex, answer, more, last, stale, had, shaped, watched, changed, counted, explained, refused, ended, cut, bye, IsReply}
+use Rattle.djq_mirror.specs.Replies.{Reply, done, opened, added, removed, absent, registered, cyclic, not_connex, answer, more, last, stale, had, shaped, watched, changed, counted, explained, refused, ended, cut, bye}
 use Rattle.djq_mirror.proofs.Finding.{told_found}
 use Rattle.djq_mirror.proofs.Telling.{reply_told}
 

@@ -1,5 +1,5 @@
 -- What the calls of a mirror leave.
-use Rattle.std.specs.Prelude.{◌≡◌, ℕ, List, ◌++◌, Bool, true, false, Option, None, Some, Result, Ok, Err, length, map, take, Vec}
+use Rattle.std.specs.Prelude.{◌≡◌, ℕ, List, ◌++◌, true, false, Option, Result, Ok, Err, length, map, take, Vec}
 use Rattle.std.specs.BTreeSet.{BTreeSet}
 use Rattle.djq_model.specs.Data.{Bytes}
 use Rattle.djq_mirror.specs.declared.mode.Mode.{Mode}

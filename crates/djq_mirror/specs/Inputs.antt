@@ -1,5 +1,5 @@
 -- What a whole input comes to in a mirror.
-use Rattle.std.specs.Prelude.{◌≡◌, ◌≢◌, ◌⊎◌, ℕ, ◌+◌, List, [], ◌∷◌, ◌++◌, All, length}
+use Rattle.std.specs.Prelude.{◌≡◌, ◌≢◌, ℕ, ◌+◌, List, [], ◌∷◌, ◌++◌, All, length}
 use Rattle.std.specs.List.{flat_map}
 use Rattle.djq_model.specs.Data.{Bytes}
 use Rattle.djq_lines.specs.Reply.{line}

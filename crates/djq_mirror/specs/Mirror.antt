@@ -1,5 +1,5 @@
 -- A mirror: which answers of one query the lines tell that a session was sent.
-use Rattle.std.specs.Prelude.{◌≡◌, ℕ, ◌≤◌, List, [], ◌∷◌, ◌++◌, ◌&&◌, ◌||◌, Bool, true, false, not, Option, None, Some, if◌then◌else◌, codes, length}
+use Rattle.std.specs.Prelude.{◌≡◌, ◌≤◌, List, [], ◌∷◌, ◌++◌, ◌&&◌, ◌||◌, Bool, true, false, not, Option, None, Some, if◌then◌else◌, codes, length}
 use Rattle.std.specs.List.{flat_map, list_any}
 use Rattle.std.specs.List.Sorted.{IsStrictlySortedBy}
 use Rattle.std.specs.Cmp.Lexicographic.{slice_cmp}
@@ -98,9 +98,9 @@ abbrev pub Acted : List Bytes → Act → List Bytes → Type 0
 Acted old keep new = new ≡ old
 Acted old clear new = new ≡ []
 Acted old (put t) new =
-    IsInOrder new × ((u : Bytes) → has_text new u ≡ (bytes_eq u t || has_text old u))
+    IsInOrder new × ((u : Bytes) → has_text new u ≡ (bytes_eq t u || has_text old u))
 Acted old (take_out t) new =
-    IsInOrder new × ((u : Bytes) → has_text new u ≡ (not (bytes_eq u t) && has_text old u))
+    IsInOrder new × ((u : Bytes) → has_text new u ≡ (not (bytes_eq t u) && has_text old u))
 
 abbrev pub Turned : Held → Option (Mode × Act) → Held → Type 0
 Turned old None new = ⊥

@@ -1,5 +1,5 @@
 -- What a line tells, read from the bytes by its first word.
-use Rattle.std.specs.Prelude.{ℕ, List, [], ◌∷◌, ◌++◌, ◌&&◌, ◌||◌, Bool, true, false, nat_lt, Option, None, Some, if◌then◌else◌, codes, decimal, drop, length}
+use Rattle.std.specs.Prelude.{ℕ, List, [], ◌∷◌, ◌&&◌, ◌||◌, Bool, false, nat_lt, Option, None, Some, if◌then◌else◌, codes, decimal, drop, length}
 use Rattle.std.specs.List.{list_all, list_any}
 use Rattle.djq_model.specs.Data.{Bytes, bytes_eq}
 use Rattle.djq_value.specs.Literal.{is_name, natural_of}

@@ -1,4 +1,4 @@
-use Rattle.std.proofs.Common.{◌≡◌, rules, arith}
+use Rattle.std.proofs.Common.{rules, arith}
 use Rattle.djq_mirror.proofs.Parting.{first_part}
 use Rattle.djq_mirror.proofs.parts.Parts.next.Goals as goal
 
