@@ -12,3 +12,5 @@ mod Mirroring
 mod Having
 mod Mirrored
 mod Waiting
+mod Lines
+mod Holding

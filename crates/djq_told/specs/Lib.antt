@@ -1,3 +1,4 @@
 pub mod Sayable
 pub mod Told
+pub mod Lines
 pub mod Mirrored
