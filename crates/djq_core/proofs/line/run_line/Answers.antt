@@ -1,4 +1,4 @@
-use Rattle.std.proofs.Common.{◌≡◌, ◌∙◌, refl, sym, subst, take, drop, false, Ok, Err}
+use Rattle.std.proofs.Common.{◌≡◌, refl, subst, take, drop, false, Ok, Err}
 use Rattle.djq_model.specs.Data.{Bytes, Tuple}
 use Rattle.djq_lines.specs.Reply.{refusal_line}
 use Rattle.djq_lines.specs.declared.answer.Refusal.{Refusal}
