@@ -7,3 +7,6 @@ mod Hearing
 mod Replying
 mod Exactly
 mod Telling
+mod Sorting
+mod Mirroring
+mod Having

@@ -1,2 +1,3 @@
 pub mod Sayable
 pub mod Told
+pub mod Mirrored

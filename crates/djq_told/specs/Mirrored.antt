@@ -1,0 +1,82 @@
+-- What a mirror makes of what a session is sent that watches a query and lists it.
+use Rattle.std.specs.Prelude.{ℕ, List, [], ◌∷◌, ◌==◌, ◌≡◌, true, false, IsSomeAnd, All}
+use Rattle.djq_model.specs.Data.{Bytes, Tuple}
+use Rattle.djq_model.specs.Listed.{Listed, listed_name, AnswersOf}
+use Rattle.djq_lines.specs.Reply.{cells_text}
+use Rattle.djq_lines.specs.declared.command.Command.{Command}
+use Rattle.djq_lines.specs.declared.command.Command.TheVariants.{Rel, Add, Del, Query as Register, Open, Next, Close}
+use Rattle.djq_lines.specs.Grammar.{Reading, says as says_command, reading_of}
+use Rattle.djq_mirror.specs.declared.mode.Mode.TheVariants.{Live}
+use Rattle.djq_mirror.specs.Replies.{Reply}
+use Rattle.djq_mirror.specs.Mirror.{Held, at_first, turn_of, allows, has_text, IsInOrder, Turned}
+use Rattle.djq_machine.specs.State.{State, Session, session_of}
+use Rattle.djq_machine.specs.LineStep.{run}
+use Rattle.djq_machine.specs.Step.{Event, stepped}
+use Rattle.djq_machine.specs.Run.{Did, Run, out}
+use Rattle.djq_machine.specs.Gives.{CursorsGive}
+use Rattle.djq_laws.specs.Sound.{IsSoundState}
+use Rattle.djq_laws.specs.Watched.{WatchesAlong}
+use Rattle.djq_told.specs.Sayable.{IsSayableState}
+use Rattle.djq_told.specs.Told.{replies_text}
+
+-- Replies, one after the other, are allowed in a mirror of the query of a name, and this is held
+-- behind them.
+abbrev pub Passes : Bytes → Held → List Reply → Held → Type 0
+Passes name old [] new = new ≡ old
+Passes name old (r ∷ rs) new =
+    (between : Held) × (allows name old r ≡ true) × Turned old (turn_of name old.mode r) between
+    × Passes name between rs new
+
+-- What is held are the texts of these tuples, in byte order.
+pub record Shows (held : Held) (These : Tuple → Type 0) : Type 0 where
+  pub order : IsInOrder held.texts
+  pub texts : (u : Bytes) → has_text held.texts u ≡ true → (t : Tuple) × These t × (cells_text t ≡ u)
+  pub tuples : (t : Tuple) → These t → has_text held.texts (cells_text t) ≡ true
+
+-- The commands by which a session changes rows, registers, and reads the query of a name through one
+-- cursor at a time.
+abbrev pub MayBeSaid : Bytes → Session → Command → Type 0
+MayBeSaid name x (Rel relation types) = Unit {0}
+MayBeSaid name x (Add relation row) = Unit {0}
+MayBeSaid name x (Del relation row) = Unit {0}
+MayBeSaid name x (Register q) = Unit {0}
+MayBeSaid name x (Open c q) = (q ≡ name) × All (λ k. k.name ≡ c) x.cursors
+MayBeSaid name x (Next c count) = Unit {0}
+MayBeSaid name x (Close c) = Unit {0}
+MayBeSaid name x _ = ⊥
+
+-- A line is none, or says such a command.
+abbrev pub MayBeRead : Bytes → Session → Reading → Type 0
+MayBeRead name x (says_command c) = MayBeSaid name x c
+MayBeRead name x _ = Unit {0}
+
+-- What a session says is such.
+abbrev pub ReadsOnly : Bytes → ℕ → State → Event → Type 0
+ReadsOnly name s st (stepped t (run l)) =
+    (t == s) ≡ true → IsSomeAnd (session_of st s) (λ x. MayBeRead name x (reading_of l))
+ReadsOnly name s st _ = Unit {0}
+
+-- So it is in each state of a run.
+abbrev pub ReadsAlong : (q : Listed) (s : ℕ) (old : State) (done : List Did) (new : State)
+    → WatchesAlong q s old done new → Type 0
+ReadsAlong q s old [] new walk = Unit {0}
+ReadsAlong q s old (d ∷ done) new walk =
+    ReadsOnly (listed_name q) s old d.event × ReadsAlong q s walk.0 done new walk.2
+
+-- The replies that are all that is queued to it are allowed in a mirror of the query, from the first
+-- one on; and where the mirror is live behind them, it holds the query's answers over the rows that
+-- are there then.
+pub record IsMirrored (q : Listed) (s : ℕ) (done : List Did) (new : State) : Type 0 where
+  pub replies : List Reply
+  pub whole : out s done ≡ replies_text replies
+  pub held : Held
+  pub passes : Passes (listed_name q) at_first replies held
+  pub live : held.mode ≡ Live → Shows held (AnswersOf new.store.relations q)
+
+-- So it is along every run in which a session watches a query, from where it has no cursor yet, if
+-- it reads the query through one cursor at a time.
+abbrev pub WatchersAreMirrored : Type 0
+WatchersAreMirrored = (q : Listed) (s : ℕ) (old : State) → IsSoundState old → IsSayableState old
+    → CursorsGive old → IsSomeAnd (session_of old s) (λ x. x.cursors ≡ []) → (done : List Did)
+    (new : State) (walk : WatchesAlong q s old done new) → ReadsAlong q s old done new walk
+    → IsMirrored q s done new
