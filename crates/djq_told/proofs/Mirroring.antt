@@ -26,6 +26,7 @@ use Rattle.djq_laws.specs.Watched.{Told}
 use Rattle.djq_told.specs.Sayable.{IsSayableValue, IsSayableRow}
 use Rattle.djq_told.specs.Told.{is_told_of, delta_replies}
 use Rattle.djq_told.specs.Mirrored.{Passes, Shows}
+use Rattle.djq_told.proofs.Replying.{IsHarmless}
 use Rattle.djq_told.proofs.Sorting.{put_in, taken_out, has_put, has_out, sorted_put, sorted_out, put_is, out_is}
 
 -- ---- one reply after the other
@@ -43,10 +44,6 @@ Does name old r mode act = turn_of name old.mode r ≡ Some (mode, act)
 pub stays : (name : Bytes) (held : Held) (r : Reply) → turn_of name held.mode r ≡ Some (held.mode, keep) → Passes name held (r ∷ []) held
 stays name held r e =
     (held, ap (may_turn held.texts) e, subst (λ o. Turned held o held) (sym e) (refl, refl), refl)
-
--- A reply does nothing, unless it tells of the query.
-abbrev pub IsHarmless : Reply → Type 0
-IsHarmless r = (name : Bytes) (mode : Mode) → is_told_of name r ≡ false → turn_of name mode r ≡ Some (mode, keep)
 
 -- Where all others are harmless, what tells of the query does all.
 pub passes_told : (name : Bytes) (old new : Held) (rs : List Reply) → All IsHarmless rs

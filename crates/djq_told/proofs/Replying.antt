@@ -30,7 +30,7 @@ use Rattle.djq_lines.specs.declared.command.Command.{Command}
 use Rattle.djq_lines.specs.declared.command.Command.TheVariants.{Rel, Add, Del, Query as Register, Drop, Open, Next, Close, Has, Watch, Unwatch, Explain, Shape as AskShape, Quit, Stop}
 use Rattle.djq_lines.specs.Grammar.{Reading, outside, past_limit, says as says_command}
 use Rattle.djq_lines.specs.Hypergraph.{variable_names}
-use Rattle.djq_lines.specs.Reply.{line, text_of, answer_line, last_line, listing_lines, ok_reply, add_reply, delete_reply, query_reply, has_reply, shape_reply, watch_reply, edges_text, rest_line, end_memory}
+use Rattle.djq_lines.specs.Reply.{cells_text, line, text_of, answer_line, last_line, listing_lines, ok_reply, add_reply, delete_reply, query_reply, has_reply, shape_reply, watch_reply, edges_text, rest_line, end_memory}
 use Rattle.djq_mirror.specs.Replies.{Reply, Node, leaf, trim, meet, done, opened as cursor_opened, added, removed, absent, registered, cyclic, not_connex, answer, more, last, stale as gone_stale, had, shaped, watched, changed, counted, explained, refused, ended as is_ended, cut, bye, joined, edges_line, reply_text, label_text as label_of, node_text as node_of}
 use Rattle.djq_machine.specs.State.{State, Session, Cursor, Position, open_at, stale, session_of, cursor_of}
 use Rattle.djq_machine.specs.Effect.{Effect, nothing, RefusedStep, EndsWith}
@@ -38,6 +38,9 @@ use Rattle.djq_machine.specs.Command.{NextStepAt, CloseStep, QueryStep, QueryCut
 use Rattle.djq_machine.specs.LineStep.{LineOutcome, long, blank, slow, no_room, run, ReadStep, FrontStep}
 use Rattle.djq_machine.specs.Step.{Event, opened, fed, stepped, took, ended, closed, FedStep, TookStep, EndedStep, Acts}
 use Rattle.djq_laws.proofs.Finding.{some_and}
+use Rattle.djq_mirror.specs.declared.mode.Mode.{Mode}
+use Rattle.djq_mirror.specs.declared.mode.Mode.TheVariants.{Idle, Listing, Live}
+use Rattle.djq_mirror.specs.Mirror.{Act, keep, turn_of, turn_of_change, turn_of_count}
 use Rattle.djq_told.specs.Told.{replies_text, is_told_of}
 use Rattle.djq_told.proofs.Hearing.{text_append}
 
@@ -45,32 +48,68 @@ use Rattle.djq_told.proofs.Hearing.{text_append}
 abbrev pub IsPlain : Reply → Type 0
 IsPlain r = (name : Bytes) → is_told_of name r ≡ false
 
--- Some lines are queued to one session, and tell of no delta.
-pub record Replies (s : ℕ) (queued : List (ℕ × Bytes)) : Type 0 where
+-- A reply does nothing in a mirror, unless it tells of its query.
+abbrev pub IsHarmless : Reply → Type 0
+IsHarmless r = (name : Bytes) (mode : Mode) → is_told_of name r ≡ false → turn_of name mode r ≡ Some (mode, keep)
+
+-- Some lines are queued to one session, and tell of no delta; where they are no talk of listings, they
+-- are harmless.
+pub record Replies (s : ℕ) (queued : List (ℕ × Bytes)) (talk : Bool) : Type 0 where
   pub replies : List Reply
   pub queued_are : queued ≡ (s, replies_text replies) ∷ []
   pub plain : All IsPlain replies
+  pub harmless : talk ≡ false → All IsHarmless replies
 
 -- a text of one form
-pub record OfForm (text : Bytes) : Type 0 where
+pub record OfForm (text : Bytes) (talk : Bool) : Type 0 where
   pub reply : Reply
   pub is : text ≡ reply_text reply
   pub plain : IsPlain reply
+  pub harmless : talk ≡ false → IsHarmless reply
 
-of_form : (text : Bytes) (r : Reply) → text ≡ reply_text r → IsPlain r → OfForm text
-of_form text r e p = record { reply = r; is = e; plain = p }
+-- whether a reply is of a listing
+abbrev pub is_talk : Reply → Bool
+is_talk cursor_opened = true
+is_talk (answer t) = true
+is_talk more = true
+is_talk last = true
+is_talk (gone_stale c relation n) = true
+is_talk r = false
+
+told_apart : (name : Bytes) (mode : Mode) (r : Reply) (s : Mode × Act) → is_told_of name r ≡ false
+    → Some (cond (is_told_of name r) s (mode, keep)) ≡ Some (mode, keep)
+told_apart name mode r s e = ap (λ (b : Bool). Some (cond b s (mode, keep))) e
+
+pub harmless_form : (r : Reply) → is_talk r ≡ false → IsHarmless r
+harmless_form cursor_opened e name mode k = absurd cc
+harmless_form (answer t) e name mode k = absurd cc
+harmless_form more e name mode k = absurd cc
+harmless_form last e name mode k = absurd cc
+harmless_form (gone_stale c relation n) e name mode k = absurd cc
+harmless_form (changed s q t) e name Idle k = told_apart name Idle (changed s q t) (turn_of_change Idle s (cells_text t)) k
+harmless_form (changed s q t) e name Listing k = told_apart name Listing (changed s q t) (turn_of_change Listing s (cells_text t)) k
+harmless_form (changed s q t) e name Live k = told_apart name Live (changed s q t) (turn_of_change Live s (cells_text t)) k
+harmless_form (counted q n) e name Idle k = told_apart name Idle (counted q n) (turn_of_count Idle) k
+harmless_form (counted q n) e name Listing k = told_apart name Listing (counted q n) (turn_of_count Listing) k
+harmless_form (counted q n) e name Live k = told_apart name Live (counted q n) (turn_of_count Live) k
+harmless_form r e name Idle k = refl
+harmless_form r e name Listing k = refl
+harmless_form r e name Live k = refl
+
+pub of_form : (text : Bytes) (r : Reply) → text ≡ reply_text r → IsPlain r → OfForm text (is_talk r)
+of_form text r e p = record { reply = r; is = e; plain = p; harmless = λ k. harmless_form r k }
 
 ok_form : {A : Type 0} (words : Bytes) (r : Reply) → line words ≡ reply_text r → IsPlain r → (result : Result A Refusal)
-    → OfForm (ok_reply words result)
+    → OfForm (ok_reply words result) (is_talk r)
 ok_form words r e p (Ok a) = of_form _ r e p
-ok_form words r e p (Err t) = of_form _ (refused t) refl (λ name. refl)
+ok_form words r e p (Err t) = record { reply = refused t; is = refl; plain = λ name. refl; harmless = λ k. harmless_form (refused t) refl }
 
-pub add_form : (result : Result AddOutcome Refusal) (n : ℕ) → OfForm (add_reply result n)
+pub add_form : (result : Result AddOutcome Refusal) (n : ℕ) → OfForm (add_reply result n) false
 add_form (Ok First) n = of_form _ (added n 1) refl (λ name. refl)
 add_form (Ok (More copies)) n = of_form _ (added n copies) refl (λ name. refl)
 add_form (Err r) n = of_form _ (refused r) refl (λ name. refl)
 
-pub delete_form : (result : Result DeleteOutcome Refusal) (n : ℕ) → OfForm (delete_reply result n)
+pub delete_form : (result : Result DeleteOutcome Refusal) (n : ℕ) → OfForm (delete_reply result n) false
 delete_form (Ok Last) n = of_form _ (removed n 0) refl (λ name. refl)
 delete_form (Ok (Left copies)) n = of_form _ (removed n copies) refl (λ name. refl)
 delete_form (Ok Absent) n = of_form _ (absent n) refl (λ name. refl)
@@ -97,39 +136,50 @@ edges_joined names (e ∷ edges) =
 rest_is : (words : Bytes) (rest : NamedRest) → rest_line words rest ≡ edges_line words (named_edges rest)
 rest_is words rest = ap (λ bytes. line (words ++ bytes)) (edges_joined rest.names rest.edges)
 
-query_form : (result : Result QueryOutcome Refusal) → OfForm (query_reply result)
+query_form : (result : Result QueryOutcome Refusal) → OfForm (query_reply result) false
 query_form (Ok (Registered most)) = of_form _ (registered most) refl (λ name. refl)
 query_form (Ok (Cyclic rest)) = of_form _ (cyclic (named_edges rest)) (rest_is (codes "no cyclic") rest) (λ name. refl)
 query_form (Ok (NotConnex rest)) = of_form _ (not_connex (named_edges rest)) (rest_is (codes "no connex") rest) (λ name. refl)
 query_form (Err r) = of_form _ (refused r) refl (λ name. refl)
 
-has_form : (result : Result Bool Refusal) → OfForm (has_reply result)
+has_form : (result : Result Bool Refusal) → OfForm (has_reply result) false
 has_form (Ok found) = of_form _ (had found) refl (λ name. refl)
 has_form (Err r) = of_form _ (refused r) refl (λ name. refl)
 
-shape_form : (result : Result Shape Refusal) → OfForm (shape_reply result)
+shape_form : (result : Result Shape Refusal) → OfForm (shape_reply result) false
 shape_form (Ok s) = of_form _ (shaped s) refl (λ name. refl)
 shape_form (Err r) = of_form _ (refused r) refl (λ name. refl)
 
-watch_form : {A : Type 0} (result : Result A Refusal) (n : ℕ) → OfForm (watch_reply result n)
+watch_form : {A : Type 0} (result : Result A Refusal) (n : ℕ) → OfForm (watch_reply result n) false
 watch_form (Ok a) n = of_form _ (watched n) refl (λ name. refl)
 watch_form (Err r) n = of_form _ (refused r) refl (λ name. refl)
 
 -- ---- one line, or several
 
-pub one_line : (s : ℕ) (text : Bytes) (queued : List (ℕ × Bytes)) → OfForm text → queued ≡ (s, text) ∷ [] → Replies s queued
-one_line s text queued f e = record {
+pub one_line : (s : ℕ) (text : Bytes) (queued : List (ℕ × Bytes)) (talk : Bool) → OfForm text talk
+    → queued ≡ (s, text) ∷ [] → Replies s queued talk
+one_line s text queued talk f e = record {
   replies = f.reply ∷ [];
   queued_are = e ∙ ap (λ (bytes : Bytes). (s, bytes) ∷ []) (f.is ∙ sym (append-nil (reply_text f.reply)));
   plain = All-cons IsPlain f.reply [] f.plain (All-nil IsPlain);
+  harmless = λ k. All-cons IsHarmless f.reply [] (f.harmless k) (All-nil IsHarmless);
 }
 
-pub memory_form : OfForm end_memory
+pub memory_form : OfForm end_memory false
 memory_form = of_form _ (is_ended Memory) refl (λ name. refl)
 
 several_lines : (s : ℕ) (rs : List Reply) (queued : List (ℕ × Bytes)) → All IsPlain rs → queued ≡ (s, replies_text rs) ∷ []
-    → Replies s queued
-several_lines s rs queued plain e = record { replies = rs; queued_are = e; plain = plain }
+    → Replies s queued true
+several_lines s rs queued plain e = record { replies = rs; queued_are = e; plain = plain; harmless = λ k. absurd cc }
+
+-- what is harmless is so, whatever else may be said
+pub any_talk : (s : ℕ) (queued : List (ℕ × Bytes)) (talk : Bool) → Replies s queued false → Replies s queued talk
+any_talk s queued talk r = record {
+  replies = r.replies;
+  queued_are = r.queued_are;
+  plain = r.plain;
+  harmless = λ k. r.harmless refl;
+}
 
 -- the lines of answers
 pub answers_text : (ts : List Tuple) → text_of (map answer_line ts) ≡ replies_text (map (λ t. answer t) ts)
@@ -234,7 +284,7 @@ first_of (r ∷ rs) (t ∷ told) rest plain e =
     }
 
 lines_replies : (old : State) (s : ℕ) (lines : List Bytes) (e : Effect) (new : State) (rs : List Reply) → All IsPlain rs
-    → lines ≡ map reply_text rs → TellsLines old s lines e new → Replies s e.queued
+    → lines ≡ map reply_text rs → TellsLines old s lines e new → Replies s e.queued true
 lines_replies old s lines e new rs plain are (inl h) =
     several_lines s rs e.queued plain
     (ap (λ (x : Effect). x.queued) h.0 ∙ ap (λ (bytes : Bytes). (s, bytes) ∷ []) (ap text_of are ∙ text_of_replies rs))
@@ -250,9 +300,10 @@ lines_replies old s lines e new rs plain are (inr (told, lacking, rest, parts, e
     ∙ sym (text_append first.some (is_ended Memory ∷ []))))
 
 explain_replies : (old : State) (s : ℕ) (o : Option Listed) (e : Effect) (new : State)
-    → MatchOption o (RefusedStep old s NoQuery e new) (λ q. ExplainStepOf old s q e new) → Replies s e.queued
+    → MatchOption o (RefusedStep old s NoQuery e new) (λ q. ExplainStepOf old s q e new) → Replies s e.queued true
 explain_replies old s None e new h =
-    one_line s _ e.queued (of_form _ (refused NoQuery) refl (λ name. refl)) (ap (λ (x : Effect). x.queued) h.0)
+    any_talk s e.queued true
+    (one_line s _ e.queued _ (of_form _ (refused NoQuery) refl (λ name. refl)) (ap (λ (x : Effect). x.queued) h.0))
 explain_replies old s (Some (a_query q)) e new h =
     let atoms = map (λ a. a.relation) q.atoms in
     let names = variable_names q in
@@ -267,9 +318,9 @@ explain_replies old s (Some (a_query q)) e new h =
 -- ---- commands
 
 next_at : (old : State) (s : ℕ) (c : Bytes) (q : Listed) (count : ℕ) (p : Position) (e : Effect) (new : State)
-    → NextStepAt old s c q count p e new → Replies s e.queued
+    → NextStepAt old s c q count p e new → Replies s e.queued true
 next_at old s c q count (stale relation n) e new h =
-    one_line s _ e.queued (of_form _ (gone_stale c relation n) refl (λ name. refl)) (ap (λ (x : Effect). x.queued) h.0)
+    one_line s _ e.queued _ (of_form _ (gone_stale c relation n) refl (λ name. refl)) (ap (λ (x : Effect). x.queued) h.0)
 next_at old s c q count (open_at given finished) e new (inl h) =
     several_lines s (map (λ t. answer t) h.told ++ last_reply h.end ∷ []) e.queued
     (behind_plain h.told (last_reply h.end) (last_plain h.end))
@@ -282,19 +333,20 @@ next_at old s c q count (open_at given finished) e new (inr h) =
 next_replies : (old : State) (s : ℕ) (c : Bytes) (count : ℕ) (o : Option Cursor) (e : Effect) (new : State)
     → MatchOption o (RefusedStep old s NoCursor e new)
     (λ k. IsSomeAnd (listed_of old.store.queries k.query) (λ q. NextStepAt old s c q count k.position e new))
-    → Replies s e.queued
+    → Replies s e.queued true
 next_replies old s c count None e new h =
-    one_line s _ e.queued (of_form _ (refused NoCursor) refl (λ name. refl)) (ap (λ (x : Effect). x.queued) h.0)
+    any_talk s e.queued true
+    (one_line s _ e.queued _ (of_form _ (refused NoCursor) refl (λ name. refl)) (ap (λ (x : Effect). x.queued) h.0))
 next_replies old s c count (Some k) e new h =
     let f = some_and (listed_of old.store.queries k.query) (λ q. NextStepAt old s c q count k.position e new) h in
     next_at old s c f.0 count k.position e new f.2
 
 close_replies : (old : State) (s : ℕ) (c : Bytes) (o : Option Cursor) (e : Effect) (new : State)
-    → MatchOption o (RefusedStep old s NoCursor e new) (λ k. CloseStep old s c e new) → Replies s e.queued
+    → MatchOption o (RefusedStep old s NoCursor e new) (λ k. CloseStep old s c e new) → Replies s e.queued false
 close_replies old s c None e new h =
-    one_line s _ e.queued (of_form _ (refused NoCursor) refl (λ name. refl)) (ap (λ (x : Effect). x.queued) h.0)
+    one_line s _ e.queued _ (of_form _ (refused NoCursor) refl (λ name. refl)) (ap (λ (x : Effect). x.queued) h.0)
 close_replies old s c (Some k) e new h =
-    one_line s _ e.queued (of_form _ done refl (λ name. refl)) (ap (λ (x : Effect). x.queued) h.0)
+    one_line s _ e.queued _ (of_form _ done refl (λ name. refl)) (ap (λ (x : Effect). x.queued) h.0)
 
 -- A command is none of rows.
 abbrev pub IsRowless : Command → Type 0
@@ -302,41 +354,48 @@ IsRowless (Add name row) = ⊥
 IsRowless (Del name row) = ⊥
 IsRowless c = Unit {0}
 
+-- whether its replies are of a listing, or end as one
+abbrev pub talks : Command → Bool
+talks (Open c q) = true
+talks (Next c count) = true
+talks (Explain q) = true
+talks c = false
+
 pub command_replies : (old : State) (s : ℕ) (x : Session) (c : Command) (e : Effect) (new : State) → IsRowless c
-    → CommandStep old s x c e new → Replies s e.queued
+    → CommandStep old s x c e new → Replies s e.queued (talks c)
 command_replies old s x (Rel name types) e new rowless h =
-    one_line s _ e.queued (ok_form (codes "ok") done refl (λ name. refl) h.result) (ap (λ (y : Effect). y.queued) h.effect)
+    one_line s _ e.queued _ (ok_form (codes "ok") done refl (λ name. refl) h.result) (ap (λ (y : Effect). y.queued) h.effect)
 command_replies old s x (Add name row) e new rowless h = absurd rowless
 command_replies old s x (Del name row) e new rowless h = absurd rowless
 command_replies old s x (Register q) e new rowless (inl h) =
-    one_line s _ e.queued (query_form h.result) (ap (λ (y : Effect). y.queued) h.effect)
+    one_line s _ e.queued _ (query_form h.result) (ap (λ (y : Effect). y.queued) h.effect)
 command_replies old s x (Register q) e new rowless (inr h) =
-    one_line s end_memory e.queued memory_form (ap (λ (y : Effect). y.queued) h.ends.0)
+    one_line s end_memory e.queued _ memory_form (ap (λ (y : Effect). y.queued) h.ends.0)
 command_replies old s x (Drop q) e new rowless h =
-    one_line s _ e.queued (ok_form (codes "ok") done refl (λ name. refl) h.result) (ap (λ (y : Effect). y.queued) h.effect)
+    one_line s _ e.queued _ (ok_form (codes "ok") done refl (λ name. refl) h.result) (ap (λ (y : Effect). y.queued) h.effect)
 command_replies old s x (Open c q) e new rowless h =
-    one_line s _ e.queued (ok_form (codes "ok open") cursor_opened refl (λ name. refl) h.result)
+    one_line s _ e.queued _ (ok_form (codes "ok open") cursor_opened refl (λ name. refl) h.result)
     (ap (λ (y : Effect). y.queued) h.effect)
 command_replies old s x (Next c count) e new rowless h = next_replies old s c count (cursor_of x.cursors c) e new h
 command_replies old s x (Close c) e new rowless h = close_replies old s c (cursor_of x.cursors c) e new h
 command_replies old s x (Has q row) e new rowless h =
-    one_line s _ e.queued (has_form h.result) (ap (λ (y : Effect). y.queued) h.effect)
+    one_line s _ e.queued _ (has_form h.result) (ap (λ (y : Effect). y.queued) h.effect)
 command_replies old s x (Watch q) e new rowless h =
-    one_line s _ e.queued (watch_form h.result old.store.seq) (ap (λ (y : Effect). y.queued) h.effect)
+    one_line s _ e.queued _ (watch_form h.result old.store.seq) (ap (λ (y : Effect). y.queued) h.effect)
 command_replies old s x (Unwatch q) e new rowless h =
-    one_line s _ e.queued (ok_form (codes "ok") done refl (λ name. refl) h.result) (ap (λ (y : Effect). y.queued) h.effect)
+    one_line s _ e.queued _ (ok_form (codes "ok") done refl (λ name. refl) h.result) (ap (λ (y : Effect). y.queued) h.effect)
 command_replies old s x (Explain q) e new rowless h = explain_replies old s (listed_of old.store.queries q) e new h
 command_replies old s x (AskShape q) e new rowless h =
-    one_line s _ e.queued (shape_form h.result) (ap (λ (y : Effect). y.queued) h.effect)
+    one_line s _ e.queued _ (shape_form h.result) (ap (λ (y : Effect). y.queued) h.effect)
 command_replies old s x Quit e new rowless h =
-    one_line s _ e.queued (of_form _ bye refl (λ name. refl)) (ap (λ (y : Effect). y.queued) h.0)
+    one_line s _ e.queued _ (of_form _ bye refl (λ name. refl)) (ap (λ (y : Effect). y.queued) h.0)
 command_replies old s x Stop e new rowless h =
-    one_line s _ e.queued (of_form _ bye refl (λ name. refl)) (ap (λ (y : Effect). y.queued) h.0)
+    one_line s _ e.queued _ (of_form _ bye refl (λ name. refl)) (ap (λ (y : Effect). y.queued) h.0)
 
 pub refused_replies : (old : State) (s : ℕ) (r : Refusal) (e : Effect) (new : State) → RefusedStep old s r e new
-    → Replies s e.queued
+    → Replies s e.queued false
 refused_replies old s r e new h =
-    one_line s _ e.queued (of_form _ (refused r) refl (λ name. refl)) (ap (λ (y : Effect). y.queued) h.0)
+    one_line s _ e.queued _ (of_form _ (refused r) refl (λ name. refl)) (ap (λ (y : Effect). y.queued) h.0)
 
 -- ---- what of it a session is told
 

@@ -4,7 +4,7 @@ use Rattle.std.specs.List.{list_any, flat_map}
 use Rattle.std.proofs.Common.{refl, sym, ap, ap₂, ◌∙◌, subst, inl, inr, arith, append_assoc, append-nil}
 use Rattle.std.proofs.lemmas.Bool.{eqb-true, eq-eqb, ne_eqb}
 use Rattle.std.proofs.lemmas.Grind.{flat_map-append}
-use Rattle.std.proofs.lemmas.List.Elements.{All-nil, All-weaker, filter-append}
+use Rattle.std.proofs.lemmas.List.Elements.{All-nil, All-cons, All-append, All-weaker, filter-append}
 use Rattle.djq_model.specs.declared.relation.Relation.{Relation}
 use Rattle.djq_model.specs.Data.{Bytes, Tuple, bytes_eq, change_first}
 use Rattle.djq_model.specs.Answer.{IsListing}
@@ -19,7 +19,7 @@ use Rattle.djq_lines.specs.declared.command.Command.{Command}
 use Rattle.djq_lines.specs.declared.command.Command.TheVariants.{Rel, Add, Del, Query as Register, Drop, Open, Next, Close, Has, Watch, Unwatch, Explain, Shape, Quit, Stop}
 use Rattle.djq_lines.specs.Grammar.{Reading, outside, past_limit, says as says_command, reading_of}
 use Rattle.djq_lines.specs.Reply.{end_long, end_slow, end_memory, input_cut}
-use Rattle.djq_mirror.specs.Replies.{Reply, ended as is_ended, cut, reply_text}
+use Rattle.djq_mirror.specs.Replies.{Reply, changed as changes_answer, counted, ended as is_ended, cut, reply_text}
 use Rattle.djq_machine.specs.State.{Store, State, Session, session_of, with_session, ended_by, ids_of}
 use Rattle.djq_machine.specs.Effect.{Effect, nothing, says, EndsWith, queue_all}
 use Rattle.djq_machine.specs.Delta.{Change, HasChanged, IsDelta}
@@ -47,7 +47,7 @@ use Rattle.djq_laws.proofs.Watching.{StepTells, is_quiet, is_told, change_store,
 use Rattle.djq_told.specs.Told.{replies_text, is_told_of, delta_replies, IsToldExactly, WatchersAreToldExactly}
 use Rattle.djq_told.proofs.Exactly.{pairs_unmapped, told_one, told_none}
 use Rattle.djq_told.proofs.Hearing.{heard, all_heard, own_replies, text_append, changed_ids, change_heard}
-use Rattle.djq_told.proofs.Replying.{IsPlain, Replies, OfForm, add_form, delete_form, one_line, IsRowless, command_replies, refused_replies, none_of}
+use Rattle.djq_told.proofs.Replying.{IsPlain, IsHarmless, harmless_form, Replies, OfForm, of_form, any_talk, add_form, delete_form, one_line, IsRowless, talks, command_replies, refused_replies, none_of}
 
 -- ---- answers over rows in another order
 
@@ -69,6 +69,15 @@ same_delta before rs rs' q changes same h = record {
 
 -- ---- one step
 
+-- whether a line of the session has replies of a listing
+abbrev pub reading_talks : Reading → Bool
+reading_talks (says_command c) = talks c
+reading_talks r = false
+
+abbrev pub event_talks : ℕ → Event → Bool
+event_talks s (stepped t (run l)) = (t == s) && reading_talks (reading_of l)
+event_talks s event = false
+
 -- what a step tells of a query: nothing, where its answers stay; or its delta
 pub data StepTold (q : Listed) (old new : Store) (changes : Bool) (rs : List Reply) : Type 0 where
   tells_none : rs ≡ [] → SameAnswers old.relations new.relations q
@@ -77,58 +86,96 @@ pub data StepTold (q : Listed) (old new : Store) (changes : Bool) (rs : List Rep
       → rs ≡ delta_replies (listed_name q) (record { number = new.seq; changes = delta }) → new.seq ≡ old.seq + 1
       → changes ≡ true → StepTold q old new changes rs
 
--- the lines that it queues to a session, and what they tell of the query
-pub record StepSays (q : Listed) (s : ℕ) (old new : Store) (queued : List (ℕ × Bytes)) (changes : Bool) : Type 0 where
+-- the lines that it queues to a session, and what they tell of the query; where they are no talk of a
+-- listing, they are harmless
+pub record StepSays (q : Listed) (s : ℕ) (old new : Store) (queued : List (ℕ × Bytes)) (changes talk : Bool) : Type 0 where
   pub replies : List Reply
   pub text : to_session s queued ≡ replies_text replies
   pub told : StepTold q old new changes (filter (is_told_of (listed_name q)) replies)
+  pub harmless : talk ≡ false → All IsHarmless replies
+
+-- Nothing is queued, or lines that tell of no delta; they are talk of a listing, where they are so to
+-- the session itself.
+abbrev IsQuiet : ℕ → List (ℕ × Bytes) → Bool → Type 0
+IsQuiet s queued talk = (queued ≡ []) ⊎ ((t : ℕ) × (k : Bool) × Replies t queued k × (talk ≡ ((t == s) && k)))
+
+no_talk : (b : Bool) → false ≡ (b && false)
+no_talk true = refl
+no_talk false = refl
+
+quietly : (s t : ℕ) (queued : List (ℕ × Bytes)) → Replies t queued false → IsQuiet s queued false
+quietly s t queued r = inr (t, false, r, no_talk (t == s))
 
 -- lines to one session, as another one or it is told them
-plain_to : (s t : ℕ) (queued : List (ℕ × Bytes)) → Replies t queued
-    → (rs : List Reply) × (to_session s queued ≡ replies_text rs) × All IsPlain rs
-plain_to s t queued r = by (t == s) refl
+record Plain (s : ℕ) (queued : List (ℕ × Bytes)) (talk : Bool) : Type 0 where
+  replies : List Reply
+  text : to_session s queued ≡ replies_text replies
+  plain : All IsPlain replies
+  harmless : talk ≡ false → All IsHarmless replies
+
+quiet_to : (s : ℕ) (queued : List (ℕ × Bytes)) (talk : Bool) → IsQuiet s queued talk → Plain s queued talk
+quiet_to s queued talk (inl e) = record {
+  replies = [];
+  text = ap (λ qs. to_session s qs) e;
+  plain = All-nil IsPlain;
+  harmless = λ k. All-nil IsHarmless;
+}
+quiet_to s queued talk (inr (t, k, r, is)) = by (t == s) refl is
   where
-    by : (b : Bool) → (t == s) ≡ b → (rs : List Reply) × (to_session s queued ≡ replies_text rs) × All IsPlain rs
-    by true e = (
-      r.replies,
-      ap (λ qs. to_session s qs) r.queued_are
-          ∙ ap (λ (b : Bool). cond b (replies_text r.replies) [] ++ []) e ∙ append-nil (replies_text r.replies),
-      r.plain,
-    )
-    by false e = (
-      [],
-      ap (λ qs. to_session s qs) r.queued_are ∙ ap (λ (b : Bool). cond b (replies_text r.replies) [] ++ []) e,
-      All-nil IsPlain,
-    )
-
--- Nothing is queued, or lines that tell of no delta.
-abbrev IsQuiet : List (ℕ × Bytes) → Type 0
-IsQuiet queued = (queued ≡ []) ⊎ ((t : ℕ) × Replies t queued)
-
-quiet_to : (s : ℕ) (queued : List (ℕ × Bytes)) → IsQuiet queued
-    → (rs : List Reply) × (to_session s queued ≡ replies_text rs) × All IsPlain rs
-quiet_to s queued (inl e) = ([], ap (λ qs. to_session s qs) e, All-nil IsPlain)
-quiet_to s queued (inr (t, r)) = plain_to s t queued r
+    by : (b : Bool) → (t == s) ≡ b → talk ≡ (b && k) → Plain s queued talk
+    by true e f = record {
+      replies = r.replies;
+      text = ap (λ qs. to_session s qs) r.queued_are ∙ ap (λ (b : Bool). cond b (replies_text r.replies) [] ++ []) e
+          ∙ append-nil (replies_text r.replies);
+      plain = r.plain;
+      harmless = λ none. r.harmless (sym f ∙ none);
+    }
+    by false e f = record {
+      replies = [];
+      text = ap (λ qs. to_session s qs) r.queued_are ∙ ap (λ (b : Bool). cond b (replies_text r.replies) [] ++ []) e;
+      plain = All-nil IsPlain;
+      harmless = λ none. All-nil IsHarmless;
+    }
 
 -- where no change of the query's relations is accepted
-quiet_says : (q : Listed) (s : ℕ) (old new : Store) (queued : List (ℕ × Bytes)) (changes : Bool) → IsQuiet queued
-    → StepTells q s old new queued changes → (changes ≡ false) ⊎ (new.seq ≡ old.seq)
-    → StepSays q s old new queued changes
-quiet_says q s old new queued changes quiet tells stays =
-    let k = quiet_to s queued quiet in record {
-      replies = k.0;
-      text = k.1;
-      told = by tells stays (none_of (listed_name q) k.0 k.2);
+quiet_told : (q : Listed) (s : ℕ) (old new : Store) (queued : List (ℕ × Bytes)) (changes : Bool) (rs : List Reply)
+    → StepTells q s old new queued changes → (changes ≡ false) ⊎ (new.seq ≡ old.seq) → rs ≡ []
+    → StepTold q old new changes rs
+quiet_told q s old new queued changes rs (is_quiet same seq) stays e = tells_none e same seq
+quiet_told q s old new queued changes rs (is_told delta seq counts) (inl none) e = absurd (cc (none, counts))
+quiet_told q s old new queued changes rs (is_told delta seq counts) (inr unmoved) e = absurd (omega (arith, seq, unmoved))
+
+quiet_says : (q : Listed) (s : ℕ) (old new : Store) (queued : List (ℕ × Bytes)) (changes talk : Bool)
+    → IsQuiet s queued talk → StepTells q s old new queued changes → (changes ≡ false) ⊎ (new.seq ≡ old.seq)
+    → StepSays q s old new queued changes talk
+quiet_says q s old new queued changes talk quiet tells stays =
+    let k = quiet_to s queued talk quiet in record {
+      replies = k.replies;
+      text = k.text;
+      told = quiet_told q s old new queued changes (filter (is_told_of (listed_name q)) k.replies) tells stays
+          (none_of (listed_name q) k.replies k.plain);
+      harmless = k.harmless;
     }
-  where
-    by : StepTells q s old new queued changes → (changes ≡ false) ⊎ (new.seq ≡ old.seq)
-        → filter (is_told_of (listed_name q)) (quiet_to s queued quiet).0 ≡ []
-        → StepTold q old new changes (filter (is_told_of (listed_name q)) (quiet_to s queued quiet).0)
-    by (is_quiet same seq) stays e = tells_none e same seq
-    by (is_told delta seq counts) (inl none) e = absurd (cc (none, counts))
-    by (is_told delta seq counts) (inr unmoved) e = absurd (omega (arith, seq, unmoved))
 
 -- ---- a change of rows
+
+delta_harmless : (name : Bytes) (changes : List Change) (n : ℕ)
+    → All IsHarmless (delta_replies name (record { number = n; changes = changes }))
+delta_harmless name [] n = All-cons IsHarmless (counted name n) [] (harmless_form (counted name n) refl) (All-nil IsHarmless)
+delta_harmless name (c ∷ changes) n =
+    All-cons IsHarmless (changes_answer c.sign name c.answer) (delta_replies name (record { number = n; changes = changes }))
+    (harmless_form (changes_answer c.sign name c.answer) refl) (delta_harmless name changes n)
+
+heard_harmless : (ws : List Bytes) (n : ℕ) (ds : List Delta) → All IsHarmless (all_heard ws n ds)
+heard_harmless ws n [] = All-nil IsHarmless
+heard_harmless ws n (d ∷ ds) =
+    All-append IsHarmless (heard ws n d) (all_heard ws n ds) (by (list_any (λ w. bytes_eq w (listed_name d.query)) ws))
+    (heard_harmless ws n ds)
+  where
+    by : (b : Bool)
+        → All IsHarmless (cond b (delta_replies (listed_name d.query) (record { number = n; changes = d.changes })) [])
+    by true = delta_harmless (listed_name d.query) d.changes n
+    by false = All-nil IsHarmless
 
 -- what came of a command of rows that another session or this one said
 module _ (q : Listed) (s : ℕ) (old : State) (x : Session) (is : session_of old s ≡ Some x)
@@ -141,17 +188,24 @@ module _ (q : Listed) (s : ℕ) (old : State) (x : Session) (is : session_of old
   own_none true r plain = ap (λ (k : Bool). cond k (r ∷ []) []) (plain (listed_name q))
   own_none false r plain = refl
 
+  own_harmless : (b : Bool) (r : Reply) → IsHarmless r → All IsHarmless (cond b (r ∷ []) [])
+  own_harmless true r h = All-cons IsHarmless r [] h (All-nil IsHarmless)
+  own_harmless false r h = All-nil IsHarmless
+
   -- the replies, and which of them tell of the query
-  change_says : (t : ℕ) (outcome : RowsOutcome) (store : Store) (reply : Bytes) (f : OfForm reply) (e : Effect) (mid : State)
+  change_says : (t : ℕ) (outcome : RowsOutcome) (store : Store) (reply : Bytes) (f : OfForm reply false) (e : Effect) (mid : State)
       → (new : Store) → (outdater : Listed → Option Bytes) → RowsMade outdater old.store outcome store
       → SameAnswers store.relations new.relations q → new.seq ≡ store.seq
       → ChangeStep old t outcome store reply e mid → cause_of mid s ≡ None
       → StepTells q s old.store new e.queued (is_some (outdater q))
-      → StepSays q s old.store new e.queued (is_some (outdater q))
-  change_says t outcome store reply f e mid new outdater made same seq h running tells =
+      → (talk : Bool) → StepSays q s old.store new e.queued (is_some (outdater q)) talk
+  change_says t outcome store reply f e mid new outdater made same seq h running tells talk =
       record {
         replies = all_heard x.watches store.seq (cond (is_accepted outcome) h.deltas []) ++ own_replies s x.watches (t == s) f.reply;
         text = change_heard s x old is t outcome store reply f.reply e mid rising f.is h running;
+        harmless = λ k. All-append IsHarmless (all_heard x.watches store.seq (cond (is_accepted outcome) h.deltas []))
+            (own_replies s x.watches (t == s) f.reply)
+            (heard_harmless x.watches store.seq (cond (is_accepted outcome) h.deltas [])) (own_harmless (t == s) f.reply (f.harmless refl));
         told = subst (λ (rs : List Reply). StepTold q old.store new (is_some (outdater q)) rs)
             (sym (filter-append (is_told_of (listed_name q))
             (all_heard x.watches store.seq (cond (is_accepted outcome) h.deltas [])) (own_replies s x.watches (t == s) f.reply)
@@ -199,28 +253,31 @@ module _ (q : Listed) (s : ℕ) (old : State) (x : Session) (is : session_of old
   read_says : (o : State) (t : ℕ) (y : Session) (l : Bytes) (r : Reading) (e : Effect) (mid : State) (new : Store)
       → SameAnswers mid.store.relations new.relations q → new.seq ≡ mid.store.seq → cause_of mid s ≡ None
       → ReadStep old t y l r e mid → StepTells q s old.store new e.queued (is_some (line_outdater o t r q))
-      → StepSays q s old.store new e.queued (is_some (line_outdater o t r q))
+      → StepSays q s old.store new e.queued (is_some (line_outdater o t r q)) ((t == s) && reading_talks r)
   read_says o t y l outside e mid new same seq running h tells =
-      quiet_says q s old.store new e.queued false (inr (t, refused_replies old t Syntax e mid h)) tells (inl refl)
+      quiet_says q s old.store new e.queued false ((t == s) && false) (inr (t, false, refused_replies old t Syntax e mid h, refl)) tells
+      (inl refl)
   read_says o t y l (past_limit c) e mid new same seq running h tells =
-      quiet_says q s old.store new e.queued false (inr (t, refused_replies old t WrongType e mid h)) tells (inl refl)
+      quiet_says q s old.store new e.queued false ((t == s) && false) (inr (t, false, refused_replies old t WrongType e mid h, refl)) tells
+      (inl refl)
   read_says o t y l (says_command c) e mid new same seq running (false, h) tells =
-      quiet_says q s old.store new e.queued (is_some (line_outdater o t (says_command c) q))
-      (inr (t, refused_replies old t NoMemory e mid h.1)) tells (inr (seq ∙ ap (λ (st : State). st.store.seq) h.1.1))
+      quiet_says q s old.store new e.queued (is_some (line_outdater o t (says_command c) q)) ((t == s) && talks c)
+      (inr (t, talks c, any_talk t e.queued (talks c) (refused_replies old t NoMemory e mid h.1), refl)) tells (inr (seq ∙ ap (λ (st : State). st.store.seq) h.1.1))
   read_says o t y l (says_command (Add name row)) e mid new same seq running (true, h) tells =
       let left = change_store old t _ h.store _ e mid h.change in
       change_says t (add_outcome (row_in old.store.relations name row) h.result) h.store _
       (add_form h.result h.store.seq) e mid new (by_relation name) (added old.store name row h.result h.store h.done)
       (subst (λ (st : Store). SameAnswers st.relations new.relations q) left same)
-      (seq ∙ ap (λ (st : Store). st.seq) left) h.change running tells
+      (seq ∙ ap (λ (st : Store). st.seq) left) h.change running tells ((t == s) && false)
   read_says o t y l (says_command (Del name row)) e mid new same seq running (true, h) tells =
       let left = change_store old t _ h.store _ e mid h.change in
       change_says t (delete_outcome (row_out old.store.relations name row) h.result) h.store _
       (delete_form h.result h.store.seq) e mid new (by_relation name) (deleted old.store name row h.result h.store h.done)
       (subst (λ (st : Store). SameAnswers st.relations new.relations q) left same)
-      (seq ∙ ap (λ (st : Store). st.seq) left) h.change running tells
+      (seq ∙ ap (λ (st : Store). st.seq) left) h.change running tells ((t == s) && false)
   read_says o t y l (says_command c) e mid new same seq running (true, h) tells =
-      quiet_says q s old.store new e.queued false (inr (t, command_replies old t y c e mid tt h)) tells (inl refl)
+      quiet_says q s old.store new e.queued false ((t == s) && talks c) (inr (t, talks c, command_replies old t y c e mid tt h, refl)) tells
+      (inl refl)
 
 -- ---- the events
 
@@ -240,46 +297,43 @@ taken_session old t rest s x is = by (t == s) refl
     )
     by false e = (x, session_other old t s (behind_line rest) (λ z. refl) e ∙ is, refl)
 
-end_form : (text : Bytes) (r : Reply) → text ≡ reply_text r → IsPlain r → OfForm text
-end_form text r e p = record { reply = r; is = e; plain = p }
-
 -- a session's last line
-ends_quiet : (t : ℕ) (text : Bytes) (cause : EndCause) (old : State) (e : Effect) (mid : State) → OfForm text
-    → EndsWith text cause old t e mid → IsQuiet e.queued
-ends_quiet t text cause old e mid f h = inr (t, one_line t text e.queued f (ap (λ (y : Effect). y.queued) h.0))
+ends_quiet : (s t : ℕ) (text : Bytes) (cause : EndCause) (old : State) (e : Effect) (mid : State) → OfForm text false
+    → EndsWith text cause old t e mid → IsQuiet s e.queued false
+ends_quiet s t text cause old e mid f h = quietly s t e.queued (one_line t text e.queued false f (ap (λ (y : Effect). y.queued) h.0))
 
-nothing_quiet : (e : Effect) → e ≡ nothing → IsQuiet e.queued
-nothing_quiet e h = inl (ap (λ (y : Effect). y.queued) h)
+nothing_quiet : (s : ℕ) (e : Effect) → e ≡ nothing → IsQuiet s e.queued false
+nothing_quiet s e h = inl (ap (λ (y : Effect). y.queued) h)
 
-fed_quiet : (old : State) (t : ℕ) (bytes : Bytes) (e : Effect) (mid : State) (c : Option EndCause)
+fed_quiet : (s : ℕ) (old : State) (t : ℕ) (bytes : Bytes) (e : Effect) (mid : State) (c : Option EndCause)
     → MatchOption c
     (((e ≡ nothing) × (mid ≡ with_session old t (λ y. record y { held = y.held ++ bytes }))) ⊎ EndsWith end_memory Memory old t e mid)
     (λ _. (e ≡ nothing) × (mid ≡ old))
-    → IsQuiet e.queued
-fed_quiet old t bytes e mid None (inl h) = nothing_quiet e h.0
-fed_quiet old t bytes e mid None (inr h) = ends_quiet t end_memory Memory old e mid (end_form end_memory (is_ended memory_line) refl (λ name. refl)) h
-fed_quiet old t bytes e mid (Some c) h = nothing_quiet e h.0
+    → IsQuiet s e.queued false
+fed_quiet s old t bytes e mid None (inl h) = nothing_quiet s e h.0
+fed_quiet s old t bytes e mid None (inr h) = ends_quiet s t end_memory Memory old e mid (of_form end_memory (is_ended memory_line) refl (λ name. refl)) h
+fed_quiet s old t bytes e mid (Some c) h = nothing_quiet s e h.0
 
 -- what is said where bytes are held
 cut_of : ℕ → Bytes → Effect
 cut_of s [] = nothing
 cut_of s (b ∷ bs) = says s input_cut
 
-cut_quiet : (t : ℕ) (held : Bytes) (e : Effect) → e ≡ cut_of t held → IsQuiet e.queued
+cut_quiet : (s t : ℕ) (held : Bytes) (e : Effect) → e ≡ cut_of t held → IsQuiet s e.queued false
 unfolding cut_of
-cut_quiet t [] e h = nothing_quiet e h
-cut_quiet t (b ∷ bs) e h =
-    inr (t, one_line t input_cut e.queued (end_form input_cut cut refl (λ name. refl)) (ap (λ (y : Effect). y.queued) h))
+cut_quiet s t [] e h = nothing_quiet s e h
+cut_quiet s t (b ∷ bs) e h =
+    quietly s t e.queued (one_line t input_cut e.queued false (of_form input_cut cut refl (λ name. refl)) (ap (λ (y : Effect). y.queued) h))
 
-input_quiet : (old : State) (t : ℕ) (held : Bytes) (e : Effect) (mid : State) (P : Type 0) (c : Option EndCause)
+input_quiet : (s : ℕ) (old : State) (t : ℕ) (held : Bytes) (e : Effect) (mid : State) (P : Type 0) (c : Option EndCause)
     → MatchOption c (P × (e ≡ cut_of t held) × (mid ≡ with_session old t (ended_by Input))) (λ _. (e ≡ nothing) × (mid ≡ old))
-    → IsQuiet e.queued
-input_quiet old t held e mid P None h = cut_quiet t held e h.1
-input_quiet old t held e mid P (Some c) h = nothing_quiet e h.0
+    → IsQuiet s e.queued false
+input_quiet s old t held e mid P None h = cut_quiet s t held e h.1
+input_quiet s old t held e mid P (Some c) h = nothing_quiet s e h.0
 
-ended_quiet : (old : State) (t : ℕ) (x : Session) (e : Effect) (mid : State) → EndedStep old t x e mid → IsQuiet e.queued
+ended_quiet : (s : ℕ) (old : State) (t : ℕ) (x : Session) (e : Effect) (mid : State) → EndedStep old t x e mid → IsQuiet s e.queued false
 unfolding cut_of
-ended_quiet old t x e mid h = input_quiet old t x.held e mid _ x.cause h
+ended_quiet s old t x e mid h = input_quiet s old t x.held e mid _ x.cause h
 
 module _ (q : Listed) (s : ℕ) (old : State) (x : Session) (is : session_of old s ≡ Some x) (sound : IsSoundState old)
     (registered : listed_of old.store.queries (listed_name q) ≡ Some q)
@@ -287,18 +341,18 @@ module _ (q : Listed) (s : ℕ) (old : State) (x : Session) (is : session_of old
   front_says : (t : ℕ) (z : Session) (outcome : LineOutcome) (e : Effect) (mid : State) (new : Store)
       → SameAnswers mid.store.relations new.relations q → new.seq ≡ mid.store.seq → cause_of mid s ≡ None
       → FrontStep old t z outcome e mid → StepTells q s old.store new e.queued (event_changes q old (stepped t outcome))
-      → StepSays q s old.store new e.queued (event_changes q old (stepped t outcome))
+      → StepSays q s old.store new e.queued (event_changes q old (stepped t outcome)) (event_talks s (stepped t outcome))
   front_says t z long e mid new same seq running h tells =
-      quiet_says q s old.store new e.queued false
-      (ends_quiet t end_long _ old e mid (end_form end_long (is_ended long_line) refl (λ name. refl)) h.1) tells (inl refl)
+      quiet_says q s old.store new e.queued false false
+      (ends_quiet s t end_long _ old e mid (of_form end_long (is_ended long_line) refl (λ name. refl)) h.1) tells (inl refl)
   front_says t z (blank l) e mid new same seq running h tells =
-      quiet_says q s old.store new e.queued false (nothing_quiet e h.1.then.0) tells (inl refl)
+      quiet_says q s old.store new e.queued false false (nothing_quiet s e h.1.then.0) tells (inl refl)
   front_says t z (slow l) e mid new same seq running h tells =
-      quiet_says q s old.store new e.queued false
-      (ends_quiet t end_slow _ _ e mid (end_form end_slow (is_ended slow_line) refl (λ name. refl)) h.2.then) tells (inl refl)
+      quiet_says q s old.store new e.queued false false
+      (ends_quiet s t end_slow _ _ e mid (of_form end_slow (is_ended slow_line) refl (λ name. refl)) h.2.then) tells (inl refl)
   front_says t z (no_room l) e mid new same seq running h tells =
-      quiet_says q s old.store new e.queued false
-      (ends_quiet t end_memory _ _ e mid (end_form end_memory (is_ended memory_line) refl (λ name. refl)) h.2.then) tells (inl refl)
+      quiet_says q s old.store new e.queued false false
+      (ends_quiet s t end_memory _ _ e mid (of_form end_memory (is_ended memory_line) refl (λ name. refl)) h.2.then) tells (inl refl)
   front_says t z (run l) e mid new same seq running h tells =
       let rest = h.2.rest in
       let y = taken_session old t rest s x is in
@@ -311,27 +365,27 @@ module _ (q : Listed) (s : ℕ) (old : State) (x : Session) (is : session_of old
   acts_say : (event : Event) (e : Effect) (mid : State) (new : Store)
       → SameAnswers mid.store.relations new.relations q → new.seq ≡ mid.store.seq → cause_of mid s ≡ None
       → Acts old event e mid → StepTells q s old.store new e.queued (event_changes q old event)
-      → StepSays q s old.store new e.queued (event_changes q old event)
+      → StepSays q s old.store new e.queued (event_changes q old event) (event_talks s event)
   acts_say (opened t) e mid new same seq running h tells =
-      quiet_says q s old.store new e.queued false (nothing_quiet e h.0) tells (inl refl)
+      quiet_says q s old.store new e.queued false false (nothing_quiet s e h.0) tells (inl refl)
   acts_say (fed t bytes) e mid new same seq running h tells =
       let f = some_and (session_of old t) (λ z. FedStep old t bytes z e mid) h in
-      quiet_says q s old.store new e.queued false (fed_quiet old t bytes e mid (f.0).cause f.2) tells (inl refl)
+      quiet_says q s old.store new e.queued false false (fed_quiet s old t bytes e mid (f.0).cause f.2) tells (inl refl)
   acts_say (stepped t outcome) e mid new same seq running h tells =
       let f = some_and (session_of old t) (λ z. (z.cause ≡ None) × FrontStep old t z outcome e mid) h in
       front_says t f.0 outcome e mid new same seq running f.2.1 tells
   acts_say (took t bytes) e mid new same seq running h tells =
       let f = some_and (session_of old t) (λ z. TookStep old t bytes z e mid) h in
-      quiet_says q s old.store new e.queued false (nothing_quiet e f.2.0) tells (inl refl)
+      quiet_says q s old.store new e.queued false false (nothing_quiet s e f.2.0) tells (inl refl)
   acts_say (ended t) e mid new same seq running h tells =
       let f = some_and (session_of old t) (λ z. EndedStep old t z e mid) h in
-      quiet_says q s old.store new e.queued false (ended_quiet old t f.0 e mid f.2) tells (inl refl)
+      quiet_says q s old.store new e.queued false false (ended_quiet s old t f.0 e mid f.2) tells (inl refl)
   acts_say (closed t bytes) e mid new same seq running h tells =
-      quiet_says q s old.store new e.queued false (nothing_quiet e h.0) tells (inl refl)
+      quiet_says q s old.store new e.queued false false (nothing_quiet s e h.0) tells (inl refl)
 
 pub step_says : (q : Listed) (s : ℕ) (old : State) (event : Event) (e : Effect) (new : State) → IsSoundState old
     → Step old event e new → IsWatcher q s old → IsWatcher q s new
-    → StepSays q s old.store new.store e.queued (event_changes q old event)
+    → StepSays q s old.store new.store e.queued (event_changes q old event) (event_talks s event)
 step_says q s old event e new sound h before behind =
     let f = some_and (session_of old s) (λ x. (x.cause ≡ None) × (is_watching (listed_name q) x ≡ true)) before.watches in
     let g = some_and (session_of new s) (λ x. (x.cause ≡ None) × (is_watching (listed_name q) x ≡ true)) behind.watches in
