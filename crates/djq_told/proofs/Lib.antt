@@ -10,3 +10,4 @@ mod Telling
 mod Sorting
 mod Mirroring
 mod Having
+mod Mirrored

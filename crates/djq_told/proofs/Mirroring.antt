@@ -1,8 +1,8 @@
 -- What replies make of what a mirror holds.
 use Rattle.std.specs.Prelude.{ℕ, List, [], ◌∷◌, ◌++◌, ◌≡◌, ◌≢◌, ◌⊎◌, ◌&&◌, ◌||◌, Bool, true, false, not, cond, filter, Option, Some, map, All, AllPairs, Contains}
 use Rattle.std.specs.List.{list_any, flat_map}
-use Rattle.std.proofs.Common.{refl, sym, ap, ap₂, ◌∙◌, subst, inl, inr}
-use Rattle.std.proofs.lemmas.List.Elements.{All-nil, All-cons, All-head, All-tail, All-contains, Contains-append_left, Contains-append_right}
+use Rattle.std.proofs.Common.{refl, sym, ap, ap₂, ◌∙◌, subst, inl, inr, append-nil, append_assoc}
+use Rattle.std.proofs.lemmas.List.Elements.{All-nil, All-cons, All-head, All-tail, All-append, All-contains, Contains-append_left, Contains-append_right}
 use Rattle.djq_model.specs.declared.value.Value.{Value}
 use Rattle.djq_model.specs.Data.{Bytes, Tuple, bytes_eq, tuple_eq}
 use Rattle.djq_model.specs.Answer.{AreDifferent}
@@ -27,7 +27,7 @@ use Rattle.djq_told.specs.Sayable.{IsSayableValue, IsSayableRow}
 use Rattle.djq_told.specs.Told.{is_told_of, delta_replies}
 use Rattle.djq_told.specs.Mirrored.{Passes, Shows}
 use Rattle.djq_told.proofs.Replying.{IsHarmless}
-use Rattle.djq_told.proofs.Sorting.{put_in, taken_out, has_put, has_out, sorted_put, sorted_out, put_is, out_is}
+use Rattle.djq_told.proofs.Sorting.{put_in, taken_out, has_put, has_out, sorted_put, sorted_out, put_is, out_is, nothing_sorted}
 
 -- ---- one reply after the other
 
@@ -231,20 +231,26 @@ came_passes : (name : Bytes) (held : Held) (t : Tuple) → held.mode ≡ Live �
     → Passes name held (changed Came name t ∷ []) (live_with (put_in (cells_text t) held.texts))
 came_passes name held t mode none order =
     let turn : turn_of name held.mode (changed Came name t) ≡ Some (Live, put (cells_text t)) =
-    change_turns name held.mode Came t ∙ ap (λ (m : Mode). Some (turn_of_change m Came (cells_text t))) mode in
-    (live_with (put_in (cells_text t) held.texts), ap (may_turn held.texts) turn ∙ ap not none,
-    subst (λ o. Turned held o (live_with (put_in (cells_text t) held.texts))) (sym turn)
-    (refl, (order, λ u. put_is (cells_text t) held.texts u)), refl)
+    change_turns name held.mode Came t ∙ ap (λ (m : Mode). Some (turn_of_change m Came (cells_text t))) mode in (
+      live_with (put_in (cells_text t) held.texts),
+      ap (may_turn held.texts) turn ∙ ap not none,
+      subst (λ o. Turned held o (live_with (put_in (cells_text t) held.texts))) (sym turn)
+          (refl, (order, λ u. put_is (cells_text t) held.texts u)),
+      refl,
+    )
 
 went_passes : (name : Bytes) (held : Held) (t : Tuple) → held.mode ≡ Live → has_text held.texts (cells_text t) ≡ true
     → IsInOrder (taken_out (cells_text t) held.texts)
     → Passes name held (changed Went name t ∷ []) (live_with (taken_out (cells_text t) held.texts))
 went_passes name held t mode there order =
     let turn : turn_of name held.mode (changed Went name t) ≡ Some (Live, take_out (cells_text t)) =
-    change_turns name held.mode Went t ∙ ap (λ (m : Mode). Some (turn_of_change m Went (cells_text t))) mode in
-    (live_with (taken_out (cells_text t) held.texts), ap (may_turn held.texts) turn ∙ there,
-    subst (λ o. Turned held o (live_with (taken_out (cells_text t) held.texts))) (sym turn)
-    (refl, (order, λ u. out_is (cells_text t) held.texts u)), refl)
+    change_turns name held.mode Went t ∙ ap (λ (m : Mode). Some (turn_of_change m Went (cells_text t))) mode in (
+      live_with (taken_out (cells_text t) held.texts),
+      ap (may_turn held.texts) turn ∙ there,
+      subst (λ o. Turned held o (live_with (taken_out (cells_text t) held.texts))) (sym turn)
+          (refl, (order, λ u. out_is (cells_text t) held.texts u)),
+      refl,
+    )
 
 -- an answer that comes, and one that goes
 abbrev coming : Tuple → Change
@@ -266,7 +272,7 @@ pub record LiveBehind (name : Bytes) (held : Held) (rs : List Reply) (These : Tu
   pub mode : behind.mode ≡ Live
   pub shows : Shows behind These
 
-module _ (Before After : Tuple → Type 0) 
+module _ (Before After : Tuple → Type 0)
     (good : (t : Tuple) → Before t → IsSayableRow t) (fine : (t : Tuple) → After t → IsSayableRow t) where
   abbrev AllChange : List Change → Type 0
   AllChange cs = All (λ c. HasChanged Before After c.sign c.answer) cs
@@ -333,16 +339,18 @@ module _ (Before After : Tuple → Type 0)
       → AreDifferent (map (λ (k : Change). k.answer) (going t ∷ cs)) → (u : Tuple)
       → Awaits After cs u → Awaits After (going t ∷ cs) u × (u ≡ t → ⊥)
   went_from cs t h apart u (inl k) =
-      let first = All-head (λ (x : Change). HasChanged Before After x.sign x.answer) (going t) cs h in
-      (inl (k.0, λ c. by (first_or_later (going t) cs (coming u) c)),
-      λ e. first.1 (subst After e k.0))
+      let first = All-head (λ (x : Change). HasChanged Before After x.sign x.answer) (going t) cs h in (
+        inl (k.0, λ c. by (first_or_later (going t) cs (coming u) c)),
+        λ e. first.1 (subst After e k.0),
+      )
     where
       by : (going t ≡ (coming u)) ⊎ Contains cs (coming u) → ⊥
       by (inl e) = let signs : Went ≡ Came = ap (λ (x : Change). x.sign) e in absurd (cc signs)
       by (inr l) = k.1 l
-  went_from cs t h apart u (inr c) =
-      (inr (later_there (going t) cs (going u) c),
-      λ e. later_not cs (going t) Went u apart c e)
+  went_from cs t h apart u (inr c) = (
+    inr (later_there (going t) cs (going u) c),
+    λ e. later_not cs (going t) Went u apart c e,
+  )
 
   went_to : (cs : List Change) (t : Tuple) → (u : Tuple) → Awaits After (going t ∷ cs) u → (u ≡ t → ⊥)
       → Awaits After cs u
@@ -453,3 +461,142 @@ module _ (Before After : Tuple → Type 0) (before : (t : Tuple) → Decided (Be
         shows = shows_same k.behind (Awaits After []) After awaits_none
             (λ t a. inl (a, λ c. nothing_there (coming t) c)) k.shows;
       }
+
+-- ---- a listing
+
+contains_last : (xs : List Tuple) (t u : Tuple) → Contains (xs ++ t ∷ []) u → (u ≡ t) ⊎ Contains xs u
+contains_last [] t u c = by (first_or_later t [] u c)
+  where
+    by : (t ≡ u) ⊎ Contains [] u → (u ≡ t) ⊎ Contains [] u
+    by (inl e) = inl (sym e)
+    by (inr k) = inr k
+contains_last (x ∷ xs) t u c = by (first_or_later x (xs ++ t ∷ []) u c) (λ k. contains_last xs t u k)
+  where
+    by : (x ≡ u) ⊎ Contains (xs ++ t ∷ []) u → (Contains (xs ++ t ∷ []) u → (u ≡ t) ⊎ Contains xs u)
+        → (u ≡ t) ⊎ Contains (x ∷ xs) u
+    by (inl e) more = inr (first_there x xs u e)
+    by (inr k) more = at (more k)
+      where
+        at : (u ≡ t) ⊎ Contains xs u → (u ≡ t) ⊎ Contains (x ∷ xs) u
+        at (inl e) = inl e
+        at (inr l) = inr (later_there x xs u l)
+
+last_contains : (xs : List Tuple) (t u : Tuple) → (u ≡ t) ⊎ Contains xs u → Contains (xs ++ t ∷ []) u
+last_contains xs t u (inl e) = Contains-append_right xs (t ∷ []) u (first_there t [] u (sym e))
+last_contains xs t u (inr k) = Contains-append_left xs (t ∷ []) u k
+
+-- one of different tuples isn't among those before it
+pub not_before : (xs : List Tuple) (t : Tuple) (ys : List Tuple) → AreDifferent (xs ++ t ∷ ys) → Contains xs t → ⊥
+not_before [] t ys apart c = nothing_there t c
+not_before (x ∷ xs) t ys apart c =
+    by (first_or_later x xs t c) (λ k. not_before xs t ys (pairs_tail (λ (u v : Tuple). u ≡ v → ⊥) x (xs ++ t ∷ ys) apart) k)
+  where
+    by : (x ≡ t) ⊎ Contains xs t → (Contains xs t → ⊥) → ⊥
+    by (inl e) more =
+        All-contains (λ (u : Tuple). x ≡ u → ⊥) (xs ++ t ∷ ys) t
+        (pairs_head (λ (u v : Tuple). u ≡ v → ⊥) x (xs ++ t ∷ ys) apart)
+        (Contains-append_right xs (t ∷ ys) t (first_there t ys t refl)) e
+    by (inr k) more = more k
+
+-- A mirror is in a mode behind these replies, and shows these tuples.
+pub record Behind (name : Bytes) (held : Held) (rs : List Reply) (mode : Mode) (These : Tuple → Type 0) : Type 0 where
+  pub behind : Held
+  pub passes : Passes name held rs behind
+  pub is : behind.mode ≡ mode
+  pub shows : Shows behind These
+
+answer_passes : (name : Bytes) (held : Held) (t : Tuple) → held.mode ≡ Listing → has_text held.texts (cells_text t) ≡ false
+    → IsInOrder (put_in (cells_text t) held.texts)
+    → Passes name held (answer t ∷ []) (record { mode = Listing; texts = put_in (cells_text t) held.texts })
+answer_passes name held t mode none order =
+    let next : Held = record { mode = Listing; texts = put_in (cells_text t) held.texts } in
+    let turn : turn_of name held.mode (answer t) ≡ Some (Listing, put (cells_text t)) =
+    ap (λ (m : Mode). turn_of name m (answer t)) mode in (
+      next,
+      ap (may_turn held.texts) turn ∙ ap not none,
+      subst (λ o. Turned held o next) (sym turn) (refl, (order, λ u. put_is (cells_text t) held.texts u)),
+      refl,
+    )
+
+-- answers that weren't told before
+pub answers_shown : (name : Bytes) (held : Held) (given told : List Tuple) → held.mode ≡ Listing
+    → All IsSayableRow given → All IsSayableRow told → AreDifferent (given ++ told) → Shows held (Contains given)
+    → Behind name held (map (λ t. answer t) told) Listing (Contains (given ++ told))
+answers_shown name held given [] mode good fine apart shows = record {
+  behind = held;
+  passes = refl;
+  is = mode;
+  shows = subst (λ (ts : List Tuple). Shows held (Contains ts)) (sym (append-nil given)) shows;
+}
+answers_shown name held given (t ∷ told) mode good fine apart shows =
+    let first = All-head IsSayableRow t told fine in
+    let both = put_shown held Listing (Contains given) (Contains (given ++ t ∷ [])) t shows
+    (λ u c. All-contains IsSayableRow given u good c) first (λ c. not_before given t told apart c)
+    (λ u c. contains_last given t u c) (λ u c. last_contains given t u c) in
+    let next : Held = record { mode = Listing; texts = put_in (cells_text t) held.texts } in
+    let assoc : (given ++ t ∷ []) ++ told ≡ given ++ t ∷ told = append_assoc given (t ∷ []) told in
+    let more = answers_shown name next (given ++ t ∷ []) told refl
+    (All-append IsSayableRow given (t ∷ []) good (All-cons IsSayableRow t [] first (All-nil IsSayableRow)))
+    (All-tail IsSayableRow t told fine) (subst AreDifferent (sym assoc) apart) both.1 in record {
+      behind = more.behind;
+      passes = passes_then name held next more.behind (answer t ∷ []) (map (λ u. answer u) told)
+          (answer_passes name held t mode both.0 both.1.order) more.passes;
+      is = more.is;
+      shows = subst (λ (ts : List Tuple). Shows more.behind (Contains ts)) assoc more.shows;
+    }
+
+-- an idle mirror passes them over
+pub answers_idle : (name : Bytes) (held : Held) (told : List Tuple) → held.mode ≡ Idle
+    → Passes name held (map (λ t. answer t) told) held
+answers_idle name held [] mode = refl
+answers_idle name held (t ∷ told) mode =
+    passes_then name held held held (answer t ∷ []) (map (λ u. answer u) told)
+    (stays name held (answer t) (ap (λ (m : Mode). turn_of name m (answer t)) mode ∙ ap (λ (m : Mode). Some (m, keep)) (sym mode)))
+    (answers_idle name held told mode)
+
+-- the cursor opens, and the mirror begins anew
+pub opened_shown : (name : Bytes) (held : Held) → Behind name held (opened ∷ []) Listing (Contains [])
+opened_shown name held =
+    let next : Held = record { mode = Listing; texts = [] } in record {
+      behind = next;
+      passes = (next, refl, (refl, refl), refl);
+      is = refl;
+      shows = record {
+        order = nothing_sorted;
+        texts = λ u e. absurd cc;
+        tuples = λ t c. absurd (nothing_there t c);
+      };
+    }
+
+-- a stale cursor
+pub stale_idles : (name : Bytes) (held : Held) (c relation : Bytes) (n : ℕ)
+    → Passes name held (stale c relation n ∷ []) (idle_with held)
+stale_idles name held c relation n = idle_turn name held (stale c relation n) (by held.mode)
+  where
+    by : (m : Mode) → turn_of name m (stale c relation n) ≡ Some (Idle, keep)
+    by Idle = refl
+    by Listing = refl
+    by Live = refl
+
+-- the last line of a listing
+pub more_stays : (name : Bytes) (held : Held) → (held.mode ≡ Idle) ⊎ (held.mode ≡ Listing) → Passes name held (more_line ∷ []) held
+more_stays name held (inl e) =
+    stays name held more_line (ap (λ (m : Mode). turn_of name m more_line) e ∙ ap (λ (m : Mode). Some (m, keep)) (sym e))
+more_stays name held (inr e) =
+    stays name held more_line (ap (λ (m : Mode). turn_of name m more_line) e ∙ ap (λ (m : Mode). Some (m, keep)) (sym e))
+
+pub last_stays : (name : Bytes) (held : Held) → (held.mode ≡ Idle) ⊎ (held.mode ≡ Live) → Passes name held (last_line ∷ []) held
+last_stays name held (inl e) =
+    stays name held last_line (ap (λ (m : Mode). turn_of name m last_line) e ∙ ap (λ (m : Mode). Some (m, keep)) (sym e))
+last_stays name held (inr e) =
+    stays name held last_line (ap (λ (m : Mode). turn_of name m last_line) e ∙ ap (λ (m : Mode). Some (m, keep)) (sym e))
+
+pub last_lives : (name : Bytes) (held : Held) → held.mode ≡ Listing
+    → Passes name held (last_line ∷ []) (record { mode = Live; texts = held.texts })
+last_lives name held e =
+    let next : Held = record { mode = Live; texts = held.texts } in
+    let turn : turn_of name held.mode last_line ≡ Some (Live, keep) = ap (λ (m : Mode). turn_of name m last_line) e in
+    (next, ap (may_turn held.texts) turn, subst (λ o. Turned held o next) (sym turn) (refl, refl), refl)
+
+pub shows_with : (held : Held) (mode : Mode) (P : Tuple → Type 0) → Shows held P → Shows (record { mode = mode; texts = held.texts }) P
+shows_with held mode P h = record { order = h.order; texts = h.texts; tuples = h.tuples }

@@ -124,3 +124,7 @@ put_is t texts u = has_put t texts u ∙ ap (λ (b : Bool). b || has_text texts 
 pub out_is : (t : Bytes) (texts : List Bytes) (u : Bytes)
     → has_text (taken_out t texts) u ≡ (not (bytes_eq t u) && has_text texts u)
 out_is t texts u = has_out t texts u ∙ ap (λ (b : Bool). not b && has_text texts u) (turned_eq u t)
+
+pub nothing_sorted : IsInOrder []
+unfolding IsStrictlySortedBy
+nothing_sorted = tt
