@@ -11,3 +11,4 @@ mod Sorting
 mod Mirroring
 mod Having
 mod Mirrored
+mod Waiting

@@ -96,7 +96,7 @@ pub record StepSays (q : Listed) (s : ℕ) (old new : Store) (queued : List (ℕ
 
 -- Nothing is queued, or lines that tell of no delta; they are talk of a listing, where they are so to
 -- the session itself.
-abbrev IsQuiet : ℕ → List (ℕ × Bytes) → Bool → Type 0
+abbrev pub IsQuiet : ℕ → List (ℕ × Bytes) → Bool → Type 0
 IsQuiet s queued talk = (queued ≡ []) ⊎ ((t : ℕ) × (k : Bool) × Replies t queued k × (talk ≡ ((t == s) && k)))
 
 no_talk : (b : Bool) → false ≡ (b && false)
@@ -107,13 +107,13 @@ quietly : (s t : ℕ) (queued : List (ℕ × Bytes)) → Replies t queued false 
 quietly s t queued r = inr (t, false, r, no_talk (t == s))
 
 -- lines to one session, as another one or it is told them
-record Plain (s : ℕ) (queued : List (ℕ × Bytes)) (talk : Bool) : Type 0 where
-  replies : List Reply
-  text : to_session s queued ≡ replies_text replies
-  plain : All IsPlain replies
-  harmless : talk ≡ false → All IsHarmless replies
+pub record Plain (s : ℕ) (queued : List (ℕ × Bytes)) (talk : Bool) : Type 0 where
+  pub replies : List Reply
+  pub text : to_session s queued ≡ replies_text replies
+  pub plain : All IsPlain replies
+  pub harmless : talk ≡ false → All IsHarmless replies
 
-quiet_to : (s : ℕ) (queued : List (ℕ × Bytes)) (talk : Bool) → IsQuiet s queued talk → Plain s queued talk
+pub quiet_to : (s : ℕ) (queued : List (ℕ × Bytes)) (talk : Bool) → IsQuiet s queued talk → Plain s queued talk
 quiet_to s queued talk (inl e) = record {
   replies = [];
   text = ap (λ qs. to_session s qs) e;
@@ -282,7 +282,7 @@ module _ (q : Listed) (s : ℕ) (old : State) (x : Session) (is : session_of old
 -- ---- the events
 
 -- a session stays, but for the line that is taken of it
-taken_session : (old : State) (t : ℕ) (rest : Bytes) (s : ℕ) (x : Session) → session_of old s ≡ Some x
+pub taken_session : (old : State) (t : ℕ) (rest : Bytes) (s : ℕ) (x : Session) → session_of old s ≡ Some x
     → (y : Session) × (session_of (with_session old t (behind_line rest)) s ≡ Some y) × (y.watches ≡ x.watches)
 taken_session old t rest s x is = by (t == s) refl
   where
@@ -298,14 +298,14 @@ taken_session old t rest s x is = by (t == s) refl
     by false e = (x, session_other old t s (behind_line rest) (λ z. refl) e ∙ is, refl)
 
 -- a session's last line
-ends_quiet : (s t : ℕ) (text : Bytes) (cause : EndCause) (old : State) (e : Effect) (mid : State) → OfForm text false
+pub ends_quiet : (s t : ℕ) (text : Bytes) (cause : EndCause) (old : State) (e : Effect) (mid : State) → OfForm text false
     → EndsWith text cause old t e mid → IsQuiet s e.queued false
 ends_quiet s t text cause old e mid f h = quietly s t e.queued (one_line t text e.queued false f (ap (λ (y : Effect). y.queued) h.0))
 
-nothing_quiet : (s : ℕ) (e : Effect) → e ≡ nothing → IsQuiet s e.queued false
+pub nothing_quiet : (s : ℕ) (e : Effect) → e ≡ nothing → IsQuiet s e.queued false
 nothing_quiet s e h = inl (ap (λ (y : Effect). y.queued) h)
 
-fed_quiet : (s : ℕ) (old : State) (t : ℕ) (bytes : Bytes) (e : Effect) (mid : State) (c : Option EndCause)
+pub fed_quiet : (s : ℕ) (old : State) (t : ℕ) (bytes : Bytes) (e : Effect) (mid : State) (c : Option EndCause)
     → MatchOption c
     (((e ≡ nothing) × (mid ≡ with_session old t (λ y. record y { held = y.held ++ bytes }))) ⊎ EndsWith end_memory Memory old t e mid)
     (λ _. (e ≡ nothing) × (mid ≡ old))
@@ -331,7 +331,7 @@ input_quiet : (s : ℕ) (old : State) (t : ℕ) (held : Bytes) (e : Effect) (mid
 input_quiet s old t held e mid P None h = cut_quiet s t held e h.1
 input_quiet s old t held e mid P (Some c) h = nothing_quiet s e h.0
 
-ended_quiet : (s : ℕ) (old : State) (t : ℕ) (x : Session) (e : Effect) (mid : State) → EndedStep old t x e mid → IsQuiet s e.queued false
+pub ended_quiet : (s : ℕ) (old : State) (t : ℕ) (x : Session) (e : Effect) (mid : State) → EndedStep old t x e mid → IsQuiet s e.queued false
 unfolding cut_of
 ended_quiet s old t x e mid h = input_quiet s old t x.held e mid _ x.cause h
 

@@ -1,20 +1,21 @@
 -- What a mirror makes of what a session is sent that watches a query and lists it.
-use Rattle.std.specs.Prelude.{ℕ, List, [], ◌∷◌, ◌==◌, ◌≡◌, true, false, IsSomeAnd, All}
+use Rattle.std.specs.Prelude.{ℕ, List, [], ◌∷◌, ◌++◌, ◌==◌, ◌≡◌, true, None, IsSomeAnd, All}
 use Rattle.djq_model.specs.Data.{Bytes, Tuple}
 use Rattle.djq_model.specs.Listed.{Listed, listed_name, AnswersOf}
 use Rattle.djq_lines.specs.Reply.{cells_text}
 use Rattle.djq_lines.specs.declared.command.Command.{Command}
-use Rattle.djq_lines.specs.declared.command.Command.TheVariants.{Rel, Add, Del, Query as Register, Open, Next, Close}
+use Rattle.djq_lines.specs.declared.command.Command.TheVariants.{Rel, Add, Del, Query as Register, Open, Next, Close, Explain}
 use Rattle.djq_lines.specs.Grammar.{Reading, says as says_command, reading_of}
 use Rattle.djq_mirror.specs.declared.mode.Mode.TheVariants.{Live}
 use Rattle.djq_mirror.specs.Replies.{Reply}
 use Rattle.djq_mirror.specs.Mirror.{Held, at_first, turn_of, allows, has_text, IsInOrder, Turned}
 use Rattle.djq_machine.specs.State.{State, Session, session_of}
 use Rattle.djq_machine.specs.LineStep.{run}
-use Rattle.djq_machine.specs.Step.{Event, stepped}
-use Rattle.djq_machine.specs.Run.{Did, Run, out}
+use Rattle.djq_machine.specs.Step.{Event, stepped, ended, closed, Step}
+use Rattle.djq_machine.specs.Run.{Did, Walk, out}
 use Rattle.djq_machine.specs.Gives.{CursorsGive}
 use Rattle.djq_laws.specs.Sound.{IsSoundState}
+use Rattle.djq_laws.specs.Staying.{GoesOn}
 use Rattle.djq_laws.specs.Watched.{WatchesAlong}
 use Rattle.djq_told.specs.Sayable.{IsSayableState}
 use Rattle.djq_told.specs.Told.{replies_text}
@@ -63,15 +64,15 @@ ReadsAlong q s old [] new walk = Unit {0}
 ReadsAlong q s old (d ∷ done) new walk =
     ReadsOnly (listed_name q) s old d.event × ReadsAlong q s walk.0 done new walk.2
 
--- The replies that are all that is queued to it are allowed in a mirror of the query, from the first
--- one on; and where the mirror is live behind them, it holds the query's answers over the rows that
--- are there then.
-pub record IsMirrored (q : Listed) (s : ℕ) (done : List Did) (new : State) : Type 0 where
+-- The replies that are all that is queued to a session are allowed in a mirror of the query, from the
+-- first one on; and where the mirror is live behind them, it holds the query's answers over the rows
+-- of a state.
+pub record IsMirrored (q : Listed) (s : ℕ) (done : List Did) (at : State) : Type 0 where
   pub replies : List Reply
   pub whole : out s done ≡ replies_text replies
   pub held : Held
   pub passes : Passes (listed_name q) at_first replies held
-  pub live : held.mode ≡ Live → Shows held (AnswersOf new.store.relations q)
+  pub live : held.mode ≡ Live → Shows held (AnswersOf at.store.relations q)
 
 -- So it is along every run in which a session watches a query, from where it has no cursor yet, if
 -- it reads the query through one cursor at a time.
@@ -80,3 +81,58 @@ WatchersAreMirrored = (q : Listed) (s : ℕ) (old : State) → IsSoundState old 
     → CursorsGive old → IsSomeAnd (session_of old s) (λ x. x.cursors ≡ []) → (done : List Did)
     (new : State) (walk : WatchesAlong q s old done new) → ReadsAlong q s old done new walk
     → IsMirrored q s done new
+
+-- A session goes on, without a watch or a cursor.
+abbrev pub IsWaiting : ℕ → State → Type 0
+IsWaiting s st =
+    IsSomeAnd (session_of st s) (λ x. (x.cause ≡ None) × (x.watches ≡ []) × (x.cursors ≡ []))
+
+-- A line asks for no listing: it opens no cursor and reads none, and explains no query.
+abbrev pub AsksNoListing : Reading → Type 0
+AsksNoListing (says_command (Open c q)) = ⊥
+AsksNoListing (says_command (Next c count)) = ⊥
+AsksNoListing (says_command (Explain q)) = ⊥
+AsksNoListing r = Unit {0}
+
+abbrev pub SaysNoListing : ℕ → Event → Type 0
+SaysNoListing s (stepped t (run l)) = (t == s) ≡ true → AsksNoListing (reading_of l)
+SaysNoListing s event = Unit {0}
+
+-- It waits before a step, in which it may say a line that asks for no listing, as `watch`; and goes on
+-- behind it.
+pub record WaitsStep (s : ℕ) (old : State) (d : Did) (new : State) : Type 0 where
+  pub before : IsWaiting s old
+  pub step : Step old d.event d.effect new
+  pub says : SaysNoListing s d.event
+  pub behind : GoesOn new s
+
+-- A run in each state of which, but for the last, it does so.
+abbrev pub WaitsAlong : ℕ → State → List Did → State → Type 0
+WaitsAlong s = Walk (WaitsStep s)
+
+-- A session waits, begins to watch a query, and reads it through one cursor at a time.
+pub record Reads (q : Listed) (s : ℕ) (first : State) (fore : List Did) (old : State) (done : List Did)
+    (new : State) : Type 0 where
+  pub waits : WaitsAlong s first fore old
+  pub none : IsSomeAnd (session_of old s) (λ x. x.cursors ≡ [])
+  pub walk : WatchesAlong q s old done new
+  pub reads : ReadsAlong q s old done new walk
+
+-- So it is from the first line on that the session says.
+abbrev pub ReadersAreMirrored : Type 0
+ReadersAreMirrored = (q : Listed) (s : ℕ) (first : State) → IsSoundState first → IsSayableState first
+    → CursorsGive first → (fore : List Did) (old : State) (done : List Did) (new : State)
+    → Reads q s first fore old done new → IsMirrored q s (fore ++ done) new
+
+-- The input of a session ends, or it is gone.
+abbrev pub EndsNow : ℕ → Event → Type 0
+EndsNow s (ended t) = t ≡ s
+EndsNow s (closed t bytes) = t ≡ s
+EndsNow s event = ⊥
+
+-- And where it ends so behind that, the mirror takes its last line too, and holds the answers over the
+-- rows as they were when it ended.
+abbrev pub EndsAreMirrored : Type 0
+EndsAreMirrored = (q : Listed) (s : ℕ) (done : List Did) (new : State) → IsMirrored q s done new
+    → (d : Did) (last : State) → Step new d.event d.effect last → EndsNow s d.event
+    → IsMirrored q s (done ++ d ∷ []) new

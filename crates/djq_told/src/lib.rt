@@ -3,7 +3,7 @@
 
 ghost use Rattle.djq_told.specs.Sayable.{RunsKeepSayable, OpeningIsSayable, StatesAreSayable};
 ghost use Rattle.djq_told.specs.Told.{WatchersAreToldExactly};
-ghost use Rattle.djq_told.specs.Mirrored.{WatchersAreMirrored};
+ghost use Rattle.djq_told.specs.Mirrored.{WatchersAreMirrored, ReadersAreMirrored, EndsAreMirrored};
 
 /// Along every run from a state to start from whose names and values lines can say, all names are
 /// names, all values are within their limits and their texts of UTF-8, and each variable of a
@@ -22,9 +22,11 @@ pub fn watchers_are_told_exactly()
     ensures { WatchersAreToldExactly }
 {}
 
-/// A mirror of a query, of what a session was sent that watches the query and reads it through one
-/// cursor at a time, refuses nothing; and where it is live, it holds the query's answers over the
-/// present rows.
-pub fn watchers_are_mirrored()
-    ensures { WatchersAreMirrored }
+/// A mirror of a query, of what a session was sent that begins to watch the query and then reads it
+/// through one cursor at a time, refuses nothing; and where it is live, it holds the query's answers
+/// over the present rows, or those that there were as the session's input ended or it was closed.
+pub fn readers_are_mirrored()
+    ensures watching { WatchersAreMirrored }
+    ensures reading { ReadersAreMirrored }
+    ensures ended { EndsAreMirrored }
 {}

@@ -1,0 +1,236 @@
+-- What a session is sent before it watches a query, and as it ends.
+use Rattle.std.specs.Prelude.{ℕ, List, [], ◌∷◌, ◌++◌, ◌==◌, ◌≡◌, ◌<◌, ◌⊎◌, ◌&&◌, Bool, true, false, cond, filter, Option, None, Some, IsSomeAnd, option_map, All, AllPairs}
+use Rattle.std.specs.List.{flat_map}
+use Rattle.std.proofs.Common.{refl, sym, ap, ap₂, ◌∙◌, subst, inl, inr, append-nil}
+use Rattle.std.proofs.lemmas.Grind.{flat_map-append}
+use Rattle.std.proofs.lemmas.List.Elements.{All-nil, All-cons, All-append}
+use Rattle.djq_model.specs.Data.{Bytes}
+use Rattle.djq_model.specs.Listed.{Listed, listed_name}
+use Rattle.djq_lines.specs.declared.answer.EndLine.TheVariants.{Long as long_line, Slow as slow_line, Memory as memory_line}
+use Rattle.djq_lines.specs.declared.answer.Refusal.TheVariants.{Syntax, WrongType, NoMemory}
+use Rattle.djq_lines.specs.declared.command.Command.{Command}
+use Rattle.djq_lines.specs.declared.command.Command.TheVariants.{Rel, Add, Del, Query as Register, Drop, Open, Next, Close, Has, Watch, Unwatch, Explain, Shape, Quit, Stop}
+use Rattle.djq_lines.specs.Grammar.{Reading, outside, past_limit, says as says_command, reading_of}
+use Rattle.djq_lines.specs.Reply.{end_long, end_slow, end_memory}
+use Rattle.djq_mirror.specs.Replies.{Reply, ended as is_ended}
+use Rattle.djq_mirror.specs.Mirror.{Held, at_first}
+use Rattle.djq_machine.specs.State.{Store, State, Session, session_of, with_session}
+use Rattle.djq_machine.specs.Effect.{Effect}
+use Rattle.djq_machine.specs.Changes.{RowsOutcome, is_accepted, row_in, row_out, add_outcome, delete_outcome}
+use Rattle.djq_machine.specs.Watch.{Delta, ChangeStep}
+use Rattle.djq_machine.specs.LineStep.{LineOutcome, long, blank, slow, no_room, run, ReadStep, FrontStep, behind_line}
+use Rattle.djq_machine.specs.Step.{Event, opened, fed, stepped, took, ended, closed, FedStep, TookStep, EndedStep, Acts, Step}
+use Rattle.djq_machine.specs.Gives.{CursorsGive}
+use Rattle.djq_machine.specs.Run.{Did, to_session, out}
+use Rattle.djq_machine.specs.Call.{cause_of, cause_in}
+use Rattle.djq_laws.specs.Rising.{AreRising}
+use Rattle.djq_laws.specs.Sound.{IsSoundState}
+use Rattle.djq_laws.specs.Staying.{GoesOn}
+use Rattle.djq_laws.proofs.Finding.{some_and}
+use Rattle.djq_laws.proofs.Giving.{step_gives}
+use Rattle.djq_laws.proofs.Queueing.{stepped_cause}
+use Rattle.djq_laws.proofs.Sounding.{step_sound}
+use Rattle.djq_told.specs.Sayable.{IsSayableState}
+use Rattle.djq_told.specs.Told.{replies_text, is_told_of}
+use Rattle.djq_told.specs.Mirrored.{Passes, AsksNoListing, SaysNoListing, WaitsAlong, Reads, IsMirrored, ReadersAreMirrored, EndsNow, EndsAreMirrored}
+use Rattle.djq_told.proofs.Hearing.{all_heard, own_replies, text_append, changed_ids, change_heard}
+use Rattle.djq_told.proofs.Mirrored.{watchers_are_mirrored}
+use Rattle.djq_told.proofs.Mirroring.{passes_then, passes_told}
+use Rattle.djq_told.proofs.Replying.{IsPlain, IsHarmless, OfForm, of_form, any_talk, add_form, delete_form, talks, command_replies, refused_replies, none_of}
+use Rattle.djq_told.proofs.Sayable.{step_sayable}
+use Rattle.djq_told.proofs.Telling.{reading_talks, event_talks, IsQuiet, Plain, quiet_to, ends_quiet, nothing_quiet, fed_quiet, ended_quiet, taken_session}
+
+nothing_heard : (ws : List Bytes) → ws ≡ [] → (n : ℕ) (ds : List Delta) → all_heard ws n ds ≡ []
+nothing_heard ws e n ds = ap (λ (vs : List Bytes). all_heard vs n ds) e ∙ by ds
+  where
+    by : (ks : List Delta) → all_heard [] n ks ≡ []
+    by [] = refl
+    by (k ∷ ks) = by ks
+
+-- one that watches nothing
+module _ (s : ℕ) (old : State) (x : Session) (is : session_of old s ≡ Some x) (rising : AreRising old) (none : x.watches ≡ []) where
+  change_plain : (t : ℕ) (outcome : RowsOutcome) (store : Store) (reply : Bytes) (f : OfForm reply false) (e : Effect) (mid : State)
+      → ChangeStep old t outcome store reply e mid → cause_of mid s ≡ None → (talk : Bool) → Plain s e.queued talk
+  change_plain t outcome store reply f e mid h running talk = record {
+    replies = own_replies s x.watches (t == s) f.reply;
+    text = change_heard s x old is t outcome store reply f.reply e mid rising f.is h running
+        ∙ ap (λ rs. replies_text (rs ++ own_replies s x.watches (t == s) f.reply))
+        (nothing_heard x.watches none store.seq (cond (is_accepted outcome) h.deltas []));
+    plain = plain_own (t == s);
+    harmless = λ k. harmless_own (t == s);
+  }
+    where
+      plain_own : (b : Bool) → All IsPlain (cond b (f.reply ∷ []) [])
+      plain_own true = All-cons IsPlain f.reply [] f.plain (All-nil IsPlain)
+      plain_own false = All-nil IsPlain
+
+      harmless_own : (b : Bool) → All IsHarmless (cond b (f.reply ∷ []) [])
+      harmless_own true = All-cons IsHarmless f.reply [] (f.harmless refl) (All-nil IsHarmless)
+      harmless_own false = All-nil IsHarmless
+
+  read_plain : (t : ℕ) (y : Session) (l : Bytes) (r : Reading) (e : Effect) (mid : State) → cause_of mid s ≡ None
+      → ReadStep old t y l r e mid → Plain s e.queued ((t == s) && reading_talks r)
+  read_plain t y l outside e mid running h =
+      quiet_to s e.queued ((t == s) && false) (inr (t, false, refused_replies old t Syntax e mid h, refl))
+  read_plain t y l (past_limit c) e mid running h =
+      quiet_to s e.queued ((t == s) && false) (inr (t, false, refused_replies old t WrongType e mid h, refl))
+  read_plain t y l (says_command c) e mid running (false, h) =
+      quiet_to s e.queued ((t == s) && talks c)
+      (inr (t, talks c, any_talk t e.queued (talks c) (refused_replies old t NoMemory e mid h.1), refl))
+  read_plain t y l (says_command (Add name row)) e mid running (true, h) =
+      change_plain t (add_outcome (row_in old.store.relations name row) h.result) h.store _ (add_form h.result h.store.seq) e
+      mid h.change running ((t == s) && false)
+  read_plain t y l (says_command (Del name row)) e mid running (true, h) =
+      change_plain t (delete_outcome (row_out old.store.relations name row) h.result) h.store _
+      (delete_form h.result h.store.seq) e mid h.change running ((t == s) && false)
+  read_plain t y l (says_command c) e mid running (true, h) =
+      quiet_to s e.queued ((t == s) && talks c) (inr (t, talks c, command_replies old t y c e mid tt h, refl))
+
+module _ (s : ℕ) (old : State) (x : Session) (is : session_of old s ≡ Some x) (rising : AreRising old) (none : x.watches ≡ []) where
+  front_plain : (t : ℕ) (z : Session) (outcome : LineOutcome) (e : Effect) (mid : State) → cause_of mid s ≡ None
+      → FrontStep old t z outcome e mid → Plain s e.queued (event_talks s (stepped t outcome))
+  front_plain t z long e mid running h =
+      quiet_to s e.queued false (ends_quiet s t end_long _ old e mid (of_form end_long (is_ended long_line) refl (λ name. refl)) h.1)
+  front_plain t z (blank l) e mid running h = quiet_to s e.queued false (nothing_quiet s e h.1.then.0)
+  front_plain t z (slow l) e mid running h =
+      quiet_to s e.queued false (ends_quiet s t end_slow _ _ e mid (of_form end_slow (is_ended slow_line) refl (λ name. refl)) h.2.then)
+  front_plain t z (no_room l) e mid running h =
+      quiet_to s e.queued false
+      (ends_quiet s t end_memory _ _ e mid (of_form end_memory (is_ended memory_line) refl (λ name. refl)) h.2.then)
+  front_plain t z (run l) e mid running h =
+      let rest = h.2.rest in
+      let y = taken_session old t rest s x is in
+      let ids = changed_ids (λ (k : Session). k.id == t) (behind_line rest) (λ k. refl) old.sessions in
+      read_plain s (with_session old t (behind_line rest)) y.0 y.1
+      (subst (λ (js : List ℕ). AllPairs (λ i j. i < j) js) (sym ids) rising) (y.2 ∙ none) t (behind_line rest z) l (reading_of l)
+      e mid running h.2.then
+
+  acts_plain : (event : Event) (e : Effect) (mid : State) → cause_of mid s ≡ None → Acts old event e mid
+      → Plain s e.queued (event_talks s event)
+  acts_plain (opened t) e mid running h = quiet_to s e.queued false (nothing_quiet s e h.0)
+  acts_plain (fed t bytes) e mid running h =
+      let f = some_and (session_of old t) (λ z. FedStep old t bytes z e mid) h in
+      quiet_to s e.queued false (fed_quiet s old t bytes e mid (f.0).cause f.2)
+  acts_plain (stepped t outcome) e mid running h =
+      let f = some_and (session_of old t) (λ z. (z.cause ≡ None) × FrontStep old t z outcome e mid) h in
+      front_plain t f.0 outcome e mid running f.2.1
+  acts_plain (took t bytes) e mid running h =
+      let f = some_and (session_of old t) (λ z. TookStep old t bytes z e mid) h in
+      quiet_to s e.queued false (nothing_quiet s e f.2.0)
+  acts_plain (ended t) e mid running h =
+      let f = some_and (session_of old t) (λ z. EndedStep old t z e mid) h in
+      quiet_to s e.queued false (ended_quiet s old t f.0 e mid f.2)
+  acts_plain (closed t bytes) e mid running h = quiet_to s e.queued false (nothing_quiet s e h.0)
+
+-- ---- before it watches
+
+no_talk_command : (c : Command) → AsksNoListing (says_command c) → talks c ≡ false
+no_talk_command (Open c q) h = absurd h
+no_talk_command (Next c count) h = absurd h
+no_talk_command (Explain q) h = absurd h
+no_talk_command c h = refl
+
+no_talk_reading : (r : Reading) → AsksNoListing r → reading_talks r ≡ false
+no_talk_reading (says_command c) h = no_talk_command c h
+no_talk_reading outside h = refl
+no_talk_reading (past_limit c) h = refl
+
+no_talk_event : (s : ℕ) (event : Event) → SaysNoListing s event → event_talks s event ≡ false
+no_talk_event s (stepped t (run l)) h = by (t == s) refl
+  where
+    by : (b : Bool) → (t == s) ≡ b → (b && reading_talks (reading_of l)) ≡ false
+    by true e = no_talk_reading (reading_of l) (h e)
+    by false e = refl
+no_talk_event s (stepped t long) h = refl
+no_talk_event s (stepped t (blank l)) h = refl
+no_talk_event s (stepped t (slow l)) h = refl
+no_talk_event s (stepped t (no_room l)) h = refl
+no_talk_event s (opened t) h = refl
+no_talk_event s (fed t bytes) h = refl
+no_talk_event s (took t bytes) h = refl
+no_talk_event s (ended t) h = refl
+no_talk_event s (closed t bytes) h = refl
+
+-- what is held stays, where nothing is told of the query
+plain_passes : (name : Bytes) (held : Held) (rs : List Reply) → All IsPlain rs → All IsHarmless rs → Passes name held rs held
+plain_passes name held rs plain harmless =
+    passes_told name held held rs harmless
+    (subst (λ (ts : List Reply). Passes name held ts held) (sym (none_of name rs plain)) refl)
+
+record Waited (s : ℕ) (done : List Did) (new : State) : Type 0 where
+  replies : List Reply
+  whole : out s done ≡ replies_text replies
+  plain : All IsPlain replies
+  harmless : All IsHarmless replies
+  sound : IsSoundState new
+  fine : IsSayableState new
+  gives : CursorsGive new
+
+waited : (s : ℕ) (old : State) → IsSoundState old → IsSayableState old → CursorsGive old → (done : List Did) (new : State)
+    → WaitsAlong s old done new → Waited s done new
+waited s old sound fine gives [] new walk = record {
+  replies = [];
+  whole = refl;
+  plain = All-nil IsPlain;
+  harmless = All-nil IsHarmless;
+  sound = subst IsSoundState (sym walk) sound;
+  fine = subst IsSayableState (sym walk) fine;
+  gives = subst CursorsGive (sym walk) gives;
+}
+waited s old sound fine gives (d ∷ done) new walk =
+    let h = walk.1 in
+    let f = some_and (session_of old s) (λ x. (x.cause ≡ None) × (x.watches ≡ []) × (x.cursors ≡ [])) h.before in
+    let g = some_and (session_of walk.0 s) (λ x. x.cause ≡ None) h.behind in
+    let running : cause_of (h.step.mid) s ≡ None =
+    sym (stepped_cause old d.event d.effect walk.0 h.step s) ∙ ap cause_in g.1 ∙ g.2 in
+    let one = acts_plain s old f.0 f.1 sound.rising f.2.1 d.event d.effect (h.step.mid) running h.step.acts in
+    let more = waited s walk.0 (step_sound old d.event d.effect walk.0 h.step sound)
+    (step_sayable old d.event d.effect walk.0 h.step fine) (step_gives old d.event d.effect walk.0 h.step gives) done new walk.2 in
+    record {
+      replies = one.replies ++ more.replies;
+      whole = ap₂ (λ (xs ys : Bytes). xs ++ ys) one.text more.whole ∙ sym (text_append one.replies more.replies);
+      plain = All-append IsPlain one.replies more.replies one.plain more.plain;
+      harmless = All-append IsHarmless one.replies more.replies (one.harmless (no_talk_event s d.event h.says)) more.harmless;
+      sound = more.sound;
+      fine = more.fine;
+      gives = more.gives;
+    }
+
+out_append : (s : ℕ) (xs ys : List Did) → out s (xs ++ ys) ≡ out s xs ++ out s ys
+out_append s xs ys = flat_map-append (λ (d : Did). to_session s d.effect.queued) xs ys
+
+pub readers_are_mirrored : ReadersAreMirrored
+readers_are_mirrored q s first sound fine gives fore old done new h =
+    let w = waited s first sound fine gives fore old h.waits in
+    let k = watchers_are_mirrored q s old w.sound w.fine w.gives h.none done new h.walk h.reads in record {
+      replies = w.replies ++ k.replies;
+      whole = out_append s fore done ∙ ap₂ (λ (xs ys : Bytes). xs ++ ys) w.whole k.whole ∙ sym (text_append w.replies k.replies);
+      held = k.held;
+      passes = passes_then (listed_name q) at_first at_first k.held w.replies k.replies
+          (plain_passes (listed_name q) at_first w.replies w.plain w.harmless) k.passes;
+      live = k.live;
+    }
+
+-- ---- as it ends
+
+end_quiet : (s : ℕ) (old : State) (event : Event) (e : Effect) (mid : State) → EndsNow s event → Acts old event e mid
+    → IsQuiet s e.queued false
+end_quiet s old (ended t) e mid now h =
+    let f = some_and (session_of old t) (λ z. EndedStep old t z e mid) h in ended_quiet s old t f.0 e mid f.2
+end_quiet s old (closed t bytes) e mid now h = nothing_quiet s e h.0
+end_quiet s old (opened t) e mid now h = absurd now
+end_quiet s old (fed t bytes) e mid now h = absurd now
+end_quiet s old (stepped t outcome) e mid now h = absurd now
+end_quiet s old (took t bytes) e mid now h = absurd now
+
+pub ends_are_mirrored : EndsAreMirrored
+ends_are_mirrored q s done new m d last step now =
+    let one = quiet_to s d.effect.queued false (end_quiet s new d.event d.effect (step.mid) now step.acts) in record {
+      replies = m.replies ++ one.replies;
+      whole = out_append s done (d ∷ []) ∙ ap₂ (λ (xs ys : Bytes). xs ++ ys) m.whole
+          (append-nil (to_session s d.effect.queued) ∙ one.text) ∙ sym (text_append m.replies one.replies);
+      held = m.held;
+      passes = passes_then (listed_name q) at_first m.held m.held m.replies one.replies m.passes
+          (plain_passes (listed_name q) m.held one.replies one.plain (one.harmless refl));
+      live = m.live;
+    }

@@ -1,0 +1,12 @@
+use Rattle.djq_told.proofs.Mirrored.{watchers_are_mirrored}
+use Rattle.djq_told.proofs.Waiting.{readers_are_mirrored, ends_are_mirrored}
+use Rattle.djq_told.proofs.readers_are_mirrored.Goals as goal
+
+pub returns-clause-watching : goal.returns-clause-watching
+returns-clause-watching c = watchers_are_mirrored
+
+pub returns-clause-reading : goal.returns-clause-reading
+returns-clause-reading c = readers_are_mirrored
+
+pub returns-clause-ended : goal.returns-clause-ended
+returns-clause-ended c = ends_are_mirrored
