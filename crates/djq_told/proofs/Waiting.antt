@@ -27,17 +27,18 @@ use Rattle.djq_laws.specs.Rising.{AreRising}
 use Rattle.djq_laws.specs.Sound.{IsSoundState}
 use Rattle.djq_laws.specs.Staying.{GoesOn}
 use Rattle.djq_laws.proofs.Finding.{some_and}
-use Rattle.djq_laws.proofs.Giving.{step_gives}
+use Rattle.djq_laws.proofs.Giving.{step_gives, runs_give}
+use Rattle.djq_laws.proofs.Listing.{nothing_given}
 use Rattle.djq_laws.proofs.Queueing.{stepped_cause}
-use Rattle.djq_laws.proofs.Sounding.{step_sound}
+use Rattle.djq_laws.proofs.Sounding.{step_sound, states_are_sound}
 use Rattle.djq_told.specs.Sayable.{IsSayableState}
 use Rattle.djq_told.specs.Told.{replies_text, is_told_of}
-use Rattle.djq_told.specs.Mirrored.{Passes, AsksNoListing, SaysNoListing, WaitsAlong, Reads, IsMirrored, ReadersAreMirrored, EndsNow, EndsAreMirrored}
+use Rattle.djq_told.specs.Mirrored.{Passes, AsksNoListing, SaysNoListing, WaitsAlong, Reads, IsMirrored, ReadersAreMirrored, StartsAreMirrored, EndsNow, EndsAreMirrored}
 use Rattle.djq_told.proofs.Hearing.{all_heard, own_replies, text_append, changed_ids, change_heard}
 use Rattle.djq_told.proofs.Mirrored.{watchers_are_mirrored}
 use Rattle.djq_told.proofs.Mirroring.{passes_then, passes_told}
 use Rattle.djq_told.proofs.Replying.{IsPlain, IsHarmless, OfForm, of_form, any_talk, add_form, delete_form, talks, command_replies, refused_replies, none_of}
-use Rattle.djq_told.proofs.Sayable.{step_sayable}
+use Rattle.djq_told.proofs.Sayable.{step_sayable, states_are_sayable}
 use Rattle.djq_told.proofs.Telling.{reading_talks, event_talks, IsQuiet, Plain, quiet_to, ends_quiet, nothing_quiet, fed_quiet, ended_quiet, taken_session}
 
 nothing_heard : (ws : List Bytes) → ws ≡ [] → (n : ℕ) (ds : List Delta) → all_heard ws n ds ≡ []
@@ -210,6 +211,11 @@ readers_are_mirrored q s first sound fine gives fore old done new h =
           (plain_passes (listed_name q) at_first w.replies w.plain w.harmless) k.passes;
       live = k.live;
     }
+
+pub starts_are_mirrored : StartsAreMirrored
+starts_are_mirrored start h said q s earlier first run fore old done new reads =
+    readers_are_mirrored q s first (states_are_sound start h earlier first run) (states_are_sayable start h said earlier first run)
+    (runs_give start earlier first run (nothing_given start h)) fore old done new reads
 
 -- ---- as it ends
 

@@ -12,12 +12,12 @@ use Rattle.djq_mirror.specs.Mirror.{Held, at_first, turn_of, allows, has_text, I
 use Rattle.djq_machine.specs.State.{State, Session, session_of}
 use Rattle.djq_machine.specs.LineStep.{run}
 use Rattle.djq_machine.specs.Step.{Event, stepped, ended, closed, Step}
-use Rattle.djq_machine.specs.Run.{Did, Walk, out}
+use Rattle.djq_machine.specs.Run.{Did, Walk, Run, out}
 use Rattle.djq_machine.specs.Gives.{CursorsGive}
-use Rattle.djq_laws.specs.Sound.{IsSoundState}
+use Rattle.djq_laws.specs.Sound.{IsSoundState, IsStart}
 use Rattle.djq_laws.specs.Staying.{GoesOn}
 use Rattle.djq_laws.specs.Watched.{WatchesAlong}
-use Rattle.djq_told.specs.Sayable.{IsSayableState}
+use Rattle.djq_told.specs.Sayable.{IsSayableStore, IsSayableState}
 use Rattle.djq_told.specs.Told.{replies_text}
 
 -- Replies, one after the other, are allowed in a mirror of the query of a name, and this is held
@@ -123,6 +123,13 @@ abbrev pub ReadersAreMirrored : Type 0
 ReadersAreMirrored = (q : Listed) (s : ℕ) (first : State) → IsSoundState first → IsSayableState first
     → CursorsGive first → (fore : List Did) (old : State) (done : List Did) (new : State)
     → Reads q s first fore old done new → IsMirrored q s (fore ++ done) new
+
+-- So it is in every run from a state to start from whose names and values lines can say.
+abbrev pub StartsAreMirrored : Type 0
+StartsAreMirrored = (start : State) → IsStart start → IsSayableStore start.store → (q : Listed) (s : ℕ)
+    (earlier : List Did) (first : State) → Run start earlier first → (fore : List Did) (old : State)
+    (done : List Did) (new : State) → Reads q s first fore old done new
+    → IsMirrored q s (fore ++ done) new
 
 -- The input of a session ends, or it is gone.
 abbrev pub EndsNow : ℕ → Event → Type 0

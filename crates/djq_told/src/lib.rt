@@ -1,9 +1,33 @@
-//! Laws on what sessions are told: which lines they are sent, and what these add up to.
+//! Laws on what sessions are told: which lines they are sent, and what a mirror makes of them.
+//!
+//! Each function here is empty: its contract is the law, and its proof says nothing of code. They are
+//! laws of every run of the join machine, whatever program makes it.
+//!
+//! ```text
+//! 1 says  watch q           ok watch 0         the mirror of q is idle
+//! 1 says  open c q          ok open            it lists, and has nothing
+//! 1 says  next c 9          = 2, = 1, end      it is live, and has 1 and 2
+//! 2 says  add r 3 5         + q 3, at q 3      it has 1, 2 and 3
+//! 2 says  del r 1 5         - q 1, at q 4      it has 2 and 3, the answers of q
+//! ```
+//!
+//! What this crate is not: it reads no bytes. What a reply line is, and what each form of one does to
+//! what a mirror holds, says djq_mirror, and takes lines apart.
+//!
+//! What surprises: a delta and a listing tell answers by their texts, and a mirror keeps texts. That
+//! two answers have two texts rests on what lines can say: a value within its limit is read back from
+//! its text. So the laws on mirrors ask for states that lines have made, and `specs/Sayable.antt`
+//! says which these are.
+//!
+//! Inside, `proofs/Hearing.antt` says what one session hears of a change, `Replying.antt` what each
+//! command is answered by the forms of replies, `Mirroring.antt` what replies make of what a mirror
+//! holds, and `Mirrored.antt` ties that to the session's cursor, step by step.
 #![tactic(auto)]
 
 ghost use Rattle.djq_told.specs.Sayable.{RunsKeepSayable, OpeningIsSayable, StatesAreSayable};
 ghost use Rattle.djq_told.specs.Told.{WatchersAreToldExactly};
-ghost use Rattle.djq_told.specs.Mirrored.{WatchersAreMirrored, ReadersAreMirrored, EndsAreMirrored};
+ghost use Rattle.djq_told.specs.Mirrored.{WatchersAreMirrored, ReadersAreMirrored};
+ghost use Rattle.djq_told.specs.Mirrored.{StartsAreMirrored, EndsAreMirrored};
 
 /// Along every run from a state to start from whose names and values lines can say, all names are
 /// names, all values are within their limits and their texts of UTF-8, and each variable of a
@@ -28,5 +52,6 @@ pub fn watchers_are_told_exactly()
 pub fn readers_are_mirrored()
     ensures watching { WatchersAreMirrored }
     ensures reading { ReadersAreMirrored }
+    ensures started { StartsAreMirrored }
     ensures ended { EndsAreMirrored }
 {}

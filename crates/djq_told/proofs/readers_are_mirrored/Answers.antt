@@ -1,5 +1,5 @@
 use Rattle.djq_told.proofs.Mirrored.{watchers_are_mirrored}
-use Rattle.djq_told.proofs.Waiting.{readers_are_mirrored, ends_are_mirrored}
+use Rattle.djq_told.proofs.Waiting.{readers_are_mirrored, starts_are_mirrored, ends_are_mirrored}
 use Rattle.djq_told.proofs.readers_are_mirrored.Goals as goal
 
 pub returns-clause-watching : goal.returns-clause-watching
@@ -10,3 +10,6 @@ returns-clause-reading c = readers_are_mirrored
 
 pub returns-clause-ended : goal.returns-clause-ended
 returns-clause-ended c = ends_are_mirrored
+
+pub returns-clause-started : goal.returns-clause-started
+returns-clause-started c = starts_are_mirrored
