@@ -213,9 +213,9 @@ readers_are_mirrored q s first sound fine gives fore old done new h =
     }
 
 pub starts_are_mirrored : StartsAreMirrored
-starts_are_mirrored start h said q s earlier first run fore old done new reads =
-    readers_are_mirrored q s first (states_are_sound start h earlier first run) (states_are_sayable start h said earlier first run)
-    (runs_give start earlier first run (nothing_given start h)) fore old done new reads
+starts_are_mirrored start h said q s earlier first walk fore old done new reads =
+    readers_are_mirrored q s first (states_are_sound start h earlier first walk) (states_are_sayable start h said earlier first walk)
+    (runs_give start earlier first walk (nothing_given start h)) fore old done new reads
 
 -- ---- as it ends
 
