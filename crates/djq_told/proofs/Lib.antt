@@ -12,3 +12,4 @@ mod Mirroring
 mod Having
 mod Mirrored
 mod Waiting
+mod Lines

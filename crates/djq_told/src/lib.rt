@@ -27,6 +27,7 @@
 ghost use Rattle.djq_told.specs.Sayable.{RunsKeepSayable, OpeningIsSayable, StatesAreSayable};
 ghost use Rattle.djq_told.specs.Told.{WatchersAreToldExactly};
 ghost use Rattle.djq_told.specs.Mirrored.{WatchersAreMirrored, ReadersAreMirrored};
+ghost use Rattle.djq_told.specs.Lines.{PrintedAreLines};
 ghost use Rattle.djq_told.specs.Mirrored.{StartsAreMirrored, EndsAreMirrored};
 
 /// Along every run from a state to start from whose names and values lines can say, all names are
@@ -54,4 +55,10 @@ pub fn readers_are_mirrored()
     ensures reading { ReadersAreMirrored }
     ensures started { StartsAreMirrored }
     ensures ended { EndsAreMirrored }
+{}
+
+/// A printed reply is one line, without an LF inside, and no longer than 16,384 bytes; nothing is said
+/// of the lines of a rest, and of those that explain a tree.
+pub fn printed_are_lines()
+    ensures { PrintedAreLines }
 {}

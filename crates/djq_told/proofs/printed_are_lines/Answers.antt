@@ -1,0 +1,5 @@
+use Rattle.djq_told.proofs.Lines.{printed_are_lines}
+use Rattle.djq_told.proofs.printed_are_lines.Goals as goal
+
+pub returns : goal.returns
+returns c = printed_are_lines

@@ -1,0 +1,28 @@
+-- What each reply line is like that is printed.
+use Rattle.std.specs.Prelude.{List, ◌≡◌, ◌≤◌, length}
+use Rattle.djq_model.specs.Data.{Bytes, Tuple}
+use Rattle.djq_lines.specs.declared.limits.TheConstants.{HEAD_VARIABLES}
+use Rattle.djq_lines.specs.Reply.{line}
+use Rattle.djq_mirror.specs.declared.mode.TheConstants.{REPLY_LINE_BYTES}
+use Rattle.djq_mirror.specs.Inputs.{HasNoLf}
+use Rattle.djq_mirror.specs.Replies.{Reply, answer, changed, cyclic, not_connex, explained, reply_text, IsPrinted}
+
+-- An answer has no more values than a head has variables. Of the lines of a rest, and of those that
+-- explain a tree, nothing is said.
+abbrev pub HasFewCells : Reply → Type 0
+HasFewCells (answer t) = length t ≤ HEAD_VARIABLES
+HasFewCells (changed s q t) = length t ≤ HEAD_VARIABLES
+HasFewCells (cyclic edges) = ⊥
+HasFewCells (not_connex edges) = ⊥
+HasFewCells (explained j node label out) = ⊥
+HasFewCells r = Unit {0}
+
+-- bytes without an LF, and no more of them than a reply line may have, which LF makes a reply's text
+pub record IsTheLine (r : Reply) (l : Bytes) : Type 0 where
+  pub text : line l ≡ reply_text r
+  pub whole : HasNoLf l
+  pub short : length l ≤ REPLY_LINE_BYTES
+
+-- A printed reply is a line of its own, and none that is too long.
+abbrev pub PrintedAreLines : Type 0
+PrintedAreLines = (r : Reply) → IsPrinted r → HasFewCells r → (l : Bytes) × IsTheLine r l
