@@ -19,6 +19,11 @@ pub record Held : Type 0 where
   pub mode : Mode
   pub texts : List Bytes
 
+-- What contracts see of a mirror: its query, and what it holds.
+pub record Seen : Type 0 where
+  pub name : Bytes
+  pub held : Held
+
 -- It holds nothing at first.
 abbrev pub at_first : Held
 at_first = record { mode = Idle; texts = [] }

@@ -1,8 +1,43 @@
-//! The answers that a session was told, from the bytes alone that it was sent.
+//! The answers of one query, from the bytes alone that a session was sent.
+//!
+//! A [`Mirror`] is handed one line after another. It knows no rows and asks nobody: it goes by what
+//! the lines tell of a listing and of the changes behind it. `specs/Replies.antt` says which lines a
+//! session can be sent, form by form, and `specs/Mirror.antt` what each does.
+//!
+//! ```text
+//! ok open      the answers are dropped       Listing
+//! = 1          put in
+//! = 2          put in
+//! end                                        Live
+//! + q 3        put in
+//! at q 3
+//! - q 1        taken out
+//! stale c r 5                                Idle: the answers aren't known any more
+//! ```
+//!
+//! [`Mirror::write`] appends the answers in byte order where all of them are known, else `none`.
+//!
+//! What this crate is not: a client. It keeps the answers of one query, of one cursor at a time.
+//!
+//! What surprises: answers are kept as they were printed, so that none is made. A line of another
+//! query's name does nothing, but a stale cursor is believed of any name, since a cursor's line
+//! doesn't tell its query. A number is a line's only as djq prints it, without zeros before it.
+//!
+//! Inside, `parts` cuts bytes at a sign, `words` and `cells` read what stands between, `forms` and
+//! `told` read a line, `turn` is the table of what it does, and `texts` the set.
 #![tactic(auto)]
 
-ghost use Rattle.djq_mirror.specs.Inputs.{IsHeld, IsRefused};
-
+pub use mirror::{Mirror, MirrorRefusal};
 pub use mode::{Mode, REPLY_LINE_BYTES};
 
+mod cells;
+mod forms;
+mod mirror;
 mod mode;
+mod parts;
+#[cfg(test)]
+mod tests;
+mod texts;
+mod told;
+mod turn;
+mod words;

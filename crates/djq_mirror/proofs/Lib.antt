@@ -1,0 +1,11 @@
+pub mod Parting
+pub mod Numerals
+pub mod Utf8
+pub mod Celling
+pub mod Bodies
+pub mod Spelling
+pub mod Telling
+pub mod Finding
+pub mod Turning
+pub mod Sets
+pub mod Writing

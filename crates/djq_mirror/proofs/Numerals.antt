@@ -1,0 +1,87 @@
+-- Numbers as they are printed.
+use Rattle.std.proofs.Common.{◌≡◌, ℕ, ◌+◌, ◌-◌, ◌*◌, ◌/◌, ◌%◌, ◌^◌, ◌<◌, ◌≤◌, Bool, true, false, ◌&&◌, min, [], ◌∷◌, ◌++◌, length, length-append, Option, Some, None, option_map, refl, sym, ap, subst, ◌∙◌, arith, leb, ltb, inl, inr}
+use Rattle.std.specs.List.{list_all}
+use Rattle.std.specs.Fmt.{decimal}
+use Rattle.std.proofs.lemmas.Fmt.{decimal_by_steps}
+use Rattle.std.proofs.lemmas.List.Folds.{list_all-append}
+use Rattle.std.proofs.lemmas.Bool.{cond-true, and_parts, and_from, and_left, false_from_ne_true, le-leb, le-ltb, lt-ltb, ltb-true, cases_lt}
+use Rattle.djq_model.specs.Data.{Bytes, bytes_eq}
+use Rattle.djq_model.specs.Equality.{bytes_eq-decides}
+use Rattle.djq_value.specs.Literal.{digits_value, is_digit, natural_of}
+use Rattle.djq_value.specs.Number.{capped}
+use Rattle.djq_value.proofs.Words.{digits_value-push, natural-some}
+use Rattle.djq_mirror.specs.Reading.{is_number, number_as}
+
+record IsWritten (n : ℕ) (ds : Bytes) : Type 0 where
+  some : 0 < length ds
+  digits : list_all is_digit ds ≡ true
+  value : digits_value 0 ds ≡ n
+
+digit_is : (d : ℕ) → d < 10 → is_digit (48 + d) ≡ true
+digit_is d h = and_from _ _ (le-leb 48 (48 + d) (omega arith)) (le-leb (48 + d) 57 (omega arith))
+
+one_digit : (n : ℕ) → n < 10 → IsWritten n ((48 + n) ∷ [])
+one_digit n h = record { some = omega arith; digits = and_from _ _ (digit_is n h) refl; value = omega arith }
+
+more_digits : (n : ℕ) (ds : Bytes) → 10 ≤ n → IsWritten (n / 10) ds → IsWritten n (ds ++ (48 + n % 10) ∷ [])
+more_digits n ds h w = record {
+  some = omega (arith, w.some, length-append ds ((48 + n % 10) ∷ []));
+  digits = list_all-append is_digit ds ((48 + n % 10) ∷ []) ∙ and_from _ _ w.digits (and_from _ _ (digit_is (n % 10) (omega arith)) refl);
+  value = digits_value-push 0 ds (48 + n % 10) ∙ omega (arith, w.value);
+}
+
+-- what is printed of a number is read as it
+pub natural_written : (n : ℕ) → n < 2 ^ 64 → natural_of (decimal n) ≡ Some n
+natural_written n h =
+    let w = decimal_by_steps IsWritten one_digit more_digits n h in
+    natural-some (decimal n) w.some ∙ cond-true _ _ _ w.digits ∙ ap (λ k. Some k) w.value
+
+pub digits_written : (n : ℕ) → n < 2 ^ 64 → list_all is_digit (decimal n) ≡ true
+digits_written n h = (decimal_by_steps IsWritten one_digit more_digits n h).digits
+
+-- the two sides of equal bytes
+pub same_bytes : (xs ys : Bytes) → bytes_eq xs ys ≡ true → xs ≡ ys
+same_bytes xs ys h = (bytes_eq-decides xs ys).0 h
+
+pub bytes_are : (xs ys : Bytes) → xs ≡ ys → bytes_eq xs ys ≡ true
+bytes_are xs ys e = (bytes_eq-decides xs ys).1 e
+
+-- a number that is printed is one of the words that are numbers
+pub number_printed : (n : ℕ) → n < 2 ^ 64 → is_number (decimal n) ≡ true
+number_printed n h =
+    ap (number_as (decimal n)) (natural_written n h)
+    ∙ and_from _ _ (lt-ltb n 18446744073709551616 (omega (arith, h))) (bytes_are (decimal n) (decimal n) refl)
+
+-- and each such word is a number that is printed
+pub number_is : (w : Bytes) → is_number w ≡ true → (n : ℕ) × (n < 2 ^ 64) × (w ≡ decimal n)
+number_is w h = by (natural_of w) h
+  where
+    by : (o : Option ℕ) → number_as w o ≡ true → (n : ℕ) × (n < 2 ^ 64) × (w ≡ decimal n)
+    by None e = absurd (cc)
+    by (Some n) e =
+        let parts = and_parts (ltb n 18446744073709551616) (bytes_eq w (decimal n)) e in
+        (n, omega (arith, ltb-true n 18446744073709551616 parts.0), same_bytes w (decimal n) parts.1)
+
+-- what is printed of the number that was read tells whether the word is one
+pub number_read : (w : Bytes) (n : ℕ) → Some n ≡ option_map capped (natural_of w) → bytes_eq w (decimal n) ≡ is_number w
+number_read w n e = by (natural_of w) refl e
+  where
+    above : (m : ℕ) → natural_of w ≡ Some m → 18446744073709551616 ≤ m → n ≡ 18446744073709551615 → bytes_eq w (decimal n) ≡ true → ⊥
+    above m o h f t =
+        let read : natural_of w ≡ Some n = ap natural_of (same_bytes w (decimal n) t) ∙ natural_written n (omega (arith, f)) in
+        let same : m ≡ n = cc in
+        absurd (omega (arith, same, f, h))
+
+    by : (o : Option ℕ) → natural_of w ≡ o → Some n ≡ option_map capped o → bytes_eq w (decimal n) ≡ number_as w o
+    by None o f = absurd (cc)
+    by (Some m) o f =
+        let is : n ≡ capped m = cc in
+        elim (cases_lt m 18446744073709551616) [
+          | inl low ↦
+              let same : n ≡ m = omega (arith, is, low) in
+              ap (λ k. bytes_eq w (decimal k)) same ∙ sym (ap (λ t. t && bytes_eq w (decimal m)) (lt-ltb m 18446744073709551616 low))
+          | inr high ↦
+              let top : n ≡ 18446744073709551615 = omega (arith, is, high) in
+              false_from_ne_true (bytes_eq w (decimal n)) (above m o high top)
+              ∙ sym (and_left (ltb m 18446744073709551616) (bytes_eq w (decimal m)) (le-ltb m 18446744073709551616 high))
+        ]

@@ -1,0 +1,10 @@
+use Rattle.std.proofs.Common.{◌∙◌}
+use Rattle.std.specs.Str.{is_utf8}
+use Rattle.djq_mirror.proofs.Utf8.{ok_is, utf8_no, utf8_yes}
+use Rattle.djq_mirror.proofs.cells.is_utf8.Goals as goal
+
+pub returns : goal.returns
+returns c =
+    c.is_ok.ensures.value
+    ∙ ok_is c.from_utf8.result (is_utf8 c.args.bytes.now) _ _ c.from_utf8.ensures.cases
+    (λ s h. utf8_yes c.args.bytes.now h.1) (λ e h. utf8_no c.args.bytes.now h.0)

@@ -1,0 +1,8 @@
+use Rattle.std.proofs.Common.{◌≡◌, rules, arith}
+use Rattle.djq_mirror.proofs.Parting.{first_part}
+use Rattle.djq_mirror.proofs.parts.Parts.next.Goals as goal
+
+pub returns : goal.returns
+returns c =
+    let first = first_part c.self.inside.sign c.in_ok-bytes.bytes.now in
+    first_of (cc, grind (arith, first), search (rules, first))

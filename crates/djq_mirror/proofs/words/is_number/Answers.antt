@@ -1,0 +1,6 @@
+use Rattle.std.proofs.Common.{◌∙◌}
+use Rattle.djq_mirror.proofs.Numerals.{number_read}
+use Rattle.djq_mirror.proofs.words.is_number.Goals as goal
+
+pub returns-in-Some : goal.returns-in-Some
+returns-in-Some c = c.is_decimal.ensures ∙ number_read c.args.word.now c.in-Some.number c.in-Some.ensures

@@ -1,0 +1,33 @@
+-- How bytes are cut at a sign.
+use Rattle.std.specs.Prelude.{ℕ, List, [], ◌∷◌, ◌==◌, ◌≡◌, Option, None, Some, if◌then◌else◌}
+use Rattle.std.specs.Borrow.{Bor}
+use Rattle.djq_model.specs.Data.{Bytes}
+
+-- the bytes before the first sign, or all
+abbrev pub before : ℕ → Bytes → Bytes
+before sign [] = []
+before sign (b ∷ bs) = if b == sign then [] else b ∷ before sign bs
+
+-- the bytes behind the first sign, where there is one
+abbrev pub behind : ℕ → Bytes → Option Bytes
+behind sign [] = None
+behind sign (b ∷ bs) = if b == sign then Some bs else behind sign bs
+
+abbrev pub with_first : ℕ → List Bytes → List Bytes
+with_first b [] = (b ∷ []) ∷ []
+with_first b (p ∷ ps) = (b ∷ p) ∷ ps
+
+-- the parts between the signs, of which there is one at least
+abbrev pub parts : ℕ → Bytes → List Bytes
+parts sign [] = [] ∷ []
+parts sign (b ∷ bs) = if b == sign then [] ∷ parts sign bs else with_first b (parts sign bs)
+
+-- the parts behind a sign, or none where there is no sign
+abbrev pub parts_left : ℕ → Option Bytes → List Bytes
+parts_left sign None = []
+parts_left sign (Some bs) = parts sign bs
+
+-- The first part is taken from those that are left; none is given where none is left.
+abbrev pub TakesPart : List Bytes → Option (Bor Bytes) → List Bytes → Type 0
+TakesPart old None new = (old ≡ []) × (new ≡ [])
+TakesPart old (Some p) new = old ≡ p.now ∷ new

@@ -1,0 +1,193 @@
+// Lines that tell nothing of a listing or of a query, by their words.
+ghost use Rattle.std.specs.Prelude.{◌≡◌, ◌||◌, codes};
+ghost use Rattle.std.specs.List.{list_all};
+ghost use Rattle.djq_model.specs.Data.{bytes_eq};
+ghost use Rattle.djq_mirror.specs.Reading.{is_counted as is_counted_of, is_edge_word};
+ghost use Rattle.djq_mirror.specs.Reading.{is_fixed as is_fixed_of, is_label_end};
+ghost use Rattle.djq_mirror.specs.Reading.{is_meet_told, is_node_kind, is_node_told};
+ghost use Rattle.djq_mirror.specs.Reading.{is_rest_told, is_trim_told, is_leaf_told};
+ghost use Rattle.djq_mirror.specs.Reading.{is_worded as is_worded_of};
+
+use crate::parts::Parts;
+use crate::words::{is_edge, is_label, is_number};
+use djq_value::{is_name, is_text};
+
+// Whether a line is one of those that are always the same.
+pub(crate) fn is_fixed(line: &[u8]) -> bool
+    ensures { result ≡ is_fixed_of line.now }
+{
+    let lines: [&[u8]; 25] = [
+        b"ok",
+        b"yes",
+        b"no",
+        b"flat",
+        b"linear",
+        b"bye",
+        b"end long",
+        b"end slow",
+        b"end memory",
+        b"end full",
+        b"err 1 syntax",
+        b"err 2 taken",
+        b"err 3 no relation",
+        b"err 4 no query",
+        b"err 5 no cursor",
+        b"err 6 arity",
+        b"err 7 type",
+        b"err 8 head unbound",
+        b"err 9 head repeated",
+        b"err 10 variable type",
+        b"err 11 limit",
+        b"err 12 memory",
+        b"err 13 cut",
+        b"err 14 in use",
+        b"err 16 unbound",
+    ];
+    lines.contains(&line)
+}
+
+// Whether a line tells nothing, by its first word and those behind it.
+pub(crate) fn is_worded(first: &[u8], words: &mut Parts<'_>) -> bool
+    ensures { result ≡ is_worded_of first.now words.old }
+{
+    if is_text(first, b"ok") {
+        is_counted(words)
+    } else if is_text(first, b"no") {
+        is_rest(words)
+    } else if is_text(first, b"n") {
+        is_node(words)
+    } else {
+        false
+    }
+}
+
+// Whether words are those behind `ok` where numbers are told.
+fn is_counted(words: &mut Parts<'_>) -> bool
+    ensures { result ≡ is_counted_of words.old }
+{
+    let Some(word) = words.next() else {
+        return false;
+    };
+    let Some(first) = words.next() else {
+        return false;
+    };
+    match words.next() {
+        None => has_one(word) && is_number(first),
+        Some(second) => {
+            let last = words.next().is_none();
+            last && has_two(word) && is_number(first) && is_number(second)
+        }
+    }
+}
+
+// Whether one number is told behind a word.
+fn has_one(word: &[u8]) -> bool
+    ensures { result ≡ (bytes_eq word.now (codes "absent") || bytes_eq word.now (codes "query")
+        || bytes_eq word.now (codes "watch")) }
+{
+    is_text(word, b"absent") || is_text(word, b"query") || is_text(word, b"watch")
+}
+
+// Whether two numbers are.
+fn has_two(word: &[u8]) -> bool
+    ensures { result ≡ (bytes_eq word.now (codes "added") || bytes_eq word.now (codes "removed")) }
+{
+    is_text(word, b"added") || is_text(word, b"removed")
+}
+
+// Whether words are those behind `no` where a rest is told.
+fn is_rest(words: &mut Parts<'_>) -> bool
+    ensures { result ≡ is_rest_told words.old }
+{
+    let Some(word) = words.next() else {
+        return false;
+    };
+    let Some(edge) = words.next() else {
+        return false;
+    };
+    let told = is_text(word, b"cyclic") || is_text(word, b"connex");
+    told && is_edge(edge) && are_edges(words)
+}
+
+// Whether all words that are left are edges.
+fn are_edges(words: &mut Parts<'_>) -> bool
+    ensures { result ≡ list_all is_edge_word words.old }
+{
+    'words: while let Some(word) = words.next() {
+        if !is_edge(word) {
+            return false;
+        }
+    }
+    true
+}
+
+// Whether words are those behind `n`, where a node of a tree is told.
+fn is_node(words: &mut Parts<'_>) -> bool
+    ensures { result ≡ is_node_told words.old }
+{
+    match words.next() {
+        Some(number) => is_number(number) && is_kind(words),
+        None => false,
+    }
+}
+
+// Whether words are those behind a node's number.
+fn is_kind(words: &mut Parts<'_>) -> bool
+    ensures { result ≡ is_node_kind words.old }
+{
+    let Some(kind) = words.next() else {
+        return false;
+    };
+    if is_text(kind, b"leaf") {
+        is_leaf(words)
+    } else if is_text(kind, b"trim") {
+        is_trim(words)
+    } else if is_text(kind, b"meet") {
+        is_meet(words)
+    } else {
+        false
+    }
+}
+
+fn is_leaf(words: &mut Parts<'_>) -> bool
+    ensures { result ≡ is_leaf_told words.old }
+{
+    match words.next() {
+        Some(relation) => is_name(relation) && is_labelled(words),
+        None => false,
+    }
+}
+
+fn is_trim(words: &mut Parts<'_>) -> bool
+    ensures { result ≡ is_trim_told words.old }
+{
+    match words.next() {
+        Some(child) => is_number(child) && is_labelled(words),
+        None => false,
+    }
+}
+
+fn is_meet(words: &mut Parts<'_>) -> bool
+    ensures { result ≡ is_meet_told words.old }
+{
+    match words.next() {
+        Some(guard) => is_number(guard) && is_trim(words),
+        None => false,
+    }
+}
+
+// Whether words are a label, and `out` or nothing behind it.
+fn is_labelled(words: &mut Parts<'_>) -> bool
+    ensures { result ≡ is_label_end words.old }
+{
+    let Some(label) = words.next() else {
+        return false;
+    };
+    match words.next() {
+        None => is_label(label),
+        Some(out) => {
+            let last = words.next().is_none();
+            last && is_label(label) && is_text(out, b"out")
+        }
+    }
+}

@@ -1,0 +1,57 @@
+// The answers that are held, by their texts in byte order.
+ghost use Rattle.std.specs.Prelude.{◌≡◌, map};
+ghost use Rattle.djq_mirror.specs.Acting.{Acts, texts_of};
+ghost use Rattle.djq_mirror.specs.Mirror.{put, take_out as take_out_of};
+ghost use Rattle.djq_mirror.specs.Reading.{act_by};
+
+use crate::mirror::MirrorRefusal;
+use crate::turn::Act;
+use std::alloc::Global;
+use std::collections::BTreeSet;
+
+// The texts of answers.
+pub(crate) type Texts = BTreeSet<Vec<u8>>;
+
+// Does this to the texts. After a refusal they are as before.
+pub(crate) fn act_on(alloc: Global, texts: &mut Texts, act: Act<'_>) -> Result<(), MirrorRefusal>
+    ensures { Acts (texts_of texts.old) (act_by act.entry) result (texts_of texts.new) }
+{
+    match act {
+        Act::Keep => Ok(()),
+        Act::Clear => {
+            texts.clear();
+            Ok(())
+        }
+        Act::Put(text) => put_in(alloc, texts, text),
+        Act::TakeOut(text) => take_out(texts, text),
+    }
+}
+
+// Puts a text in that isn't there.
+fn put_in(alloc: Global, texts: &mut Texts, text: &[u8]) -> Result<(), MirrorRefusal>
+    ensures { Acts (texts_of texts.old) (put text.now) result (texts_of texts.new) }
+{
+    if texts.contains(text) {
+        return Err(MirrorRefusal::Outside);
+    }
+    let Ok(owned) = Vec::from_slice(alloc, text) else {
+        return Err(MirrorRefusal::NoMem);
+    };
+    let Ok(_added) = texts.insert(owned) else {
+        return Err(MirrorRefusal::NoMem);
+    };
+    Ok(())
+}
+
+// Takes a text out that is there.
+fn take_out(texts: &mut Texts, text: &[u8]) -> Result<(), MirrorRefusal>
+    ensures { Acts (texts_of texts.old) (take_out_of text.now) result (texts_of texts.new) }
+{
+    // that the texts stand in order
+    let _count = texts.len();
+    if texts.remove(text) {
+        Ok(())
+    } else {
+        Err(MirrorRefusal::Outside)
+    }
+}
