@@ -13,3 +13,4 @@ mod Having
 mod Mirrored
 mod Waiting
 mod Lines
+mod Holding

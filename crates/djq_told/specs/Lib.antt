@@ -1,4 +1,4 @@
 pub mod Sayable
 pub mod Told
-pub mod Mirrored
 pub mod Lines
+pub mod Mirrored

@@ -7,7 +7,8 @@ use Rattle.djq_lines.specs.declared.command.Command.{Command}
 use Rattle.djq_lines.specs.declared.command.Command.TheVariants.{Rel, Add, Del, Query as Register, Open, Next, Close, Explain}
 use Rattle.djq_lines.specs.Grammar.{Reading, says as says_command, reading_of}
 use Rattle.djq_mirror.specs.declared.mode.Mode.TheVariants.{Live}
-use Rattle.djq_mirror.specs.Replies.{Reply}
+use Rattle.djq_mirror.specs.Inputs.{IsHeld}
+use Rattle.djq_mirror.specs.Replies.{Reply, IsPrinted}
 use Rattle.djq_mirror.specs.Mirror.{Held, at_first, turn_of, allows, has_text, IsInOrder, Turned}
 use Rattle.djq_machine.specs.State.{State, Session, session_of}
 use Rattle.djq_machine.specs.LineStep.{run}
@@ -18,6 +19,7 @@ use Rattle.djq_laws.specs.Sound.{IsSoundState, IsStart}
 use Rattle.djq_laws.specs.Staying.{GoesOn}
 use Rattle.djq_laws.specs.Watched.{WatchesAlong}
 use Rattle.djq_told.specs.Sayable.{IsSayableStore, IsSayableState}
+use Rattle.djq_told.specs.Lines.{HasFewCells}
 use Rattle.djq_told.specs.Told.{replies_text}
 
 -- Replies, one after the other, are allowed in a mirror of the query of a name, and this is held
@@ -143,3 +145,9 @@ abbrev pub EndsAreMirrored : Type 0
 EndsAreMirrored = (q : Listed) (s : ℕ) (done : List Did) (new : State) → IsMirrored q s done new
     → (d : Did) (last : State) → Step new d.event d.effect last → EndsNow s d.event
     → IsMirrored q s (done ++ d ∷ []) new
+
+-- Where these replies are printed, and none is a rest or explains a tree, the mirror's whole input
+-- comes to what it holds: none of its bytes is refused.
+abbrev pub MirroredAreHeld : Type 0
+MirroredAreHeld = (q : Listed) (s : ℕ) (done : List Did) (at : State) (m : IsMirrored q s done at)
+    → All (λ r. IsPrinted r × HasFewCells r) m.replies → IsHeld (listed_name q) (out s done) m.held

@@ -1,3 +1,4 @@
+use Rattle.djq_told.proofs.Holding.{mirrored_are_held}
 use Rattle.djq_told.proofs.Mirrored.{watchers_are_mirrored}
 use Rattle.djq_told.proofs.Waiting.{readers_are_mirrored, starts_are_mirrored, ends_are_mirrored}
 use Rattle.djq_told.proofs.readers_are_mirrored.Goals as goal
@@ -13,3 +14,6 @@ returns-clause-ended c = ends_are_mirrored
 
 pub returns-clause-started : goal.returns-clause-started
 returns-clause-started c = starts_are_mirrored
+
+pub returns-clause-held : goal.returns-clause-held
+returns-clause-held c = mirrored_are_held
