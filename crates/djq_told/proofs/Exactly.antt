@@ -1,33 +1,21 @@
 -- A session that watches a query is told its deltas, and no other line of these forms.
-use Rattle.std.specs.Prelude.{ℕ, List, [], ◌∷◌, ◌++◌, ◌==◌, ◌≡◌, ◌≢◌, ◌<◌, ◌≤◌, ◌+◌, ◌⊎◌, ◌&&◌, Bool, true, false, not, cond, filter, Option, None, Some, is_some, IsSomeAnd, option_map, map, Result, Ok, Err, All, AllPairs, Contains}
-use Rattle.std.specs.List.{list_any, flat_map}
-use Rattle.std.proofs.Common.{refl, sym, ap, ap₂, ◌∙◌, subst, inl, inr, arith, append_assoc, append-nil}
-use Rattle.std.proofs.lemmas.Bool.{eqb-true, eq-eqb, ne_eqb}
-use Rattle.std.proofs.lemmas.Grind.{flat_map-append}
-use Rattle.std.proofs.lemmas.List.Elements.{All-nil, All-cons, All-head, All-tail, All-append, All-contains, All-weaker, filter-append}
+use Rattle.std.specs.Prelude.{ℕ, List, [], ◌∷◌, ◌++◌, ◌==◌, ◌≡◌, ◌≢◌, ◌⊎◌, ◌&&◌, Bool, true, false, cond, filter, Some, map, All, AllPairs, Contains}
+use Rattle.std.specs.List.{list_any}
+use Rattle.std.proofs.Common.{refl, sym, ap, ap₂, ◌∙◌, subst, inl, inr, arith, append-nil}
+use Rattle.std.proofs.lemmas.List.Elements.{All-nil, All-cons, All-head, All-tail, All-contains, All-weaker, filter-append}
 use Rattle.std.proofs.lemmas.List.Kept.{AllPairs-cons, AllPairs-filter}
 use Rattle.djq_model.specs.declared.relation.Relation.{Relation}
-use Rattle.djq_model.specs.Data.{Bytes, Tuple, bytes_eq}
+use Rattle.djq_model.specs.Data.{Bytes, bytes_eq}
 use Rattle.djq_model.specs.Equality.{bytes_eq-decides}
-use Rattle.djq_model.specs.Answer.{IsListing}
 use Rattle.djq_model.specs.Listed.{Listed, listed_name, AnswersOf, listed_of}
-use Rattle.djq_lines.specs.declared.answer.Sign.{Sign}
-use Rattle.djq_lines.specs.declared.answer.Sign.TheVariants.{Came, Went}
-use Rattle.djq_mirror.specs.Replies.{Reply, changed as changes_answer, counted, reply_text}
-use Rattle.djq_machine.specs.State.{Store, State, Session, session_of, with_session, ids_of}
-use Rattle.djq_machine.specs.Delta.{Change, HasChanged, IsDelta}
+use Rattle.djq_mirror.specs.Replies.{Reply, changed as changes_answer, counted}
+use Rattle.djq_machine.specs.State.{State, Session, session_of}
+use Rattle.djq_machine.specs.Delta.{Change, IsDelta}
 use Rattle.djq_machine.specs.Changes.{RowsChange, is_outdated}
-use Rattle.djq_machine.specs.Run.{to_session}
 use Rattle.djq_machine.specs.Watch.{is_watching, affected, Delta, AreDeltas}
-use Rattle.djq_machine.specs.LineStep.{behind_line}
 use Rattle.djq_deltas.proofs.Lists.{nothing_there, first_or_later, first_there, later_there, kept_there, mapped_there, hold_each, pairs_head, pairs_tail}
-use Rattle.djq_laws.specs.Sound.{AreApart}
-use Rattle.djq_laws.specs.Watched.{Told}
-use Rattle.djq_laws.proofs.Answering.{SameAnswers}
-use Rattle.djq_laws.proofs.Containing.{found_there, found_passes, any_there, mapped_from}
-use Rattle.djq_laws.proofs.Finding.{some_and}
-use Rattle.djq_laws.proofs.Queueing.{session_changed, session_other}
-use Rattle.djq_told.specs.Told.{replies_text, is_told_of, delta_replies}
+use Rattle.djq_laws.proofs.Containing.{found_there, any_there, mapped_from}
+use Rattle.djq_told.specs.Told.{is_told_of, delta_replies}
 use Rattle.djq_told.proofs.Hearing.{heard, all_heard}
 
 -- ---- lists

@@ -1,16 +1,13 @@
 -- What the cursors of one session have, along steps in which it opens and reads none.
-use Rattle.std.specs.Prelude.{ℕ, suc, List, [], ◌∷◌, ◌==◌, ◌≡◌, ◌<◌, ◌≤◌, ◌++◌, ◌⊎◌, Bool, true, false, not, cond, length, filter, find, Option, None, Some, MatchOption, IsSomeAnd, option_map, map, All}
+use Rattle.std.specs.Prelude.{ℕ, List, [], ◌∷◌, ◌==◌, ◌≡◌, ◌<◌, ◌≤◌, ◌++◌, ◌⊎◌, Bool, true, false, not, cond, length, filter, find, Option, None, Some, MatchOption, option_map, map, All}
 use Rattle.std.proofs.Common.{refl, sym, ap, ◌∙◌, subst, inl, inr, arith}
 use Rattle.std.proofs.lemmas.Bool.{eqb-true, eq-eqb}
 use Rattle.std.proofs.lemmas.List.{length-map}
 use Rattle.std.proofs.lemmas.List.Elements.{All-nil}
 use Rattle.djq_model.specs.Data.{Bytes, Tuple, bytes_eq, drop_first}
-use Rattle.djq_model.specs.Listed.{Listed}
 use Rattle.djq_lines.specs.declared.limits.TheConstants.{SESSIONS}
 use Rattle.djq_lines.specs.declared.answer.EndCause.{EndCause}
 use Rattle.djq_lines.specs.declared.answer.EndCause.TheVariants.{Input, Memory}
-use Rattle.djq_lines.specs.declared.command.Command.{Command}
-use Rattle.djq_lines.specs.declared.command.Command.TheVariants.{Rel, Add, Del, Query as Register, Drop, Open, Next, Close, Has as Asks, Watch, Unwatch, Explain, Shape, Quit, Stop}
 use Rattle.djq_lines.specs.Grammar.{Reading, outside, past_limit, says as says_command, reading_of}
 use Rattle.djq_lines.specs.Reply.{end_memory}
 use Rattle.djq_machine.specs.State.{Store, State, Session, Cursor, Position, open_at, stale, fresh, session_of, with_session, ended_by}
@@ -18,7 +15,7 @@ use Rattle.djq_machine.specs.Stale.{outdated, outdater_of, outdated_cursor}
 use Rattle.djq_machine.specs.Changes.{RowsChange, RowsOutcome, tried, changed}
 use Rattle.djq_machine.specs.Watch.{Telling, ChangeStep}
 use Rattle.djq_machine.specs.Effect.{Effect, nothing, EndsWith, queue, queue_all}
-use Rattle.djq_machine.specs.Command.{CommandStep, with_watch, without_watch}
+use Rattle.djq_machine.specs.Command.{with_watch, without_watch}
 use Rattle.djq_machine.specs.LineStep.{LineOutcome, long, blank, slow, no_room, run, ReadStep, FrontStep, behind_line}
 use Rattle.djq_machine.specs.Step.{Event, opened, fed, stepped, took, ended, closed, FedStep, TookStep, EndedStep, Acts, with_relations, Step}
 use Rattle.djq_laws.specs.Form.{form_of, Form, asking, storing, turning, changing, ending, Turn, opens_cursor, moves_cursor, closes_cursor, starts_watching, stops_watching, Replied, is_whole, is_cut, without_cursor, Turned, DoesTurn, is_turned, is_refused, Does}

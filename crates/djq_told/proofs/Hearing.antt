@@ -1,19 +1,17 @@
 -- What a change of rows tells one session that goes on: the deltas of the queries that it watches,
 -- in order, and then the reply where the change was its own.
-use Rattle.std.specs.Prelude.{ℕ, List, [], ◌∷◌, ◌==◌, ◌≡◌, ◌<◌, ◌≤◌, ◌⊎◌, ◌++◌, Bool, true, false, cond, length, Option, None, Some, is_some, IsSome, IsSomeAnd, MatchOption, option_map, find, map, All, AllPairs, Contains}
+use Rattle.std.specs.Prelude.{ℕ, List, [], ◌∷◌, ◌==◌, ◌≡◌, ◌<◌, ◌⊎◌, ◌++◌, Bool, true, false, cond, Option, None, Some, MatchOption, option_map, find, map, All, AllPairs, Contains}
 use Rattle.std.specs.List.{list_any, flat_map}
 use Rattle.std.proofs.Common.{refl, sym, ap, ap₂, ◌∙◌, subst, inl, inr, arith, append_assoc, append-nil}
 use Rattle.std.proofs.lemmas.Bool.{eqb-true, eq-eqb, ne_eqb}
 use Rattle.std.proofs.lemmas.Grind.{flat_map-append}
-use Rattle.std.proofs.lemmas.List.Elements.{All-nil, All-cons, All-head, All-tail, All-contains, All-weaker}
-use Rattle.djq_model.specs.declared.relation.Relation.{Relation}
+use Rattle.std.proofs.lemmas.List.Elements.{All-head, All-tail, All-contains, All-weaker}
 use Rattle.djq_model.specs.Data.{Bytes, bytes_eq, change_first}
-use Rattle.djq_model.specs.Listed.{Listed, listed_name}
-use Rattle.djq_lines.specs.declared.limits.TheConstants.{PENDING_BYTES}
+use Rattle.djq_model.specs.Listed.{listed_name}
 use Rattle.djq_lines.specs.declared.answer.EndCause.{EndCause}
 use Rattle.djq_lines.specs.declared.answer.EndCause.TheVariants.{Slow, Memory}
 use Rattle.djq_lines.specs.Reply.{text_of, end_slow, end_memory}
-use Rattle.djq_mirror.specs.Replies.{Reply, changed as changes_answer, counted, reply_text}
+use Rattle.djq_mirror.specs.Replies.{Reply, changed as changes_answer, reply_text}
 use Rattle.djq_machine.specs.State.{Store, State, Session, session_of, with_session, ended_by, ids_of}
 use Rattle.djq_machine.specs.Effect.{Effect, queue_all}
 use Rattle.djq_machine.specs.Delta.{Change, change_lines, delta_lines}
@@ -21,11 +19,9 @@ use Rattle.djq_machine.specs.Stale.{outdated_cursor}
 use Rattle.djq_machine.specs.Changes.{RowsChange, RowsOutcome, is_accepted, tried, changed}
 use Rattle.djq_machine.specs.Run.{Walk, to_session}
 use Rattle.djq_machine.specs.Call.{IsOpen, cause_of, cause_in}
-use Rattle.djq_machine.specs.Watch.{is_watching, Delta, Telling, says_more, ends_more, watching, watcher_of, TellsWatcher, TellsSession, TellsDelta, RepliesLast, ChangeStep}
-use Rattle.djq_machine.proofs.Walks.{walk_keeps}
+use Rattle.djq_machine.specs.Watch.{Delta, Telling, says_more, ends_more, watching, watcher_of, TellsWatcher, TellsSession, TellsDelta, RepliesLast, ChangeStep}
 use Rattle.djq_deltas.proofs.Lists.{nothing_there, first_or_later, mapped_there, pairs_head, pairs_tail}
 use Rattle.djq_laws.specs.Moved.{EndsByRun}
-use Rattle.djq_laws.specs.Watched.{Told}
 use Rattle.djq_laws.proofs.Finding.{some_and}
 use Rattle.djq_laws.proofs.Queueing.{gaining, session_changed, session_other, queued_all}
 use Rattle.djq_laws.proofs.Telling.{IsOver, over_stays}

@@ -1,5 +1,5 @@
 -- A mirror takes printed replies line by line.
-use Rattle.std.specs.Prelude.{List, [], ◌∷◌, ◌++◌, ◌≡◌, true, All}
+use Rattle.std.specs.Prelude.{List, [], ◌∷◌, ◌++◌, ◌≡◌, All}
 use Rattle.std.proofs.Common.{refl, sym, ap₂, ◌∙◌}
 use Rattle.std.proofs.lemmas.List.Elements.{All-head, All-tail}
 use Rattle.djq_model.specs.Data.{Bytes}
@@ -8,7 +8,7 @@ use Rattle.djq_mirror.specs.Inputs.{lines_text, FollowsAll}
 use Rattle.djq_mirror.specs.Mirror.{Held, at_first}
 use Rattle.djq_mirror.specs.Replies.{Reply, IsPrinted}
 use Rattle.djq_told.specs.Lines.{HasFewCells}
-use Rattle.djq_told.specs.Mirrored.{Passes, IsMirrored, MirroredAreHeld}
+use Rattle.djq_told.specs.Mirrored.{Passes, MirroredAreHeld}
 use Rattle.djq_told.specs.Told.{replies_text}
 use Rattle.djq_told.proofs.Lines.{printed_are_lines}
 

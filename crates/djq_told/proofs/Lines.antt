@@ -1,20 +1,18 @@
 -- Printed replies are lines of their own.
-use Rattle.std.specs.Prelude.{ℕ, ℤ, pos, negsuc, suc, zero, List, [], ◌∷◌, ◌++◌, ◌==◌, ◌≡◌, ◌≢◌, ◌<◌, ◌≤◌, ◌+◌, ◌*◌, ◌^◌, ◌⊎◌, ◌&&◌, ◌||◌, Bool, true, false, not, cond, length, map, codes, decimal, All}
+use Rattle.std.specs.Prelude.{ℕ, pos, negsuc, suc, zero, List, [], ◌∷◌, ◌++◌, ◌==◌, ◌≡◌, ◌≢◌, ◌≤◌, ◌+◌, ◌*◌, ◌&&◌, ◌||◌, Bool, true, false, not, cond, length, map, codes, decimal}
 use Rattle.std.specs.List.{list_all, flat_map}
-use Rattle.std.specs.Fmt.{signed_decimal}
 use Rattle.std.specs.Int.Digits.{digits_of}
-use Rattle.std.proofs.Common.{refl, sym, ap, ap₂, ◌∙◌, subst, inl, inr, arith}
-use Rattle.std.proofs.lemmas.Bool.{and_parts, eqb-true, leb-true}
+use Rattle.std.proofs.Common.{refl, sym, ap, ◌∙◌, subst, arith}
+use Rattle.std.proofs.lemmas.Bool.{and_parts, leb-true}
 use Rattle.std.proofs.lemmas.Fmt.{decimal-digits_of, decimal_digit, length-decimal-le}
 use Rattle.std.proofs.lemmas.List.{length-append}
-use Rattle.std.proofs.lemmas.List.Elements.{All-nil, All-cons, All-append, All-head, All-tail}
+use Rattle.std.proofs.lemmas.List.Elements.{All-nil, All-cons, All-append}
 use Rattle.djq_model.specs.declared.value.Value.{Value}
 use Rattle.djq_model.specs.declared.value.Value.TheVariants.{Int, Text}
 use Rattle.djq_model.specs.declared.value.TheConstants.{TEXT_BYTES}
 use Rattle.djq_model.specs.Data.{Bytes, Tuple}
-use Rattle.djq_value.specs.Literal.{is_lower, is_digit, is_name, is_small, is_small_value}
-use Rattle.djq_value.specs.ValueText.{escaped, quoted, value_text}
-use Rattle.djq_lines.specs.declared.limits.TheConstants.{HEAD_VARIABLES}
+use Rattle.djq_value.specs.Literal.{is_lower, is_digit, is_name, is_small_value}
+use Rattle.djq_value.specs.ValueText.{escaped, value_text}
 use Rattle.djq_lines.specs.declared.answer.EndLine.TheVariants.{Long, Slow, Memory, Full}
 use Rattle.djq_lines.specs.declared.answer.Shape.TheVariants.{Flat, Linear}
 use Rattle.djq_lines.specs.declared.answer.Sign.{Sign}
@@ -23,8 +21,8 @@ use Rattle.djq_lines.specs.declared.answer.Refusal.TheVariants.{Syntax, Taken, N
 use Rattle.djq_lines.specs.Reply.{line, cells_text, sign_text}
 use Rattle.djq_mirror.specs.declared.mode.TheConstants.{REPLY_LINE_BYTES}
 use Rattle.djq_mirror.specs.Inputs.{HasNoLf}
-use Rattle.djq_mirror.specs.Replies.{Reply, done, opened, added, removed, absent, registered, cyclic, not_connex, answer, more, last, stale, had, shaped, watched, changed, counted, explained, refused, ended, cut, bye, reply_text, IsNumber, is_cell, are_cells, IsPrinted}
-use Rattle.djq_told.specs.Lines.{HasFewCells, IsTheLine, PrintedAreLines}
+use Rattle.djq_mirror.specs.Replies.{Reply, done, opened, added, removed, absent, registered, cyclic, not_connex, answer, more, last, stale, had, shaped, watched, changed, counted, explained, refused, ended, cut, bye, reply_text, IsNumber, is_cell, are_cells}
+use Rattle.djq_told.specs.Lines.{IsTheLine, PrintedAreLines}
 
 -- ---- no LF
 

@@ -1,40 +1,35 @@
 -- What a session is sent that watches a query and reads it through one cursor at a time, a mirror of
 -- the query takes, step by step.
-use Rattle.std.specs.Prelude.{ℕ, suc, List, [], ◌∷◌, ◌++◌, ◌==◌, ◌≡◌, ◌<◌, ◌≤◌, ◌⊎◌, ◌&&◌, Bool, true, false, not, cond, length, filter, find, Option, None, Some, is_some, is_none, IsSome, IsSomeAnd, MatchOption, option_map, nat_le, map, Result, Ok, Err, codes, All, Contains, ⊤}
+use Rattle.std.specs.Prelude.{ℕ, List, [], ◌∷◌, ◌++◌, ◌==◌, ◌≡◌, ◌≤◌, ◌&&◌, Bool, true, false, not, cond, length, filter, find, Option, None, Some, is_some, is_none, IsSomeAnd, MatchOption, option_map, nat_le, map, Result, Ok, Err, codes, All, Contains, ⊤}
 use Rattle.std.proofs.Common.{refl, sym, ap, ap₂, ◌∙◌, subst, inl, inr, arith, append-nil}
 use Rattle.std.proofs.lemmas.Bool.{eqb-true, eq-eqb, and_parts}
-use Rattle.std.proofs.lemmas.List.Elements.{All-nil, All-cons, All-head, All-tail, All-append, All-contains, All-weaker}
-use Rattle.djq_model.specs.declared.relation.Relation.{Relation}
+use Rattle.std.proofs.lemmas.List.Elements.{All-nil, All-cons, All-head, All-append, All-contains, All-weaker}
 use Rattle.djq_model.specs.Data.{Bytes, Tuple, bytes_eq}
 use Rattle.djq_model.specs.Equality.{bytes_eq-decides}
 use Rattle.djq_model.specs.Answer.{AreDifferent}
 use Rattle.djq_model.specs.Listed.{Listed, listed_name, AnswersOf, listed_of}
 use Rattle.djq_lines.specs.Conditions.{first_of, Answers, OutOfMemoryWhere}
 use Rattle.djq_lines.specs.declared.limits.TheConstants.{CURSORS}
-use Rattle.djq_lines.specs.declared.answer.EndCause.{EndCause}
 use Rattle.djq_lines.specs.declared.answer.EndCause.TheVariants.{Memory}
 use Rattle.djq_lines.specs.declared.answer.Refusal.{Refusal}
 use Rattle.djq_lines.specs.declared.answer.Refusal.TheVariants.{Taken, NoQuery, NoCursor, Limit, NoMemory}
 use Rattle.djq_lines.specs.declared.command.Command.{Command}
-use Rattle.djq_lines.specs.declared.command.Command.TheVariants.{Rel, Add, Del, Query as Register, Drop, Open, Next, Close, Has as Asks, Watch, Unwatch, Explain, Shape, Quit, Stop}
+use Rattle.djq_lines.specs.declared.command.Command.TheVariants.{Open, Next, Explain}
 use Rattle.djq_lines.specs.Grammar.{Reading, outside, past_limit, says as says_command, reading_of}
 use Rattle.djq_lines.specs.Reply.{ok_reply, refusal_line, text_of, listing_lines}
-use Rattle.djq_mirror.specs.declared.mode.Mode.{Mode}
 use Rattle.djq_mirror.specs.declared.mode.Mode.TheVariants.{Idle, Listing, Live}
 use Rattle.djq_mirror.specs.Replies.{Reply, opened as cursor_opened, answer, more as more_line, last as last_line, stale as gone_stale, refused, reply_text}
 use Rattle.djq_mirror.specs.Mirror.{Held, at_first, keep, turn_of}
-use Rattle.djq_machine.specs.State.{Store, State, Session, Cursor, Position, open_at, stale, session_of, with_session, cursor_of, with_position, ended_by}
+use Rattle.djq_machine.specs.State.{State, Session, Cursor, Position, open_at, stale, session_of, with_session, cursor_of, with_position, ended_by}
 use Rattle.djq_machine.specs.Effect.{Effect, says, RefusedStep}
-use Rattle.djq_machine.specs.Store.{TellsAnswers}
 use Rattle.djq_machine.specs.Watch.{is_watching}
 use Rattle.djq_machine.specs.Gives.{Gives, PositionGives, CursorsGive}
 use Rattle.djq_machine.specs.Command.{open_refusal, with_cursor, OpensTo, OpenStep, NextStep, NextStepAt}
-use Rattle.djq_machine.specs.LineStep.{LineOutcome, long, blank, slow, no_room, run, ReadStep, FrontStep, behind_line}
+use Rattle.djq_machine.specs.LineStep.{long, blank, slow, no_room, run, ReadStep, FrontStep, behind_line}
 use Rattle.djq_machine.specs.Step.{Event, opened, fed, stepped, took, ended, closed, Acts, Step}
 use Rattle.djq_machine.specs.Run.{Did, to_session, out}
 use Rattle.djq_machine.specs.Call.{cause_of, cause_in}
 use Rattle.djq_deltas.proofs.Deciding.{answers_are_decided}
-use Rattle.djq_deltas.proofs.Lists.{nothing_there, first_there}
 use Rattle.djq_laws.specs.Sound.{IsSoundState}
 use Rattle.djq_laws.specs.Watched.{IsWatcher, WatchesAlong, event_changes, line_outdater}
 use Rattle.djq_laws.proofs.Answering.{SameAnswers}
@@ -47,8 +42,8 @@ use Rattle.djq_laws.proofs.Sounding.{step_sound}
 use Rattle.djq_laws.proofs.Touching.{said}
 use Rattle.djq_told.specs.Sayable.{IsSayableRow, IsSayableListed, IsSayableState}
 use Rattle.djq_told.specs.Told.{replies_text, is_told_of}
-use Rattle.djq_told.specs.Mirrored.{Passes, Shows, MayBeSaid, MayBeRead, ReadsOnly, ReadsAlong, IsMirrored, WatchersAreMirrored}
-use Rattle.djq_told.proofs.Having.{OpenHas, CursorHas, HasFew, Has, IsCalm, ReadsCalm, EventCalm, has_line, has_behind, has_step}
+use Rattle.djq_told.specs.Mirrored.{Passes, Shows, MayBeSaid, MayBeRead, ReadsOnly, ReadsAlong, WatchersAreMirrored}
+use Rattle.djq_told.proofs.Having.{OpenHas, CursorHas, HasFew, Has, ReadsCalm, EventCalm, has_line, has_behind, has_step}
 use Rattle.djq_told.proofs.Hearing.{text_append}
 use Rattle.djq_told.proofs.Mirroring.{passes_then, stays, passes_told, idle_with, delta_idles, shows_same, delta_shown, not_before, Behind, answers_shown, answers_idle, opened_shown, stale_idles, more_stays, last_stays, last_lives, shows_with}
 use Rattle.djq_told.proofs.Replying.{IsHarmless, harmless_form, last_reply, listing_text, talks}

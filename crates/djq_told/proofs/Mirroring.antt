@@ -1,13 +1,11 @@
 -- What replies make of what a mirror holds.
-use Rattle.std.specs.Prelude.{ℕ, List, [], ◌∷◌, ◌++◌, ◌≡◌, ◌≢◌, ◌⊎◌, ◌&&◌, ◌||◌, Bool, true, false, not, cond, filter, Option, Some, map, All, AllPairs, Contains}
-use Rattle.std.specs.List.{list_any, flat_map}
+use Rattle.std.specs.Prelude.{ℕ, List, [], ◌∷◌, ◌++◌, ◌≡◌, ◌⊎◌, ◌&&◌, ◌||◌, Bool, true, false, not, cond, filter, Some, map, All, Contains}
 use Rattle.std.proofs.Common.{refl, sym, ap, ap₂, ◌∙◌, subst, inl, inr, append-nil, append_assoc}
 use Rattle.std.proofs.lemmas.List.Elements.{All-nil, All-cons, All-head, All-tail, All-append, All-contains, Contains-append_left, Contains-append_right}
 use Rattle.djq_model.specs.declared.value.Value.{Value}
 use Rattle.djq_model.specs.Data.{Bytes, Tuple, bytes_eq, tuple_eq}
 use Rattle.djq_model.specs.Answer.{AreDifferent}
 use Rattle.djq_model.specs.Equality.{bytes_eq-decides, tuple_eq-decides}
-use Rattle.djq_value.specs.Literal.{is_small_value}
 use Rattle.djq_value.specs.Token.{may_end}
 use Rattle.djq_value.specs.ValueText.{value_text}
 use Rattle.djq_value.specs.ReadValue.{literal_at}
@@ -18,11 +16,10 @@ use Rattle.djq_lines.specs.declared.answer.Sign.TheVariants.{Came, Went}
 use Rattle.djq_mirror.specs.declared.mode.Mode.{Mode}
 use Rattle.djq_mirror.specs.declared.mode.Mode.TheVariants.{Idle, Listing, Live}
 use Rattle.djq_mirror.specs.Replies.{Reply, opened, answer, more as more_line, last as last_line, stale, changed, counted}
-use Rattle.djq_mirror.specs.Mirror.{Held, at_first, Act, keep, put, take_out, turn_of, turn_of_change, turn_of_count, may_turn, allows, has_text, IsInOrder, Turned}
+use Rattle.djq_mirror.specs.Mirror.{Held, Act, keep, put, take_out, turn_of, turn_of_change, turn_of_count, may_turn, has_text, IsInOrder, Turned}
 use Rattle.djq_machine.specs.Delta.{Change, HasChanged, IsDelta}
 use Rattle.djq_deltas.specs.Decided.{Decided}
 use Rattle.djq_deltas.proofs.Lists.{nothing_there, first_or_later, first_there, later_there, mapped_there, pairs_head, pairs_tail}
-use Rattle.djq_laws.specs.Watched.{Told}
 use Rattle.djq_told.specs.Sayable.{IsSayableValue, IsSayableRow}
 use Rattle.djq_told.specs.Told.{is_told_of, delta_replies}
 use Rattle.djq_told.specs.Mirrored.{Passes, Shows}

@@ -1,5 +1,5 @@
 -- What a command says that a line is read as.
-use Rattle.std.specs.Prelude.{ℕ, List, [], ◌∷◌, ◌++◌, ◌≡◌, ◌&&◌, Bool, true, false, cond, Option, None, Some, All, IsUtf8}
+use Rattle.std.specs.Prelude.{ℕ, List, [], ◌∷◌, ◌++◌, ◌≡◌, ◌&&◌, Bool, true, false, cond, Option, None, Some, All}
 use Rattle.std.specs.List.{AllZip, list_all}
 use Rattle.std.proofs.Common.{refl, sym, ap, ◌∙◌, subst}
 use Rattle.std.proofs.lemmas.Bool.{and_parts}
@@ -13,11 +13,10 @@ use Rattle.djq_model.specs.declared.query.Atom.{Atom}
 use Rattle.djq_model.specs.declared.query.Comparison.{Comparison}
 use Rattle.djq_model.specs.declared.query.Query.{Query}
 use Rattle.djq_value.specs.Literal.{is_small_value}
-use Rattle.djq_value.specs.Token.{Token, word, text, open_paren, close_paren, comma, arrow, operator}
+use Rattle.djq_value.specs.Token.{Token, comma, arrow}
 use Rattle.djq_lines.specs.declared.command.Command.{Command}
 use Rattle.djq_lines.specs.declared.command.Command.TheVariants.{Rel, Add, Del, Query as Register, Drop, Open, Next, Close, Has, Watch, Unwatch, Explain, Shape, Quit, Stop}
-use Rattle.djq_lines.specs.Grammar.{Item, atom, comparison, past_item, is_small_term, is_small_atom, is_in_range, command_of, Reading, past_limit, says as says_command, reading_in, reading_of}
-use Rattle.djq_proto.specs.Laws.{Spells}
+use Rattle.djq_lines.specs.Grammar.{Item, atom, comparison, past_item, is_small_term, is_small_atom, is_in_range, command_of, past_limit, says as says_command, reading_in, reading_of}
 use Rattle.djq_proto.specs.Saying.{Says, SaysAtom, SaysComparison, SaysItem, SaysItems, SaysName, SaysTerm, SaysValue, list_tokens, more_tokens, atoms_among, comparisons_among}
 use Rattle.djq_proto.proofs.Spelled.{commands_are_spelled}
 use Rattle.djq_told.specs.Sayable.{IsName, IsSayableValue, IsSayableRow, IsSayableTerm, IsSayableAtom, IsSayableComparison, IsSayableQuery}

@@ -1,11 +1,10 @@
 -- What each command that changes no rows is answered, by the forms of replies: lines that tell of no delta.
-use Rattle.std.specs.Prelude.{ℕ, List, [], ◌∷◌, ◌++◌, ◌==◌, ◌≡◌, ◌⊎◌, Bool, true, false, cond, Option, None, Some, IsSomeAnd, MatchOption, Result, Ok, Err, map, codes, filter, length, All, ⊤}
+use Rattle.std.specs.Prelude.{ℕ, List, [], ◌∷◌, ◌++◌, ◌≡◌, Bool, true, false, cond, Option, None, Some, IsSomeAnd, MatchOption, Result, Ok, Err, map, codes, filter, length, All}
 use Rattle.std.specs.List.{flat_map}
 use Rattle.std.specs.Fmt.{decimal}
-use Rattle.std.proofs.Common.{refl, sym, ap, ap₂, ◌∙◌, subst, inl, inr, append_assoc, append-nil}
+use Rattle.std.proofs.Common.{refl, sym, ap, ap₂, ◌∙◌, inl, inr, append_assoc, append-nil}
 use Rattle.std.proofs.lemmas.List.Elements.{All-nil, All-cons, All-head, All-tail, All-append}
 use Rattle.djq_model.specs.Data.{Bytes, Tuple}
-use Rattle.djq_model.specs.declared.query.Query.{Query}
 use Rattle.djq_model.specs.Listed.{Listed, a_query, listed_of}
 use Rattle.djq_hyper.specs.Hypergraph.{numbers_below}
 use Rattle.djq_hyper.specs.Naming.{name_at, edge_text, listed}
@@ -14,29 +13,25 @@ use Rattle.djq_tree.specs.declared.node.Node.{Node as TreeNode}
 use Rattle.djq_tree.specs.declared.node.Node.TheVariants.{Leaf, Trim, Meet}
 use Rattle.djq_tree.specs.Tree.{Tree, node_at, is_out}
 use Rattle.djq_tree.specs.Explaining.{label_text, node_text, line_text, end_text}
-use Rattle.djq_lines.specs.declared.answer.EndLine.TheVariants.{Long, Slow, Memory}
+use Rattle.djq_lines.specs.declared.answer.EndLine.TheVariants.{Memory}
 use Rattle.djq_lines.specs.declared.answer.Refusal.{Refusal}
-use Rattle.djq_lines.specs.declared.answer.Refusal.TheVariants.{Syntax, WrongType, NoCursor, NoQuery, NoMemory}
+use Rattle.djq_lines.specs.declared.answer.Refusal.TheVariants.{NoCursor, NoQuery}
 use Rattle.djq_lines.specs.declared.answer.AddOutcome.{AddOutcome}
 use Rattle.djq_lines.specs.declared.answer.AddOutcome.TheVariants.{First, More}
 use Rattle.djq_lines.specs.declared.answer.DeleteOutcome.{DeleteOutcome}
 use Rattle.djq_lines.specs.declared.answer.DeleteOutcome.TheVariants.{Last, Left, Absent}
 use Rattle.djq_lines.specs.declared.answer.Shape.{Shape}
-use Rattle.djq_lines.specs.declared.answer.Shape.TheVariants.{Flat, Linear}
 use Rattle.djq_lines.specs.declared.rest.NamedRest.{NamedRest}
 use Rattle.djq_lines.specs.declared.rest.QueryOutcome.{QueryOutcome}
 use Rattle.djq_lines.specs.declared.rest.QueryOutcome.TheVariants.{Registered, Cyclic, NotConnex}
 use Rattle.djq_lines.specs.declared.command.Command.{Command}
 use Rattle.djq_lines.specs.declared.command.Command.TheVariants.{Rel, Add, Del, Query as Register, Drop, Open, Next, Close, Has, Watch, Unwatch, Explain, Shape as AskShape, Quit, Stop}
-use Rattle.djq_lines.specs.Grammar.{Reading, outside, past_limit, says as says_command}
 use Rattle.djq_lines.specs.Hypergraph.{variable_names}
 use Rattle.djq_lines.specs.Reply.{cells_text, line, text_of, answer_line, last_line, listing_lines, ok_reply, add_reply, delete_reply, query_reply, has_reply, shape_reply, watch_reply, edges_text, rest_line, end_memory}
-use Rattle.djq_mirror.specs.Replies.{Reply, Node, leaf, trim, meet, done, opened as cursor_opened, added, removed, absent, registered, cyclic, not_connex, answer, more, last, stale as gone_stale, had, shaped, watched, changed, counted, explained, refused, ended as is_ended, cut, bye, joined, edges_line, reply_text, label_text as label_of, node_text as node_of}
-use Rattle.djq_machine.specs.State.{State, Session, Cursor, Position, open_at, stale, session_of, cursor_of}
-use Rattle.djq_machine.specs.Effect.{Effect, nothing, RefusedStep, EndsWith}
-use Rattle.djq_machine.specs.Command.{NextStepAt, CloseStep, QueryStep, QueryCutStep, ExplainStepOf, TellsLines, explain_lines, CommandStep}
-use Rattle.djq_machine.specs.LineStep.{LineOutcome, long, blank, slow, no_room, run, ReadStep, FrontStep}
-use Rattle.djq_machine.specs.Step.{Event, opened, fed, stepped, took, ended, closed, FedStep, TookStep, EndedStep, Acts}
+use Rattle.djq_mirror.specs.Replies.{Reply, Node, leaf, trim, meet, done, opened as cursor_opened, added, removed, absent, registered, cyclic, not_connex, answer, more, last, stale as gone_stale, had, shaped, watched, changed, counted, explained, refused, ended as is_ended, bye, joined, edges_line, reply_text, label_text as label_of, node_text as node_of}
+use Rattle.djq_machine.specs.State.{State, Session, Cursor, Position, open_at, stale, cursor_of}
+use Rattle.djq_machine.specs.Effect.{Effect, RefusedStep}
+use Rattle.djq_machine.specs.Command.{NextStepAt, CloseStep, ExplainStepOf, TellsLines, explain_lines, CommandStep}
 use Rattle.djq_laws.proofs.Finding.{some_and}
 use Rattle.djq_mirror.specs.declared.mode.Mode.{Mode}
 use Rattle.djq_mirror.specs.declared.mode.Mode.TheVariants.{Idle, Listing, Live}

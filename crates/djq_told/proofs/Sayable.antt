@@ -1,10 +1,9 @@
 -- What is kept along a run, lines have said.
-use Rattle.std.specs.Prelude.{ℕ, List, [], ◌∷◌, ◌==◌, ◌≡◌, ◌<◌, ◌≤◌, ◌++◌, ◌⊎◌, Bool, true, false, not, cond, length, filter, Option, None, Some, MatchOption, IsSomeAnd, option_map, Result, Ok, Err, map, All, ⊤}
+use Rattle.std.specs.Prelude.{ℕ, List, [], ◌∷◌, ◌==◌, ◌≡◌, ◌<◌, ◌≤◌, ◌++◌, ◌⊎◌, Bool, true, false, not, cond, length, Option, None, Some, MatchOption, option_map, Result, Ok, Err, map, All}
 use Rattle.std.specs.List.{list_any}
 use Rattle.std.proofs.Common.{refl, sym, ap, ◌∙◌, subst, inl, inr, arith}
 use Rattle.std.proofs.lemmas.List.Elements.{All-nil, All-push, All-filter, All-append, All-weaker}
-use Rattle.djq_model.specs.Data.{Bytes, Tuple, bytes_eq, drop_first}
-use Rattle.djq_model.specs.declared.relation.Relation.{Relation}
+use Rattle.djq_model.specs.Data.{Bytes, bytes_eq}
 use Rattle.djq_model.specs.Listed.{Listed, listed_name, AnswersOf, listed_of}
 use Rattle.djq_lines.specs.declared.limits.TheConstants.{SESSIONS, LAST_SEQ}
 use Rattle.djq_lines.specs.declared.answer.EndCause.{EndCause}
@@ -19,23 +18,23 @@ use Rattle.djq_lines.specs.declared.command.Command.{Command}
 use Rattle.djq_lines.specs.declared.command.Command.TheVariants.{Rel, Add, Del, Query as Register, Drop, Open, Next, Close, Has, Watch, Unwatch, Explain, Shape, Quit, Stop}
 use Rattle.djq_lines.specs.Grammar.{Reading, outside, past_limit, says as says_command, reading_of}
 use Rattle.djq_lines.specs.Reply.{end_memory}
-use Rattle.djq_machine.specs.State.{Store, State, Session, Cursor, Position, open_at, stale, fresh, session_of, with_session, with_position, ended_by, opening}
-use Rattle.djq_machine.specs.Stale.{outdated, outdater_of, outdated_cursor, outdated_sessions, by_relation, listed_reads}
-use Rattle.djq_machine.specs.Changes.{RowsChange, RowsOutcome, accepted, out_of_memory, unchanged, tried, changed, row_in, row_out, add_outcome, delete_outcome}
+use Rattle.djq_machine.specs.State.{Store, State, Session, Cursor, Position, open_at, stale, fresh, session_of, with_session, with_position, ended_by}
+use Rattle.djq_machine.specs.Stale.{outdated, outdater_of, outdated_cursor, by_relation, listed_reads}
+use Rattle.djq_machine.specs.Changes.{RowsChange, RowsOutcome, tried, changed, row_in, row_out, add_outcome, delete_outcome}
 use Rattle.djq_machine.specs.Watch.{is_watching, Telling, ChangeStep}
 use Rattle.djq_machine.specs.Effect.{Effect, nothing, EndsWith, queue, queue_all}
-use Rattle.djq_machine.specs.Command.{uses, with_cursor, with_watch, without_watch, CommandStep, QueryStep, QueryCutStep}
+use Rattle.djq_machine.specs.Command.{uses, with_cursor, with_watch, without_watch, CommandStep}
 use Rattle.djq_machine.specs.LineStep.{LineOutcome, long, blank, slow, no_room, run, ReadStep, FrontStep, behind_line}
 use Rattle.djq_machine.specs.Step.{Event, opened, fed, stepped, took, ended, closed, FedStep, TookStep, EndedStep, Acts, with_relations, Step}
 use Rattle.djq_machine.specs.Run.{Did}
 use Rattle.djq_machine.proofs.Walks.{walk_keeps}
 use Rattle.djq_laws.specs.Sound.{IsStart}
-use Rattle.djq_laws.specs.Form.{form_of, Form, asking, storing, turning, changing, ending, Turn, opens_cursor, moves_cursor, closes_cursor, starts_watching, stops_watching, Replied, is_whole, is_cut, without_cursor, Turned, DoesTurn, is_turned, is_refused, Does}
+use Rattle.djq_laws.specs.Form.{Turn, opens_cursor, moves_cursor, closes_cursor, starts_watching, stops_watching, Replied, is_whole, is_cut, without_cursor, Turned, DoesTurn, is_turned, is_refused}
 use Rattle.djq_laws.proofs.Finding.{some_and}
 use Rattle.djq_laws.proofs.Forms.{command_does}
 use Rattle.djq_laws.proofs.Queueing.{session_changed}
 use Rattle.djq_laws.proofs.Changing.{all_changed, all_found, all_dropped, all_mapped}
-use Rattle.djq_told.specs.Sayable.{IsName, IsSayableValue, IsSayableRow, IsSayableRelation, IsSayableListed, IsSayableStore, IsSayablePosition, IsSayableCursor, IsSayableSession, IsSayableState, RunsKeepSayable, OpeningIsSayable, StatesAreSayable}
+use Rattle.djq_told.specs.Sayable.{IsName, IsSayableRow, IsSayableRelation, IsSayableListed, IsSayableStore, IsSayablePosition, IsSayableCursor, IsSayableSession, IsSayableState, RunsKeepSayable, OpeningIsSayable, StatesAreSayable}
 use Rattle.djq_told.proofs.Reading.{IsSayableCommand, read_sayable}
 use Rattle.djq_told.proofs.Keeping.{change_keeps}
 use Rattle.djq_told.proofs.Storing.{answer_sayable, rel_sayable, add_sayable, del_sayable, query_sayable, drop_sayable, moved_store_sayable}

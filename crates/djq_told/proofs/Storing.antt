@@ -1,5 +1,5 @@
 -- What commands make of the store has names, and values within their limits.
-use Rattle.std.specs.Prelude.{ℕ, List, [], ◌∷◌, ◌==◌, ◌&&◌, ◌||◌, ◌≡◌, ◌≤◌, ◌<◌, ◌+◌, ◌++◌, ◌⊎◌, Bool, true, false, not, cond, nat_le, nat_lt, length, Option, None, Some, is_some, is_none, Result, Ok, Err, map, All, Contains, IsPermutation, ⊤}
+use Rattle.std.specs.Prelude.{ℕ, List, [], ◌∷◌, ◌==◌, ◌&&◌, ◌||◌, ◌≡◌, ◌++◌, ◌⊎◌, Bool, true, false, not, cond, nat_le, nat_lt, length, Option, None, Some, is_some, Result, Ok, Err, map, All, Contains, ⊤}
 use Rattle.std.specs.List.{list_any}
 use Rattle.std.proofs.Common.{refl, sym, ap, ◌∙◌, subst, inl, inr, arith}
 use Rattle.std.proofs.lemmas.Bool.{eq-eqb, leb-false, ltb-false}
@@ -15,12 +15,12 @@ use Rattle.djq_model.specs.declared.query.Term.{Term}
 use Rattle.djq_model.specs.declared.query.Term.TheVariants.{Variable, Hole, Constant}
 use Rattle.djq_model.specs.Data.{Bytes, Tuple, bytes_eq, tuple_eq, drop_first, relation_of, tuples_in, tuples_of, counted_in, counted_of, rows_of, has_row, with_row, with_copies, without_copies}
 use Rattle.djq_model.specs.Equality.{bytes_eq-decides}
-use Rattle.djq_model.specs.Answer.{Assignment, StandsFor, StandForAll, Satisfies, IsAnswer}
+use Rattle.djq_model.specs.Answer.{Assignment, StandsFor, StandForAll, Satisfies}
 use Rattle.djq_model.specs.Listed.{Listed, a_query, listed_name, AnswersOf, listed_of}
 use Rattle.djq_model.specs.Known.{texts_in}
 use Rattle.djq_model.proofs.Counted.{tuples_with_row, tuples_with_copies, tuples_without, tuples_moved}
-use Rattle.djq_lines.specs.Conditions.{first_of, Answers, OutOfMemoryWhere}
-use Rattle.djq_lines.specs.QueryFault.{is_too_large, query_faults, whole_query_refusal}
+use Rattle.djq_lines.specs.Conditions.{first_of, OutOfMemoryWhere}
+use Rattle.djq_lines.specs.QueryFault.{is_too_large, query_faults}
 use Rattle.djq_lines.specs.Variables.{constants_of, is_variable, stands_in, variables_of}
 use Rattle.djq_lines.specs.declared.limits.TheConstants.{LAST_SEQ, COPIES, ROWS, QUERIES, ATOMS, VARIABLES, HEAD_VARIABLES, COMPARISONS}
 use Rattle.djq_lines.specs.declared.rest.QueryOutcome.{QueryOutcome}
@@ -31,7 +31,7 @@ use Rattle.djq_lines.specs.declared.answer.AddOutcome.{AddOutcome}
 use Rattle.djq_lines.specs.declared.answer.AddOutcome.TheVariants.{First, More}
 use Rattle.djq_lines.specs.declared.answer.DeleteOutcome.{DeleteOutcome}
 use Rattle.djq_lines.specs.declared.answer.DeleteOutcome.TheVariants.{Last, Left, Absent}
-use Rattle.djq_deltas.specs.Finite.{IsInBody, IsBound}
+use Rattle.djq_deltas.specs.Finite.{IsBound}
 use Rattle.djq_deltas.proofs.Lists.{nothing_there, first_or_later, first_there, later_there, hold_each}
 use Rattle.djq_machine.specs.State.{Store}
 use Rattle.djq_machine.specs.Store.{RefusedByTexts, RefusedLate, RegistersAs, MakesRelation, RegistersQuery, DropsQuery, AddsRow, AddsAs, DeletesRow, DeletesAs, with_rows, with_copies_of, copies_of, row_refusals, rel_refusal, query_refusal, drop_refusal, add_refusal, delete_refusal}

@@ -1,12 +1,11 @@
 -- Along a run in which a session watches a query it is told its deltas, and nothing else of it.
-use Rattle.std.specs.Prelude.{ℕ, List, [], ◌∷◌, ◌++◌, ◌==◌, ◌≡◌, ◌≢◌, ◌<◌, ◌≤◌, ◌+◌, ◌⊎◌, ◌&&◌, Bool, true, false, not, cond, filter, Option, None, Some, is_some, IsSomeAnd, MatchOption, option_map, map, Result, Ok, Err, All, AllPairs, Contains}
+use Rattle.std.specs.Prelude.{ℕ, List, [], ◌∷◌, ◌++◌, ◌==◌, ◌≡◌, ◌≢◌, ◌<◌, ◌+◌, ◌⊎◌, ◌&&◌, Bool, true, false, not, cond, filter, Option, None, Some, is_some, MatchOption, option_map, map, All, AllPairs}
 use Rattle.std.specs.List.{list_any, flat_map}
-use Rattle.std.proofs.Common.{refl, sym, ap, ap₂, ◌∙◌, subst, inl, inr, arith, append_assoc, append-nil}
+use Rattle.std.proofs.Common.{refl, sym, ap, ap₂, ◌∙◌, subst, inl, inr, arith, append-nil}
 use Rattle.std.proofs.lemmas.Bool.{eqb-true, eq-eqb, ne_eqb}
-use Rattle.std.proofs.lemmas.Grind.{flat_map-append}
 use Rattle.std.proofs.lemmas.List.Elements.{All-nil, All-cons, All-append, All-weaker, filter-append}
 use Rattle.djq_model.specs.declared.relation.Relation.{Relation}
-use Rattle.djq_model.specs.Data.{Bytes, Tuple, bytes_eq, change_first}
+use Rattle.djq_model.specs.Data.{Bytes, Tuple, bytes_eq}
 use Rattle.djq_model.specs.Answer.{IsListing}
 use Rattle.djq_model.specs.Listed.{Listed, listed_name, AnswersOf, listed_of}
 use Rattle.djq_lines.specs.declared.answer.EndCause.{EndCause}
@@ -15,18 +14,15 @@ use Rattle.djq_lines.specs.declared.answer.EndLine.TheVariants.{Long as long_lin
 use Rattle.djq_lines.specs.declared.answer.Sign.{Sign}
 use Rattle.djq_lines.specs.declared.answer.Sign.TheVariants.{Came, Went}
 use Rattle.djq_lines.specs.declared.answer.Refusal.TheVariants.{Syntax, WrongType, NoMemory}
-use Rattle.djq_lines.specs.declared.command.Command.{Command}
-use Rattle.djq_lines.specs.declared.command.Command.TheVariants.{Rel, Add, Del, Query as Register, Drop, Open, Next, Close, Has, Watch, Unwatch, Explain, Shape, Quit, Stop}
+use Rattle.djq_lines.specs.declared.command.Command.TheVariants.{Add, Del}
 use Rattle.djq_lines.specs.Grammar.{Reading, outside, past_limit, says as says_command, reading_of}
 use Rattle.djq_lines.specs.Reply.{end_long, end_slow, end_memory, input_cut}
-use Rattle.djq_mirror.specs.Replies.{Reply, changed as changes_answer, counted, ended as is_ended, cut, reply_text}
-use Rattle.djq_machine.specs.State.{Store, State, Session, session_of, with_session, ended_by, ids_of}
-use Rattle.djq_machine.specs.Effect.{Effect, nothing, says, EndsWith, queue_all}
+use Rattle.djq_mirror.specs.Replies.{Reply, changed as changes_answer, counted, ended as is_ended, cut}
+use Rattle.djq_machine.specs.State.{Store, State, Session, session_of, with_session, ended_by}
+use Rattle.djq_machine.specs.Effect.{Effect, nothing, says, EndsWith}
 use Rattle.djq_machine.specs.Delta.{Change, HasChanged, IsDelta}
-use Rattle.djq_machine.specs.Changes.{RowsChange, RowsOutcome, accepted, out_of_memory, unchanged, is_outdated, is_accepted, row_in, row_out, add_outcome, delete_outcome}
+use Rattle.djq_machine.specs.Changes.{RowsOutcome, accepted, out_of_memory, unchanged, is_accepted, row_in, row_out, add_outcome, delete_outcome}
 use Rattle.djq_machine.specs.Stale.{by_relation}
-use Rattle.djq_machine.specs.Store.{AddsRow, DeletesRow}
-use Rattle.djq_machine.specs.Command.{CommandStep}
 use Rattle.djq_machine.specs.LineStep.{LineOutcome, long, blank, slow, no_room, run, ReadStep, FrontStep, behind_line}
 use Rattle.djq_machine.specs.Step.{Event, opened, fed, stepped, took, ended, closed, FedStep, TookStep, EndedStep, Acts, with_relations, Step}
 use Rattle.djq_machine.specs.Run.{Did, to_session, out}
@@ -44,10 +40,10 @@ use Rattle.djq_laws.proofs.Rows.{RowsMade, added, deleted}
 use Rattle.djq_laws.proofs.Sounding.{step_sound}
 use Rattle.djq_laws.proofs.Watched.{watchers_have_answers}
 use Rattle.djq_laws.proofs.Watching.{StepTells, is_quiet, is_told, change_store, queued_store, step_tells}
-use Rattle.djq_told.specs.Told.{replies_text, is_told_of, delta_replies, IsToldExactly, WatchersAreToldExactly}
+use Rattle.djq_told.specs.Told.{replies_text, is_told_of, delta_replies, WatchersAreToldExactly}
 use Rattle.djq_told.proofs.Exactly.{pairs_unmapped, told_one, told_none}
 use Rattle.djq_told.proofs.Hearing.{heard, all_heard, own_replies, text_append, changed_ids, change_heard}
-use Rattle.djq_told.proofs.Replying.{IsPlain, IsHarmless, harmless_form, Replies, OfForm, of_form, any_talk, add_form, delete_form, one_line, IsRowless, talks, command_replies, refused_replies, none_of}
+use Rattle.djq_told.proofs.Replying.{IsPlain, IsHarmless, harmless_form, Replies, OfForm, of_form, any_talk, add_form, delete_form, one_line, talks, command_replies, refused_replies, none_of}
 
 -- ---- answers over rows in another order
 

@@ -1,15 +1,14 @@
 -- What a session is sent before it watches a query, and as it ends.
-use Rattle.std.specs.Prelude.{ℕ, List, [], ◌∷◌, ◌++◌, ◌==◌, ◌≡◌, ◌<◌, ◌⊎◌, ◌&&◌, Bool, true, false, cond, filter, Option, None, Some, IsSomeAnd, option_map, All, AllPairs}
-use Rattle.std.specs.List.{flat_map}
-use Rattle.std.proofs.Common.{refl, sym, ap, ap₂, ◌∙◌, subst, inl, inr, append-nil}
+use Rattle.std.specs.Prelude.{ℕ, List, [], ◌∷◌, ◌++◌, ◌==◌, ◌≡◌, ◌<◌, ◌&&◌, Bool, true, false, cond, None, Some, All, AllPairs}
+use Rattle.std.proofs.Common.{refl, sym, ap, ap₂, ◌∙◌, subst, inr, append-nil}
 use Rattle.std.proofs.lemmas.Grind.{flat_map-append}
 use Rattle.std.proofs.lemmas.List.Elements.{All-nil, All-cons, All-append}
 use Rattle.djq_model.specs.Data.{Bytes}
-use Rattle.djq_model.specs.Listed.{Listed, listed_name}
+use Rattle.djq_model.specs.Listed.{listed_name}
 use Rattle.djq_lines.specs.declared.answer.EndLine.TheVariants.{Long as long_line, Slow as slow_line, Memory as memory_line}
 use Rattle.djq_lines.specs.declared.answer.Refusal.TheVariants.{Syntax, WrongType, NoMemory}
 use Rattle.djq_lines.specs.declared.command.Command.{Command}
-use Rattle.djq_lines.specs.declared.command.Command.TheVariants.{Rel, Add, Del, Query as Register, Drop, Open, Next, Close, Has, Watch, Unwatch, Explain, Shape, Quit, Stop}
+use Rattle.djq_lines.specs.declared.command.Command.TheVariants.{Add, Del, Open, Next, Explain}
 use Rattle.djq_lines.specs.Grammar.{Reading, outside, past_limit, says as says_command, reading_of}
 use Rattle.djq_lines.specs.Reply.{end_long, end_slow, end_memory}
 use Rattle.djq_mirror.specs.Replies.{Reply, ended as is_ended}
@@ -19,21 +18,20 @@ use Rattle.djq_machine.specs.Effect.{Effect}
 use Rattle.djq_machine.specs.Changes.{RowsOutcome, is_accepted, row_in, row_out, add_outcome, delete_outcome}
 use Rattle.djq_machine.specs.Watch.{Delta, ChangeStep}
 use Rattle.djq_machine.specs.LineStep.{LineOutcome, long, blank, slow, no_room, run, ReadStep, FrontStep, behind_line}
-use Rattle.djq_machine.specs.Step.{Event, opened, fed, stepped, took, ended, closed, FedStep, TookStep, EndedStep, Acts, Step}
+use Rattle.djq_machine.specs.Step.{Event, opened, fed, stepped, took, ended, closed, FedStep, TookStep, EndedStep, Acts}
 use Rattle.djq_machine.specs.Gives.{CursorsGive}
 use Rattle.djq_machine.specs.Run.{Did, to_session, out}
 use Rattle.djq_machine.specs.Call.{cause_of, cause_in}
 use Rattle.djq_laws.specs.Rising.{AreRising}
 use Rattle.djq_laws.specs.Sound.{IsSoundState}
-use Rattle.djq_laws.specs.Staying.{GoesOn}
 use Rattle.djq_laws.proofs.Finding.{some_and}
 use Rattle.djq_laws.proofs.Giving.{step_gives, runs_give}
 use Rattle.djq_laws.proofs.Listing.{nothing_given}
 use Rattle.djq_laws.proofs.Queueing.{stepped_cause}
 use Rattle.djq_laws.proofs.Sounding.{step_sound, states_are_sound}
 use Rattle.djq_told.specs.Sayable.{IsSayableState}
-use Rattle.djq_told.specs.Told.{replies_text, is_told_of}
-use Rattle.djq_told.specs.Mirrored.{Passes, AsksNoListing, SaysNoListing, WaitsAlong, Reads, IsMirrored, ReadersAreMirrored, StartsAreMirrored, EndsNow, EndsAreMirrored}
+use Rattle.djq_told.specs.Told.{replies_text}
+use Rattle.djq_told.specs.Mirrored.{Passes, AsksNoListing, SaysNoListing, WaitsAlong, ReadersAreMirrored, StartsAreMirrored, EndsNow, EndsAreMirrored}
 use Rattle.djq_told.proofs.Hearing.{all_heard, own_replies, text_append, changed_ids, change_heard}
 use Rattle.djq_told.proofs.Mirrored.{watchers_are_mirrored}
 use Rattle.djq_told.proofs.Mirroring.{passes_then, passes_told}

@@ -1,6 +1,6 @@
 -- What each reply line is like that is printed.
-use Rattle.std.specs.Prelude.{List, ◌≡◌, ◌≤◌, length}
-use Rattle.djq_model.specs.Data.{Bytes, Tuple}
+use Rattle.std.specs.Prelude.{◌≡◌, ◌≤◌, length}
+use Rattle.djq_model.specs.Data.{Bytes}
 use Rattle.djq_lines.specs.declared.limits.TheConstants.{HEAD_VARIABLES}
 use Rattle.djq_lines.specs.Reply.{line}
 use Rattle.djq_mirror.specs.declared.mode.TheConstants.{REPLY_LINE_BYTES}

@@ -1,5 +1,5 @@
 -- What lines can say: names, and values within their limits.
-use Rattle.std.specs.Prelude.{ℕ, List, ◌≡◌, ◌≤◌, true, length, All}
+use Rattle.std.specs.Prelude.{List, ◌≡◌, ◌≤◌, true, length, All}
 use Rattle.std.specs.Str.{is_utf8}
 use Rattle.djq_model.specs.declared.value.Value.{Value}
 use Rattle.djq_model.specs.declared.value.Value.TheVariants.{Int, Text}

@@ -5,7 +5,6 @@ use Rattle.djq_model.specs.Data.{Bytes, Tuple, bytes_eq}
 use Rattle.djq_model.specs.Answer.{IsListing}
 use Rattle.djq_model.specs.Listed.{Listed, listed_name, AnswersOf}
 use Rattle.djq_mirror.specs.Replies.{Reply, changed, counted, reply_text}
-use Rattle.djq_machine.specs.Delta.{Change}
 use Rattle.djq_machine.specs.State.{State}
 use Rattle.djq_machine.specs.Run.{Did, out}
 use Rattle.djq_laws.specs.Sound.{IsSoundState}
