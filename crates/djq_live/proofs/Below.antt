@@ -32,8 +32,8 @@ use Rattle.djq_live.specs.Changes.{GainsAll, Loses, Keeps}
 use Rattle.djq_live.specs.Stepping.{HasMore, ChangesAt, ChangesBelow, HoldBelow}
 
 -- what holds the same before and after may stand in a change's place
-abbrev pub IsStable : (Shape → List Entry → List Entry → Type 0) → Type 0
-IsStable Changes = (p : Shape) (ds es fs gs : List Entry) → Keeps ds es → Changes p es fs
+abbrev pub IsStable : {A : Type 0} → (A → List Entry → List Entry → Type 0) → Type 0
+IsStable {A} Changes = (p : A) (ds es fs gs : List Entry) → Keeps ds es → Changes p es fs
     → Keeps fs gs → Changes p ds gs
 
 pub gains_stable : (rows : List (List ℕ)) → IsStable (λ p old new. GainsAll p rows old new)
@@ -72,10 +72,10 @@ keeps_itself es u = refl
 pub keeps_both : (es fs gs : List Entry) → Keeps es fs → Keeps fs gs → Keeps es gs
 keeps_both es fs gs h k u = k u ∙ h u
 
-pub below_none : (Changes : Shape → List Entry → List Entry → Type 0) (at : ℕ)
-    (atoms : List NumberedAtom) (ps : List Shape) (r : Reducts) → IsReducts r → IsBare r.tables
+pub below_none : {A : Type 0} (Changes : A → List Entry → List Entry → Type 0) (at : ℕ)
+    (atoms : List NumberedAtom) (ps : List A) (r : Reducts) → IsReducts r → IsBare r.tables
     → ChangesBelow Changes at atoms ps 0 r r
-below_none Changes at atoms ps r sound bare = record {
+below_none {A} Changes at atoms ps r sound bare = record {
   sound = sound;
   tree = refl;
   bare = bare;
@@ -83,11 +83,11 @@ below_none Changes at atoms ps r sound bare = record {
   others = λ j m e out u. refl;
 }
 
-pub below_skip : (Changes : Shape → List Entry → List Entry → Type 0) (at : ℕ)
-    (atoms : List NumberedAtom) (ps : List Shape) (k : ℕ) (m : NumberedAtom) (r s : Reducts)
+pub below_skip : {A : Type 0} (Changes : A → List Entry → List Entry → Type 0) (at : ℕ)
+    (atoms : List NumberedAtom) (ps : List A) (k : ℕ) (m : NumberedAtom) (r s : Reducts)
     → slice_get atoms k ≡ Some m → m.relation ≢ at → ChangesBelow Changes at atoms ps k r s
     → ChangesBelow Changes at atoms ps (k + 1) r s
-below_skip Changes at atoms ps k m r s e out h = record {
+below_skip {A} Changes at atoms ps k m r s e out h = record {
   sound = h.sound;
   tree = h.tree;
   bare = h.bare;
@@ -109,23 +109,23 @@ low_in atoms r s j m long e f =
     let low = slice_get_within atoms j m f in
     subst (λ (t : Tree). j < t.leaves) (sym e) (omega arith)
 
-pub below_step : (Changes : Shape → List Entry → List Entry → Type 0) (at : ℕ)
-    (atoms : List NumberedAtom) (ps : List Shape) (k : ℕ) (m : NumberedAtom) (p : Shape)
+pub below_step : {A : Type 0} (Changes : A → List Entry → List Entry → Type 0) (at : ℕ)
+    (atoms : List NumberedAtom) (ps : List A) (k : ℕ) (m : NumberedAtom) (p : A)
     (r s t : Reducts) → IsStable Changes → r.tree.leaves ≡ length atoms
     → slice_get atoms k ≡ Some m → slice_get ps k ≡ Some p → m.relation ≡ at
     → ChangesBelow Changes at atoms ps k r s → ChangesAt Changes p k s t
     → ChangesBelow Changes at atoms ps (k + 1) r t
-below_step Changes at atoms ps k m p r s t stable long e f on h step = record {
+below_step {A} Changes at atoms ps k m p r s t stable long e f on h step = record {
   sound = step.sound;
   tree = step.tree ∙ h.tree;
   bare = step.bare;
   over = λ j n q low a b is.
       elim (cases_eq j k) [
         | inl here ↦
-            let shape : p ≡ q = same_Some p q
+            let is_one : p ≡ q = same_Some p q
             (sym f ∙ ap (λ (i : ℕ). slice_get ps i) (sym here) ∙ b) in
             subst (λ (i : ℕ). Changes q (entries_at r.tables i) (entries_at t.tables i)) (sym here)
-            (subst (λ (x : Shape). Changes x (entries_at r.tables k) (entries_at t.tables k)) shape
+            (subst (λ (x : A). Changes x (entries_at r.tables k) (entries_at t.tables k)) is_one
             (stable p (entries_at r.tables k) (entries_at s.tables k) (entries_at t.tables k)
             (entries_at t.tables k) (h.others k m e (λ l. absurd (omega arith))) step.leaf
             (keeps_itself (entries_at t.tables k))))
@@ -148,11 +148,11 @@ below_step Changes at atoms ps k m p r s t stable long e f on h step = record {
       ];
 }
 
-pub below_kept : (Changes : Shape → List Entry → List Entry → Type 0) (at : ℕ)
-    (atoms : List NumberedAtom) (ps : List Shape) (k : ℕ) (r s t : Reducts) → IsStable Changes
+pub below_kept : {A : Type 0} (Changes : A → List Entry → List Entry → Type 0) (at : ℕ)
+    (atoms : List NumberedAtom) (ps : List A) (k : ℕ) (r s t : Reducts) → IsStable Changes
     → ChangesBelow Changes at atoms ps k r s → HasKept s t
     → ChangesBelow Changes at atoms ps k r t
-below_kept Changes at atoms ps k r s t stable h kept = record {
+below_kept {A} Changes at atoms ps k r s t stable h kept = record {
   sound = kept.sound;
   tree = kept.tree ∙ h.tree;
   bare = kept.bare;
@@ -167,9 +167,9 @@ below_kept Changes at atoms ps k r s t stable h kept = record {
 
 -- ---- leaves still to come
 
-pub leaves_stay : (Changes : Shape → List Entry → List Entry → Type 0)
-    (Holds : Shape → List Entry → Type 0) (at : ℕ) (atoms : List NumberedAtom) (ps : List Shape)
-    (k n : ℕ) (m : NumberedAtom) (p : Shape) (r s : Reducts)
+pub leaves_stay : {A : Type 0} (Changes : A → List Entry → List Entry → Type 0)
+    (Holds : A → List Entry → Type 0) (at : ℕ) (atoms : List NumberedAtom) (ps : List A)
+    (k n : ℕ) (m : NumberedAtom) (p : A) (r s : Reducts)
     → ((es fs : List Entry) → Keeps es fs → Holds p es → Holds p fs) → k < n
     → HoldBelow Holds at atoms ps n r → ChangesBelow Changes at atoms ps k r s
     → slice_get atoms k ≡ Some m → slice_get ps k ≡ Some p → m.relation ≡ at
@@ -209,8 +209,8 @@ loses_more cells p k s t step = record {
       ];
 }
 
-pub below_at : (Changes : Shape → List Entry → List Entry → Type 0) (at : ℕ)
-    (atoms : List NumberedAtom) (ps : List Shape) (k n : ℕ) (r s : Reducts) → k ≤ n → n ≤ k
+pub below_at : {A : Type 0} (Changes : A → List Entry → List Entry → Type 0) (at : ℕ)
+    (atoms : List NumberedAtom) (ps : List A) (k n : ℕ) (r s : Reducts) → k ≤ n → n ≤ k
     → ChangesBelow Changes at atoms ps k r s → ChangesBelow Changes at atoms ps n r s
-below_at Changes at atoms ps k n r s low high h =
+below_at {A} Changes at atoms ps k n r s low high h =
     subst (λ (i : ℕ). ChangesBelow Changes at atoms ps i r s) (omega arith) h

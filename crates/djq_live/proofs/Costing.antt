@@ -36,7 +36,9 @@ use Rattle.djq_live.specs.Asked.{IsAsked}
 use Rattle.djq_live.specs.Leaves.{IsOver}
 use Rattle.djq_live.specs.Live.{Live, IsKept, IsKeptSomewhere}
 use Rattle.djq_live.specs.Stepping.{GrowsByOne, CountsLeaves, BoundsLeaf, atoms_below}
+use Rattle.djq_live.specs.Batching.{GrowsBy, CountsMany, CountsGiven}
 use Rattle.djq_live.specs.Updating.{
+  CountsBatch,
   CountsUpdate,
   CountsFlat,
   FlatMeetsAreEqual,
@@ -48,6 +50,7 @@ use Rattle.djq_live.proofs.Heads.{InAtom, leaf_with, leaf_atom}
 use Rattle.djq_live.proofs.Later.{atom_at}
 use Rattle.djq_live.proofs.Passing.{part_few}
 use Rattle.djq_live.proofs.Sets.{below_has}
+use Rattle.djq_live.proofs.Crowding.{one_larger, all_grown as many_grown}
 use Rattle.djq_live.proofs.Sizing.{all_grown}
 
 -- ---- paths are no longer than there are atoms and variables
@@ -98,12 +101,16 @@ few_paths c q n ps r h =
     let leaves = h.long in
     omega arith
 
-update_bounds : (c : Catalog) (l : Live) (n : ℕ) → IsKept c l
-    → BoundsLeaf (l.reducts).tree n (update_bound l n)
-update_bounds c l n h =
+path_bounds : (c : Catalog) (l : Live) (n : ℕ) → IsKept c l
+    → 16 * (paths (l.reducts).tree * (n + 1)) ≤ update_bound l n
+path_bounds c l n h =
     let few = few_paths c l.query l.numbered l.patterns l.reducts h.over in
     let product = mul-le-mul_right (n + 1) few in
-    inl (omega arith)
+    omega arith
+
+update_bounds : (c : Catalog) (l : Live) (n : ℕ) → IsKept c l
+    → BoundsLeaf (l.reducts).tree n (update_bound l n)
+update_bounds c l n h = inl (path_bounds c l n h)
 
 -- the meets of a flat query's tree are equal
 pub flat_meets : FlatMeetsAreEqual
@@ -230,3 +237,32 @@ flat_back l self s at atoms k x y z e a kept tree grows more first second =
     (second (n + 1) u (all_grown l.reducts s n tree grows few)
     (subst (λ (t : Tree). BoundsLeaf t (n + 1) u) (sym tree)
     (flat_bounds kept.0 l (n + 1) kept.1 flat))))
+
+-- ---- many rows at once
+
+pub counts_batch : (l self : Live) (at : ℕ) (atoms : List NumberedAtom) (k more x y : ℕ)
+    → l ≡ self → atoms ≡ (l.numbered).atoms → IsKeptSomewhere l
+    → CountsMany more l.reducts (atoms_below at atoms k) x y → CountsBatch more 1 self at x y
+counts_batch l self at atoms k more x y e a kept counts =
+    subst (λ (z : Live). CountsBatch more 1 z at x y) e
+    (λ n few. sum_all (atoms_below at atoms k) (atoms_over l at) (update_bound l (n + more)) x y
+    (below_over l at atoms k a)
+    (counts n (update_bound l (n + more)) few (path_bounds kept.0 l (n + more) kept.1)))
+
+pub batch_back : (l self : Live) (s : Reducts) (at : ℕ) (atoms : List NumberedAtom)
+    (k more x y z : ℕ) → l ≡ self → atoms ≡ (l.numbered).atoms → IsKeptSomewhere l
+    → s.tree ≡ (l.reducts).tree → GrowsBy more l.reducts s
+    → atoms_below at atoms k + 1 ≤ atoms_below at atoms (length atoms)
+    → CountsMany more l.reducts (atoms_below at atoms k + 2) x y
+    → CountsGiven s (atoms_below at atoms k) y z → CountsBatch more 2 self at x z
+batch_back l self s at atoms k more x y z e a kept tree grows left first second =
+    subst (λ (v : Live). CountsBatch more 2 v at x z) e
+    (λ n few.
+    let u = update_bound l (n + more) in
+    let bounds = path_bounds kept.0 l (n + more) kept.1 in
+    let over = below_over l at atoms (length atoms) a in
+    let most = many_grown more l.reducts s n tree grows few in
+    sum_twice (atoms_below at atoms k) (atoms_over l at) u x y z (omega arith)
+    (first n u few bounds)
+    (second (n + more + 1) u (one_larger s (n + more) most)
+    (subst (λ (t : Tree). 16 * (paths t * (n + more + 1)) ≤ u) (sym tree) bounds)))

@@ -184,18 +184,25 @@ lists_both true came P Q R h c d old mid new x y z both l k = record {
 lists_both false came P Q R h c d old mid new x y z both l k = (k.0 ∙ l.0, k.1 ∙ l.1)
 
 -- the listing of the marks, once they are cleared
+pub kept_lists : (came : Bool) (old mid new : Reducts) (log told : Log) (before now : ℕ)
+    → old.tree ≡ mid.tree → IsReducts mid → HasKept mid new
+    → ListsAll came (IsGained mid old) (length mid.tree.head) 1 log told before now
+    → ListsAll came (IsGained new old) (length old.tree.head) 1 log told before now
+kept_lists came old mid new log told before now tree sound kept l =
+    lists_as true came (IsGained mid old) (IsGained new old) (length mid.tree.head)
+    (length old.tree.head) 1 log told before now
+    (ap (λ (t : Tree). length t.head) (sym tree))
+    (λ v. gained_same old mid new v sound kept.sound
+    (same_more mid new kept.tree kept.tables.tuples)
+    (same_more new mid (sym kept.tree) (λ k w. sym (kept.tables.tuples k w))))
+    l
+
 pub inserted_lists : (came : Bool) (j : ℕ) (u : List ℕ) (old mid new : Reducts)
     (log told : Log) (before now : ℕ) → HasInserted old mid j u → HasKept mid new
     → ListsAll came (IsGained mid old) (length mid.tree.head) 1 log told before now
     → ListsAll came (IsGained new old) (length old.tree.head) 1 log told before now
 inserted_lists came j u old mid new log told before now came_in kept l =
-    lists_as true came (IsGained mid old) (IsGained new old) (length mid.tree.head)
-    (length old.tree.head) 1 log told before now
-    (ap (λ (t : Tree). length t.head) (sym came_in.without.tree))
-    (λ v. gained_same old mid new v came_in.sound kept.sound
-    (same_more mid new kept.tree kept.tables.tuples)
-    (same_more new mid (sym kept.tree) (λ k w. sym (kept.tables.tuples k w))))
-    l
+    kept_lists came old mid new log told before now came_in.without.tree came_in.sound kept l
 
 pub marked_lists : (came : Bool) (j : ℕ) (u : List ℕ) (old mid new : Reducts)
     (log told : Log) (before now : ℕ) → IsReducts old → HasMarked old mid j u

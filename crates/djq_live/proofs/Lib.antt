@@ -47,3 +47,6 @@ pub mod Trees
 pub mod Built
 pub mod Constants
 pub mod Compared
+pub mod Batched
+pub mod Batches
+pub mod Crowding

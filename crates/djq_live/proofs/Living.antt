@@ -116,12 +116,12 @@ head_few c q n ps r h =
 
 -- ---- before the leaves are changed
 
-inside : (P : List NumberedAtom → List Shape → Type 0) (a b : List NumberedAtom)
+pub inside : (P : List NumberedAtom → List Shape → Type 0) (a b : List NumberedAtom)
     (p q : List Shape) → a ≡ b → p ≡ q → P b q → P a p
 inside P a b p q e f h =
     subst (λ (x : List NumberedAtom). P x p) (sym e) (subst (λ (y : List Shape). P b y) (sym f) h)
 
-outside : (P : List NumberedAtom → List Shape → Type 0) (a b : List NumberedAtom)
+pub outside : (P : List NumberedAtom → List Shape → Type 0) (a b : List NumberedAtom)
     (p q : List Shape) → a ≡ b → p ≡ q → P a p → P b q
 outside P a b p q e f h =
     subst (λ (x : List NumberedAtom). P x q) e (subst (λ (y : List Shape). P a y) f h)
@@ -165,7 +165,7 @@ add_lacks l at cells atoms ps e f can =
     })
 
 -- no relation has more rows than there are numbers
-rows_few : (c : Catalog) (at : ℕ) → IsCatalog c → length (rows_at c.relations at) ≤ 4294967295
+pub rows_few : (c : Catalog) (at : ℕ) → IsCatalog c → length (rows_at c.relations at) ≤ 4294967295
 rows_few c at h =
     elim (cases_lt at (length c.relations)) [
       | inl low ↦ (h.kept at no_relation low).few

@@ -70,10 +70,10 @@ in_pushed y x (z ∷ xs) c =
 
 -- ---- without one
 
-rest_different : (r : Tuple) (rows : List Tuple) → AreDifferent (r ∷ rows) → AreDifferent rows
+pub rest_different : (r : Tuple) (rows : List Tuple) → AreDifferent (r ∷ rows) → AreDifferent rows
 rest_different r rows d i j x a b = d (suc i) (suc j) x (omega arith) (omega arith)
 
-first_different : (r x : Tuple) (rows : List Tuple) → AreDifferent (r ∷ rows) → Contains rows x
+pub first_different : (r x : Tuple) (rows : List Tuple) → AreDifferent (r ∷ rows) → Contains rows x
     → r ≡ x → ⊥
 first_different r x rows d c e =
     d zero (suc c.0) x (omega arith) (let low = c.1 in omega arith) (e ∙ sym c.2)

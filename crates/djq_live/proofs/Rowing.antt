@@ -35,7 +35,8 @@ use Rattle.djq_tree.specs.Growing.{IsTreeOf}
 use Rattle.djq_tree.specs.Tree.{Tree}
 use Rattle.djq_tree.specs.Labels.{label_at}
 use Rattle.djq_reduct.specs.Tables.{entries_at}
-use Rattle.djq_reduct.specs.Reducts.{Reducts, SameTables}
+use Rattle.djq_reduct.specs.Marks.{IsBare}
+use Rattle.djq_reduct.specs.Reducts.{Reducts, IsReducts, SameTables}
 use Rattle.djq_reduct.proofs.Family.{apart_at, one_family}
 use Rattle.djq_query.specs.declared.numbered.Variable.{Variable}
 use Rattle.djq_query.specs.declared.numbered.NumberedTerm.{NumberedTerm}
@@ -291,43 +292,6 @@ back_leaf cells at atoms ps k r s t j m p u lacks gains loses e f =
           ]
     ]
 
-pub back_kept : (c : Catalog) (l : Live) (s t : Reducts) (at : ℕ) (cells : List ℕ) (k : ℕ)
-    → HoldBelow (λ q es. Lacks cells q es) at (l.numbered).atoms l.patterns
-    (length (l.numbered).atoms) l.reducts
-    → ChangesBelow (λ q old new. Gains q cells old new) at (l.numbered).atoms l.patterns k
-    l.reducts s
-    → ChangesBelow (λ q old new. Loses q cells old new) at (l.numbered).atoms l.patterns k s t
-    → IsKept c l → IsKept c (record l { reducts = t })
-back_kept c l s t at cells k lacks gains loses h =
-    let tree : t.tree ≡ (l.reducts).tree = loses.tree ∙ gains.tree in
-    record {
-      over = record {
-        asked = h.over.asked;
-        reducts = loses.sound;
-        head = λ x. ap (λ (y : Tree). member x y.head) tree ∙ h.over.head x;
-        long = ap (λ (y : Tree). y.leaves) tree ∙ h.over.long;
-        patterns = h.over.patterns;
-        leaves = λ j m p e f.
-            let leaf = h.over.leaves j m p e f in
-            subst (λ (label : List ℕ). IsLeafOf c label (l.numbered).comparisons m p
-            (entries_at t.tables j))
-            (ap (λ (y : Tree). label_at y.labels j) (sym tree))
-            (record {
-              pattern = leaf.pattern;
-              holds = record {
-                exact = λ u.
-                    let same = back_leaf cells at (l.numbered).atoms l.patterns k l.reducts s t j
-                    m p u lacks gains loses e f in (
-                      λ there. (leaf.holds.exact u).0 (same.0 there),
-                      λ is. same.1 ((leaf.holds.exact u).1 is),
-                    );
-              };
-            });
-      };
-      named = tree_named l t tree h.named;
-      bare = loses.bare;
-    }
-
 -- all tables are as before, since the leaves' tuples are
 pub back_tables : (c : Catalog) (l : Live) (s t : Reducts) (at : ℕ) (cells : List ℕ) (k : ℕ)
     → HoldBelow (λ q es. Lacks cells q es) at (l.numbered).atoms l.patterns
@@ -370,3 +334,45 @@ back_tables c l s t at cells k lacks gains loses h =
                 | inr gone ↦ omega arith
               ]
         ]
+
+-- where all tables hold what they held, the query is kept as it was
+pub same_kept : (c : Catalog) (l : Live) (t : Reducts) → IsReducts t → IsBare t.tables
+    → t.tree ≡ (l.reducts).tree → SameTables l.reducts t → IsKept c l
+    → IsKept c (record l { reducts = t })
+same_kept c l t sound bare tree same h = record {
+  over = record {
+    asked = h.over.asked;
+    reducts = sound;
+    head = λ x. ap (λ (y : Tree). member x y.head) tree ∙ h.over.head x;
+    long = ap (λ (y : Tree). y.leaves) tree ∙ h.over.long;
+    patterns = h.over.patterns;
+    leaves = λ j m p e f.
+        let leaf = h.over.leaves j m p e f in
+        subst (λ (label : List ℕ). IsLeafOf c label (l.numbered).comparisons m p
+        (entries_at t.tables j))
+        (ap (λ (y : Tree). label_at y.labels j) (sym tree))
+        (record {
+          pattern = leaf.pattern;
+          holds = record {
+            exact = λ u.
+                let k = same.tuples j u in (
+                  λ there. (leaf.holds.exact u).0 (omega arith),
+                  λ is. (let a = (leaf.holds.exact u).1 is in omega arith),
+                );
+          };
+        });
+  };
+  named = tree_named l t tree h.named;
+  bare = bare;
+}
+
+pub back_kept : (c : Catalog) (l : Live) (s t : Reducts) (at : ℕ) (cells : List ℕ) (k : ℕ)
+    → HoldBelow (λ q es. Lacks cells q es) at (l.numbered).atoms l.patterns
+    (length (l.numbered).atoms) l.reducts
+    → ChangesBelow (λ q old new. Gains q cells old new) at (l.numbered).atoms l.patterns k
+    l.reducts s
+    → ChangesBelow (λ q old new. Loses q cells old new) at (l.numbered).atoms l.patterns k s t
+    → IsKept c l → IsKept c (record l { reducts = t })
+back_kept c l s t at cells k lacks gains loses h =
+    same_kept c l t loses.sound loses.bare (loses.tree ∙ gains.tree)
+    (back_tables c l s t at cells k lacks gains loses h) h

@@ -96,7 +96,7 @@ room_after j u n old new came room = record {
       ];
 }
 
-kept_most : (old new : Reducts) (n : ℕ) → HasKept old new → HasAtMost new n → HasAtMost old n
+pub kept_most : (old new : Reducts) (n : ℕ) → HasKept old new → HasAtMost new n → HasAtMost old n
 kept_most old new n kept few = record {
   each = λ i low.
       let a = few.each i (subst (λ (t : Tree). i < t.leaves) (sym kept.tree) low) in
@@ -219,7 +219,7 @@ bounds_as : (r s : Reducts) (n b : ℕ) → s.tree ≡ r.tree → BoundsLeaf r.t
 bounds_as r s n b e h = subst (λ (t : Tree). BoundsLeaf t n b) (sym e) h
 
 -- with fewer tuples there are at most as many
-fewer_stay : (small big : Reducts) (n : ℕ) → IsReducts small → HasMore small big
+pub fewer_stay : (small big : Reducts) (n : ℕ) → IsReducts small → HasMore small big
     → HasAtMost big n → HasAtMost small n
 fewer_stay small big n h more few = record {
   each = λ j low.
@@ -254,16 +254,16 @@ all_grown r s n e grows few = record {
 }
 
 -- the next leaf is as long as before all
-still_long : (Changes : Shape → List Entry → List Entry → Type 0) (at : ℕ)
-    (atoms : List NumberedAtom) (ps : List Shape) (k : ℕ) (m : NumberedAtom) (r s : Reducts)
+pub still_long : {A : Type 0} (Changes : A → List Entry → List Entry → Type 0) (at : ℕ)
+    (atoms : List NumberedAtom) (ps : List A) (k : ℕ) (m : NumberedAtom) (r s : Reducts)
     → slice_get atoms k ≡ Some m → ChangesBelow Changes at atoms ps k r s
     → length (entries_at s.tables k) ≡ length (entries_at r.tables k)
 still_long Changes at atoms ps k m r s e h =
     length_even (entries_at s.tables k) (entries_at r.tables k)
     (h.others k m e (λ low. absurd (omega arith)))
 
-room_for : (Changes : Shape → List Entry → List Entry → Type 0) (at : ℕ)
-    (atoms : List NumberedAtom) (ps : List Shape) (k : ℕ) (m : NumberedAtom) (r s : Reducts)
+room_for : {A : Type 0} (Changes : A → List Entry → List Entry → Type 0) (at : ℕ)
+    (atoms : List NumberedAtom) (ps : List A) (k : ℕ) (m : NumberedAtom) (r s : Reducts)
     (n : ℕ) → slice_get atoms k ≡ Some m → k < r.tree.leaves
     → ChangesBelow Changes at atoms ps k r s → GrowsByOne r s → HasAtMost r n → HasRoom s k n
 room_for Changes at atoms ps k m r s n e low h grows few = record {
@@ -273,8 +273,8 @@ room_for Changes at atoms ps k m r s n e low h grows few = record {
   all = all_grown r s n h.tree grows few;
 }
 
-pub grows_next : (Changes : Shape → List Entry → List Entry → Type 0) (at : ℕ)
-    (atoms : List NumberedAtom) (ps : List Shape) (k : ℕ) (m : NumberedAtom) (r s t : Reducts)
+pub grows_next : {A : Type 0} (Changes : A → List Entry → List Entry → Type 0) (at : ℕ)
+    (atoms : List NumberedAtom) (ps : List A) (k : ℕ) (m : NumberedAtom) (r s t : Reducts)
     → slice_get atoms k ≡ Some m → ChangesBelow Changes at atoms ps k r s → GrowsByOne r s
     → GrowsAt k s t → GrowsByOne r t
 grows_next Changes at atoms ps k m r s t e h grows step = record {
@@ -293,8 +293,8 @@ grows_next Changes at atoms ps k m r s t e h grows step = record {
       ];
 }
 
-pub counts_next : (Changes : Shape → List Entry → List Entry → Type 0) (at : ℕ)
-    (atoms : List NumberedAtom) (ps : List Shape) (k : ℕ) (m : NumberedAtom) (r s : Reducts)
+pub counts_next : {A : Type 0} (Changes : A → List Entry → List Entry → Type 0) (at : ℕ)
+    (atoms : List NumberedAtom) (ps : List A) (k : ℕ) (m : NumberedAtom) (r s : Reducts)
     (i j x y z : ℕ) → slice_get atoms k ≡ Some m → k < r.tree.leaves
     → ChangesBelow Changes at atoms ps k r s → GrowsByOne r s → i + 1 ≡ j
     → CountsLeaves r i x y → CountsLeaf s k 1 y z → CountsLeaves r j x z
@@ -319,8 +319,8 @@ sum_last i b x y z first second =
     let a : (i + 2) * b ≡ i * b + 2 * b = omega arith in
     omega arith
 
-pub counts_last : (Changes : Shape → List Entry → List Entry → Type 0) (at : ℕ)
-    (atoms : List NumberedAtom) (ps : List Shape) (k : ℕ) (m : NumberedAtom) (r s : Reducts)
+pub counts_last : {A : Type 0} (Changes : A → List Entry → List Entry → Type 0) (at : ℕ)
+    (atoms : List NumberedAtom) (ps : List A) (k : ℕ) (m : NumberedAtom) (r s : Reducts)
     (i x y z : ℕ) → slice_get atoms k ≡ Some m → k < r.tree.leaves
     → ChangesBelow Changes at atoms ps k r s → GrowsByOne r s → CountsLeaves r i x y
     → CountsLeaf s k 2 y z → CountsLeaves r (i + 2) x z

@@ -15,3 +15,4 @@ pub mod Staying
 pub mod Stepping
 pub mod Ordering
 pub mod Building
+pub mod Batching

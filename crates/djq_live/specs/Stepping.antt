@@ -52,7 +52,7 @@ abbrev pub Has : List ℕ → Shape → List Entry → Type 0
 Has cells p es = (u : List ℕ) → Gives p u cells → 0 < cnt es u
 
 -- One leaf changed so, each other one holds what it held, and no update is unfinished.
-pub record ChangesAt (Changes : Shape → List Entry → List Entry → Type 0) (p : Shape) (j : ℕ)
+pub record ChangesAt {A : Type 0} (Changes : A → List Entry → List Entry → Type 0) (p : A) (j : ℕ)
     (r s : Reducts) : Type 0 where
   pub sound : IsReducts s
   pub tree : s.tree ≡ r.tree
@@ -61,14 +61,14 @@ pub record ChangesAt (Changes : Shape → List Entry → List Entry → Type 0) 
   pub others : (i : ℕ) → i < r.tree.leaves → i ≢ j
       → Keeps (entries_at r.tables i) (entries_at s.tables i)
 
--- So did the leaves below k whose atoms are over the relation at a place; each other one holds what
--- it held.
-pub record ChangesBelow (Changes : Shape → List Entry → List Entry → Type 0) (at : ℕ)
-    (atoms : List NumberedAtom) (ps : List Shape) (k : ℕ) (r s : Reducts) : Type 0 where
+-- So did the leaves below k whose atoms are over the relation at a place, each by what stands at its
+-- place in a list, as its pattern; each other one holds what it held.
+pub record ChangesBelow {A : Type 0} (Changes : A → List Entry → List Entry → Type 0) (at : ℕ)
+    (atoms : List NumberedAtom) (ps : List A) (k : ℕ) (r s : Reducts) : Type 0 where
   pub sound : IsReducts s
   pub tree : s.tree ≡ r.tree
   pub bare : IsBare s.tables
-  pub over : (j : ℕ) (m : NumberedAtom) (p : Shape) → j < k → slice_get atoms j ≡ Some m
+  pub over : (j : ℕ) (m : NumberedAtom) (p : A) → j < k → slice_get atoms j ≡ Some m
       → slice_get ps j ≡ Some p → m.relation ≡ at
       → Changes p (entries_at r.tables j) (entries_at s.tables j)
   pub others : (j : ℕ) (m : NumberedAtom) → slice_get atoms j ≡ Some m
@@ -92,9 +92,9 @@ pub record AreLeaves (at : ℕ) (cells : List ℕ) (atoms : List NumberedAtom) (
       → slice_get ps j ≡ Some p → m.relation ≡ at → length cells ≡ length p.slots
 
 -- the leaves below k whose atoms are over the relation at a place hold such entries
-pub record HoldBelow (Holds : Shape → List Entry → Type 0) (at : ℕ) (atoms : List NumberedAtom)
-    (ps : List Shape) (k : ℕ) (r : Reducts) : Type 0 where
-  pub each : (j : ℕ) (m : NumberedAtom) (p : Shape) → j < k → slice_get atoms j ≡ Some m
+pub record HoldBelow {A : Type 0} (Holds : A → List Entry → Type 0) (at : ℕ)
+    (atoms : List NumberedAtom) (ps : List A) (k : ℕ) (r : Reducts) : Type 0 where
+  pub each : (j : ℕ) (m : NumberedAtom) (p : A) → j < k → slice_get atoms j ≡ Some m
       → slice_get ps j ≡ Some p → m.relation ≡ at → Holds p (entries_at r.tables j)
 
 -- how many of the first k atoms are over the relation at a place

@@ -13,7 +13,7 @@ use Rattle.djq_propagate.specs.Updates.{HasAtMost}
 use Rattle.djq_cursor.specs.declared.log.Line.{Line}
 use Rattle.djq_cursor.specs.Log.{Log}
 use Rattle.djq_rows.specs.Catalog.{Catalog, rows_at}
-use Rattle.djq_live.specs.Changes.{Came, Went}
+use Rattle.djq_live.specs.Changes.{Came, CameAll, Went}
 use Rattle.djq_live.specs.Live.{Live, IsKept, IsShowable, values_of}
 
 -- A row with these cells came into a relation, whose catalog the query was kept over.
@@ -23,6 +23,14 @@ pub record CanAdd (l : Live) (at : ℕ) (cells : List ℕ) : Type 0 where
   pub row : Tuple
   pub kept : IsKept before l
   pub came : Came before after at cells row
+
+-- Rows with these cells, one for one, came into a relation, whose catalog the query was kept over.
+pub record CanAddAll (l : Live) (at : ℕ) (cells : List (List ℕ)) : Type 0 where
+  pub before : Catalog
+  pub after : Catalog
+  pub rows : List Tuple
+  pub kept : IsKept before l
+  pub came : CameAll before after at cells rows
 
 -- A row with these cells was there, and went out.
 pub record CanDelete (l : Live) (at : ℕ) (cells : List ℕ) : Type 0 where
@@ -99,6 +107,11 @@ update_bound l n =
 abbrev pub CountsUpdate : ℕ → Live → ℕ → ℕ → ℕ → Type 0
 CountsUpdate times l at before now = (n : ℕ) → HasAtMost l.reducts n
     → now ≤ before + times * (atoms_over l at * update_bound l n)
+
+-- Where so many rows come at once, it is so many times the bound for the tuples that there may be then.
+abbrev pub CountsBatch : ℕ → ℕ → Live → ℕ → ℕ → ℕ → Type 0
+CountsBatch more times l at before now = (n : ℕ) → HasAtMost l.reducts n
+    → now ≤ before + times * (atoms_over l at * update_bound l (n + more))
 
 -- What an update of a flat query counts at most for an atom, whatever the number of tuples.
 abbrev pub flat_bound : Live → ℕ

@@ -1,9 +1,9 @@
 //! One registered query, kept answerable while the rows below it change.
 //!
 //! [`plan_query`] judges a query: it is free-connex and has a tree, or a rest shows why it isn't.
-//! [`LiveQuery::build`] fills the tree's tables from a catalog's rows; [`LiveQuery::add`] and
-//! [`LiveQuery::delete`] keep them as rows come and go, and log how the answers changed where that
-//! is wanted; cursors list the answers, one a call, each at a bounded cost.
+//! [`LiveQuery::build`] fills the tree's tables from a catalog's rows; [`LiveQuery::add`],
+//! [`LiveQuery::add_many`] and [`LiveQuery::delete`] keep them as rows come and go, and log how the
+//! answers changed where that is wanted; cursors list the answers, one a call, each at a bounded cost.
 //!
 //! ```text
 //! q(z,x) <- r(x,_), s(x,z,3)     x is 0, _ is 1, z is 2; the head is 2, 0
@@ -50,6 +50,7 @@ pub use live::LiveQuery;
 pub use plan::{PlannedQuery, Unplanned, plan_query};
 pub use staying::{came_passes, live_stays, went_passes};
 
+mod batch;
 mod bind;
 mod build;
 mod changes;

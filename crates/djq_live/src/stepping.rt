@@ -36,8 +36,8 @@ use djq_reduct::Reducts;
 use djq_steps::{Ledgers, Steps, Tally};
 use std::sync::ledger::Ledger;
 
-// Tells of the answers that an update of one leaf changes, by its marks.
-fn list_changes<L: Ledger>(
+/// Tells of the answers that an update of one leaf changes, by its marks.
+pub(crate) fn list_changes<L: Ledger>(
     reducts: &Reducts,
     leaf: usize,
     came: bool,

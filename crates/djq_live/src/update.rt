@@ -1,28 +1,33 @@
 //! What becomes of a registered query where a row of a relation comes or goes.
-ghost use Rattle.std.specs.Prelude.{◌≡◌, ℕ, false, OnOk, OnErr};
+ghost use Rattle.std.specs.Prelude.{◌≡◌, ℕ, false, length, OnOk, OnErr};
 ghost use Rattle.djq_model.specs.Data.{Tuple};
 ghost use Rattle.djq_reduct.specs.Reducts.{SameTables};
 ghost use Rattle.djq_rows.specs.Catalog.{Catalog as CatalogModel};
-ghost use Rattle.djq_live.specs.Changes.{Came, Went, HasSameRows};
+ghost use Rattle.djq_live.specs.Batching.{GrowsBy};
+ghost use Rattle.djq_live.specs.Changes.{Came, CameAll, Went, HasSameRows};
 ghost use Rattle.djq_live.specs.Cursors.{outdated_slots};
 ghost use Rattle.djq_live.specs.Live.{IsKept, IsLive, SameQuery};
 ghost use Rattle.djq_live.specs.Stepping.{GrowsByOne};
 ghost use Rattle.djq_live.specs.Updating.{
   CanAdd,
+  CanAddAll,
   CanDelete,
   Follows,
   LogsWhere,
   IsEmpty,
+  CountsBatch,
   CountsDelta,
   CountsFlat,
   CountsUpdate,
 };
 
+use crate::batch::{add_all_to_leaves, give_all_from_leaves, tuples_of_all};
 use crate::changes::over_stays;
 use crate::live::LiveQuery;
 use crate::stepping::{add_to_leaves, give_from_leaves, take_from_leaves};
 use djq_cursor::DeltaLog;
 use djq_model::{Name, NoMem};
+use djq_reduct::Cells;
 use djq_rows::RelationId;
 use djq_steps::{Ledgers, Steps};
 
@@ -95,6 +100,72 @@ impl LiveQuery {
             cells,
             steps,
         );
+        log.clear();
+        Err(NoMem)
+    }
+
+    /// Takes in rows that came into a relation at once, each given by its cells; they go into the
+    /// leaves over the relation one leaf after another, all tuples of a leaf at once. Where the delta
+    /// is wanted, the log tells behind what it told which answers came by all of them together, each
+    /// once. [`outdate`](LiveQuery::outdate) is to be called before a cursor is read.
+    ///
+    /// For each atom over the relation the update count rises by at most 16(m + v)(n + k + 1), where
+    /// the query has m atoms and v variables, holes counted in, no leaf more than n tuples before, and
+    /// k rows come: by no more than one row may count where so many are there.
+    ///
+    /// # Errors
+    ///
+    /// `NoMem` out of memory; all tables are as before, with the same supports, and the log is empty.
+    /// The update count then rises by at most twice as much, since the leaves that took the rows in
+    /// give them back.
+    pub fn add_many<L: Ledgers>(
+        &mut self,
+        relation: RelationId,
+        rows: &[Cells],
+        wanted: bool,
+        log: &mut DeltaLog,
+        steps: &mut Steps<L>,
+    ) -> Result<(), NoMem>
+        requires { CanAddAll self.old relation.at rows.now }
+        ensures added { OnOk result (Follows (λ c d. CameAll c d relation.at rows.now)
+            self.old self.new) }
+        ensures refused { OnErr result ((c : CatalogModel) → IsKept c self.old
+            → IsKept c self.new) }
+        ensures tables { OnErr result (SameTables self.old.reducts self.new.reducts) }
+        ensures same { SameQuery self.old self.new }
+        ensures log { OnOk result (LogsWhere wanted (λ c d. CameAll c d relation.at rows.now)
+            self.old log.old log.new) }
+        ensures emptied { OnErr result (IsEmpty log.new) }
+        ensures counted { CountsDelta wanted (λ c d. CameAll c d relation.at rows.now)
+            self.old relation.at steps.old.listing steps.new.listing }
+        ensures grows { OnOk result (GrowsBy (length rows.now) self.old.reducts self.new.reducts) }
+        ensures updates { OnOk result (CountsBatch (length rows.now) 1 self.old relation.at
+            steps.old.update steps.new.update) }
+        ensures refusal { OnErr result (CountsBatch (length rows.now) 2 self.old relation.at
+            steps.old.update steps.new.update) }
+        ensures rows { steps.new.rows ≡ steps.old.rows }
+    {
+        let alloc = *self.patterns.allocator();
+        let atoms = self.numbered.atoms();
+        let patterns = self.patterns.as_slice();
+        let Ok(batch) = tuples_of_all(alloc, atoms, patterns, relation.at, rows) else {
+            log.clear();
+            return Err(NoMem);
+        };
+        let tuples = batch.as_slice();
+        let done = add_all_to_leaves(
+            &mut self.reducts,
+            atoms,
+            tuples,
+            relation.at,
+            wanted,
+            log,
+            steps,
+        );
+        if done == atoms.len() {
+            return Ok(());
+        }
+        give_all_from_leaves(&mut self.reducts, atoms, tuples, done, relation.at, steps);
         log.clear();
         Err(NoMem)
     }

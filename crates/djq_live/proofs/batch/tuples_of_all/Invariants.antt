@@ -1,0 +1,5 @@
+use Rattle.djq_live.proofs.Batched.{AreSoFar}
+use Rattle.djq_live.proofs.batch.tuples_of_all.Given as goal
+
+abbrev pub invariant-atoms : goal.invariant-atoms
+invariant-atoms l = AreSoFar l.relation l.rows l.atoms l.patterns l.j l.batch.items

@@ -1,0 +1,236 @@
+//! What many rows of a relation do to reducts, leaf after leaf.
+ghost use Rattle.std.specs.Prelude.{◌≡◌, ◌+◌, ℕ, ◌<◌, ◌≤◌, true, length, Some, IfOk, OnOk, OnErr, slice_get};
+ghost use Rattle.djq_tree.specs.Labels.{label_at};
+ghost use Rattle.djq_reduct.specs.Tables.{entries_at};
+ghost use Rattle.djq_reduct.specs.Marks.{IsBare};
+ghost use Rattle.djq_propagate.specs.Batches.{AreNew, AreThere, HasGainedAll};
+ghost use Rattle.djq_propagate.specs.Updates.{HasKept};
+ghost use Rattle.djq_cursor.specs.Changed.{IsGained};
+ghost use Rattle.djq_query.specs.Pattern.{Shape};
+ghost use Rattle.djq_query.specs.declared.numbered.NumberedAtom as spec;
+ghost use Rattle.djq_live.specs.Stepping.{HasMore, ChangesBelow, HoldBelow, ListsAll, ListsWhere, atoms_below};
+ghost use Rattle.djq_live.specs.Batching.{
+  AreDistinct,
+  AreTuplesOf,
+  AreTuples,
+  FitAll,
+  HasFew,
+  CanTake,
+  Adds,
+  Drops,
+  GrowsBy,
+  CountsTuples,
+  CountsMany,
+  CountsGiven,
+};
+
+use crate::stepping::list_changes;
+use djq_cursor::DeltaLog;
+use djq_model::{NoMem, Sequence};
+use djq_propagate::{add_leaf_many, drop_leaf_many, finish_insertion, insert_leaf_many};
+use djq_query::{NumberedAtom, Pattern};
+use djq_reduct::{Cells, Reducts};
+use djq_steps::{Ledgers, Steps};
+use std::alloc::Global;
+
+// The tuples of rows, of each that has one.
+fn tuples_of(alloc: Global, pattern: &Pattern, rows: &[Cells]) -> Result<Sequence<Cells>, NoMem>
+    requires fit { FitAll rows.now pattern.now }
+    requires distinct { AreDistinct rows.now }
+    ensures { IfOk result (λ us. AreTuplesOf rows.now pattern.now us) }
+{
+    let mut tuples = Sequence::new(alloc);
+    'rows: for i in 0..rows.len() {
+        let Some(tuple) = pattern.matches(rows[i].as_slice()) else {
+            continue;
+        };
+        tuples.push(tuple)?;
+    }
+    Ok(tuples)
+}
+
+// The tuples of rows of a relation for an atom: none where it is over another one.
+fn tuples_for(
+    alloc: Global,
+    atom: &NumberedAtom,
+    pattern: &Pattern,
+    relation: usize,
+    rows: &[Cells],
+) -> Result<Sequence<Cells>, NoMem>
+    requires fit { atom.now.relation ≡ relation → FitAll rows.now pattern.now }
+    requires distinct { AreDistinct rows.now }
+    ensures tuples { IfOk result (λ us. atom.now.relation ≡ relation
+        → AreTuplesOf rows.now pattern.now us) }
+    ensures few { IfOk result (λ us. length us ≤ length rows.now) }
+{
+    if atom.relation != relation {
+        return Ok(Sequence::new(alloc));
+    }
+    tuples_of(alloc, pattern, rows)
+}
+
+/// The tuples of rows of a relation, for each atom, made before a leaf is changed.
+pub(crate) fn tuples_of_all(
+    alloc: Global,
+    atoms: &[NumberedAtom],
+    patterns: &[Pattern],
+    relation: usize,
+    rows: &[Cells],
+) -> Result<Vec<Sequence<Cells>>, NoMem>
+    requires long { length patterns.now ≡ length atoms.now }
+    requires fit { (j : ℕ) (m : spec.NumberedAtom) (p : Shape) → slice_get atoms.now j ≡ Some m
+        → slice_get patterns.now j ≡ Some p → m.relation ≡ relation → FitAll rows.now p }
+    requires distinct { AreDistinct rows.now }
+    ensures { IfOk result (λ batch. AreTuples relation rows.now atoms.now patterns.now
+        batch.items) }
+{
+    let mut batch = Vec::new(alloc);
+    'atoms: for j in 0..atoms.len() {
+        batch.push(tuples_for(alloc, &atoms[j], &patterns[j], relation, rows)?)?;
+    }
+    Ok(batch)
+}
+
+// Puts tuples into a leaf that lacks them, and tells of the answers that come.
+fn add_all_and_tell<L: Ledgers>(
+    reducts: &mut Reducts,
+    leaf: usize,
+    tuples: &[Cells],
+    log: &mut DeltaLog,
+    steps: &mut Steps<L>,
+) -> Result<(), NoMem>
+    requires leaf { leaf < reducts.old.tree.leaves }
+    requires fresh { AreNew (length (label_at reducts.old.tree.labels leaf))
+        (entries_at reducts.old.tables leaf) tuples.now }
+    requires few { length (entries_at reducts.old.tables leaf) + length tuples.now ≤ 4294967295 }
+    requires bare { IsBare reducts.old.tables }
+    ensures gained { OnOk result (HasGainedAll reducts.old reducts.new leaf tuples.now) }
+    ensures listed { OnOk result (ListsAll true (IsGained reducts.new reducts.old)
+        (length reducts.old.tree.head) 1 log.old log.new steps.old.listing steps.new.listing) }
+    ensures refused { OnErr result (HasKept reducts.old reducts.new) }
+    ensures log { OnErr result (log.new ≡ log.old) }
+    ensures listing { OnErr result (steps.new.listing ≡ steps.old.listing) }
+    ensures updates { OnOk result (CountsTuples reducts.old leaf (length tuples.now) 1
+        steps.old.update steps.new.update) }
+    ensures refusal { OnErr result (CountsTuples reducts.old leaf (length tuples.now) 2
+        steps.old.update steps.new.update) }
+    ensures rows { steps.new.rows ≡ steps.old.rows }
+{
+    reducts.laws();
+    insert_leaf_many(reducts, leaf, tuples, &mut steps.update)?;
+    list_changes(reducts, leaf, true, log, &mut steps.listing);
+    finish_insertion(reducts, leaf, &mut steps.update);
+    Ok(())
+}
+
+// Puts tuples into a leaf that lacks them.
+fn add_all_to_leaf<L: Ledgers>(
+    reducts: &mut Reducts,
+    leaf: usize,
+    tuples: &[Cells],
+    wanted: bool,
+    log: &mut DeltaLog,
+    steps: &mut Steps<L>,
+) -> Result<(), NoMem>
+    requires leaf { leaf < reducts.old.tree.leaves }
+    requires fresh { AreNew (length (label_at reducts.old.tree.labels leaf))
+        (entries_at reducts.old.tables leaf) tuples.now }
+    requires few { length (entries_at reducts.old.tables leaf) + length tuples.now ≤ 4294967295 }
+    requires bare { IsBare reducts.old.tables }
+    ensures gained { OnOk result (HasGainedAll reducts.old reducts.new leaf tuples.now) }
+    ensures listed { OnOk result (ListsWhere wanted true (IsGained reducts.new reducts.old)
+        (length reducts.old.tree.head) 1 log.old log.new steps.old.listing steps.new.listing) }
+    ensures refused { OnErr result (HasKept reducts.old reducts.new) }
+    ensures log { OnErr result (log.new ≡ log.old) }
+    ensures listing { OnErr result (steps.new.listing ≡ steps.old.listing) }
+    ensures updates { OnOk result (CountsTuples reducts.old leaf (length tuples.now) 1
+        steps.old.update steps.new.update) }
+    ensures refusal { OnErr result (CountsTuples reducts.old leaf (length tuples.now) 2
+        steps.old.update steps.new.update) }
+    ensures rows { steps.new.rows ≡ steps.old.rows }
+{
+    reducts.laws();
+    if wanted {
+        add_all_and_tell(reducts, leaf, tuples, log, steps)?;
+        return Ok(());
+    }
+    add_leaf_many(reducts, leaf, tuples, &mut steps.update)?;
+    Ok(())
+}
+
+/// Puts a batch's tuples into the leaves over a relation, leaf after leaf, and says how many leaves
+/// it went past. These are all, or that many where the next one was refused for want of memory.
+pub(crate) fn add_all_to_leaves<L: Ledgers>(
+    reducts: &mut Reducts,
+    atoms: &[NumberedAtom],
+    batch: &[Sequence<Cells>],
+    relation: usize,
+    wanted: bool,
+    log: &mut DeltaLog,
+    steps: &mut Steps<L>,
+) -> usize
+    requires can { CanTake relation atoms.now batch.now reducts.old }
+    requires bare { IsBare reducts.old.tables }
+    ensures done { result ≤ length atoms.now }
+    ensures gained { ChangesBelow (λ us old new. Adds us old new) relation atoms.now batch.now result
+        reducts.old reducts.new }
+    ensures more { HasMore reducts.old reducts.new }
+    ensures listed { ListsWhere wanted true (IsGained reducts.new reducts.old)
+        (length reducts.old.tree.head) (atoms_below relation atoms.now result)
+        log.old log.new steps.old.listing steps.new.listing }
+    ensures grows { (more : ℕ) → HasFew more batch.now → GrowsBy more reducts.old reducts.new }
+    ensures updates { result ≡ length atoms.now → (more : ℕ) → HasFew more batch.now
+        → CountsMany more reducts.old (atoms_below relation atoms.now result)
+        steps.old.update steps.new.update }
+    ensures refusal { result < length atoms.now → (more : ℕ) → HasFew more batch.now
+        → CountsMany more reducts.old (atoms_below relation atoms.now result + 2)
+        steps.old.update steps.new.update }
+    ensures left { result < length atoms.now → atoms_below relation atoms.now result + 1
+        ≤ atoms_below relation atoms.now (length atoms.now) }
+    ensures rows { steps.new.rows ≡ steps.old.rows }
+{
+    reducts.laws();
+    'leaves: for leaf in 0..atoms.len() {
+        if atoms[leaf].relation != relation {
+            continue;
+        }
+        let tuples = batch[leaf].as_slice();
+        let Ok(()) = add_all_to_leaf(reducts, leaf, tuples, wanted, log, steps) else {
+            return leaf;
+        };
+    }
+    atoms.len()
+}
+
+/// Gives a batch's tuples back out of the leaves over a relation, leaf after leaf, up to a leaf;
+/// nothing is listed. It takes no memory.
+pub(crate) fn give_all_from_leaves<L: Ledgers>(
+    reducts: &mut Reducts,
+    atoms: &[NumberedAtom],
+    batch: &[Sequence<Cells>],
+    end: usize,
+    relation: usize,
+    steps: &mut Steps<L>,
+)
+    requires leaves { reducts.old.tree.leaves ≡ length atoms.now }
+    requires long { length batch.now ≡ length atoms.now }
+    requires end { end ≤ length atoms.now }
+    requires there { HoldBelow (λ us es. AreThere es us) relation atoms.now batch.now end
+        reducts.old }
+    requires bare { IsBare reducts.old.tables }
+    ensures lost { ChangesBelow (λ us old new. Drops us old new) relation atoms.now batch.now end
+        reducts.old reducts.new }
+    ensures listing { steps.new.listing ≡ steps.old.listing }
+    ensures updates { CountsGiven reducts.old (atoms_below relation atoms.now end)
+        steps.old.update steps.new.update }
+    ensures rows { steps.new.rows ≡ steps.old.rows }
+{
+    reducts.laws();
+    'leaves: for leaf in 0..end {
+        if atoms[leaf].relation != relation {
+            continue;
+        }
+        let tuples = batch[leaf].as_slice();
+        drop_leaf_many(reducts, leaf, tuples, &mut steps.update);
+    }
+}
