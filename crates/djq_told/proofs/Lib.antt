@@ -13,4 +13,5 @@ mod Having
 mod Mirrored
 mod Waiting
 mod Lines
+mod Printed
 mod Holding

@@ -1,8 +1,9 @@
 -- What a mirror makes of what a session is sent that watches a query and lists it.
-use Rattle.std.specs.Prelude.{ℕ, List, [], ◌∷◌, ◌++◌, ◌==◌, ◌≡◌, true, None, IsSomeAnd, All}
+use Rattle.std.specs.Prelude.{ℕ, List, [], ◌∷◌, ◌++◌, ◌==◌, ◌≡◌, true, None, IsSomeAnd, All, codes}
 use Rattle.djq_model.specs.Data.{Bytes, Tuple}
 use Rattle.djq_model.specs.Listed.{Listed, listed_name, AnswersOf}
-use Rattle.djq_lines.specs.Reply.{cells_text}
+use Rattle.djq_lines.specs.declared.rest.NamedRest.{NamedRest}
+use Rattle.djq_lines.specs.Reply.{cells_text, rest_line}
 use Rattle.djq_lines.specs.declared.command.Command.{Command}
 use Rattle.djq_lines.specs.declared.command.Command.TheVariants.{Rel, Add, Del, Query as Register, Open, Next, Close, Explain}
 use Rattle.djq_lines.specs.Grammar.{Reading, says as says_command, reading_of}
@@ -11,6 +12,7 @@ use Rattle.djq_mirror.specs.Inputs.{IsHeld}
 use Rattle.djq_mirror.specs.Replies.{Reply, IsPrinted}
 use Rattle.djq_mirror.specs.Mirror.{Held, at_first, turn_of, allows, has_text, IsInOrder, Turned}
 use Rattle.djq_machine.specs.State.{State, Session, session_of}
+use Rattle.djq_machine.specs.Effect.{Effect}
 use Rattle.djq_machine.specs.LineStep.{run}
 use Rattle.djq_machine.specs.Step.{Event, stepped, ended, closed, Step}
 use Rattle.djq_machine.specs.Run.{Did, Walk, Run, out}
@@ -112,6 +114,25 @@ pub record WaitsStep (s : ℕ) (old : State) (d : Did) (new : State) : Type 0 wh
 abbrev pub WaitsAlong : ℕ → State → List Did → State → Type 0
 WaitsAlong s = Walk (WaitsStep s)
 
+-- A step tells a session no rest: no query that it says is refused with one.
+abbrev pub TellsNoRest : ℕ → Effect → Type 0
+TellsNoRest s e = (rest : NamedRest)
+    → ((e.queued ≡ (s, rest_line (codes "no cyclic") rest) ∷ []) → ⊥)
+    × ((e.queued ≡ (s, rest_line (codes "no connex") rest) ∷ []) → ⊥)
+
+-- So it is of each step of a run.
+abbrev pub TellNoRest : ℕ → List Did → Type 0
+TellNoRest s done = All (λ d. TellsNoRest s d.effect) done
+
+-- A line doesn't ask to explain a query.
+abbrev pub ExplainsNone : Reading → Type 0
+ExplainsNone (says_command (Explain q)) = ⊥
+ExplainsNone r = Unit {0}
+
+abbrev pub ExplainsNothing : ℕ → Event → Type 0
+ExplainsNothing s (stepped t (run l)) = (t == s) ≡ true → ExplainsNone (reading_of l)
+ExplainsNothing s event = Unit {0}
+
 -- A session waits, begins to watch a query, and reads it through one cursor at a time.
 pub record Reads (q : Listed) (s : ℕ) (first : State) (fore : List Did) (old : State) (done : List Did)
     (new : State) : Type 0 where
@@ -151,3 +172,21 @@ EndsAreMirrored = (q : Listed) (s : ℕ) (done : List Did) (new : State) → IsM
 abbrev pub MirroredAreHeld : Type 0
 MirroredAreHeld = (q : Listed) (s : ℕ) (done : List Did) (at : State) (m : IsMirrored q s done at)
     → All (λ r. IsPrinted r × HasFewCells r) m.replies → IsHeld (listed_name q) (out s done) m.held
+
+-- The whole of what a session was sent comes to what a mirror holds, from the first of its bytes to the
+-- last; and where the mirror is live, it holds the query's answers over the rows of a state.
+pub record IsReadBack (q : Listed) (s : ℕ) (done : List Did) (at : State) : Type 0 where
+  pub held : Held
+  pub input : IsHeld (listed_name q) (out s done) held
+  pub live : held.mode ≡ Live → Shows held (AnswersOf at.store.relations q)
+
+-- So it is in every run from a state to start from whose names and values lines can say, if the session
+-- says no query that is refused with a rest; and behind the end of its input, or as it is closed, of the
+-- rows as they were then.
+abbrev pub ReadersAreReadBack : Type 0
+ReadersAreReadBack = (start : State) → IsStart start → IsSayableStore start.store → (q : Listed) (s : ℕ)
+    (earlier : List Did) (first : State) → Run start earlier first → (fore : List Did) (old : State)
+    (done : List Did) (new : State) → Reads q s first fore old done new → TellNoRest s (fore ++ done)
+    → IsReadBack q s (fore ++ done) new
+    × ((d : Did) (last : State) → Step new d.event d.effect last → EndsNow s d.event
+    → IsReadBack q s ((fore ++ done) ++ d ∷ []) new)

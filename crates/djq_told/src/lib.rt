@@ -28,7 +28,7 @@ ghost use Rattle.djq_told.specs.Sayable.{RunsKeepSayable, OpeningIsSayable, Stat
 ghost use Rattle.djq_told.specs.Told.{WatchersAreToldExactly};
 ghost use Rattle.djq_told.specs.Mirrored.{WatchersAreMirrored, ReadersAreMirrored};
 ghost use Rattle.djq_told.specs.Lines.{PrintedAreLines};
-ghost use Rattle.djq_told.specs.Mirrored.{StartsAreMirrored, EndsAreMirrored, MirroredAreHeld};
+ghost use Rattle.djq_told.specs.Mirrored.{StartsAreMirrored, EndsAreMirrored, MirroredAreHeld, ReadersAreReadBack};
 
 /// Along every run from a state to start from whose names and values lines can say, all names are
 /// names, all values are within their limits and their texts of UTF-8, and each variable of a
@@ -50,13 +50,15 @@ pub fn watchers_are_told_exactly()
 /// A mirror of a query, of what a session was sent that begins to watch the query and then reads it
 /// through one cursor at a time, refuses nothing; and where it is live, it holds the query's answers
 /// over the present rows, or those that there were as the session's input ended or it was closed.
-/// Said of replies by their forms; of bytes, where each of them is printed.
+/// Said of replies by their forms, and of the whole of the bytes that the session was sent, where it
+/// said no query that was refused with a rest.
 pub fn readers_are_mirrored()
     ensures watching { WatchersAreMirrored }
     ensures reading { ReadersAreMirrored }
     ensures started { StartsAreMirrored }
     ensures ended { EndsAreMirrored }
     ensures held { MirroredAreHeld }
+    ensures read_back { ReadersAreReadBack }
 {}
 
 /// A printed reply is one line, without an LF inside, and no longer than 16,384 bytes; nothing is said
