@@ -14,4 +14,7 @@ mod Mirrored
 mod Waiting
 mod Lines
 mod Printed
+mod Weighing
+mod Lengths
+mod Resting
 mod Holding

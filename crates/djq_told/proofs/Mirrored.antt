@@ -3,7 +3,7 @@
 use Rattle.std.specs.Prelude.{ℕ, List, [], ◌∷◌, ◌++◌, ◌==◌, ◌≡◌, ◌≤◌, ◌&&◌, Bool, true, false, not, cond, length, filter, find, Option, None, Some, is_some, is_none, IsSomeAnd, MatchOption, option_map, nat_le, map, Result, Ok, Err, codes, All, Contains, ⊤}
 use Rattle.std.proofs.Common.{refl, sym, ap, ap₂, ◌∙◌, subst, inl, inr, arith, append-nil}
 use Rattle.std.proofs.lemmas.Bool.{eqb-true, eq-eqb, and_parts}
-use Rattle.std.proofs.lemmas.List.Elements.{All-nil, All-cons, All-head, All-tail, All-append, All-contains, All-weaker}
+use Rattle.std.proofs.lemmas.List.Elements.{All-nil, All-cons, All-head, All-append, All-contains, All-weaker}
 use Rattle.djq_model.specs.Data.{Bytes, Tuple, bytes_eq}
 use Rattle.djq_model.specs.Equality.{bytes_eq-decides}
 use Rattle.djq_model.specs.Answer.{AreDifferent}
@@ -43,7 +43,7 @@ use Rattle.djq_laws.proofs.Sounding.{step_sound}
 use Rattle.djq_laws.proofs.Touching.{said}
 use Rattle.djq_told.specs.Sayable.{IsName, IsSayableRow, IsSayableListed, IsSayablePosition, IsSayableCursor, IsSayableSession, IsSayableState}
 use Rattle.djq_told.specs.Told.{replies_text, is_told_of}
-use Rattle.djq_told.specs.Mirrored.{Passes, Shows, MayBeSaid, MayBeRead, ReadsOnly, ReadsAlong, IsMirrored, WatchersAreMirrored, TellsNoRest, TellNoRest, ExplainsNone, ExplainsNothing}
+use Rattle.djq_told.specs.Mirrored.{Passes, Shows, MayBeSaid, MayBeRead, ReadsOnly, ReadsAlong, IsMirrored, WatchersAreMirrored, ExplainsNone, ExplainsNothing}
 use Rattle.djq_told.proofs.Having.{OpenHas, CursorHas, HasFew, Has, ReadsCalm, EventCalm, has_line, has_behind, has_step}
 use Rattle.djq_told.proofs.Hearing.{text_append}
 use Rattle.djq_told.proofs.Mirroring.{passes_then, stays, passes_told, idle_with, delta_idles, shows_same, delta_shown, not_before, Behind, answers_shown, answers_idle, opened_shown, stale_idles, more_stays, last_stays, last_lives, shows_with}
@@ -212,7 +212,7 @@ module _ (q : Listed) (s : ℕ) (old : State) (event : Event) (e : Effect) (new 
   )
 
   abbrev pub Says : Type 0
-  Says = (rs : List Reply) × (to_session s e.queued ≡ replies_text rs) × Goes q s new held rs × (TellsNoRest s e → All IsFine rs)
+  Says = (rs : List Reply) × (to_session s e.queued ≡ replies_text rs) × Goes q s new held rs × All IsFine rs
 
   -- `open`
   taken_is : session_of taken s ≡ Some (behind_line rest x)
@@ -226,7 +226,7 @@ module _ (q : Listed) (s : ℕ) (old : State) (event : Event) (e : Effect) (new 
       by (Err r) k =
           let text : e ≡ says s (refusal_line r) = h.effect ∙ ap (λ (z : Result ⊤ Refusal). says s (ok_reply (codes "ok open") z)) k in
           let state : OpensTo taken s c p step.mid (Err r) = subst (λ (z : Result ⊤ Refusal). OpensTo taken s c p step.mid z) k h.state in
-          let g = refused_goes r (text, state) in (refused r ∷ [], g.0, g.1, λ u. one_fine (refused r) (tt, tt))
+          let g = refused_goes r (text, state) in (refused r ∷ [], g.0, g.1, one_fine (refused r) (tt, tt))
       by (Ok u) k =
           let text : e ≡ says s (reply_text cursor_opened) = h.effect ∙ ap (λ (z : Result ⊤ Refusal). says s (ok_reply (codes "ok open") z)) k in
           let state : OpensTo taken s c p step.mid (Ok u) = subst (λ (z : Result ⊤ Refusal). OpensTo taken s c p step.mid z) k h.state in
@@ -256,7 +256,7 @@ module _ (q : Listed) (s : ℕ) (old : State) (event : Event) (e : Effect) (new 
               passes = k2.passes;
               mirrors = is_listing [] k2.is k2.shows (has_behind s (listed_name q) (HasGiven []) old event e new step has);
             },
-            λ u. one_fine cursor_opened (tt, tt),
+            one_fine cursor_opened (tt, tt),
           )
 
   -- `next`
@@ -270,7 +270,7 @@ module _ (q : Listed) (s : ℕ) (old : State) (event : Event) (e : Effect) (new 
       passes = stale_idles (listed_name q) held c relation n;
       mirrors = is_idle refl (from_taken after Any (any_of m));
     },
-    λ u. one_fine (gone_stale c relation n) fine,
+    one_fine (gone_stale c relation n) fine,
   )
     where
       any_of : Mirrors q s old held → Has s (listed_name q) Any old
@@ -324,7 +324,7 @@ module _ (q : Listed) (s : ℕ) (old : State) (event : Event) (e : Effect) (new 
       map (λ t. answer t) h.told ++ last_reply h.end ∷ [],
       answers_text,
       by m h.end refl,
-      λ u. behind_fine h.told (last_reply h.end) (fine h.told h.tells.answers) (last_fine h.end),
+      behind_fine h.told (last_reply h.end) (fine h.told h.tells.answers) (last_fine h.end),
     )
       where
         name : Bytes
@@ -488,7 +488,7 @@ module _ (q : Listed) (s : ℕ) (old : State) (event : Event) (e : Effect) (new 
       by false k = refl
 
   abbrev pub Answered : Type 0
-  Answered = (rs : List Reply) × (to_session s e.queued ≡ replies_text rs) × Goes q s new held rs × (TellsNoRest s e → All IsFine rs)
+  Answered = (rs : List Reply) × (to_session s e.queued ≡ replies_text rs) × Goes q s new held rs × All IsFine rs
 
   -- where no line of the session opens or reads a cursor
   calm_step : event_talks s event ≡ false → Answered
@@ -499,7 +499,7 @@ module _ (q : Listed) (s : ℕ) (old : State) (event : Event) (e : Effect) (new 
         calm_goes q s old new held k.replies (event_changes q old event)
             (λ P h. has_step s (listed_name q) P old event e new (calm_event s (listed_name q) P event calm apart) step h)
             (fine_in old sayable before) (fine_in new (step_sayable old event e new step sayable) behind) (k.harmless calm) k.told m,
-        λ u. k.fine (record { sound = sound; fine = sayable; no_rest = u; no_tree = calm_explains s event calm }),
+        k.fine (record { sound = sound; fine = sayable; no_tree = calm_explains s event calm }),
       )
 
 -- ---- a line of the session's own
@@ -508,7 +508,7 @@ module _ (q : Listed) (s : ℕ) (old : State) (e : Effect) (new : State) (held :
     (sayable : IsSayableState old) (gives : CursorsGive old) (before : IsWatcher q s old) (behind : IsWatcher q s new)
     (m : Mirrors q s old held) where
   abbrev pub Says' : Type 0
-  Says' = (rs : List Reply) × (to_session s e.queued ≡ replies_text rs) × Goes q s new held rs × (TellsNoRest s e → All IsFine rs)
+  Says' = (rs : List Reply) × (to_session s e.queued ≡ replies_text rs) × Goes q s new held rs × All IsFine rs
 
   quiet_same : (l : Bytes) (step : Step old (stepped s (run l)) e new) → event_changes q old (stepped s (run l)) ≡ false
       → SameAnswers old.store.relations new.store.relations q
@@ -533,7 +533,7 @@ module _ (q : Listed) (s : ℕ) (old : State) (e : Effect) (new : State) (held :
     refuses : (r : Refusal) → RefusedStep now s r e (step.mid) → Says'
     refuses r h =
         let k = refused_goes q s old (stepped s (run l)) e new held step x rest is before.registered same good gives runs m r h in
-        (refused r ∷ [], k.0, k.1, λ u. one_fine (refused r) (tt, tt))
+        (refused r ∷ [], k.0, k.1, one_fine (refused r) (tt, tt))
 
     over_name : (c : Bytes) (k : Cursor) → cursor_of x.cursors c ≡ Some k → k.query ≡ listed_name q
     over_name c k found = by m
@@ -652,7 +652,7 @@ record MirrorsAlong (q : Listed) (s : ℕ) (done : List Did) (new : State) (held
   replies : List Reply
   whole : out s done ≡ replies_text replies
   goes : Goes q s new held replies
-  fine : TellNoRest s done → All IsFine replies
+  fine : All IsFine replies
 
 mirrors_along : (q : Listed) (s : ℕ) (old : State) → IsSoundState old → IsSayableState old → CursorsGive old
     → (done : List Did) (new : State) (walk : WatchesAlong q s old done new) → ReadsAlong q s old done new walk
@@ -661,7 +661,7 @@ mirrors_along q s old sound fine gives [] new walk reads held m = record {
   replies = [];
   whole = refl;
   goes = record { behind = held; passes = refl; mirrors = subst (λ (st : State). Mirrors q s st held) (sym walk) m };
-  fine = λ none. All-nil IsFine;
+  fine = All-nil IsFine;
 }
 mirrors_along q s old sound fine gives (d ∷ done) new walk reads held m =
     let h = walk.1 in
@@ -677,9 +677,7 @@ mirrors_along q s old sound fine gives (d ∷ done) new walk reads held m =
         passes = passes_then (listed_name q) held one.2.behind more.goes.behind one.0 more.replies one.2.passes more.goes.passes;
         mirrors = more.goes.mirrors;
       };
-      fine = λ none. All-append IsFine one.0 more.replies
-          (one.3 (All-head (λ (z : Did). TellsNoRest s z.effect) d done none))
-          (more.fine (All-tail (λ (z : Did). TellsNoRest s z.effect) d done none));
+      fine = All-append IsFine one.0 more.replies one.3 more.fine;
     }
 
 shown_live : (q : Listed) (s : ℕ) (st : State) (held : Held) → Mirrors q s st held → held.mode ≡ Live
@@ -688,10 +686,10 @@ shown_live q s st held (is_live mode shows h) e = shows
 shown_live q s st held (is_idle mode h) e = let both : Idle ≡ Live = sym mode ∙ e in absurd (cc both)
 shown_live q s st held (is_listing given mode shows h) e = let both : Listing ≡ Live = sym mode ∙ e in absurd (cc both)
 
--- It is mirrored; and where no rest is told, each of the replies is printed.
+-- It is mirrored, and each of the replies is printed.
 pub record IsWell (q : Listed) (s : ℕ) (done : List Did) (at : State) : Type 0 where
   pub mirrored : IsMirrored q s done at
-  pub fine : TellNoRest s done → All IsFine mirrored.replies
+  pub fine : All IsFine mirrored.replies
 
 pub watchers_are_well : (q : Listed) (s : ℕ) (old : State) → IsSoundState old → IsSayableState old
     → CursorsGive old → IsSomeAnd (session_of old s) (λ x. x.cursors ≡ []) → (done : List Did)

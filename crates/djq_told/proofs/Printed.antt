@@ -23,14 +23,14 @@ use Rattle.djq_mirror.specs.Replies.{Reply, answer, changed, counted, is_cell, a
 use Rattle.djq_laws.specs.Sound.{IsCopyCount, IsSoundStore}
 use Rattle.djq_laws.proofs.Forms.{done_of, none_holds}
 use Rattle.djq_laws.proofs.Rows.{counted_sound}
-use Rattle.djq_told.specs.Lines.{HasFewCells}
+use Rattle.djq_told.specs.Lines.{IsShort}
 use Rattle.djq_told.specs.Sayable.{IsSayableValue, IsSayableRow, IsSayableRelation, IsSayableListed}
 use Rattle.djq_told.specs.Told.{delta_replies}
 use Rattle.djq_told.proofs.Storing.{all_fail, answer_sayable, add_conditions}
 
 -- A reply is printed, and short.
 abbrev pub IsFine : Reply → Type 0
-IsFine r = IsPrinted r × HasFewCells r
+IsFine r = IsPrinted r × IsShort r
 
 pub number_small : (n : ℕ) → n ≤ LAST_SEQ → IsNumber n
 number_small n h = omega (arith, h)

@@ -1,9 +1,8 @@
 -- What each command that changes no rows is answered, by the forms of replies: lines that tell of no delta.
-use Rattle.std.specs.Prelude.{ℕ, List, [], ◌∷◌, ◌++◌, ◌==◌, ◌≡◌, Bool, true, false, cond, Option, None, Some, IsSomeAnd, MatchOption, Result, Ok, Err, map, codes, filter, length, All}
+use Rattle.std.specs.Prelude.{ℕ, List, [], ◌∷◌, ◌++◌, ◌==◌, ◌≡◌, ◌≤◌, Bool, true, false, cond, Option, None, Some, IsSomeAnd, MatchOption, Result, Ok, Err, map, codes, filter, length, All}
 use Rattle.std.specs.List.{flat_map}
 use Rattle.std.specs.Fmt.{decimal}
 use Rattle.std.proofs.Common.{refl, sym, ap, ap₂, ◌∙◌, subst, inl, inr, arith, append_assoc, append-nil}
-use Rattle.std.proofs.lemmas.Bool.{eqb-true}
 use Rattle.std.proofs.lemmas.List.Elements.{All-nil, All-cons, All-head, All-tail, All-append}
 use Rattle.djq_model.specs.declared.query.Query.{Query}
 use Rattle.djq_model.specs.Data.{Bytes, Tuple, bytes_eq}
@@ -29,7 +28,8 @@ use Rattle.djq_lines.specs.declared.rest.QueryOutcome.TheVariants.{Registered, C
 use Rattle.djq_lines.specs.declared.command.Command.{Command}
 use Rattle.djq_lines.specs.declared.command.Command.TheVariants.{Rel, Add, Del, Query as Register, Drop, Open, Next, Close, Has, Watch, Unwatch, Explain, Shape as AskShape, Quit, Stop}
 use Rattle.djq_lines.specs.Grammar.{Reading, says as says_command}
-use Rattle.djq_lines.specs.Hypergraph.{variable_names}
+use Rattle.djq_lines.specs.declared.limits.TheConstants.{LINE_BYTES}
+use Rattle.djq_lines.specs.Hypergraph.{edges_of, head_of, variable_names}
 use Rattle.djq_lines.specs.Reply.{cells_text, line, text_of, answer_line, last_line, listing_lines, ok_reply, add_reply, delete_reply, query_reply, has_reply, shape_reply, watch_reply, edges_text, rest_line, end_memory}
 use Rattle.djq_mirror.specs.Replies.{Reply, Node, leaf, trim, meet, done, opened as cursor_opened, added, removed, absent, registered, cyclic, not_connex, answer, more, last, stale as gone_stale, had, shaped, watched, changed, counted, explained, refused, ended as is_ended, bye, joined, edges_line, reply_text, IsNumber, label_text as label_of, node_text as node_of}
 use Rattle.djq_machine.specs.State.{Store, State, Session, Cursor, Position, open_at, stale, cursor_of}
@@ -43,12 +43,14 @@ use Rattle.djq_laws.proofs.Finding.{some_and}
 use Rattle.djq_mirror.specs.declared.mode.Mode.{Mode}
 use Rattle.djq_mirror.specs.declared.mode.Mode.TheVariants.{Idle, Listing, Live}
 use Rattle.djq_mirror.specs.Mirror.{Act, keep, turn_of, turn_of_change, turn_of_count}
-use Rattle.djq_told.specs.Mirrored.{ExplainsNone, TellsNoRest}
-use Rattle.djq_told.specs.Sayable.{IsSayableListed, IsSayableStore, IsSayablePosition, IsSayableCursor, IsSayableSession}
+use Rattle.djq_told.specs.Mirrored.{ExplainsNone}
+use Rattle.djq_told.specs.Sayable.{IsSayableQuery, IsSayableListed, IsSayableStore, IsSayablePosition, IsSayableCursor, IsSayableSession}
 use Rattle.djq_told.specs.Told.{replies_text, is_told_of}
 use Rattle.djq_told.proofs.Hearing.{text_append}
 use Rattle.djq_told.proofs.Printed.{IsFine, number_small, answers_fine}
-use Rattle.djq_told.proofs.Reading.{IsSayableCommand}
+use Rattle.djq_told.proofs.Lengths.{query_weight}
+use Rattle.djq_told.proofs.Reading.{IsSayableCommand, IsShortCommand}
+use Rattle.djq_told.proofs.Resting.{rest_short, cyclic_light, connex_light, cyclic_below, connex_below}
 use Rattle.djq_told.proofs.Storing.{query_few}
 
 -- A reply tells of no delta.
@@ -362,20 +364,18 @@ explain_replies old s (Some (a_query q)) e new none h =
 
 -- ---- commands
 
--- What a command says can be said; nothing is said of other lines.
+-- What a command says can be said, in a line; nothing is said of other lines.
 abbrev pub IsSayableReading : Reading → Type 0
-IsSayableReading (says_command c) = IsSayableCommand c
+IsSayableReading (says_command c) = IsSayableCommand c × IsShortCommand c
 IsSayableReading r = Unit {0}
 
--- A line of session t is run over such names and values; and it tells session s no rest, and explains
--- it no query.
+-- A line of session t is run over such names and values; and it explains no query to session s.
 pub record Fits (s t : ℕ) (old : Store) (y : Session) (r : Reading) (e : Effect) (new : Store) : Type 0 where
   pub sound : IsSoundStore old
   pub before : IsSayableStore old
   pub session : IsSayableSession y
   pub behind : IsSayableStore new
   pub said : IsSayableReading r
-  pub no_rest : TellsNoRest s e
   pub no_tree : (t == s) ≡ true → ExplainsNone r
 
 -- the same, of a line of the session's own
@@ -407,7 +407,7 @@ module _ (s : ℕ) (old : State) (t : ℕ) (x : Session) (c : Bytes) (count : �
       one_line t _ e.queued _ (of_form _ (gone_stale c relation n) refl (λ name. refl) (λ u.
       let cursor = all_found IsSayableCursor (λ (z : Cursor). bytes_eq z.name c) x.cursors k u.0.session.cursors found in
       let named = subst IsSayablePosition at cursor.position in
-      ((u.0.said, named.0, number_small n named.1), tt))) (ap (λ (y : Effect). y.queued) h.0)
+      ((u.0.said.0, named.0, number_small n named.1), tt))) (ap (λ (y : Effect). y.queued) h.0)
   next_at k found q over (open_at given finished) at (inl h) =
       several_lines t (map (λ a. answer a) h.told ++ last_reply h.end ∷ []) e.queued
       (behind_plain h.told (last_reply h.end) (last_plain h.end))
@@ -437,23 +437,33 @@ close_replies old s c None e new h =
 close_replies old s c (Some k) e new h =
     one_line s _ e.queued _ (of_form _ done refl (λ name. refl) (λ u. (tt, tt))) (ap (λ (x : Effect). x.queued) h.0)
 
--- a rest is told no session that is told none
-own_rest : (s t : ℕ) (e : Effect) (words : Bytes) (rest : NamedRest) → (t == s) ≡ true
-    → e.queued ≡ (t, rest_line words rest) ∷ [] → e.queued ≡ (s, rest_line words rest) ∷ []
-own_rest s t e words rest same is = is ∙ ap (λ (i : ℕ). (i, rest_line words rest) ∷ []) (eqb-true t s same)
+-- the rests that a query is refused with
+cyclic_fine : (old : Store) (q : Query) (r : Result QueryOutcome Refusal) (new : Store) → RegistersQuery old q r new
+    → IsSayableQuery q → query_weight q ≤ LINE_BYTES → (rest : NamedRest) → r ≡ Ok (Cyclic rest)
+    → IsFine (cyclic (named_edges rest))
+cyclic_fine old q r new h said few rest e =
+    let k = subst (λ (z : Result QueryOutcome Refusal). RegistersQuery old q z new) e h in
+    let d = done_of (query_refusal old q) (Cyclic rest) (RegistersAs old q new) (RefusedLate old q new) k.answer in
+    let s = rest_short q said few (edges_of q) d.0.0 d.0.1.rest (cyclic_below q) (cyclic_light q) rest d.0.2 in
+    (s.printed, s.short)
+
+connex_fine : (old : Store) (q : Query) (r : Result QueryOutcome Refusal) (new : Store) → RegistersQuery old q r new
+    → IsSayableQuery q → query_weight q ≤ LINE_BYTES → (rest : NamedRest) → r ≡ Ok (NotConnex rest)
+    → IsFine (not_connex (named_edges rest))
+connex_fine old q r new h said few rest e =
+    let k = subst (λ (z : Result QueryOutcome Refusal). RegistersQuery old q z new) e h in
+    let d = done_of (query_refusal old q) (NotConnex rest) (RegistersAs old q new) (RefusedLate old q new) k.answer in
+    let s = rest_short q said few (head_of q ∷ edges_of q) d.0.0 d.0.1.rest (connex_below q) (connex_light q) rest d.0.2 in
+    (s.printed, s.short)
 
 register_replies : (s : ℕ) (old : State) (t : ℕ) (x : Session) (q : Query) (e : Effect) (new : State) → QueryStep old t q e new
     → Replies t e.queued false (Own s t old.store x (says_command (Register q)) e new.store)
 register_replies s old t x q e new h =
     one_line t _ e.queued _ (query_form h.result
     (λ most k u. most_small old.store q h.result h.store h.done most k)
-    (λ rest k u. absurd ((u.0.no_rest rest).0 (own_rest s t e (codes "no cyclic") rest u.1
-    (queued ∙ ap (λ (r : Result QueryOutcome Refusal). (t, query_reply r) ∷ []) k))))
-    (λ rest k u. absurd ((u.0.no_rest rest).1 (own_rest s t e (codes "no connex") rest u.1
-    (queued ∙ ap (λ (r : Result QueryOutcome Refusal). (t, query_reply r) ∷ []) k))))) queued
-  where
-    queued : e.queued ≡ (t, query_reply h.result) ∷ []
-    queued = ap (λ (y : Effect). y.queued) h.effect
+    (λ rest k u. cyclic_fine old.store q h.result h.store h.done u.0.said.0 u.0.said.1 rest k)
+    (λ rest k u. connex_fine old.store q h.result h.store h.done u.0.said.0 u.0.said.1 rest k))
+    (ap (λ (y : Effect). y.queued) h.effect)
 
 -- A command is none of rows.
 abbrev pub IsRowless : Command → Type 0

@@ -1,5 +1,5 @@
 -- Along a run in which a session watches a query it is told its deltas, and nothing else of it.
-use Rattle.std.specs.Prelude.{ℕ, List, [], ◌∷◌, ◌++◌, ◌==◌, ◌≡◌, ◌≢◌, ◌<◌, ◌≤◌, ◌+◌, ◌⊎◌, ◌&&◌, Bool, true, false, not, cond, filter, Option, None, Some, is_some, MatchOption, option_map, map, Result, All, AllPairs}
+use Rattle.std.specs.Prelude.{ℕ, List, [], ◌∷◌, ◌++◌, ◌==◌, ◌≡◌, ◌≢◌, ◌<◌, ◌≤◌, ◌+◌, ◌⊎◌, ◌&&◌, length, Bool, true, false, not, cond, filter, Option, None, Some, is_some, MatchOption, option_map, map, Result, All, AllPairs}
 use Rattle.std.specs.List.{list_any, flat_map}
 use Rattle.std.proofs.Common.{refl, sym, ap, ap₂, ◌∙◌, subst, inl, inr, arith, append-nil}
 use Rattle.std.proofs.lemmas.Bool.{eqb-true, eq-eqb, ne_eqb}
@@ -8,7 +8,7 @@ use Rattle.djq_model.specs.declared.relation.Relation.{Relation}
 use Rattle.djq_model.specs.Data.{Bytes, Tuple, bytes_eq}
 use Rattle.djq_model.specs.Answer.{IsListing}
 use Rattle.djq_model.specs.Listed.{Listed, listed_name, AnswersOf, listed_of}
-use Rattle.djq_lines.specs.declared.limits.TheConstants.{LAST_SEQ}
+use Rattle.djq_lines.specs.declared.limits.TheConstants.{LAST_SEQ, LINE_BYTES}
 use Rattle.djq_lines.specs.declared.answer.AddOutcome.{AddOutcome}
 use Rattle.djq_lines.specs.declared.answer.DeleteOutcome.{DeleteOutcome}
 use Rattle.djq_lines.specs.declared.answer.Refusal.{Refusal}
@@ -47,10 +47,11 @@ use Rattle.djq_laws.proofs.Sounding.{step_sound}
 use Rattle.djq_laws.proofs.Watched.{watchers_have_answers}
 use Rattle.djq_laws.proofs.Watching.{StepTells, is_quiet, is_told, change_store, queued_store, step_tells}
 use Rattle.djq_told.specs.Told.{replies_text, is_told_of, delta_replies, WatchersAreToldExactly}
-use Rattle.djq_told.specs.Mirrored.{TellsNoRest, ExplainsNothing}
+use Rattle.djq_told.specs.Mirrored.{ExplainsNothing}
 use Rattle.djq_told.specs.Sayable.{IsSayableRelation, IsSayableListed, IsSayableStore, IsSayableSession, IsSayableState}
 use Rattle.djq_told.proofs.Printed.{IsFine, number_small, delta_fine, added_copies, left_copies}
-use Rattle.djq_told.proofs.Reading.{read_sayable}
+use Rattle.djq_told.proofs.Lengths.{line_less}
+use Rattle.djq_told.proofs.Reading.{read_sayable, read_short}
 use Rattle.djq_told.proofs.Sayable.{front_kept}
 use Rattle.djq_told.proofs.Exactly.{all_unmapped, pairs_unmapped, told_one, told_none}
 use Rattle.djq_told.proofs.Hearing.{heard, all_heard, own_replies, text_append, changed_ids, change_heard}
@@ -411,18 +412,17 @@ pub ended_quiet : {U : Type 0} (s : ℕ) (old : State) (t : ℕ) (x : Session) (
 unfolding cut_of
 ended_quiet s old t x e mid h = input_quiet s old t x.held e mid _ x.cause h
 
--- Names and values of a state can be said; and an event tells a session no rest, and explains it none.
+-- Names and values of a state can be said; and an event explains a session no query.
 pub record Tame (s : ℕ) (old : State) (event : Event) (e : Effect) : Type 0 where
   pub sound : IsSoundState old
   pub fine : IsSayableState old
-  pub no_rest : TellsNoRest s e
   pub no_tree : ExplainsNothing s event
 
-reading_said : (l : Bytes) → IsSayableReading (reading_of l)
-reading_said l = by (reading_of l) refl
+reading_said : (l : Bytes) → length l ≤ LINE_BYTES → IsSayableReading (reading_of l)
+reading_said l few = by (reading_of l) refl
   where
     by : (r : Reading) → reading_of l ≡ r → IsSayableReading r
-    by (says_command c) k = read_sayable l c k
+    by (says_command c) k = (read_sayable l c k, read_short l c k few)
     by outside k = tt
     by (past_limit c) k = tt
 
@@ -436,8 +436,7 @@ tame_fits s t old z l e mid found h k =
       before = k.fine.store;
       session = record { cursors = said.cursors; watches = said.watches };
       behind = (front_kept old t z (run l) e mid found h k.fine).store;
-      said = reading_said l;
-      no_rest = k.no_rest;
+      said = reading_said l (line_less z.held l h.2.rest h.2.front);
       no_tree = k.no_tree;
     }
 

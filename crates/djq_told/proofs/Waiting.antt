@@ -2,7 +2,7 @@
 use Rattle.std.specs.Prelude.{ℕ, List, [], ◌∷◌, ◌++◌, ◌==◌, ◌≡◌, ◌<◌, ◌≤◌, ◌&&◌, Bool, true, false, cond, None, Some, Result, All, AllPairs}
 use Rattle.std.proofs.Common.{refl, sym, ap, ap₂, ◌∙◌, subst, inr, append-nil}
 use Rattle.std.proofs.lemmas.Grind.{flat_map-append}
-use Rattle.std.proofs.lemmas.List.Elements.{All-nil, All-cons, All-head, All-tail, All-append}
+use Rattle.std.proofs.lemmas.List.Elements.{All-nil, All-cons, All-append}
 use Rattle.djq_model.specs.Data.{Bytes}
 use Rattle.djq_model.specs.Listed.{Listed, listed_name}
 use Rattle.djq_lines.specs.declared.limits.TheConstants.{LAST_SEQ}
@@ -37,7 +37,7 @@ use Rattle.djq_laws.proofs.Queueing.{stepped_cause}
 use Rattle.djq_laws.proofs.Sounding.{step_sound, states_are_sound}
 use Rattle.djq_told.specs.Sayable.{IsSayableStore, IsSayableState}
 use Rattle.djq_told.specs.Told.{replies_text}
-use Rattle.djq_told.specs.Mirrored.{Passes, IsMirrored, Reads, TellsNoRest, TellNoRest, ExplainsNone, ExplainsNothing, ReadersAreReadBack, AsksNoListing, SaysNoListing, WaitsAlong, ReadersAreMirrored, StartsAreMirrored, EndsNow, EndsAreMirrored}
+use Rattle.djq_told.specs.Mirrored.{Passes, IsMirrored, Reads, ExplainsNone, ExplainsNothing, ReadersAreReadBack, AsksNoListing, SaysNoListing, WaitsAlong, ReadersAreMirrored, StartsAreMirrored, EndsNow, EndsAreMirrored}
 use Rattle.djq_told.proofs.Hearing.{all_heard, own_replies, text_append, changed_ids, change_heard}
 use Rattle.djq_told.proofs.Holding.{mirrored_are_held}
 use Rattle.djq_told.proofs.Mirrored.{IsWell, watchers_are_well}
@@ -206,7 +206,7 @@ record Waited (s : ℕ) (done : List Did) (new : State) : Type 0 where
   whole : out s done ≡ replies_text replies
   plain : All IsPlain replies
   harmless : All IsHarmless replies
-  printed : TellNoRest s done → All IsFine replies
+  printed : All IsFine replies
   sound : IsSoundState new
   fine : IsSayableState new
   gives : CursorsGive new
@@ -218,7 +218,7 @@ waited s old sound fine gives [] new walk = record {
   whole = refl;
   plain = All-nil IsPlain;
   harmless = All-nil IsHarmless;
-  printed = λ none. All-nil IsFine;
+  printed = All-nil IsFine;
   sound = subst IsSoundState (sym walk) sound;
   fine = subst IsSayableState (sym walk) fine;
   gives = subst CursorsGive (sym walk) gives;
@@ -237,14 +237,8 @@ waited s old sound fine gives (d ∷ done) new walk =
       whole = ap₂ (λ (xs ys : Bytes). xs ++ ys) one.text more.whole ∙ sym (text_append one.replies more.replies);
       plain = All-append IsPlain one.replies more.replies one.plain more.plain;
       harmless = All-append IsHarmless one.replies more.replies (one.harmless (no_talk_event s d.event h.says)) more.harmless;
-      printed = λ none. All-append IsFine one.replies more.replies
-          (one.fine (record {
-            sound = sound;
-            fine = fine;
-            no_rest = All-head (λ (z : Did). TellsNoRest s z.effect) d done none;
-            no_tree = explains_none s d.event h.says;
-          }))
-          (more.printed (All-tail (λ (z : Did). TellsNoRest s z.effect) d done none));
+      printed = All-append IsFine one.replies more.replies
+          (one.fine (record { sound = sound; fine = fine; no_tree = explains_none s d.event h.says })) more.printed;
       sound = more.sound;
       fine = more.fine;
       gives = more.gives;
@@ -252,15 +246,6 @@ waited s old sound fine gives (d ∷ done) new walk =
 
 out_append : (s : ℕ) (xs ys : List Did) → out s (xs ++ ys) ≡ out s xs ++ out s ys
 out_append s xs ys = flat_map-append (λ (d : Did). to_session s d.effect.queued) xs ys
-
--- of both parts of a list
-parts_hold : (s : ℕ) (xs ys : List Did) → TellNoRest s (xs ++ ys) → TellNoRest s xs × TellNoRest s ys
-parts_hold s [] ys h = (All-nil (λ (z : Did). TellsNoRest s z.effect), h)
-parts_hold s (x ∷ xs) ys h =
-    let rest = parts_hold s xs ys (All-tail (λ (z : Did). TellsNoRest s z.effect) x (xs ++ ys) h) in (
-      All-cons (λ (z : Did). TellsNoRest s z.effect) x xs (All-head (λ (z : Did). TellsNoRest s z.effect) x (xs ++ ys) h) rest.0,
-      rest.1,
-    )
 
 readers_are_well : (q : Listed) (s : ℕ) (first : State) → IsSoundState first → IsSayableState first
     → CursorsGive first → (fore : List Did) (old : State) (done : List Did) (new : State)
@@ -277,9 +262,7 @@ readers_are_well q s first sound fine gives fore old done new h =
             (plain_passes (listed_name q) at_first w.replies w.plain w.harmless) m.passes;
         live = m.live;
       };
-      fine = λ none.
-          let both = parts_hold s fore done none in
-          All-append IsFine w.replies m.replies (w.printed both.0) (k.fine both.1);
+      fine = All-append IsFine w.replies m.replies w.printed k.fine;
     }
 
 pub readers_are_mirrored : ReadersAreMirrored
@@ -335,9 +318,9 @@ ends_are_mirrored q s done new m d last step now = end_mirrored q s done new m d
 -- ---- in bytes
 
 pub readers_are_read_back : ReadersAreReadBack
-readers_are_read_back start h said q s earlier first walk fore old done new reads none =
+readers_are_read_back start h said q s earlier first walk fore old done new reads =
     let k = starts_are_well start h said q s earlier first walk fore old done new reads in
-    let fine = k.fine none in (
+    let fine = k.fine in (
       record {
         held = k.mirrored.held;
         input = mirrored_are_held q s (fore ++ done) new k.mirrored fine;

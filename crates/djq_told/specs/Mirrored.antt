@@ -1,9 +1,8 @@
 -- What a mirror makes of what a session is sent that watches a query and lists it.
-use Rattle.std.specs.Prelude.{ℕ, List, [], ◌∷◌, ◌++◌, ◌==◌, ◌≡◌, true, None, IsSomeAnd, All, codes}
+use Rattle.std.specs.Prelude.{ℕ, List, [], ◌∷◌, ◌++◌, ◌==◌, ◌≡◌, true, None, IsSomeAnd, All}
 use Rattle.djq_model.specs.Data.{Bytes, Tuple}
 use Rattle.djq_model.specs.Listed.{Listed, listed_name, AnswersOf}
-use Rattle.djq_lines.specs.declared.rest.NamedRest.{NamedRest}
-use Rattle.djq_lines.specs.Reply.{cells_text, rest_line}
+use Rattle.djq_lines.specs.Reply.{cells_text}
 use Rattle.djq_lines.specs.declared.command.Command.{Command}
 use Rattle.djq_lines.specs.declared.command.Command.TheVariants.{Rel, Add, Del, Query as Register, Open, Next, Close, Explain}
 use Rattle.djq_lines.specs.Grammar.{Reading, says as says_command, reading_of}
@@ -12,7 +11,6 @@ use Rattle.djq_mirror.specs.Inputs.{IsHeld}
 use Rattle.djq_mirror.specs.Replies.{Reply, IsPrinted}
 use Rattle.djq_mirror.specs.Mirror.{Held, at_first, turn_of, allows, has_text, IsInOrder, Turned}
 use Rattle.djq_machine.specs.State.{State, Session, session_of}
-use Rattle.djq_machine.specs.Effect.{Effect}
 use Rattle.djq_machine.specs.LineStep.{run}
 use Rattle.djq_machine.specs.Step.{Event, stepped, ended, closed, Step}
 use Rattle.djq_machine.specs.Run.{Did, Walk, Run, out}
@@ -21,7 +19,7 @@ use Rattle.djq_laws.specs.Sound.{IsSoundState, IsStart}
 use Rattle.djq_laws.specs.Staying.{GoesOn}
 use Rattle.djq_laws.specs.Watched.{WatchesAlong}
 use Rattle.djq_told.specs.Sayable.{IsSayableStore, IsSayableState}
-use Rattle.djq_told.specs.Lines.{HasFewCells}
+use Rattle.djq_told.specs.Lines.{IsShort}
 use Rattle.djq_told.specs.Told.{replies_text}
 
 -- Replies, one after the other, are allowed in a mirror of the query of a name, and this is held
@@ -114,16 +112,6 @@ pub record WaitsStep (s : ℕ) (old : State) (d : Did) (new : State) : Type 0 wh
 abbrev pub WaitsAlong : ℕ → State → List Did → State → Type 0
 WaitsAlong s = Walk (WaitsStep s)
 
--- A step tells a session no rest: no query that it says is refused with one.
-abbrev pub TellsNoRest : ℕ → Effect → Type 0
-TellsNoRest s e = (rest : NamedRest)
-    → ((e.queued ≡ (s, rest_line (codes "no cyclic") rest) ∷ []) → ⊥)
-    × ((e.queued ≡ (s, rest_line (codes "no connex") rest) ∷ []) → ⊥)
-
--- So it is of each step of a run.
-abbrev pub TellNoRest : ℕ → List Did → Type 0
-TellNoRest s done = All (λ d. TellsNoRest s d.effect) done
-
 -- A line doesn't ask to explain a query.
 abbrev pub ExplainsNone : Reading → Type 0
 ExplainsNone (says_command (Explain q)) = ⊥
@@ -167,11 +155,11 @@ EndsAreMirrored = (q : Listed) (s : ℕ) (done : List Did) (new : State) → IsM
     → (d : Did) (last : State) → Step new d.event d.effect last → EndsNow s d.event
     → IsMirrored q s (done ++ d ∷ []) new
 
--- Where these replies are printed, and none is a rest or explains a tree, the mirror's whole input
+-- Where these replies are printed, and none is too long, the mirror's whole input
 -- comes to what it holds: none of its bytes is refused.
 abbrev pub MirroredAreHeld : Type 0
 MirroredAreHeld = (q : Listed) (s : ℕ) (done : List Did) (at : State) (m : IsMirrored q s done at)
-    → All (λ r. IsPrinted r × HasFewCells r) m.replies → IsHeld (listed_name q) (out s done) m.held
+    → All (λ r. IsPrinted r × IsShort r) m.replies → IsHeld (listed_name q) (out s done) m.held
 
 -- The whole of what a session was sent comes to what a mirror holds, from the first of its bytes to the
 -- last; and where the mirror is live, it holds the query's answers over the rows of a state.
@@ -180,13 +168,12 @@ pub record IsReadBack (q : Listed) (s : ℕ) (done : List Did) (at : State) : Ty
   pub input : IsHeld (listed_name q) (out s done) held
   pub live : held.mode ≡ Live → Shows held (AnswersOf at.store.relations q)
 
--- So it is in every run from a state to start from whose names and values lines can say, if the session
--- says no query that is refused with a rest; and behind the end of its input, or as it is closed, of the
--- rows as they were then.
+-- So it is in every run from a state to start from whose names and values lines can say; and behind the
+-- end of the session's input, or as it is closed, of the rows as they were then.
 abbrev pub ReadersAreReadBack : Type 0
 ReadersAreReadBack = (start : State) → IsStart start → IsSayableStore start.store → (q : Listed) (s : ℕ)
     (earlier : List Did) (first : State) → Run start earlier first → (fore : List Did) (old : State)
-    (done : List Did) (new : State) → Reads q s first fore old done new → TellNoRest s (fore ++ done)
+    (done : List Did) (new : State) → Reads q s first fore old done new
     → IsReadBack q s (fore ++ done) new
     × ((d : Did) (last : State) → Step new d.event d.effect last → EndsNow s d.event
     → IsReadBack q s ((fore ++ done) ++ d ∷ []) new)
