@@ -7,7 +7,7 @@ use Rattle.djq_model.specs.Listed.{listed_name}
 use Rattle.djq_mirror.specs.Inputs.{lines_text, FollowsAll}
 use Rattle.djq_mirror.specs.Mirror.{Held, at_first}
 use Rattle.djq_mirror.specs.Replies.{Reply, IsPrinted}
-use Rattle.djq_told.specs.Lines.{HasFewCells}
+use Rattle.djq_told.specs.Lines.{IsShort}
 use Rattle.djq_told.specs.Mirrored.{Passes, MirroredAreHeld}
 use Rattle.djq_told.specs.Told.{replies_text}
 use Rattle.djq_told.proofs.Lines.{printed_are_lines}
@@ -19,12 +19,12 @@ record AreFollowed (name : Bytes) (old : Held) (rs : List Reply) (new : Held) : 
   follows : FollowsAll name old lines new
 
 followed : (name : Bytes) (old : Held) (rs : List Reply) (new : Held) → Passes name old rs new
-    → All (λ r. IsPrinted r × HasFewCells r) rs → AreFollowed name old rs new
+    → All (λ r. IsPrinted r × IsShort r) rs → AreFollowed name old rs new
 followed name old [] new h p = record { lines = []; text = refl; follows = h }
 followed name old (r ∷ rs) new h p =
-    let first = All-head (λ (x : Reply). IsPrinted x × HasFewCells x) r rs p in
+    let first = All-head (λ (x : Reply). IsPrinted x × IsShort x) r rs p in
     let l = printed_are_lines r first.0 first.1 in
-    let more = followed name h.0 rs new h.3 (All-tail (λ (x : Reply). IsPrinted x × HasFewCells x) r rs p) in record {
+    let more = followed name h.0 rs new h.3 (All-tail (λ (x : Reply). IsPrinted x × IsShort x) r rs p) in record {
       lines = l.0 ∷ more.lines;
       text = ap₂ (λ (xs ys : Bytes). xs ++ ys) (sym l.1.text) more.text;
       follows = (

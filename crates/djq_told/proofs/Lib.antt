@@ -13,4 +13,8 @@ mod Having
 mod Mirrored
 mod Waiting
 mod Lines
+mod Printed
+mod Weighing
+mod Lengths
+mod Resting
 mod Holding

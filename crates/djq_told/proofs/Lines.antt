@@ -10,7 +10,8 @@ use Rattle.std.proofs.lemmas.List.Elements.{All-nil, All-cons, All-append}
 use Rattle.djq_model.specs.declared.value.Value.{Value}
 use Rattle.djq_model.specs.declared.value.Value.TheVariants.{Int, Text}
 use Rattle.djq_model.specs.declared.value.TheConstants.{TEXT_BYTES}
-use Rattle.djq_model.specs.Data.{Bytes, Tuple}
+use Rattle.djq_model.specs.Data.{Bytes, Tuple, bytes_eq}
+use Rattle.djq_model.specs.Equality.{bytes_eq-decides}
 use Rattle.djq_value.specs.Literal.{is_lower, is_digit, is_name, is_small_value}
 use Rattle.djq_value.specs.ValueText.{escaped, value_text}
 use Rattle.djq_lines.specs.declared.answer.EndLine.TheVariants.{Long, Slow, Memory, Full}
@@ -21,7 +22,7 @@ use Rattle.djq_lines.specs.declared.answer.Refusal.TheVariants.{Syntax, Taken, N
 use Rattle.djq_lines.specs.Reply.{line, cells_text, sign_text}
 use Rattle.djq_mirror.specs.declared.mode.TheConstants.{REPLY_LINE_BYTES}
 use Rattle.djq_mirror.specs.Inputs.{HasNoLf}
-use Rattle.djq_mirror.specs.Replies.{Reply, done, opened, added, removed, absent, registered, cyclic, not_connex, answer, more, last, stale, had, shaped, watched, changed, counted, explained, refused, ended, cut, bye, reply_text, IsNumber, is_cell, are_cells}
+use Rattle.djq_mirror.specs.Replies.{Reply, done, opened, added, removed, absent, registered, cyclic, not_connex, answer, more, last, stale, had, shaped, watched, changed, counted, explained, refused, ended, cut, bye, joined, reply_text, IsNumber, is_cell, are_cells, is_variable, is_label, is_edge, is_rest}
 use Rattle.djq_told.specs.Lines.{IsTheLine, PrintedAreLines}
 
 -- ---- no LF
@@ -169,6 +170,39 @@ change_plain : (s : Sign) → HasNoLf (sign_text s) × (length (sign_text s) ≤
 change_plain Came = (plain_bytes (codes "+ ") refl, omega arith)
 change_plain Went = (plain_bytes (codes "- ") refl, omega arith)
 
+-- ---- rests
+
+variable_plain : (x : Bytes) → is_variable x ≡ true → HasNoLf x
+variable_plain x e = by (is_name x) refl e
+  where
+    by : (b : Bool) → is_name x ≡ b → (b || bytes_eq x (codes "_")) ≡ true → HasNoLf x
+    by true f g = (name_plain x f).0
+    by false f g = subst HasNoLf (sym ((bytes_eq-decides x (codes "_")).0 g)) (plain_bytes (codes "_") refl)
+
+commas_plain : (xs : List Bytes) → is_label xs ≡ true → HasNoLf (flat_map (λ y. 44 ∷ y) xs)
+commas_plain [] e = All-nil (λ b. b ≢ 10)
+commas_plain (x ∷ xs) e =
+    let both = and_parts (is_variable x) (is_label xs) e in
+    join (44 ∷ x) (flat_map (λ y. 44 ∷ y) xs) (join (44 ∷ []) x (plain_bytes (44 ∷ []) refl) (variable_plain x both.0))
+    (commas_plain xs both.1)
+
+edge_plain : (xs : List Bytes) → is_edge xs ≡ true → HasNoLf (joined xs)
+edge_plain [] e = absurd cc
+edge_plain (x ∷ xs) e =
+    let both = and_parts (is_variable x) (is_label xs) e in
+    join x (flat_map (λ y. 44 ∷ y) xs) (variable_plain x both.0) (commas_plain xs both.1)
+
+edges_plain : (es : List (List Bytes)) → list_all is_edge es ≡ true → HasNoLf (flat_map (λ e. 32 ∷ joined e) es)
+edges_plain [] e = All-nil (λ b. b ≢ 10)
+edges_plain (f ∷ es) e =
+    let both = and_parts (is_edge f) (list_all is_edge es) e in
+    join (32 ∷ joined f) (flat_map (λ e. 32 ∷ joined e) es)
+    (join (32 ∷ []) (joined f) (plain_bytes (32 ∷ []) refl) (edge_plain f both.0)) (edges_plain es both.1)
+
+rest_plain : (es : List (List Bytes)) → is_rest es ≡ true → HasNoLf (flat_map (λ e. 32 ∷ joined e) es)
+rest_plain [] e = absurd cc
+rest_plain (f ∷ es) e = edges_plain (f ∷ es) e
+
 pub printed_are_lines : PrintedAreLines
 printed_are_lines done p few = fixed done (codes "ok") refl refl (omega arith)
 printed_are_lines opened p few = fixed opened (codes "ok open") refl refl (omega arith)
@@ -180,8 +214,14 @@ printed_are_lines (absent n) p few =
     words_number (absent n) (codes "ok absent ") n refl (plain_bytes (codes "ok absent ") refl) (omega arith) p
 printed_are_lines (registered n) p few =
     words_number (registered n) (codes "ok query ") n refl (plain_bytes (codes "ok query ") refl) (omega arith) p
-printed_are_lines (cyclic edges) p few = absurd few
-printed_are_lines (not_connex edges) p few = absurd few
+printed_are_lines (cyclic edges) p few =
+    the_line (cyclic edges) (codes "no cyclic" ++ flat_map (λ e. 32 ∷ joined e) edges) 4105 refl
+    (behind (codes "no cyclic") (flat_map (λ e. 32 ∷ joined e) edges) 9 4096
+    (plain_bytes (codes "no cyclic") refl, omega arith) (rest_plain edges p, few)) (omega arith)
+printed_are_lines (not_connex edges) p few =
+    the_line (not_connex edges) (codes "no connex" ++ flat_map (λ e. 32 ∷ joined e) edges) 4105 refl
+    (behind (codes "no connex") (flat_map (λ e. 32 ∷ joined e) edges) 9 4096
+    (plain_bytes (codes "no connex") refl, omega arith) (rest_plain edges p, few)) (omega arith)
 printed_are_lines (answer t) p few =
     let k = cells_plain t p in
     let most = k.1 in (

@@ -34,19 +34,21 @@ use Rattle.djq_laws.specs.Sound.{IsSoundState}
 use Rattle.djq_laws.specs.Watched.{IsWatcher, WatchesAlong, event_changes, line_outdater}
 use Rattle.djq_laws.proofs.Answering.{SameAnswers}
 use Rattle.djq_laws.proofs.Changing.{all_found}
+use Rattle.djq_laws.proofs.Containing.{found_passes}
 use Rattle.djq_laws.proofs.Finding.{some_and}
 use Rattle.djq_laws.proofs.Forms.{none_holds, none_found, none_first}
 use Rattle.djq_laws.proofs.Giving.{step_gives}
 use Rattle.djq_laws.proofs.Queueing.{gaining, session_changed, stepped_cause, stepped as stepped_session}
 use Rattle.djq_laws.proofs.Sounding.{step_sound}
 use Rattle.djq_laws.proofs.Touching.{said}
-use Rattle.djq_told.specs.Sayable.{IsSayableRow, IsSayableListed, IsSayableState}
+use Rattle.djq_told.specs.Sayable.{IsName, IsSayableRow, IsSayableListed, IsSayablePosition, IsSayableCursor, IsSayableSession, IsSayableState}
 use Rattle.djq_told.specs.Told.{replies_text, is_told_of}
-use Rattle.djq_told.specs.Mirrored.{Passes, Shows, MayBeSaid, MayBeRead, ReadsOnly, ReadsAlong, WatchersAreMirrored}
+use Rattle.djq_told.specs.Mirrored.{Passes, Shows, MayBeSaid, MayBeRead, ReadsOnly, ReadsAlong, IsMirrored, WatchersAreMirrored, ExplainsNone, ExplainsNothing}
 use Rattle.djq_told.proofs.Having.{OpenHas, CursorHas, HasFew, Has, ReadsCalm, EventCalm, has_line, has_behind, has_step}
 use Rattle.djq_told.proofs.Hearing.{text_append}
 use Rattle.djq_told.proofs.Mirroring.{passes_then, stays, passes_told, idle_with, delta_idles, shows_same, delta_shown, not_before, Behind, answers_shown, answers_idle, opened_shown, stale_idles, more_stays, last_stays, last_lives, shows_with}
-use Rattle.djq_told.proofs.Replying.{IsHarmless, harmless_form, last_reply, listing_text, talks}
+use Rattle.djq_told.proofs.Printed.{IsFine, one_fine, number_small, answers_fine}
+use Rattle.djq_told.proofs.Replying.{IsHarmless, harmless_form, last_reply, last_fine, behind_fine, listing_text, talks}
 use Rattle.djq_told.proofs.Sayable.{step_sayable}
 use Rattle.djq_told.proofs.Storing.{answer_sayable}
 use Rattle.djq_told.proofs.Telling.{StepTold, tells_none, tells_delta, reading_talks, event_talks, step_says}
@@ -210,7 +212,7 @@ module _ (q : Listed) (s : ℕ) (old : State) (event : Event) (e : Effect) (new 
   )
 
   abbrev pub Says : Type 0
-  Says = (rs : List Reply) × (to_session s e.queued ≡ replies_text rs) × Goes q s new held rs
+  Says = (rs : List Reply) × (to_session s e.queued ≡ replies_text rs) × Goes q s new held rs × All IsFine rs
 
   -- `open`
   taken_is : session_of taken s ≡ Some (behind_line rest x)
@@ -224,7 +226,7 @@ module _ (q : Listed) (s : ℕ) (old : State) (event : Event) (e : Effect) (new 
       by (Err r) k =
           let text : e ≡ says s (refusal_line r) = h.effect ∙ ap (λ (z : Result ⊤ Refusal). says s (ok_reply (codes "ok open") z)) k in
           let state : OpensTo taken s c p step.mid (Err r) = subst (λ (z : Result ⊤ Refusal). OpensTo taken s c p step.mid z) k h.state in
-          let g = refused_goes r (text, state) in (refused r ∷ [], g.0, g.1)
+          let g = refused_goes r (text, state) in (refused r ∷ [], g.0, g.1, one_fine (refused r) (tt, tt))
       by (Ok u) k =
           let text : e ≡ says s (reply_text cursor_opened) = h.effect ∙ ap (λ (z : Result ⊤ Refusal). says s (ok_reply (codes "ok open") z)) k in
           let state : OpensTo taken s c p step.mid (Ok u) = subst (λ (z : Result ⊤ Refusal). OpensTo taken s c p step.mid z) k h.state in
@@ -254,11 +256,13 @@ module _ (q : Listed) (s : ℕ) (old : State) (event : Event) (e : Effect) (new 
               passes = k2.passes;
               mirrors = is_listing [] k2.is k2.shows (has_behind s (listed_name q) (HasGiven []) old event e new step has);
             },
+            one_fine cursor_opened (tt, tt),
           )
 
   -- `next`
-  stale_goes : (c relation : Bytes) (n : ℕ) → e ≡ says s (reply_text (gone_stale c relation n)) → step.mid ≡ taken → Says
-  stale_goes c relation n text after = (
+  stale_goes : (c relation : Bytes) (n : ℕ) → IsFine (gone_stale c relation n)
+      → e ≡ says s (reply_text (gone_stale c relation n)) → step.mid ≡ taken → Says
+  stale_goes c relation n fine text after = (
     gone_stale c relation n ∷ [],
     said s (reply_text (gone_stale c relation n)) e text ∙ sym (append-nil (reply_text (gone_stale c relation n))),
     record {
@@ -266,6 +270,7 @@ module _ (q : Listed) (s : ℕ) (old : State) (event : Event) (e : Effect) (new 
       passes = stale_idles (listed_name q) held c relation n;
       mirrors = is_idle refl (from_taken after Any (any_of m));
     },
+    one_fine (gone_stale c relation n) fine,
   )
     where
       any_of : Mirrors q s old held → Has s (listed_name q) Any old
@@ -313,8 +318,14 @@ module _ (q : Listed) (s : ℕ) (old : State) (event : Event) (e : Effect) (new 
     all_good : (ts : List Tuple) → All (AnswersOf old.store.relations q) ts → All IsSayableRow ts
     all_good ts a = All-weaker (AnswersOf old.store.relations q) IsSayableRow good ts a
 
-    read_goes : k.query ≡ listed_name q → Says
-    read_goes over = (map (λ t. answer t) h.told ++ last_reply h.end ∷ [], answers_text, by m h.end refl)
+    read_goes : k.query ≡ listed_name q
+        → ((ts : List Tuple) → All (AnswersOf old.store.relations q) ts → All IsFine (map (λ t. answer t) ts)) → Says
+    read_goes over fine = (
+      map (λ t. answer t) h.told ++ last_reply h.end ∷ [],
+      answers_text,
+      by m h.end refl,
+      behind_fine h.told (last_reply h.end) (fine h.told h.tells.answers) (last_fine h.end),
+    )
       where
         name : Bytes
         name = listed_name q
@@ -431,6 +442,19 @@ calm_event s name P (took t bytes) e apart = tt
 calm_event s name P (ended t) e apart = tt
 calm_event s name P (closed t bytes) e apart = apart t bytes refl
 
+calm_explains : (s : ℕ) (event : Event) → event_talks s event ≡ false → ExplainsNothing s event
+calm_explains s (stepped t (run l)) e = λ same. of (reading_of l) (second_false (t == s) (reading_talks (reading_of l)) e same)
+  where
+    of_command : (c : Command) → talks c ≡ false → ExplainsNone (says_command c)
+    of_command (Explain q) k = absurd cc
+    of_command c k = tt
+
+    of : (r : Reading) → reading_talks r ≡ false → ExplainsNone r
+    of (says_command c) k = of_command c k
+    of outside k = tt
+    of (past_limit c) k = tt
+calm_explains s event e = tt
+
 module _ (q : Listed) (s : ℕ) (old : State) (event : Event) (e : Effect) (new : State) (held : Held) (sound : IsSoundState old)
     (sayable : IsSayableState old) (gives : CursorsGive old) (step : Step old event e new) (before : IsWatcher q s old)
     (behind : IsWatcher q s new) (m : Mirrors q s old held) where
@@ -464,7 +488,7 @@ module _ (q : Listed) (s : ℕ) (old : State) (event : Event) (e : Effect) (new 
       by false k = refl
 
   abbrev pub Answered : Type 0
-  Answered = (rs : List Reply) × (to_session s e.queued ≡ replies_text rs) × Goes q s new held rs
+  Answered = (rs : List Reply) × (to_session s e.queued ≡ replies_text rs) × Goes q s new held rs × All IsFine rs
 
   -- where no line of the session opens or reads a cursor
   calm_step : event_talks s event ≡ false → Answered
@@ -475,6 +499,7 @@ module _ (q : Listed) (s : ℕ) (old : State) (event : Event) (e : Effect) (new 
         calm_goes q s old new held k.replies (event_changes q old event)
             (λ P h. has_step s (listed_name q) P old event e new (calm_event s (listed_name q) P event calm apart) step h)
             (fine_in old sayable before) (fine_in new (step_sayable old event e new step sayable) behind) (k.harmless calm) k.told m,
+        k.fine (record { sound = sound; fine = sayable; no_tree = calm_explains s event calm }),
       )
 
 -- ---- a line of the session's own
@@ -483,7 +508,7 @@ module _ (q : Listed) (s : ℕ) (old : State) (e : Effect) (new : State) (held :
     (sayable : IsSayableState old) (gives : CursorsGive old) (before : IsWatcher q s old) (behind : IsWatcher q s new)
     (m : Mirrors q s old held) where
   abbrev pub Says' : Type 0
-  Says' = (rs : List Reply) × (to_session s e.queued ≡ replies_text rs) × Goes q s new held rs
+  Says' = (rs : List Reply) × (to_session s e.queued ≡ replies_text rs) × Goes q s new held rs × All IsFine rs
 
   quiet_same : (l : Bytes) (step : Step old (stepped s (run l)) e new) → event_changes q old (stepped s (run l)) ≡ false
       → SameAnswers old.store.relations new.store.relations q
@@ -508,7 +533,7 @@ module _ (q : Listed) (s : ℕ) (old : State) (e : Effect) (new : State) (held :
     refuses : (r : Refusal) → RefusedStep now s r e (step.mid) → Says'
     refuses r h =
         let k = refused_goes q s old (stepped s (run l)) e new held step x rest is before.registered same good gives runs m r h in
-        (refused r ∷ [], k.0, k.1)
+        (refused r ∷ [], k.0, k.1, one_fine (refused r) (tt, tt))
 
     over_name : (c : Bytes) (k : Cursor) → cursor_of x.cursors c ≡ Some k → k.query ≡ listed_name q
     over_name c k found = by m
@@ -527,10 +552,18 @@ module _ (q : Listed) (s : ℕ) (old : State) (e : Effect) (new : State) (held :
     next_at : (c : Bytes) (k : Cursor) (count : ℕ) (p : Position) → cursor_of x.cursors c ≡ Some k → k.position ≡ p
         → NextStepAt now s c q count p e (step.mid) → Says'
     next_at c k count (stale relation n) found stands h =
-        stale_goes q s old (stepped s (run l)) e new held step x rest is before.registered same good gives runs m c relation n h.0 h.1
+        let session = all_found IsSayableSession (λ (y : Session). y.id == s) old.sessions x sayable.sessions is in
+        let cursor = all_found IsSayableCursor (λ (z : Cursor). bytes_eq z.name c) x.cursors k session.cursors found in
+        let named = subst IsSayablePosition stands cursor.position in
+        let called = (bytes_eq-decides k.name c).0 (found_passes (λ (z : Cursor). bytes_eq z.name c) x.cursors k found) in
+        stale_goes q s old (stepped s (run l)) e new held step x rest is before.registered same good gives runs m c relation n
+        ((subst IsName called cursor.name, named.0, number_small n named.1), tt) h.0 h.1
     next_at c k count (open_at given finished) found stands (inl h) =
         read_goes q s old (stepped s (run l)) e new held step x rest is before.registered same good gives runs m c k count given
         finished found stands h (over_name c k found)
+        (λ ts a. answers_fine old.store.relations sayable.store.relations q
+        (all_found IsSayableListed (λ (p : Listed). bytes_eq (listed_name p) (listed_name q)) old.store.queries q
+        sayable.store.queries before.registered) ts a)
     next_at c k count (open_at given finished) found stands (inr h) =
         let there = taken_is q s old (stepped s (run l)) e new held step x rest is before.registered same good gives runs m in
         let over : cause_of (step.mid) s ≡ Some Memory =
@@ -619,6 +652,7 @@ record MirrorsAlong (q : Listed) (s : ℕ) (done : List Did) (new : State) (held
   replies : List Reply
   whole : out s done ≡ replies_text replies
   goes : Goes q s new held replies
+  fine : All IsFine replies
 
 mirrors_along : (q : Listed) (s : ℕ) (old : State) → IsSoundState old → IsSayableState old → CursorsGive old
     → (done : List Did) (new : State) (walk : WatchesAlong q s old done new) → ReadsAlong q s old done new walk
@@ -627,6 +661,7 @@ mirrors_along q s old sound fine gives [] new walk reads held m = record {
   replies = [];
   whole = refl;
   goes = record { behind = held; passes = refl; mirrors = subst (λ (st : State). Mirrors q s st held) (sym walk) m };
+  fine = All-nil IsFine;
 }
 mirrors_along q s old sound fine gives (d ∷ done) new walk reads held m =
     let h = walk.1 in
@@ -642,6 +677,7 @@ mirrors_along q s old sound fine gives (d ∷ done) new walk reads held m =
         passes = passes_then (listed_name q) held one.2.behind more.goes.behind one.0 more.replies one.2.passes more.goes.passes;
         mirrors = more.goes.mirrors;
       };
+      fine = All-append IsFine one.0 more.replies one.3 more.fine;
     }
 
 shown_live : (q : Listed) (s : ℕ) (st : State) (held : Held) → Mirrors q s st held → held.mode ≡ Live
@@ -650,8 +686,15 @@ shown_live q s st held (is_live mode shows h) e = shows
 shown_live q s st held (is_idle mode h) e = let both : Idle ≡ Live = sym mode ∙ e in absurd (cc both)
 shown_live q s st held (is_listing given mode shows h) e = let both : Listing ≡ Live = sym mode ∙ e in absurd (cc both)
 
-pub watchers_are_mirrored : WatchersAreMirrored
-watchers_are_mirrored q s old sound fine gives none done new walk reads =
+-- It is mirrored, and each of the replies is printed.
+pub record IsWell (q : Listed) (s : ℕ) (done : List Did) (at : State) : Type 0 where
+  pub mirrored : IsMirrored q s done at
+  pub fine : All IsFine mirrored.replies
+
+pub watchers_are_well : (q : Listed) (s : ℕ) (old : State) → IsSoundState old → IsSayableState old
+    → CursorsGive old → IsSomeAnd (session_of old s) (λ x. x.cursors ≡ []) → (done : List Did)
+    (new : State) (walk : WatchesAlong q s old done new) → ReadsAlong q s old done new walk → IsWell q s done new
+watchers_are_well q s old sound fine gives none done new walk reads =
     let f = some_and (session_of old s) (λ x. x.cursors ≡ []) none in
     let begun : Mirrors q s old at_first = is_idle refl (record {
       session = f.0;
@@ -660,9 +703,16 @@ watchers_are_mirrored q s old sound fine gives none done new walk reads =
           (omega arith, All-nil (CursorHas (listed_name q) Any));
     }) in
     let k = mirrors_along q s old sound fine gives done new walk reads at_first begun in record {
-      replies = k.replies;
-      whole = k.whole;
-      held = k.goes.behind;
-      passes = k.goes.passes;
-      live = λ e. shown_live q s new k.goes.behind k.goes.mirrors e;
+      mirrored = record {
+        replies = k.replies;
+        whole = k.whole;
+        held = k.goes.behind;
+        passes = k.goes.passes;
+        live = λ e. shown_live q s new k.goes.behind k.goes.mirrors e;
+      };
+      fine = k.fine;
     }
+
+pub watchers_are_mirrored : WatchersAreMirrored
+watchers_are_mirrored q s old sound fine gives none done new walk reads =
+    (watchers_are_well q s old sound fine gives none done new walk reads).mirrored

@@ -1,7 +1,7 @@
 -- What a command says that a line is read as.
-use Rattle.std.specs.Prelude.{ℕ, List, [], ◌∷◌, ◌++◌, ◌≡◌, ◌&&◌, Bool, true, false, cond, Option, None, Some, All}
+use Rattle.std.specs.Prelude.{ℕ, List, [], ◌∷◌, ◌++◌, ◌≡◌, ◌≤◌, ◌&&◌, Bool, true, false, cond, length, Option, None, Some, All}
 use Rattle.std.specs.List.{AllZip, list_all}
-use Rattle.std.proofs.Common.{refl, sym, ap, ◌∙◌, subst}
+use Rattle.std.proofs.Common.{refl, sym, ap, ◌∙◌, subst, arith}
 use Rattle.std.proofs.lemmas.Bool.{and_parts}
 use Rattle.std.proofs.lemmas.List.Elements.{All-nil, All-cons}
 use Rattle.djq_model.specs.Data.{Bytes, Tuple}
@@ -14,12 +14,15 @@ use Rattle.djq_model.specs.declared.query.Comparison.{Comparison}
 use Rattle.djq_model.specs.declared.query.Query.{Query}
 use Rattle.djq_value.specs.Literal.{is_small_value}
 use Rattle.djq_value.specs.Token.{Token, comma, arrow}
+use Rattle.djq_value.specs.Spelling.{IsSpelling}
+use Rattle.djq_lines.specs.declared.limits.TheConstants.{LINE_BYTES}
 use Rattle.djq_lines.specs.declared.command.Command.{Command}
 use Rattle.djq_lines.specs.declared.command.Command.TheVariants.{Rel, Add, Del, Query as Register, Drop, Open, Next, Close, Has, Watch, Unwatch, Explain, Shape, Quit, Stop}
 use Rattle.djq_lines.specs.Grammar.{Item, atom, comparison, past_item, is_small_term, is_small_atom, is_in_range, command_of, past_limit, says as says_command, reading_in, reading_of}
 use Rattle.djq_proto.specs.Saying.{Says, SaysAtom, SaysComparison, SaysItem, SaysItems, SaysName, SaysTerm, SaysValue, list_tokens, more_tokens, atoms_among, comparisons_among}
 use Rattle.djq_proto.proofs.Spelled.{commands_are_spelled}
 use Rattle.djq_told.specs.Sayable.{IsName, IsSayableValue, IsSayableRow, IsSayableTerm, IsSayableAtom, IsSayableComparison, IsSayableQuery}
+use Rattle.djq_told.proofs.Lengths.{query_weight, query_less}
 use Rattle.djq_told.proofs.Utf8.{HaveUtf8, texts_have_utf8}
 
 -- The names and values of a command are such.
@@ -165,7 +168,7 @@ said_sayable (Shape q) ts s h small = s.0
 said_sayable Quit ts s h small = tt
 said_sayable Stop ts s h small = tt
 
-reading_says : (o : Option Command) (c : Command) → reading_in o ≡ says_command c → (o ≡ Some c) × (is_in_range c ≡ true)
+pub reading_says : (o : Option Command) (c : Command) → reading_in o ≡ says_command c → (o ≡ Some c) × (is_in_range c ≡ true)
 reading_says None c e = absurd cc
 reading_says (Some d) c e = by (is_in_range d) refl e
   where
@@ -180,3 +183,17 @@ read_sayable l c e =
     let k = reading_says (command_of l) c e in
     let s = (commands_are_spelled l c).0 k.0 in
     said_sayable c s.tokens s.says (texts_have_utf8 s.tokens l s.utf8 s.spelled) k.1
+
+-- A line is no shorter than the query that it says.
+abbrev pub IsShortCommand : Command → Type 0
+IsShortCommand (Register q) = query_weight q ≤ LINE_BYTES
+IsShortCommand c = Unit {0}
+
+said_short : (c : Command) (ts : List Token) (l : Bytes) → Says c ts → IsSpelling ts l → length l ≤ LINE_BYTES → IsShortCommand c
+said_short (Register q) ts l s spelled few = let less = query_less q ts l s spelled in omega (arith, less, few)
+said_short c ts l s spelled few = tt
+
+pub read_short : (l : Bytes) (c : Command) → reading_of l ≡ says_command c → length l ≤ LINE_BYTES → IsShortCommand c
+read_short l c e few =
+    let s = (commands_are_spelled l c).0 (reading_says (command_of l) c e).0 in
+    said_short c s.tokens l s.says s.spelled few

@@ -1,11 +1,12 @@
 -- What each command that changes no rows is answered, by the forms of replies: lines that tell of no delta.
-use Rattle.std.specs.Prelude.{ℕ, List, [], ◌∷◌, ◌++◌, ◌≡◌, Bool, true, false, cond, Option, None, Some, IsSomeAnd, MatchOption, Result, Ok, Err, map, codes, filter, length, All}
+use Rattle.std.specs.Prelude.{ℕ, List, [], ◌∷◌, ◌++◌, ◌==◌, ◌≡◌, ◌≤◌, Bool, true, false, cond, Option, None, Some, IsSomeAnd, MatchOption, Result, Ok, Err, map, codes, filter, length, All}
 use Rattle.std.specs.List.{flat_map}
 use Rattle.std.specs.Fmt.{decimal}
-use Rattle.std.proofs.Common.{refl, sym, ap, ap₂, ◌∙◌, inl, inr, append_assoc, append-nil}
+use Rattle.std.proofs.Common.{refl, sym, ap, ap₂, ◌∙◌, subst, inl, inr, arith, append_assoc, append-nil}
 use Rattle.std.proofs.lemmas.List.Elements.{All-nil, All-cons, All-head, All-tail, All-append}
-use Rattle.djq_model.specs.Data.{Bytes, Tuple}
-use Rattle.djq_model.specs.Listed.{Listed, a_query, listed_of}
+use Rattle.djq_model.specs.declared.query.Query.{Query}
+use Rattle.djq_model.specs.Data.{Bytes, Tuple, bytes_eq}
+use Rattle.djq_model.specs.Listed.{Listed, a_query, listed_name, AnswersOf, listed_of}
 use Rattle.djq_hyper.specs.Hypergraph.{numbers_below}
 use Rattle.djq_hyper.specs.Naming.{name_at, edge_text, listed}
 use Rattle.djq_tree.specs.Labels.{label_at}
@@ -26,18 +27,31 @@ use Rattle.djq_lines.specs.declared.rest.QueryOutcome.{QueryOutcome}
 use Rattle.djq_lines.specs.declared.rest.QueryOutcome.TheVariants.{Registered, Cyclic, NotConnex}
 use Rattle.djq_lines.specs.declared.command.Command.{Command}
 use Rattle.djq_lines.specs.declared.command.Command.TheVariants.{Rel, Add, Del, Query as Register, Drop, Open, Next, Close, Has, Watch, Unwatch, Explain, Shape as AskShape, Quit, Stop}
-use Rattle.djq_lines.specs.Hypergraph.{variable_names}
+use Rattle.djq_lines.specs.Grammar.{Reading, says as says_command}
+use Rattle.djq_lines.specs.declared.limits.TheConstants.{LINE_BYTES}
+use Rattle.djq_lines.specs.Hypergraph.{edges_of, head_of, variable_names}
 use Rattle.djq_lines.specs.Reply.{cells_text, line, text_of, answer_line, last_line, listing_lines, ok_reply, add_reply, delete_reply, query_reply, has_reply, shape_reply, watch_reply, edges_text, rest_line, end_memory}
-use Rattle.djq_mirror.specs.Replies.{Reply, Node, leaf, trim, meet, done, opened as cursor_opened, added, removed, absent, registered, cyclic, not_connex, answer, more, last, stale as gone_stale, had, shaped, watched, changed, counted, explained, refused, ended as is_ended, bye, joined, edges_line, reply_text, label_text as label_of, node_text as node_of}
-use Rattle.djq_machine.specs.State.{State, Session, Cursor, Position, open_at, stale, cursor_of}
+use Rattle.djq_mirror.specs.Replies.{Reply, Node, leaf, trim, meet, done, opened as cursor_opened, added, removed, absent, registered, cyclic, not_connex, answer, more, last, stale as gone_stale, had, shaped, watched, changed, counted, explained, refused, ended as is_ended, bye, joined, edges_line, reply_text, IsNumber, label_text as label_of, node_text as node_of}
+use Rattle.djq_machine.specs.State.{Store, State, Session, Cursor, Position, open_at, stale, cursor_of}
 use Rattle.djq_machine.specs.Effect.{Effect, RefusedStep}
-use Rattle.djq_machine.specs.Command.{NextStepAt, CloseStep, ExplainStepOf, TellsLines, explain_lines, CommandStep}
+use Rattle.djq_machine.specs.Store.{RegistersQuery, RegistersAs, RefusedLate, query_refusal}
+use Rattle.djq_machine.specs.Command.{QueryStep, NextStepAt, CloseStep, ExplainStepOf, TellsLines, explain_lines, CommandStep}
+use Rattle.djq_laws.specs.Sound.{IsSoundStore}
+use Rattle.djq_laws.proofs.Changing.{all_found}
+use Rattle.djq_laws.proofs.Forms.{done_of}
 use Rattle.djq_laws.proofs.Finding.{some_and}
 use Rattle.djq_mirror.specs.declared.mode.Mode.{Mode}
 use Rattle.djq_mirror.specs.declared.mode.Mode.TheVariants.{Idle, Listing, Live}
 use Rattle.djq_mirror.specs.Mirror.{Act, keep, turn_of, turn_of_change, turn_of_count}
+use Rattle.djq_told.specs.Mirrored.{ExplainsNone}
+use Rattle.djq_told.specs.Sayable.{IsSayableQuery, IsSayableListed, IsSayableStore, IsSayablePosition, IsSayableCursor, IsSayableSession}
 use Rattle.djq_told.specs.Told.{replies_text, is_told_of}
 use Rattle.djq_told.proofs.Hearing.{text_append}
+use Rattle.djq_told.proofs.Printed.{IsFine, number_small, answers_fine}
+use Rattle.djq_told.proofs.Lengths.{query_weight}
+use Rattle.djq_told.proofs.Reading.{IsSayableCommand, IsShortCommand}
+use Rattle.djq_told.proofs.Resting.{rest_short, cyclic_light, connex_light, cyclic_below, connex_below}
+use Rattle.djq_told.proofs.Storing.{query_few}
 
 -- A reply tells of no delta.
 abbrev pub IsPlain : Reply → Type 0
@@ -48,19 +62,21 @@ abbrev pub IsHarmless : Reply → Type 0
 IsHarmless r = (name : Bytes) (mode : Mode) → is_told_of name r ≡ false → turn_of name mode r ≡ Some (mode, keep)
 
 -- Some lines are queued to one session, and tell of no delta; where they are no talk of listings, they
--- are harmless.
-pub record Replies (s : ℕ) (queued : List (ℕ × Bytes)) (talk : Bool) : Type 0 where
+-- are harmless. Where this holds, each of them is printed.
+pub record Replies (s : ℕ) (queued : List (ℕ × Bytes)) (talk : Bool) (U : Type 0) : Type 0 where
   pub replies : List Reply
   pub queued_are : queued ≡ (s, replies_text replies) ∷ []
   pub plain : All IsPlain replies
   pub harmless : talk ≡ false → All IsHarmless replies
+  pub fine : U → All IsFine replies
 
 -- a text of one form
-pub record OfForm (text : Bytes) (talk : Bool) : Type 0 where
+pub record OfForm (text : Bytes) (talk : Bool) (U : Type 0) : Type 0 where
   pub reply : Reply
   pub is : text ≡ reply_text reply
   pub plain : IsPlain reply
   pub harmless : talk ≡ false → IsHarmless reply
+  pub fine : U → IsFine reply
 
 -- whether a reply is of a listing
 abbrev pub is_talk : Reply → Bool
@@ -91,24 +107,35 @@ harmless_form r e name Idle k = refl
 harmless_form r e name Listing k = refl
 harmless_form r e name Live k = refl
 
-pub of_form : (text : Bytes) (r : Reply) → text ≡ reply_text r → IsPlain r → OfForm text (is_talk r)
-of_form text r e p = record { reply = r; is = e; plain = p; harmless = λ k. harmless_form r k }
+pub of_form : {U : Type 0} (text : Bytes) (r : Reply) → text ≡ reply_text r → IsPlain r → (U → IsFine r)
+    → OfForm text (is_talk r) U
+of_form text r e p f = record { reply = r; is = e; plain = p; harmless = λ k. harmless_form r k; fine = f }
 
-ok_form : {A : Type 0} (words : Bytes) (r : Reply) → line words ≡ reply_text r → IsPlain r → (result : Result A Refusal)
-    → OfForm (ok_reply words result) (is_talk r)
-ok_form words r e p (Ok a) = of_form _ r e p
-ok_form words r e p (Err t) = record { reply = refused t; is = refl; plain = λ name. refl; harmless = λ k. harmless_form (refused t) refl }
+ok_form : {A : Type 0} {U : Type 0} (words : Bytes) (r : Reply) → line words ≡ reply_text r → IsPlain r → IsFine r
+    → (result : Result A Refusal) → OfForm (ok_reply words result) (is_talk r) U
+ok_form words r e p f (Ok a) = of_form _ r e p (λ u. f)
+ok_form words r e p f (Err t) = record {
+  reply = refused t;
+  is = refl;
+  plain = λ name. refl;
+  harmless = λ k. harmless_form (refused t) refl;
+  fine = λ u. (tt, tt);
+}
 
-pub add_form : (result : Result AddOutcome Refusal) (n : ℕ) → OfForm (add_reply result n) false
-add_form (Ok First) n = of_form _ (added n 1) refl (λ name. refl)
-add_form (Ok (More copies)) n = of_form _ (added n copies) refl (λ name. refl)
-add_form (Err r) n = of_form _ (refused r) refl (λ name. refl)
+pub add_form : {U : Type 0} (result : Result AddOutcome Refusal) (n : ℕ) → (U → IsNumber n)
+    → ((copies : ℕ) → result ≡ Ok (More copies) → U → IsNumber copies) → OfForm (add_reply result n) false U
+add_form (Ok First) n small few = of_form _ (added n 1) refl (λ name. refl) (λ u. ((small u, omega arith), tt))
+add_form (Ok (More copies)) n small few =
+    of_form _ (added n copies) refl (λ name. refl) (λ u. ((small u, few copies refl u), tt))
+add_form (Err r) n small few = of_form _ (refused r) refl (λ name. refl) (λ u. (tt, tt))
 
-pub delete_form : (result : Result DeleteOutcome Refusal) (n : ℕ) → OfForm (delete_reply result n) false
-delete_form (Ok Last) n = of_form _ (removed n 0) refl (λ name. refl)
-delete_form (Ok (Left copies)) n = of_form _ (removed n copies) refl (λ name. refl)
-delete_form (Ok Absent) n = of_form _ (absent n) refl (λ name. refl)
-delete_form (Err r) n = of_form _ (refused r) refl (λ name. refl)
+pub delete_form : {U : Type 0} (result : Result DeleteOutcome Refusal) (n : ℕ) → (U → IsNumber n)
+    → ((copies : ℕ) → result ≡ Ok (Left copies) → U → IsNumber copies) → OfForm (delete_reply result n) false U
+delete_form (Ok Last) n small few = of_form _ (removed n 0) refl (λ name. refl) (λ u. ((small u, omega arith), tt))
+delete_form (Ok (Left copies)) n small few =
+    of_form _ (removed n copies) refl (λ name. refl) (λ u. ((small u, few copies refl u), tt))
+delete_form (Ok Absent) n small few = of_form _ (absent n) refl (λ name. refl) (λ u. (small u, tt))
+delete_form (Err r) n small few = of_form _ (refused r) refl (λ name. refl) (λ u. (tt, tt))
 
 -- edges by the names of their variables
 pub listed_joined : (names : List Bytes) (xs : List ℕ) → listed names xs ≡ flat_map (λ y. 44 ∷ y) (map (name_at names) xs)
@@ -131,49 +158,66 @@ edges_joined names (e ∷ edges) =
 rest_is : (words : Bytes) (rest : NamedRest) → rest_line words rest ≡ edges_line words (named_edges rest)
 rest_is words rest = ap (λ bytes. line (words ++ bytes)) (edges_joined rest.names rest.edges)
 
-query_form : (result : Result QueryOutcome Refusal) → OfForm (query_reply result) false
-query_form (Ok (Registered most)) = of_form _ (registered most) refl (λ name. refl)
-query_form (Ok (Cyclic rest)) = of_form _ (cyclic (named_edges rest)) (rest_is (codes "no cyclic") rest) (λ name. refl)
-query_form (Ok (NotConnex rest)) = of_form _ (not_connex (named_edges rest)) (rest_is (codes "no connex") rest) (λ name. refl)
-query_form (Err r) = of_form _ (refused r) refl (λ name. refl)
+query_form : {U : Type 0} (result : Result QueryOutcome Refusal)
+    → ((most : ℕ) → result ≡ Ok (Registered most) → U → IsNumber most)
+    → ((rest : NamedRest) → result ≡ Ok (Cyclic rest) → U → IsFine (cyclic (named_edges rest)))
+    → ((rest : NamedRest) → result ≡ Ok (NotConnex rest) → U → IsFine (not_connex (named_edges rest)))
+    → OfForm (query_reply result) false U
+query_form (Ok (Registered most)) few no_tree no_root =
+    of_form _ (registered most) refl (λ name. refl) (λ u. (few most refl u, tt))
+query_form (Ok (Cyclic rest)) few no_tree no_root =
+    of_form _ (cyclic (named_edges rest)) (rest_is (codes "no cyclic") rest) (λ name. refl) (no_tree rest refl)
+query_form (Ok (NotConnex rest)) few no_tree no_root =
+    of_form _ (not_connex (named_edges rest)) (rest_is (codes "no connex") rest) (λ name. refl) (no_root rest refl)
+query_form (Err r) few no_tree no_root = of_form _ (refused r) refl (λ name. refl) (λ u. (tt, tt))
 
-has_form : (result : Result Bool Refusal) → OfForm (has_reply result) false
-has_form (Ok found) = of_form _ (had found) refl (λ name. refl)
-has_form (Err r) = of_form _ (refused r) refl (λ name. refl)
+has_form : {U : Type 0} (result : Result Bool Refusal) → OfForm (has_reply result) false U
+has_form (Ok found) = of_form _ (had found) refl (λ name. refl) (λ u. (tt, tt))
+has_form (Err r) = of_form _ (refused r) refl (λ name. refl) (λ u. (tt, tt))
 
-shape_form : (result : Result Shape Refusal) → OfForm (shape_reply result) false
-shape_form (Ok s) = of_form _ (shaped s) refl (λ name. refl)
-shape_form (Err r) = of_form _ (refused r) refl (λ name. refl)
+shape_form : {U : Type 0} (result : Result Shape Refusal) → OfForm (shape_reply result) false U
+shape_form (Ok s) = of_form _ (shaped s) refl (λ name. refl) (λ u. (tt, tt))
+shape_form (Err r) = of_form _ (refused r) refl (λ name. refl) (λ u. (tt, tt))
 
-watch_form : {A : Type 0} (result : Result A Refusal) (n : ℕ) → OfForm (watch_reply result n) false
-watch_form (Ok a) n = of_form _ (watched n) refl (λ name. refl)
-watch_form (Err r) n = of_form _ (refused r) refl (λ name. refl)
+watch_form : {A : Type 0} {U : Type 0} (result : Result A Refusal) (n : ℕ) → (U → IsNumber n)
+    → OfForm (watch_reply result n) false U
+watch_form (Ok a) n small = of_form _ (watched n) refl (λ name. refl) (λ u. (small u, tt))
+watch_form (Err r) n small = of_form _ (refused r) refl (λ name. refl) (λ u. (tt, tt))
 
 -- ---- one line, or several
 
-pub one_line : (s : ℕ) (text : Bytes) (queued : List (ℕ × Bytes)) (talk : Bool) → OfForm text talk
-    → queued ≡ (s, text) ∷ [] → Replies s queued talk
+pub one_line : {U : Type 0} (s : ℕ) (text : Bytes) (queued : List (ℕ × Bytes)) (talk : Bool) → OfForm text talk U
+    → queued ≡ (s, text) ∷ [] → Replies s queued talk U
 one_line s text queued talk f e = record {
   replies = f.reply ∷ [];
   queued_are = e ∙ ap (λ (bytes : Bytes). (s, bytes) ∷ []) (f.is ∙ sym (append-nil (reply_text f.reply)));
   plain = All-cons IsPlain f.reply [] f.plain (All-nil IsPlain);
   harmless = λ k. All-cons IsHarmless f.reply [] (f.harmless k) (All-nil IsHarmless);
+  fine = λ u. All-cons IsFine f.reply [] (f.fine u) (All-nil IsFine);
 }
 
-pub memory_form : OfForm end_memory false
-memory_form = of_form _ (is_ended Memory) refl (λ name. refl)
+pub memory_form : {U : Type 0} → OfForm end_memory false U
+memory_form = of_form _ (is_ended Memory) refl (λ name. refl) (λ u. (tt, tt))
 
-several_lines : (s : ℕ) (rs : List Reply) (queued : List (ℕ × Bytes)) → All IsPlain rs → queued ≡ (s, replies_text rs) ∷ []
-    → Replies s queued true
-several_lines s rs queued plain e = record { replies = rs; queued_are = e; plain = plain; harmless = λ k. absurd cc }
+several_lines : {U : Type 0} (s : ℕ) (rs : List Reply) (queued : List (ℕ × Bytes)) → All IsPlain rs → (U → All IsFine rs)
+    → queued ≡ (s, replies_text rs) ∷ [] → Replies s queued true U
+several_lines s rs queued plain fine e = record {
+  replies = rs;
+  queued_are = e;
+  plain = plain;
+  harmless = λ k. absurd cc;
+  fine = fine;
+}
 
 -- what is harmless is so, whatever else may be said
-pub any_talk : (s : ℕ) (queued : List (ℕ × Bytes)) (talk : Bool) → Replies s queued false → Replies s queued talk
+pub any_talk : {U : Type 0} (s : ℕ) (queued : List (ℕ × Bytes)) (talk : Bool) → Replies s queued false U
+    → Replies s queued talk U
 any_talk s queued talk r = record {
   replies = r.replies;
   queued_are = r.queued_are;
   plain = r.plain;
   harmless = λ k. r.harmless refl;
+  fine = r.fine;
 }
 
 -- the lines of answers
@@ -192,6 +236,10 @@ last_reply end = cond end last more
 last_is : (end : Bool) → last_line end ≡ reply_text (last_reply end)
 last_is true = refl
 last_is false = refl
+
+pub last_fine : (end : Bool) → IsFine (last_reply end)
+last_fine true = (tt, tt)
+last_fine false = (tt, tt)
 
 last_plain : (end : Bool) → IsPlain (last_reply end)
 last_plain true = λ name. refl
@@ -213,6 +261,10 @@ listing_text ts end =
     text_append_of (map answer_line ts) (last_line end ∷ [])
     ∙ ap (λ bytes. text_of (map answer_line ts) ++ bytes) (append-nil (last_line end) ∙ last_is end)
     ∙ behind_answers ts (last_reply end)
+
+pub behind_fine : (ts : List Tuple) (r : Reply) → All IsFine (map (λ t. answer t) ts) → IsFine r
+    → All IsFine (map (λ t. answer t) ts ++ r ∷ [])
+behind_fine ts r h f = All-append IsFine (map (λ t. answer t) ts) (r ∷ []) h (All-cons IsFine r [] f (All-nil IsFine))
 
 behind_plain : (ts : List Tuple) (r : Reply) → IsPlain r → All IsPlain (map (λ t. answer t) ts ++ r ∷ [])
 behind_plain ts r p = All-append IsPlain (map (λ t. answer t) ts) (r ∷ []) (answers_plain ts) (All-cons IsPlain r [] p (All-nil IsPlain))
@@ -278,70 +330,140 @@ first_of (r ∷ rs) (t ∷ told) rest plain e =
       plain = All-cons IsPlain r more.some (All-head IsPlain r rs plain) more.plain;
     }
 
-lines_replies : (old : State) (s : ℕ) (lines : List Bytes) (e : Effect) (new : State) (rs : List Reply) → All IsPlain rs
-    → lines ≡ map reply_text rs → TellsLines old s lines e new → Replies s e.queued true
-lines_replies old s lines e new rs plain are (inl h) =
-    several_lines s rs e.queued plain
+lines_replies : {U : Type 0} (old : State) (s : ℕ) (lines : List Bytes) (e : Effect) (new : State) (rs : List Reply)
+    → All IsPlain rs → (U → ⊥) → lines ≡ map reply_text rs → TellsLines old s lines e new → Replies s e.queued true U
+lines_replies old s lines e new rs plain none are (inl h) =
+    several_lines s rs e.queued plain (λ u. absurd (none u))
     (ap (λ (x : Effect). x.queued) h.0 ∙ ap (λ (bytes : Bytes). (s, bytes) ∷ []) (ap text_of are ∙ text_of_replies rs))
-lines_replies old s lines e new rs plain are (inr (told, lacking, rest, parts, ends)) =
+lines_replies old s lines e new rs plain none are (inr (told, lacking, rest, parts, ends)) =
     let first = first_of rs told (lacking ∷ rest) plain (sym are ∙ parts) in
     several_lines s (first.some ++ is_ended Memory ∷ []) e.queued
     (All-append IsPlain first.some (is_ended Memory ∷ []) first.plain
-    (All-cons IsPlain (is_ended Memory) [] (λ name. refl) (All-nil IsPlain)))
+    (All-cons IsPlain (is_ended Memory) [] (λ name. refl) (All-nil IsPlain))) (λ u. absurd (none u))
     (ap (λ (x : Effect). x.queued) ends.0
     ∙ ap (λ (bytes : Bytes). (s, bytes) ∷ [])
     (ap (λ bytes. bytes ++ end_memory) (ap text_of first.are ∙ text_of_replies first.some)
     ∙ ap (λ bytes. replies_text first.some ++ bytes) (sym (append-nil end_memory))
     ∙ sym (text_append first.some (is_ended Memory ∷ []))))
 
-explain_replies : (old : State) (s : ℕ) (o : Option Listed) (e : Effect) (new : State)
-    → MatchOption o (RefusedStep old s NoQuery e new) (λ q. ExplainStepOf old s q e new) → Replies s e.queued true
-explain_replies old s None e new h =
+explain_replies : {U : Type 0} (old : State) (s : ℕ) (o : Option Listed) (e : Effect) (new : State) → (U → ⊥)
+    → MatchOption o (RefusedStep old s NoQuery e new) (λ q. ExplainStepOf old s q e new) → Replies s e.queued true U
+explain_replies old s None e new none h =
     any_talk s e.queued true
-    (one_line s _ e.queued _ (of_form _ (refused NoQuery) refl (λ name. refl)) (ap (λ (x : Effect). x.queued) h.0))
-explain_replies old s (Some (a_query q)) e new h =
+    (one_line s _ e.queued _ (of_form _ (refused NoQuery) refl (λ name. refl) (λ u. (tt, tt))) (ap (λ (x : Effect). x.queued) h.0))
+explain_replies old s (Some (a_query q)) e new none h =
     let atoms = map (λ a. a.relation) q.atoms in
     let names = variable_names q in
     let js = numbers_below (length h.tree.nodes) in
     lines_replies old s (explain_lines q h.tree) e new (map (node_reply atoms names h.tree) js ++ last ∷ [])
     (All-append IsPlain (map (node_reply atoms names h.tree) js) (last ∷ []) (nodes_plain atoms names h.tree js)
-    (All-cons IsPlain last [] (λ name. refl) (All-nil IsPlain)))
+    (All-cons IsPlain last [] (λ name. refl) (All-nil IsPlain))) none
     (ap (λ xs. xs ++ line (codes "end") ∷ []) (nodes_are atoms names h.tree js)
     ∙ sym (map_append (map (node_reply atoms names h.tree) js) (last ∷ [])))
     h.tells
 
 -- ---- commands
 
-next_at : (old : State) (s : ℕ) (c : Bytes) (q : Listed) (count : ℕ) (p : Position) (e : Effect) (new : State)
-    → NextStepAt old s c q count p e new → Replies s e.queued true
-next_at old s c q count (stale relation n) e new h =
-    one_line s _ e.queued _ (of_form _ (gone_stale c relation n) refl (λ name. refl)) (ap (λ (x : Effect). x.queued) h.0)
-next_at old s c q count (open_at given finished) e new (inl h) =
-    several_lines s (map (λ t. answer t) h.told ++ last_reply h.end ∷ []) e.queued
-    (behind_plain h.told (last_reply h.end) (last_plain h.end))
-    (ap (λ (x : Effect). x.queued) h.effect ∙ ap (λ (bytes : Bytes). (s, bytes) ∷ []) (listing_text h.told h.end))
-next_at old s c q count (open_at given finished) e new (inr h) =
-    several_lines s (map (λ t. answer t) h.told ++ is_ended Memory ∷ []) e.queued
-    (behind_plain h.told (is_ended Memory) (λ name. refl))
-    (ap (λ (x : Effect). x.queued) h.effect ∙ ap (λ (bytes : Bytes). (s, bytes) ∷ []) (behind_answers h.told (is_ended Memory)))
+-- What a command says can be said, in a line; nothing is said of other lines.
+abbrev pub IsSayableReading : Reading → Type 0
+IsSayableReading (says_command c) = IsSayableCommand c × IsShortCommand c
+IsSayableReading r = Unit {0}
 
-next_replies : (old : State) (s : ℕ) (c : Bytes) (count : ℕ) (o : Option Cursor) (e : Effect) (new : State)
-    → MatchOption o (RefusedStep old s NoCursor e new)
-    (λ k. IsSomeAnd (listed_of old.store.queries k.query) (λ q. NextStepAt old s c q count k.position e new))
-    → Replies s e.queued true
-next_replies old s c count None e new h =
-    any_talk s e.queued true
-    (one_line s _ e.queued _ (of_form _ (refused NoCursor) refl (λ name. refl)) (ap (λ (x : Effect). x.queued) h.0))
-next_replies old s c count (Some k) e new h =
-    let f = some_and (listed_of old.store.queries k.query) (λ q. NextStepAt old s c q count k.position e new) h in
-    next_at old s c f.0 count k.position e new f.2
+-- A line of session t is run over such names and values; and it explains no query to session s.
+pub record Fits (s t : ℕ) (old : Store) (y : Session) (r : Reading) (e : Effect) (new : Store) : Type 0 where
+  pub sound : IsSoundStore old
+  pub before : IsSayableStore old
+  pub session : IsSayableSession y
+  pub behind : IsSayableStore new
+  pub said : IsSayableReading r
+  pub no_tree : (t == s) ≡ true → ExplainsNone r
 
-close_replies : (old : State) (s : ℕ) (c : Bytes) (o : Option Cursor) (e : Effect) (new : State)
-    → MatchOption o (RefusedStep old s NoCursor e new) (λ k. CloseStep old s c e new) → Replies s e.queued false
+-- the same, of a line of the session's own
+abbrev pub Own : ℕ → ℕ → Store → Session → Reading → Effect → Store → Type 0
+Own s t old y r e new = Fits s t old y r e new × ((t == s) ≡ true)
+
+most_small : (old : Store) (q : Query) (r : Result QueryOutcome Refusal) (new : Store) → RegistersQuery old q r new → (most : ℕ)
+    → r ≡ Ok (Registered most) → IsNumber most
+most_small old q r new h most e =
+    let k = subst (λ (z : Result QueryOutcome Refusal). RegistersQuery old q z new) e h in
+    let few = query_few old q most new k in
+    let is = (done_of (query_refusal old q) (Registered most) (RegistersAs old q new) (RefusedLate old q new) k.answer).1 in
+    omega (arith, few, is)
+
+module _ (s : ℕ) (old : State) (t : ℕ) (x : Session) (c : Bytes) (count : ℕ) (e : Effect) (new : State) where
+  abbrev Reads : Type 0
+  Reads = Own s t old.store x (says_command (Next c count)) e new.store
+
+  told_fine : (k : Cursor) (q : Listed) → listed_of old.store.queries k.query ≡ Some q → Reads → (ts : List Tuple)
+      → All (AnswersOf old.store.relations q) ts → All IsFine (map (λ a. answer a) ts)
+  told_fine k q over u ts a =
+      answers_fine old.store.relations u.0.before.relations q
+      (all_found IsSayableListed (λ (l : Listed). bytes_eq (listed_name l) k.query) old.store.queries q u.0.before.queries over)
+      ts a
+
+  next_at : (k : Cursor) → cursor_of x.cursors c ≡ Some k → (q : Listed) → listed_of old.store.queries k.query ≡ Some q
+      → (p : Position) → k.position ≡ p → NextStepAt old t c q count p e new → Replies t e.queued true Reads
+  next_at k found q over (stale relation n) at h =
+      one_line t _ e.queued _ (of_form _ (gone_stale c relation n) refl (λ name. refl) (λ u.
+      let cursor = all_found IsSayableCursor (λ (z : Cursor). bytes_eq z.name c) x.cursors k u.0.session.cursors found in
+      let named = subst IsSayablePosition at cursor.position in
+      ((u.0.said.0, named.0, number_small n named.1), tt))) (ap (λ (y : Effect). y.queued) h.0)
+  next_at k found q over (open_at given finished) at (inl h) =
+      several_lines t (map (λ a. answer a) h.told ++ last_reply h.end ∷ []) e.queued
+      (behind_plain h.told (last_reply h.end) (last_plain h.end))
+      (λ u. behind_fine h.told (last_reply h.end) (told_fine k q over u h.told h.tells.answers) (last_fine h.end))
+      (ap (λ (y : Effect). y.queued) h.effect ∙ ap (λ (bytes : Bytes). (t, bytes) ∷ []) (listing_text h.told h.end))
+  next_at k found q over (open_at given finished) at (inr h) =
+      several_lines t (map (λ a. answer a) h.told ++ is_ended Memory ∷ []) e.queued
+      (behind_plain h.told (is_ended Memory) (λ name. refl))
+      (λ u. behind_fine h.told (is_ended Memory) (told_fine k q over u h.told h.answers) (tt, tt))
+      (ap (λ (y : Effect). y.queued) h.effect ∙ ap (λ (bytes : Bytes). (t, bytes) ∷ []) (behind_answers h.told (is_ended Memory)))
+
+  next_replies : (o : Option Cursor) → cursor_of x.cursors c ≡ o
+      → MatchOption o (RefusedStep old t NoCursor e new)
+      (λ k. IsSomeAnd (listed_of old.store.queries k.query) (λ q. NextStepAt old t c q count k.position e new))
+      → Replies t e.queued true Reads
+  next_replies None found h =
+      any_talk t e.queued true
+      (one_line t _ e.queued _ (of_form _ (refused NoCursor) refl (λ name. refl) (λ u. (tt, tt))) (ap (λ (y : Effect). y.queued) h.0))
+  next_replies (Some k) found h =
+      let f = some_and (listed_of old.store.queries k.query) (λ q. NextStepAt old t c q count k.position e new) h in
+      next_at k found f.0 f.1 k.position refl f.2
+
+close_replies : {U : Type 0} (old : State) (s : ℕ) (c : Bytes) (o : Option Cursor) (e : Effect) (new : State)
+    → MatchOption o (RefusedStep old s NoCursor e new) (λ k. CloseStep old s c e new) → Replies s e.queued false U
 close_replies old s c None e new h =
-    one_line s _ e.queued _ (of_form _ (refused NoCursor) refl (λ name. refl)) (ap (λ (x : Effect). x.queued) h.0)
+    one_line s _ e.queued _ (of_form _ (refused NoCursor) refl (λ name. refl) (λ u. (tt, tt))) (ap (λ (x : Effect). x.queued) h.0)
 close_replies old s c (Some k) e new h =
-    one_line s _ e.queued _ (of_form _ done refl (λ name. refl)) (ap (λ (x : Effect). x.queued) h.0)
+    one_line s _ e.queued _ (of_form _ done refl (λ name. refl) (λ u. (tt, tt))) (ap (λ (x : Effect). x.queued) h.0)
+
+-- the rests that a query is refused with
+cyclic_fine : (old : Store) (q : Query) (r : Result QueryOutcome Refusal) (new : Store) → RegistersQuery old q r new
+    → IsSayableQuery q → query_weight q ≤ LINE_BYTES → (rest : NamedRest) → r ≡ Ok (Cyclic rest)
+    → IsFine (cyclic (named_edges rest))
+cyclic_fine old q r new h said few rest e =
+    let k = subst (λ (z : Result QueryOutcome Refusal). RegistersQuery old q z new) e h in
+    let d = done_of (query_refusal old q) (Cyclic rest) (RegistersAs old q new) (RefusedLate old q new) k.answer in
+    let s = rest_short q said few (edges_of q) d.0.0 d.0.1.rest (cyclic_below q) (cyclic_light q) rest d.0.2 in
+    (s.printed, s.short)
+
+connex_fine : (old : Store) (q : Query) (r : Result QueryOutcome Refusal) (new : Store) → RegistersQuery old q r new
+    → IsSayableQuery q → query_weight q ≤ LINE_BYTES → (rest : NamedRest) → r ≡ Ok (NotConnex rest)
+    → IsFine (not_connex (named_edges rest))
+connex_fine old q r new h said few rest e =
+    let k = subst (λ (z : Result QueryOutcome Refusal). RegistersQuery old q z new) e h in
+    let d = done_of (query_refusal old q) (NotConnex rest) (RegistersAs old q new) (RefusedLate old q new) k.answer in
+    let s = rest_short q said few (head_of q ∷ edges_of q) d.0.0 d.0.1.rest (connex_below q) (connex_light q) rest d.0.2 in
+    (s.printed, s.short)
+
+register_replies : (s : ℕ) (old : State) (t : ℕ) (x : Session) (q : Query) (e : Effect) (new : State) → QueryStep old t q e new
+    → Replies t e.queued false (Own s t old.store x (says_command (Register q)) e new.store)
+register_replies s old t x q e new h =
+    one_line t _ e.queued _ (query_form h.result
+    (λ most k u. most_small old.store q h.result h.store h.done most k)
+    (λ rest k u. cyclic_fine old.store q h.result h.store h.done u.0.said.0 u.0.said.1 rest k)
+    (λ rest k u. connex_fine old.store q h.result h.store h.done u.0.said.0 u.0.said.1 rest k))
+    (ap (λ (y : Effect). y.queued) h.effect)
 
 -- A command is none of rows.
 abbrev pub IsRowless : Command → Type 0
@@ -356,41 +478,42 @@ talks (Next c count) = true
 talks (Explain q) = true
 talks c = false
 
-pub command_replies : (old : State) (s : ℕ) (x : Session) (c : Command) (e : Effect) (new : State) → IsRowless c
-    → CommandStep old s x c e new → Replies s e.queued (talks c)
-command_replies old s x (Rel name types) e new rowless h =
-    one_line s _ e.queued _ (ok_form (codes "ok") done refl (λ name. refl) h.result) (ap (λ (y : Effect). y.queued) h.effect)
-command_replies old s x (Add name row) e new rowless h = absurd rowless
-command_replies old s x (Del name row) e new rowless h = absurd rowless
-command_replies old s x (Register q) e new rowless (inl h) =
-    one_line s _ e.queued _ (query_form h.result) (ap (λ (y : Effect). y.queued) h.effect)
-command_replies old s x (Register q) e new rowless (inr h) =
-    one_line s end_memory e.queued _ memory_form (ap (λ (y : Effect). y.queued) h.ends.0)
-command_replies old s x (Drop q) e new rowless h =
-    one_line s _ e.queued _ (ok_form (codes "ok") done refl (λ name. refl) h.result) (ap (λ (y : Effect). y.queued) h.effect)
-command_replies old s x (Open c q) e new rowless h =
-    one_line s _ e.queued _ (ok_form (codes "ok open") cursor_opened refl (λ name. refl) h.result)
+pub command_replies : (s : ℕ) (old : State) (t : ℕ) (x : Session) (c : Command) (e : Effect) (new : State) → IsRowless c
+    → CommandStep old t x c e new → Replies t e.queued (talks c) (Own s t old.store x (says_command c) e new.store)
+command_replies s old t x (Rel name types) e new rowless h =
+    one_line t _ e.queued _ (ok_form (codes "ok") done refl (λ name. refl) (tt, tt) h.result) (ap (λ (y : Effect). y.queued) h.effect)
+command_replies s old t x (Add name row) e new rowless h = absurd rowless
+command_replies s old t x (Del name row) e new rowless h = absurd rowless
+command_replies s old t x (Register q) e new rowless (inl h) = register_replies s old t x q e new h
+command_replies s old t x (Register q) e new rowless (inr h) =
+    one_line t end_memory e.queued _ memory_form (ap (λ (y : Effect). y.queued) h.ends.0)
+command_replies s old t x (Drop q) e new rowless h =
+    one_line t _ e.queued _ (ok_form (codes "ok") done refl (λ name. refl) (tt, tt) h.result) (ap (λ (y : Effect). y.queued) h.effect)
+command_replies s old t x (Open c q) e new rowless h =
+    one_line t _ e.queued _ (ok_form (codes "ok open") cursor_opened refl (λ name. refl) (tt, tt) h.result)
     (ap (λ (y : Effect). y.queued) h.effect)
-command_replies old s x (Next c count) e new rowless h = next_replies old s c count (cursor_of x.cursors c) e new h
-command_replies old s x (Close c) e new rowless h = close_replies old s c (cursor_of x.cursors c) e new h
-command_replies old s x (Has q row) e new rowless h =
-    one_line s _ e.queued _ (has_form h.result) (ap (λ (y : Effect). y.queued) h.effect)
-command_replies old s x (Watch q) e new rowless h =
-    one_line s _ e.queued _ (watch_form h.result old.store.seq) (ap (λ (y : Effect). y.queued) h.effect)
-command_replies old s x (Unwatch q) e new rowless h =
-    one_line s _ e.queued _ (ok_form (codes "ok") done refl (λ name. refl) h.result) (ap (λ (y : Effect). y.queued) h.effect)
-command_replies old s x (Explain q) e new rowless h = explain_replies old s (listed_of old.store.queries q) e new h
-command_replies old s x (AskShape q) e new rowless h =
-    one_line s _ e.queued _ (shape_form h.result) (ap (λ (y : Effect). y.queued) h.effect)
-command_replies old s x Quit e new rowless h =
-    one_line s _ e.queued _ (of_form _ bye refl (λ name. refl)) (ap (λ (y : Effect). y.queued) h.0)
-command_replies old s x Stop e new rowless h =
-    one_line s _ e.queued _ (of_form _ bye refl (λ name. refl)) (ap (λ (y : Effect). y.queued) h.0)
+command_replies s old t x (Next c count) e new rowless h = next_replies s old t x c count e new (cursor_of x.cursors c) refl h
+command_replies s old t x (Close c) e new rowless h = close_replies old t c (cursor_of x.cursors c) e new h
+command_replies s old t x (Has q row) e new rowless h =
+    one_line t _ e.queued _ (has_form h.result) (ap (λ (y : Effect). y.queued) h.effect)
+command_replies s old t x (Watch q) e new rowless h =
+    one_line t _ e.queued _ (watch_form h.result old.store.seq (λ u. number_small old.store.seq u.0.before.seq))
+    (ap (λ (y : Effect). y.queued) h.effect)
+command_replies s old t x (Unwatch q) e new rowless h =
+    one_line t _ e.queued _ (ok_form (codes "ok") done refl (λ name. refl) (tt, tt) h.result) (ap (λ (y : Effect). y.queued) h.effect)
+command_replies s old t x (Explain q) e new rowless h =
+    explain_replies old t (listed_of old.store.queries q) e new (λ u. u.0.no_tree u.1) h
+command_replies s old t x (AskShape q) e new rowless h =
+    one_line t _ e.queued _ (shape_form h.result) (ap (λ (y : Effect). y.queued) h.effect)
+command_replies s old t x Quit e new rowless h =
+    one_line t _ e.queued _ (of_form _ bye refl (λ name. refl) (λ u. (tt, tt))) (ap (λ (y : Effect). y.queued) h.0)
+command_replies s old t x Stop e new rowless h =
+    one_line t _ e.queued _ (of_form _ bye refl (λ name. refl) (λ u. (tt, tt))) (ap (λ (y : Effect). y.queued) h.0)
 
-pub refused_replies : (old : State) (s : ℕ) (r : Refusal) (e : Effect) (new : State) → RefusedStep old s r e new
-    → Replies s e.queued false
+pub refused_replies : {U : Type 0} (old : State) (s : ℕ) (r : Refusal) (e : Effect) (new : State) → RefusedStep old s r e new
+    → Replies s e.queued false U
 refused_replies old s r e new h =
-    one_line s _ e.queued _ (of_form _ (refused r) refl (λ name. refl)) (ap (λ (y : Effect). y.queued) h.0)
+    one_line s _ e.queued _ (of_form _ (refused r) refl (λ name. refl) (λ u. (tt, tt))) (ap (λ (y : Effect). y.queued) h.0)
 
 -- ---- what of it a session is told
 

@@ -1,5 +1,5 @@
 -- What commands make of the store has names, and values within their limits.
-use Rattle.std.specs.Prelude.{ℕ, List, [], ◌∷◌, ◌==◌, ◌&&◌, ◌||◌, ◌≡◌, ◌++◌, ◌⊎◌, Bool, true, false, not, cond, nat_le, nat_lt, length, Option, None, Some, is_some, Result, Ok, Err, map, All, Contains, ⊤}
+use Rattle.std.specs.Prelude.{ℕ, List, [], ◌∷◌, ◌==◌, ◌&&◌, ◌||◌, ◌≡◌, ◌≤◌, ◌++◌, ◌⊎◌, Bool, true, false, not, cond, nat_le, nat_lt, length, Option, None, Some, is_some, Result, Ok, Err, map, All, Contains, ⊤}
 use Rattle.std.specs.List.{list_any}
 use Rattle.std.proofs.Common.{refl, sym, ap, ◌∙◌, subst, inl, inr, arith}
 use Rattle.std.proofs.lemmas.Bool.{eq-eqb, leb-false, ltb-false}
@@ -135,14 +135,14 @@ other_copies rs name row n h =
     (rows_sayable rs name h))
 
 -- what `add`, `del` and `query` ask before they are done
-abbrev add_conditions : Store → Bytes → Tuple → List (Bool × Refusal)
+abbrev pub add_conditions : Store → Bytes → Tuple → List (Bool × Refusal)
 add_conditions st name row = let rows = rows_of st.relations name in row_refusals st name row
     ++ (nat_le COPIES (copies_of st name row), Limit)
     ∷ (not (has_row rows row) && nat_le ROWS (length rows), Limit)
     ∷ (not (has_row rows row) && nat_le LAST_SEQ st.seq, Limit)
     ∷ []
 
-abbrev delete_conditions : Store → Bytes → Tuple → List (Bool × Refusal)
+abbrev pub delete_conditions : Store → Bytes → Tuple → List (Bool × Refusal)
 delete_conditions st name row = row_refusals st name row
     ++ ((copies_of st name row == 1) && nat_le LAST_SEQ st.seq, Limit)
     ∷ []
@@ -254,6 +254,15 @@ askable_where q unbound large =
     (nat_lt HEAD_VARIABLES (length q.head)) (nat_lt COMPARISONS (length q.comparisons)) large in
     let most = ltb-false HEAD_VARIABLES (length q.head) few in
     record { bound = bound_where q unbound; few = omega (arith, most) }
+
+-- a head has few variables, where its query is registered
+pub query_few : (old : Store) (q : Query) (most : ℕ) (new : Store) → RegistersQuery old q (Ok (Registered most)) new
+    → length q.head ≤ HEAD_VARIABLES
+query_few old q most new h =
+    let none = none_holds (query_refusal old q) (Registered most) (RegistersAs old q new) (RefusedLate old q new)
+    h.answer in
+    let fails = all_fail (query_conditions old q) none in
+    (askable_where q fails.1.1.1.1.1.1.1.1.0 fails.1.1.1.1.1.1.1.1.1.0).few
 
 pub query_sayable : (old : Store) (q : Query) (r : Result QueryOutcome Refusal) (new : Store)
     → RegistersQuery old q r new → IsSayableQuery q → IsSayableStore old → IsSayableStore new

@@ -1,13 +1,17 @@
 -- Along a run in which a session watches a query it is told its deltas, and nothing else of it.
-use Rattle.std.specs.Prelude.{ℕ, List, [], ◌∷◌, ◌++◌, ◌==◌, ◌≡◌, ◌≢◌, ◌<◌, ◌+◌, ◌⊎◌, ◌&&◌, Bool, true, false, not, cond, filter, Option, None, Some, is_some, MatchOption, option_map, map, All, AllPairs}
+use Rattle.std.specs.Prelude.{ℕ, List, [], ◌∷◌, ◌++◌, ◌==◌, ◌≡◌, ◌≢◌, ◌<◌, ◌≤◌, ◌+◌, ◌⊎◌, ◌&&◌, length, Bool, true, false, not, cond, filter, Option, None, Some, is_some, MatchOption, option_map, map, Result, All, AllPairs}
 use Rattle.std.specs.List.{list_any, flat_map}
 use Rattle.std.proofs.Common.{refl, sym, ap, ap₂, ◌∙◌, subst, inl, inr, arith, append-nil}
 use Rattle.std.proofs.lemmas.Bool.{eqb-true, eq-eqb, ne_eqb}
-use Rattle.std.proofs.lemmas.List.Elements.{All-nil, All-cons, All-append, All-weaker, filter-append}
+use Rattle.std.proofs.lemmas.List.Elements.{All-nil, All-cons, All-head, All-tail, All-append, All-filter, All-weaker, filter-append}
 use Rattle.djq_model.specs.declared.relation.Relation.{Relation}
 use Rattle.djq_model.specs.Data.{Bytes, Tuple, bytes_eq}
 use Rattle.djq_model.specs.Answer.{IsListing}
 use Rattle.djq_model.specs.Listed.{Listed, listed_name, AnswersOf, listed_of}
+use Rattle.djq_lines.specs.declared.limits.TheConstants.{LAST_SEQ, LINE_BYTES}
+use Rattle.djq_lines.specs.declared.answer.AddOutcome.{AddOutcome}
+use Rattle.djq_lines.specs.declared.answer.DeleteOutcome.{DeleteOutcome}
+use Rattle.djq_lines.specs.declared.answer.Refusal.{Refusal}
 use Rattle.djq_lines.specs.declared.answer.EndCause.{EndCause}
 use Rattle.djq_lines.specs.declared.answer.EndCause.TheVariants.{Input, Memory}
 use Rattle.djq_lines.specs.declared.answer.EndLine.TheVariants.{Long as long_line, Slow as slow_line, Memory as memory_line}
@@ -17,11 +21,12 @@ use Rattle.djq_lines.specs.declared.answer.Refusal.TheVariants.{Syntax, WrongTyp
 use Rattle.djq_lines.specs.declared.command.Command.TheVariants.{Add, Del}
 use Rattle.djq_lines.specs.Grammar.{Reading, outside, past_limit, says as says_command, reading_of}
 use Rattle.djq_lines.specs.Reply.{end_long, end_slow, end_memory, input_cut}
-use Rattle.djq_mirror.specs.Replies.{Reply, changed as changes_answer, counted, ended as is_ended, cut}
+use Rattle.djq_mirror.specs.Replies.{Reply, changed as changes_answer, counted, ended as is_ended, cut, IsNumber}
 use Rattle.djq_machine.specs.State.{Store, State, Session, session_of, with_session, ended_by}
+use Rattle.djq_machine.specs.Store.{AddsRow, DeletesRow}
 use Rattle.djq_machine.specs.Effect.{Effect, nothing, says, EndsWith}
 use Rattle.djq_machine.specs.Delta.{Change, HasChanged, IsDelta}
-use Rattle.djq_machine.specs.Changes.{RowsOutcome, accepted, out_of_memory, unchanged, is_accepted, row_in, row_out, add_outcome, delete_outcome}
+use Rattle.djq_machine.specs.Changes.{RowsOutcome, accepted, out_of_memory, unchanged, is_accepted, is_outdated, row_in, row_out, add_outcome, delete_outcome}
 use Rattle.djq_machine.specs.Stale.{by_relation}
 use Rattle.djq_machine.specs.LineStep.{LineOutcome, long, blank, slow, no_room, run, ReadStep, FrontStep, behind_line}
 use Rattle.djq_machine.specs.Step.{Event, opened, fed, stepped, took, ended, closed, FedStep, TookStep, EndedStep, Acts, with_relations, Step}
@@ -34,6 +39,7 @@ use Rattle.djq_laws.specs.Sound.{AreApart, IsSoundState}
 use Rattle.djq_laws.specs.Watched.{IsWatcher, WatchesAlong, line_outdater, event_changes, number_by, numbers_along, Told, all_added_up}
 use Rattle.djq_laws.proofs.Adding.{deltas_add_up}
 use Rattle.djq_laws.proofs.Answering.{SameAnswers, reordered_same}
+use Rattle.djq_laws.proofs.Changing.{all_found}
 use Rattle.djq_laws.proofs.Finding.{some_and}
 use Rattle.djq_laws.proofs.Queueing.{session_changed, session_other, stepped_cause}
 use Rattle.djq_laws.proofs.Rows.{RowsMade, added, deleted}
@@ -41,9 +47,15 @@ use Rattle.djq_laws.proofs.Sounding.{step_sound}
 use Rattle.djq_laws.proofs.Watched.{watchers_have_answers}
 use Rattle.djq_laws.proofs.Watching.{StepTells, is_quiet, is_told, change_store, queued_store, step_tells}
 use Rattle.djq_told.specs.Told.{replies_text, is_told_of, delta_replies, WatchersAreToldExactly}
-use Rattle.djq_told.proofs.Exactly.{pairs_unmapped, told_one, told_none}
+use Rattle.djq_told.specs.Mirrored.{ExplainsNothing}
+use Rattle.djq_told.specs.Sayable.{IsSayableRelation, IsSayableListed, IsSayableStore, IsSayableSession, IsSayableState}
+use Rattle.djq_told.proofs.Printed.{IsFine, number_small, delta_fine, added_copies, left_copies}
+use Rattle.djq_told.proofs.Lengths.{line_less}
+use Rattle.djq_told.proofs.Reading.{read_sayable, read_short}
+use Rattle.djq_told.proofs.Sayable.{front_kept}
+use Rattle.djq_told.proofs.Exactly.{all_unmapped, pairs_unmapped, told_one, told_none}
 use Rattle.djq_told.proofs.Hearing.{heard, all_heard, own_replies, text_append, changed_ids, change_heard}
-use Rattle.djq_told.proofs.Replying.{IsPlain, IsHarmless, harmless_form, Replies, OfForm, of_form, any_talk, add_form, delete_form, one_line, talks, command_replies, refused_replies, none_of}
+use Rattle.djq_told.proofs.Replying.{IsPlain, IsHarmless, harmless_form, IsSayableReading, Fits, Replies, OfForm, of_form, any_talk, add_form, delete_form, one_line, talks, command_replies, refused_replies, none_of}
 
 -- ---- answers over rows in another order
 
@@ -83,55 +95,75 @@ pub data StepTold (q : Listed) (old new : Store) (changes : Bool) (rs : List Rep
       → changes ≡ true → StepTold q old new changes rs
 
 -- the lines that it queues to a session, and what they tell of the query; where they are no talk of a
--- listing, they are harmless
-pub record StepSays (q : Listed) (s : ℕ) (old new : Store) (queued : List (ℕ × Bytes)) (changes talk : Bool) : Type 0 where
+-- listing, they are harmless; and where this holds, each of them is printed
+pub record StepSays (q : Listed) (s : ℕ) (old new : Store) (queued : List (ℕ × Bytes)) (changes talk : Bool)
+    (U : Type 0) : Type 0 where
   pub replies : List Reply
   pub text : to_session s queued ≡ replies_text replies
   pub told : StepTold q old new changes (filter (is_told_of (listed_name q)) replies)
   pub harmless : talk ≡ false → All IsHarmless replies
+  pub fine : U → All IsFine replies
 
 -- Nothing is queued, or lines that tell of no delta; they are talk of a listing, where they are so to
 -- the session itself.
-abbrev pub IsQuiet : ℕ → List (ℕ × Bytes) → Bool → Type 0
-IsQuiet s queued talk = (queued ≡ []) ⊎ ((t : ℕ) × (k : Bool) × Replies t queued k × (talk ≡ ((t == s) && k)))
+abbrev pub IsQuiet : ℕ → List (ℕ × Bytes) → Bool → Type 0 → Type 0
+IsQuiet s queued talk U =
+    (queued ≡ [])
+    ⊎ ((t : ℕ) × (k : Bool) × Replies t queued k (U × ((t == s) ≡ true)) × (talk ≡ ((t == s) && k)))
 
 no_talk : (b : Bool) → false ≡ (b && false)
 no_talk true = refl
 no_talk false = refl
 
-quietly : (s t : ℕ) (queued : List (ℕ × Bytes)) → Replies t queued false → IsQuiet s queued false
+quietly : {U : Type 0} (s t : ℕ) (queued : List (ℕ × Bytes)) → Replies t queued false (U × ((t == s) ≡ true))
+    → IsQuiet s queued false U
 quietly s t queued r = inr (t, false, r, no_talk (t == s))
 
 -- lines to one session, as another one or it is told them
-pub record Plain (s : ℕ) (queued : List (ℕ × Bytes)) (talk : Bool) : Type 0 where
+pub record Plain (s : ℕ) (queued : List (ℕ × Bytes)) (talk : Bool) (U : Type 0) : Type 0 where
   pub replies : List Reply
   pub text : to_session s queued ≡ replies_text replies
   pub plain : All IsPlain replies
   pub harmless : talk ≡ false → All IsHarmless replies
+  pub fine : U → All IsFine replies
 
-pub quiet_to : (s : ℕ) (queued : List (ℕ × Bytes)) (talk : Bool) → IsQuiet s queued talk → Plain s queued talk
+pub quiet_to : {U : Type 0} (s : ℕ) (queued : List (ℕ × Bytes)) (talk : Bool) → IsQuiet s queued talk U → Plain s queued talk U
 quiet_to s queued talk (inl e) = record {
   replies = [];
   text = ap (λ qs. to_session s qs) e;
   plain = All-nil IsPlain;
   harmless = λ k. All-nil IsHarmless;
+  fine = λ u. All-nil IsFine;
 }
-quiet_to s queued talk (inr (t, k, r, is)) = by (t == s) refl is
+quiet_to {U = U} s queued talk (inr (t, k, r, is)) = by (t == s) refl is
   where
-    by : (b : Bool) → (t == s) ≡ b → talk ≡ (b && k) → Plain s queued talk
+    by : (b : Bool) → (t == s) ≡ b → talk ≡ (b && k) → Plain s queued talk U
     by true e f = record {
       replies = r.replies;
       text = ap (λ qs. to_session s qs) r.queued_are ∙ ap (λ (b : Bool). cond b (replies_text r.replies) [] ++ []) e
           ∙ append-nil (replies_text r.replies);
       plain = r.plain;
       harmless = λ none. r.harmless (sym f ∙ none);
+      fine = λ u. r.fine (u, e);
     }
     by false e f = record {
       replies = [];
       text = ap (λ qs. to_session s qs) r.queued_are ∙ ap (λ (b : Bool). cond b (replies_text r.replies) [] ++ []) e;
       plain = All-nil IsPlain;
       harmless = λ none. All-nil IsHarmless;
+      fine = λ u. All-nil IsFine;
     }
+
+-- under what implies it
+tamed : (q : Listed) (s : ℕ) (old new : Store) (queued : List (ℕ × Bytes)) (changes talk : Bool) (U V : Type 0) → (V → U)
+    → StepSays q s old new queued changes talk U → StepSays q s old new queued changes talk V
+tamed q s old new queued changes talk U V f k = record {
+  replies = k.replies;
+  text = k.text;
+  told = k.told;
+  harmless = k.harmless;
+  fine = λ v. k.fine (f v);
+}
 
 -- where no change of the query's relations is accepted
 quiet_told : (q : Listed) (s : ℕ) (old new : Store) (queued : List (ℕ × Bytes)) (changes : Bool) (rs : List Reply)
@@ -141,9 +173,9 @@ quiet_told q s old new queued changes rs (is_quiet same seq) stays e = tells_non
 quiet_told q s old new queued changes rs (is_told delta seq counts) (inl none) e = absurd (cc (none, counts))
 quiet_told q s old new queued changes rs (is_told delta seq counts) (inr unmoved) e = absurd (omega (arith, seq, unmoved))
 
-quiet_says : (q : Listed) (s : ℕ) (old new : Store) (queued : List (ℕ × Bytes)) (changes talk : Bool)
-    → IsQuiet s queued talk → StepTells q s old new queued changes → (changes ≡ false) ⊎ (new.seq ≡ old.seq)
-    → StepSays q s old new queued changes talk
+quiet_says : {U : Type 0} (q : Listed) (s : ℕ) (old new : Store) (queued : List (ℕ × Bytes)) (changes talk : Bool)
+    → IsQuiet s queued talk U → StepTells q s old new queued changes → (changes ≡ false) ⊎ (new.seq ≡ old.seq)
+    → StepSays q s old new queued changes talk U
 quiet_says q s old new queued changes talk quiet tells stays =
     let k = quiet_to s queued talk quiet in record {
       replies = k.replies;
@@ -151,6 +183,7 @@ quiet_says q s old new queued changes talk quiet tells stays =
       told = quiet_told q s old new queued changes (filter (is_told_of (listed_name q)) k.replies) tells stays
           (none_of (listed_name q) k.replies k.plain);
       harmless = k.harmless;
+      fine = k.fine;
     }
 
 -- ---- a change of rows
@@ -173,6 +206,43 @@ heard_harmless ws n (d ∷ ds) =
     by true = delta_harmless (listed_name d.query) d.changes n
     by false = All-nil IsHarmless
 
+-- the deltas of a change are printed, where what changes and what it leaves can be said
+heard_fine : (before after : List Relation) → All IsSayableRelation before → All IsSayableRelation after → (ws : List Bytes)
+    (n : ℕ) → IsNumber n → (ds : List Delta) → All (λ d. IsSayableListed d.query) ds
+    → All (λ d. IsDelta (AnswersOf before d.query) (AnswersOf after d.query) d.changes) ds → All IsFine (all_heard ws n ds)
+heard_fine before after b a ws n small [] said are = All-nil IsFine
+heard_fine before after b a ws n small (d ∷ ds) said are =
+    All-append IsFine (heard ws n d) (all_heard ws n ds) (by (list_any (λ w. bytes_eq w (listed_name d.query)) ws))
+    (heard_fine before after b a ws n small ds (All-tail (λ k. IsSayableListed k.query) d ds said)
+    (All-tail (λ k. IsDelta (AnswersOf before k.query) (AnswersOf after k.query) k.changes) d ds are))
+  where
+    by : (r : Bool)
+        → All IsFine (cond r (delta_replies (listed_name d.query) (record { number = n; changes = d.changes })) [])
+    by true =
+        delta_fine before after b a d.query (All-head (λ k. IsSayableListed k.query) d ds said) n small d.changes
+        (All-head (λ k. IsDelta (AnswersOf before k.query) (AnswersOf after k.query) k.changes) d ds are).changed
+    by false = All-nil IsFine
+
+all_heard_fine : (old : State) (t : ℕ) (outcome : RowsOutcome) (store : Store) (reply : Bytes) (e : Effect) (mid : State)
+    → (outdater : Listed → Option Bytes) → RowsMade outdater old.store outcome store
+    → (h : ChangeStep old t outcome store reply e mid) → IsSayableStore old.store → IsSayableStore store → (ws : List Bytes)
+    → All IsFine (all_heard ws store.seq (cond (is_accepted outcome) h.deltas []))
+all_heard_fine old t unchanged store reply e mid outdater made h before behind ws = All-nil IsFine
+all_heard_fine old t (out_of_memory change) store reply e mid outdater made h before behind ws = All-nil IsFine
+all_heard_fine old t (accepted change) store reply e mid outdater made h before behind ws =
+    let after = subst (λ (rs : List Relation). All IsSayableRelation rs) (ap (λ (st : Store). st.relations) made.store)
+    behind.relations in
+    heard_fine old.store.relations change.after before.relations after ws store.seq (number_small store.seq behind.seq) h.deltas
+    (all_unmapped IsSayableListed (λ (d : Delta). d.query) h.deltas
+    (subst (λ (qs : List Listed). All IsSayableListed qs) (sym h.listed.of_queries)
+    (All-filter (λ (p : Listed). is_outdated change p && list_any (is_watching (listed_name p)) old.sessions) IsSayableListed
+    old.store.queries before.queries)))
+    h.listed.are_deltas
+
+pub own_fine : (b : Bool) (r : Reply) → IsFine r → All IsFine (cond b (r ∷ []) [])
+own_fine true r h = All-cons IsFine r [] h (All-nil IsFine)
+own_fine false r h = All-nil IsFine
+
 -- what came of a command of rows that another session or this one said
 module _ (q : Listed) (s : ℕ) (old : State) (x : Session) (is : session_of old s ≡ Some x)
     (names : AreApart (map listed_name old.store.queries)) (rising : AreRising old) (registered : listed_of old.store.queries (listed_name q) ≡ Some q)
@@ -189,19 +259,24 @@ module _ (q : Listed) (s : ℕ) (old : State) (x : Session) (is : session_of old
   own_harmless false r h = All-nil IsHarmless
 
   -- the replies, and which of them tell of the query
-  change_says : (t : ℕ) (outcome : RowsOutcome) (store : Store) (reply : Bytes) (f : OfForm reply false) (e : Effect) (mid : State)
-      → (new : Store) → (outdater : Listed → Option Bytes) → RowsMade outdater old.store outcome store
+  change_says : (t : ℕ) (y : Session) (r : Reading) (outcome : RowsOutcome) (store : Store) (reply : Bytes) (e : Effect)
+      (mid : State) (f : OfForm reply false (Fits s t old.store y r e mid.store)) → mid.store ≡ store → (new : Store) → (outdater : Listed → Option Bytes) → RowsMade outdater old.store outcome store
       → SameAnswers store.relations new.relations q → new.seq ≡ store.seq
       → ChangeStep old t outcome store reply e mid → cause_of mid s ≡ None
       → StepTells q s old.store new e.queued (is_some (outdater q))
-      → (talk : Bool) → StepSays q s old.store new e.queued (is_some (outdater q)) talk
-  change_says t outcome store reply f e mid new outdater made same seq h running tells talk =
+      → (talk : Bool)
+      → StepSays q s old.store new e.queued (is_some (outdater q)) talk (Fits s t old.store y r e mid.store)
+  change_says t y r outcome store reply e mid f left new outdater made same seq h running tells talk =
       record {
         replies = all_heard x.watches store.seq (cond (is_accepted outcome) h.deltas []) ++ own_replies s x.watches (t == s) f.reply;
         text = change_heard s x old is t outcome store reply f.reply e mid rising f.is h running;
         harmless = λ k. All-append IsHarmless (all_heard x.watches store.seq (cond (is_accepted outcome) h.deltas []))
             (own_replies s x.watches (t == s) f.reply)
             (heard_harmless x.watches store.seq (cond (is_accepted outcome) h.deltas [])) (own_harmless (t == s) f.reply (f.harmless refl));
+        fine = λ u. All-append IsFine (all_heard x.watches store.seq (cond (is_accepted outcome) h.deltas []))
+            (own_replies s x.watches (t == s) f.reply)
+            (all_heard_fine old t outcome store reply e mid outdater made h u.before (subst IsSayableStore left u.behind) x.watches)
+            (own_fine (t == s) f.reply (f.fine u));
         told = subst (λ (rs : List Reply). StepTold q old.store new (is_some (outdater q)) rs)
             (sym (filter-append (is_told_of (listed_name q))
             (all_heard x.watches store.seq (cond (is_accepted outcome) h.deltas [])) (own_replies s x.watches (t == s) f.reply)
@@ -250,6 +325,7 @@ module _ (q : Listed) (s : ℕ) (old : State) (x : Session) (is : session_of old
       → SameAnswers mid.store.relations new.relations q → new.seq ≡ mid.store.seq → cause_of mid s ≡ None
       → ReadStep old t y l r e mid → StepTells q s old.store new e.queued (is_some (line_outdater o t r q))
       → StepSays q s old.store new e.queued (is_some (line_outdater o t r q)) ((t == s) && reading_talks r)
+      (Fits s t old.store y r e mid.store)
   read_says o t y l outside e mid new same seq running h tells =
       quiet_says q s old.store new e.queued false ((t == s) && false) (inr (t, false, refused_replies old t Syntax e mid h, refl)) tells
       (inl refl)
@@ -261,18 +337,22 @@ module _ (q : Listed) (s : ℕ) (old : State) (x : Session) (is : session_of old
       (inr (t, talks c, any_talk t e.queued (talks c) (refused_replies old t NoMemory e mid h.1), refl)) tells (inr (seq ∙ ap (λ (st : State). st.store.seq) h.1.1))
   read_says o t y l (says_command (Add name row)) e mid new same seq running (true, h) tells =
       let left = change_store old t _ h.store _ e mid h.change in
-      change_says t (add_outcome (row_in old.store.relations name row) h.result) h.store _
-      (add_form h.result h.store.seq) e mid new (by_relation name) (added old.store name row h.result h.store h.done)
+      change_says t y (says_command (Add name row)) (add_outcome (row_in old.store.relations name row) h.result) h.store _ e mid
+      (add_form h.result h.store.seq (λ u. number_small h.store.seq (subst (λ (st : Store). st.seq ≤ LAST_SEQ) left u.behind.seq))
+      (λ copies k u. added_copies old.store name row copies h.store
+      (subst (λ (r : Result AddOutcome Refusal). AddsRow old.store name row r h.store) k h.done))) left new (by_relation name) (added old.store name row h.result h.store h.done)
       (subst (λ (st : Store). SameAnswers st.relations new.relations q) left same)
       (seq ∙ ap (λ (st : Store). st.seq) left) h.change running tells ((t == s) && false)
   read_says o t y l (says_command (Del name row)) e mid new same seq running (true, h) tells =
       let left = change_store old t _ h.store _ e mid h.change in
-      change_says t (delete_outcome (row_out old.store.relations name row) h.result) h.store _
-      (delete_form h.result h.store.seq) e mid new (by_relation name) (deleted old.store name row h.result h.store h.done)
+      change_says t y (says_command (Del name row)) (delete_outcome (row_out old.store.relations name row) h.result) h.store _ e mid
+      (delete_form h.result h.store.seq (λ u. number_small h.store.seq (subst (λ (st : Store). st.seq ≤ LAST_SEQ) left u.behind.seq))
+      (λ copies k u. left_copies old.store u.sound name row copies h.store
+      (subst (λ (r : Result DeleteOutcome Refusal). DeletesRow old.store name row r h.store) k h.done))) left new (by_relation name) (deleted old.store name row h.result h.store h.done)
       (subst (λ (st : Store). SameAnswers st.relations new.relations q) left same)
       (seq ∙ ap (λ (st : Store). st.seq) left) h.change running tells ((t == s) && false)
   read_says o t y l (says_command c) e mid new same seq running (true, h) tells =
-      quiet_says q s old.store new e.queued false ((t == s) && talks c) (inr (t, talks c, command_replies old t y c e mid tt h, refl)) tells
+      quiet_says q s old.store new e.queued false ((t == s) && talks c) (inr (t, talks c, command_replies s old t y c e mid tt h, refl)) tells
       (inl refl)
 
 -- ---- the events
@@ -294,20 +374,20 @@ taken_session old t rest s x is = by (t == s) refl
     by false e = (x, session_other old t s (behind_line rest) (λ z. refl) e ∙ is, refl)
 
 -- a session's last line
-pub ends_quiet : (s t : ℕ) (text : Bytes) (cause : EndCause) (old : State) (e : Effect) (mid : State) → OfForm text false
-    → EndsWith text cause old t e mid → IsQuiet s e.queued false
+pub ends_quiet : {U : Type 0} (s t : ℕ) (text : Bytes) (cause : EndCause) (old : State) (e : Effect) (mid : State)
+    → OfForm text false (U × ((t == s) ≡ true)) → EndsWith text cause old t e mid → IsQuiet s e.queued false U
 ends_quiet s t text cause old e mid f h = quietly s t e.queued (one_line t text e.queued false f (ap (λ (y : Effect). y.queued) h.0))
 
-pub nothing_quiet : (s : ℕ) (e : Effect) → e ≡ nothing → IsQuiet s e.queued false
+pub nothing_quiet : {U : Type 0} (s : ℕ) (e : Effect) → e ≡ nothing → IsQuiet s e.queued false U
 nothing_quiet s e h = inl (ap (λ (y : Effect). y.queued) h)
 
-pub fed_quiet : (s : ℕ) (old : State) (t : ℕ) (bytes : Bytes) (e : Effect) (mid : State) (c : Option EndCause)
+pub fed_quiet : {U : Type 0} (s : ℕ) (old : State) (t : ℕ) (bytes : Bytes) (e : Effect) (mid : State) (c : Option EndCause)
     → MatchOption c
     (((e ≡ nothing) × (mid ≡ with_session old t (λ y. record y { held = y.held ++ bytes }))) ⊎ EndsWith end_memory Memory old t e mid)
     (λ _. (e ≡ nothing) × (mid ≡ old))
-    → IsQuiet s e.queued false
+    → IsQuiet s e.queued false U
 fed_quiet s old t bytes e mid None (inl h) = nothing_quiet s e h.0
-fed_quiet s old t bytes e mid None (inr h) = ends_quiet s t end_memory Memory old e mid (of_form end_memory (is_ended memory_line) refl (λ name. refl)) h
+fed_quiet s old t bytes e mid None (inr h) = ends_quiet s t end_memory Memory old e mid (of_form end_memory (is_ended memory_line) refl (λ name. refl) (λ u. (tt, tt))) h
 fed_quiet s old t bytes e mid (Some c) h = nothing_quiet s e h.0
 
 -- what is said where bytes are held
@@ -315,53 +395,86 @@ cut_of : ℕ → Bytes → Effect
 cut_of s [] = nothing
 cut_of s (b ∷ bs) = says s input_cut
 
-cut_quiet : (s t : ℕ) (held : Bytes) (e : Effect) → e ≡ cut_of t held → IsQuiet s e.queued false
+cut_quiet : {U : Type 0} (s t : ℕ) (held : Bytes) (e : Effect) → e ≡ cut_of t held → IsQuiet s e.queued false U
 unfolding cut_of
 cut_quiet s t [] e h = nothing_quiet s e h
 cut_quiet s t (b ∷ bs) e h =
-    quietly s t e.queued (one_line t input_cut e.queued false (of_form input_cut cut refl (λ name. refl)) (ap (λ (y : Effect). y.queued) h))
+    quietly s t e.queued (one_line t input_cut e.queued false (of_form input_cut cut refl (λ name. refl) (λ u. (tt, tt))) (ap (λ (y : Effect). y.queued) h))
 
-input_quiet : (s : ℕ) (old : State) (t : ℕ) (held : Bytes) (e : Effect) (mid : State) (P : Type 0) (c : Option EndCause)
+input_quiet : {U : Type 0} (s : ℕ) (old : State) (t : ℕ) (held : Bytes) (e : Effect) (mid : State) (P : Type 0) (c : Option EndCause)
     → MatchOption c (P × (e ≡ cut_of t held) × (mid ≡ with_session old t (ended_by Input))) (λ _. (e ≡ nothing) × (mid ≡ old))
-    → IsQuiet s e.queued false
+    → IsQuiet s e.queued false U
 input_quiet s old t held e mid P None h = cut_quiet s t held e h.1
 input_quiet s old t held e mid P (Some c) h = nothing_quiet s e h.0
 
-pub ended_quiet : (s : ℕ) (old : State) (t : ℕ) (x : Session) (e : Effect) (mid : State) → EndedStep old t x e mid → IsQuiet s e.queued false
+pub ended_quiet : {U : Type 0} (s : ℕ) (old : State) (t : ℕ) (x : Session) (e : Effect) (mid : State)
+    → EndedStep old t x e mid → IsQuiet s e.queued false U
 unfolding cut_of
 ended_quiet s old t x e mid h = input_quiet s old t x.held e mid _ x.cause h
+
+-- Names and values of a state can be said; and an event explains a session no query.
+pub record Tame (s : ℕ) (old : State) (event : Event) (e : Effect) : Type 0 where
+  pub sound : IsSoundState old
+  pub fine : IsSayableState old
+  pub no_tree : ExplainsNothing s event
+
+reading_said : (l : Bytes) → length l ≤ LINE_BYTES → IsSayableReading (reading_of l)
+reading_said l few = by (reading_of l) refl
+  where
+    by : (r : Reading) → reading_of l ≡ r → IsSayableReading r
+    by (says_command c) k = (read_sayable l c k, read_short l c k few)
+    by outside k = tt
+    by (past_limit c) k = tt
+
+-- what a line of a session is run over
+pub tame_fits : (s t : ℕ) (old : State) (z : Session) (l : Bytes) (e : Effect) (mid : State) → session_of old t ≡ Some z
+    → (h : FrontStep old t z (run l) e mid) → Tame s old (stepped t (run l)) e
+    → Fits s t old.store (behind_line h.2.rest z) (reading_of l) e mid.store
+tame_fits s t old z l e mid found h k =
+    let said = all_found IsSayableSession (λ (y : Session). y.id == t) old.sessions z k.fine.sessions found in record {
+      sound = k.sound.store;
+      before = k.fine.store;
+      session = record { cursors = said.cursors; watches = said.watches };
+      behind = (front_kept old t z (run l) e mid found h k.fine).store;
+      said = reading_said l (line_less z.held l h.2.rest h.2.front);
+      no_tree = k.no_tree;
+    }
 
 module _ (q : Listed) (s : ℕ) (old : State) (x : Session) (is : session_of old s ≡ Some x) (sound : IsSoundState old)
     (registered : listed_of old.store.queries (listed_name q) ≡ Some q)
     (watching : is_watching (listed_name q) x ≡ true) where
-  front_says : (t : ℕ) (z : Session) (outcome : LineOutcome) (e : Effect) (mid : State) (new : Store)
+  front_says : (t : ℕ) (z : Session) → session_of old t ≡ Some z → (outcome : LineOutcome) (e : Effect) (mid : State) (new : Store)
       → SameAnswers mid.store.relations new.relations q → new.seq ≡ mid.store.seq → cause_of mid s ≡ None
       → FrontStep old t z outcome e mid → StepTells q s old.store new e.queued (event_changes q old (stepped t outcome))
       → StepSays q s old.store new e.queued (event_changes q old (stepped t outcome)) (event_talks s (stepped t outcome))
-  front_says t z long e mid new same seq running h tells =
+      (Tame s old (stepped t outcome) e)
+  front_says t z found long e mid new same seq running h tells =
       quiet_says q s old.store new e.queued false false
-      (ends_quiet s t end_long _ old e mid (of_form end_long (is_ended long_line) refl (λ name. refl)) h.1) tells (inl refl)
-  front_says t z (blank l) e mid new same seq running h tells =
+      (ends_quiet s t end_long _ old e mid (of_form end_long (is_ended long_line) refl (λ name. refl) (λ u. (tt, tt))) h.1) tells (inl refl)
+  front_says t z found (blank l) e mid new same seq running h tells =
       quiet_says q s old.store new e.queued false false (nothing_quiet s e h.1.then.0) tells (inl refl)
-  front_says t z (slow l) e mid new same seq running h tells =
+  front_says t z found (slow l) e mid new same seq running h tells =
       quiet_says q s old.store new e.queued false false
-      (ends_quiet s t end_slow _ _ e mid (of_form end_slow (is_ended slow_line) refl (λ name. refl)) h.2.then) tells (inl refl)
-  front_says t z (no_room l) e mid new same seq running h tells =
+      (ends_quiet s t end_slow _ _ e mid (of_form end_slow (is_ended slow_line) refl (λ name. refl) (λ u. (tt, tt))) h.2.then) tells (inl refl)
+  front_says t z found (no_room l) e mid new same seq running h tells =
       quiet_says q s old.store new e.queued false false
-      (ends_quiet s t end_memory _ _ e mid (of_form end_memory (is_ended memory_line) refl (λ name. refl)) h.2.then) tells (inl refl)
-  front_says t z (run l) e mid new same seq running h tells =
+      (ends_quiet s t end_memory _ _ e mid (of_form end_memory (is_ended memory_line) refl (λ name. refl) (λ u. (tt, tt))) h.2.then) tells (inl refl)
+  front_says t z found (run l) e mid new same seq running h tells =
       let rest = h.2.rest in
       let y = taken_session old t rest s x is in
       let ids = changed_ids (λ (k : Session). k.id == t) (behind_line rest) (λ k. refl) old.sessions in
-      read_says q s (with_session old t (behind_line rest)) y.0 y.1 sound.store.queries
+      tamed q s old.store new e.queued (event_changes q old (stepped t (run l))) (event_talks s (stepped t (run l)))
+      (Fits s t old.store (behind_line rest z) (reading_of l) e mid.store) (Tame s old (stepped t (run l)) e)
+      (tame_fits s t old z l e mid found h)
+      (read_says q s (with_session old t (behind_line rest)) y.0 y.1 sound.store.queries
       (subst (λ (js : List ℕ). AllPairs (λ i j. i < j) js) (sym ids) sound.rising) registered
       (ap (λ (ws : List Bytes). list_any (λ w. bytes_eq w (listed_name q)) ws) y.2 ∙ watching)
-      old t (behind_line rest z) l (reading_of l) e mid new same seq running h.2.then tells
+      old t (behind_line rest z) l (reading_of l) e mid new same seq running h.2.then tells)
 
   acts_say : (event : Event) (e : Effect) (mid : State) (new : Store)
       → SameAnswers mid.store.relations new.relations q → new.seq ≡ mid.store.seq → cause_of mid s ≡ None
       → Acts old event e mid → StepTells q s old.store new e.queued (event_changes q old event)
-      → StepSays q s old.store new e.queued (event_changes q old event) (event_talks s event)
+      → StepSays q s old.store new e.queued (event_changes q old event) (event_talks s event) (Tame s old event e)
   acts_say (opened t) e mid new same seq running h tells =
       quiet_says q s old.store new e.queued false false (nothing_quiet s e h.0) tells (inl refl)
   acts_say (fed t bytes) e mid new same seq running h tells =
@@ -369,7 +482,7 @@ module _ (q : Listed) (s : ℕ) (old : State) (x : Session) (is : session_of old
       quiet_says q s old.store new e.queued false false (fed_quiet s old t bytes e mid (f.0).cause f.2) tells (inl refl)
   acts_say (stepped t outcome) e mid new same seq running h tells =
       let f = some_and (session_of old t) (λ z. (z.cause ≡ None) × FrontStep old t z outcome e mid) h in
-      front_says t f.0 outcome e mid new same seq running f.2.1 tells
+      front_says t f.0 f.1 outcome e mid new same seq running f.2.1 tells
   acts_say (took t bytes) e mid new same seq running h tells =
       let f = some_and (session_of old t) (λ z. TookStep old t bytes z e mid) h in
       quiet_says q s old.store new e.queued false false (nothing_quiet s e f.2.0) tells (inl refl)
@@ -381,7 +494,7 @@ module _ (q : Listed) (s : ℕ) (old : State) (x : Session) (is : session_of old
 
 pub step_says : (q : Listed) (s : ℕ) (old : State) (event : Event) (e : Effect) (new : State) → IsSoundState old
     → Step old event e new → IsWatcher q s old → IsWatcher q s new
-    → StepSays q s old.store new.store e.queued (event_changes q old event) (event_talks s event)
+    → StepSays q s old.store new.store e.queued (event_changes q old event) (event_talks s event) (Tame s old event e)
 step_says q s old event e new sound h before behind =
     let f = some_and (session_of old s) (λ x. (x.cause ≡ None) × (is_watching (listed_name q) x ≡ true)) before.watches in
     let g = some_and (session_of new s) (λ x. (x.cause ≡ None) × (is_watching (listed_name q) x ≡ true)) behind.watches in

@@ -1,10 +1,14 @@
 -- What a session is sent before it watches a query, and as it ends.
-use Rattle.std.specs.Prelude.{ℕ, List, [], ◌∷◌, ◌++◌, ◌==◌, ◌≡◌, ◌<◌, ◌&&◌, Bool, true, false, cond, None, Some, All, AllPairs}
+use Rattle.std.specs.Prelude.{ℕ, List, [], ◌∷◌, ◌++◌, ◌==◌, ◌≡◌, ◌<◌, ◌≤◌, ◌&&◌, Bool, true, false, cond, None, Some, Result, All, AllPairs}
 use Rattle.std.proofs.Common.{refl, sym, ap, ap₂, ◌∙◌, subst, inr, append-nil}
 use Rattle.std.proofs.lemmas.Grind.{flat_map-append}
 use Rattle.std.proofs.lemmas.List.Elements.{All-nil, All-cons, All-append}
 use Rattle.djq_model.specs.Data.{Bytes}
-use Rattle.djq_model.specs.Listed.{listed_name}
+use Rattle.djq_model.specs.Listed.{Listed, listed_name}
+use Rattle.djq_lines.specs.declared.limits.TheConstants.{LAST_SEQ}
+use Rattle.djq_lines.specs.declared.answer.AddOutcome.{AddOutcome}
+use Rattle.djq_lines.specs.declared.answer.DeleteOutcome.{DeleteOutcome}
+use Rattle.djq_lines.specs.declared.answer.Refusal.{Refusal}
 use Rattle.djq_lines.specs.declared.answer.EndLine.TheVariants.{Long as long_line, Slow as slow_line, Memory as memory_line}
 use Rattle.djq_lines.specs.declared.answer.Refusal.TheVariants.{Syntax, WrongType, NoMemory}
 use Rattle.djq_lines.specs.declared.command.Command.{Command}
@@ -18,26 +22,30 @@ use Rattle.djq_machine.specs.Effect.{Effect}
 use Rattle.djq_machine.specs.Changes.{RowsOutcome, is_accepted, row_in, row_out, add_outcome, delete_outcome}
 use Rattle.djq_machine.specs.Watch.{Delta, ChangeStep}
 use Rattle.djq_machine.specs.LineStep.{LineOutcome, long, blank, slow, no_room, run, ReadStep, FrontStep, behind_line}
-use Rattle.djq_machine.specs.Step.{Event, opened, fed, stepped, took, ended, closed, FedStep, TookStep, EndedStep, Acts}
+use Rattle.djq_machine.specs.Store.{AddsRow, DeletesRow}
+use Rattle.djq_machine.specs.Step.{Event, opened, fed, stepped, took, ended, closed, FedStep, TookStep, EndedStep, Acts, Step}
 use Rattle.djq_machine.specs.Gives.{CursorsGive}
-use Rattle.djq_machine.specs.Run.{Did, to_session, out}
+use Rattle.djq_machine.specs.Run.{Did, Run, to_session, out}
 use Rattle.djq_machine.specs.Call.{cause_of, cause_in}
 use Rattle.djq_laws.specs.Rising.{AreRising}
-use Rattle.djq_laws.specs.Sound.{IsSoundState}
+use Rattle.djq_laws.specs.Sound.{IsSoundState, IsStart}
+use Rattle.djq_laws.proofs.Watching.{change_store}
 use Rattle.djq_laws.proofs.Finding.{some_and}
 use Rattle.djq_laws.proofs.Giving.{step_gives, runs_give}
 use Rattle.djq_laws.proofs.Listing.{nothing_given}
 use Rattle.djq_laws.proofs.Queueing.{stepped_cause}
 use Rattle.djq_laws.proofs.Sounding.{step_sound, states_are_sound}
-use Rattle.djq_told.specs.Sayable.{IsSayableState}
+use Rattle.djq_told.specs.Sayable.{IsSayableStore, IsSayableState}
 use Rattle.djq_told.specs.Told.{replies_text}
-use Rattle.djq_told.specs.Mirrored.{Passes, AsksNoListing, SaysNoListing, WaitsAlong, ReadersAreMirrored, StartsAreMirrored, EndsNow, EndsAreMirrored}
+use Rattle.djq_told.specs.Mirrored.{Passes, IsMirrored, Reads, ExplainsNone, ExplainsNothing, ReadersAreReadBack, AsksNoListing, SaysNoListing, WaitsAlong, ReadersAreMirrored, StartsAreMirrored, EndsNow, EndsAreMirrored}
 use Rattle.djq_told.proofs.Hearing.{all_heard, own_replies, text_append, changed_ids, change_heard}
-use Rattle.djq_told.proofs.Mirrored.{watchers_are_mirrored}
+use Rattle.djq_told.proofs.Holding.{mirrored_are_held}
+use Rattle.djq_told.proofs.Mirrored.{IsWell, watchers_are_well}
 use Rattle.djq_told.proofs.Mirroring.{passes_then, passes_told}
-use Rattle.djq_told.proofs.Replying.{IsPlain, IsHarmless, OfForm, of_form, any_talk, add_form, delete_form, talks, command_replies, refused_replies, none_of}
+use Rattle.djq_told.proofs.Printed.{IsFine, number_small, added_copies, left_copies}
+use Rattle.djq_told.proofs.Replying.{IsPlain, IsHarmless, Fits, OfForm, of_form, any_talk, add_form, delete_form, talks, command_replies, refused_replies, none_of}
 use Rattle.djq_told.proofs.Sayable.{step_sayable, states_are_sayable}
-use Rattle.djq_told.proofs.Telling.{reading_talks, event_talks, IsQuiet, Plain, quiet_to, ends_quiet, nothing_quiet, fed_quiet, ended_quiet, taken_session}
+use Rattle.djq_told.proofs.Telling.{own_fine, Tame, tame_fits, reading_talks, event_talks, IsQuiet, Plain, quiet_to, ends_quiet, nothing_quiet, fed_quiet, ended_quiet, taken_session}
 
 nothing_heard : (ws : List Bytes) → ws ≡ [] → (n : ℕ) (ds : List Delta) → all_heard ws n ds ≡ []
 nothing_heard ws e n ds = ap (λ (vs : List Bytes). all_heard vs n ds) e ∙ by ds
@@ -48,15 +56,16 @@ nothing_heard ws e n ds = ap (λ (vs : List Bytes). all_heard vs n ds) e ∙ by 
 
 -- one that watches nothing
 module _ (s : ℕ) (old : State) (x : Session) (is : session_of old s ≡ Some x) (rising : AreRising old) (none : x.watches ≡ []) where
-  change_plain : (t : ℕ) (outcome : RowsOutcome) (store : Store) (reply : Bytes) (f : OfForm reply false) (e : Effect) (mid : State)
-      → ChangeStep old t outcome store reply e mid → cause_of mid s ≡ None → (talk : Bool) → Plain s e.queued talk
-  change_plain t outcome store reply f e mid h running talk = record {
+  change_plain : (t : ℕ) (outcome : RowsOutcome) (store : Store) (reply : Bytes) (e : Effect) (mid : State) (U : Type 0) (f : OfForm reply false U)
+      → ChangeStep old t outcome store reply e mid → cause_of mid s ≡ None → (talk : Bool) → Plain s e.queued talk U
+  change_plain t outcome store reply e mid U f h running talk = record {
     replies = own_replies s x.watches (t == s) f.reply;
     text = change_heard s x old is t outcome store reply f.reply e mid rising f.is h running
         ∙ ap (λ rs. replies_text (rs ++ own_replies s x.watches (t == s) f.reply))
         (nothing_heard x.watches none store.seq (cond (is_accepted outcome) h.deltas []));
     plain = plain_own (t == s);
     harmless = λ k. harmless_own (t == s);
+    fine = λ u. own_fine (t == s) f.reply (f.fine u);
   }
     where
       plain_own : (b : Bool) → All IsPlain (cond b (f.reply ∷ []) [])
@@ -68,7 +77,7 @@ module _ (s : ℕ) (old : State) (x : Session) (is : session_of old s ≡ Some x
       harmless_own false = All-nil IsHarmless
 
   read_plain : (t : ℕ) (y : Session) (l : Bytes) (r : Reading) (e : Effect) (mid : State) → cause_of mid s ≡ None
-      → ReadStep old t y l r e mid → Plain s e.queued ((t == s) && reading_talks r)
+      → ReadStep old t y l r e mid → Plain s e.queued ((t == s) && reading_talks r) (Fits s t old.store y r e mid.store)
   read_plain t y l outside e mid running h =
       quiet_to s e.queued ((t == s) && false) (inr (t, false, refused_replies old t Syntax e mid h, refl))
   read_plain t y l (past_limit c) e mid running h =
@@ -77,42 +86,65 @@ module _ (s : ℕ) (old : State) (x : Session) (is : session_of old s ≡ Some x
       quiet_to s e.queued ((t == s) && talks c)
       (inr (t, talks c, any_talk t e.queued (talks c) (refused_replies old t NoMemory e mid h.1), refl))
   read_plain t y l (says_command (Add name row)) e mid running (true, h) =
-      change_plain t (add_outcome (row_in old.store.relations name row) h.result) h.store _ (add_form h.result h.store.seq) e
-      mid h.change running ((t == s) && false)
+      let left = change_store old t _ h.store _ e mid h.change in
+      change_plain t (add_outcome (row_in old.store.relations name row) h.result) h.store _ e mid
+      (Fits s t old.store y (says_command (Add name row)) e mid.store)
+      (add_form h.result h.store.seq (λ u. number_small h.store.seq (subst (λ (st : Store). st.seq ≤ LAST_SEQ) left u.behind.seq))
+      (λ copies k u. added_copies old.store name row copies h.store
+      (subst (λ (r : Result AddOutcome Refusal). AddsRow old.store name row r h.store) k h.done)))
+      h.change running ((t == s) && false)
   read_plain t y l (says_command (Del name row)) e mid running (true, h) =
-      change_plain t (delete_outcome (row_out old.store.relations name row) h.result) h.store _
-      (delete_form h.result h.store.seq) e mid h.change running ((t == s) && false)
+      let left = change_store old t _ h.store _ e mid h.change in
+      change_plain t (delete_outcome (row_out old.store.relations name row) h.result) h.store _ e mid
+      (Fits s t old.store y (says_command (Del name row)) e mid.store)
+      (delete_form h.result h.store.seq (λ u. number_small h.store.seq (subst (λ (st : Store). st.seq ≤ LAST_SEQ) left u.behind.seq))
+      (λ copies k u. left_copies old.store u.sound name row copies h.store
+      (subst (λ (r : Result DeleteOutcome Refusal). DeletesRow old.store name row r h.store) k h.done)))
+      h.change running ((t == s) && false)
   read_plain t y l (says_command c) e mid running (true, h) =
-      quiet_to s e.queued ((t == s) && talks c) (inr (t, talks c, command_replies old t y c e mid tt h, refl))
+      quiet_to s e.queued ((t == s) && talks c) (inr (t, talks c, command_replies s old t y c e mid tt h, refl))
+
+tamed_plain : (s : ℕ) (queued : List (ℕ × Bytes)) (talk : Bool) (U V : Type 0) → (V → U) → Plain s queued talk U
+    → Plain s queued talk V
+tamed_plain s queued talk U V f k = record {
+  replies = k.replies;
+  text = k.text;
+  plain = k.plain;
+  harmless = k.harmless;
+  fine = λ v. k.fine (f v);
+}
 
 module _ (s : ℕ) (old : State) (x : Session) (is : session_of old s ≡ Some x) (rising : AreRising old) (none : x.watches ≡ []) where
-  front_plain : (t : ℕ) (z : Session) (outcome : LineOutcome) (e : Effect) (mid : State) → cause_of mid s ≡ None
-      → FrontStep old t z outcome e mid → Plain s e.queued (event_talks s (stepped t outcome))
-  front_plain t z long e mid running h =
-      quiet_to s e.queued false (ends_quiet s t end_long _ old e mid (of_form end_long (is_ended long_line) refl (λ name. refl)) h.1)
-  front_plain t z (blank l) e mid running h = quiet_to s e.queued false (nothing_quiet s e h.1.then.0)
-  front_plain t z (slow l) e mid running h =
-      quiet_to s e.queued false (ends_quiet s t end_slow _ _ e mid (of_form end_slow (is_ended slow_line) refl (λ name. refl)) h.2.then)
-  front_plain t z (no_room l) e mid running h =
+  front_plain : (t : ℕ) (z : Session) → session_of old t ≡ Some z → (outcome : LineOutcome) (e : Effect) (mid : State)
+      → cause_of mid s ≡ None → FrontStep old t z outcome e mid
+      → Plain s e.queued (event_talks s (stepped t outcome)) (Tame s old (stepped t outcome) e)
+  front_plain t z found long e mid running h =
+      quiet_to s e.queued false (ends_quiet s t end_long _ old e mid (of_form end_long (is_ended long_line) refl (λ name. refl) (λ u. (tt, tt))) h.1)
+  front_plain t z found (blank l) e mid running h = quiet_to s e.queued false (nothing_quiet s e h.1.then.0)
+  front_plain t z found (slow l) e mid running h =
+      quiet_to s e.queued false (ends_quiet s t end_slow _ _ e mid (of_form end_slow (is_ended slow_line) refl (λ name. refl) (λ u. (tt, tt))) h.2.then)
+  front_plain t z found (no_room l) e mid running h =
       quiet_to s e.queued false
-      (ends_quiet s t end_memory _ _ e mid (of_form end_memory (is_ended memory_line) refl (λ name. refl)) h.2.then)
-  front_plain t z (run l) e mid running h =
+      (ends_quiet s t end_memory _ _ e mid (of_form end_memory (is_ended memory_line) refl (λ name. refl) (λ u. (tt, tt))) h.2.then)
+  front_plain t z found (run l) e mid running h =
       let rest = h.2.rest in
       let y = taken_session old t rest s x is in
       let ids = changed_ids (λ (k : Session). k.id == t) (behind_line rest) (λ k. refl) old.sessions in
-      read_plain s (with_session old t (behind_line rest)) y.0 y.1
+      tamed_plain s e.queued (event_talks s (stepped t (run l))) (Fits s t old.store (behind_line rest z) (reading_of l) e mid.store)
+      (Tame s old (stepped t (run l)) e) (tame_fits s t old z l e mid found h)
+      (read_plain s (with_session old t (behind_line rest)) y.0 y.1
       (subst (λ (js : List ℕ). AllPairs (λ i j. i < j) js) (sym ids) rising) (y.2 ∙ none) t (behind_line rest z) l (reading_of l)
-      e mid running h.2.then
+      e mid running h.2.then)
 
   acts_plain : (event : Event) (e : Effect) (mid : State) → cause_of mid s ≡ None → Acts old event e mid
-      → Plain s e.queued (event_talks s event)
+      → Plain s e.queued (event_talks s event) (Tame s old event e)
   acts_plain (opened t) e mid running h = quiet_to s e.queued false (nothing_quiet s e h.0)
   acts_plain (fed t bytes) e mid running h =
       let f = some_and (session_of old t) (λ z. FedStep old t bytes z e mid) h in
       quiet_to s e.queued false (fed_quiet s old t bytes e mid (f.0).cause f.2)
   acts_plain (stepped t outcome) e mid running h =
       let f = some_and (session_of old t) (λ z. (z.cause ≡ None) × FrontStep old t z outcome e mid) h in
-      front_plain t f.0 outcome e mid running f.2.1
+      front_plain t f.0 f.1 outcome e mid running f.2.1
   acts_plain (took t bytes) e mid running h =
       let f = some_and (session_of old t) (λ z. TookStep old t bytes z e mid) h in
       quiet_to s e.queued false (nothing_quiet s e f.2.0)
@@ -150,6 +182,19 @@ no_talk_event s (took t bytes) h = refl
 no_talk_event s (ended t) h = refl
 no_talk_event s (closed t bytes) h = refl
 
+explains_none : (s : ℕ) (event : Event) → SaysNoListing s event → ExplainsNothing s event
+explains_none s (stepped t (run l)) h = λ same. of (reading_of l) (h same)
+  where
+    of_command : (c : Command) → AsksNoListing (says_command c) → ExplainsNone (says_command c)
+    of_command (Explain q) k = absurd k
+    of_command c k = tt
+
+    of : (r : Reading) → AsksNoListing r → ExplainsNone r
+    of (says_command c) k = of_command c k
+    of outside k = tt
+    of (past_limit c) k = tt
+explains_none s event h = tt
+
 -- what is held stays, where nothing is told of the query
 plain_passes : (name : Bytes) (held : Held) (rs : List Reply) → All IsPlain rs → All IsHarmless rs → Passes name held rs held
 plain_passes name held rs plain harmless =
@@ -161,6 +206,7 @@ record Waited (s : ℕ) (done : List Did) (new : State) : Type 0 where
   whole : out s done ≡ replies_text replies
   plain : All IsPlain replies
   harmless : All IsHarmless replies
+  printed : All IsFine replies
   sound : IsSoundState new
   fine : IsSayableState new
   gives : CursorsGive new
@@ -172,6 +218,7 @@ waited s old sound fine gives [] new walk = record {
   whole = refl;
   plain = All-nil IsPlain;
   harmless = All-nil IsHarmless;
+  printed = All-nil IsFine;
   sound = subst IsSoundState (sym walk) sound;
   fine = subst IsSayableState (sym walk) fine;
   gives = subst CursorsGive (sym walk) gives;
@@ -190,6 +237,8 @@ waited s old sound fine gives (d ∷ done) new walk =
       whole = ap₂ (λ (xs ys : Bytes). xs ++ ys) one.text more.whole ∙ sym (text_append one.replies more.replies);
       plain = All-append IsPlain one.replies more.replies one.plain more.plain;
       harmless = All-append IsHarmless one.replies more.replies (one.harmless (no_talk_event s d.event h.says)) more.harmless;
+      printed = All-append IsFine one.replies more.replies
+          (one.fine (record { sound = sound; fine = fine; no_tree = explains_none s d.event h.says })) more.printed;
       sound = more.sound;
       fine = more.fine;
       gives = more.gives;
@@ -198,27 +247,43 @@ waited s old sound fine gives (d ∷ done) new walk =
 out_append : (s : ℕ) (xs ys : List Did) → out s (xs ++ ys) ≡ out s xs ++ out s ys
 out_append s xs ys = flat_map-append (λ (d : Did). to_session s d.effect.queued) xs ys
 
+readers_are_well : (q : Listed) (s : ℕ) (first : State) → IsSoundState first → IsSayableState first
+    → CursorsGive first → (fore : List Did) (old : State) (done : List Did) (new : State)
+    → Reads q s first fore old done new → IsWell q s (fore ++ done) new
+readers_are_well q s first sound fine gives fore old done new h =
+    let w = waited s first sound fine gives fore old h.waits in
+    let k = watchers_are_well q s old w.sound w.fine w.gives h.none done new h.walk h.reads in
+    let m = k.mirrored in record {
+      mirrored = record {
+        replies = w.replies ++ m.replies;
+        whole = out_append s fore done ∙ ap₂ (λ (xs ys : Bytes). xs ++ ys) w.whole m.whole ∙ sym (text_append w.replies m.replies);
+        held = m.held;
+        passes = passes_then (listed_name q) at_first at_first m.held w.replies m.replies
+            (plain_passes (listed_name q) at_first w.replies w.plain w.harmless) m.passes;
+        live = m.live;
+      };
+      fine = All-append IsFine w.replies m.replies w.printed k.fine;
+    }
+
 pub readers_are_mirrored : ReadersAreMirrored
 readers_are_mirrored q s first sound fine gives fore old done new h =
-    let w = waited s first sound fine gives fore old h.waits in
-    let k = watchers_are_mirrored q s old w.sound w.fine w.gives h.none done new h.walk h.reads in record {
-      replies = w.replies ++ k.replies;
-      whole = out_append s fore done ∙ ap₂ (λ (xs ys : Bytes). xs ++ ys) w.whole k.whole ∙ sym (text_append w.replies k.replies);
-      held = k.held;
-      passes = passes_then (listed_name q) at_first at_first k.held w.replies k.replies
-          (plain_passes (listed_name q) at_first w.replies w.plain w.harmless) k.passes;
-      live = k.live;
-    }
+    (readers_are_well q s first sound fine gives fore old done new h).mirrored
+
+starts_are_well : (start : State) → IsStart start → IsSayableStore start.store → (q : Listed) (s : ℕ)
+    (earlier : List Did) (first : State) → Run start earlier first → (fore : List Did) (old : State)
+    (done : List Did) (new : State) → Reads q s first fore old done new → IsWell q s (fore ++ done) new
+starts_are_well start h said q s earlier first walk fore old done new reads =
+    readers_are_well q s first (states_are_sound start h earlier first walk) (states_are_sayable start h said earlier first walk)
+    (runs_give start earlier first walk (nothing_given start h)) fore old done new reads
 
 pub starts_are_mirrored : StartsAreMirrored
 starts_are_mirrored start h said q s earlier first walk fore old done new reads =
-    readers_are_mirrored q s first (states_are_sound start h earlier first walk) (states_are_sayable start h said earlier first walk)
-    (runs_give start earlier first walk (nothing_given start h)) fore old done new reads
+    (starts_are_well start h said q s earlier first walk fore old done new reads).mirrored
 
 -- ---- as it ends
 
-end_quiet : (s : ℕ) (old : State) (event : Event) (e : Effect) (mid : State) → EndsNow s event → Acts old event e mid
-    → IsQuiet s e.queued false
+end_quiet : {U : Type 0} (s : ℕ) (old : State) (event : Event) (e : Effect) (mid : State) → EndsNow s event → Acts old event e mid
+    → IsQuiet s e.queued false U
 end_quiet s old (ended t) e mid now h =
     let f = some_and (session_of old t) (λ z. EndedStep old t z e mid) h in ended_quiet s old t f.0 e mid f.2
 end_quiet s old (closed t bytes) e mid now h = nothing_quiet s e h.0
@@ -227,14 +292,45 @@ end_quiet s old (fed t bytes) e mid now h = absurd now
 end_quiet s old (stepped t outcome) e mid now h = absurd now
 end_quiet s old (took t bytes) e mid now h = absurd now
 
+module _ (q : Listed) (s : ℕ) (done : List Did) (new : State) (m : IsMirrored q s done new) (d : Did) (last : State)
+    (step : Step new d.event d.effect last) (now : EndsNow s d.event) where
+  one : Plain s d.effect.queued false (Unit {0})
+  one = quiet_to s d.effect.queued false (end_quiet s new d.event d.effect (step.mid) now step.acts)
+
+  pub end_mirrored : IsMirrored q s (done ++ d ∷ []) new
+  end_mirrored = record {
+    replies = m.replies ++ one.replies;
+    whole = out_append s done (d ∷ []) ∙ ap₂ (λ (xs ys : Bytes). xs ++ ys) m.whole
+        (append-nil (to_session s d.effect.queued) ∙ one.text) ∙ sym (text_append m.replies one.replies);
+    held = m.held;
+    passes = passes_then (listed_name q) at_first m.held m.held m.replies one.replies m.passes
+        (plain_passes (listed_name q) m.held one.replies one.plain (one.harmless refl));
+    live = m.live;
+  }
+
+  pub end_fine : All IsFine m.replies → All IsFine end_mirrored.replies
+  unfolding end_mirrored
+  end_fine h = All-append IsFine m.replies one.replies h (one.fine tt)
+
 pub ends_are_mirrored : EndsAreMirrored
-ends_are_mirrored q s done new m d last step now =
-    let one = quiet_to s d.effect.queued false (end_quiet s new d.event d.effect (step.mid) now step.acts) in record {
-      replies = m.replies ++ one.replies;
-      whole = out_append s done (d ∷ []) ∙ ap₂ (λ (xs ys : Bytes). xs ++ ys) m.whole
-          (append-nil (to_session s d.effect.queued) ∙ one.text) ∙ sym (text_append m.replies one.replies);
-      held = m.held;
-      passes = passes_then (listed_name q) at_first m.held m.held m.replies one.replies m.passes
-          (plain_passes (listed_name q) m.held one.replies one.plain (one.harmless refl));
-      live = m.live;
-    }
+ends_are_mirrored q s done new m d last step now = end_mirrored q s done new m d last step now
+
+-- ---- in bytes
+
+pub readers_are_read_back : ReadersAreReadBack
+readers_are_read_back start h said q s earlier first walk fore old done new reads =
+    let k = starts_are_well start h said q s earlier first walk fore old done new reads in
+    let fine = k.fine in (
+      record {
+        held = k.mirrored.held;
+        input = mirrored_are_held q s (fore ++ done) new k.mirrored fine;
+        live = k.mirrored.live;
+      },
+      λ d last step now.
+          let m = end_mirrored q s (fore ++ done) new k.mirrored d last step now in record {
+            held = m.held;
+            input = mirrored_are_held q s ((fore ++ done) ++ d ∷ []) new m
+                (end_fine q s (fore ++ done) new k.mirrored d last step now fine);
+            live = m.live;
+          },
+    )

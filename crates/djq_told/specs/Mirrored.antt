@@ -19,7 +19,7 @@ use Rattle.djq_laws.specs.Sound.{IsSoundState, IsStart}
 use Rattle.djq_laws.specs.Staying.{GoesOn}
 use Rattle.djq_laws.specs.Watched.{WatchesAlong}
 use Rattle.djq_told.specs.Sayable.{IsSayableStore, IsSayableState}
-use Rattle.djq_told.specs.Lines.{HasFewCells}
+use Rattle.djq_told.specs.Lines.{IsShort}
 use Rattle.djq_told.specs.Told.{replies_text}
 
 -- Replies, one after the other, are allowed in a mirror of the query of a name, and this is held
@@ -112,6 +112,15 @@ pub record WaitsStep (s : ℕ) (old : State) (d : Did) (new : State) : Type 0 wh
 abbrev pub WaitsAlong : ℕ → State → List Did → State → Type 0
 WaitsAlong s = Walk (WaitsStep s)
 
+-- A line doesn't ask to explain a query.
+abbrev pub ExplainsNone : Reading → Type 0
+ExplainsNone (says_command (Explain q)) = ⊥
+ExplainsNone r = Unit {0}
+
+abbrev pub ExplainsNothing : ℕ → Event → Type 0
+ExplainsNothing s (stepped t (run l)) = (t == s) ≡ true → ExplainsNone (reading_of l)
+ExplainsNothing s event = Unit {0}
+
 -- A session waits, begins to watch a query, and reads it through one cursor at a time.
 pub record Reads (q : Listed) (s : ℕ) (first : State) (fore : List Did) (old : State) (done : List Did)
     (new : State) : Type 0 where
@@ -146,8 +155,25 @@ EndsAreMirrored = (q : Listed) (s : ℕ) (done : List Did) (new : State) → IsM
     → (d : Did) (last : State) → Step new d.event d.effect last → EndsNow s d.event
     → IsMirrored q s (done ++ d ∷ []) new
 
--- Where these replies are printed, and none is a rest or explains a tree, the mirror's whole input
+-- Where these replies are printed, and none is too long, the mirror's whole input
 -- comes to what it holds: none of its bytes is refused.
 abbrev pub MirroredAreHeld : Type 0
 MirroredAreHeld = (q : Listed) (s : ℕ) (done : List Did) (at : State) (m : IsMirrored q s done at)
-    → All (λ r. IsPrinted r × HasFewCells r) m.replies → IsHeld (listed_name q) (out s done) m.held
+    → All (λ r. IsPrinted r × IsShort r) m.replies → IsHeld (listed_name q) (out s done) m.held
+
+-- The whole of what a session was sent comes to what a mirror holds, from the first of its bytes to the
+-- last; and where the mirror is live, it holds the query's answers over the rows of a state.
+pub record IsReadBack (q : Listed) (s : ℕ) (done : List Did) (at : State) : Type 0 where
+  pub held : Held
+  pub input : IsHeld (listed_name q) (out s done) held
+  pub live : held.mode ≡ Live → Shows held (AnswersOf at.store.relations q)
+
+-- So it is in every run from a state to start from whose names and values lines can say; and behind the
+-- end of the session's input, or as it is closed, of the rows as they were then.
+abbrev pub ReadersAreReadBack : Type 0
+ReadersAreReadBack = (start : State) → IsStart start → IsSayableStore start.store → (q : Listed) (s : ℕ)
+    (earlier : List Did) (first : State) → Run start earlier first → (fore : List Did) (old : State)
+    (done : List Did) (new : State) → Reads q s first fore old done new
+    → IsReadBack q s (fore ++ done) new
+    × ((d : Did) (last : State) → Step new d.event d.effect last → EndsNow s d.event
+    → IsReadBack q s ((fore ++ done) ++ d ∷ []) new)

@@ -21,14 +21,17 @@
 //!
 //! Inside, `proofs/Hearing.antt` says what one session hears of a change, `Replying.antt` what each
 //! command is answered by the forms of replies, `Mirroring.antt` what replies make of what a mirror
-//! holds, and `Mirrored.antt` ties that to the session's cursor, step by step.
+//! holds, and `Mirrored.antt` ties that to the session's cursor, step by step. `Printed.antt` says that
+//! what a sayable state is asked is printed by the forms. That a rest is short, `Lengths.antt` and
+//! `Resting.antt` show: its names stand in the line that says the query, and the reduction of
+//! Graham and of Yu and Ozsoyoglu only takes some away.
 #![tactic(auto)]
 
 ghost use Rattle.djq_told.specs.Sayable.{RunsKeepSayable, OpeningIsSayable, StatesAreSayable};
 ghost use Rattle.djq_told.specs.Told.{WatchersAreToldExactly};
 ghost use Rattle.djq_told.specs.Mirrored.{WatchersAreMirrored, ReadersAreMirrored};
 ghost use Rattle.djq_told.specs.Lines.{PrintedAreLines};
-ghost use Rattle.djq_told.specs.Mirrored.{StartsAreMirrored, EndsAreMirrored, MirroredAreHeld};
+ghost use Rattle.djq_told.specs.Mirrored.{StartsAreMirrored, EndsAreMirrored, MirroredAreHeld, ReadersAreReadBack};
 
 /// Along every run from a state to start from whose names and values lines can say, all names are
 /// names, all values are within their limits and their texts of UTF-8, and each variable of a
@@ -50,17 +53,19 @@ pub fn watchers_are_told_exactly()
 /// A mirror of a query, of what a session was sent that begins to watch the query and then reads it
 /// through one cursor at a time, refuses nothing; and where it is live, it holds the query's answers
 /// over the present rows, or those that there were as the session's input ended or it was closed.
-/// Said of replies by their forms; of bytes, where each of them is printed.
+/// Said of replies by their forms, and, from a start whose names and values lines can say, of the whole
+/// of the bytes that the session was sent, and behind its end.
 pub fn readers_are_mirrored()
     ensures watching { WatchersAreMirrored }
     ensures reading { ReadersAreMirrored }
     ensures started { StartsAreMirrored }
     ensures ended { EndsAreMirrored }
     ensures held { MirroredAreHeld }
+    ensures read_back { ReadersAreReadBack }
 {}
 
-/// A printed reply is one line, without an LF inside, and no longer than 16,384 bytes; nothing is said
-/// of the lines of a rest, and of those that explain a tree.
+/// A printed reply is one line, without an LF inside, and no longer than 16,384 bytes: a rest too, where
+/// its edges take no more bytes than a line may have. Nothing is said of lines that explain a tree.
 pub fn printed_are_lines()
     ensures { PrintedAreLines }
 {}

@@ -1,6 +1,6 @@
 use Rattle.djq_told.proofs.Holding.{mirrored_are_held}
 use Rattle.djq_told.proofs.Mirrored.{watchers_are_mirrored}
-use Rattle.djq_told.proofs.Waiting.{readers_are_mirrored, starts_are_mirrored, ends_are_mirrored}
+use Rattle.djq_told.proofs.Waiting.{readers_are_mirrored, starts_are_mirrored, ends_are_mirrored, readers_are_read_back}
 use Rattle.djq_told.proofs.readers_are_mirrored.Goals as goal
 
 pub returns-clause-watching : goal.returns-clause-watching
@@ -17,3 +17,6 @@ returns-clause-started c = starts_are_mirrored
 
 pub returns-clause-held : goal.returns-clause-held
 returns-clause-held c = mirrored_are_held
+
+pub returns-clause-read_back : goal.returns-clause-read_back
+returns-clause-read_back c = readers_are_read_back
