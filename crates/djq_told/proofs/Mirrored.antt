@@ -43,15 +43,15 @@ use Rattle.djq_laws.proofs.Sounding.{step_sound}
 use Rattle.djq_laws.proofs.Touching.{said}
 use Rattle.djq_told.specs.Sayable.{IsName, IsSayableRow, IsSayableListed, IsSayablePosition, IsSayableCursor, IsSayableSession, IsSayableState}
 use Rattle.djq_told.specs.Told.{replies_text, is_told_of}
-use Rattle.djq_told.specs.Mirrored.{Passes, Shows, MayBeSaid, MayBeRead, ReadsOnly, ReadsAlong, IsMirrored, WatchersAreMirrored, ExplainsNone, ExplainsNothing}
+use Rattle.djq_told.specs.Mirrored.{Passes, Shows, MayBeSaid, MayBeRead, ReadsOnly, ReadsAlong, IsMirrored, WatchersAreMirrored}
 use Rattle.djq_told.proofs.Having.{OpenHas, CursorHas, HasFew, Has, ReadsCalm, EventCalm, has_line, has_behind, has_step}
 use Rattle.djq_told.proofs.Hearing.{text_append}
 use Rattle.djq_told.proofs.Mirroring.{passes_then, stays, passes_told, idle_with, delta_idles, shows_same, delta_shown, not_before, Behind, answers_shown, answers_idle, opened_shown, stale_idles, more_stays, last_stays, last_lives, shows_with}
 use Rattle.djq_told.proofs.Printed.{IsFine, one_fine, number_small, answers_fine}
-use Rattle.djq_told.proofs.Replying.{IsHarmless, harmless_form, last_reply, last_fine, behind_fine, listing_text, talks}
+use Rattle.djq_told.proofs.Replying.{ExplainsNone, IsHarmless, harmless_form, last_reply, last_fine, behind_fine, listing_text, talks}
 use Rattle.djq_told.proofs.Sayable.{step_sayable}
 use Rattle.djq_told.proofs.Storing.{answer_sayable}
-use Rattle.djq_told.proofs.Telling.{StepTold, tells_none, tells_delta, reading_talks, event_talks, step_says}
+use Rattle.djq_told.proofs.Telling.{ExplainsNothing, StepTold, tells_none, tells_delta, reading_talks, event_talks, step_says}
 
 -- ---- what a mirror holds, against the session's cursor
 

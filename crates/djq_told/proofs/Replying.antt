@@ -43,7 +43,6 @@ use Rattle.djq_laws.proofs.Finding.{some_and}
 use Rattle.djq_mirror.specs.declared.mode.Mode.{Mode}
 use Rattle.djq_mirror.specs.declared.mode.Mode.TheVariants.{Idle, Listing, Live}
 use Rattle.djq_mirror.specs.Mirror.{Act, keep, turn_of, turn_of_change, turn_of_count}
-use Rattle.djq_told.specs.Mirrored.{ExplainsNone}
 use Rattle.djq_told.specs.Sayable.{IsSayableQuery, IsSayableListed, IsSayableStore, IsSayablePosition, IsSayableCursor, IsSayableSession}
 use Rattle.djq_told.specs.Told.{replies_text, is_told_of}
 use Rattle.djq_told.proofs.Hearing.{text_append}
@@ -368,6 +367,11 @@ explain_replies old s (Some (a_query q)) e new none h =
 abbrev pub IsSayableReading : Reading → Type 0
 IsSayableReading (says_command c) = IsSayableCommand c × IsShortCommand c
 IsSayableReading r = Unit {0}
+
+-- A line doesn't ask to explain a query.
+abbrev pub ExplainsNone : Reading → Type 0
+ExplainsNone (says_command (Explain q)) = ⊥
+ExplainsNone r = Unit {0}
 
 -- A line of session t is run over such names and values; and it explains no query to session s.
 pub record Fits (s t : ℕ) (old : Store) (y : Session) (r : Reading) (e : Effect) (new : Store) : Type 0 where

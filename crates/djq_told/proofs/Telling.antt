@@ -47,7 +47,6 @@ use Rattle.djq_laws.proofs.Sounding.{step_sound}
 use Rattle.djq_laws.proofs.Watched.{watchers_have_answers}
 use Rattle.djq_laws.proofs.Watching.{StepTells, is_quiet, is_told, change_store, queued_store, step_tells}
 use Rattle.djq_told.specs.Told.{replies_text, is_told_of, delta_replies, WatchersAreToldExactly}
-use Rattle.djq_told.specs.Mirrored.{ExplainsNothing}
 use Rattle.djq_told.specs.Sayable.{IsSayableRelation, IsSayableListed, IsSayableStore, IsSayableSession, IsSayableState}
 use Rattle.djq_told.proofs.Printed.{IsFine, number_small, delta_fine, added_copies, left_copies}
 use Rattle.djq_told.proofs.Lengths.{line_less}
@@ -55,7 +54,7 @@ use Rattle.djq_told.proofs.Reading.{read_sayable, read_short}
 use Rattle.djq_told.proofs.Sayable.{front_kept}
 use Rattle.djq_told.proofs.Exactly.{all_unmapped, pairs_unmapped, told_one, told_none}
 use Rattle.djq_told.proofs.Hearing.{heard, all_heard, own_replies, text_append, changed_ids, change_heard}
-use Rattle.djq_told.proofs.Replying.{IsPlain, IsHarmless, harmless_form, IsSayableReading, Fits, Replies, OfForm, of_form, any_talk, add_form, delete_form, one_line, talks, command_replies, refused_replies, none_of}
+use Rattle.djq_told.proofs.Replying.{IsPlain, IsHarmless, harmless_form, ExplainsNone, IsSayableReading, Fits, Replies, OfForm, of_form, any_talk, add_form, delete_form, one_line, talks, command_replies, refused_replies, none_of}
 
 -- ---- answers over rows in another order
 
@@ -411,6 +410,11 @@ pub ended_quiet : {U : Type 0} (s : ℕ) (old : State) (t : ℕ) (x : Session) (
     → EndedStep old t x e mid → IsQuiet s e.queued false U
 unfolding cut_of
 ended_quiet s old t x e mid h = input_quiet s old t x.held e mid _ x.cause h
+
+-- So it is of the line that an event runs, where it is the session's own.
+abbrev pub ExplainsNothing : ℕ → Event → Type 0
+ExplainsNothing s (stepped t (run l)) = (t == s) ≡ true → ExplainsNone (reading_of l)
+ExplainsNothing s event = Unit {0}
 
 -- Names and values of a state can be said; and an event explains a session no query.
 pub record Tame (s : ℕ) (old : State) (event : Event) (e : Effect) : Type 0 where

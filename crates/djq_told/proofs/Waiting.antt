@@ -37,15 +37,15 @@ use Rattle.djq_laws.proofs.Queueing.{stepped_cause}
 use Rattle.djq_laws.proofs.Sounding.{step_sound, states_are_sound}
 use Rattle.djq_told.specs.Sayable.{IsSayableStore, IsSayableState}
 use Rattle.djq_told.specs.Told.{replies_text}
-use Rattle.djq_told.specs.Mirrored.{Passes, IsMirrored, Reads, ExplainsNone, ExplainsNothing, ReadersAreReadBack, AsksNoListing, SaysNoListing, WaitsAlong, ReadersAreMirrored, StartsAreMirrored, EndsNow, EndsAreMirrored}
+use Rattle.djq_told.specs.Mirrored.{Passes, IsMirrored, Reads, ReadersAreReadBack, AsksNoListing, SaysNoListing, WaitsAlong, ReadersAreMirrored, StartsAreMirrored, EndsNow, EndsAreMirrored}
 use Rattle.djq_told.proofs.Hearing.{all_heard, own_replies, text_append, changed_ids, change_heard}
 use Rattle.djq_told.proofs.Holding.{mirrored_are_held}
 use Rattle.djq_told.proofs.Mirrored.{IsWell, watchers_are_well}
 use Rattle.djq_told.proofs.Mirroring.{passes_then, passes_told}
 use Rattle.djq_told.proofs.Printed.{IsFine, number_small, added_copies, left_copies}
-use Rattle.djq_told.proofs.Replying.{IsPlain, IsHarmless, Fits, OfForm, of_form, any_talk, add_form, delete_form, talks, command_replies, refused_replies, none_of}
+use Rattle.djq_told.proofs.Replying.{ExplainsNone, IsPlain, IsHarmless, Fits, OfForm, of_form, any_talk, add_form, delete_form, talks, command_replies, refused_replies, none_of}
 use Rattle.djq_told.proofs.Sayable.{step_sayable, states_are_sayable}
-use Rattle.djq_told.proofs.Telling.{own_fine, Tame, tame_fits, reading_talks, event_talks, IsQuiet, Plain, quiet_to, ends_quiet, nothing_quiet, fed_quiet, ended_quiet, taken_session}
+use Rattle.djq_told.proofs.Telling.{ExplainsNothing, own_fine, Tame, tame_fits, reading_talks, event_talks, IsQuiet, Plain, quiet_to, ends_quiet, nothing_quiet, fed_quiet, ended_quiet, taken_session}
 
 nothing_heard : (ws : List Bytes) → ws ≡ [] → (n : ℕ) (ds : List Delta) → all_heard ws n ds ≡ []
 nothing_heard ws e n ds = ap (λ (vs : List Bytes). all_heard vs n ds) e ∙ by ds

@@ -112,15 +112,6 @@ pub record WaitsStep (s : ℕ) (old : State) (d : Did) (new : State) : Type 0 wh
 abbrev pub WaitsAlong : ℕ → State → List Did → State → Type 0
 WaitsAlong s = Walk (WaitsStep s)
 
--- A line doesn't ask to explain a query.
-abbrev pub ExplainsNone : Reading → Type 0
-ExplainsNone (says_command (Explain q)) = ⊥
-ExplainsNone r = Unit {0}
-
-abbrev pub ExplainsNothing : ℕ → Event → Type 0
-ExplainsNothing s (stepped t (run l)) = (t == s) ≡ true → ExplainsNone (reading_of l)
-ExplainsNothing s event = Unit {0}
-
 -- A session waits, begins to watch a query, and reads it through one cursor at a time.
 pub record Reads (q : Listed) (s : ℕ) (first : State) (fore : List Did) (old : State) (done : List Did)
     (new : State) : Type 0 where
