@@ -1,5 +1,6 @@
 -- The headline of the program's run, from the state that it starts from.
-use Rattle.std.specs.Prelude.{ℕ, List, [], ◌≡◌, Option, Result, Ok, Err, OnErr}
+use Rattle.std.specs.Prelude.{ℕ, List, [], ◌≡◌, true, Option, None, Some, IsSomeAnd, Result, Ok, Err, OnErr}
+use Rattle.std.specs.Borrow.{Bor}
 use Rattle.std.proofs.Common.{refl, subst, inl}
 use Rattle.djq_model.specs.Data.{Bytes}
 use Rattle.djq_machine.specs.State.{State, opening}
@@ -11,8 +12,12 @@ use Rattle.djq_run.specs.Ends.{RunEnds}
 use Rattle.djq_run.proofs.Ending.{not_begun}
 use Rattle.djq_serve.specs.declared.served.Served.{Served}
 use Rattle.djq_serve.specs.Ends.{FaultsCount}
+use Rattle.clap.specs.Words.{Text, Row, subcommand_of}
+use Rattle.djq_value.specs.Literal.{is_name}
 use Rattle.djq_words.specs.declared.commands.Asked.{Asked}
-use Rattle.djq_words.specs.Asks.{Answers}
+use Rattle.djq_words.specs.declared.commands.Asked.TheVariants.{Mirror}
+use Rattle.djq_words.specs.Commands.{djq_app}
+use Rattle.djq_words.specs.Asks.{IsAsked, Answers}
 use Rattle.djq.specs.Ends.{Serves}
 
 -- The machine was at the start, and no session is open there.
@@ -32,6 +37,14 @@ faults_from answer a b c same h = subst (λ (n : ℕ). FaultsCount answer n c) s
 -- what the words ask for, by what was read
 pub asks_for : (words : List Bytes) (o p : Option Asked) → o ≡ p → Answers words o → Answers words p
 asks_for words o p e h = subst (λ (k : Option Asked). Answers words k) e h
+
+-- The query of which a mirror is asked for is a name.
+pub names_query : (words : List Text) (query : Bor Text) → Answers words (Some (Mirror query)) → is_name query.now ≡ true
+names_query words query asks = named (subcommand_of djq_app words) asks.1
+  where
+    named : (o : Option (Text × List Row)) → IsSomeAnd o (λ c. IsAsked c (Mirror query)) → is_name query.now ≡ true
+    named None h = absurd h
+    named (Some c) h = h.2
 
 -- what holds, holds where there is an error
 pub where_err : {A E P : Type 0} (r : Result A E) → P → OnErr r P

@@ -1,7 +1,7 @@
 use Rattle.std.proofs.Common.{ℕ, List, Bor, Option, ◌∙◌, map, ap, inl, refl, Some, None}
 use Rattle.djq_words.specs.declared.commands.Asked.{Asked}
 use Rattle.djq_words.specs.declared.commands.Asked.TheVariants.{Run, Serve, Replay, Gen, Mirror}
-use Rattle.djq.proofs.Running.{asks_for}
+use Rattle.djq.proofs.Running.{asks_for, names_query}
 use Rattle.djq.proofs.program.run_program.Goals as goal
 
 pub returns-in-Ok-Some-Run-clause-ends : goal.returns-in-Ok-Some-Run-clause-ends
@@ -51,3 +51,9 @@ pub returns-in-Ok-Some-Mirror-clause-ends : goal.returns-in-Ok-Some-Mirror-claus
 returns-in-Ok-Some-Mirror-clause-ends g c =
     let read = c.in-Ok-Some-Mirror in
     inl (Some (Mirror read.query), asks_for (map (λ (word : Bor (List ℕ)). word.now) c.args.words.now) read.field-0 (Some (Mirror read.query)) (read.field-0-is ∙ ap (λ (a : Asked). Some a) read.field-0-0-is) read.ensures, (c.mirror_source.ensures _, refl))
+
+pub mirror_source-requires : goal.mirror_source-requires
+mirror_source-requires g c =
+    let read = c.in-Ok-Some-Mirror in
+    let words : List (List ℕ) = map (λ (word : Bor (List ℕ)). word.now) c.args.words.now in
+    names_query words read.query (asks_for words read.field-0 (Some (Mirror read.query)) (read.field-0-is ∙ ap (λ (a : Asked). Some a) read.field-0-0-is) read.ensures)
