@@ -7,7 +7,7 @@
 --           | "close" name                    | "has" name *literal
 --           | "watch" name                    | "unwatch" name
 --           | "explain" name                  | "shape" name
---           | "quit"                          | "stop"
+--           | "batch" | "done" | "abandon"    | "quit" | "stop"
 --     query = name "(" [name *("," name)] ")" "<-" item *("," item)     one atom at least
 --     item  = atom | name sign literal        sign = "<" | "<=" | ">" | ">=" | "=" | "!="
 --     atom  = name "(" [term *("," term)] ")"
@@ -78,6 +78,9 @@ use Rattle.djq_lines.specs.declared.keyword.Keyword.TheVariants.{
   Unwatch as UnwatchWord,
   Explain as ExplainWord,
   Shape as ShapeWord,
+  Batch as BatchWord,
+  Done as DoneWord,
+  Abandon as AbandonWord,
   Quit as QuitWord,
   Stop as StopWord,
 }
@@ -96,6 +99,9 @@ use Rattle.djq_lines.specs.declared.command.Command.TheVariants.{
   Unwatch,
   Explain,
   Shape,
+  Batch,
+  Done,
+  Abandon,
   Quit,
   Stop,
 }
@@ -302,9 +308,12 @@ keyword_of w =
     else (if bytes_eq w (codes "unwatch") then Some UnwatchWord
     else (if bytes_eq w (codes "explain") then Some ExplainWord
     else (if bytes_eq w (codes "shape") then Some ShapeWord
+    else (if bytes_eq w (codes "batch") then Some BatchWord
+    else (if bytes_eq w (codes "done") then Some DoneWord
+    else (if bytes_eq w (codes "abandon") then Some AbandonWord
     else (if bytes_eq w (codes "quit") then Some QuitWord
     else (if bytes_eq w (codes "stop") then Some StopWord
-    else None))))))))))))))
+    else None)))))))))))))))))
 
 -- the command that stands behind a keyword
 abbrev pub command_behind : Keyword → List Token → Option Command
@@ -321,6 +330,9 @@ command_behind WatchWord ts = option_map (λ q. Watch q) (one_name ts)
 command_behind UnwatchWord ts = option_map (λ q. Unwatch q) (one_name ts)
 command_behind ExplainWord ts = option_map (λ q. Explain q) (one_name ts)
 command_behind ShapeWord ts = option_map (λ q. Shape q) (one_name ts)
+command_behind BatchWord ts = nothing Batch ts
+command_behind DoneWord ts = nothing Done ts
+command_behind AbandonWord ts = nothing Abandon ts
 command_behind QuitWord ts = nothing Quit ts
 command_behind StopWord ts = nothing Stop ts
 

@@ -36,6 +36,7 @@ use Rattle.djq_lines.specs.declared.answer.Refusal.TheVariants.{
   NoMemory,
   InUse,
   Unbound,
+  Misplaced,
 }
 use Rattle.djq_lines.specs.declared.answer.EndLine.{EndLine}
 use Rattle.djq_lines.specs.declared.answer.EndLine.TheVariants.{Long, Slow, Memory, Full}
@@ -75,6 +76,7 @@ refusal_line Limit = line (codes "err 11 limit")
 refusal_line NoMemory = line (codes "err 12 memory")
 refusal_line InUse = line (codes "err 14 in use")
 refusal_line Unbound = line (codes "err 16 unbound")
+refusal_line Misplaced = line (codes "err 18 batch")
 
 -- the lines that end a session, and the one that says that input ended within a line
 abbrev pub end_long : Bytes
@@ -181,6 +183,16 @@ shape_reply (Err r) = refusal_line r
 abbrev pub watch_reply : {A : Type 0} → Result A Refusal → ℕ → Bytes
 watch_reply (Ok a) n = numbered (codes "ok watch ") n
 watch_reply (Err r) n = refusal_line r
+
+-- what `add` in a batch answers: how many rows are held then
+abbrev pub held_reply : {A : Type 0} → Result A Refusal → ℕ → Bytes
+held_reply (Ok a) n = numbered (codes "ok held ") n
+held_reply (Err r) n = refusal_line r
+
+-- what `done` answers, at a number of changes: it, then how many rows came
+abbrev pub done_reply : Result ℕ Refusal → ℕ → Bytes
+done_reply (Ok rows) n = numbered_twice (codes "ok done ") n rows
+done_reply (Err r) n = refusal_line r
 
 -- the sign of an answer that came, and of one that went
 abbrev pub sign_text : Sign → Bytes

@@ -30,6 +30,8 @@ pub enum Refusal {
     InUse,
     /// 16: a comparison's variable is in no atom.
     Unbound,
+    /// 18: a batch is open, and the command isn't one for a batch; or none is, and it is.
+    Misplaced,
 }
 
 /// What `add` did to a row that suits its relation.

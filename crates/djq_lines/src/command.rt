@@ -80,6 +80,12 @@ pub enum Command {
         /// The query.
         query: Name,
     },
+    /// `batch`: rows that are added are held from now on.
+    Batch,
+    /// `done`: the rows that are held go in, all at once.
+    Done,
+    /// `abandon`: they are dropped.
+    Abandon,
     /// `quit`: the session ends.
     Quit,
     /// `stop`: the whole server ends.

@@ -27,6 +27,12 @@ pub enum Keyword {
     Explain,
     /// `shape`.
     Shape,
+    /// `batch`.
+    Batch,
+    /// `done`.
+    Done,
+    /// `abandon`.
+    Abandon,
     /// `quit`.
     Quit,
     /// `stop`.

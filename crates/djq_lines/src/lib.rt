@@ -18,17 +18,20 @@
 //! with their types in djq_model. A refusal's number isn't its place in [`Refusal`]: 13 belongs to
 //! a line that the end of the input cut, which is no command's refusal.
 //!
-//! Inside, `command` and `keyword` are what is said, `answer` and `rest` what is answered. To read
+//! Inside, `command` and `keyword` are what is said, `held` what is kept of it in a batch, `answer` and
+//! `rest` what is answered. To read
 //! first: `specs/Grammar.antt` and `specs/Reply.antt`, a case for each form.
 #![tactic(auto)]
 
 pub use answer::{AddOutcome, DeleteOutcome, EndCause, EndLine, Refusal, Shape, Sign};
 pub use command::Command;
+pub use held::HeldRow;
 pub use keyword::Keyword;
 pub use rest::{NamedRest, QueryOutcome};
 
 mod answer;
 mod command;
+mod held;
 mod keyword;
 pub mod limits;
 mod rest;

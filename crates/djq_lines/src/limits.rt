@@ -42,6 +42,9 @@ pub const LAST_SEQ: u64 = 18_446_744_073_709_551_615;
 /// The most cursors of a session.
 pub const CURSORS: usize = 16;
 
+/// The most rows that a batch holds.
+pub const HELD: usize = 1000;
+
 /// The most sessions that are open at once.
 pub const SESSIONS: usize = 64;
 

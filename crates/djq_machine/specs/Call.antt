@@ -5,7 +5,6 @@ use Rattle.djq_model.specs.Data.{Bytes}
 use Rattle.djq_lines.specs.declared.limits.TheConstants.{SESSIONS}
 use Rattle.djq_lines.specs.declared.answer.EndCause.{EndCause}
 use Rattle.djq_lines.specs.declared.answer.EndCause.TheVariants.{Long, Slow, Memory}
-use Rattle.djq_lines.specs.Line.{a_line, front_of}
 use Rattle.djq_machine.specs.declared.machine.Stepped.{Stepped}
 use Rattle.djq_machine.specs.declared.machine.Stepped.TheVariants.{Ran, Dry, Ended}
 use Rattle.djq_machine.specs.declared.machine.Fed.{Fed}
@@ -14,11 +13,10 @@ use Rattle.djq_machine.specs.declared.machine.OpenRefusal.{OpenRefusal}
 use Rattle.djq_machine.specs.declared.machine.OpenRefusal.TheVariants.{Full, NoMem}
 use Rattle.djq_machine.specs.State.{State, Session, session_of}
 pub use Rattle.djq_machine.specs.State.{ids_of}
-use Rattle.djq_machine.specs.Keeping.{Keeping, kept_where}
 use Rattle.djq_machine.specs.Effect.{Effect}
 use Rattle.djq_machine.specs.LineStep.{long, blank, slow, no_room, run}
 use Rattle.djq_machine.specs.Step.{Event, opened, stepped, Step, is_dry}
-use Rattle.djq_machine.specs.Run.{pending_of}
+use Rattle.djq_machine.specs.Run.{Group, groups_in, pending_of}
 
 -- whether a session of this id is open
 abbrev pub IsOpen : State → ℕ → Type 0
@@ -83,10 +81,15 @@ FedGives old s (HadEnded c) new = (cause_of new s ≡ Some c) × MatchOption (ca
 abbrev pub RanStep : State → ℕ → State → Counts → Counts → Type 0
 RanStep old s new before now = (l : Bytes) × (MakesCounted old (stepped s (blank l)) new before now ⊎ MakesCounted old (stepped s (run l)) new before now)
 
--- what is kept of a line that was blank, or was run
-abbrev pub kept_by : (old : State) (s : ℕ) (new : State) (before now : Counts) → RanStep old s new before now → Keeping
-kept_by old s new before now (l, inl m) = m.effect.kept
-kept_by old s new before now (l, inr m) = m.effect.kept
+-- the groups that are kept of it: none, where it was blank
+abbrev pub groups_by : (old : State) (s : ℕ) (new : State) (before now : Counts) → RanStep old s new before now → List Group
+groups_by old s new before now (l, inl m) = []
+groups_by old s new before now (l, inr m) = groups_in l m.effect.kept
+
+-- A step tells whether it keeps a group, and of these lines.
+abbrev pub KeepsGroup : Bool → List Group → List Bytes → Type 0
+KeepsGroup true groups lines = groups ≡ lines ∷ []
+KeepsGroup false groups lines = (groups ≡ []) × (lines ≡ [])
 
 -- A session ended before its line was run: it was too long, too much was pending, or there was no room for a reply.
 abbrev pub EndedStepAs : EndCause → State → ℕ → State → Counts → Counts → Type 0
@@ -95,19 +98,14 @@ EndedStepAs Slow old s new before now = (l : Bytes) × MakesCounted old (stepped
 EndedStepAs Memory old s new before now = (l : Bytes) × MakesCounted old (stepped s (no_room l)) new before now
 EndedStepAs _ old s new before now = ⊥
 
--- What a step answers: a line was run, or dropped where it is blank, and is kept or isn't; there is no whole line; or the
--- session had ended, or ended before its line was run. A line that is run and ends its own session was run.
-abbrev pub StepGives : State → ℕ → Stepped → State → Counts → Counts → Type 0
-StepGives old s (Ran kept) new before now = (ran : RanStep old s new before now)
-    × (kept_by old s new before now ran ≡ kept_where kept)
-StepGives old s Dry new before now = (new ≡ old) × (now ≡ before) × (cause_of old s ≡ None) × (is_dry (held_of old s) ≡ true)
-StepGives old s (Ended c) new before now = MatchOption (cause_of old s)
+-- What a step answers: a line was run, or dropped where it is blank, and a group of lines is kept or none is; there is no
+-- whole line; or the session had ended, or ended before its line was run. A line that is run and ends its own session was
+-- run.
+abbrev pub StepGives : State → ℕ → Stepped → State → Counts → Counts → List Bytes → Type 0
+StepGives old s (Ran kept) new before now lines = (ran : RanStep old s new before now)
+    × KeepsGroup kept (groups_by old s new before now ran) lines
+StepGives old s Dry new before now lines =
+    (new ≡ old) × (now ≡ before) × (cause_of old s ≡ None) × (is_dry (held_of old s) ≡ true) × (lines ≡ [])
+StepGives old s (Ended c) new before now lines = (lines ≡ []) × MatchOption (cause_of old s)
     (EndedStepAs c old s new before now)
     (λ d. (d ≡ c) × (new ≡ old) × (now ≡ before))
-
--- The lines that a step keeps, by what it answers: the one that stood in front of the session's bytes, or none.
-abbrev pub StepKeeps : State → ℕ → Stepped → List Bytes → Type 0
-StepKeeps old s (Ran true) kept = (l : Bytes) × (rest : Bytes) × (front_of (held_of old s) ≡ a_line l rest) × (kept ≡ l ∷ [])
-StepKeeps old s (Ran false) kept = kept ≡ []
-StepKeeps old s Dry kept = kept ≡ []
-StepKeeps old s (Ended c) kept = kept ≡ []

@@ -18,6 +18,8 @@ use Rattle.std.specs.Prelude.{
   nat_le,
   Option,
   is_some,
+  None,
+  Some,
   is_none,
   IsSomeAnd,
   MatchOption,
@@ -49,6 +51,7 @@ use Rattle.djq_lines.specs.declared.answer.EndCause.TheVariants.{
   Memory,
 }
 use Rattle.djq_lines.specs.declared.command.Command.{Command}
+use Rattle.djq_lines.specs.declared.held.HeldRow.{HeldRow}
 use Rattle.djq_lines.specs.declared.command.Command.TheVariants.{
   Rel,
   Add,
@@ -63,6 +66,9 @@ use Rattle.djq_lines.specs.declared.command.Command.TheVariants.{
   Unwatch,
   Explain,
   Shape as AskShape,
+  Batch,
+  Done,
+  Abandon,
   Quit,
   Stop,
 }
@@ -80,6 +86,8 @@ use Rattle.djq_lines.specs.Reply.{
   has_reply,
   shape_reply,
   watch_reply,
+  held_reply,
+  done_reply,
   bye,
   end_memory,
 }
@@ -117,7 +125,8 @@ use Rattle.djq_machine.specs.Store.{
 }
 use Rattle.djq_machine.specs.Changes.{row_in, row_out, add_outcome, delete_outcome}
 use Rattle.djq_machine.specs.Watch.{is_watching, ChangeStep}
-use Rattle.djq_machine.specs.Keeping.{no_line, kept_where, is_done, is_removal, is_registration}
+use Rattle.djq_machine.specs.Batch.{hold_refusal, AddsBatch, batch_outcome}
+use Rattle.djq_machine.specs.Keeping.{no_line, kept_where, is_done, is_removal, is_registration, kept_batch}
 use Rattle.djq_machine.specs.Effect.{Effect, says, answers, EndsWith, EndsAnswering, RefusedStep}
 
 -- `rel`: a relation is made.
@@ -336,27 +345,83 @@ pub record ShapeStep (old : State) (s : ℕ) (q : Bytes) (e : Effect) (new : Sta
 abbrev pub ExplainStepOf : State → ℕ → Listed → Effect → State → Type 0
 ExplainStepOf old s (a_query q) e new = ExplainStep old s q e new
 
--- A command of a session is done, or refused by the first condition that holds.
-abbrev pub CommandStep : State → ℕ → Session → Command → Effect → State → Type 0
-CommandStep old s x (Rel name types) e new = RelStep old s (λ st. MakesRelation st name types) e new
-CommandStep old s x (Add name row) e new = AddStep old s name row e new
-CommandStep old s x (Del name row) e new = DeleteStep old s name row e new
-CommandStep old s x (Register q) e new = QueryStep old s q e new ⊎ QueryCutStep old s q e new
-CommandStep old s x (Open c q) e new = OpenStep old s x c q e new
-CommandStep old s x (Next c count) e new = MatchOption (cursor_of x.cursors c)
+-- a session that has a batch open, which holds these rows
+abbrev pub with_batch : List HeldRow → Session → Session
+with_batch held x = record x { batch = Some held }
+
+-- a session that has none
+abbrev pub without_batch : Session → Session
+without_batch x = record x { batch = None }
+
+-- `batch`: rows that are added are held from now on.
+pub record BatchStep (old : State) (s : ℕ) (e : Effect) (new : State) : Type 0 where
+  pub result : Result ⊤ Refusal
+  pub answer : Answers None result (λ _. ⊤) (OutOfMemoryWhere ⊤)
+  pub effect : e ≡ says s (ok_reply (codes "ok batch") result)
+  pub state : BecomesWhere old s (with_batch []) new result
+
+-- `add` in a batch: the row is held behind the others, and its line with it.
+pub record HoldStep (old : State) (s : ℕ) (held : List HeldRow) (l name : Bytes) (row : Tuple)
+    (e : Effect) (new : State) : Type 0 where
+  pub result : Result ⊤ Refusal
+  pub answer : Answers (hold_refusal old.store held name row) result (λ _. ⊤) (OutOfMemoryWhere ⊤)
+  pub effect : e ≡ says s (held_reply result (length held + 1))
+  pub state : BecomesWhere old s
+      (with_batch (held ++ record { line = l; relation = name; row = row } ∷ [])) new result
+
+-- `done`: the batch is closed, and the rows that it holds go in at once, as one change, which is told
+-- those who watch; or, where it is refused, none does.
+pub record DoneStep (old : State) (s : ℕ) (held : List HeldRow) (e : Effect) (new : State) : Type 0
+  where
+    pub result : Result ℕ Refusal
+    pub store : Store
+    pub done : AddsBatch old.store held result store
+    pub change : ChangeStep (with_session old s without_batch) s (batch_outcome old.store held result)
+        store (done_reply result store.seq) e new
+    pub kept : e.kept ≡ kept_batch held result
+
+-- `abandon`: the batch is closed, and the rows that it holds are dropped.
+abbrev pub AbandonStep : State → ℕ → Effect → State → Type 0
+AbandonStep old s e new = (e ≡ says s (line (codes "ok"))) × (new ≡ with_session old s without_batch)
+
+-- Whether a session's command isn't for a session with a batch open, or only for one.
+abbrev pub is_misplaced : {A : Type 0} → Option A → Command → Bool
+is_misplaced None Done = true
+is_misplaced None Abandon = true
+is_misplaced None _ = false
+is_misplaced (Some held) (Add name row) = false
+is_misplaced (Some held) Done = false
+is_misplaced (Some held) Abandon = false
+is_misplaced (Some held) Quit = false
+is_misplaced (Some held) Stop = false
+is_misplaced (Some held) _ = true
+
+-- A command of a session, said by this line, is done, or refused by the first condition that holds.
+abbrev pub CommandStep : State → ℕ → Session → Bytes → Command → Effect → State → Type 0
+CommandStep old s x l (Rel name types) e new = RelStep old s (λ st. MakesRelation st name types) e new
+CommandStep old s x l (Add name row) e new = MatchOption x.batch
+    (AddStep old s name row e new)
+    (λ held. HoldStep old s held l name row e new)
+CommandStep old s x l (Del name row) e new = DeleteStep old s name row e new
+CommandStep old s x l (Register q) e new = QueryStep old s q e new ⊎ QueryCutStep old s q e new
+CommandStep old s x l (Open c q) e new = OpenStep old s x c q e new
+CommandStep old s x l (Next c count) e new = MatchOption (cursor_of x.cursors c)
     (RefusedStep old s NoCursor e new)
     (λ k. IsSomeAnd (listed_of old.store.queries k.query)
     (λ q. NextStepAt old s c q count k.position e new))
-CommandStep old s x (Close c) e new = MatchOption (cursor_of x.cursors c)
+CommandStep old s x l (Close c) e new = MatchOption (cursor_of x.cursors c)
     (RefusedStep old s NoCursor e new)
     (λ k. CloseStep old s c e new)
-CommandStep old s x Quit e new = EndsWith bye SaidQuit old s e new
-CommandStep old s x Stop e new = EndsWith bye SaidStop (record old { stopped = true }) s e new
-CommandStep old s x (Drop q) e new = DropStep old s q e new
-CommandStep old s x (Has q row) e new = HasStep old s q row e new
-CommandStep old s x (Watch q) e new = WatchStep old s x q e new
-CommandStep old s x (Unwatch q) e new = UnwatchStep old s q e new
-CommandStep old s x (Explain q) e new = MatchOption (listed_of old.store.queries q)
+CommandStep old s x l Quit e new = EndsWith bye SaidQuit old s e new
+CommandStep old s x l Stop e new = EndsWith bye SaidStop (record old { stopped = true }) s e new
+CommandStep old s x l (Drop q) e new = DropStep old s q e new
+CommandStep old s x l (Has q row) e new = HasStep old s q row e new
+CommandStep old s x l (Watch q) e new = WatchStep old s x q e new
+CommandStep old s x l (Unwatch q) e new = UnwatchStep old s q e new
+CommandStep old s x l (Explain q) e new = MatchOption (listed_of old.store.queries q)
     (RefusedStep old s NoQuery e new)
     (λ k. ExplainStepOf old s k e new)
-CommandStep old s x (AskShape q) e new = ShapeStep old s q e new
+CommandStep old s x l (AskShape q) e new = ShapeStep old s q e new
+CommandStep old s x l Batch e new = BatchStep old s e new
+CommandStep old s x l Done e new = MatchOption x.batch ⊥ (λ held. DoneStep old s held e new)
+CommandStep old s x l Abandon e new = AbandonStep old s e new

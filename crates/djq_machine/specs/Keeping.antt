@@ -1,15 +1,19 @@
 -- Which lines are kept: those whose commands change the relations, their rows or copies, or the queries.
-use Rattle.std.specs.Prelude.{Bool, true, false, Result, Ok, Err}
+use Rattle.std.specs.Prelude.{List, map, Bool, true, false, Result, Ok, Err}
+use Rattle.djq_model.specs.Data.{Bytes}
 use Rattle.djq_lines.specs.declared.answer.Refusal.{Refusal}
 use Rattle.djq_lines.specs.declared.answer.DeleteOutcome.{DeleteOutcome}
 use Rattle.djq_lines.specs.declared.answer.DeleteOutcome.TheVariants.{Last, Left, Absent}
 use Rattle.djq_lines.specs.declared.rest.QueryOutcome.{QueryOutcome}
 use Rattle.djq_lines.specs.declared.rest.QueryOutcome.TheVariants.{Registered, Cyclic, NotConnex}
+use Rattle.djq_lines.specs.declared.held.HeldRow.{HeldRow}
 
--- What a step keeps of the line that it runs.
+-- What a step keeps: nothing, the line that it runs, or the batch that this line ends, of which these
+-- are the lines that were held.
 pub data Keeping : Type 0 where
   no_line : Keeping
   the_line : Keeping
+  the_batch : List Bytes → Keeping
 
 -- The line is kept where this holds.
 abbrev pub kept_where : Bool → Keeping
@@ -21,6 +25,11 @@ kept_where false = no_line
 abbrev pub is_done : {A : Type 0} → Result A Refusal → Bool
 is_done (Ok a) = true
 is_done (Err r) = false
+
+-- A batch is kept whole where it is done.
+abbrev pub kept_batch : {A : Type 0} → List HeldRow → Result A Refusal → Keeping
+kept_batch held (Ok a) = the_batch (map (λ h. h.line) held)
+kept_batch held (Err r) = no_line
 
 -- The line of `del` is kept where a copy went.
 abbrev pub is_removal : Result DeleteOutcome Refusal → Bool

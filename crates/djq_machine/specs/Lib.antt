@@ -4,6 +4,7 @@ pub mod Store
 pub mod Stale
 pub mod Changes
 pub mod Keeping
+pub mod Batch
 pub mod Effect
 pub mod Command
 pub mod LineStep

@@ -3,13 +3,14 @@ use Rattle.std.specs.Prelude.{ℕ, ◌≡◌, ◌<◌, ◌≤◌, Bool, true, fa
 use Rattle.djq_model.specs.Data.{Bytes}
 use Rattle.djq_lines.specs.declared.limits.TheConstants.{PENDING_BYTES}
 use Rattle.djq_lines.specs.declared.answer.EndCause.TheVariants.{Long, Slow, Memory}
-use Rattle.djq_lines.specs.declared.answer.Refusal.TheVariants.{Syntax, WrongType, NoMemory}
+use Rattle.djq_lines.specs.declared.answer.Refusal.{Refusal}
+use Rattle.djq_lines.specs.declared.answer.Refusal.TheVariants.{Syntax, WrongType, NoMemory, Misplaced}
 use Rattle.djq_lines.specs.Line.{too_long, a_line, front_of, is_blank}
 use Rattle.djq_lines.specs.Grammar.{Reading, outside, past_limit, says as says_command, reading_of, takes_memory_to_read}
 use Rattle.djq_lines.specs.Reply.{end_long, end_slow, end_memory}
 use Rattle.djq_machine.specs.State.{Session, State, with_session}
 use Rattle.djq_machine.specs.Effect.{Effect, nothing, EndsWith, RefusedStep}
-use Rattle.djq_machine.specs.Command.{CommandStep}
+use Rattle.djq_machine.specs.Command.{CommandStep, is_misplaced}
 
 -- What becomes of the front of a session's bytes: it is too long; or its line is taken, and is blank, or isn't run since
 -- too much is pending or no room for its reply is to be had, or is run.
@@ -20,17 +21,27 @@ pub data LineOutcome : Type 0 where
   no_room : Bytes → LineOutcome
   run : Bytes → LineOutcome
 
--- A line is run as what it is read as. It is refused where it is outside the grammar, or where a
--- literal of its command is past its limit; else its command is carried out, unless memory is out
--- while it is read.
+-- why a command of which a literal is past its limit is refused: it may be misplaced besides
+abbrev pub past_limit_refusal : Bool → Refusal
+past_limit_refusal true = Misplaced
+past_limit_refusal false = WrongType
+
+-- A line is run as what it is read as. It is refused where it is outside the grammar; then where its
+-- command isn't for a session with a batch open, or only for one; then where a literal of the command
+-- is past its limit. Else the command is carried out, unless memory is out while it is read.
 abbrev pub ReadStep : State → ℕ → Session → Bytes → Reading → Effect → State → Type 0
 ReadStep old s x l outside e new = RefusedStep old s Syntax e new
-ReadStep old s x l (past_limit c) e new = RefusedStep old s WrongType e new
-ReadStep old s x l (says_command c) e new = (is_read : Bool) × ReadAs is_read
+ReadStep old s x l (past_limit c) e new =
+    RefusedStep old s (past_limit_refusal (is_misplaced x.batch c)) e new
+ReadStep old s x l (says_command c) e new = CarriedOut (is_misplaced x.batch c)
   where
     ReadAs : Bool → Type 0
-    ReadAs true = CommandStep old s x c e new
+    ReadAs true = CommandStep old s x l c e new
     ReadAs false = (takes_memory_to_read c ≡ true) × RefusedStep old s NoMemory e new
+
+    CarriedOut : Bool → Type 0
+    CarriedOut true = RefusedStep old s Misplaced e new
+    CarriedOut false = (is_read : Bool) × ReadAs is_read
 
 -- a session without the line in front
 abbrev pub behind_line : Bytes → Session → Session

@@ -1,19 +1,23 @@
 -- What loading lines that were kept does to a store in which no session is open.
-use Rattle.std.specs.Prelude.{List, ◌≡◌, ◌⊎◌, Bool, true, false, Result, Ok, Err, if◌then◌else◌, ⊤}
+use Rattle.std.specs.Prelude.{ℕ, List, [], ◌∷◌, ◌++◌, ◌≡◌, ◌⊎◌, Bool, true, false, Option, None, Some, Result, Ok, Err, if◌then◌else◌, ⊤}
 use Rattle.djq_model.specs.declared.relation.Relation.{Relation}
-use Rattle.djq_model.specs.Data.{Bytes}
+use Rattle.djq_model.specs.Data.{Bytes, Tuple}
 use Rattle.djq_lines.specs.declared.answer.Refusal.{Refusal}
 use Rattle.djq_lines.specs.declared.answer.Refusal.TheVariants.{NoMemory}
 use Rattle.djq_lines.specs.declared.answer.AddOutcome.{AddOutcome}
 use Rattle.djq_lines.specs.declared.answer.DeleteOutcome.{DeleteOutcome}
 use Rattle.djq_lines.specs.declared.rest.QueryOutcome.{QueryOutcome}
 use Rattle.djq_lines.specs.declared.command.Command.{Command}
-use Rattle.djq_lines.specs.declared.command.Command.TheVariants.{Rel, Add, Del, Query as Register, Drop}
+use Rattle.djq_lines.specs.declared.command.Command.TheVariants.{Rel, Add, Del, Query as Register, Drop, Batch, Done, Abandon}
 use Rattle.djq_lines.specs.Grammar.{Reading, outside, past_limit, says as says_command, reading_of, takes_memory_to_read}
 use Rattle.djq_machine.specs.declared.machine.Loaded.{Loaded}
 use Rattle.djq_machine.specs.declared.machine.Loaded.TheVariants.{Ran as ran, Refused as refused, NoMem as no_memory}
+use Rattle.djq_lines.specs.declared.held.HeldRow.{HeldRow}
 use Rattle.djq_machine.specs.State.{Store}
+use Rattle.djq_machine.specs.Conditions.{Answers, OutOfMemoryWhere}
 use Rattle.djq_machine.specs.Store.{MakesRelation, AddsRow, DeletesRow, RegistersQuery, DropsQuery}
+use Rattle.djq_machine.specs.Batch.{hold_refusal, AddsBatch}
+use Rattle.djq_machine.specs.Command.{is_misplaced}
 use Rattle.djq_machine.specs.Keeping.{is_done, is_removal, is_registration}
 use Rattle.djq_machine.specs.Step.{SameRelations}
 use Rattle.djq_machine.specs.Walk.{Walk}
@@ -28,35 +32,74 @@ abbrev pub loaded_by : {A : Type 0} → (Result A Refusal → Bool) → Result A
 loaded_by kept (Ok a) = if kept (Ok a) then ran else refused
 loaded_by kept (Err r) = refused_by r
 
--- What a command that is loaded does to the store.
-abbrev pub CommandLoads : Store → Command → Loaded → Store → Type 0
-CommandLoads old (Rel name types) how new = (r : Result ⊤ Refusal)
-    × MakesRelation old name types r new × (how ≡ loaded_by is_done r)
-CommandLoads old (Add name row) how new = (r : Result AddOutcome Refusal)
-    × AddsRow old name row r new × (how ≡ loaded_by is_done r)
-CommandLoads old (Del name row) how new = (r : Result DeleteOutcome Refusal)
-    × DeletesRow old name row r new × (how ≡ loaded_by is_removal r)
-CommandLoads old (Register q) how new = (r : Result QueryOutcome Refusal)
-    × RegistersQuery old q r new × (how ≡ loaded_by is_registration r)
-CommandLoads old (Drop q) how new = (r : Result ⊤ Refusal)
-    × DropsQuery old false q r new × (how ≡ loaded_by is_done r)
-CommandLoads old _ how new = (how ≡ refused) × (new ≡ old)
+-- Where the loading of lines has come to: the store, and the rows that the batch of these lines holds,
+-- where one is open.
+pub record Loading : Type 0 where
+  pub store : Store
+  pub batch : Option (List HeldRow)
 
--- What a line that is read does, as in a run; memory may lack as it is read.
-abbrev pub ReadingLoads : Store → Reading → Loaded → Store → Type 0
-ReadingLoads old outside how new = (how ≡ refused) × (new ≡ old)
-ReadingLoads old (past_limit c) how new = (how ≡ refused) × (new ≡ old)
-ReadingLoads old (says_command c) how new = CommandLoads old c how new
-    ⊎ ((takes_memory_to_read c ≡ true) × (how ≡ no_memory) × (new ≡ old))
+-- no batch is open
+abbrev pub loading : Store → Loading
+loading st = record { store = st; batch = None }
+
+-- What a command that is loaded outside a batch does to the store.
+abbrev pub StoreLoads : Store → Command → Loaded → Store → Type 0
+StoreLoads old (Rel name types) how new = (r : Result ⊤ Refusal)
+    × MakesRelation old name types r new × (how ≡ loaded_by is_done r)
+StoreLoads old (Add name row) how new = (r : Result AddOutcome Refusal)
+    × AddsRow old name row r new × (how ≡ loaded_by is_done r)
+StoreLoads old (Del name row) how new = (r : Result DeleteOutcome Refusal)
+    × DeletesRow old name row r new × (how ≡ loaded_by is_removal r)
+StoreLoads old (Register q) how new = (r : Result QueryOutcome Refusal)
+    × RegistersQuery old q r new × (how ≡ loaded_by is_registration r)
+StoreLoads old (Drop q) how new = (r : Result ⊤ Refusal)
+    × DropsQuery old false q r new × (how ≡ loaded_by is_done r)
+StoreLoads old _ how new = (how ≡ refused) × (new ≡ old)
+
+-- A batch is opened, or memory lacks for it.
+abbrev pub LoadsBatch : Loading → Loaded → Loading → Type 0
+LoadsBatch old how new = ((how ≡ ran) × (new ≡ record old { batch = Some [] }))
+    ⊎ ((how ≡ no_memory) × (new ≡ old))
+
+-- A row is held behind these, or nothing changes.
+abbrev pub HoldsLoaded : Loading → List HeldRow → Bytes → Bytes → Tuple → Result ⊤ Refusal → Loading
+    → Type 0
+HoldsLoaded old held l name row (Ok _) new = new ≡ record old {
+  batch = Some (held ++ record { line = l; relation = name; row = row } ∷ []);
+}
+HoldsLoaded old held l name row (Err _) new = new ≡ old
+
+-- What a command that is loaded does, as in a session with the batch that is open, or with none.
+abbrev pub CommandLoads : Loading → Bytes → Command → Loaded → Loading → Type 0
+CommandLoads old l c how new = LoadsIn old.batch c
+  where
+    LoadsIn : Option (List HeldRow) → Command → Type 0
+    LoadsIn None Batch = LoadsBatch old how new
+    LoadsIn None c = StoreLoads old.store c how new.store × (new.batch ≡ None)
+    LoadsIn (Some held) (Add name row) = (r : Result ⊤ Refusal)
+        × Answers (hold_refusal old.store held name row) r (λ _. ⊤) (OutOfMemoryWhere ⊤)
+        × (how ≡ loaded_by is_done r) × HoldsLoaded old held l name row r new
+    LoadsIn (Some held) Done = (r : Result ℕ Refusal)
+        × AddsBatch old.store held r new.store × (how ≡ loaded_by is_done r) × (new.batch ≡ None)
+    LoadsIn (Some held) Abandon = (how ≡ ran) × (new ≡ record old { batch = None })
+    LoadsIn (Some held) _ = (how ≡ refused) × (new ≡ old)
+
+-- What a line that is read does, as in a run; memory may lack as it is read, of a command that isn't
+-- misplaced.
+abbrev pub ReadingLoads : Loading → Bytes → Reading → Loaded → Loading → Type 0
+ReadingLoads old l outside how new = (how ≡ refused) × (new ≡ old)
+ReadingLoads old l (past_limit c) how new = (how ≡ refused) × (new ≡ old)
+ReadingLoads old l (says_command c) how new = CommandLoads old l c how new
+    ⊎ ((takes_memory_to_read c ≡ true) × (is_misplaced old.batch c ≡ false) × (how ≡ no_memory) × (new ≡ old))
 
 -- A line is loaded. The rows, each with its copies, may be kept in another order from then on.
-pub record LoadStep (old : Store) (line : Bytes) (how : Loaded) (new : Store) : Type 0 where
-  pub mid : Store
-  pub loads : ReadingLoads old (reading_of line) how mid
+pub record LoadStep (old : Loading) (line : Bytes) (how : Loaded) (new : Loading) : Type 0 where
+  pub mid : Loading
+  pub loads : ReadingLoads old line (reading_of line) how mid
   pub relations : List Relation
-  pub reordered : SameRelations mid.relations relations
-  pub after : new ≡ record mid { relations = relations }
+  pub reordered : SameRelations mid.store.relations relations
+  pub after : new ≡ record mid { store = record mid.store { relations = relations } }
 
 -- Lines are loaded, one after another, and each runs.
-abbrev pub Loads : Store → List Bytes → Store → Type 0
+abbrev pub Loads : Loading → List Bytes → Loading → Type 0
 Loads = Walk (λ old line new. LoadStep old line ran new)

@@ -1,10 +1,10 @@
 -- Runs of the machine, and what they queue, take and cost.
-use Rattle.std.specs.Prelude.{ℕ, List, [], ◌∷◌, ◌==◌, ◌≡◌, Option, None, Some, sum_by, if◌then◌else◌}
+use Rattle.std.specs.Prelude.{ℕ, List, [], ◌∷◌, ◌++◌, ◌==◌, ◌≡◌, Option, None, Some, sum_by, codes, if◌then◌else◌}
 use Rattle.std.specs.List.{flat_map}
 use Rattle.djq_model.specs.Data.{Bytes}
 use Rattle.djq_machine.specs.State.{State, Session, session_of}
 use Rattle.djq_lines.specs.Line.{a_line, front_of}
-use Rattle.djq_machine.specs.Keeping.{Keeping, the_line}
+use Rattle.djq_machine.specs.Keeping.{Keeping, no_line, the_line, the_batch}
 use Rattle.djq_machine.specs.Effect.{Effect}
 pub use Rattle.djq_machine.specs.Walk.{Walk}
 use Rattle.djq_machine.specs.LineStep.{LineOutcome, long, blank, slow, no_room, run}
@@ -92,9 +92,15 @@ pending_of st s = pending_in (session_of st s)
 abbrev pub Group : Type 0
 Group = List Bytes
 
--- the group that a step keeps: the line that it runs
+-- the group that is kept where this line is run: the line, or the batch that it ends, whole
+abbrev pub groups_in : Bytes → Keeping → List Group
+groups_in l no_line = []
+groups_in l the_line = (l ∷ []) ∷ []
+groups_in l (the_batch held) = (codes "batch" ∷ held ++ codes "done" ∷ []) ∷ []
+
+-- the group that a step keeps
 abbrev pub group_of : Event → Keeping → List Group
-group_of (stepped s (run l)) the_line = (l ∷ []) ∷ []
+group_of (stepped s (run l)) keeping = groups_in l keeping
 group_of _ _ = []
 
 -- the groups that a run keeps, in order

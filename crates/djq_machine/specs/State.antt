@@ -4,6 +4,7 @@ use Rattle.djq_model.specs.declared.relation.Relation.{Relation}
 use Rattle.djq_model.specs.Data.{Bytes, Tuple, bytes_eq, change_first}
 use Rattle.djq_model.specs.Listed.{Listed}
 use Rattle.djq_lines.specs.declared.answer.EndCause.{EndCause}
+use Rattle.djq_lines.specs.declared.held.HeldRow.{HeldRow}
 
 -- What is kept of the data, whoever changes it.
 pub record Store : Type 0 where
@@ -40,6 +41,8 @@ pub record Session : Type 0 where
   pub cursors : List Cursor
   -- the names of the queries that it watches
   pub watches : List Bytes
+  -- the rows that its batch holds, where one is open
+  pub batch : Option (List HeldRow)
 
 pub record State : Type 0 where
   pub store : Store
@@ -54,7 +57,7 @@ opening = record { store = record { relations = []; texts = []; queries = []; se
 
 -- a session as it opens
 abbrev pub fresh : ℕ → Session
-fresh s = record { id = s; held = []; pending = []; cause = None; cursors = []; watches = [] }
+fresh s = record { id = s; held = []; pending = []; cause = None; cursors = []; watches = []; batch = None }
 
 -- the ids of the open sessions
 abbrev pub ids_of : State → List ℕ
@@ -76,6 +79,6 @@ cursor_of cursors name = find (λ c. bytes_eq c.name name) cursors
 abbrev pub with_position : List Cursor → Bytes → Position → List Cursor
 with_position cursors name position = change_first (λ c. bytes_eq c.name name) (λ c. record c { position = position }) cursors
 
--- A session that has ended keeps why, and gives up its cursors and watches.
+-- A session that has ended keeps why, and gives up its cursors, its watches and its batch.
 abbrev pub ended_by : EndCause → Session → Session
-ended_by cause x = record x { cause = Some cause; cursors = []; watches = [] }
+ended_by cause x = record x { cause = Some cause; cursors = []; watches = []; batch = None }

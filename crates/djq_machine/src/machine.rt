@@ -7,8 +7,8 @@ use thiserror::Error;
 pub enum Stepped {
     /// It was run, or dropped where it is blank.
     Ran {
-        /// Whether it is kept: loaded again, it does what it did to the relations, their rows and
-        /// copies, and the queries.
+        /// Whether it is kept, alone or with the batch that it ends: loaded again, these lines do what
+        /// it did to the relations, their rows and copies, and the queries.
         kept: bool,
     },
     /// No whole line is held.
@@ -26,12 +26,14 @@ pub enum Fed {
     Ended(EndCause),
 }
 
-/// What became of a line that is loaded while no session is open.
+/// What became of a line that is loaded while no session is open. Lines that were kept of a batch are
+/// loaded as in a session: those between `batch` and `done` are held.
 #[derive(Clone, Copy, Debug, PartialEq, Eq)]
 pub enum Loaded {
     /// It is done: it is a line that is kept.
     Ran,
-    /// It isn't a line that is kept, as it is outside the grammar, of another kind, or refused.
+    /// It isn't a line that is kept, as it is outside the grammar, of another kind, or refused; or it
+    /// isn't for a batch, where the lines before it opened one.
     Refused,
     /// Memory is wanting.
     NoMem,
@@ -59,7 +61,7 @@ pub trait Machine {
     ghost use Rattle.djq_machine.specs.State.{State};
     ghost use Rattle.djq_machine.specs.Step.{fed, took, ended, closed, is_dry};
     ghost use Rattle.djq_machine.specs.Run.{pending_of};
-    ghost use Rattle.djq_machine.specs.Call.{IsOpen, Makes, OpenGives, FedGives, StepGives, StepKeeps, cause_of, held_of, ids_of, first_due, counts};
+    ghost use Rattle.djq_machine.specs.Call.{IsOpen, Makes, OpenGives, FedGives, StepGives, cause_of, held_of, ids_of, first_due, counts};
 
     // The state of the join machine that it keeps.
     ghost state: { Self → State };
@@ -86,9 +88,9 @@ pub trait Machine {
     /// Runs the next line of an open session.
     fn step<L: Ledgers>(&mut self, id: u64, steps: &mut Steps<L>) -> Stepped
         requires { IsOpen (state self.old) id }
-        ensures gives { StepGives (state self.old) id result (state self.new)
-            (counts steps.old.listing steps.old.update steps.old.rows) (counts steps.new.listing steps.new.update steps.new.rows) }
-        ensures keeps { StepKeeps (state self.old) id result (kept self.new) };
+        ensures { StepGives (state self.old) id result (state self.new)
+            (counts steps.old.listing steps.old.update steps.old.rows) (counts steps.new.listing steps.new.update steps.new.rows)
+            (kept self.new) };
 
     /// The line with this number, counted from 0, of those that the last step kept.
     fn accepted(&self, i: usize) -> Option<&[u8]>
