@@ -32,3 +32,4 @@ pub mod Storing
 pub mod Sounding
 pub mod Listing
 pub mod Short
+pub mod Holding
