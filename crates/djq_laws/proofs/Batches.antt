@@ -263,7 +263,7 @@ stops_learned old front at new NoMemory places h stays =
     }
 stops_learned old front at new _ places h stays = absurd h
 
-not_batched : (old : Store) (held : List HeldRow) (r : Refusal) (new : Store) → RefusesBatch old held new r
+pub not_batched : (old : Store) (held : List HeldRow) (r : Refusal) (new : Store) → RefusesBatch old held new r
     → LearnsTexts old new
 not_batched old held r new h = stops_learned old h.front h.at new r h.places h.stops h.stays
 
