@@ -3,7 +3,10 @@ pub mod Queueing
 mod Told
 pub mod Changing
 pub mod Forms
+pub mod Suiting
 pub mod Rows
+pub mod Batches
+pub mod Doing
 pub mod Counting
 pub mod Alike
 pub mod Touching
@@ -29,3 +32,4 @@ pub mod Storing
 pub mod Sounding
 pub mod Listing
 pub mod Short
+pub mod Holding
