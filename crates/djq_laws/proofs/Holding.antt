@@ -1,8 +1,8 @@
 -- What batches hold is lines, wherever a run comes, and so is what a step keeps.
-use Rattle.std.specs.Prelude.{ℕ, List, [], ◌∷◌, ◌==◌, ◌≡◌, ◌<◌, ◌++◌, ◌⊎◌, ◌≤◌, Bool, true, false, not, length, filter, map, codes, Option, None, Some, MatchOption, option_map, IsSomeAnd, Result, Ok, Err, All, ⊤}
+use Rattle.std.specs.Prelude.{ℕ, List, [], ◌∷◌, ◌==◌, ◌≡◌, ◌<◌, ◌++◌, ◌⊎◌, ◌≤◌, Bool, true, false, not, length, map, codes, Option, None, Some, MatchOption, option_map, IsSomeAnd, Result, Ok, Err, All, ⊤}
 use Rattle.std.specs.List.{AllByRecursion}
 use Rattle.std.proofs.Common.{refl, sym, ap, ◌∙◌, subst, inl, inr, arith}
-use Rattle.std.proofs.lemmas.List.Elements.{All-nil, All-cons, All-head, All-tail, All-push, All-filter}
+use Rattle.std.proofs.lemmas.List.Elements.{All-nil, All-head, All-tail, All-push, All-filter}
 use Rattle.djq_model.specs.Data.{Bytes, Tuple}
 use Rattle.djq_model.specs.Listed.{Listed, a_query, listed_of}
 use Rattle.djq_lines.specs.declared.limits.TheConstants.{SESSIONS, LINE_BYTES}
@@ -22,7 +22,7 @@ use Rattle.djq_machine.specs.Watch.{Telling, ChangeStep}
 use Rattle.djq_machine.specs.Keeping.{Keeping, no_line, the_line, the_batch, kept_where, kept_batch}
 use Rattle.djq_machine.specs.Effect.{Effect, nothing, answers, EndsWith, RefusedStep, queue, queue_all}
 use Rattle.djq_machine.specs.Command.{AddStep, HoldStep, DoneStep, NextStepAt, CloseStep, ExplainStepOf, TellsLines, explain_lines, without_batch, CommandStep}
-use Rattle.djq_machine.specs.LineStep.{LineOutcome, long, blank, slow, no_room, run, ReadStep, FrontStep, behind_line}
+use Rattle.djq_machine.specs.LineStep.{LineOutcome, long, blank, slow, no_room, run, FrontStep, behind_line}
 use Rattle.djq_machine.specs.Step.{Event, opened, fed, stepped, took, ended, closed, FedStep, TookStep, EndedStep, Acts, with_relations, Step}
 use Rattle.djq_machine.specs.Run.{Did, Run, groups_in}
 use Rattle.djq_machine.proofs.Walks.{walk_keeps}
@@ -122,28 +122,13 @@ form_says None l (Add name row) is = tt
 form_says (Some held) l (Add name row) is = is
 form_says None l Done is = tt
 form_says (Some held) l Done is = tt
-form_says batch l (Rel name types) is = tt
-form_says batch l (Register q) is = tt
-form_says batch l (Drop q) is = tt
-form_says batch l (Del name row) is = tt
-form_says batch l (Open c q) is = tt
-form_says batch l (Next c count) is = tt
-form_says batch l (Close c) is = tt
-form_says batch l (Watch q) is = tt
-form_says batch l (Unwatch q) is = tt
-form_says batch l (Has q row) is = tt
-form_says batch l (Explain q) is = tt
-form_says batch l (Shape q) is = tt
-form_says batch l Batch is = tt
-form_says batch l Abandon is = tt
-form_says batch l Quit is = tt
-form_says batch l Stop is = tt
+form_says batch l c is = tt
 
 -- ---- behind a step
 
 held_read : (old : State) (s : ℕ) (x : Session) (l : Bytes) (r : Reading) (e : Effect) (new : State) → session_of old s ≡ Some x → IsLine l → Reads old s x l r e new
     → HoldLines old → HoldLines new
-held_read old s x l r e new found is (turned_down why h) k = held_same old new h.1 k
+held_read old s x l r e new found is (turned_down why because h) k = held_same old new h.1 k
 held_read old s x l r e new found is (carried_out c says h) k =
     held_form (form_of x.batch l c) old s x e new found (form_says x.batch l c is) (command_does old s x l c e new h) k
 
@@ -308,7 +293,7 @@ keeps_command old s x l Quit e new holds h = keeps_nothing s _ 0 e h.0
 keeps_command old s x l Stop e new holds h = keeps_nothing s _ 0 e h.0
 
 keeps_read : (old : State) (s : ℕ) (x : Session) (l : Bytes) (r : Reading) (e : Effect) (new : State) → Holds x → Reads old s x l r e new → KeepsLines e.kept
-keeps_read old s x l r e new holds (turned_down why h) = keeps_nothing s _ 0 e h.0
+keeps_read old s x l r e new holds (turned_down why because h) = keeps_nothing s _ 0 e h.0
 keeps_read old s x l r e new holds (carried_out c says h) = keeps_command old s x l c e new holds h
 
 -- Its lines are lines.
