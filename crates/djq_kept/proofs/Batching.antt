@@ -1,6 +1,6 @@
 -- A batch that a run did, done to a store that follows the one it was done to.
 use Rattle.std.proofs.Common.{ℕ, zero, suc, List, [], ◌∷◌, ◌++◌, ◌+◌, ◌≡◌, ◌≤◌, inl, inr, Bool, true, false, cond, length, refl, sym, ap, ◌∙◌, subst, arith}
-use Rattle.std.specs.Prelude.{None, Some}
+use Rattle.std.specs.Prelude.{None}
 use Rattle.djq_model.specs.Data.{Bytes, counted_of, with_row}
 use Rattle.djq_model.specs.Known.{texts_in, all_learned}
 use Rattle.djq_lines.specs.declared.limits.TheConstants.{TEXTS}

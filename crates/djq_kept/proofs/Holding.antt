@@ -1,13 +1,12 @@
 -- A batch that a run did: its lines, loaded where what was there is followed.
-use Rattle.std.proofs.Common.{ℕ, List, [], ◌∷◌, ◌++◌, ◌+◌, ◌≡◌, ◌<◌, ◌≤◌, inl, inr, Bool, true, false, length, refl, sym, ap, ◌∙◌, subst, arith, append_assoc, append-nil, length-append}
-use Rattle.std.specs.Prelude.{◌==◌, not, nat_le, Option, None, Some, is_none, Ok, Err, map, codes, All, ⊤}
+use Rattle.std.proofs.Common.{ℕ, List, [], ◌∷◌, ◌++◌, ◌+◌, ◌≡◌, ◌<◌, ◌≤◌, inl, inr, Bool, true, false, length, refl, sym, ◌∙◌, subst, arith, append_assoc, append-nil, length-append}
+use Rattle.std.specs.Prelude.{◌==◌, not, nat_le, None, Some, is_none, Ok, Err, map, codes, All, ⊤}
 use Rattle.std.proofs.lemmas.Bool.{leb-true}
 use Rattle.std.proofs.lemmas.List.Elements.{All-head, All-tail}
 use Rattle.djq_model.specs.Data.{Bytes, Tuple, relation_of}
 use Rattle.djq_model.specs.Typed.{fits}
 use Rattle.djq_lines.specs.Columns.{types_of}
 use Rattle.djq_lines.specs.declared.limits.TheConstants.{HELD}
-use Rattle.djq_lines.specs.declared.answer.Refusal.{Refusal}
 use Rattle.djq_lines.specs.declared.answer.Refusal.TheVariants.{NoRelation, Arity, WrongType, Limit}
 use Rattle.djq_lines.specs.declared.command.Command.{Command}
 use Rattle.djq_lines.specs.declared.command.Command.TheVariants.{Add, Batch, Done, Abandon}
@@ -18,7 +17,6 @@ use Rattle.djq_machine.specs.State.{Store}
 use Rattle.djq_machine.specs.Batch.{suit_refusal, hold_refusal, SuitAll, with_all, count_came, store_behind, HavePlaces}
 use Rattle.djq_machine.specs.Run.{Group}
 use Rattle.djq_machine.specs.declared.machine.Loaded.{Loaded}
-use Rattle.djq_machine.specs.declared.machine.Loaded.TheVariants.{Ran as ran}
 use Rattle.djq_machine.specs.Loading.{Loading, loading, CommandLoads}
 use Rattle.djq_laws.specs.Sound.{AreApart, IsSoundBatch, IsHeldBySaying}
 use Rattle.djq_kept.specs.Kept.{Follows, LoadingFollows, LoadsOn}

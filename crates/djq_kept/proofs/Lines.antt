@@ -1,8 +1,7 @@
 -- The lines that are kept are no longer than a line may be, and none is empty.
-use Rattle.std.proofs.Common.{ℕ, List, [], ◌∷◌, ◌++◌, ◌≡◌, ◌≤◌, length, refl, sym, ap, ◌∙◌, subst, arith}
+use Rattle.std.proofs.Common.{[], ◌∷◌, ◌++◌, ◌≡◌, ◌≤◌, length, refl, ap, arith}
 use Rattle.std.specs.Prelude.{codes, All}
 use Rattle.std.proofs.lemmas.List.Elements.{All-nil, All-cons, All-append, All-from_recursion}
-use Rattle.djq_model.specs.Data.{Bytes}
 use Rattle.djq_machine.specs.State.{State}
 use Rattle.djq_machine.specs.Keeping.{Keeping, no_line, the_line, the_batch}
 use Rattle.djq_machine.specs.Effect.{Effect}

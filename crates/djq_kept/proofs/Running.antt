@@ -70,7 +70,7 @@ module _ (old : State) (s : ℕ) (l rest : Bytes) (y : Session) (sound : IfSome 
   carried_keeps c is (is_left k g) = act_none (ap (groups_in l) k) g
 
   read_keeps : Reads read_from s y l (reading_of l) e mid → ActKeeps old (stepped s (run l)) e mid
-  read_keeps (turned_down r h) = refused_keeps r h
+  read_keeps (turned_down r because h) = refused_keeps r h
   read_keeps (carried_out c is h) = carried_keeps c is (command_keeps read_from s y l c e mid h)
 
 front_keeps : (old : State) (s : ℕ) (x : Session) → IfSome x.batch (IsSoundBatch old.store) → (o : LineOutcome) (e : Effect) (mid : State)

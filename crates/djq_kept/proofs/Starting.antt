@@ -1,6 +1,6 @@
 -- What is loaded into a sound store leaves a sound one.
-use Rattle.std.specs.Prelude.{ℕ, List, ◌≡◌, false, Option, None, Some, IfSome, Ok, Err, ⊤}
-use Rattle.std.proofs.Common.{refl, sym, subst, inl, inr}
+use Rattle.std.specs.Prelude.{List, [], ◌∷◌, ◌++◌, ◌≡◌, false, Option, None, Some, IfSome, Ok, Err, ⊤}
+use Rattle.std.proofs.Common.{refl, sym, subst, inl, inr, arith}
 use Rattle.std.proofs.lemmas.List.Elements.{All-nil}
 use Rattle.djq_model.specs.Data.{Bytes}
 use Rattle.djq_lines.specs.declared.command.Command.{Command}

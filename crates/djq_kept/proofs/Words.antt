@@ -1,5 +1,5 @@
 -- What the lines that begin and end a batch say.
-use Rattle.std.proofs.Common.{List, [], ◌∷◌, ◌≡◌, Bool, true, cond, refl, ap, arith, leb}
+use Rattle.std.proofs.Common.{[], ◌∷◌, ◌≡◌, Bool, true, cond, refl, ap, arith, leb}
 use Rattle.std.specs.Prelude.{None, codes}
 use Rattle.std.specs.List.{list_all}
 use Rattle.std.specs.Str.{IsAscii, is_utf8}
