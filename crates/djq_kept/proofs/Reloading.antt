@@ -23,7 +23,7 @@ use Rattle.djq_machine.specs.Run.{Did, Run, Group, group_of, groups_of, lines_in
 use Rattle.djq_machine.specs.declared.machine.Loaded.TheVariants.{Ran as ran}
 use Rattle.djq_machine.specs.Loading.{refused_by, Loading, loading, StoreLoads, CommandLoads, ReadingLoads, LoadStep, Loads}
 use Rattle.djq_laws.proofs.Apart.{nothing_apart}
-use Rattle.djq_kept.specs.Kept.{HasRowsOnce, Follows, LoadingFollows, LoadsOn, LoadsTo, AbandonedAreLoaded, RunsReload, StoodAt, StopsReload}
+use Rattle.djq_kept.specs.Kept.{HasRowsOnce, Follows, LoadingFollows, LoadsOn, LoadsTo, AbandonRuns, AbandonedAreLoaded, RunsReload, StoodAt, StopsReload}
 use Rattle.djq_kept.proofs.Respecting.{Respects, none_of, rel_respects, query_respects, drop_respects}
 use Rattle.djq_kept.proofs.Copying.{add_respects, more_respects, delete_respects, left_respects}
 use Rattle.djq_kept.proofs.Following.{holding, follows_closed, of_batch, CommandRespects, LineRespects, closed_respects, line_respects, line_moved, no_lines, one_line}
@@ -152,6 +152,20 @@ abandon_ends left held e b f =
     of_batch (λ (k : Loading). LineRespects k (codes "abandon") (loading left.store)) b (Some held) (f.batch ∙ e)
     (line_respects (holding b.store held) (codes "abandon") Abandon (loading left.store) abandon_reads
     (abandon_respects left.store b.store f.store (codes "abandon") held))
+
+pub abandon_runs : AbandonRuns
+abandon_runs old how new step is_open = by old.batch refl is_open (subst (λ (r : Reading). ReadingLoads old (codes "abandon") r how step.mid) abandon_reads step.loads)
+  where
+    ends : (held : List HeldRow) → old.batch ≡ Some held → CommandLoads old (codes "abandon") Abandon how step.mid → (how ≡ ran) × (new.batch ≡ None)
+    ends held e h =
+        let k = subst (λ (o : Option (List HeldRow)). CommandLoads (record { store = old.store; batch = o }) (codes "abandon") Abandon how step.mid) e h in
+        (k.0, ap (λ (n : Loading). n.batch) step.after ∙ ap (λ (n : Loading). n.batch) k.1)
+
+    by : (o : Option (List HeldRow)) → old.batch ≡ o → IsSome o → ReadingLoads old (codes "abandon") (says_command Abandon) how step.mid
+        → (how ≡ ran) × (new.batch ≡ None)
+    by None e some h = absurd (false≢true some)
+    by (Some held) e some (inl h) = ends held e h
+    by (Some held) e some (inr h) = absurd (false≢true h.0)
 
 pub abandoned_are_loaded : AbandonedAreLoaded
 abandoned_are_loaded found left loads is_open = by left.batch refl is_open

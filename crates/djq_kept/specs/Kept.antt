@@ -1,5 +1,5 @@
 -- The lines that a run kept, loaded, give what the run left.
-use Rattle.std.specs.Prelude.{List, [], ◌∷◌, ◌++◌, ◌≡◌, ◌≤◌, true, false, IsSome, codes, length, All}
+use Rattle.std.specs.Prelude.{List, [], ◌∷◌, ◌++◌, ◌≡◌, ◌≤◌, true, false, None, IsSome, codes, length, All}
 use Rattle.djq_model.specs.declared.relation.Relation.{Relation}
 use Rattle.djq_model.specs.Data.{Bytes, Tuple, tuples_in}
 use Rattle.djq_model.specs.Answer.{AreDifferent}
@@ -10,7 +10,8 @@ use Rattle.djq_machine.specs.Step.{SameRelations}
 use Rattle.djq_machine.specs.Run.{Did, Run, Group, groups_of, lines_in}
 use Rattle.djq_laws.specs.Sound.{AreApart, IsSoundState, IsStart}
 use Rattle.djq_laws.specs.Holding.{IsLine, HoldLines}
-use Rattle.djq_machine.specs.declared.machine.Loaded.TheVariants.{Refused as refused}
+use Rattle.djq_machine.specs.declared.machine.Loaded.{Loaded}
+use Rattle.djq_machine.specs.declared.machine.Loaded.TheVariants.{Ran as ran, Refused as refused}
 use Rattle.djq_machine.specs.Loading.{Loading, loading, LoadStep, Loads}
 
 -- Two stores have the same relations, each with its rows and their copies in any order, the same
@@ -66,7 +67,12 @@ abbrev pub FoundIsStart : Type 0
 FoundIsStart = (found : List Bytes) (st : State) → Loads (loading opening.store) found (loading st.store)
     → st.sessions ≡ [] → st.stopped ≡ false → IsStart st
 
--- Where they leave one open, the line `abandon` behind them ends it, and the store is the same.
+-- Where a batch is open, the line `abandon` ends it: it is never refused, and takes no memory.
+abbrev pub AbandonRuns : Type 0
+AbandonRuns = (old : Loading) (how : Loaded) (new : Loading) → LoadStep old (codes "abandon") how new
+    → IsSome old.batch → (how ≡ ran) × (new.batch ≡ None)
+
+-- So lines, found at a start, that leave one open load with it to the same store.
 abbrev pub AbandonedAreLoaded : Type 0
 AbandonedAreLoaded = (found : List Bytes) (left : Loading) → Loads (loading opening.store) found left
     → IsSome left.batch → LoadsTo opening.store (found ++ codes "abandon" ∷ []) left.store

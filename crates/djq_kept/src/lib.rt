@@ -33,8 +33,8 @@
 //! stop left the first groups of lines, whole.
 #![tactic(auto)]
 
-ghost use Rattle.djq_kept.specs.Kept.{FoundIsStart, AbandonedAreLoaded, KeptLinesLoad, FollowersHaveCopies};
-ghost use Rattle.djq_kept.specs.Kept.{RunsReload, StopsReload, KeptAreLines};
+ghost use Rattle.djq_kept.specs.Kept.{FoundIsStart, AbandonRuns, AbandonedAreLoaded, KeptLinesLoad};
+ghost use Rattle.djq_kept.specs.Kept.{FollowersHaveCopies, RunsReload, StopsReload, KeptAreLines};
 
 /// What lines, found at a start, give is a state to start from, where they leave no batch open:
 /// relations, queries and known texts are without repeats, and so are the rows of a relation; these
@@ -44,10 +44,11 @@ pub fn found_is_start()
     ensures { FoundIsStart }
 {}
 
-/// Lines, found at a start, may leave a batch open. The line `abandon` behind them ends it: they load
-/// to the same rows with the same copies, the same queries and number of changes.
+/// Lines, found at a start, may leave a batch open. The line `abandon` behind them always runs and ends
+/// it: they load to the same rows with the same copies, the same queries and number of changes.
 pub fn abandoned_are_loaded()
-    ensures { AbandonedAreLoaded }
+    ensures runs { AbandonRuns }
+    ensures loads { AbandonedAreLoaded }
 {}
 
 /// The lines that a run kept, from a sound state on, loaded into a store that follows the one it began
