@@ -79,7 +79,8 @@ abbrev behind : Store → Store → ℕ → Store
 behind st after zero = after
 behind st after (suc n) = record after { seq = st.seq + 1 }
 
-pub behind_follows : (a b : Store) → Follows a b → (held : List HeldRow) → Follows (store_behind a held) (store_behind b held)
+pub behind_follows : (a b : Store) → Follows a b → (held : List HeldRow)
+    → Follows (store_behind a held) (store_behind b held)
 behind_follows a b f held =
     subst (λ (n : ℕ). Follows (behind a (with_all a held) (count_came a held)) (behind b (with_all b held) n))
     (sym (came_same a b f held)) (by (count_came a held))

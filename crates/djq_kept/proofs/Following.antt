@@ -22,7 +22,8 @@ use Rattle.djq_kept.proofs.Respecting.{Respects}
 abbrev pub reordered : Loading → List Relation → Loading
 reordered a rs = record a { store = record a.store { relations = rs } }
 
-pub follows_left : (mid n : Store) (rs : List Relation) → SameRelations mid.relations rs → Follows mid n → Follows (record mid { relations = rs }) n
+pub follows_left : (mid n : Store) (rs : List Relation) → SameRelations mid.relations rs → Follows mid n
+    → Follows (record mid { relations = rs }) n
 follows_left mid n rs h f = record {
   same = record {
     relations = same_trans rs mid.relations n.relations (same_sym mid.relations rs h) f.same.relations;
@@ -34,7 +35,8 @@ follows_left mid n rs h f = record {
   once = f.once;
 }
 
-follows_right : (to n : Store) (rs : List Relation) → SameRelations n.relations rs → Follows to n → Follows to (record n { relations = rs })
+follows_right : (to n : Store) (rs : List Relation) → SameRelations n.relations rs → Follows to n
+    → Follows to (record n { relations = rs })
 follows_right to n rs h f = record {
   same = record {
     relations = same_trans to.relations n.relations rs f.same.relations h;
@@ -54,11 +56,13 @@ follows_closed a b f = record { store = f; batch = refl }
 abbrev pub holding : Store → List HeldRow → Loading
 holding st held = record { store = st; batch = Some held }
 
-pub follows_holding : (a b : Store) (held : List HeldRow) → Follows a b → LoadingFollows (holding a held) (holding b held)
+pub follows_holding : (a b : Store) (held : List HeldRow) → Follows a b
+    → LoadingFollows (holding a held) (holding b held)
 follows_holding a b held f = record { store = f; batch = refl }
 
 -- what follows, by the batch of what it follows
-pub of_batch : (P : Loading → Type 0) (b : Loading) (o : Option (List HeldRow)) → b.batch ≡ o → P (record { store = b.store; batch = o }) → P b
+pub of_batch : (P : Loading → Type 0) (b : Loading) (o : Option (List HeldRow)) → b.batch ≡ o
+    → P (record { store = b.store; batch = o }) → P b
 of_batch P b o e p = subst (λ (k : Option (List HeldRow)). P (record { store = b.store; batch = k })) (sym e) p
 
 -- ---- a line
@@ -78,18 +82,21 @@ pub record LineRespects (b : Loading) (l : Bytes) (to : Loading) : Type 0 where
   pub each : (how : Loaded) (n : Loading) → LoadStep b l how n → EndsFollowing how to n
 
 -- what a command outside a batch does
-pub closed_respects : (b to : Store) (l : Bytes) (c : Command) → Respects b c to → CommandRespects (loading b) l c (loading to)
+pub closed_respects : (b to : Store) (l : Bytes) (c : Command) → Respects b c to
+    → CommandRespects (loading b) l c (loading to)
 closed_respects b to l Batch r = let e = (r.can).1.0 in absurd (cc (e))
 closed_respects b to l c r = record {
   can = (loading (r.can).0, ((r.can).1, refl), follows_closed to (r.can).0 (r.can).2);
   each = λ how n k. by how n (r.each how n.store k.0) k.1;
 }
   where
-    by : (how : Loaded) (n : Loading) → ((how ≡ ran) × Follows to n.store) ⊎ (how ≡ no_memory) → n.batch ≡ None → EndsFollowing how (loading to) n
+    by : (how : Loaded) (n : Loading) → ((how ≡ ran) × Follows to n.store) ⊎ (how ≡ no_memory) → n.batch ≡ None
+        → EndsFollowing how (loading to) n
     by how n (inl f) e = inl (f.0, record { store = f.1; batch = e })
     by how n (inr m) e = inr m
 
-pub line_respects : (b : Loading) (l : Bytes) (c : Command) (to : Loading) → reading_of l ≡ says_command c → CommandRespects b l c to → LineRespects b l to
+pub line_respects : (b : Loading) (l : Bytes) (c : Command) (to : Loading) → reading_of l ≡ says_command c
+    → CommandRespects b l c to → LineRespects b l to
 line_respects b l c to e r = record {
   can = (
     (r.can).0,
@@ -105,7 +112,8 @@ line_respects b l c to e r = record {
   each = λ how n step. by how n step (subst (λ (g : Reading). ReadingLoads b l g how step.mid) e step.loads);
 }
   where
-    done : (how : Loaded) (n : Loading) (step : LoadStep b l how n) → EndsFollowing how to step.mid → EndsFollowing how to n
+    done : (how : Loaded) (n : Loading) (step : LoadStep b l how n) → EndsFollowing how to step.mid
+        → EndsFollowing how to n
     done how n step (inl f) = inl (
       f.0,
       subst (λ (k : Loading). LoadingFollows to k) (sym step.after) (record {
@@ -115,15 +123,18 @@ line_respects b l c to e r = record {
     )
     done how n step (inr m) = inr m
 
-    by : (how : Loaded) (n : Loading) (step : LoadStep b l how n) → ReadingLoads b l (says_command c) how step.mid → EndsFollowing how to n
+    by : (how : Loaded) (n : Loading) (step : LoadStep b l how n) → ReadingLoads b l (says_command c) how step.mid
+        → EndsFollowing how to n
     by how n step (inl k) = done how n step (r.each how step.mid k)
     by how n step (inr k) = inr k.2
 
 -- where the rows of what it follows stand in another order
-loading_left : (mid n : Loading) (rs : List Relation) → SameRelations mid.store.relations rs → LoadingFollows mid n → LoadingFollows (reordered mid rs) n
+loading_left : (mid n : Loading) (rs : List Relation) → SameRelations mid.store.relations rs → LoadingFollows mid n
+    → LoadingFollows (reordered mid rs) n
 loading_left mid n rs h f = record { store = follows_left mid.store n.store rs h f.store; batch = f.batch }
 
-pub line_moved : (b : Loading) (l : Bytes) (mid : Loading) (rs : List Relation) → SameRelations mid.store.relations rs → LineRespects b l mid
+pub line_moved : (b : Loading) (l : Bytes) (mid : Loading) (rs : List Relation) → SameRelations mid.store.relations rs
+    → LineRespects b l mid
     → LineRespects b l (reordered mid rs)
 line_moved b l mid rs h r = record {
   can = ((r.can).0, (r.can).1, loading_left mid (r.can).0 rs h (r.can).2);
@@ -174,17 +185,22 @@ one_line from l rest mid to r more =
     never n (inl f) = absurd (cc (f.0))
     never n (inr m) = absurd (cc (m))
 
-    later : (xs : List Bytes) (line : Bytes) (behind : List Bytes) → rest ≡ xs ++ line ∷ behind → (m1 m n : Loading) → Loads m1 xs m → LoadStep m line refused n
+    later : (xs : List Bytes) (line : Bytes) (behind : List Bytes) → rest ≡ xs ++ line ∷ behind → (m1 m n : Loading)
+        → Loads m1 xs m → LoadStep m line refused n
         → EndsFollowing ran mid m1 → ⊥
     later xs line behind e m1 m n w step (inl f) = (more m1 f.1).none_refused xs line behind e m w n step
     later xs line behind e m1 m n w step (inr x) = absurd (cc (x))
 
-    none : (front : List Bytes) (line : Bytes) (behind : List Bytes) → l ∷ rest ≡ front ++ line ∷ behind → (m : Loading) → Loads from front m → (n : Loading)
+    none : (front : List Bytes) (line : Bytes) (behind : List Bytes) → l ∷ rest ≡ front ++ line ∷ behind
+        → (m : Loading) → Loads from front m → (n : Loading)
         → LoadStep m line refused n → ⊥
     none [] line behind e m w n step =
         let first = sym (cons_first l line rest behind e) in
-        never n (r.each refused n (subst (λ (k : Bytes). LoadStep from k refused n) first (subst (λ (k : Loading). LoadStep k line refused n) w step)))
+        never n (r.each refused n
+        (subst (λ (k : Bytes). LoadStep from k refused n) first
+        (subst (λ (k : Loading). LoadStep k line refused n) w step)))
     none (x ∷ xs) line behind e m w n step =
         let first = sym (cons_first l x rest (xs ++ line ∷ behind) e) in
         let behind_it = cons_rest l x rest (xs ++ line ∷ behind) e in
-        later xs line behind behind_it w.0 m n w.2 step (r.each ran w.0 (subst (λ (k : Bytes). LoadStep from k ran w.0) first w.1))
+        later xs line behind behind_it w.0 m n w.2 step
+        (r.each ran w.0 (subst (λ (k : Bytes). LoadStep from k ran w.0) first w.1))

@@ -33,7 +33,8 @@ module _ (a b : Store) (f : Follows a b) (l : Bytes) where
   batch_respects = record { can = (holding b [], inl (refl, refl), follows_holding a b [] f); each = each }
     where
       each : (how : Loaded) (n : Loading) → CommandLoads (loading b) l Batch how n → EndsFollowing how (holding a []) n
-      each how n (inl h) = inl (h.0, subst (λ (k : Loading). LoadingFollows (holding a []) k) (sym h.1) (follows_holding a b [] f))
+      each how n (inl h) =
+          inl (h.0, subst (λ (k : Loading). LoadingFollows (holding a []) k) (sym h.1) (follows_holding a b [] f))
       each how n (inr h) = inr h.0
 
   module _ (held : List HeldRow) where
@@ -63,7 +64,8 @@ module _ (a b : Store) (f : Follows a b) (l : Bytes) where
               (follows_holding a b (with_one name row) f),
         )
         each how n (Err r, k, e, same) =
-            inr (only_memory ⊤ r how (late_of (hold_refusal b held name row) r (λ _. ⊤) (OutOfMemoryWhere ⊤) free_too k) e)
+            inr (only_memory ⊤ r how
+            (late_of (hold_refusal b held name row) r (λ _. ⊤) (OutOfMemoryWhere ⊤) free_too k) e)
 
     pub done_respects : HavePlaces a held → CommandRespects (holding b held) l Done (loading (store_behind a held))
     done_respects places = record {
@@ -93,7 +95,8 @@ module _ (a b : Store) (f : Follows a b) (l : Bytes) where
     pub abandon_respects : CommandRespects (holding b held) l Abandon (loading a)
     abandon_respects = record { can = (loading b, (refl, refl), follows_closed a b f); each = each }
       where
-        each : (how : Loaded) (n : Loading) → CommandLoads (holding b held) l Abandon how n → EndsFollowing how (loading a) n
+        each : (how : Loaded) (n : Loading) → CommandLoads (holding b held) l Abandon how n
+            → EndsFollowing how (loading a) n
         each how n h = inl (h.0, subst (λ (k : Loading). LoadingFollows (loading a) k) (sym h.1) (follows_closed a b f))
 
 -- ---- its lines
@@ -112,13 +115,16 @@ below n m few = at (nat_le n m) refl
     at true e = let least = leb-true n m e in absurd (omega (arith, few, least))
 
 -- what suits a relation is held, where there is room
-suits_free : (a : Store) (held : List HeldRow) (name : Bytes) (row : Tuple) → suit_refusal a name row ≡ None → length held < HELD
+suits_free : (a : Store) (held : List HeldRow) (name : Bytes) (row : Tuple) → suit_refusal a name row ≡ None
+    → length held < HELD
     → hold_refusal a held name row ≡ None
 suits_free a held name row suits few =
     by (nat_le HELD (length held)) (below HELD (length held) few) (is_none (relation_of a.relations name))
-    (not (length row == length (types_of (relation_of a.relations name)))) (not (fits (types_of (relation_of a.relations name)) row)) suits
+    (not (length row == length (types_of (relation_of a.relations name))))
+    (not (fits (types_of (relation_of a.relations name)) row)) suits
   where
-    by : (full : Bool) → full ≡ false → (x y z : Bool) → first_of ((x, NoRelation) ∷ (y, Arity) ∷ (z, WrongType) ∷ []) ≡ None
+    by : (full : Bool) → full ≡ false → (x y z : Bool)
+        → first_of ((x, NoRelation) ∷ (y, Arity) ∷ (z, WrongType) ∷ []) ≡ None
         → first_of ((x, NoRelation) ∷ (y, Arity) ∷ (z, WrongType) ∷ (full, Limit) ∷ []) ≡ None
     by true e x y z h = absurd (cc (e))
     by false e true y z h = absurd (cc (h))
@@ -127,41 +133,51 @@ suits_free a held name row suits few =
     by false e false false false h = refl
 
 -- what follows a loading whose batch is open, by its store
-from_holding : (a : Store) (held : List HeldRow) (lines : List Bytes) (last : Loading) → ((n : Store) → Follows a n → LoadsOn (holding n held) lines last)
+from_holding : (a : Store) (held : List HeldRow) (lines : List Bytes) (last : Loading)
+    → ((n : Store) → Follows a n → LoadsOn (holding n held) lines last)
     → (n : Loading) → LoadingFollows (holding a held) n → LoadsOn n lines last
-from_holding a held lines last more n f = of_batch (λ (k : Loading). LoadsOn k lines last) n (Some held) f.batch (more n.store f.store)
+from_holding a held lines last more n f =
+    of_batch (λ (k : Loading). LoadsOn k lines last) n (Some held) f.batch (more n.store f.store)
 
-pub from_closed : (a : Store) (lines : List Bytes) (last : Loading) → ((n : Store) → Follows a n → LoadsOn (loading n) lines last)
+pub from_closed : (a : Store) (lines : List Bytes) (last : Loading)
+    → ((n : Store) → Follows a n → LoadsOn (loading n) lines last)
     → (n : Loading) → LoadingFollows (loading a) n → LoadsOn n lines last
-from_closed a lines last more n f = of_batch (λ (k : Loading). LoadsOn k lines last) n None f.batch (more n.store f.store)
+from_closed a lines last more n f =
+    of_batch (λ (k : Loading). LoadsOn k lines last) n None f.batch (more n.store f.store)
 
 module _ (a : Store) where
   -- The lines of rows that are held load behind those before them.
   rows_load : (front rest : List HeldRow) → length front + length rest ≤ HELD → SuitAll a rest → All IsHeldBySaying rest
-      → (lines : List Bytes) (last : Loading) → ((n : Store) → Follows a n → LoadsOn (holding n (front ++ rest)) lines last)
+      → (lines : List Bytes) (last : Loading)
+      → ((n : Store) → Follows a n → LoadsOn (holding n (front ++ rest)) lines last)
       → (b : Store) → Follows a b → LoadsOn (holding b front) (map (λ (h : HeldRow). h.line) rest ++ lines) last
   rows_load front [] few suit said lines last more b f =
       subst (λ (held : List HeldRow). LoadsOn (holding b held) lines last) (append-nil front) (more b f)
   rows_load front (h ∷ rest) few suit said lines last more b f =
       let says = All-head IsHeldBySaying h rest said in
-      let free = suits_free a front h.relation h.row (All-head (λ (g : HeldRow). suit_refusal a g.relation g.row ≡ None) h rest suit) (omega (arith, few)) in
+      let free = suits_free a front h.relation h.row
+      (All-head (λ (g : HeldRow). suit_refusal a g.relation g.row ≡ None) h rest suit) (omega (arith, few)) in
       let one = length-append front (h ∷ []) in
       one_line (holding b front) h.line (map (λ (g : HeldRow). g.line) rest ++ lines) (holding a (front ++ h ∷ [])) last
       (line_respects (holding b front) h.line (Add h.relation h.row) (holding a (front ++ h ∷ [])) says.said
       (hold_respects a b f h.line front h.relation h.row free))
       (from_holding a (front ++ h ∷ []) (map (λ (g : HeldRow). g.line) rest ++ lines) last
       (rows_load (front ++ h ∷ []) rest (omega (arith, few, one))
-      (All-tail (λ (g : HeldRow). suit_refusal a g.relation g.row ≡ None) h rest suit) (All-tail IsHeldBySaying h rest said) lines last
-      (subst (λ (held : List HeldRow). (n : Store) → Follows a n → LoadsOn (holding n held) lines last) (sym (append_assoc front (h ∷ []) rest)) more)))
+      (All-tail (λ (g : HeldRow). suit_refusal a g.relation g.row ≡ None) h rest suit)
+      (All-tail IsHeldBySaying h rest said) lines last
+      (subst (λ (held : List HeldRow). (n : Store) → Follows a n → LoadsOn (holding n held) lines last)
+      (sym (append_assoc front (h ∷ []) rest)) more)))
 
   -- A batch that was done can be loaded whole.
   pub batch_loads : (held : List HeldRow) → IsSoundBatch a held → HavePlaces a held
       → GroupRespects a (codes "batch" ∷ map (λ (h : HeldRow). h.line) held ++ codes "done" ∷ []) (store_behind a held)
   batch_loads held sound places b f rest last more =
       let lines = map (λ (h : HeldRow). h.line) held in
-      subst (λ (ls : List Bytes). LoadsOn (loading b) (codes "batch" ∷ ls) last) (sym (append_assoc lines (codes "done" ∷ []) rest))
+      subst (λ (ls : List Bytes). LoadsOn (loading b) (codes "batch" ∷ ls) last)
+      (sym (append_assoc lines (codes "done" ∷ []) rest))
       (one_line (loading b) (codes "batch") (lines ++ codes "done" ∷ rest) (holding a []) last
-      (line_respects (loading b) (codes "batch") Batch (holding a []) batch_reads (batch_respects a b f (codes "batch")))
+      (line_respects (loading b) (codes "batch") Batch (holding a []) batch_reads
+      (batch_respects a b f (codes "batch")))
       (from_holding a [] (lines ++ codes "done" ∷ rest) last
       (rows_load [] held (omega (arith, sound.few)) sound.suit sound.lines (codes "done" ∷ rest) last ends)))
     where
@@ -173,8 +189,10 @@ module _ (a : Store) where
           (from_closed (store_behind a held) rest last more)
 
   -- So can a line outside a batch.
-  pub line_loads : (l : Bytes) (c : Command) (to : Store) → reading_of l ≡ says_command c → ((b : Store) → Follows a b → Respects b c to)
+  pub line_loads : (l : Bytes) (c : Command) (to : Store) → reading_of l ≡ says_command c
+      → ((b : Store) → Follows a b → Respects b c to)
       → GroupRespects a (l ∷ []) to
   line_loads l c to is r b f rest last more =
-      one_line (loading b) l rest (loading to) last (line_respects (loading b) l c (loading to) is (closed_respects b to l c (r b f)))
+      one_line (loading b) l rest (loading to) last
+      (line_respects (loading b) l c (loading to) is (closed_respects b to l c (r b f)))
       (from_closed to rest last more)

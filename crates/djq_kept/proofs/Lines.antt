@@ -15,13 +15,15 @@ use Rattle.djq_kept.specs.Kept.{KeptAreLines}
 abbrev IsGroup : Group → Type 0
 IsGroup group = (1 ≤ length group) × All IsLine group
 
-step_lines : (old : State) → HoldLines old → (event : Event) (k : Keeping) (e : Effect) → e.kept ≡ k → (mid : State) → Acts old event e mid
+step_lines : (old : State) → HoldLines old → (event : Event) (k : Keeping) (e : Effect) → e.kept ≡ k → (mid : State)
+    → Acts old event e mid
     → All IsGroup (group_of event k)
 step_lines old hold (stepped s (run l)) k e is mid h = by k is
   where
     one : (group : Group) → groups_in l e.kept ≡ group ∷ [] → 1 ≤ length group → All IsGroup (group ∷ [])
     one group same some =
-        All-cons IsGroup group [] (some, All-from_recursion IsLine group (kept_lines old s l e mid h hold group same)) (All-nil IsGroup)
+        All-cons IsGroup group [] (some, All-from_recursion IsLine group (kept_lines old s l e mid h hold group same))
+        (All-nil IsGroup)
 
     by : (k : Keeping) → e.kept ≡ k → All IsGroup (groups_in l k)
     by no_line is = All-nil IsGroup

@@ -66,7 +66,8 @@ command_loaded a to Abandon h b f = let e = h.0 in absurd (cc (e))
 command_loaded a to Quit h b f = let e = h.0 in absurd (cc (e))
 command_loaded a to Stop h b f = let e = h.0 in absurd (cc (e))
 
-closed_loaded : (a : Store) (l : Bytes) (c : Command) (to : Loading) → CommandLoads (loading a) l c ran to → (b : Store) → Follows a b
+closed_loaded : (a : Store) (l : Bytes) (c : Command) (to : Loading) → CommandLoads (loading a) l c ran to
+    → (b : Store) → Follows a b
     → CommandRespects (loading b) l c to
 closed_loaded a l Batch to (inl h) b f =
     subst (λ (k : Loading). CommandRespects (loading b) l Batch k) (sym h.1) (batch_respects a b f l)
@@ -76,7 +77,8 @@ closed_loaded a l c to h b f =
     (closed_respects b to.store l c (command_loaded a to.store c h.0 b f))
 
 -- So can one that was loaded where a batch was open.
-open_loaded : (a : Store) (held : List HeldRow) (l : Bytes) (c : Command) (to : Loading) → CommandLoads (holding a held) l c ran to → (b : Store)
+open_loaded : (a : Store) (held : List HeldRow) (l : Bytes) (c : Command) (to : Loading)
+    → CommandLoads (holding a held) l c ran to → (b : Store)
     → Follows a b → CommandRespects (holding b held) l c to
 open_loaded a held l (Add name row) to (Ok u, k, e, same) b f =
     subst (λ (n : Loading). CommandRespects (holding b held) l (Add name row) n) (sym same)
@@ -84,13 +86,15 @@ open_loaded a held l (Add name row) to (Ok u, k, e, same) b f =
 open_loaded a held l (Add name row) to (Err r, k, e, same) b f = absurd (not_ran r e)
 open_loaded a held l Done to (Ok n, k, e, closed) b f =
     of_batch (λ (m : Loading). CommandRespects (holding b held) l Done m) to None closed
-    (subst (λ (st : Store). CommandRespects (holding b held) l Done (loading st)) (sym k.2) (done_respects a b f l held k.0))
+    (subst (λ (st : Store). CommandRespects (holding b held) l Done (loading st)) (sym k.2)
+    (done_respects a b f l held k.0))
 open_loaded a held l Done to (Err r, k, e, closed) b f = absurd (not_ran r e)
 open_loaded a held l Abandon to h b f =
     subst (λ (k : Loading). CommandRespects (holding b held) l Abandon k) (sym h.1) (abandon_respects a b f l held)
 open_loaded a held l c to h b f = let e = h.0 in absurd (cc (e))
 
-loaded_again : (a : Loading) (l : Bytes) (c : Command) (to : Loading) → CommandLoads a l c ran to → (b : Loading) → LoadingFollows a b
+loaded_again : (a : Loading) (l : Bytes) (c : Command) (to : Loading) → CommandLoads a l c ran to → (b : Loading)
+    → LoadingFollows a b
     → CommandRespects b l c to
 loaded_again a l c to h b f = by a.batch refl
   where
@@ -105,7 +109,8 @@ loaded_again a l c to h b f = by a.batch refl
         of_batch (λ (k : Loading). CommandRespects k l c to) b (Some held) (f.batch ∙ e)
         (open_loaded a.store held l c to (at (Some held) e) b.store f.store)
 
-line_loaded : (a : Loading) (l : Bytes) (to : Loading) → LoadStep a l ran to → (b : Loading) → LoadingFollows a b → LineRespects b l to
+line_loaded : (a : Loading) (l : Bytes) (to : Loading) → LoadStep a l ran to → (b : Loading) → LoadingFollows a b
+    → LineRespects b l to
 line_loaded a l to step b f = by (reading_of l) refl step.loads
   where
     by : (r : Reading) → reading_of l ≡ r → ReadingLoads a l r ran step.mid → LineRespects b l to
@@ -118,11 +123,13 @@ line_loaded a l to step b f = by (reading_of l) refl step.loads
     by (says_command c) is (inr h) = let e = h.2 in absurd (cc (e))
 
 -- Lines that were loaded load again, and further ones behind them.
-found_loads : (from : Loading) (found : List Bytes) (mid : Loading) → Loads from found mid → (other : Loading) → LoadingFollows from other → (rest : List Bytes)
+found_loads : (from : Loading) (found : List Bytes) (mid : Loading) → Loads from found mid → (other : Loading)
+    → LoadingFollows from other → (rest : List Bytes)
     (to : Loading) → ((b : Loading) → LoadingFollows mid b → LoadsOn b rest to) → LoadsOn other (found ++ rest) to
 found_loads from [] mid w other f rest to more = more other (subst (λ (k : Loading). LoadingFollows k other) (sym w) f)
 found_loads from (l ∷ ls) mid w other f rest to more =
-    one_line other l (ls ++ rest) w.0 to (line_loaded from l w.0 w.1 other f) (λ b k. found_loads w.0 ls mid w.2 b k rest to more)
+    one_line other l (ls ++ rest) w.0 to (line_loaded from l w.0 w.1 other f)
+    (λ b k. found_loads w.0 ls mid w.2 b k rest to more)
 
 opening_follows : Follows opening.store opening.store
 opening_follows = record {
@@ -132,7 +139,8 @@ opening_follows = record {
   once = nothing_apart (λ a b. a ≢ b);
 }
 
-found_on : (found : List Bytes) (mid : Loading) → Loads (loading opening.store) found mid → (rest : List Bytes) (to : Loading)
+found_on : (found : List Bytes) (mid : Loading) → Loads (loading opening.store) found mid
+    → (rest : List Bytes) (to : Loading)
     → ((b : Loading) → LoadingFollows mid b → LoadsOn b rest to) → LoadsOn (loading opening.store) (found ++ rest) to
 found_on found mid loads rest to more =
     found_loads (loading opening.store) found mid loads (loading opening.store)
@@ -154,14 +162,20 @@ abandon_ends left held e b f =
     (abandon_respects left.store b.store f.store (codes "abandon") held))
 
 pub abandon_runs : AbandonRuns
-abandon_runs old how new step is_open = by old.batch refl is_open (subst (λ (r : Reading). ReadingLoads old (codes "abandon") r how step.mid) abandon_reads step.loads)
+abandon_runs old how new step is_open =
+    by old.batch refl is_open
+    (subst (λ (r : Reading). ReadingLoads old (codes "abandon") r how step.mid) abandon_reads step.loads)
   where
-    ends : (held : List HeldRow) → old.batch ≡ Some held → CommandLoads old (codes "abandon") Abandon how step.mid → (how ≡ ran) × (new.batch ≡ None)
+    ends : (held : List HeldRow) → old.batch ≡ Some held → CommandLoads old (codes "abandon") Abandon how step.mid
+        → (how ≡ ran) × (new.batch ≡ None)
     ends held e h =
-        let k = subst (λ (o : Option (List HeldRow)). CommandLoads (record { store = old.store; batch = o }) (codes "abandon") Abandon how step.mid) e h in
+        let k = subst
+        (λ (o : Option (List HeldRow)). CommandLoads (record { store = old.store; batch = o })
+        (codes "abandon") Abandon how step.mid) e h in
         (k.0, ap (λ (n : Loading). n.batch) step.after ∙ ap (λ (n : Loading). n.batch) k.1)
 
-    by : (o : Option (List HeldRow)) → old.batch ≡ o → IsSome o → ReadingLoads old (codes "abandon") (says_command Abandon) how step.mid
+    by : (o : Option (List HeldRow)) → old.batch ≡ o → IsSome o
+        → ReadingLoads old (codes "abandon") (says_command Abandon) how step.mid
         → (how ≡ ran) × (new.batch ≡ None)
     by None e some h = absurd (false≢true some)
     by (Some held) e some (inl h) = ends held e h
@@ -170,7 +184,8 @@ abandon_runs old how new step is_open = by old.batch refl is_open (subst (λ (r 
 pub abandoned_are_loaded : AbandonedAreLoaded
 abandoned_are_loaded found left loads is_open = by left.batch refl is_open
   where
-    by : (o : Option (List HeldRow)) → left.batch ≡ o → IsSome o → LoadsTo opening.store (found ++ codes "abandon" ∷ []) left.store
+    by : (o : Option (List HeldRow)) → left.batch ≡ o → IsSome o
+        → LoadsTo opening.store (found ++ codes "abandon" ∷ []) left.store
     by None e h = absurd (false≢true h)
     by (Some held) e h =
         found_on found left loads (codes "abandon" ∷ []) (loading left.store)
@@ -195,7 +210,8 @@ group_rest : (g h : Group) (gs hs : List Group) → g ∷ gs ≡ h ∷ hs → gs
 group_rest g h gs hs e = cc
 
 -- a step in front that kept these groups
-did_more : (old : State) (d : Did) (done : List Did) (new : State) (w : Run old (d ∷ done) new) (first groups : List Group) → group_of d.event d.effect.kept ≡ first
+did_more : (old : State) (d : Did) (done : List Did) (new : State) (w : Run old (d ∷ done) new)
+    (first groups : List Group) → group_of d.event d.effect.kept ≡ first
     → StoodAt w.0 done new groups → StoodAt old (d ∷ done) new (first ++ groups)
 did_more old d done new w first groups e at = record {
   earlier = d ∷ at.earlier;
@@ -207,20 +223,25 @@ did_more old d done new w first groups e at = record {
   kept = ap (λ (gs : List Group). gs ++ groups_of at.earlier) e ∙ ap (λ (gs : List Group). first ++ gs) at.kept;
 }
 
-stood_at : (old : State) (done : List Did) (new : State) → Run old done new → (whole later : List Group) → groups_of done ≡ whole ++ later → StoodAt old done new whole
+stood_at : (old : State) (done : List Did) (new : State) → Run old done new → (whole later : List Group)
+    → groups_of done ≡ whole ++ later → StoodAt old done new whole
 stood_at old done new w [] later e = at_start old done new w
 stood_at old [] new w (g ∷ gs) later e = absurd (cc (e))
 stood_at old (d ∷ done) new w (g ∷ gs) later e =
-    by (group_cases d.event d.effect.kept) (λ k. stood_at w.0 done new w.2 (g ∷ gs) later k) (λ k. stood_at w.0 done new w.2 gs later k)
+    by (group_cases d.event d.effect.kept) (λ k. stood_at w.0 done new w.2 (g ∷ gs) later k)
+    (λ k. stood_at w.0 done new w.2 gs later k)
   where
     by : (group_of d.event d.effect.kept ≡ []) ⊎ ((h : Group) × (group_of d.event d.effect.kept ≡ h ∷ []))
-        → (groups_of done ≡ g ∷ gs ++ later → StoodAt w.0 done new (g ∷ gs)) → (groups_of done ≡ gs ++ later → StoodAt w.0 done new gs)
+        → (groups_of done ≡ g ∷ gs ++ later → StoodAt w.0 done new (g ∷ gs))
+        → (groups_of done ≡ gs ++ later → StoodAt w.0 done new gs)
         → StoodAt old (d ∷ done) new (g ∷ gs)
-    by (inl k) same less = did_more old d done new w [] (g ∷ gs) k (same (sym (ap (λ (hs : List Group). hs ++ groups_of done) k) ∙ e))
+    by (inl k) same less =
+        did_more old d done new w [] (g ∷ gs) k (same (sym (ap (λ (hs : List Group). hs ++ groups_of done) k) ∙ e))
     by (inr (h, k)) same less =
         let all : h ∷ groups_of done ≡ g ∷ (gs ++ later) = sym (ap (λ (hs : List Group). hs ++ groups_of done) k) ∙ e in
         let first = group_first h g (groups_of done) (gs ++ later) all in
-        did_more old d done new w (g ∷ []) gs (k ∙ ap (λ (x : Group). x ∷ []) first) (less (group_rest h g (groups_of done) (gs ++ later) all))
+        did_more old d done new w (g ∷ []) gs (k ∙ ap (λ (x : Group). x ∷ []) first)
+        (less (group_rest h g (groups_of done) (gs ++ later) all))
 
 pub stops_reload : StopsReload
 stops_reload found old loads done new w sound whole later e =

@@ -53,27 +53,33 @@ data ActKeeps (old : State) (event : Event) (e : Effect) (mid : State) : Type 0 
 grows : (old mid : State) → mid.store ≡ old.store → Grows old.store mid.store
 grows old mid e = grows_same old.store mid.store e
 
-module _ (old : State) (s : ℕ) (l rest : Bytes) (y : Session) (sound : IfSome y.batch (IsSoundBatch old.store)) (e : Effect) (mid : State) where
+module _ (old : State) (s : ℕ) (l rest : Bytes) (y : Session) (sound : IfSome y.batch (IsSoundBatch old.store))
+    (e : Effect) (mid : State) where
   abbrev read_from : State
   read_from = with_session old s (behind_line rest)
 
   refused_keeps : (r : Refusal) → RefusedStep read_from s r e mid → ActKeeps old (stepped s (run l)) e mid
   refused_keeps r h =
-      act_none (ap (λ (f : Effect). group_of (stepped s (run l)) f.kept) h.0) (grows old mid (ap (λ (st : State). st.store) h.1))
+      act_none (ap (λ (f : Effect). group_of (stepped s (run l)) f.kept) h.0)
+      (grows old mid (ap (λ (st : State). st.store) h.1))
 
-  carried_keeps : (c : Command) → reading_of l ≡ says_command c → Keeps old.store y.batch c e.kept mid.store → ActKeeps old (stepped s (run l)) e mid
+  carried_keeps : (c : Command) → reading_of l ≡ says_command c → Keeps old.store y.batch c e.kept mid.store
+      → ActKeeps old (stepped s (run l)) e mid
   carried_keeps c is (is_kept k f) = act_group (l ∷ []) (ap (groups_in l) k) (line_loads old.store l c mid.store is f)
   carried_keeps c is (is_batch held batch k places to) =
       act_group (codes "batch" ∷ map (λ (h : HeldRow). h.line) held ++ codes "done" ∷ []) (ap (groups_in l) k)
-      (subst (λ (st : Store). GroupRespects old.store (codes "batch" ∷ map (λ (h : HeldRow). h.line) held ++ codes "done" ∷ []) st) (sym to)
-      (batch_loads old.store held (subst (λ (o : Option (List HeldRow)). IfSome o (IsSoundBatch old.store)) batch sound) places))
+      (subst (λ (st : Store). GroupRespects old.store
+      (codes "batch" ∷ map (λ (h : HeldRow). h.line) held ++ codes "done" ∷ []) st) (sym to)
+      (batch_loads old.store held
+      (subst (λ (o : Option (List HeldRow)). IfSome o (IsSoundBatch old.store)) batch sound) places))
   carried_keeps c is (is_left k g) = act_none (ap (groups_in l) k) g
 
   read_keeps : Reads read_from s y l (reading_of l) e mid → ActKeeps old (stepped s (run l)) e mid
   read_keeps (turned_down r because h) = refused_keeps r h
   read_keeps (carried_out c is h) = carried_keeps c is (command_keeps read_from s y l c e mid h)
 
-front_keeps : (old : State) (s : ℕ) (x : Session) → IfSome x.batch (IsSoundBatch old.store) → (o : LineOutcome) (e : Effect) (mid : State)
+front_keeps : (old : State) (s : ℕ) (x : Session) → IfSome x.batch (IsSoundBatch old.store)
+    → (o : LineOutcome) (e : Effect) (mid : State)
     → FrontStep old s x o e mid → ActKeeps old (stepped s o) e mid
 front_keeps old s x sound long e mid h = act_none refl (grows old mid (ap (λ (st : State). st.store) h.1.1))
 front_keeps old s x sound (blank l) e mid h = act_none refl (grows old mid (ap (λ (st : State). st.store) h.1.then.1))
@@ -85,44 +91,55 @@ front_keeps old s x sound (run l) e mid h =
     read_keeps old s l rest y sound e mid
     (line_reads (with_session old s (behind_line rest)) s y l (reading_of l) e mid h.2.then)
 
-opened_store : (P : Type 0) (old : State) (s : ℕ) (mid : State) → (P × (mid ≡ record old { sessions = old.sessions ++ fresh s ∷ [] })) ⊎ (mid ≡ old)
+opened_store : (P : Type 0) (old : State) (s : ℕ) (mid : State)
+    → (P × (mid ≡ record old { sessions = old.sessions ++ fresh s ∷ [] })) ⊎ (mid ≡ old)
     → mid.store ≡ old.store
 opened_store P old s mid (inl k) = ap (λ (st : State). st.store) k.1
 opened_store P old s mid (inr k) = ap (λ (st : State). st.store) k
 
 fed_store : (old : State) (s : ℕ) (bytes : Bytes) (e : Effect) (mid : State) (c : Option EndCause)
-    → MatchOption c (((e ≡ nothing) × (mid ≡ with_session old s (λ y. record y { held = y.held ++ bytes }))) ⊎ EndsWith end_memory Memory old s e mid)
+    → MatchOption c
+    (((e ≡ nothing) ×
+    (mid ≡ with_session old s (λ y. record y { held = y.held ++ bytes }))) ⊎ EndsWith end_memory Memory old s e mid)
     (λ _. (e ≡ nothing) × (mid ≡ old)) → mid.store ≡ old.store
 fed_store old s bytes e mid None (inl h) = ap (λ (st : State). st.store) h.1
 fed_store old s bytes e mid None (inr h) = ap (λ (st : State). st.store) h.1
 fed_store old s bytes e mid (Some c) h = ap (λ (st : State). st.store) h.1
 
 ended_store : (P Q : Type 0) (old : State) (s : ℕ) (e : Effect) (mid : State) (c : Option EndCause)
-    → MatchOption c (P × Q × (mid ≡ with_session old s (ended_by Input))) (λ _. (e ≡ nothing) × (mid ≡ old)) → mid.store ≡ old.store
+    → MatchOption c (P × Q × (mid ≡ with_session old s (ended_by Input))) (λ _. (e ≡ nothing) × (mid ≡ old))
+    → mid.store ≡ old.store
 ended_store P Q old s e mid None h = ap (λ (st : State). st.store) h.2
 ended_store P Q old s e mid (Some c) h = ap (λ (st : State). st.store) h.1
 
 -- the batch of an open session
-batch_sound : (old : State) → IsSoundState old → (s : ℕ) (x : Session) → session_of old s ≡ Some x → IfSome x.batch (IsSoundBatch old.store)
+batch_sound : (old : State) → IsSoundState old → (s : ℕ) (x : Session) → session_of old s ≡ Some x
+    → IfSome x.batch (IsSoundBatch old.store)
 batch_sound old sound s x is =
     (all_found (IsSoundSession old.store) (λ (y : Session). y.id == s) old.sessions x sound.sessions is).batch
 
-acts_keep : (old : State) → IsSoundState old → (event : Event) (e : Effect) (mid : State) → Acts old event e mid → ActKeeps old event e mid
+acts_keep : (old : State) → IsSoundState old → (event : Event) (e : Effect) (mid : State) → Acts old event e mid
+    → ActKeeps old event e mid
 acts_keep old sound (opened s) e mid h = act_none refl (grows old mid (opened_store _ old s mid h.2))
 acts_keep old sound (fed s bytes) e mid h =
-    let f = some_and (session_of old s) (λ x. FedStep old s bytes x e mid) h in act_none refl (grows old mid (fed_store old s bytes e mid (f.0).cause f.2))
+    let f = some_and (session_of old s) (λ x. FedStep old s bytes x e mid) h in act_none refl
+    (grows old mid (fed_store old s bytes e mid (f.0).cause f.2))
 acts_keep old sound (stepped s o) e mid h =
-    let f = some_and (session_of old s) (λ x. (x.cause ≡ None) × FrontStep old s x o e mid) h in front_keeps old s f.0 (batch_sound old sound s f.0 f.1) o e mid f.2.1
+    let f = some_and (session_of old s) (λ x. (x.cause ≡ None) × FrontStep old s x o e mid) h in front_keeps old s f.0
+    (batch_sound old sound s f.0 f.1) o e mid f.2.1
 acts_keep old sound (took s bytes) e mid h =
-    let f = some_and (session_of old s) (λ x. TookStep old s bytes x e mid) h in act_none refl (grows old mid (ap (λ (st : State). st.store) f.2.1.2))
+    let f = some_and (session_of old s) (λ x. TookStep old s bytes x e mid) h in act_none refl
+    (grows old mid (ap (λ (st : State). st.store) f.2.1.2))
 acts_keep old sound (ended s) e mid h =
-    let f = some_and (session_of old s) (λ x. EndedStep old s x e mid) h in act_none refl (grows old mid (ended_store _ _ old s e mid (f.0).cause f.2))
+    let f = some_and (session_of old s) (λ x. EndedStep old s x e mid) h in act_none refl
+    (grows old mid (ended_store _ _ old s e mid (f.0).cause f.2))
 acts_keep old sound (closed s bytes) e mid h = act_none refl (grows old mid (ap (λ (st : State). st.store) h.2))
 
 -- ---- a run
 
 -- a step more
-step_on : (old : State) → IsSoundState old → (d : Did) (done : List Did) (new : State) (w : Run old (d ∷ done) new) (from : Store) → Follows old.store from
+step_on : (old : State) → IsSoundState old
+    → (d : Did) (done : List Did) (new : State) (w : Run old (d ∷ done) new) (from : Store) → Follows old.store from
     → ((b : Store) → Follows w.0.store b → LoadsTo b (lines_in (groups_of done)) new.store)
     → LoadsTo from (lines_in (group_of d.event d.effect.kept ++ groups_of done)) new.store
 step_on old sound d done new w from f more = by (acts_keep old sound d.event d.effect mid step.acts)
@@ -137,9 +154,12 @@ step_on old sound d done new w from f more = by (acts_keep old sound d.event d.e
     now = ap (λ (st : State). st.store) step.queued ∙ queued_store (with_relations mid step.relations) d.effect.queued
 
     further : (b : Store) → Follows mid.store b → LoadsTo b (lines_in (groups_of done)) new.store
-    further b k = more b (subst (λ (st : Store). Follows st b) (sym now) (follows_left mid.store b step.relations step.reordered k))
+    further b k =
+        more b (subst (λ (st : Store). Follows st b) (sym now)
+        (follows_left mid.store b step.relations step.reordered k))
 
-    by : ActKeeps old d.event d.effect mid → LoadsTo from (lines_in (group_of d.event d.effect.kept ++ groups_of done)) new.store
+    by : ActKeeps old d.event d.effect mid
+        → LoadsTo from (lines_in (group_of d.event d.effect.kept ++ groups_of done)) new.store
     by (act_group group is loads) =
         subst (λ (gs : List Group). LoadsTo from (lines_in (gs ++ groups_of done)) new.store) (sym is)
         (loads from f (lines_in (groups_of done)) (loading new.store) further)

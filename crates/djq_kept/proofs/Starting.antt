@@ -42,17 +42,24 @@ closed_sound : (st : Store) → IsSoundStore st → IsSoundLoading (loading st)
 closed_sound st sound = record { store = sound; batch = tt }
 
 -- a command outside a batch
-command_sound : (old : Store) (c : Command) (how : Loaded) (new : Store) → StoreLoads old c how new → IsSoundStore old → IsSoundStore new
-command_sound old (Rel name types) how new (r, made, e) sound = stored_sound (λ q. false) old new (rel_stored (λ q. false) old new name types r made) sound
-command_sound old (Register q) how new (r, made, e) sound = stored_sound (λ p. false) old new (query_stored (λ p. false) old new q r made) sound
-command_sound old (Drop q) how new (r, made, e) sound = stored_sound (λ p. false) old new (drop_stored (λ p. false) old new q r made) sound
+command_sound : (old : Store) (c : Command) (how : Loaded) (new : Store) → StoreLoads old c how new → IsSoundStore old
+    → IsSoundStore new
+command_sound old (Rel name types) how new (r, made, e) sound =
+    stored_sound (λ q. false) old new (rel_stored (λ q. false) old new name types r made) sound
+command_sound old (Register q) how new (r, made, e) sound =
+    stored_sound (λ p. false) old new (query_stored (λ p. false) old new q r made) sound
+command_sound old (Drop q) how new (r, made, e) sound =
+    stored_sound (λ p. false) old new (drop_stored (λ p. false) old new q r made) sound
 command_sound old (Add name row) how new (r, made, e) sound =
-    made_sound (row_comes name row) old (add_outcome (row_in old.relations name row) r) new (added old name row r new made) tt sound
+    made_sound (row_comes name row) old (add_outcome (row_in old.relations name row) r) new
+    (added old name row r new made) tt sound
 command_sound old (Del name row) how new (r, made, e) sound =
-    made_sound (row_goes name row) old (delete_outcome (row_out old.relations name row) r) new (deleted old name row r new made) tt sound
+    made_sound (row_goes name row) old (delete_outcome (row_out old.relations name row) r) new
+    (deleted old name row r new made) tt sound
 command_sound old c how new h sound = stays_sound old new h.1 sound
 
-outside_sound : (old : Store) (l : Bytes) (c : Command) (how : Loaded) (new : Loading) → CommandLoads (loading old) l c how new → IsSoundStore old
+outside_sound : (old : Store) (l : Bytes) (c : Command) (how : Loaded) (new : Loading)
+    → CommandLoads (loading old) l c how new → IsSoundStore old
     → IsSoundLoading new
 outside_sound old l Batch how new (inl h) sound =
     stays_so (holding old []) new h.1 (record {
@@ -68,7 +75,8 @@ outside_sound old l c how new h sound =
     of_batch IsSoundLoading new None h.1 (closed_sound new.store (command_sound old c how new.store h.0 sound))
 
 -- a command where a batch is open
-within_sound : (old : Store) (held : List HeldRow) (l : Bytes) (c : Command) → reading_of l ≡ says_command c → (how : Loaded) (new : Loading)
+within_sound : (old : Store) (held : List HeldRow) (l : Bytes) (c : Command) → reading_of l ≡ says_command c
+    → (how : Loaded) (new : Loading)
     → CommandLoads (holding old held) l c how new → IsSoundLoading (holding old held) → IsSoundLoading new
 within_sound old held l (Add name row) said how new (Ok u, k, e, same) sound =
     let more : HeldRow = record { line = l; relation = name; row = row } in
@@ -77,15 +85,18 @@ within_sound old held l (Add name row) said how new (Ok u, k, e, same) sound =
       batch = held_more old held more (none_of (hold_refusal old held name row) u (λ _. ⊤) (OutOfMemoryWhere ⊤) k)
           (record { said = said }) sound.batch;
     })
-within_sound old held l (Add name row) said how new (Err r, k, e, same) sound = stays_so (holding old held) new same sound
+within_sound old held l (Add name row) said how new (Err r, k, e, same) sound =
+    stays_so (holding old held) new same sound
 within_sound old held l Done said how new (r, m, e, closed) sound =
     of_batch IsSoundLoading new None closed
     (closed_sound new.store
-    (made_sound (rows_come held) old (batch_outcome old held r) new.store (batched old held r new.store m) sound.batch.suit sound.store))
+    (made_sound (rows_come held) old (batch_outcome old held r) new.store
+    (batched old held r new.store m) sound.batch.suit sound.store))
 within_sound old held l Abandon said how new h sound = stays_so (loading old) new h.1 (closed_sound old sound.store)
 within_sound old held l c said how new h sound = stays_so (holding old held) new h.1 sound
 
-reading_sound : (old : Loading) (l : Bytes) (r : Reading) → reading_of l ≡ r → (how : Loaded) (new : Loading) → ReadingLoads old l r how new
+reading_sound : (old : Loading) (l : Bytes) (r : Reading) → reading_of l ≡ r → (how : Loaded) (new : Loading)
+    → ReadingLoads old l r how new
     → IsSoundLoading old → IsSoundLoading new
 reading_sound old l outside is how new h sound = stays_so old new h.1 sound
 reading_sound old l (past_limit c) is how new h sound = stays_so old new h.1 sound
@@ -95,26 +106,31 @@ reading_sound old l (says_command c) is how new (inl h) sound = by old.batch ref
     at : (o : Option (List HeldRow)) → old.batch ≡ o → IsSoundLoading (record { store = old.store; batch = o })
     at o e = subst (λ (k : Option (List HeldRow)). IsSoundLoading (record { store = old.store; batch = k })) e sound
 
-    loads : (o : Option (List HeldRow)) → old.batch ≡ o → CommandLoads (record { store = old.store; batch = o }) l c how new
-    loads o e = subst (λ (k : Option (List HeldRow)). CommandLoads (record { store = old.store; batch = k }) l c how new) e h
+    loads : (o : Option (List HeldRow)) → old.batch ≡ o
+        → CommandLoads (record { store = old.store; batch = o }) l c how new
+    loads o e =
+        subst (λ (k : Option (List HeldRow)). CommandLoads (record { store = old.store; batch = k }) l c how new) e h
 
     by : (o : Option (List HeldRow)) → old.batch ≡ o → IsSoundLoading new
     by None e = outside_sound old.store l c how new (loads None e) sound.store
     by (Some held) e = within_sound old.store held l c is how new (loads (Some held) e) (at (Some held) e)
 
-line_sound : (old : Loading) (line : Bytes) (new : Loading) → LoadStep old line ran new → IsSoundLoading old → IsSoundLoading new
+line_sound : (old : Loading) (line : Bytes) (new : Loading) → LoadStep old line ran new → IsSoundLoading old
+    → IsSoundLoading new
 line_sound old line new h sound =
     let mid = reading_sound old line (reading_of line) refl ran h.mid h.loads sound in
     let after : Store = record h.mid.store { relations = h.relations } in
     stays_so (record h.mid { store = after }) new h.after (record {
       store = moved_store h.mid.store h.relations h.reordered mid.store;
       batch = batch_still h.mid.store after
-          (types_suit h.mid.store after (types_moved h.mid.store.relations h.relations h.reordered)) h.mid.batch mid.batch;
+          (types_suit h.mid.store after
+          (types_moved h.mid.store.relations h.relations h.reordered)) h.mid.batch mid.batch;
     })
 
 pub found_is_start : FoundIsStart
 found_is_start found st loads none going = record {
-  store = (walk_keeps (λ old line new. LoadStep old line ran new) IsSoundLoading line_sound (loading opening.store) found
+  store =
+      (walk_keeps (λ old line new. LoadStep old line ran new) IsSoundLoading line_sound (loading opening.store) found
       (loading st.store) loads (closed_sound opening.store opening_is_start.store)).store;
   none = none;
   going = going;

@@ -22,7 +22,8 @@ utf8 bs h = is_utf8-from_IsUtf8 bs (IsUtf8-from_ascii bs (ascii bs h))
 
 pub batch_reads : reading_of (codes "batch") ≡ says_command Batch
 unfolding command_of tokens
-batch_reads = ap (λ (b : Bool). reading_in (cond b (command_in (tokens (codes "batch"))) None)) (utf8 (codes "batch") refl)
+batch_reads =
+    ap (λ (b : Bool). reading_in (cond b (command_in (tokens (codes "batch"))) None)) (utf8 (codes "batch") refl)
 
 pub done_reads : reading_of (codes "done") ≡ says_command Done
 unfolding command_of tokens
