@@ -60,7 +60,7 @@ pub follows_holding : (a b : Store) (held : List HeldRow) → Follows a b
     → LoadingFollows (holding a held) (holding b held)
 follows_holding a b held f = record { store = f; batch = refl }
 
--- what follows, by the batch of what it follows
+-- what holds of a loading, by whether its batch is open
 pub of_batch : (P : Loading → Type 0) (b : Loading) (o : Option (List HeldRow)) → b.batch ≡ o
     → P (record { store = b.store; batch = o }) → P b
 of_batch P b o e p = subst (λ (k : Option (List HeldRow)). P (record { store = b.store; batch = k })) (sym e) p

@@ -114,6 +114,10 @@ below n m few = at (nat_le n m) refl
     at false e = refl
     at true e = let least = leb-true n m e in absurd (omega (arith, few, least))
 
+-- the lines of a batch that is done
+abbrev pub batch_lines : List HeldRow → Group
+batch_lines held = codes "batch" ∷ map (λ (h : HeldRow). h.line) held ++ codes "done" ∷ []
+
 -- what suits a relation is held, where there is room
 suits_free : (a : Store) (held : List HeldRow) (name : Bytes) (row : Tuple) → suit_refusal a name row ≡ None
     → length held < HELD
@@ -170,7 +174,7 @@ module _ (a : Store) where
 
   -- A batch that was done can be loaded whole.
   pub batch_loads : (held : List HeldRow) → IsSoundBatch a held → HavePlaces a held
-      → GroupRespects a (codes "batch" ∷ map (λ (h : HeldRow). h.line) held ++ codes "done" ∷ []) (store_behind a held)
+      → GroupRespects a (batch_lines held) (store_behind a held)
   batch_loads held sound places b f rest last more =
       let lines = map (λ (h : HeldRow). h.line) held in
       subst (λ (ls : List Bytes). LoadsOn (loading b) (codes "batch" ∷ ls) last)

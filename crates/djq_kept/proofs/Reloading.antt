@@ -201,7 +201,8 @@ group_cases (stepped s (run l)) (the_batch held) = inr (codes "batch" ∷ held +
 group_cases _ _ = inl refl
 
 at_start : (old : State) (done : List Did) (new : State) → Run old done new → StoodAt old done new []
-at_start old done new w = record { earlier = []; later = done; cut = refl; mid = old; before = refl; behind = w; kept = refl }
+at_start old done new w =
+    record { earlier = []; later = done; cut = refl; mid = old; before = refl; behind = w; kept = refl }
 
 group_first : (g h : Group) (gs hs : List Group) → g ∷ gs ≡ h ∷ hs → g ≡ h
 group_first g h gs hs e = cc

@@ -1,6 +1,6 @@
 -- The lines that a run kept can be loaded, and give what it left.
 use Rattle.std.proofs.Common.{ℕ, List, [], ◌∷◌, ◌++◌, ◌≡◌, ◌⊎◌, inl, inr, refl, sym, ap, ◌∙◌, subst}
-use Rattle.std.specs.Prelude.{◌==◌, Option, None, Some, IfSome, MatchOption, map, codes}
+use Rattle.std.specs.Prelude.{◌==◌, Option, None, Some, IfSome, MatchOption}
 use Rattle.djq_model.specs.declared.relation.Relation.{Relation}
 use Rattle.djq_model.specs.Data.{Bytes}
 use Rattle.djq_lines.specs.declared.answer.EndCause.{EndCause}
@@ -25,7 +25,7 @@ use Rattle.djq_laws.proofs.Sounding.{step_sound}
 use Rattle.djq_kept.specs.Kept.{Follows, LoadsTo, KeptLinesLoad}
 use Rattle.djq_kept.proofs.Knowing.{known_trans}
 use Rattle.djq_kept.proofs.Following.{follows_left, follows_closed, no_lines}
-use Rattle.djq_kept.proofs.Holding.{GroupRespects, batch_loads, line_loads}
+use Rattle.djq_kept.proofs.Holding.{GroupRespects, batch_lines, batch_loads, line_loads}
 use Rattle.djq_kept.proofs.Keeping.{Grows, Keeps, is_kept, is_batch, is_left, grows_same, command_keeps}
 
 -- ---- what follows
@@ -67,9 +67,8 @@ module _ (old : State) (s : ℕ) (l rest : Bytes) (y : Session) (sound : IfSome 
       → ActKeeps old (stepped s (run l)) e mid
   carried_keeps c is (is_kept k f) = act_group (l ∷ []) (ap (groups_in l) k) (line_loads old.store l c mid.store is f)
   carried_keeps c is (is_batch held batch k places to) =
-      act_group (codes "batch" ∷ map (λ (h : HeldRow). h.line) held ++ codes "done" ∷ []) (ap (groups_in l) k)
-      (subst (λ (st : Store). GroupRespects old.store
-      (codes "batch" ∷ map (λ (h : HeldRow). h.line) held ++ codes "done" ∷ []) st) (sym to)
+      act_group (batch_lines held) (ap (groups_in l) k)
+      (subst (λ (st : Store). GroupRespects old.store (batch_lines held) st) (sym to)
       (batch_loads old.store held
       (subst (λ (o : Option (List HeldRow)). IfSome o (IsSoundBatch old.store)) batch sound) places))
   carried_keeps c is (is_left k g) = act_none (ap (groups_in l) k) g
