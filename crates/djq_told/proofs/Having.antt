@@ -21,7 +21,33 @@ use Rattle.djq_machine.specs.Effect.{Effect, nothing, EndsWith, queue, queue_all
 use Rattle.djq_machine.specs.Command.{with_watch, without_watch, with_batch, without_batch}
 use Rattle.djq_machine.specs.LineStep.{LineOutcome, long, blank, slow, no_room, run, ReadStep, FrontStep, behind_line}
 use Rattle.djq_machine.specs.Step.{Event, opened, fed, stepped, took, ended, closed, FedStep, TookStep, EndedStep, Acts, with_relations, Step}
-use Rattle.djq_laws.specs.Form.{form_of, Form, asking, storing, turning, changing, ending, Turn, opens_cursor, moves_cursor, closes_cursor, starts_watching, stops_watching, opens_batch, holds_row, closes_batch, Replied, is_whole, is_cut, without_cursor, Turned, DoesTurn, is_turned, is_refused, Does}
+use Rattle.djq_laws.specs.Form.{
+  form_of,
+  Form,
+  asking,
+  storing,
+  turning,
+  changing,
+  ending,
+  Turn,
+  opens_cursor,
+  moves_cursor,
+  closes_cursor,
+  starts_watching,
+  stops_watching,
+  opens_batch,
+  holds_row,
+  closes_batch,
+  Replied,
+  is_whole,
+  is_cut,
+  without_cursor,
+  Turned,
+  DoesTurn,
+  is_turned,
+  is_refused,
+  Does,
+}
 use Rattle.djq_laws.proofs.Changing.{all_dropped, all_mapped}
 use Rattle.djq_laws.proofs.Finding.{some_and}
 use Rattle.djq_laws.proofs.Forms.{command_does, Reads, turned_down, carried_out, line_reads}

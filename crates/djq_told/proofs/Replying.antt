@@ -1,5 +1,36 @@
 -- What each command that changes no rows is answered, by the forms of replies: lines that tell of no delta.
-use Rattle.std.specs.Prelude.{ℕ, List, [], ◌∷◌, ◌++◌, ◌==◌, ◌≡◌, ◌≤◌, ◌+◌, nat_le, ⊤, Bool, true, false, cond, Option, None, Some, IsSome, IfSome, IsSomeAnd, MatchOption, Result, Ok, Err, map, codes, filter, length, All}
+use Rattle.std.specs.Prelude.{
+  ℕ,
+  List,
+  [],
+  ◌∷◌,
+  ◌++◌,
+  ◌==◌,
+  ◌≡◌,
+  ◌≤◌,
+  ◌+◌,
+  nat_le,
+  ⊤,
+  Bool,
+  true,
+  false,
+  cond,
+  Option,
+  None,
+  Some,
+  IsSome,
+  IfSome,
+  IsSomeAnd,
+  MatchOption,
+  Result,
+  Ok,
+  Err,
+  map,
+  codes,
+  filter,
+  length,
+  All,
+}
 use Rattle.std.specs.List.{flat_map}
 use Rattle.std.specs.Fmt.{decimal}
 use Rattle.std.proofs.Common.{refl, sym, ap, ap₂, ◌∙◌, subst, inl, inr, arith, append_assoc, append-nil}
@@ -27,19 +58,103 @@ use Rattle.djq_lines.specs.declared.rest.NamedRest.{NamedRest}
 use Rattle.djq_lines.specs.declared.rest.QueryOutcome.{QueryOutcome}
 use Rattle.djq_lines.specs.declared.rest.QueryOutcome.TheVariants.{Registered, Cyclic, NotConnex}
 use Rattle.djq_lines.specs.declared.command.Command.{Command}
-use Rattle.djq_lines.specs.declared.command.Command.TheVariants.{Rel, Add, Del, Query as Register, Drop, Open, Next, Close, Has, Watch, Unwatch, Explain, Shape as AskShape, Batch, Done, Abandon, Quit, Stop}
+use Rattle.djq_lines.specs.declared.command.Command.TheVariants.{
+  Rel,
+  Add,
+  Del,
+  Query as Register,
+  Drop,
+  Open,
+  Next,
+  Close,
+  Has,
+  Watch,
+  Unwatch,
+  Explain,
+  Shape as AskShape,
+  Batch,
+  Done,
+  Abandon,
+  Quit,
+  Stop,
+}
 use Rattle.djq_lines.specs.declared.held.HeldRow.{HeldRow}
 use Rattle.djq_lines.specs.Grammar.{Reading, says as says_command}
 use Rattle.djq_lines.specs.declared.limits.TheConstants.{LINE_BYTES, HELD}
 use Rattle.djq_lines.specs.Conditions.{Answers, OutOfMemoryWhere}
 use Rattle.djq_lines.specs.Hypergraph.{edges_of, head_of, variable_names}
-use Rattle.djq_lines.specs.Reply.{cells_text, line, text_of, answer_line, last_line, listing_lines, ok_reply, add_reply, delete_reply, query_reply, has_reply, shape_reply, watch_reply, held_reply, done_reply, edges_text, rest_line, end_memory}
-use Rattle.djq_mirror.specs.Replies.{Reply, Node, leaf, trim, meet, done, opened as cursor_opened, added, removed, absent, batch_opened, row_held, batch_done, registered, cyclic, not_connex, answer, more, last, stale as gone_stale, had, shaped, watched, changed, counted, explained, refused, ended as is_ended, bye, joined, edges_line, reply_text, IsNumber, label_text as label_of, node_text as node_of}
+use Rattle.djq_lines.specs.Reply.{
+  cells_text,
+  line,
+  text_of,
+  answer_line,
+  last_line,
+  listing_lines,
+  ok_reply,
+  add_reply,
+  delete_reply,
+  query_reply,
+  has_reply,
+  shape_reply,
+  watch_reply,
+  held_reply,
+  done_reply,
+  edges_text,
+  rest_line,
+  end_memory,
+}
+use Rattle.djq_mirror.specs.Replies.{
+  Reply,
+  Node,
+  leaf,
+  trim,
+  meet,
+  done,
+  opened as cursor_opened,
+  added,
+  removed,
+  absent,
+  batch_opened,
+  row_held,
+  batch_done,
+  registered,
+  cyclic,
+  not_connex,
+  answer,
+  more,
+  last,
+  stale as gone_stale,
+  had,
+  shaped,
+  watched,
+  changed,
+  counted,
+  explained,
+  refused,
+  ended as is_ended,
+  bye,
+  joined,
+  edges_line,
+  reply_text,
+  IsNumber,
+  label_text as label_of,
+  node_text as node_of,
+}
 use Rattle.djq_machine.specs.State.{Store, State, Session, Cursor, Position, open_at, stale, cursor_of}
 use Rattle.djq_machine.specs.Effect.{Effect, RefusedStep}
 use Rattle.djq_machine.specs.Batch.{hold_refusal, AddsBatch}
 use Rattle.djq_machine.specs.Store.{row_refusals, RegistersQuery, RegistersAs, RefusedLate, query_refusal}
-use Rattle.djq_machine.specs.Command.{AddStep, HoldStep, QueryStep, NextStepAt, CloseStep, ExplainStepOf, TellsLines, explain_lines, CommandStep}
+use Rattle.djq_machine.specs.Command.{
+  AddStep,
+  HoldStep,
+  QueryStep,
+  NextStepAt,
+  CloseStep,
+  ExplainStepOf,
+  TellsLines,
+  explain_lines,
+  CommandStep,
+}
 use Rattle.djq_laws.specs.Sound.{IsSoundStore}
 use Rattle.djq_laws.proofs.Changing.{all_found}
 use Rattle.djq_laws.proofs.Forms.{done_of, none_holds}
@@ -543,7 +658,8 @@ command_replies s old t x l (Drop q) e new rowless h =
 command_replies s old t x l (Open c q) e new rowless h =
     one_line t _ e.queued _ (ok_form (codes "ok open") cursor_opened refl (λ name. refl) (tt, tt) h.result)
     (ap (λ (y : Effect). y.queued) h.effect)
-command_replies s old t x l (Next c count) e new rowless h = next_replies s old t x c count e new (cursor_of x.cursors c) refl h
+command_replies s old t x l (Next c count) e new rowless h =
+    next_replies s old t x c count e new (cursor_of x.cursors c) refl h
 command_replies s old t x l (Close c) e new rowless h = close_replies old t c (cursor_of x.cursors c) e new h
 command_replies s old t x l (Has q row) e new rowless h =
     one_line t _ e.queued _ (has_form h.result) (ap (λ (y : Effect). y.queued) h.effect)

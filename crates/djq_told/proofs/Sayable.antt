@@ -1,8 +1,49 @@
 -- What is kept along a run, lines have said.
-use Rattle.std.specs.Prelude.{ℕ, zero, suc, find, List, [], ◌∷◌, ◌==◌, ◌&&◌, ◌≡◌, ◌<◌, ◌≤◌, ◌++◌, ◌⊎◌, Bool, true, false, not, cond, length, Option, None, Some, IfSome, MatchOption, option_map, Result, Ok, Err, map, All}
+use Rattle.std.specs.Prelude.{
+  ℕ,
+  zero,
+  suc,
+  find,
+  List,
+  [],
+  ◌∷◌,
+  ◌==◌,
+  ◌&&◌,
+  ◌≡◌,
+  ◌<◌,
+  ◌≤◌,
+  ◌++◌,
+  ◌⊎◌,
+  Bool,
+  true,
+  false,
+  not,
+  cond,
+  length,
+  Option,
+  None,
+  Some,
+  IfSome,
+  MatchOption,
+  option_map,
+  Result,
+  Ok,
+  Err,
+  map,
+  All,
+}
 use Rattle.std.specs.List.{list_any}
 use Rattle.std.proofs.Common.{refl, sym, ap, ◌∙◌, subst, inl, inr, arith}
-use Rattle.std.proofs.lemmas.List.Elements.{All-nil, All-cons, All-head, All-tail, All-push, All-filter, All-append, All-weaker}
+use Rattle.std.proofs.lemmas.List.Elements.{
+  All-nil,
+  All-cons,
+  All-head,
+  All-tail,
+  All-push,
+  All-filter,
+  All-append,
+  All-weaker,
+}
 use Rattle.djq_model.specs.Data.{Bytes, Tuple, bytes_eq}
 use Rattle.djq_model.specs.Listed.{Listed, listed_name, AnswersOf, listed_of}
 use Rattle.djq_lines.specs.declared.limits.TheConstants.{SESSIONS, LAST_SEQ}
@@ -15,7 +56,26 @@ use Rattle.djq_lines.specs.declared.answer.AddOutcome.TheVariants.{First, More}
 use Rattle.djq_lines.specs.declared.answer.DeleteOutcome.{DeleteOutcome}
 use Rattle.djq_lines.specs.declared.answer.DeleteOutcome.TheVariants.{Last, Left, Absent}
 use Rattle.djq_lines.specs.declared.command.Command.{Command}
-use Rattle.djq_lines.specs.declared.command.Command.TheVariants.{Rel, Add, Del, Query as Register, Drop, Open, Next, Close, Has, Watch, Unwatch, Explain, Shape, Batch, Done, Abandon, Quit, Stop}
+use Rattle.djq_lines.specs.declared.command.Command.TheVariants.{
+  Rel,
+  Add,
+  Del,
+  Query as Register,
+  Drop,
+  Open,
+  Next,
+  Close,
+  Has,
+  Watch,
+  Unwatch,
+  Explain,
+  Shape,
+  Batch,
+  Done,
+  Abandon,
+  Quit,
+  Stop,
+}
 use Rattle.djq_lines.specs.declared.held.HeldRow.{HeldRow}
 use Rattle.djq_lines.specs.Grammar.{reading_of}
 use Rattle.djq_lines.specs.Reply.{end_memory}
@@ -24,22 +84,74 @@ use Rattle.djq_machine.specs.Stale.{outdated, outdater_of, outdated_cursor, by_r
 use Rattle.djq_machine.specs.Changes.{RowsChange, RowsOutcome, tried, changed, row_in, row_out, add_outcome, delete_outcome}
 use Rattle.djq_machine.specs.Watch.{is_watching, Telling, ChangeStep}
 use Rattle.djq_machine.specs.Effect.{Effect, nothing, EndsWith, queue, queue_all}
-use Rattle.djq_machine.specs.Command.{uses, with_cursor, with_watch, without_watch, with_batch, without_batch, AddStep, HoldStep, DoneStep, CommandStep}
+use Rattle.djq_machine.specs.Command.{
+  uses,
+  with_cursor,
+  with_watch,
+  without_watch,
+  with_batch,
+  without_batch,
+  AddStep,
+  HoldStep,
+  DoneStep,
+  CommandStep,
+}
 use Rattle.djq_machine.specs.Batch.{has_come, first_read, batch_outcome}
 use Rattle.djq_machine.specs.LineStep.{LineOutcome, long, blank, slow, no_room, run, ReadStep, FrontStep, behind_line}
 use Rattle.djq_machine.specs.Step.{Event, opened, fed, stepped, took, ended, closed, FedStep, TookStep, EndedStep, Acts, with_relations, Step}
 use Rattle.djq_machine.specs.Run.{Did}
 use Rattle.djq_machine.proofs.Walks.{walk_keeps}
 use Rattle.djq_laws.specs.Sound.{IsStart}
-use Rattle.djq_laws.specs.Form.{Turn, opens_cursor, moves_cursor, closes_cursor, starts_watching, stops_watching, opens_batch, holds_row, closes_batch, Replied, is_whole, is_cut, without_cursor, Turned, DoesTurn, is_turned, is_refused}
+use Rattle.djq_laws.specs.Form.{
+  Turn,
+  opens_cursor,
+  moves_cursor,
+  closes_cursor,
+  starts_watching,
+  stops_watching,
+  opens_batch,
+  holds_row,
+  closes_batch,
+  Replied,
+  is_whole,
+  is_cut,
+  without_cursor,
+  Turned,
+  DoesTurn,
+  is_turned,
+  is_refused,
+}
 use Rattle.djq_laws.proofs.Finding.{some_and}
 use Rattle.djq_laws.proofs.Forms.{add_does, command_does, Reads, turned_down, carried_out, line_reads}
 use Rattle.djq_laws.proofs.Queueing.{session_changed}
 use Rattle.djq_laws.proofs.Changing.{all_changed, all_found, all_dropped, all_mapped}
-use Rattle.djq_told.specs.Sayable.{IsName, IsSayableRow, IsSayableRelation, IsSayableListed, IsSayableStore, IsSayablePosition, IsSayableCursor, IsSayableHeld, IsSayableSession, IsSayableState, RunsKeepSayable, OpeningIsSayable, StatesAreSayable}
+use Rattle.djq_told.specs.Sayable.{
+  IsName,
+  IsSayableRow,
+  IsSayableRelation,
+  IsSayableListed,
+  IsSayableStore,
+  IsSayablePosition,
+  IsSayableCursor,
+  IsSayableHeld,
+  IsSayableSession,
+  IsSayableState,
+  RunsKeepSayable,
+  OpeningIsSayable,
+  StatesAreSayable,
+}
 use Rattle.djq_told.proofs.Reading.{IsSayableCommand, read_sayable}
 use Rattle.djq_told.proofs.Keeping.{change_keeps}
-use Rattle.djq_told.proofs.Storing.{answer_sayable, rel_sayable, add_sayable, del_sayable, done_sayable, query_sayable, drop_sayable, moved_store_sayable}
+use Rattle.djq_told.proofs.Storing.{
+  answer_sayable,
+  rel_sayable,
+  add_sayable,
+  del_sayable,
+  done_sayable,
+  query_sayable,
+  drop_sayable,
+  moved_store_sayable,
+}
 
 -- ---- sessions
 

@@ -1,5 +1,41 @@
 -- What commands make of the store has names, and values within their limits.
-use Rattle.std.specs.Prelude.{ℕ, zero, suc, ◌+◌, ◌<◌, ◌≢◌, List, [], ◌∷◌, ◌==◌, ◌&&◌, ◌||◌, ◌≡◌, ◌≤◌, ◌++◌, ◌⊎◌, Bool, true, false, not, cond, nat_le, nat_lt, length, Option, None, Some, is_some, Result, Ok, Err, map, All, Contains, ⊤}
+use Rattle.std.specs.Prelude.{
+  ℕ,
+  zero,
+  suc,
+  ◌+◌,
+  ◌<◌,
+  ◌≢◌,
+  List,
+  [],
+  ◌∷◌,
+  ◌==◌,
+  ◌&&◌,
+  ◌||◌,
+  ◌≡◌,
+  ◌≤◌,
+  ◌++◌,
+  ◌⊎◌,
+  Bool,
+  true,
+  false,
+  not,
+  cond,
+  nat_le,
+  nat_lt,
+  length,
+  Option,
+  None,
+  Some,
+  is_some,
+  Result,
+  Ok,
+  Err,
+  map,
+  All,
+  Contains,
+  ⊤,
+}
 use Rattle.std.specs.List.{list_any}
 use Rattle.std.proofs.Common.{refl, sym, ap, ◌∙◌, subst, inl, inr, arith}
 use Rattle.std.proofs.lemmas.Bool.{eq-eqb, leb-false, ltb-false}
@@ -45,7 +81,17 @@ use Rattle.djq_laws.proofs.Changing.{all_changed, all_found, all_dropped}
 use Rattle.djq_laws.proofs.Answering.{none_pass}
 use Rattle.djq_laws.proofs.Apart.{without_dropped}
 use Rattle.djq_laws.proofs.Containing.{mapped_from}
-use Rattle.djq_told.specs.Sayable.{IsName, IsSayableValue, IsSayableRow, IsSayableRelation, IsSayableQuery, IsAskable, IsSayableListed, IsSayableHeld, IsSayableStore}
+use Rattle.djq_told.specs.Sayable.{
+  IsName,
+  IsSayableValue,
+  IsSayableRow,
+  IsSayableRelation,
+  IsSayableQuery,
+  IsAskable,
+  IsSayableListed,
+  IsSayableHeld,
+  IsSayableStore,
+}
 
 -- ---- conditions that all fail
 

@@ -1,5 +1,37 @@
 -- Along a run in which a session watches a query it is told its deltas, and nothing else of it.
-use Rattle.std.specs.Prelude.{ℕ, List, [], ◌∷◌, ◌++◌, ◌==◌, ◌≡◌, ◌≢◌, ◌<◌, ◌≤◌, ◌+◌, ◌⊎◌, ◌&&◌, length, Bool, true, false, not, cond, filter, Option, None, Some, is_some, IfSome, MatchOption, option_map, map, Result, All, AllPairs}
+use Rattle.std.specs.Prelude.{
+  ℕ,
+  List,
+  [],
+  ◌∷◌,
+  ◌++◌,
+  ◌==◌,
+  ◌≡◌,
+  ◌≢◌,
+  ◌<◌,
+  ◌≤◌,
+  ◌+◌,
+  ◌⊎◌,
+  ◌&&◌,
+  length,
+  Bool,
+  true,
+  false,
+  not,
+  cond,
+  filter,
+  Option,
+  None,
+  Some,
+  is_some,
+  IfSome,
+  MatchOption,
+  option_map,
+  map,
+  Result,
+  All,
+  AllPairs,
+}
 use Rattle.std.specs.List.{list_any, flat_map}
 use Rattle.std.proofs.Common.{refl, sym, ap, ap₂, ◌∙◌, subst, inl, inr, arith, append-nil}
 use Rattle.std.proofs.lemmas.Bool.{eqb-true, eq-eqb, ne_eqb}
@@ -39,7 +71,19 @@ use Rattle.djq_laws.specs.Added.{added_up}
 use Rattle.djq_laws.specs.Rising.{AreRising}
 use Rattle.djq_laws.specs.Form.{RowCommand, row_comes, row_goes, rows_come}
 use Rattle.djq_laws.specs.Sound.{AreApart, IsSoundBatch, IsSoundStore, IsSoundSession, IsSoundState}
-use Rattle.djq_laws.specs.Watched.{IsWatcher, WatchesAlong, batch_in, add_outdater, done_outdater, line_outdater, event_changes, number_by, numbers_along, Told, all_added_up}
+use Rattle.djq_laws.specs.Watched.{
+  IsWatcher,
+  WatchesAlong,
+  batch_in,
+  add_outdater,
+  done_outdater,
+  line_outdater,
+  event_changes,
+  number_by,
+  numbers_along,
+  Told,
+  all_added_up,
+}
 use Rattle.djq_laws.proofs.Adding.{deltas_add_up}
 use Rattle.djq_laws.proofs.Answering.{SameAnswers, reordered_same}
 use Rattle.djq_laws.proofs.Changing.{all_found}
@@ -59,7 +103,28 @@ use Rattle.djq_told.proofs.Reading.{read_sayable, read_short}
 use Rattle.djq_told.proofs.Sayable.{front_kept}
 use Rattle.djq_told.proofs.Exactly.{all_unmapped, pairs_unmapped, told_one, told_none}
 use Rattle.djq_told.proofs.Hearing.{heard, all_heard, own_replies, text_append, changed_ids, change_heard}
-use Rattle.djq_told.proofs.Replying.{IsPlain, IsHarmless, harmless_form, ExplainsNone, IsSayableReading, Fits, Replies, OfForm, of_form, any_talk, add_form, delete_form, done_form, rows_small, one_line, talks, held_replies, command_replies, refused_replies, none_of}
+use Rattle.djq_told.proofs.Replying.{
+  IsPlain,
+  IsHarmless,
+  harmless_form,
+  ExplainsNone,
+  IsSayableReading,
+  Fits,
+  Replies,
+  OfForm,
+  of_form,
+  any_talk,
+  add_form,
+  delete_form,
+  done_form,
+  rows_small,
+  one_line,
+  talks,
+  held_replies,
+  command_replies,
+  refused_replies,
+  none_of,
+}
 
 -- ---- answers over rows in another order
 
@@ -290,7 +355,8 @@ module _ (q : Listed) (s : ℕ) (old : State) (x : Session) (is : session_of old
             (by outcome h made tells);
       }
     where
-      stays : (seq' : new.seq ≡ old.store.seq) → StepTells q s old.store new e.queued (is_some (outdater_by old.store c q))
+      stays : (seq' : new.seq ≡ old.store.seq)
+          → StepTells q s old.store new e.queued (is_some (outdater_by old.store c q))
           → StepTold q old.store new (is_some (outdater_by old.store c q)) []
       stays seq' (is_quiet answers so) = tells_none refl answers so
       stays seq' (is_told delta so counts) = absurd (omega (arith, so, seq'))
@@ -399,7 +465,8 @@ module _ (q : Listed) (s : ℕ) (old : State) (x : Session) (is : session_of old
       quiet_says q s old.store new e.queued false ((t == s) && false)
       (inr (t, false, held_replies old t (Some held) l name row e mid refl h, refl)) tells (inl refl)
 
-  done_says : (batch : Option (List HeldRow)) → y.batch ≡ batch → MatchOption batch ⊥ (λ held. DoneStep old t held e mid)
+  done_says : (batch : Option (List HeldRow)) → y.batch ≡ batch
+      → MatchOption batch ⊥ (λ held. DoneStep old t held e mid)
       → Speaks (done_outdater old.store batch q) (says_command Done)
   done_says None at h tells = absurd h
   done_says (Some held) at h tells =
@@ -497,7 +564,8 @@ pub record Tame (s : ℕ) (old : State) (event : Event) (e : Effect) : Type 0 wh
   pub fine : IsSayableState old
   pub no_tree : ExplainsNothing s event
 
-batch_few : (st : Store) (o : Option (List HeldRow)) → IfSome o (IsSoundBatch st) → IfSome o (λ held. length held ≤ HELD)
+batch_few : (st : Store) (o : Option (List HeldRow)) → IfSome o (IsSoundBatch st)
+    → IfSome o (λ held. length held ≤ HELD)
 batch_few st None h = tt
 batch_few st (Some held) h = h.few
 

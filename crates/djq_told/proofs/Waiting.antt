@@ -1,5 +1,23 @@
 -- What a session is sent before it watches a query, and as it ends.
-use Rattle.std.specs.Prelude.{ℕ, List, [], ◌∷◌, ◌++◌, ◌==◌, ◌≡◌, ◌&&◌, Bool, true, false, cond, Option, None, Some, MatchOption, All}
+use Rattle.std.specs.Prelude.{
+  ℕ,
+  List,
+  [],
+  ◌∷◌,
+  ◌++◌,
+  ◌==◌,
+  ◌≡◌,
+  ◌&&◌,
+  Bool,
+  true,
+  false,
+  cond,
+  Option,
+  None,
+  Some,
+  MatchOption,
+  All,
+}
 use Rattle.std.proofs.Common.{refl, sym, ap, ap₂, ◌∙◌, subst, inr, append-nil}
 use Rattle.std.proofs.lemmas.Grind.{flat_map-append}
 use Rattle.std.proofs.lemmas.List.Elements.{All-nil, All-cons, All-append}
@@ -41,9 +59,43 @@ use Rattle.djq_told.proofs.Holding.{mirrored_are_held}
 use Rattle.djq_told.proofs.Mirrored.{IsWell, watchers_are_well}
 use Rattle.djq_told.proofs.Mirroring.{passes_then, passes_told}
 use Rattle.djq_told.proofs.Printed.{IsFine}
-use Rattle.djq_told.proofs.Replying.{ExplainsNone, IsPlain, IsHarmless, Fits, OfForm, of_form, any_talk, talks, held_replies, command_replies, refused_replies, none_of}
+use Rattle.djq_told.proofs.Replying.{
+  ExplainsNone,
+  IsPlain,
+  IsHarmless,
+  Fits,
+  OfForm,
+  of_form,
+  any_talk,
+  talks,
+  held_replies,
+  command_replies,
+  refused_replies,
+  none_of,
+}
 use Rattle.djq_told.proofs.Sayable.{step_sayable, states_are_sayable}
-use Rattle.djq_told.proofs.Telling.{ExplainsNothing, own_fine, Tame, tame_fits, reading_talks, event_talks, IsQuiet, Plain, quiet_to, ends_quiet, nothing_quiet, fed_quiet, ended_quiet, changed_session, changed_rising, few_held, added_form, deleted_form, batched_form, seq_small}
+use Rattle.djq_told.proofs.Telling.{
+  ExplainsNothing,
+  own_fine,
+  Tame,
+  tame_fits,
+  reading_talks,
+  event_talks,
+  IsQuiet,
+  Plain,
+  quiet_to,
+  ends_quiet,
+  nothing_quiet,
+  fed_quiet,
+  ended_quiet,
+  changed_session,
+  changed_rising,
+  few_held,
+  added_form,
+  deleted_form,
+  batched_form,
+  seq_small,
+}
 
 nothing_heard : (ws : List Bytes) → ws ≡ [] → (n : ℕ) (ds : List Delta) → all_heard ws n ds ≡ []
 nothing_heard ws e n ds = ap (λ (vs : List Bytes). all_heard vs n ds) e ∙ by ds
@@ -92,7 +144,8 @@ module _ (s : ℕ) (old : State) (x : Session) (is : session_of old s ≡ Some x
   add_plain name row (Some held) h =
       quiet_to s e.queued ((t == s) && false) (inr (t, false, held_replies old t (Some held) l name row e mid refl h, refl))
 
-  done_plain : (batch : Option (List HeldRow)) → y.batch ≡ batch → MatchOption batch ⊥ (λ held. DoneStep old t held e mid)
+  done_plain : (batch : Option (List HeldRow)) → y.batch ≡ batch
+      → MatchOption batch ⊥ (λ held. DoneStep old t held e mid)
       → PlainOf (says_command Done)
   done_plain None at h = absurd h
   done_plain (Some held) at h =
