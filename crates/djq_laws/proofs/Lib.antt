@@ -29,3 +29,4 @@ pub mod Storing
 pub mod Sounding
 pub mod Listing
 pub mod Short
+pub mod Holding
