@@ -1,5 +1,5 @@
 -- What the parts of the program promise that open a log and tell what was sent.
-use Rattle.std.specs.Prelude.{ℕ, List, [], ◌≡◌, ◌⊎◌, false, Option, None, Some, IfSome, Result, MatchResult}
+use Rattle.std.specs.Prelude.{ℕ, List, [], ◌++◌, ◌≡◌, ◌⊎◌, false, Option, None, Some, IsSome, IfSome, Result, MatchResult}
 use Rattle.djq_io.specs.Faults.{Counted}
 use Rattle.djq_io.specs.SteadyHub.{has_gone}
 use Rattle.djq_io.specs.declared.hub.Told.{Told}
@@ -8,14 +8,18 @@ use Rattle.djq_disk.specs.declared.disk.DiskDid.{DiskDid}
 use Rattle.djq_disk.specs.declared.disk.DiskDid.TheVariants.{Done, Failed}
 use Rattle.djq_journal.specs.Standing.{IsAt, IsIdle}
 use Rattle.djq_journal.specs.Calls.{after_sync}
+use Rattle.djq_journal.specs.Logging.{Keeps, Overfull}
+use Rattle.djq_journal.specs.declared.log.Kept.TheVariants.{Failed as Unkept, Full}
 use Rattle.djq_model.specs.Data.{Bytes}
 use Rattle.djq_machine.specs.State.{State, opening}
+use Rattle.djq_machine.specs.Run.{Group, lines_in}
 use Rattle.djq_machine.specs.Call.{Counts}
-use Rattle.djq_machine.specs.Loading.{Loads}
+use Rattle.djq_machine.specs.Loading.{Loading, loading, Loads}
 use Rattle.djq_run.specs.declared.status.Status.{Status}
-use Rattle.djq_run.specs.declared.status.Status.TheVariants.{NoMemory}
+use Rattle.djq_run.specs.declared.status.Status.TheVariants.{NoMemory, DiskFault, LogFull}
 use Rattle.djq_schedule.specs.Sent.{sent_text}
-use Rattle.djq.specs.Logged.{DiskSeen, LogSeen, asked_for, IsMade, Finds, IsUnmade, UnloadedFor, Begins, FoundIn, NeverBegins}
+use Rattle.djq_serve.specs.Logged.{AllKept}
+use Rattle.djq.specs.Logged.{DiskSeen, LogSeen, asked_for, IsMade, abandoning, first_kept, Finds, IsUnmade, UnloadedFor, Begins, FoundIn, NeverBegins}
 use Rattle.djq.specs.Replay.{first_fault}
 
 -- A file was opened, and where it had no bytes a journal without lines was made in it.
@@ -33,7 +37,7 @@ OpensFile Failed path before now = Counted before.faults now.faults × WhereTold
 
 -- An older journal was opened, or one without lines that was made.
 abbrev pub IsOpened : Bytes → History → History → Type 0
-IsOpened path old new = (new ≡ after_sync (asked_for path old)) ⊎ Finds path [] 8 old new
+IsOpened path old new = (new ≡ after_sync (asked_for path old)) ⊎ Finds path [] [] 8 old new
 
 -- A journal was opened, and stands at its first gate.
 pub record OpensJournal (path : Bytes) (gate : ℕ) (before now : DiskSeen) : Type 0 where
@@ -42,11 +46,10 @@ pub record OpensJournal (path : Bytes) (gate : ℕ) (before now : DiskSeen) : Ty
   pub first : IfSome now.told (λ h. IsAt [] gate h.file)
 
 -- All lines of a journal were loaded, and nothing was written.
-pub record LoadsLines (log : Option ℕ) (state : State) (before now : DiskSeen) (listing listing' : ℕ) : Type 0 where
+pub record LoadsLines (gate : ℕ) (end : Loading) (state : State) (before now : DiskSeen) (listing listing' : ℕ)
+    : Type 0 where
   pub found : List Bytes
-  pub gate : ℕ
-  pub at : log ≡ Some gate
-  pub loads : Loads opening.store found state.store
+  pub loads : Loads (loading opening.store) found end
   pub fresh : state ≡ record opening { store = state.store }
   pub idle : IfSome now.told (λ h. IsIdle found gate h.file)
   pub same : WhereTold before.told now.told (λ o n. n ≡ o)
@@ -59,11 +62,37 @@ pub record StopsLoading (status : Status) (before now : DiskSeen) (listing listi
   pub same : WhereTold before.told now.told (λ o n. n ≡ o)
   pub unlisted : listing' ≡ listing
 
+-- A log was opened, and all lines found in it were loaded.
+pub record ReadsLog (log : LogSeen) (gate : ℕ) (end : Loading) (state : State) (listing listing' : ℕ) : Type 0 where
+  pub found : List Bytes
+  pub loads : Loads (loading opening.store) found end
+  pub fresh : state ≡ record opening { store = state.store }
+  pub faults : log.now.faults ≡ log.before.faults
+  pub finds : WhereTold log.before.told log.now.told (Finds log.path found [] gate)
+  pub unlisted : listing' ≡ listing
+
+-- No batch is left open: `abandon` was loaded and kept, where one was; and nothing was done, where none
+-- was.
+pub record EndsBatch (gate : ℕ) (log : Option ℕ) (old new : Loading) (before now : DiskSeen) : Type 0 where
+  pub loads : Loads old (lines_in (first_kept old.batch)) new
+  pub closed : new.batch ≡ None
+  pub kept : AllKept (Some gate) log (first_kept old.batch) before.told now.told
+  pub faults : now.faults ≡ before.faults
+
+-- One is, as `abandon` couldn't be kept: the disk failed, or there was no room.
+abbrev pub KeepsBatch : Status → ℕ → Loading → DiskSeen → DiskSeen → Type 0
+KeepsBatch DiskFault gate old before now = IsSome old.batch × Counted before.faults now.faults
+    × WhereTold before.told now.told (Keeps Unkept (Some gate) None abandoning)
+KeepsBatch LogFull gate old before now = IsSome old.batch × (now.faults ≡ before.faults)
+    × Overfull (Some gate) abandoning × WhereTold before.told now.told (Keeps Full (Some gate) None abandoning)
+KeepsBatch _ gate old before now = ⊥
+
 -- What opening a log and loading its lines comes to, where one is asked for: a state to start from,
 -- and where the log stands; or the status for which nothing begins.
 abbrev pub OpensLog : Option LogSeen → Result (Option ℕ) Status → State → Counts → Counts → Type 0
 OpensLog log result state counted loaded = MatchResult result
-    (λ gate. (found : List Bytes) × Begins log found counted state loaded × FoundIn log found gate)
+    (λ gate. (found : List Bytes) × (first : List Group) × Begins log found first counted state loaded
+    × FoundIn log found first gate)
     (λ status. NeverBegins log status counted loaded)
 
 -- What a hub that never fails was sent, and the status with it.
