@@ -3,7 +3,10 @@ pub mod Queueing
 mod Told
 pub mod Changing
 pub mod Forms
+pub mod Suiting
 pub mod Rows
+pub mod Batches
+pub mod Doing
 pub mod Counting
 pub mod Alike
 pub mod Touching

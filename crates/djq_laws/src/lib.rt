@@ -74,9 +74,10 @@ pub fn line_is_taken()
 /// Each state that a run comes to from a state to start from is sound: relations, queries, known
 /// texts, the rows of a relation and the answers that an open cursor has given are without repeats;
 /// rows are of their columns' types, each with one copy at least, and queries free-connex; cursors
-/// and watches are of registered queries; a session that has ended has none of them; and copies,
-/// texts and sessions are within their limits, sessions by rising id. Every run keeps it so. The
-/// state in which nothing has happened is one to start from.
+/// and watches are of registered queries; the rows that a batch holds suit their relations, each said
+/// by its line; a session that has ended has none of them; and copies, texts, held rows and sessions
+/// are within their limits, sessions by rising id. Every run keeps it so. The state in which nothing
+/// has happened is one to start from.
 pub fn states_are_sound()
     ensures kept { RunsKeepSound }
     ensures opening { OpeningIsStart }
@@ -93,7 +94,7 @@ pub fn copies_are_counted()
     ensures taken { TakesCopy }
 {}
 
-/// A step that keeps the line that it runs says no `stop`. So where a line that is to be kept can't be,
+/// A step that keeps a group of lines says no `stop`. So where a group that is to be kept can't be,
 /// no session said it yet.
 pub fn kept_says_no_stop()
     ensures { KeptSaysNoStop }
