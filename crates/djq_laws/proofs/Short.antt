@@ -5,8 +5,8 @@ use Rattle.std.proofs.lemmas.Bool.{leb-true, leb-false, false≢true}
 use Rattle.std.proofs.lemmas.List.{length-take-le}
 use Rattle.djq_model.specs.Data.{Bytes}
 use Rattle.djq_lines.specs.declared.limits.TheConstants.{LINE_BYTES}
-use Rattle.djq_lines.specs.Line.{before_lf, is_long, is_blank, without_cr, a_line, front_of}
-use Rattle.djq_machine.specs.State.{State, Session, session_of}
+use Rattle.djq_lines.specs.Line.{before_lf, is_long, is_blank, without_cr}
+use Rattle.djq_machine.specs.State.{State, session_of}
 use Rattle.djq_machine.specs.Effect.{Effect}
 use Rattle.djq_machine.specs.LineStep.{run, FrontStep}
 use Rattle.djq_machine.specs.Step.{stepped, Acts}
@@ -50,15 +50,10 @@ not_empty [] h = absurd (false≢true (sym h))
 not_empty (b ∷ bs) h = omega arith
 
 -- a line that is run isn't empty, and no longer than a line may be
-pub front_line : (x : Session) (l : Bytes) → is_blank l ≡ false → (rest : Bytes) → front_of x.held ≡ a_line l rest
-    → (1 ≤ length l) × (length l ≤ LINE_BYTES)
-front_line x l some rest is =
-    let front = line_in_front x.held l rest is in (
-      not_empty l some,
-      subst (λ (k : Bytes). length k ≤ LINE_BYTES) (sym front.line) (short_line (before_lf x.held) front.short),
-    )
-
 pub run_line : (old : State) (s : ℕ) (l : Bytes) (e : Effect) (mid : State) → Acts old (stepped s (run l)) e mid → (1 ≤ length l) × (length l ≤ LINE_BYTES)
 run_line old s l e mid h =
     let f = some_and (session_of old s) (λ x. (x.cause ≡ None) × FrontStep old s x (run l) e mid) h in
-    front_line f.0 l f.2.1.0 f.2.1.2.rest f.2.1.2.front
+    let front = line_in_front ((f.0).held) l f.2.1.2.rest f.2.1.2.front in (
+      not_empty l f.2.1.0,
+      subst (λ (k : Bytes). length k ≤ LINE_BYTES) (sym front.line) (short_line (before_lf (f.0).held) front.short),
+    )

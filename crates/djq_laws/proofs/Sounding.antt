@@ -8,7 +8,7 @@ use Rattle.djq_model.specs.declared.relation.Relation.{Relation}
 use Rattle.djq_model.specs.Known.{all_learned}
 use Rattle.djq_model.specs.Data.{Bytes, bytes_eq, drop_first}
 use Rattle.djq_model.specs.Listed.{Listed, listed_name, listed_of}
-use Rattle.djq_lines.specs.declared.limits.TheConstants.{SESSIONS, LINE_BYTES}
+use Rattle.djq_lines.specs.declared.limits.TheConstants.{SESSIONS}
 use Rattle.djq_lines.specs.declared.answer.EndCause.{EndCause}
 use Rattle.djq_lines.specs.declared.answer.EndCause.TheVariants.{Input, Memory}
 use Rattle.djq_lines.specs.declared.command.Command.{Command}
@@ -79,7 +79,6 @@ use Rattle.djq_laws.proofs.Apart.{
   names_dropped,
   names_mapped,
 }
-use Rattle.djq_laws.proofs.Short.{front_line}
 use Rattle.djq_laws.proofs.Storing.{stored_sound, made_sound, moved_store}
 
 abbrev IsNamed : Cursor → Bytes
@@ -345,12 +344,12 @@ IsFor x (changing (rows_come held)) = x.batch ≡ Some held
 IsFor x _ = Unit {0}
 
 form_for : (x : Session) (batch : Option (List HeldRow)) (l : Bytes) (c : Command) → x.batch ≡ batch
-    → reading_of l ≡ says_command c → (1 ≤ length l) × (length l ≤ LINE_BYTES) → IsFor x (form_of batch l c)
-form_for x None l (Add name row) is said short = tt
-form_for x (Some held) l (Add name row) is said short = record { said = said; some = short.0; few = short.1 }
-form_for x None l Done is said short = tt
-form_for x (Some held) l Done is said short = is
-form_for x batch l c is said short = tt
+    → reading_of l ≡ says_command c → IsFor x (form_of batch l c)
+form_for x None l (Add name row) is said = tt
+form_for x (Some held) l (Add name row) is said = record { said = said }
+form_for x None l Done is said = tt
+form_for x (Some held) l Done is said = is
+form_for x batch l c is said = tt
 
 -- What a turn makes of a session.
 turned_kept : (old : State) (s : ℕ) (x : Session) (t : Turn) (new : State) → session_of old s ≡ Some x
@@ -466,14 +465,14 @@ form_kept ending old s x e new found runs fits h k =
 
 -- The front of a session's bytes.
 read_kept : (old : State) (s : ℕ) (x : Session) (l : Bytes) (e : Effect) (new : State) → session_of old s ≡ Some x
-    → x.cause ≡ None → (1 ≤ length l) × (length l ≤ LINE_BYTES) → ReadStep old s x l (reading_of l) e new
+    → x.cause ≡ None → ReadStep old s x l (reading_of l) e new
     → AreKept old → AreKept new
-read_kept old s x l e new found runs short h k = by (line_reads old s x l (reading_of l) e new h)
+read_kept old s x l e new found runs h k = by (line_reads old s x l (reading_of l) e new h)
   where
     by : Reads old s x l (reading_of l) e new → AreKept new
     by (turned_down why because d) = same_kept old new d.1 k
     by (carried_out c is d) =
-        form_kept (form_of x.batch l c) old s x e new found runs (form_for x x.batch l c refl is short)
+        form_kept (form_of x.batch l c) old s x e new found runs (form_for x x.batch l c refl is)
         (command_does old s x l c e new d) k
 
 pub without_line_kept : (old : State) (s : ℕ) (rest : Bytes) → AreKept old
@@ -494,7 +493,7 @@ front_kept old s x (run l) e new found runs h k =
     let rest = h.2.rest in
     let here : session_of (with_session old s (behind_line rest)) s ≡ Some (behind_line rest x) =
     session_changed old s (behind_line rest) (λ y. refl) ∙ ap (λ o. option_map (behind_line rest) o) found in
-    read_kept (with_session old s (behind_line rest)) s (behind_line rest x) l e new here runs (front_line x l h.0 rest h.2.front) h.2.then
+    read_kept (with_session old s (behind_line rest)) s (behind_line rest x) l e new here runs h.2.then
     (without_line_kept old s rest k)
 
 -- The events.

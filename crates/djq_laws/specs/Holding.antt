@@ -1,5 +1,5 @@
 -- What batches hold is lines.
-use Rattle.std.specs.Prelude.{ℕ, List, ◌≤◌, Option, None, Some, length, All, ⊤}
+use Rattle.std.specs.Prelude.{List, ◌≤◌, Option, None, Some, length, All, ⊤}
 use Rattle.djq_model.specs.Data.{Bytes}
 use Rattle.djq_lines.specs.declared.limits.TheConstants.{LINE_BYTES}
 use Rattle.djq_lines.specs.declared.held.HeldRow.{HeldRow}

@@ -5,7 +5,7 @@ use Rattle.djq_model.specs.Data.{Bytes, tuples_in}
 use Rattle.djq_model.specs.Answer.{AreDifferent}
 use Rattle.djq_model.specs.Listed.{Listed, a_query, listed_name, listed_of}
 use Rattle.djq_model.specs.Typed.{fits}
-use Rattle.djq_lines.specs.declared.limits.TheConstants.{SESSIONS, TEXTS, COPIES, HELD, LINE_BYTES}
+use Rattle.djq_lines.specs.declared.limits.TheConstants.{SESSIONS, TEXTS, COPIES, HELD}
 use Rattle.djq_lines.specs.declared.held.HeldRow.{HeldRow}
 use Rattle.djq_lines.specs.declared.command.Command.TheVariants.{Add}
 use Rattle.djq_lines.specs.Grammar.{says as says_command, reading_of}
@@ -54,13 +54,11 @@ pub record IsSoundCursor (queries : List Listed) (c : Cursor) : Type 0 where
   pub registered : IsSome (listed_of queries c.query)
   pub once : GaveOnce c.position
 
--- A row that is held was said by its line, which is as long as a line may be.
+-- A row that is held was said by its line.
 pub record IsHeldBySaying (h : HeldRow) : Type 0 where
   pub said : reading_of h.line ≡ says_command (Add h.relation h.row)
-  pub some : 1 ≤ length h.line
-  pub few : length h.line ≤ LINE_BYTES
 
--- A batch holds no more rows than it may, and each suits its relation.
+-- A batch holds no more rows than it may, each suits its relation, and its line says it.
 pub record IsSoundBatch (st : Store) (held : List HeldRow) : Type 0 where
   pub few : length held ≤ HELD
   pub suit : SuitAll st held
