@@ -8,8 +8,8 @@ use Rattle.djq_disk.specs.declared.disk.DiskDid.{DiskDid}
 use Rattle.djq_disk.specs.declared.disk.DiskDid.TheVariants.{Done, Failed}
 use Rattle.djq_journal.specs.Standing.{IsAt, IsIdle}
 use Rattle.djq_journal.specs.Calls.{after_sync}
-use Rattle.djq_journal.specs.Logging.{Keeps, Overfull}
-use Rattle.djq_journal.specs.declared.log.Kept.TheVariants.{Failed as Unkept, Full}
+use Rattle.djq_journal.specs.Keeping.{IsKeeping, WasKeeping}
+use Rattle.djq_journal.specs.Logging.{Overfull}
 use Rattle.djq_model.specs.Data.{Bytes}
 use Rattle.djq_machine.specs.State.{State, opening}
 use Rattle.djq_machine.specs.Run.{Group, lines_in}
@@ -18,7 +18,6 @@ use Rattle.djq_machine.specs.Loading.{Loading, loading, Loads}
 use Rattle.djq_run.specs.declared.status.Status.{Status}
 use Rattle.djq_run.specs.declared.status.Status.TheVariants.{NoMemory, DiskFault, LogFull}
 use Rattle.djq_schedule.specs.Sent.{sent_text}
-use Rattle.djq_serve.specs.Logged.{AllKept}
 use Rattle.djq.specs.Logged.{DiskSeen, LogSeen, asked_for, IsMade, abandoning, first_kept, Finds, IsUnmade, UnloadedFor, Begins, FoundIn, NeverBegins}
 use Rattle.djq.specs.Replay.{first_fault}
 
@@ -71,21 +70,24 @@ pub record ReadsLog (log : LogSeen) (gate : ℕ) (end : Loading) (state : State)
   pub finds : WhereTold log.before.told log.now.told (Finds log.path found [] gate)
   pub unlisted : listing' ≡ listing
 
--- No batch is left open: `abandon` was loaded and kept, where one was; and nothing was done, where none
--- was.
+-- Behind lines that left a batch open `abandon` was loaded and kept, and behind others nothing was done.
 pub record EndsBatch (gate : ℕ) (log : Option ℕ) (old new : Loading) (before now : DiskSeen) : Type 0 where
   pub loads : Loads old (lines_in (first_kept old.batch)) new
   pub closed : new.batch ≡ None
-  pub kept : AllKept (Some gate) log (first_kept old.batch) before.told now.told
+  pub behind : ℕ
+  pub at : log ≡ Some behind
+  pub kept : (found : List Bytes) → WhereTold before.told now.told (λ o n. (start : History)
+      → IsKeeping found [] gate start o → IsKeeping found (first_kept old.batch) behind start n)
   pub faults : now.faults ≡ before.faults
 
--- One is, as `abandon` couldn't be kept: the disk failed, or there was no room.
-abbrev pub KeepsBatch : Status → ℕ → Loading → DiskSeen → DiskSeen → Type 0
-KeepsBatch DiskFault gate old before now = IsSome old.batch × Counted before.faults now.faults
-    × WhereTold before.told now.told (Keeps Unkept (Some gate) None abandoning)
-KeepsBatch LogFull gate old before now = IsSome old.batch × (now.faults ≡ before.faults)
-    × Overfull (Some gate) abandoning × WhereTold before.told now.told (Keeps Full (Some gate) None abandoning)
-KeepsBatch _ gate old before now = ⊥
+-- They left one open, and `abandon` couldn't be kept: the disk failed, or there was no room.
+abbrev pub CantEnd : Status → ℕ → Loading → DiskSeen → DiskSeen → Type 0
+CantEnd DiskFault gate old before now = IsSome old.batch × Counted before.faults now.faults
+    × ((found : List Bytes) → WhereTold before.told now.told (λ o n. (start : History)
+    → IsKeeping found [] gate start o → WasKeeping found [] abandoning start n))
+CantEnd LogFull gate old before now = IsSome old.batch × (now.faults ≡ before.faults)
+    × Overfull (Some gate) abandoning × WhereTold before.told now.told (λ o n. n ≡ o)
+CantEnd _ gate old before now = ⊥
 
 -- What opening a log and loading its lines comes to, where one is asked for: a state to start from,
 -- and where the log stands; or the status for which nothing begins.

@@ -6,11 +6,11 @@ ghost use Rattle.djq_machine.specs.Call.{counts};
 ghost use Rattle.djq.specs.Logged.{LeavesUnloaded, UnloadedFor, Unloaded, disk_seen, log_at, log_seen};
 ghost use Rattle.djq_core.specs.Views.{loading_in};
 ghost use Rattle.djq.specs.Parts.{OpensLog, OpensFile, OpensJournal, LoadsLines, StopsLoading};
-ghost use Rattle.djq.specs.Parts.{ReadsLog, EndsBatch, KeepsBatch};
+ghost use Rattle.djq.specs.Parts.{ReadsLog, EndsBatch, CantEnd};
 
 use djq_core::Core;
 use djq_disk::{Disk, DiskDid, DiskLen, DiskOpen};
-use djq_journal::{Journal, Kept, LINE_BYTES, Line, Log, Made, Opened, create};
+use djq_journal::{Appended, Journal, LINE_BYTES, Line, Log, Made, Opened, create};
 use djq_machine::Loaded;
 use djq_run::Status;
 use djq_steps::{Ledgers, Steps};
@@ -111,7 +111,8 @@ fn open_file<D: Disk>(disk: &mut D, path: &str) -> DiskDid
     }
 }
 
-/// Ends the batch that lines left open, if they did: the line `abandon` is loaded, and kept behind them.
+/// Ends the batch that lines of a journal left open, if they did: the line `abandon` is loaded, and kept
+/// behind them.
 fn end_batch<D: Disk, L: Ledgers>(
     machine: &mut Core,
     disk: &mut D,
@@ -122,21 +123,20 @@ fn end_batch<D: Disk, L: Ledgers>(
     ensures ends { MatchResult result
         (λ log. EndsBatch journal log (loading_in machine.old) (loading_in machine.new)
         (disk_seen (D.told disk.old) (D.faults disk.old)) (disk_seen (D.told disk.new) (D.faults disk.new)))
-        (λ status. KeepsBatch status journal (loading_in machine.old)
+        (λ status. CantEnd status journal (loading_in machine.old)
         (disk_seen (D.told disk.old) (D.faults disk.old)) (disk_seen (D.told disk.new) (D.faults disk.new))) }
     ensures rest { machine.new.state ≡ record machine.old.state { store = machine.new.state.store } }
     ensures listing { steps.new.listing ≡ steps.old.listing }
 {
-    let mut log = Log::of(journal);
     if !machine.load_open() {
-        return Ok(log);
+        return Ok(Log::of(journal));
     }
-    // It is never refused there, and takes no memory.
+    // In a batch it is never refused, and takes no memory.
     machine.load(ABANDON, steps);
-    match log.keep_line(disk, ABANDON) {
-        Kept::All => Ok(log),
-        Kept::Failed => Err(Status::DiskFault),
-        Kept::Full => Err(Status::LogFull),
+    match journal.append(disk, ABANDON) {
+        Appended::Done(journal) => Ok(Log::of(journal)),
+        Appended::Failed => Err(Status::DiskFault),
+        Appended::Full => Err(Status::LogFull),
     }
 }
 

@@ -1,4 +1,4 @@
-ghost use Rattle.std.specs.Prelude.{◌≡◌, ◌≤◌, ℕ, List, [], ◌∷◌, None, Some, length};
+ghost use Rattle.std.specs.Prelude.{◌≡◌, ◌≤◌, ℕ, List, None, Some, length};
 ghost use Rattle.std.specs.List.{AllByRecursion};
 ghost use Rattle.djq_disk.specs.History.{WhereTold};
 ghost use Rattle.djq_journal.specs.Format.{IsLine};
@@ -6,7 +6,6 @@ ghost use Rattle.djq_journal.specs.Logging.{Keeps, FillsLog, CountsKept};
 
 use crate::group::Group;
 use crate::journal::{Appended, Journal};
-use crate::one_line::OneLine;
 use djq_disk::Disk;
 use std::marker::Model;
 
@@ -77,16 +76,5 @@ impl Log {
             Appended::Failed => Kept::Failed,
             Appended::Full => Kept::Full,
         }
-    }
-
-    /// Keeps a line, as a group of one.
-    pub fn keep_line<D: Disk>(&mut self, disk: &mut D, line: &[u8]) -> Kept
-        requires { IsLine line.now }
-        ensures nowhere { self.old ≡ None → (result ≡ Kept.All) × (self.new ≡ None) }
-        ensures room { FillsLog result self.old (line.now ∷ []) }
-        ensures told { WhereTold (D.told disk.old) (D.told disk.new) (Keeps result self.old self.new (line.now ∷ [])) }
-        ensures faults { CountsKept result (D.faults disk.old) (D.faults disk.new) }
-    {
-        self.keep(disk, &OneLine { line })
     }
 }
