@@ -97,7 +97,7 @@ learned_append known [] rest = refl
 learned_append known (t ∷ ts) rest = learned_append (learned known t) ts rest
 
 -- what suits behind the first
-suit_behind : (st : Store) (h : HeldRow) (hs : List HeldRow) → SameTypes st.relations (with_held st h).relations
+pub suit_behind : (st : Store) (h : HeldRow) (hs : List HeldRow) → SameTypes st.relations (with_held st h).relations
     → SuitAll st (h ∷ hs) → SuitAll (with_held st h) hs
 suit_behind st h hs same suit =
     all_suit st (with_held st h) (types_suit st (with_held st h) same) hs
@@ -227,11 +227,11 @@ batch_spares st held q none =
 -- ---- `done`
 
 -- the store behind a batch, by how many rows come
-abbrev behind : Store → Store → ℕ → Store
+abbrev pub behind : Store → Store → ℕ → Store
 behind st after zero = after
 behind st after (suc n) = record after { seq = st.seq + 1 }
 
-is_behind : (st : Store) (held : List HeldRow) (n : ℕ) → n ≡ count_came st held
+pub is_behind : (st : Store) (held : List HeldRow) (n : ℕ) → n ≡ count_came st held
     → store_behind st held ≡ behind st (with_all st held) n
 is_behind st held n e = ap (λ (k : ℕ). behind st (with_all st held) k) (sym e)
 

@@ -8,6 +8,7 @@ pub mod Rows
 pub mod Batches
 pub mod Doing
 pub mod Counting
+pub mod Tallying
 pub mod Alike
 pub mod Touching
 pub mod Moving

@@ -39,7 +39,7 @@ ghost use Rattle.djq_laws.specs.Staying.{WatchersStay};
 ghost use Rattle.djq_laws.specs.Stopping.{KeptSaysNoStop};
 ghost use Rattle.djq_laws.specs.Live.{ListingsStayLive};
 ghost use Rattle.djq_laws.specs.Sound.{RunsKeepSound, OpeningIsStart, StatesAreSound};
-ghost use Rattle.djq_laws.specs.Copies.{RowsHaveCopies, AddsCopy, TakesCopy};
+ghost use Rattle.djq_laws.specs.Copies.{RowsHaveCopies, AddsCopy, TakesCopy, AddsHeld};
 ghost use Rattle.djq_laws.specs.Listed.{GivenIsTold, ListedIsTold};
 
 /// A session that is open stays so in every step that doesn't close it.
@@ -87,11 +87,13 @@ pub fn states_are_sound()
 /// Relations are bags. A row is there exactly where it has a copy. An `add` that is done makes one
 /// copy of its row more, a `del` one less where there is one, and each tells how many there are
 /// then; every other row has as many as before. A change is counted exactly where a row gets its
-/// first copy or loses its last.
+/// first copy or loses its last. A `done` that is done makes as many copies more of each row as its
+/// batch holds, and counts one change exactly where one of them gets its first.
 pub fn copies_are_counted()
     ensures there { RowsHaveCopies }
     ensures added { AddsCopy }
     ensures taken { TakesCopy }
+    ensures held { AddsHeld }
 {}
 
 /// A step that keeps a group of lines says no `stop`. So where a group that is to be kept can't be,
