@@ -235,9 +235,8 @@ unended_begins path before mid now gate Filled end state counted counted' listin
 }
   where
     still : WhereTold before.told now.told (Finds path r.found [] gate)
-    still = told_both before.told mid.told now.told (Finds path r.found [] gate) (λ o n. n ≡ o)
-        (Finds path r.found [] gate) (λ o m n p q. subst (λ (h : History). Finds path r.found [] gate o h) (sym q) p)
-        r.finds c.3
+    still = told_both before.told mid.told now.told (Finds path r.found [] gate) _ (Finds path r.found [] gate)
+        (λ o m n p q. record { since = p.since; begins = p.begins; holds = q p.since p.holds }) r.finds (c.3 r.found)
 unended_begins path before mid now gate Done end state counted counted' listing r c unlisted = absurd c
 unended_begins path before mid now gate Usage end state counted counted' listing r c unlisted = absurd c
 unended_begins path before mid now gate ReadFault end state counted counted' listing r c unlisted = absurd c

@@ -86,7 +86,9 @@ CantEnd DiskFault gate old before now = IsSome old.batch × Counted before.fault
     × ((found : List Bytes) → WhereTold before.told now.told (λ o n. (start : History)
     → IsKeeping found [] gate start o → WasKeeping found [] abandoning start n))
 CantEnd LogFull gate old before now = IsSome old.batch × (now.faults ≡ before.faults)
-    × Overfull (Some gate) abandoning × WhereTold before.told now.told (λ o n. n ≡ o)
+    × Overfull (Some gate) abandoning
+    × ((found : List Bytes) → WhereTold before.told now.told (λ o n. (start : History)
+    → IsKeeping found [] gate start o → IsKeeping found [] gate start n))
 CantEnd _ gate old before now = ⊥
 
 -- What opening a log and loading its lines comes to, where one is asked for: a state to start from,

@@ -1,6 +1,7 @@
-use Rattle.std.proofs.Common.{[], Bor, sym, subst}
-use Rattle.std.specs.Prelude.{Option, None, Ok}
+use Rattle.std.proofs.Common.{[], Bor, refl, sym, ap, subst}
+use Rattle.std.specs.Prelude.{Option, Ok, Err}
 use Rattle.djq_model.specs.Data.{Bytes}
+use Rattle.djq_machine.specs.State.{State}
 use Rattle.djq_machine.specs.Call.{counts}
 use Rattle.djq_core.specs.Views.{loading_in}
 use Rattle.djq.specs.Logged.{disk_seen, log_seen}
