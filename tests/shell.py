@@ -608,6 +608,35 @@ def refusals_say_what_to_do(program):
 
 
 @test(*TERMINAL)
+def an_open_batch_is_shown(program):
+    with Terminal("--local", "--program", program) as shell:
+        shell.runs("rel r int int", "ok")
+        shell.runs("query q(x,y) <- r(x,y)", "ok query 5")
+        shell.runs("watch q", "ok watch 0")
+        assert "\n[0 held] djq>" in shell.runs("batch", "ok batch")
+        assert "\n[1 held] djq>" in shell.runs("add r 1 2", "ok held 1")
+        assert "it holds 1 row: done puts them in" in shell.runs("drop q", "err 18 batch: a batch is open")
+        assert "r has the columns int int" in shell.runs("add r 1", "err 6 arity")
+        shell.runs("\\show q", "a batch is open, and \\show asks the server")
+        shell.runs("\\names", "rel r int int")
+        shell.runs("add r 3 4", "ok held 2")
+        shell.completes("do")  # no drop here
+        told = shell.runs("", "+ q  1  2")
+        assert "+ q  3  4" in told and "ok done 1 2" in told and "2 rows came, as one change" in told, told
+        assert "\ndjq>" in told, told
+        assert "batch opens one" in shell.runs("done", "err 18 batch: no batch is open")
+        shell.runs("batch", "ok batch")
+        shell.runs("add r 1 2", "ok held 1")
+        assert "no row came: each was there" in shell.runs("done", "ok done 1 0")
+        shell.runs("batch", "ok batch")
+        shell.runs("add r 5 6", "ok held 1")
+        assert "\ndjq>" in shell.runs("abandon", "ok")
+        shell.runs("has q 5 6", "no")
+        shell.types("\\q\r")
+        expect(shell.ends(), 0)
+
+
+@test(*TERMINAL)
 def changes_leave_the_line_that_is_typed(program):
     with Server(program) as server, server.connect() as other, Terminal(f"127.0.0.1:{server.port}") as shell:
         other.relation("r", int, str)
