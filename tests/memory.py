@@ -350,11 +350,12 @@ say 2 add s 3
 say 1 done
 say 5 next c 9
 say 2 done
-say 6 batch
 say 2 explain q
 say 2 drop p
 open 6
 say 6 has q 2 2
+say 6 batch
+say 6 add s 6
 say 6 quit
 end 5
 say 1 drop p
