@@ -349,7 +349,7 @@ say 2 batch
 say 2 add s 3
 say 1 done
 say 5 next c 9
-say 2 done
+say 2 abandon
 say 2 explain q
 say 2 drop p
 open 6
