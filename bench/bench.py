@@ -102,7 +102,9 @@ def apply(base, changes, at_once=1):
     begin = time.perf_counter()
     for at, (word, table, row) in enumerate(changes):
         if at_once > 1 and at % at_once == 0:
-            base.executescript("commit; begin" if at else "begin")
+            if at:
+                base.execute("commit")
+            base.execute("begin")
         base.execute(words[word, table], row)
     if at_once > 1:
         base.execute("commit")
