@@ -132,7 +132,8 @@ none_pass p [] h = All-nil (λ x. p x ≡ false)
 none_pass p (x ∷ xs) h = let n = none_or (p x) (list_any p xs) h in All-cons (λ y. p y ≡ false) x xs n.0 (none_pass p xs n.1)
 
 -- Where each relation that is read has the rows that it had, answers are the same.
-pub read_same : (rs rs' : List Relation) (q : Listed) → ((n : Bytes) → listed_reads q n ≡ true → rows_of rs' n ≡ rows_of rs n)
+pub read_same : (rs rs' : List Relation) (q : Listed)
+    → ((n : Bytes) → listed_reads q n ≡ true → rows_of rs' n ≡ rows_of rs n)
     → SameAnswers rs rs' q
 read_same rs rs' q same = same_within rs rs' q
     (λ n r row c. subst (λ (ts : List Tuple). Contains ts row) (sym (same n r)) c)

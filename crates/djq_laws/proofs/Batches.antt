@@ -1,5 +1,34 @@
 -- What a batch of rows makes of a store: a change of the relations of which rows come, or none.
-use Rattle.std.specs.Prelude.{ℕ, zero, suc, List, [], ◌∷◌, ◌≡◌, ◌≤◌, ◌+◌, ◌++◌, ◌&&◌, ◌||◌, Bool, true, false, cond, not, length, nat_le, None, Some, find, map, Result, Ok, Err, All, Contains}
+use Rattle.std.specs.Prelude.{
+  ℕ,
+  zero,
+  suc,
+  List,
+  [],
+  ◌∷◌,
+  ◌≡◌,
+  ◌≤◌,
+  ◌+◌,
+  ◌++◌,
+  ◌&&◌,
+  ◌||◌,
+  Bool,
+  true,
+  false,
+  cond,
+  not,
+  length,
+  nat_le,
+  None,
+  Some,
+  find,
+  map,
+  Result,
+  Ok,
+  Err,
+  All,
+  Contains,
+}
 use Rattle.std.proofs.Common.{refl, sym, ap, ◌∙◌, subst, inl, inr, arith}
 use Rattle.std.proofs.lemmas.List.Elements.{All-nil, All-cons, All-head, All-tail, All-contains}
 use Rattle.djq_deltas.proofs.Lists.{first_there, later_there}
@@ -263,7 +292,7 @@ stops_learned old front at new NoMemory places h stays =
     }
 stops_learned old front at new _ places h stays = absurd h
 
-not_batched : (old : Store) (held : List HeldRow) (r : Refusal) (new : Store) → RefusesBatch old held new r
+pub not_batched : (old : Store) (held : List HeldRow) (r : Refusal) (new : Store) → RefusesBatch old held new r
     → LearnsTexts old new
 not_batched old held r new h = stops_learned old h.front h.at new r h.places h.stops h.stays
 

@@ -424,7 +424,7 @@ hold_does old s x held l name row (Ok u) new is answer after = is_turned (record
 })
 
 -- `add`, and `done`, by the session's batch
-add_does : (old : State) (s : ℕ) (x : Session) (l name : Bytes) (row : Tuple) (e : Effect) (new : State)
+pub add_does : (old : State) (s : ℕ) (x : Session) (l name : Bytes) (row : Tuple) (e : Effect) (new : State)
     (batch : Option (List HeldRow)) → x.batch ≡ batch
     → MatchOption batch (AddStep old s name row e new) (λ held. HoldStep old s held l name row e new)
     → Does (add_form batch l name row) old s x e new
@@ -434,7 +434,7 @@ add_does old s x l name row e new (Some held) is h = (
   hold_does old s x held l name row h.result new is h.answer h.state,
 )
 
-done_does : (old : State) (s : ℕ) (x : Session) (e : Effect) (new : State) (batch : Option (List HeldRow))
+pub done_does : (old : State) (s : ℕ) (x : Session) (e : Effect) (new : State) (batch : Option (List HeldRow))
     → MatchOption batch ⊥ (λ held. DoneStep old s held e new) → Does (done_form batch) old s x e new
 done_does old s x e new None h = absurd h
 done_does old s x e new (Some held) h = h

@@ -27,7 +27,41 @@ use Rattle.djq_laws.proofs.Finding.{some_and, find_dropped}
 use Rattle.djq_laws.proofs.Told.{change_keeps}
 use Rattle.djq_laws.proofs.Queueing.{session_changed}
 use Rattle.djq_laws.specs.Given.{RunsGive}
-use Rattle.djq_laws.specs.Form.{form_of, Form, asking, storing, turning, changing, ending, Turn, opens_cursor, moves_cursor, closes_cursor, starts_watching, stops_watching, opens_batch, holds_row, closes_batch, RowCommand, Replied, is_whole, is_cut, Stored, learns_texts, makes_relation, registers, drops_query, in_use, MovesCursor, without_cursor, Turned, DoesTurn, is_turned, is_refused, Does}
+use Rattle.djq_laws.specs.Form.{
+  form_of,
+  Form,
+  asking,
+  storing,
+  turning,
+  changing,
+  ending,
+  Turn,
+  opens_cursor,
+  moves_cursor,
+  closes_cursor,
+  starts_watching,
+  stops_watching,
+  opens_batch,
+  holds_row,
+  closes_batch,
+  RowCommand,
+  Replied,
+  is_whole,
+  is_cut,
+  Stored,
+  learns_texts,
+  makes_relation,
+  registers,
+  drops_query,
+  in_use,
+  MovesCursor,
+  without_cursor,
+  Turned,
+  DoesTurn,
+  is_turned,
+  is_refused,
+  Does,
+}
 use Rattle.djq_laws.proofs.Forms.{command_does, Reads, turned_down, carried_out, line_reads}
 use Rattle.djq_laws.proofs.Rows.{RowsMade}
 use Rattle.djq_laws.proofs.Doing.{closing, begun, closing_cursors, rows_do}

@@ -89,7 +89,17 @@ use Rattle.djq_machine.specs.Stale.{outdated, outdater_of, outdated_cursor}
 use Rattle.djq_machine.specs.Changes.{RowsChange, RowsOutcome, tried, changed}
 use Rattle.djq_machine.specs.Watch.{Telling, ChangeStep}
 use Rattle.djq_machine.specs.Effect.{Effect, nothing, says, EndsWith, RefusedStep, queue, queue_all}
-use Rattle.djq_machine.specs.Command.{open_refusal, with_cursor, OpensTo, with_watch, without_watch, with_batch, without_batch, NextStepAt, CommandStep}
+use Rattle.djq_machine.specs.Command.{
+  open_refusal,
+  with_cursor,
+  OpensTo,
+  with_watch,
+  without_watch,
+  with_batch,
+  without_batch,
+  NextStepAt,
+  CommandStep,
+}
 use Rattle.djq_machine.specs.LineStep.{LineOutcome, long, blank, slow, no_room, run, ReadStep, FrontStep, behind_line}
 use Rattle.djq_machine.specs.Step.{
   Event,
@@ -125,7 +135,36 @@ use Rattle.djq_laws.specs.Listed.{
   position_of,
   GivenIsTold,
 }
-use Rattle.djq_laws.specs.Form.{add_form, done_form, form_of, Form, asking, storing, turning, changing, ending, Turn, opens_cursor, moves_cursor, closes_cursor, starts_watching, stops_watching, opens_batch, holds_row, closes_batch, Replied, is_whole, is_cut, MovesCursor, without_cursor, Turned, DoesTurn, is_turned, is_refused, Does}
+use Rattle.djq_laws.specs.Form.{
+  add_form,
+  done_form,
+  form_of,
+  Form,
+  asking,
+  storing,
+  turning,
+  changing,
+  ending,
+  Turn,
+  opens_cursor,
+  moves_cursor,
+  closes_cursor,
+  starts_watching,
+  stops_watching,
+  opens_batch,
+  holds_row,
+  closes_batch,
+  Replied,
+  is_whole,
+  is_cut,
+  MovesCursor,
+  without_cursor,
+  Turned,
+  DoesTurn,
+  is_turned,
+  is_refused,
+  Does,
+}
 use Rattle.djq_laws.proofs.Finding.{some_and, find_changed, find_other, find_dropped}
 use Rattle.djq_laws.proofs.Told.{change_keeps}
 use Rattle.djq_laws.proofs.Queueing.{session_changed, session_other}
@@ -133,7 +172,17 @@ use Rattle.djq_laws.proofs.Changing.{all_found}
 use Rattle.djq_laws.proofs.Touching.{says_to, said}
 use Rattle.djq_machine.specs.Gives.{PositionGives, CursorsGive}
 use Rattle.djq_laws.proofs.Live.{listed}
-use Rattle.djq_laws.proofs.Forms.{none_holds, none_found, none_first, next_does, command_does, Reads, turned_down, carried_out, line_reads}
+use Rattle.djq_laws.proofs.Forms.{
+  none_holds,
+  none_found,
+  none_first,
+  next_does,
+  command_does,
+  Reads,
+  turned_down,
+  carried_out,
+  line_reads,
+}
 use Rattle.djq_laws.proofs.Doing.{closing, begun, closing_id, closing_cursors, rows_do}
 use Rattle.djq_laws.proofs.Giving.{runs_give}
 use Rattle.djq_laws.proofs.Sounding.{

@@ -27,7 +27,42 @@ use Rattle.djq_machine.specs.Call.{IsOpen, cause_of, cause_in}
 use Rattle.djq_laws.specs.Moved.{EndsByRun, Spares, Comes, is_held, out_of_memory, is_dropped, Ends, input_ends, had_ended}
 use Rattle.djq_laws.specs.Watched.{IsWatcher, WatchesAlong}
 use Rattle.djq_laws.specs.Staying.{GoesOn, KeepsWatch, WatchersStay}
-use Rattle.djq_laws.specs.Form.{form_of, Form, asking, storing, turning, changing, ending, Turn, opens_cursor, moves_cursor, closes_cursor, starts_watching, stops_watching, opens_batch, holds_row, closes_batch, RowCommand, Replied, is_whole, is_cut, Stored, learns_texts, makes_relation, registers, drops_query, in_use, without_cursor, Turned, Changed, DoesStore, DoesTurn, is_turned, is_refused, Does}
+use Rattle.djq_laws.specs.Form.{
+  form_of,
+  Form,
+  asking,
+  storing,
+  turning,
+  changing,
+  ending,
+  Turn,
+  opens_cursor,
+  moves_cursor,
+  closes_cursor,
+  starts_watching,
+  stops_watching,
+  opens_batch,
+  holds_row,
+  closes_batch,
+  RowCommand,
+  Replied,
+  is_whole,
+  is_cut,
+  Stored,
+  learns_texts,
+  makes_relation,
+  registers,
+  drops_query,
+  in_use,
+  without_cursor,
+  Turned,
+  Changed,
+  DoesStore,
+  DoesTurn,
+  is_turned,
+  is_refused,
+  Does,
+}
 use Rattle.djq_laws.proofs.Finding.{some_and, and_some}
 use Rattle.djq_laws.proofs.Forms.{command_does, Reads, turned_down, carried_out, line_reads}
 use Rattle.djq_laws.proofs.Rows.{made_queries}
@@ -40,7 +75,16 @@ use Rattle.djq_laws.proofs.Touching.{AnyCause, Touches, is_fed, is_stepped, is_t
 use Rattle.djq_laws.proofs.Moving.{fed_facts, took_facts, ended_facts}
 use Rattle.djq_laws.proofs.Sending.{step_open, others_stay}
 use Rattle.djq_laws.proofs.Containing.{found_there, any_there}
-use Rattle.djq_laws.proofs.Telling.{Watches, some_of, IsOver, over_stays, watches_still, watches_changed, watches_with, watches_begun}
+use Rattle.djq_laws.proofs.Telling.{
+  Watches,
+  some_of,
+  IsOver,
+  over_stays,
+  watches_still,
+  watches_changed,
+  watches_with,
+  watches_begun,
+}
 use Rattle.djq_laws.proofs.Watching.{change_store, queued_store}
 
 -- a session that watches a query so far, or is over

@@ -114,7 +114,8 @@ form_stopped (changing c) old s x e new other h =
 form_stopped ending old s x e new other h = absurd other
 
 -- `quit` and `stop` alone are of that form
-no_ending_add : (batch : Option (List HeldRow)) (l name : Bytes) (row : Tuple) → IsNoEnding (form_of batch l (Add name row))
+no_ending_add : (batch : Option (List HeldRow)) (l name : Bytes) (row : Tuple)
+    → IsNoEnding (form_of batch l (Add name row))
 no_ending_add None l name row = tt
 no_ending_add (Some held) l name row = tt
 

@@ -1,5 +1,26 @@
 -- Rows suit their relations as long as these keep their types.
-use Rattle.std.specs.Prelude.{List, [], ◌∷◌, ◌==◌, ◌≡◌, ◌<◌, ◌++◌, nat_le, Bool, true, false, cond, not, length, Option, None, Some, is_none, IfSome, option_map}
+use Rattle.std.specs.Prelude.{
+  List,
+  [],
+  ◌∷◌,
+  ◌==◌,
+  ◌≡◌,
+  ◌<◌,
+  ◌++◌,
+  nat_le,
+  Bool,
+  true,
+  false,
+  cond,
+  not,
+  length,
+  Option,
+  None,
+  Some,
+  is_none,
+  IfSome,
+  option_map,
+}
 use Rattle.std.proofs.Common.{refl, sym, ap, ◌∙◌, subst, arith, length-append}
 use Rattle.std.proofs.lemmas.Bool.{leb-false}
 use Rattle.std.proofs.lemmas.List.Elements.{All-weaker, All-push}
@@ -35,7 +56,8 @@ abbrev pub SameTypes : List Relation → List Relation → Type 0
 SameTypes rs rs' = (n : Bytes) → types_at rs' n ≡ types_at rs n
 
 -- It is so of other rows in one relation,
-pub types_with_rows : (rs : List Relation) (name : Bytes) (rows : List CountedRow) → SameTypes rs (with_rows rs name rows)
+pub types_with_rows : (rs : List Relation) (name : Bytes) (rows : List CountedRow)
+    → SameTypes rs (with_rows rs name rows)
 types_with_rows rs name rows n = by (bytes_eq n name) refl
   where
     kept : (o : Option Relation) → option_map IsOfTypes (option_map (λ (r : Relation). record r { rows = rows }) o)
@@ -90,7 +112,8 @@ types_suit old new same name row h =
     suit_same (relation_of old.relations name) (relation_of new.relations name) row (same name) h
 
 -- a relation more
-more_front : (rs : List Relation) (more : Relation) (name : Bytes) (row : Tuple) → suit_in (relation_of rs name) row ≡ None
+more_front : (rs : List Relation) (more : Relation) (name : Bytes) (row : Tuple)
+    → suit_in (relation_of rs name) row ≡ None
     → suit_in (relation_of (rs ++ more ∷ []) name) row ≡ None
 more_front [] more name row h = absurd cc
 more_front (r ∷ rs) more name row h = by (bytes_eq r.name name) h (λ k. more_front rs more name row k)

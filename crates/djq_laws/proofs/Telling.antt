@@ -91,14 +91,17 @@ watches_changed q old change store s w =
     (find_mapped (λ (x : Session). x.id == s) f (λ x. refl) old.sessions ∙ ap (λ o. option_map f o) g.1) g.2
 
 -- a change of one session that keeps what it watches
-pub watches_with : (q : Bytes) (old : State) (t : ℕ) (f : Session → Session) (s : ℕ) (b : Bool) → (t == s) ≡ b → ((x : Session) → (f x).id ≡ x.id)
-    → (b ≡ true → (x : Session) → is_watching q x ≡ true → is_watching q (f x) ≡ true) → Watches q (session_of old s) → Watches q (session_of (with_session old t f) s)
+pub watches_with : (q : Bytes) (old : State) (t : ℕ) (f : Session → Session) (s : ℕ) (b : Bool) → (t == s) ≡ b
+    → ((x : Session) → (f x).id ≡ x.id)
+    → (b ≡ true → (x : Session) → is_watching q x ≡ true → is_watching q (f x) ≡ true) → Watches q (session_of old s)
+    → Watches q (session_of (with_session old t f) s)
 watches_with q old t f s true e id keeps w =
     let same : t ≡ s = eqb-true t s e in
     let g = some_and (session_of old s) (λ x. is_watching q x ≡ true) w in
     subst (λ (i : ℕ). Watches q (session_of (with_session old i f) s)) (sym same)
     (and_some (session_of (with_session old s f) s) (λ x. is_watching q x ≡ true) (f g.0) (session_changed old s f id ∙ ap (λ o. option_map f o) g.1) (keeps refl g.0 g.2))
-watches_with q old t f s false e id keeps w = subst (λ (o : Option Session). Watches q o) (sym (session_other old t s f id e)) w
+watches_with q old t f s false e id keeps w =
+    subst (λ (o : Option Session). Watches q o) (sym (session_other old t s f id e)) w
 
 -- a command of rows, before its change is told
 pub watches_begun : (q : Bytes) (old : State) (t : ℕ) (c : RowCommand) (s : ℕ) → Watches q (session_of old s)

@@ -1,5 +1,25 @@
 -- What a step tells a session that watches a query: how its answers changed, where it changes the rows of a relation that the query reads.
-use Rattle.std.specs.Prelude.{ℕ, List, [], ◌∷◌, ◌==◌, ◌≡◌, ◌<◌, ◌+◌, ◌++◌, ◌⊎◌, Bool, true, false, length, Option, None, Some, is_some, MatchOption}
+use Rattle.std.specs.Prelude.{
+  ℕ,
+  List,
+  [],
+  ◌∷◌,
+  ◌==◌,
+  ◌≡◌,
+  ◌<◌,
+  ◌+◌,
+  ◌++◌,
+  ◌⊎◌,
+  Bool,
+  true,
+  false,
+  length,
+  Option,
+  None,
+  Some,
+  is_some,
+  MatchOption,
+}
 use Rattle.std.proofs.Common.{refl, sym, ap, ◌∙◌, subst, inl, inr}
 use Rattle.std.proofs.lemmas.List.Elements.{All-weaker}
 use Rattle.djq_model.specs.declared.relation.Relation.{Relation}
@@ -179,23 +199,31 @@ module _ (q : Listed) (s : ℕ) (old : State) (registered : listed_of old.store.
   form_tells ending t x e new running h =
       same_store q s e.queued false old new (ap (λ (st : State). st.store) h.1.state)
 
-  read_tells : (t : ℕ) (x : Session) (l : Bytes) (r : Reading) (e : Effect) (new : State) → cause_of new s ≡ None → ReadStep old t x l r e new
+  read_tells : (t : ℕ) (x : Session) (l : Bytes) (r : Reading) (e : Effect) (new : State) → cause_of new s ≡ None
+      → ReadStep old t x l r e new
       → StepTells q s old.store new.store e.queued (is_some (line_outdater old.store x.batch r q))
   read_tells t x l r e new running h = by (line_reads old t x l r e new h)
     where
-      by : Reads old t x l r e new → StepTells q s old.store new.store e.queued (is_some (line_outdater old.store x.batch r q))
-      by (turned_down why because k) = same_state q s e.queued (is_some (line_outdater old.store x.batch r q)) old new k.1
+      by : Reads old t x l r e new
+          → StepTells q s old.store new.store e.queued (is_some (line_outdater old.store x.batch r q))
+      by (turned_down why because k) =
+          same_state q s e.queued (is_some (line_outdater old.store x.batch r q)) old new k.1
       by (carried_out c is k) =
           subst (λ (o : Option Bytes). StepTells q s old.store new.store e.queued (is_some o))
           (outdated_alike old.store x.batch l c q ∙ ap (λ (w : Reading). line_outdater old.store x.batch w q) (sym is))
           (form_tells (form_of x.batch l c) t x e new running (command_does old t x l c e new k))
 
 front_tells : (q : Listed) (s : ℕ) (old : State) → listed_of old.store.queries (listed_name q) ≡ Some q → Watches (listed_name q) (session_of old s)
-    → (t : ℕ) (x : Session) (outcome : LineOutcome) (e : Effect) (new : State) → session_of old t ≡ Some x → cause_of new s ≡ None → FrontStep old t x outcome e new → StepTells q s old.store new.store e.queued (event_changes q old (stepped t outcome))
+    → (t : ℕ) (x : Session) (outcome : LineOutcome) (e : Effect) (new : State) → session_of old t ≡ Some x
+    → cause_of new s ≡ None → FrontStep old t x outcome e new
+    → StepTells q s old.store new.store e.queued (event_changes q old (stepped t outcome))
 front_tells q s old registered watches t x long e new found running h = one_session q s e.queued false old new t _ h.1.1
-front_tells q s old registered watches t x (blank l) e new found running h = one_session q s e.queued false old new t _ h.1.then.1
-front_tells q s old registered watches t x (slow l) e new found running h = same_store q s e.queued false old new (ap (λ (st : State). st.store) h.2.then.1)
-front_tells q s old registered watches t x (no_room l) e new found running h = same_store q s e.queued false old new (ap (λ (st : State). st.store) h.2.then.1)
+front_tells q s old registered watches t x (blank l) e new found running h =
+    one_session q s e.queued false old new t _ h.1.then.1
+front_tells q s old registered watches t x (slow l) e new found running h =
+    same_store q s e.queued false old new (ap (λ (st : State). st.store) h.2.then.1)
+front_tells q s old registered watches t x (no_room l) e new found running h =
+    same_store q s e.queued false old new (ap (λ (st : State). st.store) h.2.then.1)
 front_tells q s old registered watches t x (run l) e new found running h =
     let taken = with_session old t (behind_line h.2.rest) in
     subst (λ (o : Option Session). StepTells q s old.store new.store e.queued (is_some (line_outdater old.store (batch_in o) (reading_of l) q))) (sym found)

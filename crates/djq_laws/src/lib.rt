@@ -132,9 +132,9 @@ pub fn runs_give()
 {}
 
 /// What an open cursor has given is what its session was told since it opened it: the replies to
-/// its `next` lines are page by page those answers, in order, and the last of them tells the end
-/// exactly where the cursor is finished. So a session that has listed a query was told each answer
-/// over the present rows, once.
+/// its `next` lines, but those that a batch doesn't let through, are page by page those answers, in
+/// order, and the last of them tells the end exactly where the cursor is finished. So a session that
+/// has listed a query was told each answer over the present rows, once.
 pub fn given_is_told()
     ensures given { GivenIsTold }
     ensures listed { ListedIsTold }
