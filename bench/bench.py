@@ -17,12 +17,15 @@ import sqlite3
 import statistics
 import subprocess
 import sys
+import tempfile
 import threading
 import time
 
 sys.path.insert(0, os.path.join(os.path.dirname(os.path.abspath(__file__)), "..", "clients", "python"))
 import djq  # noqa: E402
 
+HELD = 1000  # rows of a batch
+LOGGED = 200  # rows that are added alone to a server with a log
 REGISTERED = 2_000_000  # rows over which a query is registered while another session waits
 SENTINEL = b"has nothing_is_named_so"  # a line that is answered by LAST alone
 LAST = b"err 4 no query\n"
@@ -86,9 +89,10 @@ def base_bytes(base):
     return base.execute("select page_count * page_size from pragma_page_count, pragma_page_size").fetchone()[0]
 
 
-def apply(base, changes):
-    """Gives SQLite the changes, one after another, and reads what its triggers logged; gives the seconds, and the log.
-    A row that is there has one copy more, or one less, and a trigger deletes it with its last."""
+def apply(base, changes, at_once=1):
+    """Gives SQLite the changes, one after another, or so many a transaction, and reads what its triggers logged; gives
+    the seconds, and the log. A row that is there has one copy more, or one less, and a trigger deletes it with its
+    last."""
     words = {}
     for table in {table for _, table, _ in changes}:
         wanted = " and ".join(f"{name} = ?" for name in ("x", "y"))
@@ -96,8 +100,14 @@ def apply(base, changes):
         words["del", table] = f"update {table} set copies = copies - 1 where {wanted}"
     base.execute("delete from log")
     begin = time.perf_counter()
-    for word, table, row in changes:
+    for at, (word, table, row) in enumerate(changes):
+        if at_once > 1 and at % at_once == 0:
+            if at:
+                base.execute("commit")
+            base.execute("begin")
         base.execute(words[word, table], row)
+    if at_once > 1:
+        base.execute("commit")
     log = base.execute("select * from log order by rowid").fetchall()
     return time.perf_counter() - begin, log
 
@@ -230,6 +240,26 @@ def copies(program, count):
     theirs, log = apply(base, changes)
     same(log, [], "copies")
     yield "copies: one copy more of a row, or one of two less", ours / len(changes), theirs / len(changes), "ns"
+
+
+def batches(program, count):
+    """Rows below a watched join, each alone and by batches, of which each is told as one delta."""
+    half = count // 2
+    fill = [("add", "s", (w, z)) for z, w in pairs(half, half, 3)]
+    changes = [("add", "r", row) for row in pairs(half, half, 2)]
+    rows = lines_of(changes)
+    batched = [line for at in range(0, half, HELD) for line in ["batch", *rows[at : at + HELD], "done"]]
+    for how, said, at_once in (("each alone", rows, 1), (f"by batches of {HELD:,}", batched, HELD)):
+        with Session(program) as session:
+            session.feed(JOIN + lines_of(fill) + ["watch q"])
+            ours, told = session.feed(said)
+        base = base_of(JOIN_BASE)
+        apply(base, fill)
+        theirs, log = apply(base, changes, at_once)
+        deltas = deltas_of_lines([line for line in told if not line.startswith(("ok batch", "ok held "))])
+        same(len(deltas), -(-half // at_once), "batches")
+        same(set().union(*deltas), {row[:4] for row in log}, "batches")
+        yield f"batches: add a row below a watched join, {how}", ours / half, theirs / half, "ns"
 
 
 def register(program, count):
@@ -399,6 +429,7 @@ PARTS = {
     "load": load,
     "join": join,
     "copies": copies,
+    "batches": batches,
     "register": register,
     "dead-ends": dead_ends,
     "fan-out": fan_out,
@@ -414,10 +445,10 @@ PARTS = {
 class Server:
     """`PROGRAM serve` on a free port of loopback."""
 
-    def __init__(self, program):
+    def __init__(self, program, *words):
         with socket.create_server(("127.0.0.1", 0)) as free:
             self.port = free.getsockname()[1]
-        self.process = subprocess.Popen([program, "serve", f"127.0.0.1:{self.port}"])
+        self.process = subprocess.Popen([program, "serve", f"127.0.0.1:{self.port}", *words])
 
     def __enter__(self):
         self.clients = []
@@ -567,6 +598,30 @@ def loading(program, count):
     yield "  of what a bare socket takes", 100 * loaded / bare, "%"
 
 
+def logging(program, _count):
+    """A server that keeps a log: rows below a join, each alone and by batches, each reply waited for."""
+    with tempfile.TemporaryDirectory() as folder, Server(program, "--log", os.path.join(folder, "log")) as server:
+        client = server.clients[0]
+        ask(client, ("\n".join(JOIN) + "\n").encode(), len(JOIN))
+        taken = {"alone": [], "batch": [], "done": []}
+        for at in range(LOGGED):
+            begin = time.perf_counter()
+            ask(client, b"add s %d %d\n" % (at, at))
+            taken["alone"].append(time.perf_counter() - begin)
+        for first in range(0, LOGGED * HELD // 10, HELD):
+            rows = b"".join(b"add r %d %d\n" % (first + at, (first + at) % LOGGED) for at in range(HELD))
+            begin = time.perf_counter()
+            ask(client, b"batch\n" + rows, 1 + HELD)
+            held = time.perf_counter()
+            same(ask(client, b"done\n").endswith(b" %d\n" % HELD), True, "logging")
+            taken["done"].append(time.perf_counter() - held)
+            taken["batch"].append(time.perf_counter() - begin)
+    median = {what: statistics.median(times) * 1e6 for what, times in taken.items()}
+    yield "with a log: an add, median", median["alone"], "us"
+    yield f"with a log: a batch of {HELD:,} rows, median", median["batch"], "us"
+    yield "  of that its `done`", median["done"], "us"
+
+
 def idle(program, _count):
     """What a server uses that nobody talks to."""
     for number in (0, 64):
@@ -588,6 +643,7 @@ LOOPBACK = {
     "latency": latency,
     "registering": registering,
     "loading": loading,
+    "logging": logging,
     "idle": idle,
 }
 

@@ -22,7 +22,7 @@ HERE = os.path.dirname(os.path.abspath(__file__))
 KEPT = os.path.join(HERE, "counted.json")
 PAGE = os.path.join(HERE, "..", "docs", "PERFORMANCE.md")
 TABLE = re.compile(r"(?<=<!-- begin: bench/count.py --write -->\n).*?(?=<!-- end -->)", re.DOTALL)
-NO_CHANGE = re.compile(r"err |no |stale |ok absent|ok added \d+ (?!1$)|ok removed \d+ (?!0$)")
+NO_CHANGE = re.compile(r"err |no |stale |ok absent|ok added \d+ (?!1$)|ok removed \d+ (?!0$)|ok done \d+ 0$")
 AT_ONCE = 3  # streams that are run side by side
 
 

@@ -1,4 +1,4 @@
-"""The streams whose instructions `count.py` counts: fifteen kinds of work, each made for a number of rows.
+"""The streams whose instructions `count.py` counts: sixteen kinds of work, each made for a number of rows.
 
 The letters name them in what `count.py` tells. Each stream is the same on every machine.
 """
@@ -41,6 +41,14 @@ def below_a_join(rows):
     lines += [add("s", chance.randrange(keys), at) for at in range(rows // 2)]
     chance.shuffle(lines)
     return Stream(relations("rs") + [JOIN], lines, len(lines))
+
+
+def by_batches(rows):
+    """The same rows by batches of a thousand."""
+    stream = below_a_join(rows)
+    groups = [stream.counted[at : at + 1000] for at in range(0, rows, 1000)]
+    stream.counted = [line for group in groups for line in ["batch", *group, "done"]]
+    return stream
 
 
 def filled_path(rows):
@@ -203,6 +211,7 @@ class Workload:
 
 WORKLOADS = {
     "A": Workload("an add below a join of two", below_a_join, 2000, 1_328),
+    "A2": Workload("a row of a batch of a thousand below the same", by_batches, 2000),
     "B": Workload("the first ten answers of a path of three", first_ten, 3000, 4_927),
     "B2": Workload("the same, most matches being dead ends", first_ten_behind_dead_ends, 4000, 6_114),
     "C": Workload("an answer of a listing", listing, 4000, 262),

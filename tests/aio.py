@@ -34,11 +34,9 @@ def random_commands(count, seed):
     for text in QUERIES:
         yield "query", (text,)
     for _ in range(count):
-        relation = chance.choice("rrsst")
-        row = [chance.randrange(6) if kind is int else chance.choice(TEXTS) for kind in TYPES[relation]]
-        if chance.random() < 0.05:
-            row = chance.choice([row + [1], row[:-1], [2**63, *row[1:]], ["text", *row[1:]]])
-        yield chance.choice(["add", "delete"]), (relation, *row)
+        yield chance.choice(["add", "delete"]), random_row(chance)
+        if chance.random() < 0.1:
+            yield "batch", [random_row(chance) for _ in range(chance.randrange(6))]
         if chance.random() < 0.2:
             yield chance.choice([("has", ("q", 1, 2, "a")), ("has", ("p", "ü")), ("snapshot", ("q",)), ("has", ("z",))])
         if chance.random() < 0.1:
@@ -46,6 +44,29 @@ def random_commands(count, seed):
             yield "shape", (chance.choice("qpz"),)
         if chance.random() < 0.02:
             yield chance.choice([("drop", ("q",)), ("relation", ("r", int)), ("ping", ()), ("add", ("No", 1))])
+
+
+def random_row(chance):
+    """A row behind the name of its relation; some don't fit it."""
+    relation = chance.choice("rrsst")
+    row = [chance.randrange(6) if kind is int else chance.choice(TEXTS) for kind in TYPES[relation]]
+    if chance.random() < 0.05:
+        row = chance.choice([row + [1], row[:-1], [2**63, *row[1:]], ["text", *row[1:]]])
+    return relation, *row
+
+
+def batch_of(client, rows):
+    with client.batch() as batch:
+        for row in rows:
+            batch.add(*row)
+    return batch.result()
+
+
+async def awaited_batch_of(client, rows):
+    async with client.batch() as batch:
+        for row in rows:
+            batch.add(*row)
+    return batch.result()
 
 
 def plain(result):
@@ -58,7 +79,7 @@ def one_after_another(server, commands):
     with server.connect() as client:
         for name, given in commands:
             try:
-                told.append(getattr(client, name)(*given))
+                told.append(batch_of(client, given) if name == "batch" else getattr(client, name)(*given))
             except djq.Error as error:
                 told.append(plain(error))
         rest = [change for change in client.changes("q", 0.2)]
@@ -71,7 +92,8 @@ async def awaited(server, commands):
     async with djq.aio.connect("127.0.0.1", server.port, SECONDS) as client:
         for name, given in commands:
             try:
-                told.append(await getattr(client, name)(*given))
+                is_batch = name == "batch"
+                told.append(await (awaited_batch_of(client, given) if is_batch else getattr(client, name)(*given)))
             except djq.Error as error:
                 told.append(plain(error))
         rest = [change async for change in client.changes("q", 0.2)]
@@ -93,7 +115,7 @@ def test_the_same_script(program):
 
 def test_the_same_methods(program):
     """What one has, the other has too, and with the same parameters."""
-    for kind in ("Connection", "Cursor", "Live", "Lives", "Pipeline", "Table"):
+    for kind in ("Batch", "Connection", "Cursor", "Live", "Lives", "Pipeline", "Table"):
         own, other = getattr(djq, kind), getattr(djq.aio, kind)
         for name, method in inspect.getmembers(own, inspect.isfunction):
             if not name.startswith("_") and name != "fileno":  # what is waited for is the loop's business
@@ -138,6 +160,37 @@ async def pipelines(server):
 def test_pipelines_and_cursors(program):
     with Server(program) as server:
         asyncio.run(pipelines(server))
+
+
+async def batches(server):
+    async with djq.aio.connect("127.0.0.1", server.port, SECONDS) as client:
+        await client.relation("r", int)
+        await client.query("q(x) <- r(x)")
+        # what other tasks say meanwhile is answered, and put before or behind the batch
+        adds = [asyncio.create_task(client.add("r", -number)) for number in range(1, 101)]
+        both = [asyncio.create_task(awaited_batch_of(client, [("r", number) for number in range(n)])) for n in (10, 20)]
+        assert [(await one).rows for one in both] == [10, 10]
+        assert [(await one).copies for one in adds] == [1] * 100
+        seq = (await client.add("r", 0)).seq
+        assert seq == 102
+        # one that is cancelled is done whole or not at all, and leaves none open
+        for pause in (0, 0, 0.0005, 0.001, 0.002, 0.004, 0.008, 1):
+            rows = [("r", 1000 + number) for number in range(1000)]
+            task = asyncio.create_task(awaited_batch_of(client, rows))
+            await asyncio.sleep(pause)
+            task.cancel()
+            await asyncio.wait([task])
+            there = len(await client.snapshot("q"))
+            assert there in (120, 1120), there
+            for number in range(1000, 1000 + there - 120):
+                while (await client.delete("r", number)).copies:
+                    pass
+        assert not task.cancelled() and task.result().rows == 1000
+
+
+def test_batches(program):
+    with Server(program) as server:
+        asyncio.run(batches(server))
 
 
 async def tasks(server):
@@ -401,7 +454,8 @@ def test_a_reply_that_doesnt_come(program):
 
 
 TESTS = [
-    test_the_same_script, test_the_same_methods, test_pipelines_and_cursors, test_tasks_share_a_connection,
+    test_the_same_script, test_the_same_methods, test_pipelines_and_cursors, test_batches,
+    test_tasks_share_a_connection,
     test_a_live_set_starts_while_rows_change, test_a_live_set_comes_back, test_several_live_sets,
     test_live_sets_find_out_that_a_server_is_stopped, test_a_table_with_a_key, test_a_reply_that_doesnt_come,
 ]  # fmt: skip

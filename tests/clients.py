@@ -99,6 +99,7 @@ def test_refusals_by_their_lines():
         ("err 12 memory", djq.OutOfMemory),
         ("err 14 in use", djq.InUse),
         ("err 16 unbound", djq.ComparisonUnbound),
+        ("err 18 batch", djq.Misplaced),
         ("err 99 else", djq.Refused),
         ("no cyclic x,y x,z y,z", djq.Cyclic),
         ("no connex x,y x,z y,z", djq.NotFreeConnex),
@@ -126,6 +127,16 @@ def test_many_replies_are_counted():
             for at in range(0, len(text), size):
                 protocol.feed(text[at : at + size])
             assert rows.done and (rows.changed, rows.replies) == (changed, len(replies)), (replies, rows.changed)
+
+
+def test_a_reply_to_a_batch():
+    protocol = djq.Protocol()
+    rows = protocol.say_rows(["add r 1", "add r 2", "add r"], b"")
+    done = protocol.say("done", djq.protocol.READ_DONE)
+    protocol.feed(b"ok held 1\nok held 2\nerr 1 syntax\n+ q 1\n+ q 2\nat q 7\nok done 7 2\n")
+    assert (rows.replies, rows.changed, rows.refused) == (3, 0, 1) and rows.first[0].line == "add r"
+    assert done.result() == djq.Done(7, 2) and done.result().changed and not djq.Done(7, 0).changed
+    assert len(protocol.changes["q"]) == 1 and protocol.due == 0
 
 
 def test_an_end_fails_what_is_due():
@@ -185,7 +196,7 @@ def test_refusals(server):
 
 def test_an_error_class_for_each_number(server):
     # 12 needs a machine without memory; 13 comes only behind bytes without a line end, which this client doesn't send
-    assert set(djq.REFUSALS) == set(range(1, 17)) - {13, 15}
+    assert set(djq.REFUSALS) == set(range(1, 19)) - {13, 15, 17}
     with server.connect() as client:
         client.relation("n", int, str)
         client.query("qn(x) <- n(x,_)")
@@ -204,6 +215,7 @@ def test_an_error_class_for_each_number(server):
             (11, lambda: client.query("qm(x) <- " + ", ".join(["n(x,_)"] * 33))),
             (14, lambda: client.drop("qn")),
             (16, lambda: client.query("qm(x) <- n(x,_), y < 5")),
+            (18, lambda: client._do("done", djq.protocol.READ_DONE)),
         ):
             error = raises(djq.Refused, call)
             assert type(error) is djq.REFUSALS[number] and error.number == number, (number, error)
@@ -259,6 +271,87 @@ def test_pipelines(server):
         assert found.result() is True
         raises(djq.Taken, twice.result)
         assert set(client.answers("qc", page=7)) == {(y, x) for x, y in rows[1:500]}
+
+
+def batch_of(client, *rows):
+    """What becomes of a batch of these rows, each behind the name of its relation."""
+    with client.batch() as batch:
+        for row in rows:
+            batch.add(*row)
+    return batch.result()
+
+
+def test_batches(server):
+    with server.connect() as client, server.connect() as other:
+        client.relation("bo", int, str)
+        client.relation("bl", int, int, str)
+        client.query("qb(o,who,l,what) <- bo(o,who), bl(o,l,what)")
+        seq = other.watch("qb")
+        with client.batch() as batch:
+            for row in (("bl", 7, 1, "bolt"), ("bl", 7, 2, "nut"), ("bo", 7, "bo"), ("bo", 7, "bo")):
+                batch.add(*row)
+            assert not client.has("qb", 7, "bo", 1, "bolt"), "nothing is sent in the block"
+            raises(djq.Error, batch.result)
+        assert batch.result() == djq.Done(seq + 1, 3) and batch.result().changed
+        raises(djq.Error, lambda: batch.add("bo", 7, "bo"))
+        came = {(7, "bo", 1, "bolt"), (7, "bo", 2, "nut")}
+        assert other.next_change("qb", SECONDS) == djq.Change(seq + 1, came, set())
+        assert client.delete("bo", 7, "bo") == djq.Removed(seq + 1, 1)
+        assert batch_of(client, ("bo", 7, "bo")) == djq.Done(seq + 1, 0)
+        assert batch_of(client) == djq.Done(seq + 1, 0) and not batch_of(client).changed
+
+
+def test_batches_of_which_nothing_comes(server):
+    with server.connect() as client:
+        client.relation("bn", int, str)
+        client.query("qbn(x,y) <- bn(x,y)")
+        seq = client.watch("qbn")
+        for rows, refused, why in (
+            ([(8, "x"), (9, 9), (10, "y"), ("a", "b")], 2, "value 2 is an int, and its column text"),
+            ([(8, "x"), (8, "x", 1)], 1, "3 values were given, and bn has 2 columns"),
+        ):
+            error = raises(djq.SomeRefused, lambda: batch_of(client, *[("bn", *row) for row in rows]))
+            assert (error.sent, error.refused, error.first[0].why) == (len(rows), refused, why), error
+        for count in (1, 5000):
+            rows = [("bn", number, "x") for number in range(djq.MOST_HELD + count)]
+            error = raises(djq.SomeRefused, lambda: batch_of(client, *rows))
+            assert isinstance(error.first[0], djq.LimitReached) and error.first[0].line == f'add bn {djq.MOST_HELD} "x"'
+        # what can't be said ends the block, of which nothing is sent
+        for kind, row in ((djq.BadName, ("No", 8)), (UnicodeError, ("bn", 8, "\ud800")), (TypeError, ("bn", 1.5, "x"))):
+            raises(kind, lambda: batch_of(client, ("bn", 8, "x"), row))
+        assert client.snapshot("qbn") == set() and client.watch("qbn") == seq
+        assert batch_of(client, *rows[: djq.MOST_HELD]) == djq.Done(seq + 1, djq.MOST_HELD)
+        assert client.snapshot("qbn") == {(number, "x") for number in range(djq.MOST_HELD)}
+
+
+class Interrupted(Exception):
+    pass
+
+
+def interrupt(*_):
+    raise Interrupted
+
+
+def test_a_batch_that_is_interrupted(program):
+    """An interrupted call leaves no batch open, and of one whose server goes away it is known that nothing came."""
+    before = signal.signal(signal.SIGALRM, interrupt)
+    with Server(program) as server, server.connect() as client:
+        client.relation("r", int)
+        client.query("q(x) <- r(x)")
+        for _ in range(3):
+            os.kill(server.process.pid, signal.SIGSTOP)
+            signal.setitimer(signal.ITIMER_REAL, 0.2)
+            raises(Interrupted, lambda: batch_of(client, ("r", 1)))
+            os.kill(server.process.pid, signal.SIGCONT)
+            assert client.snapshot("q") == set()
+        assert batch_of(client, ("r", 1)) == djq.Done(1, 1)
+        batch = client.batch()
+        batch.add("r", 2)
+        server.process.kill()
+        server.process.wait()
+        error = raises(djq.Disconnected, lambda: batch.__exit__(None, None, None))
+        assert not isinstance(error, djq.Unanswered), error
+    signal.signal(signal.SIGALRM, before)
 
 
 def test_random_rows_by_two_clients(server):
@@ -780,11 +873,12 @@ def test_stop(program):
 
 ALONE = [
     test_values_there_and_back, test_answers_there_and_back, test_deltas_between_replies, test_changes_up_to_one,
-    test_refusals_by_their_lines, test_many_replies_are_counted, test_an_end_fails_what_is_due,
+    test_refusals_by_their_lines, test_many_replies_are_counted, test_a_reply_to_a_batch,
+    test_an_end_fails_what_is_due,
 ]  # fmt: skip
 SERVED = [
-    test_commands, test_refusals, test_an_error_class_for_each_number, test_texts_and_joins, test_pipelines,
-    test_random_rows_by_two_clients, test_ends,
+    test_commands, test_refusals, test_an_error_class_for_each_number, test_comparisons, test_texts_and_joins,
+    test_pipelines, test_batches, test_batches_of_which_nothing_comes, test_random_rows_by_two_clients, test_ends,
     test_watch_and_unwatch, test_a_watched_query_is_in_use, test_two_queries_are_told_in_order_of_registration,
     test_live_beside_a_fresh_listing, test_live_begins_while_rows_change, test_a_stalled_reader_comes_back,
     test_errors_tell_what_is_wrong, test_what_isnt_sent, test_unwatch_forgets,
@@ -794,6 +888,7 @@ SERVED = [
 # each with a server of its own
 APART = [
     test_explain, test_stop, test_dashboard, test_alarm, test_cache, test_a_reply_that_doesnt_come,
+    test_a_server_that_is_started_again_with_its_log, test_a_batch_that_is_interrupted,
     *pages.TESTS, *busy.TESTS,
 ]  # fmt: skip
 

@@ -131,6 +131,23 @@ TABLE = [
      SYNTAX * 2 + b"err 5 no cursor\n" * 2 + SYNTAX, 0),
     (b'rel r text\nadd r "' + b"a" * 255 + b'"\nadd r "' + b"a" * 256 + b'"\nadd r "' + b"\\n" * 255 + b'"\n',
      b"ok\nok added 1 1\nerr 7 type\nok added 2 1\n", 0),
+    # batches
+    (b"done\nabandon\n", b"err 18 batch\n" * 2, 0),
+    (b"batch 1\ndone x\nabandon abandon\nBATCH\nbatch()\n", SYNTAX * 5, 0),
+    (b" batch \nbatch\nbatch batch\ndone\ndone\n", b"ok batch\nerr 18 batch\n" + SYNTAX + b"ok done 0 0\nerr 18 batch\n", 0),
+    (b"batch\nrel r int\n\xff\nabandon\nabandon\nrel r int\n",
+     b"ok batch\nerr 18 batch\n" + SYNTAX + b"ok\nerr 18 batch\nok\n", 0),
+    (b"batch\ndel r 99999999999999999999\nadd r 99999999999999999999\nhas q 99999999999999999999\n"
+     b"query q(x) <- r(99999999999999999999,x)\nadd r \"" + b"a" * 256 + b'"\n',
+     b"ok batch\nerr 18 batch\nerr 7 type\nerr 18 batch\nerr 18 batch\nerr 7 type\n", 0),
+    (b"rel r int\nbatch\n" + b"add r 1\n" * 1001 + b'add z 1\nadd r 1 2\nadd r "a"\nadd r 99999999999999999999\ndone\n',
+     b"ok\nok batch\n" + b"".join(b"ok held %d\n" % (at + 1) for at in range(1000))
+     + b"err 11 limit\nerr 3 no relation\nerr 6 arity\nerr 7 type\nerr 7 type\nok done 1 1\n", 0),
+    (b"rel batch int\nadd batch 1\nbatch\nadd batch 1\nadd batch 2\ndone\n",
+     b"ok\nok added 1 1\nok batch\nok held 1\nok held 2\nok done 2 1\n", 0),
+    (b"batch\nadd r", b"ok batch\nerr 13 cut\n", 0),
+    (b"batch\nquit\ndone\n", b"ok batch\nbye\n", 0),
+    (b"batch\n" + b"a" * 4097, b"ok batch\nend long\n", 8),
     (b'rel r text\nadd r "' + "é".encode() * 127 + b'"\nadd r "' + "é".encode() * 128 + b'"\n',
      b"ok\nok added 1 1\nerr 7 type\n", 0),
 ]

@@ -5,9 +5,10 @@
 
 A server with a log is killed by SIGKILL while changes come, many times over; then a new one is started on the same
 file. It has to hold every change that was answered, and nothing that wasn't sent: the changes are of such a kind that
-the number of changes alone says which rows there are. Then a file is cut at each byte and changed at each byte of its
-end, a disk is full, and a second server is started on the same file. One line is printed for each test that fails, and
-last `N passed, N failed`; the status is 0 where none failed. It needs Python's standard library alone.
+the number of changes alone says which rows there are. Some are batches of several rows, which are there all or none.
+Then a file is cut at each byte and changed at each byte of its end, a disk is full, and a second server is started on the
+same file. One line is printed for each test that fails, and last `N passed, N failed`; the status is 0 where none failed.
+It needs Python's standard library alone.
 """
 
 import argparse
@@ -110,11 +111,19 @@ def ask(connection, lines):
 BEGIN = b"rel r int int\nquery q(x) <- r(x,y), y >= 0\n"
 
 
+def of_batch(at):
+    """The rows of a batch, one of them twice."""
+    return [at, at + 1000000, at, at + 2000000]
+
+
 def change(number):
-    """The change of this number, from 1: three rows come, and then the first of them goes."""
+    """The change of this number, from 1: three rows come, then several by a batch, and then the first of the three
+    goes."""
     at = number - 1
-    if at % 4 == 3:
-        return b"del r %d 0\n" % (at - 3)
+    if at % 5 == 4:
+        return b"del r %d 0\n" % (at - 4)
+    if at % 5 == 3:
+        return b"batch\n" + b"".join(b"add r %d 0\n" % row for row in of_batch(at)) + b"done\n"
     return b"add r %d 0\n" % at
 
 
@@ -122,10 +131,10 @@ def rows_after(count):
     """The rows behind so many changes."""
     kept = set()
     for at in range(count):
-        if at % 4 == 3:
-            kept.discard(at - 3)
+        if at % 5 == 4:
+            kept.discard(at - 4)
         else:
-            kept.add(at)
+            kept.update(of_batch(at) if at % 5 == 3 else [at])
     return kept
 
 
@@ -182,7 +191,7 @@ def drain(connection, told):
 def answered(told, before):
     """The number of the last change that was answered by a whole line."""
     whole = told[:told.rfind(b"\n") + 1].decode().splitlines()
-    numbers = [int(line.split()[2]) for line in whole if line.startswith(("ok added", "ok removed"))]
+    numbers = [int(line.split()[2]) for line in whole if line.startswith(("ok added", "ok removed", "ok done"))]
     expect(numbers, list(range(before + 1, before + 1 + len(numbers))), "changes are answered in order")
     return before + len(numbers)
 
@@ -228,14 +237,60 @@ def a_schedule_is_kept(program, folder, options):
 
 
 @test
+def a_batch_is_kept_whole(program, folder, options):
+    log = os.path.join(folder, "batch")
+    begin = HEADER + record(b"rel r int int")
+    held = [b"add r 1 2", b" add  r 2 03 ", b"add r 1 2"]
+    said = [b"rel r int int", b"batch", *held, b"add r 1", b"has q 1"]
+    told = [b"ok", b"ok batch", b"ok held 1", b"ok held 2", b"ok held 3", b"err 6 arity", b"err 18 batch"]
+    for open_still in ([], [b"done"], [b"batch"], [b"batch", b"add r 5 5"], [b"batch", b"add r 5 5", b"abandon"]):
+        lines = [*said, b"done", b"batch", b"done", b"batch", b"add r 9 9", b"abandon", *open_still]
+        write(log, begin + b"\0")
+        schedule = b"open 1\n" + b"".join(b"say 1 %s\n" % line for line in lines[1:])
+        written, status, _ = replay(program, log, schedule)
+        expect(status, 0, "status")
+        expect(written.splitlines()[:8], [b"1< " + line for line in [*told[1:], b"ok done 1 2", b"ok batch"]], "replies")
+        kept = b"".join(map(record, [b"batch", *held, b"done", b"batch", b"done"]))
+        expect(read(log), begin + kept + b"\0", "the batches that were done, as their lines were said")
+    expect(replay(program, log, b"open 1\nsay 1 del r 1 2\nsay 1 del r 2 3\n")[:2],
+           (b"1< ok removed 1 1\n1< ok removed 2 0\n", 0), "the copies")
+
+
+@test
+def a_refused_batch_isnt_kept(program, folder, options):
+    log = os.path.join(folder, "refused")
+    schedule = b"open 1\nopen 2\nsay 1 rel r int\nsay 1 done\nsay 1 batch\nsay 2 batch\nsay 1 rel s int\nsay 1 add r 1\n" \
+        b"say 2 add r 7\nsay 1 abandon\nsay 2 quit\n"
+    expect(replay(program, log, schedule)[1], 0, "status")
+    expect(read(log), HEADER + record(b"rel r int") + b"\0", "the file")
+
+
+@test
+def a_file_that_ends_within_a_batch(program, folder, options):
+    log = os.path.join(folder, "within")
+    for held in ([], [b"add r 2"], [b"add r 2", b"add r 1", b"add r 3"]):
+        whole = HEADER + b"".join(map(record, [b"rel r int", b"add r 1", b"batch", *held]))
+        write(log, whole + b"\0")
+        expect(replay(program, log)[:2], (b"", 0), f"{held}: loaded")
+        whole += record(b"abandon")
+        expect(read(log), whole + b"\0", f"{held}: the batch is abandoned")
+        expect(replay(program, log)[:2], (b"", 0), f"{held}: loaded again")
+        expect(read(log), whole + b"\0", f"{held}: nothing more is kept")
+        told, status, _ = replay(program, log, b"open 1\nsay 1 done\nsay 1 add r 1\nsay 1 add r 2\n")
+        expect((told, status), (b"1< err 18 batch\n1< ok added 1 2\n1< ok added 2 1\n", 0), f"{held}: none of its rows came")
+
+
+@test
 def each_cut(program, folder, options):
     log = os.path.join(folder, "cut")
-    whole = HEADER + record(b"rel r int") + record(b"add r 7") + b"\0"
+    lines = [b"rel r int", b"add r 7", b"batch", b"add r 7", b"add r 9", b"done"]
+    gates = [0, *(len(HEADER + b"".join(map(record, lines[:count]))) for count in range(len(lines) + 1))]
+    whole = HEADER + b"".join(map(record, lines)) + b"\0"
     for size in range(1, len(whole)):
         write(log, whole[:size])
         told, status, said = replay(program, log, b"open 1\nsay 1 add r 8\n")
         expect((told, status), (b"", 11), f"cut to {size} bytes")
-        gate = max(at for at in (0, 8, 20, 30) if at <= size)
+        gate = max(at for at in gates if at <= size)
         if b"byte %d" % gate not in said:
             raise AssertionError(f"cut to {size} bytes: {said!r} doesn't name byte {gate}")
         expect(read(log), whole[:size], f"cut to {size} bytes, the file")
@@ -268,6 +323,23 @@ def a_refused_line(program, folder, options):
             expect(status, 0, "a query that can be registered")
         else:
             expect((told, status, b"byte 20" in said), (b"", 11, True), repr(line))
+
+
+@test
+def a_refused_line_of_a_batch(program, folder, options):
+    log = os.path.join(folder, "refused")
+    full = [b"add r 1"] * 1000
+    for lines in ([b"done"], [b"abandon"], [b"batch", b"batch"], [b"batch", b"rel s int"], [b"batch", b"del r 1"],
+                  [b"batch", b"quit"], [b"batch", b"add z 1"], [b"batch", b"add r 1", b"add r 1 1"], [b"batch", b"done", b"done"],
+                  [b"batch", b"add r 1", b"abandon", b"abandon"], [b"batch", *full, b"add r 1"], [b"batch", b"add r 1", b"drop q"]):
+        before = HEADER + b"".join(map(record, [b"rel r int", *lines[:-1]]))
+        whole = before + record(lines[-1]) + b"\0"
+        write(log, whole)
+        told, status, said = replay(program, log, b"open 1\nsay 1 add r 8\n")
+        expect((told, status, b"byte %d" % len(before) in said), (b"", 11, True), repr(lines[-3:]))
+        expect(read(log), whole, "the file")
+    write(log, HEADER + b"".join(map(record, [b"rel r int", b"batch", *full, b"done", b"batch", b"abandon"])) + b"\0")
+    expect(replay(program, log, b"open 1\nsay 1 add r 1\n")[:2], (b"1< ok added 1 1001\n", 0), "a batch at its limit")
 
 
 # ---------------------------------------------------------------- the disk

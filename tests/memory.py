@@ -170,6 +170,69 @@ del r 3 3
 next c 50
 """)
 
+BATCHES = lines(b"""
+rel r int int
+rel s int text
+query q(x,y,z) <- r(x,y), s(y,z)
+query p(x,y,z) <- r(x,y), r(y,z)
+query w(x) <- s(x,_)
+watch q
+watch p
+batch
+add r 1 2
+add r 2 3
+add s 2 "new"
+add s 3 "other"
+add r 1 2
+done
+open c q
+open d p
+open e w
+next c 9
+next d 9
+batch
+add s 2 "new"
+add s 2 "new"
+done
+next c 9
+next e 9
+batch
+add r 5 6
+del r 1 2
+add t 1
+add r 1
+next c 1
+abandon
+batch
+add s 2 "new"
+add r 6 2
+add s 9 "third"
+add r 6 9
+done
+next c 9
+next d 9
+next e 9
+close c
+open c q
+next c 9
+batch
+done
+done
+batch
+add r 7 7
+add r 7 8
+add r 8 7
+done
+next c 9
+close d
+open d p
+next d 99
+del r 1 2
+del r 1 2
+batch
+add r 1 2
+""")
+
 CONSTANTS_AND_TEXTS = lines(b"""
 rel r int int int
 add r 1 1 3
@@ -278,10 +341,21 @@ say 5  c p
 say 5 next c 9
 say 1 add r 2 2
 say 5 next c 9
+say 1 batch
+say 1 add r 3 3
+say 1 add s 3
+say 1 add r 2 2
+say 2 batch
+say 2 add s 3
+say 1 done
+say 5 next c 9
+say 2 abandon
 say 2 explain q
 say 2 drop p
 open 6
 say 6 has q 2 2
+say 6 batch
+say 6 add s 6
 say 6 quit
 end 5
 say 1 drop p
@@ -389,6 +463,18 @@ def self_joins_that_are_watched():
 
 
 @test
+def batches_that_are_watched():
+    each_growth_refused("batches", BATCHES)
+
+
+@test
+def a_batch_at_its_limit():
+    rows = b"".join(b'add r %d "text %d"\n' % (at, at) for at in range(1001))
+    text = b"rel r int text\nquery q(x,y) <- r(x,y)\nopen c q\nbatch\n" + rows + b"done\nnext c 1\nclose c\nopen c q\nnext c 1000\n"
+    each_growth_refused("a batch at its limit", text)
+
+
+@test
 def constants_and_texts():
     each_growth_refused("constants and texts", CONSTANTS_AND_TEXTS)
 
@@ -439,6 +525,41 @@ def changed(rows, word, row, seq, reply):
     seq += copies == (1 if word == b"add" else 0)
     expect(reply, b"ok %s %d %d" % (b"added" if word == b"add" else b"removed", seq, copies), row)
     return seq
+
+
+@test
+def batches_come_whole_or_not_at_all_where_memory_ends():
+    each, count = 500, 2000
+    row = lambda at: b"%d %d" % (at, at * 7 % MILLION)
+    text = b"rel r int int\nquery q(x,y) <- r(x,y)\nopen c q\nnext c 10\n" + b"".join(
+        b"batch\n" + b"".join(b"add r %s\n" % row(each * number + at) for at in range(each)) + b"done\n" for number in range(count))
+    text += b"close c\nopen c q\n" + b"next c 10\n" * (each * count // 10 + 1)
+    output, status = run_within(60 << 20, text)
+    expect(status, 0, output[-200:])
+    replies = iter(output.split(b"\n"))
+    expect([next(replies) for _ in range(4)], [b"ok", b"ok query 5", b"ok open", b"end"])
+    rows, seq, refused = set(), 0, 0
+    for number in range(count):
+        opened = next(replies)
+        said = [(row(each * number + at), next(replies)) for at in range(each)]
+        done, is_open = next(replies), opened == b"ok batch"
+        came = [one for one, reply in said if reply.startswith(b"ok held " if is_open else b"ok added ")]
+        expect({reply for _, reply in said if not reply.startswith(b"ok ")} <= {b"err 12 memory"}, True, "refused rows")
+        if not is_open:  # its rows came each alone
+            expect((opened, done), (b"err 12 memory", b"err 18 batch"), "a batch that isn't opened")
+            seq += len(came)
+        elif done != b"err 12 memory":
+            seq += len(came) > 0
+            expect(done, b"ok done %d %d" % (seq, len(came)), "a batch that is done")
+        else:
+            came = []
+        refused += came == []
+        rows.update(came)
+    expect(10 < refused < count - 10, True, f"{refused} of {count} batches are refused")
+    listed = [reply[2:] for reply in replies if reply.startswith(b"= ")]
+    expect(len(listed), len(rows), "how many rows are listed")
+    expect(set(listed) == rows, True, "exactly the rows of the batches that were done are listed")
+    print(f"{refused} of {count} batches of {each} rows are refused in 60 MiB, and {len(rows)} rows are listed in the end")
 
 
 @test

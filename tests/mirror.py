@@ -50,10 +50,20 @@ def replayed(program, schedule):
     return sent
 
 
+def random_row(draw):
+    return f"{draw.choice(['r', 's'])} {draw.randrange(6)} {draw.choice([0, 1, 2])}"
+
+
 def random_change(draw):
-    verb = draw.choice(["add", "add", "add", "del"])
-    relation = draw.choice(["r", "s"])
-    return f"{verb} {relation} {draw.randrange(6)} {draw.choice([0, 1, 2])}"
+    return f"{draw.choice(['add', 'add', 'add', 'del'])} {random_row(draw)}"
+
+
+def random_batch(draw):
+    """A batch; lines that aren't for one, or that open a second one, are refused in it."""
+    held = [f"add {random_row(draw)}" for _ in range(draw.randrange(6))]
+    if draw.random() < 0.2:
+        held.insert(draw.randrange(len(held) + 1), draw.choice(["batch", "next c 3", "open d q", "del r 1 1", "add r"]))
+    return ["batch", *held, draw.choice(["done", "done", "done", "abandon"])]
 
 
 def random_schedule(draw):
@@ -62,12 +72,18 @@ def random_schedule(draw):
     lines += ["say 2 rel r int int", "say 2 rel s int int", "say 2 query q(x,y,z) <- r(x,y), s(z,y)", "say 2 query qq(x) <- r(x,_)"]
     lines += ["say 1 watch q"]
     is_open = False
+    held = []  # lines of a batch of session 3, between which the others go on
     for _ in range(draw.randrange(5, 120)):
-        kind = draw.randrange(10)
+        kind = draw.randrange(12)
         if kind < 5:
-            lines.append(f"say {draw.choice([2, 3])} {random_change(draw)}")
+            lines.append(f"say 2 {random_change(draw)}")
         elif kind == 5:
             lines.append(f"say 1 {random_change(draw)}")
+        elif kind == 10:
+            lines += [f"say {number} {line}" for number in [draw.choice([1, 2])] for line in random_batch(draw)]
+        elif kind == 11:
+            held = held or random_batch(draw)
+            lines.append(f"say 3 {held.pop(0)}")
         elif kind == 6 and is_open:
             lines.append("say 1 close c")
             is_open = False
@@ -113,11 +129,13 @@ def lines_that_cant_be_followed_are_told(program, options):
     for line in [
         b"= 2 \"b\"\n", b"more\n", b"+ q 1 \"a\"\n", b"- q 2 \"b\"\n", b"ok watch", b"nonsense\n", b"= 01\n", b"=  1\n", b"= 1 \n", b"= -0\n",
         b"= \"\\a\"\n", b"= 9223372036854775808\n", b"ok added 1\n", b"ok added 01 1\n", b"err 15 later\n", b"\n", b"end long \n", b"at q\n",
+        b"ok batch 1\n", b"ok held\n", b"ok held 01\n", b"ok done 1\n", b"ok done 1 01\n", b"err 18\n",
         b"stale c r\n", b"= \"\xff\"\n", b"ok\r\n", b"no cyclic\n", b"n 0 leaf r\n", b"x" * 16385 + b"\n", b"x" * 20000,
     ]:
         expect(mirror(program, known + line), (b"mirror 5\n", 12), repr(line[:40]))
     for line in [b"end\n", b"at q 7\n", b"+ p 1\n", b"- p 1\n", b"at p 7\n", b"ok\n", b"ok added 18446744073709551615 4294967295\n",
-                 b"ok query 33\n", b"no cyclic x,y y,z z,x\n", b"no connex x,_ y\n", b"yes\n", b"flat\n", b"err 16 unbound\n", b"bye\n", b"end slow\n",
+                 b"ok query 33\n", b"no cyclic x,y y,z z,x\n", b"no connex x,_ y\n", b"yes\n", b"flat\n", b"err 16 unbound\n", b"err 18 batch\n",
+                 b"ok batch\n", b"ok held 1\n", b"ok held 1000\n", b"ok done 0 0\n", b"ok done 18446744073709551615 1000\n", b"bye\n", b"end slow\n",
                  b"n 0 leaf r x,_\n", b"n 12 trim 3 - out\n", b"n 3 meet 0 1 x out\n"]:
         expect(mirror(program, known + line), (b"= 1 \"a\"\nend\n", 0), repr(line))
     expect(mirror(program, known + b"stale c r 1\n"), (b"none\n", 0), "stale")

@@ -18,12 +18,13 @@ MOST_COLUMNS, MOST_RELATIONS, MOST_QUERIES, MOST_CURSORS = 16, 256, 256, 16
 MOST_ATOMS, MOST_VARIABLES, MOST_HEAD, MOST_COMPARISONS = 32, 128, 16, 32
 MOST_ANSWERS = 1000
 MOST_COPIES = (1 << 32) - 1
+MOST_HELD = 1000
 
 SYNTAX, TAKEN, NO_RELATION, NO_QUERY = b"err 1 syntax", b"err 2 taken", b"err 3 no relation", b"err 4 no query"
 NO_CURSOR, ARITY, TYPE, UNBOUND = b"err 5 no cursor", b"err 6 arity", b"err 7 type", b"err 8 head unbound"
 REPEATED, VARIABLE_TYPE, LIMIT = b"err 9 head repeated", b"err 10 variable type", b"err 11 limit"
 MEMORY, CUT, IN_USE = b"err 12 memory", b"err 13 cut", b"err 14 in use"
-COMPARES_UNBOUND = b"err 16 unbound"
+COMPARES_UNBOUND, MISPLACED = b"err 16 unbound", b"err 18 batch"
 END_MEMORY = b"end memory"
 
 # bytes of a reply that are kept before its line is run
@@ -193,7 +194,7 @@ def command_of(line):
         said = (name, count)
     elif word in (b"drop", b"close", b"watch", b"unwatch", b"explain", b"shape"):
         said = (reader.name(),)
-    elif word in (b"quit", b"stop"):
+    elif word in (b"batch", b"done", b"abandon", b"quit", b"stop"):
         said = ()
     else:
         raise Syntax
@@ -461,12 +462,14 @@ class Session:
         self.number, self.lines, self.places, self.at = number, lines, places, 0
         self.held, self.cause = b"", None
         self.cursors, self.watches = {}, set()
+        # the rows that its batch holds, each with its relation, or None
+        self.batch = None
         self.pending, self.pending_bytes, self.blocked = 0, 0, False
         self.memory, self.begun, self.may_stop = False, 0, False
 
     def begin(self, word):
         """A command begins. By want of memory an `explain` may stop behind a whole line, and so may deltas."""
-        self.begun, self.may_stop = self.at, word in (b"explain", b"add", b"del")
+        self.begun, self.may_stop = self.at, word in (b"explain", b"add", b"del", b"done")
 
     def queued(self, line):
         self.at += 1
@@ -521,7 +524,7 @@ class Session:
         if line is not None:
             self.say(line)
         self.cause = cause
-        self.cursors, self.watches = {}, set()
+        self.cursors, self.watches, self.batch = {}, set(), None
 
 
 class Machine:
@@ -573,7 +576,12 @@ class Machine:
             session.begin(b"")
             word, said = command_of(line)
             session.begin(word)
-            getattr(self, word.decode())(session, *said)
+            if self.misplaced(session, word):
+                session.say(MISPLACED)
+            elif word == b"add" and session.batch is not None:
+                self.hold(session, *said)
+            else:
+                getattr(self, word.decode())(session, *said)
         except Syntax:
             self.syntax(session)
         except OutOfMemory:
@@ -614,29 +622,37 @@ class Machine:
             return session.say(b"ok absent %d" % self.seq)
         if comes and copies == MOST_COPIES:
             return session.say(LIMIT)
-        if copies == (0 if comes else 1):
-            self.changed(name, row, comes)
-        else:
-            relation.count(row, 1 if comes else -1)
+        self.count([(name, row)], 1 if comes else -1)
         if session.cause is None:
             copies = relation.rows.get(row, 0)
             session.say(b"ok %s %d %d" % (b"added" if comes else b"removed", self.seq, copies))
 
-    def changed(self, name, row, comes):
-        """A row's first copy comes, or its last one goes: this alone is a change."""
-        relation = self.relations[name]
-        reading = [query for query in self.queries.values() if name in query.reads]
-        watched = [query for query in reading if self.watchers(query)]
+    def count(self, rows, change):
+        """Gives each of these rows one copy more, or one less, and answers how many first copies came, or last ones
+        went: these alone are a change, and all of them are one."""
+        edge = 0 if change > 0 else 1
+        moved = {(name, row) for name, row in rows if self.relations[name].rows.get(row, 0) == edge}
+        changed = {name for name, _ in moved}
+        watched = [query for query in self.queries.values() if query.reads & changed and self.watchers(query)]
         before = [query.answers(self.relations) for query in watched]
-        relation.count(row, 1 if comes else -1)
-        relation.version += 1
-        self.seq += 1
-        for other in self.sessions.values():
-            for cursor in other.cursors.values():
-                if cursor.query in reading and cursor.stale is None:
-                    cursor.stale = b"%s %d" % (name, self.seq)
+        for name, row in rows:
+            self.relations[name].count(row, change)
+        if moved:
+            for name in changed:
+                self.relations[name].version += 1
+            self.seq += 1
+            self.outdate([name for name, _ in rows if name in changed])
         for query, answers in zip(watched, before):
             self.tell(query, answers, query.answers(self.relations))
+        return len(moved)
+
+    def outdate(self, names):
+        """Each cursor of a query that reads one of these relations is stale by the first of them."""
+        for other in self.sessions.values():
+            for cursor in other.cursors.values():
+                name = next((name for name in names if name in cursor.query.reads), None)
+                if name is not None and cursor.stale is None:
+                    cursor.stale = b"%s %d" % (name, self.seq)
 
     def doubt(self, name, values, comes):
         """A row was refused for memory. Where that was behind reading its line, the relation's cursors are stale."""
@@ -651,6 +667,46 @@ class Machine:
 
     def add(self, session, name, values):
         self.change(session, name, values, True)
+
+    # ------------------------------------------------ batches
+
+    @staticmethod
+    def misplaced(session, word):
+        """Whether a command isn't for a session with a batch open, or only for one."""
+        if session.batch is None:
+            return word in (b"done", b"abandon")
+        return word not in (b"add", b"done", b"abandon", b"quit", b"stop")
+
+    def batch(self, session):
+        if not session.refused():
+            session.batch = []
+            session.say(b"ok batch")
+
+    def hold(self, session, name, values):
+        """An `add` in a batch."""
+        if None in values:
+            return session.say(TYPE)
+        if session.refused():
+            return
+        refusal = self.relations[name].refuse(values) if name in self.relations else NO_RELATION
+        if refusal or len(session.batch) >= MOST_HELD:
+            return session.say(refusal or LIMIT)
+        session.batch.append((name, tuple(values)))
+        session.say(b"ok held %d" % len(session.batch))
+
+    def done(self, session):
+        held, session.batch = session.batch, None
+        if held and session.refused():
+            return self.outdate([name for name, _ in held])
+        rows = self.count(held, 1)
+        if session.cause is None:
+            session.say(b"ok done %d %d" % (self.seq, rows))
+
+    def abandon(self, session):
+        session.batch = None
+        session.say(b"ok")
+
+    # ------------------------------------------------ queries and cursors
 
     def watchers(self, query):
         return [other for _, other in sorted(self.sessions.items()) if query.name in other.watches]

@@ -1037,6 +1037,184 @@ def a_long_delta_is_whole_and_a_further_one_finds_the_session_slow():
     expect((told[at + 9804:], status), ([b"at q 142", b"end slow"], 8))
 
 
+# Batches
+
+
+def expect_session(session):
+    """A session goes as it is written, in one piece, with CR, and in single bytes."""
+    expect_run(lines_of(session), replies_of(session))
+    expect_run(lines_of(session, b"\r\n"), replies_of(session))
+    with Talk() as talk:
+        for byte in lines_of(session):
+            talk.say(bytes([byte]))
+        expect(talk.end(), (replies_of(session), 0))
+
+
+@test
+def rows_of_a_batch_are_one_change():
+    expect_session([
+        (b"rel r int int", [b"ok"]),
+        (b"query q(x,y,z) <- r(x,y), r(y,z)", [b"ok query 7"]),
+        (b"watch q", [b"ok watch 0"]),
+        (b"batch", [b"ok batch"]),
+        (b"add r 1 2", [b"ok held 1"]),
+        (b"add r 2 3", [b"ok held 2"]),
+        (b"add r 1 2", [b"ok held 3"]),
+        (b"done", [b"+ q 1 2 3", b"at q 1", b"ok done 1 2"]),
+        (b"batch", [b"ok batch"]),
+        (b"next c 1", [b"err 18 batch"]),
+        (b"done", [b"ok done 1 0"]),
+        (b"done", [b"err 18 batch"]),
+        (b"del r 1 2", [b"ok removed 1 1"]),
+        (b"del r 1 2", [b"- q 1 2 3", b"at q 2", b"ok removed 2 0"]),
+        (b"batch", [b"ok batch"]),
+        (b"add r 2 3", [b"ok held 1"]),
+        (b"done", [b"ok done 2 0"]),
+        (b"del r 2 3", [b"ok removed 2 1"]),
+    ])
+
+
+@test
+def a_batch_is_refused_row_by_row_and_abandoned():
+    expect_session([
+        (b"rel r int int", [b"ok"]),
+        (b"batch", [b"ok batch"]),
+        (b"add z 1", [b"err 3 no relation"]),
+        (b"add r 1", [b"err 6 arity"]),
+        (b"abandon", [b"ok"]),
+        (b"done", [b"err 18 batch"]),
+        (b"abandon", [b"err 18 batch"]),
+        (b"batch", [b"ok batch"]),
+        (b"add r 1 2", [b"ok held 1"]),
+        (b"add r 1 \"a\"", [b"err 7 type"]),
+        (b"add r 3 4", [b"ok held 2"]),
+        (b"done", [b"ok done 1 2"]),
+        (b"batch", [b"ok batch"]),
+        (b"add r 5 6", [b"ok held 1"]),
+        (b"abandon", [b"ok"]),
+        (b"add r 5 6", [b"ok added 2 1"]),
+    ])
+
+
+@test
+def what_isnt_for_a_batch_is_refused_in_its_order():
+    past = b"9223372036854775808"
+    session = [(b"rel r int", [b"ok"]), (b"query q(x) <- r(x)", [b"ok query 3"]), (b"open c q", [b"ok open"]),
+               (b"batch", [b"ok batch"])]
+    for line in [b"rel s int", b"rel r int", b"del r 1", b"del r " + past, b"query p(x) <- r(x)", b"query p(x) <- r(%s,x)" % past,
+                 b"drop q", b"drop z", b"open d q", b"next c 1", b"next z 1", b"close c", b"has q 1", b"has q " + past, b"watch q",
+                 b"unwatch q", b"explain q", b"shape q", b"batch"]:
+        session.append((line, [b"err 18 batch"]))
+    for line in [b"rel r bool", b"del r", b"batch 1", b"done 1", b"abandon r", b"next c 0", b"add", b"add r", b"nothing"]:
+        session.append((line, [b"err 1 syntax"]))
+    session += [(b"add z " + past, [b"err 7 type"]), (b'add z "a"', [b"err 3 no relation"]), (b'add r "a" 1', [b"err 6 arity"]),
+                (b'add r "a"', [b"err 7 type"]), (b"add r 1", [b"ok held 1"]), (b"done", [b"ok done 1 1"]),
+                (b"next c 1", [b"stale c r 1"]), (b"batch", [b"ok batch"]), (b"quit", [b"bye"])]
+    expect_session(session)
+
+
+@test
+def a_batch_holds_1000_rows():
+    lines = [b"rel r int", b"batch"] + [b"add r %d" % (at % 700) for at in range(1000)] + [b"add r 1", b"add z 1", b"add r", b"done"]
+    replies = [b"ok", b"ok batch"] + [b"ok held %d" % (at + 1) for at in range(1000)]
+    replies += [b"err 11 limit", b"err 3 no relation", b"err 1 syntax", b"ok done 1 700"]
+    lines += [b"del r 299", b"del r 299", b"del r 300"]
+    replies += [b"ok removed 1 1", b"ok removed 2 0", b"ok removed 3 0"]
+    expect_run(texts_of_lines(lines), texts_of_lines(replies))
+
+
+@test
+def a_cursor_is_stale_by_the_first_relation_of_the_batch_that_changed():
+    lines = [b"rel r int", b"rel s int", b"query q(x) <- r(x), s(x)", b"query p(x) <- s(x)", b"query w(x) <- r(x)", b"add s 1"]
+    replies = [b"ok", b"ok", b"ok query 3", b"ok query 3", b"ok query 3", b"ok added 1 1"]
+    for rows, done, stale in [
+        ([b"s 1", b"r 5", b"s 7"], b"ok done 2 2", [b"stale a s 2", b"stale b s 2", b"stale c r 2"]),
+        ([b"s 1", b"r 6"], b"ok done 3 1", [b"stale a r 3", None, b"stale c r 3"]),
+        ([b"r 5", b"s 8", b"r 5"], b"ok done 4 1", [b"stale a s 4", b"stale b s 4", None]),
+        ([b"r 5", b"s 8"], b"ok done 4 0", [None, None, None]),
+    ]:
+        lines += [b"open a q", b"open b p", b"open c w", b"batch"] + [b"add " + row for row in rows] + [b"done"]
+        replies += [b"ok open"] * 3 + [b"ok batch"] + [b"ok held %d" % (at + 1) for at in range(len(rows))] + [done]
+        for cursor, told in zip((b"a", b"b", b"c"), stale):
+            if told is not None:
+                lines.append(b"next %s 1" % cursor)
+                replies.append(told)
+            lines.append(b"close " + cursor)
+            replies.append(b"ok")
+    expect_run(texts_of_lines(lines), texts_of_lines(replies))
+
+
+@test
+def a_batch_is_told_to_all_who_watch_as_one_change():
+    schedule = (b"open 1\nopen 2\nopen 3\nsay 1 rel r int\nsay 1 rel s int\nsay 1 query q(x,y) <- r(x), s(y)\n"
+                b"say 1 query p(x) <- s(x)\nsay 1 query w(x) <- r(x), x > 100\nsay 2 watch q\nsay 3 watch p\nsay 3 watch w\n"
+                b"say 1 batch\nsay 1 add r 7\nsay 2 add s 7\nsay 3 has q 7 7\nsay 1 add s 8\nsay 1 add s 7\nsay 2 open c q\n"
+                b"say 1 done\nsay 2 next c 1\nsay 1 watch q\nsay 1 batch\nsay 1 add r 9\nsay 2 del s 8\nsay 1 done\n")
+    told = [b"1< ok", b"1< ok", b"1< ok query 5", b"1< ok query 3", b"1< ok query 3", b"2< ok watch 0", b"3< ok watch 0",
+            b"3< ok watch 0", b"1< ok batch", b"1< ok held 1", b"2< at q 1", b"2< ok added 1 1", b"3< + p 7", b"3< at p 1",
+            b"3< no", b"1< ok held 2", b"1< ok held 3", b"2< ok open",
+            b"1< ok done 2 2", b"2< + q 7 7", b"2< + q 7 8", b"2< at q 2", b"3< + p 8", b"3< at p 2", b"3< at w 2",
+            b"2< stale c r 2", b"1< ok watch 2", b"1< ok batch", b"1< ok held 1",
+            b"1< - q 7 8", b"1< at q 3", b"2< - q 7 8", b"2< at q 3", b"2< ok removed 3 0", b"3< - p 8", b"3< at p 3",
+            b"1< + q 9 7", b"1< at q 4", b"1< ok done 4 1", b"2< + q 9 7", b"2< at q 4", b"3< at w 4"]
+    output, status = run(schedule, ("replay",))
+    lines = output.splitlines()
+    lines[19:21] = sorted(lines[19:21])
+    expect((lines, status), (told, 0))
+
+
+@test
+def a_batch_ends_with_its_session():
+    schedule = (b"open 1\nopen 2\nopen 3\nsay 1 rel r int\nsay 1 query q(x) <- r(x)\nsay 2 batch\nsay 2 add r 1\nend 2\n"
+                b"say 3 batch\nsay 3 add r 2\nsay 3 quit\nopen 4\nsay 4 batch\nsay 4 add r 3\nsay 4 " + b"x" * 4097 + b"\n"
+                b"say 1 open c q\nsay 1 next c 1\nsay 1 batch\nsay 1 add r 4\npart 1 done\nend 1\nopen 5\nsay 5 done\n"
+                b"say 5 add r 5\n")
+    told = (b"1< ok\n1< ok query 3\n2< ok batch\n2< ok held 1\n3< ok batch\n3< ok held 1\n3< bye\n4< ok batch\n4< ok held 1\n"
+            b"4< end long\n1< ok open\n1< end\n1< ok batch\n1< ok held 1\n1< err 13 cut\n5< err 18 batch\n5< ok added 1 1\n")
+    expect(run(schedule, ("replay",)), (told, 0))
+    expect_run(b"rel r int\nbatch\nadd r 1\n", b"ok\nok batch\nok held 1\n")
+    expect_run(b"rel r int\nbatch\nadd r 1\nstop\ndone\n", b"ok\nok batch\nok held 1\nbye\n")
+
+
+def put_batch(client, chance, rows, most):
+    """Says that random rows come by a batch. Gives the relations that this changes, and how many rows came."""
+    batch = [(relation, random_row(chance, relation, most)) for relation in chance.choices("rrssst", k=chance.randrange(7))]
+    lines = [b"add %s %s\n" % (name.encode(), b" ".join(b"%d" % cell for cell in row)) for name, row in batch]
+    client.say(b"batch\n" + b"".join(lines) + b"done\n")
+    expect([client.line() for _ in range(len(batch) + 1)], [b"ok batch"] + [b"ok held %d" % (at + 1) for at in range(len(batch))])
+    came = [relation for relation, row in batch if count(rows[relation], row, 1) == 1]
+    return set(came), len(came)
+
+
+@test
+def deltas_of_batches_add_up_to_a_fresh_listing():
+    chance = random.Random(13)
+    rows = {"r": {}, "s": {}, "t": {}}
+    seq = 0
+    with Serving() as serving:
+        changer, following = serving.client(), Following(serving.client())
+        changer.ask(b"rel r int int\nrel s int int\nrel t int", b"ok", b"ok", b"ok")
+        for text, head, _ in JOINS:
+            changer.ask(b"query " + text, b"ok query %d" % (2 * len(head) + 1))
+            following.client.ask(b"watch " + text[:1], b"ok watch 0")
+            following.answers[text[:1]] = set()
+        for _ in range(400):
+            if chance.random() < 0.3:
+                changed, came = put_batch(changer, chance, rows, 6)
+                seq += came > 0
+                expect(changer.line(), b"ok done %d %d" % (seq, came))
+            else:
+                relation, is_change, said = change_row(changer, chance, rows, 6)
+                seq, changed = seq + is_change, {relation} if is_change else set()
+                expect(changer.line(), said % seq)
+            for text, head, atoms in JOINS:
+                if changed & {read for read, _ in atoms}:
+                    following.take(text[:1], seq)
+                    expect(following.answers[text[:1]], brute(head, atoms, rows), text)
+        for text, head, atoms in JOINS:
+            expect(listed(changer, b"k", text[:1]), brute(head, atoms, rows), text)
+
+
 def read_answer(text):
     return tuple(int(cell) for cell in text.split())
 

@@ -75,7 +75,7 @@ class Author:
         self.chance, self.world = chance, world or World(chance)
         self.relations, self.heads, self.cursors, self.planned = self.world.relations, self.world.heads, {}, []
         self.kinds = [self.rel] + [self.row] * self.world.changes + [self.copies] * (self.world.changes // 10)
-        self.kinds += [self.query] * 14 + [self.open] * 6
+        self.kinds += [self.batch] * (2 + self.world.changes // 20) + [self.query] * 14 + [self.open] * 6
         self.kinds += [self.listing] * 8 + [self.next] * 12 + [self.close] * 6 + [self.has] * 7 + [self.watch] * 6
         self.kinds += [self.explain] * 2 + [self.shape] * 4 + [self.drop] * 8
 
@@ -118,21 +118,42 @@ class Author:
             self.relations.setdefault(name, kinds)
         return b"rel %s %s" % (name, b" ".join(kinds))
 
-    def row(self):
+    def some_row(self):
+        """A row behind the name of its relation."""
         name = self.one(self.relations, RELATIONS)
-        word = b"del" if self.chance.random() < self.world.removals else b"add"
-        return word + b" " + name + self.values_for(self.relations.get(name, [b"int"]))
+        return name + self.values_for(self.relations.get(name, [b"int"]))
+
+    def row(self):
+        word = b"del " if self.chance.random() < self.world.removals else b"add "
+        return word + self.some_row()
 
     def copies(self):
         """Several copies of one row, of which some go again, all, or one more than came."""
-        name = self.one(self.relations, RELATIONS)
-        row = name + self.values_for(self.relations.get(name, [b"int"]))
+        row = self.some_row()
         count = self.chance.choice([1, 2, 3, 3, 5, 9])
         gone = max(0, count + self.chance.choice([-2, -1, 0, 0, 1]))
         self.planned = [b"del " + row] * gone + [b"add " + row] * count
         if self.chance.random() < 0.3:
             self.chance.shuffle(self.planned)
         return self.planned.pop()
+
+    def batch(self):
+        """A batch, of as many rows as it may hold at times, or of one more; and in it lines that aren't for a batch."""
+        if self.chance.random() < 0.05:
+            return self.chance.choice([b"done", b"abandon"])
+        count = self.chance.choice([0, 1, 2, 2, 3, 5, 9])
+        if self.chance.random() < 0.005:
+            count = model.MOST_HELD + self.chance.choice([-1, 0, 1])
+        held = [b"add " + self.some_row() for _ in range(count)]
+        for _ in range(self.chance.choice([0, 0, 0, 1, 2])):
+            held.insert(self.chance.randrange(len(held) + 1), self.misplaced())
+        self.planned = [self.chance.choice([b"done"] * 5 + [b"abandon"])] + held
+        return b"batch"
+
+    def misplaced(self):
+        """A line that isn't for a session with a batch open."""
+        asked = self.chance.choice([self.next, self.has, self.watch, self.explain, self.shape, self.rel])()
+        return self.chance.choice([asked, asked, b"batch", b"del " + self.some_row()])
 
     def query(self):
         if self.chance.random() < 0.02:
@@ -384,10 +405,13 @@ def flood_stream(chance):
     schedule = [b"open %d" % number for number in (1, 2, 3)] + [b"say 1 " + line for line in start]
     for _ in range(chance.randrange(20, 90)):
         number = chance.randrange(1, 4)
-        line = chance.choice([b"add r %d", b"add r %d", b"add r %d", b"del r %d", b"has p %d"]) % chance.randrange(10)
+        said = [chance.choice([b"add r %d", b"add r %d", b"add r %d", b"del r %d", b"has p %d"]) % chance.randrange(10)]
         if chance.random() < 0.3:
-            line = chance.choice([b"watch f", b"watch p", b"unwatch f", b"open c f", b"close c"] + [b"next c 1000"] * 2)
-        schedule.append(b"say %d %s" % (number, line))
+            said = [chance.choice([b"watch f", b"watch p", b"unwatch f", b"open c f", b"close c"] + [b"next c 1000"] * 2)]
+        elif chance.random() < 0.1:
+            held = [b"add r %d" % chance.randrange(10) for _ in range(chance.randrange(6))]
+            said = [b"batch", *held, b"done"]
+        schedule += [b"say %d %s" % (number, line) for line in said]
         if chance.random() < 0.1:
             schedule.append(chance.choice([b"again %d", b"again %d", b"free %d"]) % chance.randrange(1, 4))
     if chance.random() < 0.7:

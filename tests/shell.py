@@ -126,6 +126,16 @@ shape q
 shape z
 explain q
 drop q
+done
+batch
+add r 4 "d"
+add r 4 "d"
+add r 4
+has q 4 "d"
+done
+batch
+abandon
+batch
 quit
 add r 9 "never"
 """
@@ -139,6 +149,8 @@ def a_filter_writes_what_the_program_does(program):
     expect(status, 1)
     refusals = [line for line in written.splitlines() if line.startswith(("err", "no c", "stale"))]
     expect(len(told.splitlines()), len(refusals), told)
+    assert "err 18 batch: no batch is open (sent: done)" in told, told
+    assert 'err 18 batch: a batch is open (sent: has q 4 "d")' in told, told
     assert told.startswith("djq-shell: line 2: err 2 taken"), told
     assert "djq-shell: line 7: err 6 arity: 1 values were given, and r has 2 columns" in told, told
 
@@ -400,7 +412,8 @@ def a_bad_line_is_told_and_nothing_is_sent(program):
         written, told, status = filtered(f"\\load {named} r new header\n", server=server)
         assert written.startswith("1 row came to r, 3,001 were there already") and status == 0, written + told
         expect([client.delete("r", number, "text").copies for number in (0, 2999)], [1, 1])
-        expect(client.delete("r", 3000, "more"), djq.Removed(3002, 0))
+        # each batch of a load is one change
+        expect(client.delete("r", 3000, "more"), djq.Removed(5, 0))
 
 
 class Refusing:
@@ -443,7 +456,8 @@ def a_load_that_is_refused_is_taken_back(program):
         expect(client.snapshot("q"), {(1,), (1500,), (90000,)})
         written, told, status = filtered(f"\\load {path} r\n", server=Refusing(server, 1700, hang_up=True))
         assert status in (1, 2) and "the connection was lost: the " in told and f"\\load {path} r new" in told, told
-        expect([client.delete("r", number).copies for number in (1, 1500, 90000)], [1, 1, 0])
+        # of the batch that was open nothing came
+        expect([client.delete("r", number).copies for number in (1, 1500, 90000)], [1, 0, 0])
         expect(filtered(f"\\load {path} r new\n", server=server)[2], 0)
         expect([client.delete("r", number).copies for number in (0, 1, 1000, 2999)], [0] * 4)
         client.load("r", [(number,) for number in (0, 1, 1000, 2999)])
@@ -590,6 +604,35 @@ def refusals_say_what_to_do(program):
         shell.runs("add r 1 2", "+ q  1")
         assert "close c, then open c q" in shell.runs("next c 1", "stale c r 1")
         shell.types("\x04")
+        expect(shell.ends(), 0)
+
+
+@test(*TERMINAL)
+def an_open_batch_is_shown(program):
+    with Terminal("--local", "--program", program) as shell:
+        shell.runs("rel r int int", "ok")
+        shell.runs("query q(x,y) <- r(x,y)", "ok query 5")
+        shell.runs("watch q", "ok watch 0")
+        assert "\n[0 held] djq>" in shell.runs("batch", "ok batch")
+        assert "\n[1 held] djq>" in shell.runs("add r 1 2", "ok held 1")
+        assert "it holds 1 row: done puts them in" in shell.runs("drop q", "err 18 batch: a batch is open")
+        assert "r has the columns int int" in shell.runs("add r 1", "err 6 arity")
+        shell.runs("\\show q", "a batch is open, and \\show asks the server")
+        shell.runs("\\names", "rel r int int")
+        shell.runs("add r 3 4", "ok held 2")
+        shell.completes("do")  # no drop here
+        told = shell.runs("", "+ q  1  2")
+        assert "+ q  3  4" in told and "ok done 1 2" in told and "2 rows came, as one change" in told, told
+        assert "\ndjq>" in told, told
+        assert "batch opens one" in shell.runs("done", "err 18 batch: no batch is open")
+        shell.runs("batch", "ok batch")
+        shell.runs("add r 1 2", "ok held 1")
+        assert "no row came: each was there" in shell.runs("done", "ok done 1 0")
+        shell.runs("batch", "ok batch")
+        shell.runs("add r 5 6", "ok held 1")
+        assert "\ndjq>" in shell.runs("abandon", "ok")
+        shell.runs("has q 5 6", "no")
+        shell.types("\\q\r")
         expect(shell.ends(), 0)
 
 

@@ -12,33 +12,39 @@
                 print(change.seq, change.came, change.went)
 
 A row has copies: each `add` brings one, each `delete` takes one, and only the first that comes and the last that goes
-change what is answered.
+change what is answered. Rows that belong together come by a batch, all at once or none of them:
+
+    with server.batch() as batch:
+        batch.add("orders", 7, "bo")
+        batch.add("lines", 7, 1, "bolt")
+    print(batch.result())                           # Done(seq=3, rows=2)
 
 One connection is one session of the server; it is used from one thread. Values are `int` (64 bits) and `str` (at most
 255 bytes of UTF-8). Each error that the server may answer is an exception of its own, under `Refused`.
 
 Inside, `protocol` knows the lines and no socket: what a command sends, which reply is due, and which lines are deltas.
-`connection` moves its bytes, `listing` lists the answers of one moment, `live` keeps them up to date, and `table` keeps
-rows by key.
+`connection` moves its bytes, `batch` collects rows that belong together, `listing` lists the answers of one moment,
+`live` keeps them up to date, and `table` keeps rows by key.
 """
 
-from .connection import Connection, Cursor, Pipeline, connect
+from .connection import Batch, Connection, Cursor, Pipeline, connect
 from .errors import (
     REFUSALS, Arity, BadName, ComparisonUnbound, Cyclic, Disconnected, Ended, Error, HeadRepeated, HeadUnbound, InUse,
-    LimitReached, NoCursor, NoQuery, NoRelation, NotFreeConnex, NotWatched, OutOfMemory, Overtaken, Refused,
-    SomeRefused, Stale, Syntax, Taken, TooLong, Unanswered, VariableType, WrongType,
+    LimitReached, Misplaced, NoCursor, NoQuery, NoRelation, NotFreeConnex, NotWatched, OutOfMemory, Overtaken,
+    Refused, SomeRefused, Stale, Syntax, Taken, TooLong, Unanswered, VariableType, WrongType,
 )  # fmt: skip
 from .live import Live, Lives
 from .protocol import (
-    MOST_ANSWERS, Absent, Added, Answer, Change, Page, Pending, Protocol, Removed, Update, Value, read_values, spell,
+    MOST_ANSWERS, MOST_HELD, Absent, Added, Answer, Change, Done, Page, Pending, Protocol, Removed, Update, Value,
+    read_values, spell,
 )  # fmt: skip
 from .table import Table
 
 __all__ = [
-    "MOST_ANSWERS", "REFUSALS", "Absent", "Added", "Answer", "Arity", "BadName", "Change", "ComparisonUnbound",
-    "Connection", "Cursor", "Cyclic", "Disconnected", "Ended", "Error", "HeadRepeated", "HeadUnbound", "InUse",
-    "LimitReached", "Live", "Lives", "NoCursor", "NoQuery", "NoRelation", "NotFreeConnex", "NotWatched", "OutOfMemory",
-    "Overtaken", "Page", "Pending", "Pipeline", "Protocol", "Refused", "Removed", "SomeRefused", "Stale", "Syntax",
-    "Table", "Taken", "TooLong", "Unanswered", "Update", "Value", "VariableType", "WrongType", "connect", "read_values",
-    "spell",
+    "MOST_ANSWERS", "MOST_HELD", "REFUSALS", "Absent", "Added", "Answer", "Arity", "BadName", "Batch", "Change",
+    "ComparisonUnbound", "Connection", "Cursor", "Cyclic", "Disconnected", "Done", "Ended", "Error", "HeadRepeated",
+    "HeadUnbound", "InUse", "LimitReached", "Live", "Lives", "Misplaced", "NoCursor", "NoQuery", "NoRelation",
+    "NotFreeConnex", "NotWatched", "OutOfMemory", "Overtaken", "Page", "Pending", "Pipeline", "Protocol", "Refused",
+    "Removed", "SomeRefused", "Stale", "Syntax", "Table", "Taken", "TooLong", "Unanswered", "Update", "Value",
+    "VariableType", "WrongType", "connect", "read_values", "spell",
 ]  # fmt: skip

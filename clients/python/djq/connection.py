@@ -10,10 +10,11 @@ from types import TracebackType
 from typing import TYPE_CHECKING, Any, Callable, Iterable, Iterator, Sequence, TypeVar
 
 from . import protocol
-from .errors import Disconnected, Error, NoCursor, NotWatched, Refused, SomeRefused
+from .batch import Collected
+from .errors import Disconnected, Error, NoCursor, NotWatched, Refused, SomeRefused, Unanswered
 from .listing import WITHIN, Said, list_whole
-from .protocol import FIRST_REFUSALS, MOST_ANSWERS, Added, Answer, Change, Page, Pending, Protocol, Rows, Update, Value
-from .protocol import checked, column_type, fitting, spell, spell_line
+from .protocol import FIRST_REFUSALS, MOST_ANSWERS, Added, Answer, Change, Done, Page, Pending, Protocol, Rows, Update
+from .protocol import Value, checked, column_type, fitting, spell, spell_line
 
 if TYPE_CHECKING:
     from .live import Live, Lives
@@ -184,6 +185,19 @@ class Connection:
 
     # Many at once, and changes
 
+    def batch(self) -> Batch:
+        """Rows that are added in the block go in at its end, all at once and as one change, or none of them does:
+
+        with server.batch() as batch:
+            batch.add("orders", 7, "bo")
+            batch.add("lines", 7, 1, "bolt")
+        came = batch.result().rows
+
+        Up to `MOST_HELD` rows. Until the block's end nothing is sent, and where the block raises nothing is. At its end
+        `SomeRefused` is raised where the server refused rows, and what it refused the batch with; then none is in.
+        """
+        return Batch(self)
+
     def pipeline(self, raises: bool = True) -> Pipeline:
         """Commands of the block are sent together, and their replies read by its end:
 
@@ -293,10 +307,32 @@ class Connection:
         self._whole(self._protocol.read)
         return pending
 
+    def _put_in(self, rows: list[str]) -> Done:
+        """Puts the rows of these lines in by a batch, which is abandoned where that goes wrong."""
+        try:
+            self._do("batch", protocol.READ_OK)
+            held = _Load(self, None)
+            for at in range(0, len(rows), ROWS_AT_ONCE):
+                if not held.send(rows[at : at + ROWS_AT_ONCE]):
+                    break
+            held.finish()
+            done = self._say("done", protocol.READ_DONE)
+        except Unanswered as error:
+            raise Disconnected("the connection was lost; the batch wasn't done") from error
+        except BaseException:
+            self._say_last("abandon")
+            raise
+        self._settle()
+        return done.result()
+
     def _give_up(self, cursor: str) -> None:
         """Closes a cursor without waiting for the reply, as something else has gone wrong."""
+        self._say_last(f"close {cursor}")
+
+    def _say_last(self, line: str) -> None:
+        """Sends a line without waiting for the reply, as something else has gone wrong."""
         try:
-            self._say(f"close {cursor}", protocol.READ_OK)
+            self._say(line, protocol.READ_OK)
             self._move(0)
         except Error:
             pass
@@ -429,6 +465,22 @@ class Cursor:
     def close(self) -> None:
         """Gives the cursor up."""
         self.connection._do(f"close {self.name}", protocol.READ_OK)
+
+
+class Batch(Collected):
+    """Rows that go in at once: see `Connection.batch`."""
+
+    def __init__(self, connection: Connection) -> None:
+        super().__init__()
+        self._connection = connection
+
+    def __enter__(self) -> Batch:
+        return self
+
+    def __exit__(self, kind: type | None, error: BaseException | None, trace: TracebackType | None) -> None:
+        lines = self._end()
+        if error is None:
+            self._result = self._connection._put_in(lines)
 
 
 class Pipeline:

@@ -160,6 +160,12 @@ class ComparisonUnbound(Refused):
     number = 16
 
 
+class Misplaced(Refused):
+    """A batch is open, and the command isn't one for a batch; or none is, and it is."""
+
+    number = 18
+
+
 class NotFreeConnex(Refused):
     """The query isn't free-connex. `edges` is what is left of its hypergraph, each edge the names of its variables."""
 
@@ -210,6 +216,6 @@ REFUSALS: dict[int, type[Refused]] = {
     kind.number: kind
     for kind in (
         Syntax, Taken, NoRelation, NoQuery, NoCursor, Arity, WrongType, HeadUnbound,
-        HeadRepeated, VariableType, LimitReached, OutOfMemory, InUse, ComparisonUnbound,
+        HeadRepeated, VariableType, LimitReached, OutOfMemory, InUse, ComparisonUnbound, Misplaced,
     )
 }  # fmt: skip

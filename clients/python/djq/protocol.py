@@ -16,6 +16,7 @@ T = TypeVar("T")
 MOST_ANSWERS = 1000  # that one `next` may ask for
 MOST_LINE = 4096  # bytes of a line
 MOST_TEXT = 255  # bytes of a text
+MOST_HELD = 1000  # rows of a batch
 FIRST_REFUSALS = 10  # that are kept of commands that are sent together
 
 
@@ -159,6 +160,19 @@ class Removed(Update):
 
 class Absent(Update):
     """The row wasn't there."""
+
+
+@dataclass(frozen=True)
+class Done:
+    """What became of a batch: the number of changes so far, and how many of its rows weren't there before."""
+
+    seq: int
+    rows: int
+
+    @property
+    def changed(self) -> bool:
+        """Whether that changed answers, as any row came."""
+        return self.rows > 0
 
 
 @dataclass(frozen=True)
@@ -306,6 +320,8 @@ def refusal(reply: str, line: str = "", columns: dict[str, tuple[str, ...]] | No
 def what_is_wrong(number: int, line: str, columns: dict[str, tuple[str, ...]]) -> str:
     """What is wrong with a line that was refused by this number, where the line and the columns tell it."""
     command, _, rest = line.partition(" ")
+    if number == 18:
+        return "no batch is open" if command in ("done", "abandon") else "a batch is open"
     name, _, said = rest.partition(" ")
     if number == 3 and command in ("add", "del"):
         return f"no relation is named {name}"
@@ -358,6 +374,7 @@ READ_ADDED = reader(ok_added=lambda rest: Added(*map(int, rest.split(" "))))
 READ_REMOVED: Callable[[list[str]], Update] = reader(
     ok_removed=lambda rest: Removed(*map(int, rest.split(" "))), ok_absent=lambda rest: Absent(int(rest))
 )
+READ_DONE = reader(ok_done=lambda rest: Done(*map(int, rest.split(" "))))
 READ_HAS = reader(yes=lambda rest: True, no=lambda rest: False)
 READ_SHAPE = reader(flat=lambda rest: "flat", linear=lambda rest: "linear")
 READ_OPEN = reader(ok_open=lambda rest: True)

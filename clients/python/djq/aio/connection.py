@@ -8,10 +8,11 @@ from collections import deque
 from typing import TYPE_CHECKING, Any, AsyncIterator, Callable, Generator, Iterable, Sequence, TypeVar
 
 from .. import protocol
-from ..errors import Disconnected, Error, NoCursor, NotWatched, Refused, SomeRefused
+from ..batch import Collected
+from ..errors import Disconnected, Error, NoCursor, NotWatched, Refused, SomeRefused, Unanswered
 from ..listing import CLOSE, MOST_PAGES, WITHIN, Listing, Said
-from ..protocol import FIRST_REFUSALS, MOST_ANSWERS, Added, Answer, Change, Page, Pending, Protocol, Update, Value
-from ..protocol import checked, column_type, fitting, spell_line
+from ..protocol import FIRST_REFUSALS, MOST_ANSWERS, Added, Answer, Change, Done, Page, Pending, Protocol, Rows, Update
+from ..protocol import Value, checked, column_type, fitting, spell_line
 
 if TYPE_CHECKING:
     from .live import Live, Lives
@@ -20,7 +21,7 @@ if TYPE_CHECKING:
 T = TypeVar("T")
 
 MOST_DUE = 2000  # replies that are left due while a pipeline sends more
-ROWS_AT_ONCE = 500  # replies behind which a load tells its progress
+ROWS_AT_ONCE = 500  # replies behind which a load tells its progress, and rows of a batch that are said together
 MOST_UNTAKEN = 10000  # changes that nobody took, above which no more is read while nobody waits
 
 
@@ -183,6 +184,20 @@ class Connection:
 
     # Many at once, and changes
 
+    def batch(self) -> Batch:
+        """Rows that are added in the block go in at its end, all at once and as one change, or none of them does:
+
+        async with server.batch() as batch:
+            batch.add("orders", 7, "bo")
+            batch.add("lines", 7, 1, "bolt")
+        came = batch.result().rows
+
+        Up to `MOST_HELD` rows. Until the block's end nothing is sent, and where the block raises nothing is. At its end
+        `SomeRefused` is raised where the server refused rows, and what it refused the batch with; then none is in. What
+        other tasks say meanwhile is said behind it.
+        """
+        return Batch(self)
+
     def pipeline(self, raises: bool = True) -> Pipeline:
         """Commands of the block are sent together, and their replies read by its end:
 
@@ -261,6 +276,42 @@ class Connection:
             self._flush()
         await self._done(pending)
         return pending.result()
+
+    async def _put_in(self, rows: list[str]) -> Done:
+        """Puts the rows of these lines in by a batch, which is abandoned where that goes wrong."""
+        async with self._order:
+            try:
+                await self._hold(rows)
+                done = self._say("done", protocol.READ_DONE)
+            except Unanswered as error:
+                raise Disconnected("the connection was lost; the batch wasn't done") from error
+            except BaseException:
+                if self._protocol.ended is None:
+                    self._say("abandon", protocol.READ_OK)
+                raise
+            finally:
+                self._flush()
+        await self._done(done)
+        return done.result()
+
+    async def _hold(self, rows: list[str]) -> None:
+        """Opens a batch that holds the rows of these lines. Raises what was refused."""
+        opened = self._say("batch", protocol.READ_OK)
+        self._flush()
+        await self._done(opened)
+        opened.result()
+        held: list[Rows] = []
+        for at in range(0, len(rows), ROWS_AT_ONCE):
+            lines = rows[at : at + ROWS_AT_ONCE]
+            held.append(self._protocol.say_rows(lines, ("\n".join(lines) + "\n").encode()))
+            await self._settle(MOST_DUE)
+            if any(some.refused for some in held):
+                break
+        await self._settle()
+        refused = sum(some.refused for some in held)
+        if refused:
+            first = [error for some in held for error in some.first]
+            raise SomeRefused(sum(len(some.lines) for some in held), refused, first[:FIRST_REFUSALS])
 
     async def _done(self, pending: Pending) -> None:
         """Waits for a reply, and loses the connection where nothing comes for too long."""
@@ -406,6 +457,22 @@ class Cursor:
 
     def __aiter__(self) -> AsyncIterator[Answer]:
         return self.answers()
+
+
+class Batch(Collected):
+    """Rows that go in at once: see `Connection.batch`."""
+
+    def __init__(self, connection: Connection) -> None:
+        super().__init__()
+        self._connection = connection
+
+    async def __aenter__(self) -> Batch:
+        return self
+
+    async def __aexit__(self, kind: type | None, error: BaseException | None, trace: object) -> None:
+        lines = self._end()
+        if error is None:
+            self._result = await self._connection._put_in(lines)
 
 
 class Pipeline:

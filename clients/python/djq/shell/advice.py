@@ -7,7 +7,7 @@ import re
 from typing import Callable
 
 from ..errors import NotFreeConnex, Refused, Stale
-from ..protocol import MOST_ANSWERS
+from ..protocol import MOST_ANSWERS, MOST_HELD
 from .names import Names
 from .queries import MOST_ATOMS, MOST_COLUMNS, MOST_HEAD, Query, cures, read_query, ring
 
@@ -15,6 +15,9 @@ FORMS = {
     "rel": f"rel NAME int text ..              a relation with 1 to {MOST_COLUMNS} columns",
     "add": 'add NAME 1 "a text" ..            puts a row in, or gives it one copy more',
     "del": 'del NAME 1 "a text" ..            takes a copy of a row; the last takes it out',
+    "batch": "batch                             then: add .., and done or abandon",
+    "done": "done                              puts the rows of the batch in",
+    "abandon": "abandon                           drops the rows of the batch",
     "query": "query NAME(x,y) <- REL(x,z), REL(z,y,3), x >= 5",
     "drop": "drop QUERY",
     "open": "open CURSOR QUERY                 then: next CURSOR 20",
@@ -36,6 +39,7 @@ LIMITS = {
     " head, and 32 comparisons; a server has 256 queries: drop one that nobody needs",
     "open": "a session has at most 16 cursors: close one",
 }
+LIMITS["done"] = f"no row of the batch came: {LIMITS['add']}"
 
 # the sign of a comparison in front of a name or `_`, or behind a constant
 COMPARED = re.compile(r'([<>=]|!=) *[a-z_]|(^|[ ,(])(-?[0-9]+|""|_) *([<>=]|!=)(?!-)')
@@ -64,10 +68,22 @@ def advice(error: Exception, line: str, names: Names, columns: Columns) -> list[
     if error.number in (8, 9, 10, 16):
         return _of_head(error.number, line, columns)
     if error.number == 11:
+        if command == "add" and names.held is not None:
+            return [f"a batch holds at most {MOST_HELD:,} rows: say done, and batch for the next ones"]
         return [LIMITS.get(command, "a limit is reached")]
     if error.number == 12:
-        return ["the server has no memory left: delete rows, drop queries, or give its machine more"]
+        more = "the server has no memory left: delete rows, drop queries, or give its machine more"
+        return ["no row of the batch came"] * (command == "done") + [more]
+    if error.number == 18:
+        return _of_batch(names)
     return []
+
+
+def _of_batch(names: Names) -> list[str]:
+    if names.held is None:
+        return ["batch opens one"]
+    rows = f"{names.held:,} {'row' if names.held == 1 else 'rows'}"
+    return [f"it holds {rows}: done puts them in, abandon drops them; add holds a further one"]
 
 
 def _of_ring(error: NotFreeConnex, line: str) -> list[str]:

@@ -23,6 +23,8 @@ HELP = """\
 rel NAME int text ..              a relation with 1 to 16 columns
 add NAME 1 "a text" ..            puts a row in, or gives it one copy more
 del NAME 1 "a text" ..            takes a copy of a row; the last takes it out
+batch                             from now on rows that are added are held, up to 1,000
+done, abandon                     puts all that are held in at once, or none where one has no place; drops them
 query NAME(x,y) <- REL(x,z), REL(z,y,3), x >= 5, z != "a"
                                   registers a query: equal names stand for equal values, _ for any; a variable is
                                   compared with a constant by < <= > >= = !=, a text by = and != alone
@@ -48,6 +50,7 @@ quit, stop                        ends this session; ends the whole server
 \\q                                ends the shell"""
 
 AGAIN = "; to load the rest: \\load {} {} new"
+ASKING = ("\\show", "\\explain", "\\load", "\\dump", "\\columns")  # what is refused as long as a batch is open
 SHOWN = 50  # answers that \show draws where it isn't told how many
 
 
@@ -142,6 +145,7 @@ class Shell:
         elif told.lost is not None:
             self._lose(told.lost, told)
         else:
+            self.names.saw_of_batch(told.line, told.reply[0])
             error = told.refused(self.names.columns)
             if error is not None:
                 self._refuse(error, told)
@@ -180,7 +184,7 @@ class Shell:
             return
         self.session = self._open()
         self.names.new_session()
-        self.screen.line("connected anew: cursors and watches of the session before are gone", "advice")
+        self.screen.line("connected anew: cursors, watches and the batch of the session before are gone", "advice")
 
     def _tell_change(self, told: Delta) -> None:
         if not self.raw:
@@ -198,9 +202,12 @@ class Shell:
         command = told.line.split()[0]
         if command == "next":
             self._tell_page(told)
-        elif command in ("add", "del"):
+        elif told.reply[0].startswith(("ok added", "ok removed")):
             self.screen.line(told.reply[0])
             self._tell_copies(told.reply[0])
+        elif command == "done":
+            self.screen.line(told.reply[0])
+            self._tell_rows(told.reply[0])
         elif command == "explain":
             self.screen.line("\n".join(tree(told.reply[:-1])))
         else:
@@ -208,11 +215,15 @@ class Shell:
 
     def _tell_copies(self, reply: str) -> None:
         """Says why no answer has changed, where the row was there before and is still."""
-        _, done, *numbers = reply.split(" ")
-        if done == "absent" or (done, numbers[1]) in (("added", "1"), ("removed", "0")):
-            return
-        copies = int(numbers[1])
-        self.screen.line(f"the row has {copies:,} {'copy' if copies == 1 else 'copies'} now", "quiet")
+        _, done, _, copies = reply.split(" ")
+        if (done, copies) not in (("added", "1"), ("removed", "0")):
+            self.screen.line(f"the row has {int(copies):,} {'copy' if copies == '1' else 'copies'} now", "quiet")
+
+    def _tell_rows(self, reply: str) -> None:
+        """Says what a batch has brought."""
+        rows = int(reply.split(" ")[3])
+        came = f"{rows:,} {'row' if rows == 1 else 'rows'} came, as one change"
+        self.screen.line(came if rows else "no row came: each was there, and has a copy more", "quiet")
 
     def _tell_page(self, told: Said) -> None:
         page = read_page(told.reply) or Page([], True)
@@ -265,6 +276,8 @@ class Shell:
         }  # fmt: skip
         if name not in commands:
             raise Usage(f"no command is named {name}; \\? lists them all")
+        if self.names.held is not None and name in ASKING:
+            raise Usage(f"a batch is open, and {name} asks the server: done or abandon comes first")
         try:
             inspect.signature(commands[name]).bind(*given)
         except TypeError:
@@ -292,6 +305,8 @@ class Shell:
             self.screen.line(f"cursor {cursor} of {query}")
         if names.watched:
             self.screen.line("* is watched", "quiet")
+        if names.held is not None:
+            self.screen.line(f"batch, which holds {names.held:,}")
 
     def _columns(self, relation: str) -> None:
         self.screen.line(f"rel {relation} {' '.join(self._kinds(relation))}")
@@ -354,23 +369,24 @@ class Shell:
 
         with Interrupts() as interrupts:
             try:
-                load = self._load_whole(path, relation, header, stamp, at)
+                load = self._load_whole(path, relation, header, only_new, stamp, at)
                 if only_new:
                     self._leave(load, path, relation, header, stamp)
             finally:
                 took = progress.end()
         speed = f", {total / took:,.0f} rows a second" if total >= 1000 else ""
-        further_copies = load.came.count(FURTHER)
+        further_copies = load.further
         became = "were there already" if only_new else "of them were there and have one copy more"
         there = f", {further_copies:,} {became}" if further_copies else ""
         came = total - further_copies * only_new
         self.screen.line(f"{came:,} row{'' if came == 1 else 's'} came to {relation}{there}{speed}")
 
     def _load_whole(
-        self, path: str, relation: str, header: bool, stamp: object, progress: Callable[[int], None]
+        self, path: str, relation: str, header: bool, only_new: bool, stamp: object, progress: Callable[[int], None]
     ) -> Load:
-        """Sends a file's rows. Where that goes wrong it is taken back as far as it can."""
-        load = Load(self.session, relation)
+        """Sends a file's rows, by batches unless it has to be known of each whether it was there. Where that goes wrong
+        it is taken back as far as it can."""
+        load = Load(self.session, relation, by_batches=not only_new)
         try:
             load.run(read_rows(path, relation, self._kinds(relation), header), progress)
             return load

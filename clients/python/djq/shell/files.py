@@ -1,8 +1,8 @@
 """Rows from CSV files, and answers into them.
 
 A file is read twice: first each row is looked at, so that nothing is sent of a file with a row that doesn't fit; then
-the rows are sent. Where the server refuses one even so, or where it is interrupted, the copies that it had added are
-taken again.
+the rows are sent, by batches, of which each is one change and one entry of the server's log. Where the server refuses a
+row even so, or where it is interrupted, the copies that it had added are taken again.
 """
 
 from __future__ import annotations
@@ -15,10 +15,11 @@ import tempfile
 from typing import Callable, Iterator, Sequence
 
 from ..errors import Error, SomeRefused
-from ..protocol import MOST_LINE, MOST_TEXT, Answer, Rows, Value, spell
+from ..protocol import MOST_HELD, MOST_LINE, MOST_TEXT, Answer, Rows, Value, spell
 from .session import Session
 
-FIRST, FURTHER = 1, 2  # what became of a row: its first copy came, or one copy more
+# what became of a row: its first copy came; or one copy more; or either, by a batch
+FIRST, FURTHER, EITHER = 1, 2, 3
 ROWS_AT_ONCE = 500  # that are made lines of before they are sent
 MOST_DUE = 2000  # replies that are left due while more is sent
 _INTEGER = re.compile("-?[0-9]+")
@@ -89,13 +90,40 @@ def _is_header(cells: list[str], kinds: Sequence[str]) -> str:
 class _Adds(Rows):
     """Rows that were sent together, and what became of each: `FIRST`, `FURTHER`, or 0 where it was refused."""
 
-    def __init__(self, lines: list[str], columns: dict[str, tuple[str, ...]], came: bytearray) -> None:
-        super().__init__(lines, columns)
-        self._came = came
+    def __init__(self, rows: list[str], load: Load) -> None:
+        super().__init__(rows, {})
+        self._load = load
 
     def take(self, lines: list[str], at: int) -> int:
         end = super().take(lines, at)
-        self._came += bytes(_became(line) for line in lines[at:end])
+        came = [_became(line) for line in lines[at:end]]
+        self._load.came += bytes(came)
+        self._load.further += came.count(FURTHER)
+        return end
+
+
+class _Batch(Rows):
+    """Rows that are sent as a batch, and what became of each: `EITHER`, or 0 where it was refused or the batch was.
+
+    A server that has no memory to open a batch takes each row alone.
+    """
+
+    def __init__(self, rows: list[str], load: Load) -> None:
+        super().__init__(["batch", *rows, "done"], {})
+        self._load = load
+        self._replies: list[str] = []
+
+    def take(self, lines: list[str], at: int) -> int:
+        end = super().take(lines, at)
+        self._replies += lines[at:end]
+        if self.done:
+            done = self._replies[-1].split(" ")
+            held = EITHER if done[0] == "ok" else 0
+            came = [held if reply.startswith("ok held ") else _became(reply) for reply in self._replies[1:-1]]
+            self._load.came += bytes(came)
+            self._load.further += came.count(FURTHER)
+            if done[0] == "ok":
+                self._load.further += came.count(EITHER) - int(done[3])
         return end
 
 
@@ -108,27 +136,29 @@ def _became(reply: str) -> int:
 class Load:
     """A file on its way into a relation: of each row that was answered, what became of it."""
 
-    def __init__(self, session: Session, relation: str) -> None:
+    def __init__(self, session: Session, relation: str, by_batches: bool) -> None:
         self.came = bytearray()
-        self._session, self._relation = session, relation
-        self._open: list[_Adds] = []
+        self.further = 0  # how many rows were given one copy more
+        self._session, self._relation, self._by_batches = session, relation, by_batches
+        self._sent = 0
+        self._open: list[Rows] = []
 
     def run(self, rows: Iterator[list[Value]], progress: Callable[[int], None]) -> None:
         """Sends the rows. Raises `SomeRefused` at a refusal."""
         lines: list[str] = []
         for row in rows:
             lines.append(f"add {self._relation} " + " ".join(map(spell, row)))
-            if len(lines) == ROWS_AT_ONCE:
-                self._send(lines, progress)
+            if len(lines) == (MOST_HELD if self._by_batches else ROWS_AT_ONCE):
+                self._add(lines, progress)
                 lines = []
-        self._send(lines, progress)
+        self._add(lines, progress)
         self._settle(0, progress)
 
     def count(self) -> int:
         """How many rows were given a copy."""
         return len(self.came) - self.came.count(0)
 
-    def undo(self, rows: Iterator[list[Value]], which: tuple[int, ...] = (FIRST, FURTHER)) -> int:
+    def undo(self, rows: Iterator[list[Value]], which: tuple[int, ...] = (FIRST, FURTHER, EITHER)) -> int:
         """Takes the copy again of each row of which this became, and gives how many that were."""
         progress: Callable[[int], None] = lambda done: None
         with contextlib.suppress(SomeRefused):
@@ -140,20 +170,24 @@ class Load:
                 lines.append(f"del {self._relation} " + " ".join(map(spell, row)))
             if len(lines) == ROWS_AT_ONCE:
                 taken += len(lines)
-                self._send(lines, progress)
+                self._send(Rows(lines, {}), progress)
                 lines = []
-        self._send(lines, progress)
+        self._send(Rows(lines, {}), progress)
         self._settle(0, progress)
         return taken + len(lines)
 
-    def _send(self, lines: list[str], progress: Callable[[int], None]) -> None:
-        if not lines:
+    def _add(self, lines: list[str], progress: Callable[[int], None]) -> None:
+        self._sent += len(lines)
+        if lines:
+            self._send(_Batch(lines, self) if self._by_batches else _Adds(lines, self), progress)
+
+    def _send(self, rows: Rows, progress: Callable[[int], None]) -> None:
+        if not rows.lines:
             return
         own = self._session.connection
         own._check()
-        adds = _Adds(lines, {}, self.came if lines[0].startswith("add") else bytearray())
-        own._whole(own._protocol._queue, adds, ("\n".join(lines) + "\n").encode(), len(lines))
-        self._open.append(adds)
+        own._whole(own._protocol._queue, rows, ("\n".join(rows.lines) + "\n").encode(), len(rows.lines))
+        self._open.append(rows)
         own._move(0)
         self._settle(MOST_DUE, progress)
 
@@ -163,12 +197,12 @@ class Load:
         while own._protocol.ended is None and own._protocol.due > due:
             own._await(own.timeout)
             progress(len(self.came))
-        refused = [adds for adds in self._open if adds.refused]
-        self._open = [adds for adds in self._open if not adds.done and not adds.refused]
+        refused = [rows for rows in self._open if rows.refused]
+        self._open = [rows for rows in self._open if not rows.done and not rows.refused]
         if own._protocol.ended is not None:
             raise own._protocol.ended
         if refused:
-            raise SomeRefused(len(self.came), sum(adds.refused for adds in refused), refused[0].first[:1])
+            raise SomeRefused(self._sent, sum(rows.refused for rows in refused), refused[0].first[:1])
 
 
 def write_answers(path: str, answers: Sequence[Answer], heads: Sequence[str]) -> None:

@@ -22,6 +22,7 @@ class Names:
         self.queries: dict[str, Query | None] = {}
         self.cursors: dict[str, str] = {}  # each cursor's query
         self.watched: set[str] = set()
+        self.held: int | None = None  # how many rows the open batch holds; none where no batch is open
 
     def saw(self, line: str) -> None:
         """Takes what a line tells that the server accepted."""
@@ -55,6 +56,15 @@ class Names:
         elif command == "unwatch":
             self.watched.discard(name)
 
+    def saw_of_batch(self, line: str, reply: str) -> None:
+        """Takes what the reply to a line tells of the batch. Also a `done` that is refused ends it."""
+        if reply == "ok batch":
+            self.held = 0
+        elif reply.startswith("ok held "):
+            self.held = int(reply.removeprefix("ok held "))
+        elif line.split()[0] in ("done", "abandon") and not reply.startswith(("err 1 ", "err 18 ")):
+            self.held = None
+
     def head(self, query: str, width: int) -> list[str]:
         """The names of a query's columns, as far as they are known, else their numbers."""
         known = self.queries.get(query)
@@ -63,14 +73,16 @@ class Names:
         return [str(place + 1) for place in range(width)]
 
     def new_session(self) -> None:
-        """Cursors and watches are a session's own, and the server may be another one."""
+        """Cursors, watches and a batch are a session's own, and the server may be another one."""
+        self.held = None
         self.cursors.clear()
         self.watched.clear()
         self.columns.clear()
 
 
 def find_columns(names: Names, session: Session, relation: str) -> tuple[str, ...] | None:
-    """The types of a relation's columns; none where there is no such relation.
+    """The types of a relation's columns; none where there is no such relation, or they aren't known while a batch is
+    open.
 
     The server has no command that tells them. So it is asked for queries that it refuses in any case, since their head
     names a variable twice: what it finds fault with before that tells how many columns there are and of which types.
@@ -79,6 +91,8 @@ def find_columns(names: Names, session: Session, relation: str) -> tuple[str, ..
     if re.fullmatch("[a-z][a-z0-9_]{0,31}", relation) is None:
         return None
     if relation not in names.columns:
+        if names.held is not None:  # no query is answered as long as a batch is open
+            return None
         columns = _ask_for_columns(session, relation)
         if columns is None:
             return None

@@ -27,6 +27,7 @@ except ImportError:  # lines are read without it then
 
 OWN = [line.split()[0] for line in HELP.split("\n") if line.startswith("\\")]
 OF_RELATIONS = ("add", "del", "\\columns")
+IN_BATCH = ("add", "done", "abandon", "quit", "stop")
 VARIABLE = re.compile(r"[(,] *([a-z][a-z0-9_]*)(?= *[,)])")  # that a query names, in its head or in an atom
 OF_QUERIES = ("watch", "unwatch", "has", "explain", "shape", "drop", "\\show", "\\explain", "\\dump")
 
@@ -84,6 +85,11 @@ def lines_of(text: str) -> Iterator[str]:
         yield begun
 
 
+def prompt(shell: Shell) -> str:
+    """What stands before a line that is typed: also how many rows an open batch holds."""
+    return "djq> " if shell.names.held is None else f"[{shell.names.held:,} held] djq> "
+
+
 def _ask_plainly(shell: Shell) -> Callable[[], str]:
     with contextlib.suppress(ImportError):
         import readline  # noqa: F401, that input() has a history then
@@ -92,7 +98,7 @@ def _ask_plainly(shell: Shell) -> Callable[[], str]:
         with contextlib.suppress(Error):
             shell.session.move()
         shell.tell_what_came()
-        text = input("djq> ")
+        text = input(prompt(shell))
         while incomplete(text):
             text += "\n" + input("...> ")
         return text
@@ -120,7 +126,7 @@ class _Prompt:
         """What was typed. Raises `EOFError` at its end, and `KeyboardInterrupt`."""
         with patch_stdout(raw=True):
             try:
-                return self._session.prompt("djq> ", pre_run=self._listen)
+                return self._session.prompt(prompt(self._shell), pre_run=self._listen)
             finally:
                 self._listen_no_more()
 
@@ -188,7 +194,7 @@ class Names(Completer):
     def _words(self, front: str, begun: str) -> list[str]:
         names, words = self._shell.names, front.split()
         if not words:
-            return [*FORMS, *OWN]
+            return [*(FORMS if names.held is None else IN_BATCH), *OWN]
         command, place = words[0], len(words)
         if command == "query":
             return [*{*names.relations, *VARIABLE.findall(front)}] if "<-" in front else []
