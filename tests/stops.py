@@ -1,0 +1,149 @@
+#!/usr/bin/env python3
+"""A stop at each write and each sync of the log, also one that loses what wasn't synced.
+
+    tests/stops.py PATH_TO_DJQ
+
+tests/stop.c is compiled with gcc and preloaded. A schedule with a log is run again and again, and stopped at its first
+call that writes or syncs the file, at its second, and so on: before a write, in the middle of it and behind it, and with
+some of the writes undone that weren't synced, as after a power cut. Each time the file that is left has to load, and to
+give what the first lines of the schedule gave, a batch with all of its rows or with none. One line is printed for each
+test that fails, and last `N passed, N failed`; the status is 0 where none failed. Python's standard library and gcc are
+all it needs.
+"""
+
+import os
+import subprocess
+import sys
+import tempfile
+import traceback
+
+sys.dont_write_bytecode = True
+
+PATIENCE = 20
+STOPPED = 99
+PARTS = (0, 2, 4)  # quarters of a write at which it is stopped
+SEEDS = range(8)  # ways to lose what wasn't synced, the first of which loses nothing
+MOST_CALLS = 200
+TESTS = []
+
+BEGIN = [b"rel r int int", b"query q(x,y) <- r(x,y)", b"add r 9 9"]
+ASK = [b"open c q", b"next c 1000", b"watch q"]
+
+
+def test(function):
+    TESTS.append(function)
+    return function
+
+
+def replay(log, lines, preload=None, **told):
+    """What a session is told by a server with a log, and the status."""
+    schedule = b"open 1\n" + b"".join(b"say 1 %s\n" % line for line in lines)
+    environment = dict(os.environ, **{name: str(value) for name, value in told.items()})
+    if preload:
+        environment["LD_PRELOAD"] = preload
+    words = [PROGRAM, "replay", "--log", log]
+    done = subprocess.run(words, input=schedule, capture_output=True, env=environment, timeout=PATIENCE, check=False)
+    return [line.partition(b"< ")[2] for line in done.stdout.splitlines()], done.returncode
+
+
+def compiled(folder):
+    """The library that stops a program."""
+    library, source = os.path.join(folder, "stop.so"), os.path.join(os.path.dirname(os.path.abspath(__file__)), "stop.c")
+    subprocess.run(["gcc", "-shared", "-fPIC", "-O1", "-Wall", "-Werror", "-o", library, source], check=True)
+    return library
+
+
+def state_of(log):
+    """The answers and the number of changes that a file gives."""
+    told, status = replay(log, ASK)
+    if status != 0:
+        raise AssertionError(f"the file that is left doesn't load: status {status}")
+    return tuple(sorted(line for line in told if line.startswith(b"= "))), told[-1]
+
+
+def each_stop(groups):
+    """Runs groups of lines with a log, each kept whole or not at all, with a stop at each call and of each kind."""
+    lines = [line for group in groups for line in group]
+    with tempfile.TemporaryDirectory() as folder:
+        library, begun, log = compiled(folder), os.path.join(folder, "begun"), os.path.join(folder, "log")
+
+        def again():
+            with open(begun, "rb") as one, open(log, "wb") as other:
+                other.write(one.read())
+
+        assert replay(begun, BEGIN)[1] == 0
+        allowed = []
+        for count in range(len(groups) + 1):
+            again()
+            assert replay(log, [line for group in groups[:count] for line in group])[1] == 0
+            allowed.append(state_of(log))
+        stops, seen, at = 0, set(), 1
+        while True:
+            for part in PARTS:
+                for seed in SEEDS:
+                    again()
+                    _, status = replay(log, lines, library, STOP_AT=at, STOP_PART=part, STOP_LOSES=seed)
+                    if status not in (0, STOPPED):
+                        raise AssertionError(f"status {status} at call {at}, part {part}, seed {seed}")
+                    left = state_of(log)
+                    if left not in allowed:
+                        raise AssertionError(f"a stop at call {at}, part {part}, seed {seed} leaves {left}")
+                    stops += status == STOPPED
+                    seen.add(allowed.index(left))
+            if status == 0:
+                break
+            at += 1
+            assert at < MOST_CALLS, "a run that meets no stop"
+        assert seen == set(range(len(allowed))), f"of {len(allowed)} states these were left: {seen}"
+        print(f"{stops} stops at {at - 1} calls")
+
+
+@test
+def lines_that_are_kept_one_by_one():
+    each_stop([[b"add r 1 2"], [b"del r 9 9"], [b"add r 3 4"]])
+
+
+@test
+def a_batch_of_two_rows_is_left_whole_or_not_at_all():
+    each_stop([[b"batch", b"add r 1 2", b"add r 2 3", b"done"]])
+
+
+@test
+def batches_between_other_lines():
+    each_stop([[b"add r 5 5"], [b"batch", b"add r 1 2", b"add r 2 3", b"add r 1 2", b"done"], [b"del r 2 3"],
+               [b"batch", b"add r 7 7", b"done"], [b"del r 9 9"]])
+
+
+@test
+def a_file_that_ends_within_a_batch_is_stopped_as_it_is_mended():
+    with tempfile.TemporaryDirectory() as folder:
+        library, log = compiled(folder), os.path.join(folder, "log")
+        records = b"".join(b"\x01" + len(line).to_bytes(2, "big") + line for line in [*BEGIN, b"batch", b"add r 1 1"])
+        for at in range(1, MOST_CALLS):
+            for part in PARTS:
+                for seed in SEEDS:
+                    with open(log, "wb") as file:
+                        file.write(b"DJQLOG1\n" + records + b"\0")
+                    _, status = replay(log, [], library, STOP_AT=at, STOP_PART=part, STOP_LOSES=seed)
+                    assert state_of(log) == ((b"= 9 9",), b"ok watch 1"), (at, part, seed)
+            if status == 0:
+                break
+
+
+def main():
+    failed = 0
+    for function in TESTS:
+        try:
+            function()
+        except Exception:  # noqa: BLE001
+            failed += 1
+            print(f"{function.__name__}: {traceback.format_exc(limit=-2)}")
+    print(f"{len(TESTS) - failed} passed, {failed} failed")
+    return 1 if failed else 0
+
+
+if __name__ == "__main__":
+    if len(sys.argv) != 2:
+        raise SystemExit(__doc__)
+    PROGRAM = os.path.abspath(sys.argv[1])
+    sys.exit(main())
