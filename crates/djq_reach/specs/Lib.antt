@@ -1,3 +1,5 @@
 pub mod Places
 pub mod Reaching
 pub mod Tending
+pub mod Batching
+pub mod Grouping
