@@ -3,3 +3,4 @@ pub mod Reaching
 pub mod Tending
 pub mod Batching
 pub mod Grouping
+pub mod Growing
