@@ -18,7 +18,7 @@ use Rattle.djq_engine.specs.Kept.{Registered, same_query, registered_at, registe
 use Rattle.djq_reach.specs.Places.{place_at, is_reader, readers_at, reads_place, watchers_at, watched_at, AreOnce}
 use Rattle.djq_engine.specs.Places.{is_live, query_in, queries_in, is_query, id_at, registered_as, registered_in}
 use Rattle.djq_engine.specs.Sound.{IsSound}
-use Rattle.djq_reach.proofs.Places.{apart}
+use Rattle.djq_reach.proofs.Among.{apart}
 use Rattle.djq_engine.proofs.Listing.{map_members, filter_members}
 use Rattle.djq_engine.proofs.Naming.{There, Named, live_there, order_there, unnamed}
 

@@ -1,6 +1,6 @@
 -- Many rows that come into the queries in places, one query after another, and are given back.
 use Rattle.std.proofs.Common.{ℕ, List, [], ◌∷◌, ◌++◌, ◌+◌, ◌*◌, ◌-◌, ◌≡◌, ◌<◌, ◌≤◌, Bool, true, false, refl, sym, ap, ◌∙◌, subst, length, get_or, set, take, arith, inl, inr, length-set}
-use Rattle.std.specs.Prelude.{◌==◌, ◌||◌, Option, None, Some, IsSomeAnd, Result, OnOk, OnErr, filter, sum_by}
+use Rattle.std.specs.Prelude.{◌==◌, ◌||◌, Option, None, Some, IsSomeAnd, filter, slice_index_or, sum_by}
 use Rattle.std.proofs.lemmas.Bool.{eqb-true, eq-eqb, false≢true}
 use Rattle.std.proofs.lemmas.List.{take_more, get_or-set_other}
 use Rattle.std.proofs.lemmas.List.Sums.{sum_by-cons, sum_by-append, sum_by-take-le, sum_by_more}
@@ -26,7 +26,7 @@ use Rattle.djq_reach.specs.Places.{place_at, is_reader, log_at, no_log, AreOnce}
 use Rattle.djq_reach.specs.Reaching.{DoneAt, Reach, AllAt}
 use Rattle.djq_reach.specs.Tending.{Tends, TendedAt, work_of, work_at}
 use Rattle.djq_reach.specs.Batching.{Comes, CanComeAll, CanGoAll, CanGiveAll, TakesInAll, Refuses, LetsOutAll, GivesAllBack, OthersStay, WorksBatch}
-use Rattle.djq_reach.proofs.Places.{apart, reader_more, or_true, or_false}
+use Rattle.djq_reach.proofs.Among.{apart, reader_more, or_true, or_false}
 use Rattle.djq_reach.proofs.Reaching.{some_as, only, once_at, reader_there, reader_front, same_then, same_refl, front_kept, done_back}
 use Rattle.djq_reach.proofs.Tending.{unreached}
 use Rattle.djq_reach.proofs.Going.{OneLess, one_less, none_came}
@@ -140,6 +140,33 @@ last_gone c at cells cell l m a gone =
 
 pub all_gone : (c : Catalog) (at : ℕ) (l : Live) → Among c at [] l → IsKept c l
 all_gone c at l a = kept_same a.now c l (none_came c a.now at a.rows a.comes) a.kept
+
+-- the rows that are left, and the last of them
+pub left_one : (rows : List (List ℕ)) (left : ℕ) (x y : List ℕ) → 0 < left → left ≤ length rows → x ≡ slice_index_or rows (left - 1) x
+    → y ≡ x → take left rows ≡ take (left - 1) rows ++ y ∷ []
+left_one rows left x y some low is same =
+    let whole : left ≡ left - 1 + 1 = omega (arith, some) in
+    ap (λ (n : ℕ). take n rows) whole ∙ take_more rows (left - 1) x (omega (arith, some, low))
+    ∙ ap (λ (z : List ℕ). take (left - 1) rows ++ z ∷ []) (sym is ∙ sym same)
+
+pub left_none : (rows : List (List ℕ)) (left : ℕ) → left ≤ 0 → take left rows ≡ []
+left_none rows left none =
+    let zero : left ≡ 0 = omega (arith, none) in
+    ap (λ (n : ℕ). take n rows) zero ∙ nothing rows
+  where
+    nothing : (xs : List (List ℕ)) → take 0 xs ≡ []
+    nothing [] = refl
+    nothing (x ∷ xs) = refl
+
+pub counts_as_one : (l : Live) (at k j before now : ℕ) → k ≡ j → CountsUpdate k l at before now → CountsUpdate j l at before now
+counts_as_one l at k j before now e h = subst (λ (i : ℕ). CountsUpdate i l at before now) e h
+
+-- so many updates, in a place
+pub works_update : (l : Live) (at times before now : ℕ) → CountsUpdate times l at before now → (n : ℕ) → HasAtMost l.reducts n
+    → now ≤ before + work_of at times (n + 0) false (Some l)
+works_update l at times before now h n has =
+    let even : n ≡ n + 0 = omega arith in
+    subst (λ (m : ℕ). now ≤ before + work_of at times m false (Some l)) even (h n has)
 
 -- so many times the bound
 bound_as : (l m : Live) (at n : ℕ) → SameQuery l m → atoms_over m at * update_bound m n ≡ atoms_over l at * update_bound l n

@@ -35,20 +35,37 @@ pairs_front R xs ys h = λ i j d less low.
     (subst (λ y. R (get_or (xs ++ ys) i d) y) (get_or_append_left xs ys d j low)
     (h i j d less (omega (arith, low, length-append xs ys))))
 
+rest_of : List Tuple → List Tuple
+rest_of [] = []
+rest_of (x ∷ xs) = xs
+
+first_or : Tuple → List Tuple → Tuple
+first_or d [] = d
+first_or d (x ∷ xs) = x
+
+first_same : (x y : Tuple) (xs ys : List Tuple) → x ∷ xs ≡ y ∷ ys → x ≡ y
+unfolding first_or
+first_same x y xs ys e = ap (first_or x) e
+
+rest_same : (x y : Tuple) (xs ys : List Tuple) → x ∷ xs ≡ y ∷ ys → xs ≡ ys
+unfolding rest_of
+rest_same x y xs ys e = ap rest_of e
+
 -- counted rows whose rows end so
 counted_ends : (ks : List CountedRow) (xs : List Tuple) (row : Tuple) → tuples_of ks ≡ xs ++ row ∷ []
     → Ends (λ fs. tuples_of fs ≡ xs) (λ k. k.row ≡ row) ks
 counted_ends [] [] row e = absurd cc
 counted_ends [] (x ∷ xs) row e = absurd cc
-counted_ends (k ∷ []) [] row e = record { front = []; last = k; is = refl; before = refl; there = cc }
+counted_ends (k ∷ []) [] row e = record { front = []; last = k; is = refl; before = refl; there = first_same k.row row [] [] e }
 counted_ends (k ∷ j ∷ ks) [] row e = absurd cc
 counted_ends (k ∷ ks) (x ∷ xs) row e =
-    let more = counted_ends ks xs row cc in
+    let more = counted_ends ks xs row (rest_same k.row x (tuples_of ks) (xs ++ row ∷ []) e) in
+    let first : k.row ≡ x = first_same k.row x (tuples_of ks) (xs ++ row ∷ []) e in
     record {
       front = k ∷ more.front;
       last = more.last;
-      is = ap (λ ys. k ∷ ys) more.is;
-      before = ap₂ (λ (y : Tuple) (ys : List Tuple). y ∷ ys) cc more.before;
+      is = ap (λ (ys : List CountedRow). k ∷ ys) more.is;
+      before = ap (λ (y : Tuple). y ∷ tuples_of more.front) first ∙ ap (λ (ys : List Tuple). x ∷ ys) more.before;
       there = more.there;
     }
 
@@ -102,9 +119,9 @@ without_last (x ∷ xs) row h =
     apart : (b : Bool) → tuple_eq x row ≡ b → b ≡ false
     apart false e = refl
     apart true e =
-        let low : 1 + length xs < length (x ∷ xs ++ row ∷ []) = omega (arith, length-append xs (row ∷ [])) in
-        let last : get_or (xs ++ row ∷ []) (length xs) row ≡ row = end xs in
-        absurd (h 0 (1 + length xs) row (omega arith) low ((tuple_eq-decides x row).0 e ∙ sym last))
+        let low : suc (length xs) < length (x ∷ xs ++ row ∷ []) = omega (arith, length-append xs (row ∷ [])) in
+        let differ : x ≡ get_or (xs ++ row ∷ []) (length xs) row → ⊥ = h 0 (suc (length xs)) row (omega arith) low in
+        absurd (differ ((tuple_eq-decides x row).0 e ∙ sym (end xs)))
       where
         end : (ys : List Tuple) → get_or (ys ++ row ∷ []) (length ys) row ≡ row
         end [] = refl
