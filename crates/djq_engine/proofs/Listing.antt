@@ -7,6 +7,7 @@ use Rattle.djq_model.specs.Listed.{Listed, listed_name}
 use Rattle.djq_engine.specs.Finding.{IsFirst}
 use Rattle.djq_reach.specs.Places.{is_reader, AreOnce}
 use Rattle.djq_engine.proofs.Firsts.{first_of_position, none_of_position}
+use Rattle.djq_reach.proofs.Among.{reader_more, or_true, or_false, apart}
 
 both_false : (b : Bool) → (b && false) ≡ false
 both_false true = refl

@@ -33,6 +33,7 @@ use Rattle.djq_engine.proofs.Carrying.{reader_is, reader_reads}
 use Rattle.djq_engine.proofs.Enlisted.{outdated_reads, readers_are, registered_is}
 use Rattle.djq_engine.proofs.Naming.{There, live_there}
 use Rattle.djq_engine.proofs.Reporting.{atoms_of, both_true}
+use Rattle.djq_reach.proofs.Working.{behind, here}
 
 -- ---- sums over places
 

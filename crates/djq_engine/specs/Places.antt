@@ -14,6 +14,7 @@ use Rattle.djq_cursor.specs.Log.{Log}
 use Rattle.djq_engine.specs.declared.cursor.CursorId.{CursorId}
 use Rattle.djq_engine.specs.declared.cursor.QueryId.{QueryId}
 use Rattle.djq_engine.specs.Kept.{Held, Registered, Kept}
+use Rattle.djq_reach.specs.Places.{place_at, readers_at, watchers_at}
 
 -- whether one is
 abbrev pub is_live : List (Option Live) → ℕ → Bool
