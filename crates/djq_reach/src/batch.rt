@@ -11,12 +11,20 @@ ghost use Rattle.djq_reach.specs.Grouping.{reached, relations_of, rows_in, times
 
 use crate::group::Group;
 use crate::places::is_watched;
-use crate::reach::empty_logs;
+use crate::reach::{empty_logs, ready};
 use crate::rows::{give_all_back, take_in_all};
 use djq_cursor::DeltaLog;
 use djq_live::LiveQuery;
 use djq_model::{NoMem, Sequence};
 use djq_steps::{Ledgers, Steps};
+
+// The places of the queries that read a group's relation.
+fn places_of<'a>(readers: &'a [Sequence<usize>], group: &Group) -> &'a [usize]
+    requires { group.now.relation.at < length readers.now }
+    ensures { result.now ≡ readers_at readers.now group.now.relation.at }
+{
+    readers[group.relation.at].as_slice()
+}
 
 // The logs in those of these places are emptied whose query is watched.
 fn clear_watched(logs: &mut Vec<DeltaLog>, watchers: &[u32], places: &[usize])
@@ -26,9 +34,9 @@ fn clear_watched(logs: &mut Vec<DeltaLog>, watchers: &[u32], places: &[usize])
         logs.old.items logs.new.items }
 {
     for nth in 0..places.len() {
-        if is_watched(watchers, places[nth]) {
-            logs[places[nth]].clear();
-        }
+        let at = places[nth];
+        let wanted = is_watched(watchers, at);
+        ready(&mut logs[at], wanted);
     }
 }
 
@@ -46,7 +54,7 @@ fn clear_logs(
         logs.old.items logs.new.items }
 {
     for nth in 0..groups.len() {
-        clear_watched(logs, watchers, readers[groups[nth].relation.at].as_slice());
+        clear_watched(logs, watchers, places_of(readers, &groups[nth]));
     }
 }
 
@@ -57,7 +65,7 @@ fn empty_all(logs: &mut Vec<DeltaLog>, readers: &[Sequence<usize>], groups: &[Gr
     ensures { Empties (reached readers.now groups.now) logs.old.items logs.new.items }
 {
     for nth in 0..groups.len() {
-        empty_logs(logs, readers[groups[nth].relation.at].as_slice());
+        empty_logs(logs, places_of(readers, &groups[nth]));
     }
 }
 
@@ -81,7 +89,7 @@ fn give_groups<L: Ledgers>(
     while left > 0 {
         left -= 1;
         let group = &groups[left];
-        let places = readers[group.relation.at].as_slice();
+        let places = places_of(readers, group);
         give_all_back(queries, places, group.relation, group.rows.as_slice(), steps);
     }
 }
@@ -138,7 +146,7 @@ pub fn take_in_batch<L: Ledgers>(
     clear_logs(logs, watchers, readers, groups);
     for at in 0..groups.len() {
         let group = &groups[at];
-        let places = readers[group.relation.at].as_slice();
+        let places = places_of(readers, group);
         let rows = group.rows.as_slice();
         match take_in_all(queries, watchers, logs, places, group.relation, rows, steps) {
             Ok(()) => {}
