@@ -45,8 +45,8 @@ returns-in-Err-clause-counted g c =
     c.args.steps.now.listing c.loop-at.steps.listing c.take_in_all.new.steps.listing c.loop-at.invariant.costs c.take_in_all.ensures.counted in
     let all = costs_all c.args.readers.now c.args.groups.now c.args.queries.now.items c.args.watchers.now (c.loop-at.at + 1) c.args.steps.now.listing c.take_in_all.new.steps.listing mine in
     λ x d f order leads kept deltas among.
-        let bound = all x d f order leads kept deltas among in
-        omega (arith, bound, c.give_groups.ensures.counted)
+    let bound = all x d f order leads kept deltas among in
+    omega (arith, bound, c.give_groups.ensures.counted)
 
 pub returns-in-Err-clause-unlisted : goal.returns-in-Err-clause-unlisted
 returns-in-Err-clause-unlisted g c none =
