@@ -263,11 +263,11 @@ module _ (places : List ℕ) (k d at : ℕ) (cells : List (List ℕ)) (old now m
       both (Some l) (Some m) t h = (
         grown_by l.reducts m.reducts n (length cells) t.same.tree t.grows h,
         (let w = atoms_over l at * update_bound l (n + length cells) in
-        let even : atoms_over m at * update_bound m (n + length cells + 0) ≡ w =
-        bound_as l m at (n + length cells + 0) t.same ∙ ap (λ (x : ℕ). atoms_over l at * update_bound l x) (omega arith) in
-        let e : length cells * (atoms_over m at * update_bound m (n + length cells + 0)) ≡ length cells * w = ap (λ (x : ℕ). length cells * x) even in
-        let whole : (length cells + 2) * w ≡ length cells * w + 2 * w = omega arith in
-        omega (arith, e, whole)),
+            let even : atoms_over m at * update_bound m (n + length cells + 0) ≡ w =
+            bound_as l m at (n + length cells + 0) t.same ∙ ap (λ (x : ℕ). atoms_over l at * update_bound l x) (omega arith) in
+            let e : length cells * (atoms_over m at * update_bound m (n + length cells + 0)) ≡ length cells * w = ap (λ (x : ℕ). length cells * x) even in
+            let whole : (length cells + 2) * w ≡ length cells * w + 2 * w = omega arith in
+            omega (arith, e, whole)),
       )
 
       grown : (j : ℕ) → is_reader (take k places) j ≡ true

@@ -1,5 +1,5 @@
 -- Catalogs into which groups of rows come one after another, and the queries that are kept over them.
-use Rattle.std.proofs.Common.{ℕ, zero, suc, List, [], ◌∷◌, ◌++◌, ◌+◌, ◌-◌, ◌≡◌, ◌<◌, ◌≤◌, Bool, true, false, refl, sym, ap, ◌∙◌, subst, length, take, arith, inl, inr, append-nil, append_assoc}
+use Rattle.std.proofs.Common.{ℕ, zero, suc, List, [], ◌∷◌, ◌++◌, ◌+◌, ◌-◌, ◌≡◌, ◌<◌, ◌≤◌, Bool, true, false, refl, sym, ap, ◌∙◌, subst, length, take, drop, arith, inl, inr, append-nil, append_assoc}
 use Rattle.std.specs.Prelude.{◌||◌, Option, None, Some, IsSomeAnd, All, slice_index_or, sum_by, map}
 use Rattle.std.proofs.lemmas.Bool.{false≢true}
 use Rattle.std.proofs.lemmas.List.{take_more, length-append}
@@ -218,6 +218,14 @@ first_steps c d (g ∷ groups) (suc k) h =
     let more = first_steps h.0 d groups k h.3 in
     record { now = more.now; comes = (h.0, h.1, h.2, more.comes) }
 
+-- and those behind them
+pub rest_steps : (c d : Catalog) (groups : List Group) (k : ℕ) (h : ComesBy c groups d) → ComesBy (first_steps c d groups k h).now (drop k groups) d
+unfolding first_steps
+rest_steps c d [] zero h = h
+rest_steps c d [] (suc k) h = h
+rest_steps c d (g ∷ groups) zero h = h
+rest_steps c d (g ∷ groups) (suc k) h = rest_steps h.0 d groups k h.3
+
 -- ---- what leads
 
 module _ (readers : List (List ℕ)) (groups : List Group) (gs : List (Option Live)) where
@@ -226,6 +234,21 @@ module _ (readers : List (List ℕ)) (groups : List Group) (gs : List (Option Li
   leads_front c d k h =
       let first = first_steps c d groups k h.comes in
       (first.now, record { comes = first.comes; within = taken_all (λ g. g.relation.at < length c.relations) groups k h.within; long = h.long; reading = h.reading })
+
+  -- and those behind them lead on from it
+  pub record Far (k : ℕ) (c d : Catalog) : Type 0 where
+    pub now : Catalog
+    pub leads : Leads readers (take k groups) gs c now
+    pub rest : ComesBy now (drop k groups) d
+
+  pub far_of : (c d : Catalog) (k : ℕ) → Leads readers groups gs c d → Far k c d
+  far_of c d k h =
+      let first = first_steps c d groups k h.comes in
+      record {
+        now = first.now;
+        leads = record { comes = first.comes; within = taken_all (λ g. g.relation.at < length c.relations) groups k h.within; long = h.long; reading = h.reading };
+        rest = rest_steps c d groups k h.comes;
+      }
 
   -- one group more leads on
   pub record Step (k : ℕ) (g : Group) (c d : Catalog) : Type 0 where

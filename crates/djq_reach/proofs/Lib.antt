@@ -10,3 +10,5 @@ pub mod Clearing
 pub mod Chaining
 pub mod Summing
 pub mod Telling
+pub mod Costing
+pub mod Refusing

@@ -90,7 +90,13 @@ fn give_groups<L: Ledgers>(
         left -= 1;
         let group = &groups[left];
         let places = places_of(readers, group);
-        give_all_back(queries, places, group.relation, group.rows.as_slice(), steps);
+        give_all_back(
+            queries,
+            places,
+            group.relation,
+            group.rows.as_slice(),
+            steps,
+        );
     }
 }
 

@@ -6,8 +6,8 @@ use Rattle.djq_reach.proofs.Reaching.{reader_there}
 use Rattle.djq_reach.proofs.Clearing.{clears_at, clears_both, watched_more}
 use Rattle.djq_reach.proofs.batch.clear_watched.Goals as goal
 
-pub is_watched-requires : goal.is_watched-requires
-is_watched-requires c =
+pub is_watched-wanted-requires : goal.is_watched-wanted-requires
+is_watched-wanted-requires c =
     let there = c.requires.logged (slice_index_or c.args.places.now c.loop-nth.nth 0)
     (reader_there c.args.places.now c.loop-nth.nth 0 c.loop-nth-test.true) in
     omega (arith, there, c.requires.watched)

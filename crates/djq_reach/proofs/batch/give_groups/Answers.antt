@@ -14,7 +14,6 @@ use Rattle.djq_reach.proofs.Chaining.{Behind, all_on, behind_all, given_groups, 
 use Rattle.djq_reach.proofs.Clearing.{each_group, reached_one, take_whole}
 use Rattle.djq_reach.proofs.Reaching.{same_then}
 use Rattle.djq_reach.proofs.Summing.{sums_left, works_same}
-use Rattle.djq_reach.proofs.Telling.{tends_on, tends_start}
 use Rattle.djq_reach.proofs.batch.give_groups.Goals as goal
 
 pub loop-left-init : goal.loop-left-init
