@@ -68,11 +68,11 @@ IsWhole AllTaken = ⊥
 IsWhole HubFailed = ⊥
 IsWhole _ = Unit {0}
 
--- The lines of the log were loaded, a batch that they left open was ended, and the hub of these turns was
--- served from what they gave on, until it was over, a session said `stop`, or the log failed: by moves that are a run of the join
--- machine, which counted no more of listings than it may cost, with each session sent what is its.
--- What the run keeps is in the log. The hub tells what is left of its turns, so each turn that was
--- taken is the next of these. At the end it tells this past.
+-- The lines of the log were loaded, a batch that they left open was ended, and the hub of these turns
+-- was served from what they gave on, until it was over, a session said `stop`, or the log failed: by
+-- moves that are a run of the join machine, which counted no more of listings than it may cost, with
+-- each session sent what is its. What the run keeps is in the log. The hub tells what is left of its
+-- turns, so each turn that was taken is the next of these. At the end it tells this past.
 pub record Plays (log : Option LogSeen) (turns : List Coming) (most : ℕ) (counted counted' : Counts)
     (past : Option (List Told)) : Type 0 where
   pub found : List Bytes
