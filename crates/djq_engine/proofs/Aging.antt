@@ -15,9 +15,10 @@ use Rattle.djq_live.specs.Live.{Live, IsLive, position_of}
 use Rattle.djq_live.specs.Staying.{StaysOver}
 use Rattle.djq_engine.specs.declared.cursor.CursorId.{CursorId}
 use Rattle.djq_engine.specs.Kept.{Held, held_at, same_id, outdated_held}
-use Rattle.djq_engine.specs.Places.{place_at, is_live, is_reader, readers_at, query_in, queries_in, reads_place, held_as, held_of, held_from}
+use Rattle.djq_reach.specs.Places.{place_at, is_reader, readers_at, reads_place}
+use Rattle.djq_engine.specs.Places.{is_live, query_in, queries_in, held_as, held_of, held_from}
 use Rattle.djq_engine.specs.Sound.{IsSound}
-use Rattle.djq_engine.specs.Reaching.{DoneAt, Reach, AllAt, Ages, Renews}
+use Rattle.djq_reach.specs.Reaching.{DoneAt, Reach, AllAt, Ages, Renews}
 use Rattle.djq_engine.proofs.Firsts.{find_mapped}
 use Rattle.djq_engine.proofs.Holding.{held_is}
 use Rattle.djq_engine.proofs.Listing.{filter_members, map_members}

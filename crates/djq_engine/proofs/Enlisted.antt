@@ -15,9 +15,11 @@ use Rattle.djq_rows.specs.Catalog.{Catalog, relation_at}
 use Rattle.djq_live.specs.Live.{Live}
 use Rattle.djq_engine.specs.declared.cursor.QueryId.{QueryId}
 use Rattle.djq_engine.specs.Kept.{Registered, same_query, registered_at, registered_of, with_watchers, is_watched, readers_of, affected_of}
-use Rattle.djq_engine.specs.Places.{place_at, is_live, is_reader, readers_at, query_in, queries_in, reads_place, is_query, watchers_at, watched_at, id_at, registered_as, registered_in}
-use Rattle.djq_engine.specs.Sound.{IsSound, AreOnce}
-use Rattle.djq_engine.proofs.Listing.{apart, map_members, filter_members}
+use Rattle.djq_reach.specs.Places.{place_at, is_reader, readers_at, reads_place, watchers_at, watched_at, AreOnce}
+use Rattle.djq_engine.specs.Places.{is_live, query_in, queries_in, is_query, id_at, registered_as, registered_in}
+use Rattle.djq_engine.specs.Sound.{IsSound}
+use Rattle.djq_reach.proofs.Places.{apart}
+use Rattle.djq_engine.proofs.Listing.{map_members, filter_members}
 use Rattle.djq_engine.proofs.Naming.{There, Named, live_there, order_there, unnamed}
 
 abbrev registered_with : QueryId → Listed → ℕ → Registered

@@ -17,7 +17,7 @@ use Rattle.djq_machine.specs.Store.{row_refusals, add_refusal, delete_refusal}
 use Rattle.djq_rows.specs.Catalog.{relation_at, counted_at, rows_at}
 use Rattle.djq_engine.specs.Judging.{bare, Suits}
 use Rattle.djq_engine.proofs.Conditions.{front_refuses, front_passes}
-use Rattle.djq_engine.proofs.Listing.{apart}
+use Rattle.djq_reach.proofs.Places.{apart}
 
 pub fits_length : (types : List ColumnType) (row : Tuple) → fits types row ≡ true → length row ≡ length types
 fits_length [] [] e = refl

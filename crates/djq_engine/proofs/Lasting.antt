@@ -12,12 +12,13 @@ use Rattle.djq_rows.specs.Catalog.{Catalog, relation_at}
 use Rattle.djq_live.specs.Live.{Live, IsShowable, ShowableStays}
 use Rattle.djq_engine.specs.declared.cursor.QueryId.{QueryId}
 use Rattle.djq_engine.specs.Kept.{Registered, same_query, told_at, SameTellings, TellsOf}
-use Rattle.djq_engine.specs.Places.{place_at, readers_at, id_at, no_log, log_at, told_of, told_from, registered_as, registered_in, Watches, kept_of}
+use Rattle.djq_reach.specs.Places.{place_at, readers_at, no_log, log_at}
+use Rattle.djq_engine.specs.Places.{id_at, told_of, told_from, registered_as, registered_in, Watches, kept_of}
 use Rattle.djq_engine.specs.Placing.{SameLogs}
 use Rattle.djq_engine.specs.Sound.{IsSound}
-use Rattle.djq_engine.specs.Tending.{AreShown}
+use Rattle.djq_reach.specs.Tending.{AreShown}
 use Rattle.djq_engine.proofs.Enlisted.{map_mapped, readers_read}
-use Rattle.djq_engine.proofs.Reaching.{place_below}
+use Rattle.djq_reach.proofs.Reaching.{place_below}
 use Rattle.djq_engine.proofs.Told.{alike_same, told_is, told_stays}
 
 -- ---- whom it affected

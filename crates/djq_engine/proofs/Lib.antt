@@ -1,7 +1,6 @@
 pub mod Firsts
 pub mod Conditions
 pub mod Listing
-pub mod Reaching
 pub mod Lists
 pub mod Holding
 pub mod Naming

@@ -32,9 +32,10 @@ use Rattle.djq_live.specs.Staying.{StaysOver, LiveStays}
 use Rattle.djq_engine.specs.declared.cursor.CursorId.{CursorId}
 use Rattle.djq_engine.specs.declared.parts.Parts.{Parts}
 use Rattle.djq_engine.specs.Kept.{Held, Registered as Enlisted, registered_of, is_watched, held_at, SameCursors, DropGives, TellsOf}
-use Rattle.djq_engine.specs.Places.{place_at, query_in, queries_in, store_of, kept_of, held_as, held_from, held_of, is_query, left, watched_at, id_at, registered_as, registered_in, told_from, Watches}
+use Rattle.djq_reach.specs.Places.{place_at, watched_at}
+use Rattle.djq_engine.specs.Places.{query_in, queries_in, store_of, kept_of, held_as, held_from, held_of, is_query, left, id_at, registered_as, registered_in, told_from, Watches}
 use Rattle.djq_engine.specs.Sound.{IsSound}
-use Rattle.djq_engine.specs.Tending.{AreShown}
+use Rattle.djq_reach.specs.Tending.{AreShown}
 use Rattle.djq_engine.proofs.Tending.{shown_more}
 use Rattle.djq_engine.specs.Placing.{LeavesAll, SameLogs}
 use Rattle.djq_engine.specs.Registering.{Registers, SameParts}

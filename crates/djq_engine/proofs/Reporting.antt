@@ -37,12 +37,13 @@ use Rattle.djq_live.specs.Live.{Live, IsKept, ShowableStays}
 use Rattle.djq_live.specs.Updating.{atoms_over, delta_bound, change_of}
 use Rattle.djq_engine.specs.declared.cursor.QueryId.{QueryId}
 use Rattle.djq_engine.specs.Kept.{Kept, Registered, registered_at, affected_of, readers_of, told_at}
-use Rattle.djq_engine.specs.Places.{place_at, is_live, is_reader, readers_at, query_in, watched_at, log_at, id_at, registered_as, registered_in, told_of, told_from}
+use Rattle.djq_reach.specs.Places.{place_at, is_reader, readers_at, watched_at, log_at}
+use Rattle.djq_engine.specs.Places.{is_live, query_in, id_at, registered_as, registered_in, told_of, told_from}
 use Rattle.djq_engine.specs.Sound.{IsSound}
-use Rattle.djq_engine.specs.Tending.{AreShown, Empties, HaveLogs, cost_of, cost_at}
+use Rattle.djq_reach.specs.Tending.{AreShown, Empties, HaveLogs, cost_of, cost_at}
 use Rattle.djq_engine.proofs.Tending.{shown_alike}
 use Rattle.djq_engine.specs.declared.parts.Parts.{Parts}
-use Rattle.djq_engine.specs.Reaching.{Carries}
+use Rattle.djq_reach.specs.Reaching.{Carries}
 use Rattle.djq_engine.specs.Changing.{IsDeltaWith, TellsRows, CountsRows, KeepsRest, KeepsLogs, AgesReaders, LacksMemory, NoPlace, for_copies, for_texts, LacksPlace, PutsRow, Drops, reads_at, tells_at}
 use Rattle.djq_engine.specs.Watching.{LogTells, LogsTell, TellsChange, queries_affected, reaches}
 use Rattle.djq_engine.specs.Whole.{kept_in, IsWhole, IsTended}
@@ -53,7 +54,7 @@ use Rattle.djq_engine.proofs.Carrying.{reader_is, reader_reads}
 use Rattle.djq_engine.proofs.Enlisted.{outdated_reads, map_mapped, readers_are, affected_are, registered_has, registered_same}
 use Rattle.djq_engine.proofs.Told.{AlikeAt, AreAlike, aged_alike, told_is, told_alike_at, told_empty, told_stays, query_alike_at, alike_same}
 use Rattle.djq_engine.proofs.Naming.{There, live_there}
-use Rattle.djq_engine.proofs.Reaching.{place_below}
+use Rattle.djq_reach.proofs.Reaching.{place_below}
 
 -- ---- atoms over a relation, by place and by name
 

@@ -20,9 +20,9 @@ use Rattle.djq_live.specs.Live.{Live}
 use Rattle.djq_live.specs.Updating.{change_of}
 use Rattle.djq_live.specs.Staying.{StaysOver}
 use Rattle.djq_engine.specs.declared.parts.Parts.{Parts}
-use Rattle.djq_engine.specs.Places.{place_at, is_reader, readers_at, watched_at, log_at}
-use Rattle.djq_engine.specs.Reaching.{Reach, Ages, Carries}
-use Rattle.djq_engine.specs.Tending.{Works, cost_at}
+use Rattle.djq_reach.specs.Places.{place_at, is_reader, readers_at, watched_at, log_at}
+use Rattle.djq_reach.specs.Reaching.{Reach, Ages, Carries}
+use Rattle.djq_reach.specs.Tending.{Works, cost_at}
 
 -- The cells stand for a row.
 abbrev pub HasRow : Catalog → ℕ → List ℕ → Type 0

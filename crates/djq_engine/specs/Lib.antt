@@ -3,8 +3,6 @@ pub mod Kept
 pub mod Places
 pub mod Sound
 pub mod Placing
-pub mod Reaching
-pub mod Tending
 pub mod Moving
 pub mod Whole
 pub mod Judging

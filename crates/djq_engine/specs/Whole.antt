@@ -4,7 +4,7 @@ use Rattle.djq_engine.specs.declared.parts.Parts.{Parts}
 use Rattle.djq_engine.specs.Kept.{Kept}
 use Rattle.djq_engine.specs.Places.{Watches, kept_of}
 use Rattle.djq_engine.specs.Sound.{IsSound}
-use Rattle.djq_engine.specs.Tending.{AreShown}
+use Rattle.djq_reach.specs.Tending.{AreShown}
 
 -- what is kept for watching
 abbrev pub watches_in : Parts → Watches

@@ -1,7 +1,7 @@
 //! The places of the registered queries.
 ghost use Rattle.std.specs.Prelude.{◌≡◌, ◌==◌, ◌<◌, None, not, filter, position, length, IfOk};
-ghost use Rattle.djq_engine.specs.Places.{place_at, is_query, left, watched_at};
-ghost use Rattle.djq_engine.specs.Sound.{AreOnce};
+ghost use Rattle.djq_reach.specs.Places.{place_at, AreOnce};
+ghost use Rattle.djq_engine.specs.Places.{is_query, left};
 ghost use Rattle.djq_engine.specs.Placing.{SamePlaces, SameWatchers, SameLogs, AllOnce, LeavesAll};
 
 use djq_cursor::DeltaLog;
@@ -59,14 +59,6 @@ pub fn vacant_place(
     watchers.push_reserved(0);
     logs.push_reserved(DeltaLog::new(alloc));
     Ok(at)
-}
-
-/// Whether a session watches the query in a place.
-pub fn is_watched(watchers: &[u32], at: usize) -> bool
-    requires { at < length watchers.now }
-    ensures { result ≡ watched_at watchers.now at }
-{
-    watchers[at] > 0
 }
 
 // Where a place stands in a list of places.

@@ -5,7 +5,7 @@ use Rattle.djq_model.specs.Data.{with_row}
 use Rattle.djq_rows.specs.Catalog.{no_relation, relation_at, counted_at}
 use Rattle.djq_live.specs.Live.{Live}
 use Rattle.djq_live.specs.Updating.{change_of}
-use Rattle.djq_engine.specs.Places.{is_reader, log_at, place_at, readers_at, watched_at}
+use Rattle.djq_reach.specs.Places.{is_reader, log_at, place_at, readers_at, watched_at}
 use Rattle.djq_engine.specs.Changing.{CountsRows, IsDeltaWith}
 use Rattle.djq_engine.proofs.Tending.{shown_more}
 use Rattle.djq_engine.proofs.Carrying.{sound_texts}

@@ -5,7 +5,7 @@ use Rattle.djq_engine.specs.Places.{is_query}
 use Rattle.djq_engine.specs.Whole.{watches_in}
 use Rattle.djq_engine.proofs.Naming.{first_query}
 use Rattle.djq_engine.proofs.Cursors.{open_refused, open_lacks, open_gives}
-use Rattle.djq_engine.specs.Tending.{AreShown}
+use Rattle.djq_reach.specs.Tending.{AreShown}
 use Rattle.djq_engine.proofs.Keeping.{opened_kept}
 use Rattle.djq_engine.proofs.reading.open_in.Goals as goal
 

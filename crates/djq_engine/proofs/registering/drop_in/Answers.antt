@@ -2,10 +2,11 @@ use Rattle.std.proofs.Common.{◌≡◌, ◌∙◌, List, ap, refl, set, subst, 
 use Rattle.std.specs.Prelude.{Option, None, IsSomeAnd, position, ⊤}
 use Rattle.djq_live.specs.Cursors.{are_vacant}
 use Rattle.djq_live.specs.Live.{Live}
-use Rattle.djq_engine.specs.Places.{is_query, place_at, watched_at}
+use Rattle.djq_reach.specs.Places.{place_at, watched_at}
+use Rattle.djq_engine.specs.Places.{is_query}
 use Rattle.djq_engine.proofs.Enrolling.{lists_once}
 use Rattle.djq_engine.proofs.Naming.{first_query}
-use Rattle.djq_engine.proofs.Reaching.{place_below}
+use Rattle.djq_reach.proofs.Reaching.{place_below}
 use Rattle.djq_engine.proofs.Refusing.{drop_done, drop_in_use, drop_unknown, drop_watched, idle_as}
 use Rattle.djq_engine.proofs.Tending.{shown_dropped}
 use Rattle.djq_engine.proofs.registering.drop_in.Goals as goal

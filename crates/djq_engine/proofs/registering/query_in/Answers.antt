@@ -12,8 +12,9 @@ use Rattle.djq_machine.specs.Store.{LearnsAll, LearnsFirst}
 use Rattle.djq_rows.specs.Catalog.{Catalog}
 use Rattle.djq_engine.specs.declared.parts.Parts.{Parts}
 use Rattle.djq_engine.specs.Kept.{Registered, TellsOf}
-use Rattle.djq_engine.specs.Places.{id_at, log_at, place_at, query_in, queries_in, readers_at, registered_in, told_from}
-use Rattle.djq_engine.specs.Tending.{AreShown}
+use Rattle.djq_reach.specs.Places.{log_at, place_at, readers_at}
+use Rattle.djq_engine.specs.Places.{id_at, query_in, queries_in, registered_in, told_from}
+use Rattle.djq_reach.specs.Tending.{AreShown}
 use Rattle.djq_engine.specs.Whole.{kept_in, watches_in, IsWhole}
 use Rattle.std.specs.Prelude.{Option, Some, None, IsSomeAnd, is_some, map, slice_index_or}
 use Rattle.djq_engine.proofs.Enlisted.{enlisted, name_found, registered_none, registered_same}

@@ -4,7 +4,7 @@ use Rattle.std.specs.Prelude.{remove}
 use Rattle.djq_model.specs.declared.query.Query.{Query}
 use Rattle.djq_cursor.specs.Log.{Log}
 use Rattle.djq_live.specs.Updating.{IsEmpty}
-use Rattle.djq_engine.specs.Places.{no_log}
+use Rattle.djq_reach.specs.Places.{no_log}
 use Rattle.djq_engine.specs.Placing.{JoinsReaders}
 use Rattle.djq_engine.proofs.Lists.{logs_cleared}
 use Rattle.djq_engine.proofs.Enrolling.{lists_once, lists_without, joined_once, joined_left}

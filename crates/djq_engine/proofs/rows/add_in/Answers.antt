@@ -55,8 +55,8 @@ use Rattle.djq_engine.proofs.Reporting.{
   tended_still,
 }
 use Rattle.djq_cursor.specs.Log.{Log}
-use Rattle.djq_engine.specs.Places.{readers_at}
-use Rattle.djq_engine.specs.Tending.{Empties, HaveLogs}
+use Rattle.djq_reach.specs.Places.{readers_at}
+use Rattle.djq_reach.specs.Tending.{Empties, HaveLogs}
 use Rattle.djq_engine.proofs.Storing.{places_read}
 use Rattle.djq_engine.proofs.Tending.{shown_emptied}
 use Rattle.djq_engine.proofs.Working.{counts_updates}

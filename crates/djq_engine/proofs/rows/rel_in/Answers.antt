@@ -1,8 +1,9 @@
 use Rattle.std.proofs.Common.{[], ◌∷◌, ◌++◌, ◌∙◌, ap, ap₂, List, ℕ, subst, sym}
 use Rattle.std.specs.Prelude.{map}
 use Rattle.djq_model.specs.Data.{Bytes}
-use Rattle.djq_engine.specs.Places.{Watches, id_at, readers_at, told_from}
-use Rattle.djq_engine.specs.Tending.{AreShown}
+use Rattle.djq_reach.specs.Places.{readers_at}
+use Rattle.djq_engine.specs.Places.{Watches, id_at, told_from}
+use Rattle.djq_reach.specs.Tending.{AreShown}
 use Rattle.djq_engine.specs.Whole.{watches_in}
 use Rattle.djq_engine.proofs.Lasting.{made_tellings}
 use Rattle.djq_engine.proofs.Making.{made_sound, unmade_sound}

@@ -2,7 +2,8 @@ use Rattle.std.proofs.Common.{◌<◌, ◌∙◌, ap, length, slice_index_or, sy
 use Rattle.std.proofs.lemmas.List.{length-map, get_or_default}
 use Rattle.std.proofs.lemmas.Option.{slice_get-map, slice_get-get_or}
 use Rattle.std.specs.Prelude.{option_map}
-use Rattle.djq_engine.specs.Places.{id_at, readers_at}
+use Rattle.djq_reach.specs.Places.{readers_at}
+use Rattle.djq_engine.specs.Places.{id_at}
 use Rattle.djq_engine.proofs.Lists.{list_there}
 use Rattle.djq_engine.proofs.watching.affected_in.Goals as goal
 
