@@ -20,7 +20,7 @@ use Rattle.djq_engine.specs.Places.{is_live, query_in, queries_in, held_as, held
 use Rattle.djq_engine.specs.Sound.{IsSound}
 use Rattle.djq_engine.specs.Placing.{SamePlaces, SameLists, LeavesAll, JoinsReaders, JoinsSome, AllOnce}
 use Rattle.djq_engine.proofs.Holding.{held_is, slot_none}
-use Rattle.djq_reach.proofs.Places.{apart, reader_more, or_true, or_false}
+use Rattle.djq_reach.proofs.Among.{apart, reader_more, or_true, or_false}
 use Rattle.djq_engine.proofs.Listing.{reader_filter, once_filter, once_push, filter_members, map_members, all_but, drop_listed, filter_twice}
 use Rattle.djq_engine.proofs.Naming.{query_there}
 use Rattle.djq_reach.proofs.Reaching.{everywhere, place_below}

@@ -12,7 +12,7 @@ use Rattle.djq_engine.specs.declared.cursor.CursorId.{CursorId}
 use Rattle.djq_engine.specs.Kept.{same_id, held_at}
 use Rattle.djq_reach.specs.Places.{place_at}
 use Rattle.djq_engine.specs.Places.{held_as, held_in, held_from, held_of}
-use Rattle.djq_reach.proofs.Places.{apart}
+use Rattle.djq_reach.proofs.Among.{apart}
 
 and_false : (b c : Bool) → c ≡ false → (b && c) ≡ false
 and_false true c e = e

@@ -23,6 +23,7 @@ use Rattle.djq_engine.specs.Changing.{IsDeltaWith}
 use Rattle.djq_engine.proofs.Told.{Alike, AlikeAt, AreAlike}
 use Rattle.djq_engine.proofs.Carrying.{readers_kept}
 use Rattle.djq_reach.proofs.Reaching.{everywhere}
+use Rattle.djq_reach.proofs.Tending.{all_none}
 
 -- ---- what can be shown
 

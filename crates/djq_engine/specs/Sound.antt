@@ -3,7 +3,7 @@ use Rattle.std.specs.Prelude.{ℕ, List, ◌≡◌, ◌<◌, ◌≤◌, Option, 
 use Rattle.djq_lines.specs.declared.limits.TheConstants.{QUERIES}
 use Rattle.djq_rows.specs.Catalog.{Catalog, relation_at}
 use Rattle.djq_live.specs.Live.{Live, IsLive}
-use Rattle.djq_reach.specs.Places.{place_at, reads_place, is_reader, readers_at}
+use Rattle.djq_reach.specs.Places.{place_at, reads_place, is_reader, readers_at, AreOnce}
 use Rattle.djq_engine.specs.Places.{is_live}
 
 -- Each registered query is kept over the catalog and its cursors can go on, and names differ. The

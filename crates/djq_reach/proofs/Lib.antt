@@ -1,4 +1,4 @@
-pub mod Places
+pub mod Among
 pub mod Reaching
 pub mod Tending
 pub mod Working

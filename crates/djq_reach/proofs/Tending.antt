@@ -13,7 +13,7 @@ use Rattle.djq_live.specs.Updating.{change_of, IsDeltaOf, delta_bound, LogsWhere
 use Rattle.djq_reach.specs.Places.{place_at, is_reader, log_at, no_log, watched_at, AreOnce}
 use Rattle.djq_reach.specs.Reaching.{DoneAt, Reach, AllAt}
 use Rattle.djq_reach.specs.Tending.{Readies, TellsWhere, TellsAt, Shows, TendedAt, Tends, Empties, cost_of, cost_at, Costs}
-use Rattle.djq_reach.proofs.Places.{apart, reader_more, or_true, or_false}
+use Rattle.djq_reach.proofs.Among.{apart, reader_more, or_true, or_false}
 use Rattle.djq_reach.proofs.Reaching.{below_some, everywhere, only, once_at, reader_there}
 
 pub reader_front : (places : List ℕ) (k i : ℕ) → is_reader (take k places) i ≡ true → is_reader places i ≡ true

@@ -14,7 +14,7 @@ use Rattle.djq_live.proofs.Sizing.{all_grown}
 use Rattle.djq_reach.specs.Places.{place_at, is_reader, AreOnce}
 use Rattle.djq_reach.specs.Reaching.{DoneAt, Reach, TakesIn, Remains}
 use Rattle.djq_reach.specs.Tending.{IsBounded, CountsEither, Works, work_of, work_at}
-use Rattle.djq_reach.proofs.Places.{apart, reader_more, or_true}
+use Rattle.djq_reach.proofs.Among.{apart, reader_more, or_true}
 use Rattle.djq_reach.proofs.Reaching.{once_at, only, reader_there}
 use Rattle.djq_reach.proofs.Tending.{reader_front, unreached}
 

@@ -39,7 +39,8 @@ returns-in-Err-join_readers-clause-err c =
       seq = refl;
       watchers = c.vacant_place.ensures.watchers;
       logs = c.vacant_place.ensures.logs;
-      changed = refl;
+      affected = c.reserve.ensures.items;
+      room = ROOM;
       watched = c.vacant_place.ensures.watched;
       logged = c.vacant_place.ensures.logged;
     }
@@ -70,7 +71,8 @@ returns-in-Ok-join_readers-clause-ok c =
           (record { lines = c.clear.ensures.lines; kept = c.clear.ensures.kept });
       logs = logs_cleared c.args.parts.now.queries.items c.args.parts.now.logs.items ls at c.clear.new.self
           (sym (c.in-Ok.ensures.same at) ∙ c.in-Ok.ensures.vacant) c.in-Ok.ensures.logs;
-      changed = refl;
+      affected = c.reserve.ensures.items;
+      room = ROOM;
       watched = length-set ws at 0 ∙ c.in-Ok.ensures.watched ∙ sym (length-set gs at (Some q));
       logged = length-set ls at c.clear.new.self ∙ c.in-Ok.ensures.logged ∙ sym (length-set gs at (Some q));
     }
