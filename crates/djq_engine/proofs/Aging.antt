@@ -62,13 +62,13 @@ carried_there d ps gs hs all r i e =
     by_place (Some l) (Some m) t h = tt
 
 -- one slot after a change
-outdated_at : (name : Bytes) (n : ℕ) (slots : List (Option Progress)) (k : ℕ) → slot_at (outdated_slots name n slots) k ≡ option_map (outdated_progress name n) (slot_at slots k)
+pub outdated_at : (name : Bytes) (n : ℕ) (slots : List (Option Progress)) (k : ℕ) → slot_at (outdated_slots name n slots) k ≡ option_map (outdated_progress name n) (slot_at slots k)
 outdated_at name n [] zero = refl
 outdated_at name n [] (suc k) = refl
 outdated_at name n (s ∷ slots) zero = refl
 outdated_at name n (s ∷ slots) (suc k) = outdated_at name n slots k
 
-abbrev held_with : CursorId → Bytes → Position → Held
+abbrev pub held_with : CursorId → Bytes → Position → Held
 held_with id q p = record { id = id; query = q; position = p }
 
 -- Relations that have other rows, and the same names.

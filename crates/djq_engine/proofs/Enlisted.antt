@@ -65,7 +65,7 @@ found_mapped p f (x ∷ xs) = step (p (f x)) (found_mapped p f xs)
     step true e = refl
     step false e = e
 
-filter_mapped : {A : Type 0} (p : A → Bool) (f : ℕ → A) (xs : List ℕ) → filter p (map f xs) ≡ map f (filter (λ i. p (f i)) xs)
+pub filter_mapped : {A : Type 0} (p : A → Bool) (f : ℕ → A) (xs : List ℕ) → filter p (map f xs) ≡ map f (filter (λ i. p (f i)) xs)
 filter_mapped p f [] = refl
 filter_mapped p f (x ∷ xs) = step (p (f x)) (filter_mapped p f xs)
   where
@@ -202,7 +202,7 @@ module _ (c : Catalog) (gs : List (Option Live)) (order : List ℕ) (readers : L
       ∙ ap (registered_in gs ws) (filter_members (λ i. is_some (by_relation name (query_in (place_at gs i)))) (λ i. reads_place name (place_at gs i)) order
       (λ i e. outdated_reads name (query_in (place_at gs i)) ∙ reads_as name i e) ∙ sym (s.reading at low))
 
-  filter_both : {A : Type 0} (p q : A → Bool) (xs : List A) → filter (λ x. p x && q x) xs ≡ filter q (filter p xs)
+  pub filter_both : {A : Type 0} (p q : A → Bool) (xs : List A) → filter (λ x. p x && q x) xs ≡ filter q (filter p xs)
   filter_both p q [] = refl
   filter_both p q (x ∷ xs) = step (p x) (filter_both p q xs)
     where

@@ -6,6 +6,7 @@ use Rattle.djq_model.specs.Data.{Bytes, bytes_eq, drop_first}
 use Rattle.djq_model.specs.Listed.{Listed, listed_name}
 use Rattle.djq_engine.specs.Finding.{IsFirst}
 use Rattle.djq_reach.specs.Places.{is_reader, AreOnce}
+use Rattle.djq_reach.proofs.Among.{apart, reader_more, or_true, or_false}
 use Rattle.djq_engine.proofs.Firsts.{first_of_position, none_of_position}
 use Rattle.djq_reach.proofs.Among.{reader_more, or_true, or_false, apart}
 
@@ -49,10 +50,10 @@ once_push (x ∷ xs) i h e =
     not_same : x ≡ i → (x == i) ≡ false → ⊥
     not_same s f = let t : (x == i) ≡ true = eq-eqb x i s in absurd cc
 
-here : (x : ℕ) (xs : List ℕ) → is_reader (x ∷ xs) x ≡ true
+pub here : (x : ℕ) (xs : List ℕ) → is_reader (x ∷ xs) x ≡ true
 here x xs = ap (λ b. b || is_reader xs x) (eq-eqb x x refl)
 
-behind : (x : ℕ) (xs : List ℕ) (i : ℕ) → is_reader xs i ≡ true → is_reader (x ∷ xs) i ≡ true
+pub behind : (x : ℕ) (xs : List ℕ) (i : ℕ) → is_reader xs i ≡ true → is_reader (x ∷ xs) i ≡ true
 behind x xs i h = ap (λ b. (x == i) || b) h ∙ or_true (x == i)
 
 -- tests and functions that agree on these places

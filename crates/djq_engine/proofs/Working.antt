@@ -31,9 +31,10 @@ use Rattle.djq_engine.specs.Watching.{AreBounded, CountsUpdates, IsBoundedBy, bo
 use Rattle.djq_engine.specs.Whole.{kept_in, IsWhole}
 use Rattle.djq_engine.proofs.Carrying.{reader_is, reader_reads}
 use Rattle.djq_engine.proofs.Enlisted.{outdated_reads, readers_are, registered_is}
+use Rattle.djq_engine.proofs.Listing.{here, behind}
 use Rattle.djq_engine.proofs.Naming.{There, live_there}
-use Rattle.djq_engine.proofs.Reporting.{atoms_of, both_true}
-use Rattle.djq_reach.proofs.Working.{behind, here}
+use Rattle.djq_engine.proofs.Affecting.{both_true}
+use Rattle.djq_engine.proofs.Reporting.{atoms_of}
 
 -- ---- sums over places
 

@@ -7,6 +7,7 @@ pub mod Moving
 pub mod Whole
 pub mod Judging
 pub mod Changing
+pub mod Outdating
 pub mod Registering
 pub mod Watching
 pub mod Lending

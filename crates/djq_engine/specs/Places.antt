@@ -11,6 +11,7 @@ use Rattle.djq_live.specs.Live.{Live, position_of}
 use Rattle.djq_live.specs.Updating.{change_of}
 use Rattle.djq_machine.specs.Delta.{Change}
 use Rattle.djq_cursor.specs.Log.{Log}
+use Rattle.djq_reach.specs.Places.{place_at, watchers_at, readers_at}
 use Rattle.djq_engine.specs.declared.cursor.CursorId.{CursorId}
 use Rattle.djq_engine.specs.declared.cursor.QueryId.{QueryId}
 use Rattle.djq_engine.specs.Kept.{Held, Registered, Kept}
@@ -103,12 +104,12 @@ told_from texts (g ∷ gs) [] = []
 told_from texts (g ∷ gs) (log ∷ logs) = told_of texts g log ∷ told_from texts gs logs
 
 -- What the engine keeps for watching: the readers of each relation, how many sessions watch the
--- query in each place, its log, and the relation of the last accepted change.
+-- query in each place, its log, and the places that the last accepted change affected.
 pub record Watches : Type 0 where
   pub readers : List (List ℕ)
   pub watchers : List ℕ
   pub logs : List Log
-  pub changed : ℕ
+  pub affected : List ℕ
 
 -- what contracts see
 abbrev pub kept_of : Catalog → List (Option Live) → List ℕ → ℕ → Watches → Kept
@@ -116,7 +117,7 @@ kept_of c gs order seq w = record {
   store = store_of c gs order seq;
   cursors = held_from c.texts zero gs;
   registered = registered_in gs w.watchers order;
-  affected = map id_at (readers_at w.readers w.changed);
+  affected = map id_at w.affected;
   told = told_from c.texts gs w.logs;
   places = gs;
 }

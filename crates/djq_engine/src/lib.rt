@@ -52,11 +52,13 @@ pub use engine::Engine;
 pub use lent::LentAnswer;
 
 mod asking;
+mod batch;
 mod change;
 mod cursor;
 mod engine;
 mod judge;
 mod lent;
+mod outdating;
 mod parts;
 mod places;
 mod reading;

@@ -82,6 +82,7 @@ put_cells-requires-clause-tended g c =
     record {
       watched = c.requires.tended.watched;
       logged = c.requires.tended.logged;
+      room = c.requires.tended.room;
       shown = (shown_more c.showable_stays.ensures old.catalog.texts (c.texts_stay.ensures old.catalog.texts (interned old.catalog.texts c.args.row.now c.intern_row.result c.intern_row.new.self.texts c.intern_row.ensures.interns).0).0 c.intern_row.new.self.texts
           ((interned old.catalog.texts c.args.row.now c.intern_row.result c.intern_row.new.self.texts c.intern_row.ensures.interns).1 ∙ (c.texts_stay.ensures old.catalog.texts (interned old.catalog.texts c.args.row.now c.intern_row.result c.intern_row.new.self.texts c.intern_row.ensures.interns).0).1) old.queries.items old.logs.items c.requires.tended.shown);
     }

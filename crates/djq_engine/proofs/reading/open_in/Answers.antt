@@ -40,6 +40,7 @@ returns-in-Ok-clause-tended c =
     record {
       watched = c.requires.tended.watched ∙ sym k.long;
       logged = c.requires.tended.logged ∙ sym k.long;
+      room = c.requires.tended.room;
       shown = k.shown c.requires.tended.shown;
     }
 
@@ -50,5 +51,6 @@ returns-in-Err-clause-tended c =
     record {
       watched = c.requires.tended.watched ∙ sym (ap (λ (gs : List (Option Live)). length gs) e);
       logged = c.requires.tended.logged ∙ sym (ap (λ (gs : List (Option Live)). length gs) e);
+      room = c.requires.tended.room;
       shown = subst (λ (gs : List (Option Live)). AreShown old.catalog.texts gs old.logs.items) (sym e) c.requires.tended.shown;
     }
