@@ -26,9 +26,9 @@ use Rattle.djq_live.specs.Live.{Live, IsKept}
 use Rattle.djq_live.specs.Staying.{StaysOver, LiveStays, CamePasses, WentPasses}
 use Rattle.djq_live.proofs.Members.{in_last}
 use Rattle.djq_engine.specs.declared.parts.Parts.{Parts}
-use Rattle.djq_engine.specs.Places.{place_at, readers_at}
-use Rattle.djq_engine.specs.Sound.{IsSound, AreOnce}
-use Rattle.djq_engine.specs.Reaching.{Reach, AllAt, CanCome, CanGo, TakesIn, LetsOut, GivesBack, Carries}
+use Rattle.djq_reach.specs.Places.{place_at, readers_at, AreOnce}
+use Rattle.djq_engine.specs.Sound.{IsSound}
+use Rattle.djq_reach.specs.Reaching.{Reach, AllAt, CanCome, CanGo, TakesIn, LetsOut, GivesBack, Carries}
 use Rattle.djq_engine.specs.Changing.{IsNew, IsOld, LacksMemory, Puts, Waits, PutsRow, NoPlace, for_copies, for_texts, HasCopies, HasMore, AddsCells, AddsTo, IfCame, IfLacking, IfStill}
 use Rattle.djq_lines.specs.declared.limits.TheConstants.{TEXTS, ROWS, COPIES}
 use Rattle.djq_engine.proofs.Carrying.{has_contains, without_last, last_there, rows_with, field_with, long_with, back_with, readers_once, readers_kept, came_carries, went_carries, back_carries, idle_carries, stays_itself, texts_then}

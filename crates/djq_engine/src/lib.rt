@@ -33,7 +33,7 @@
 //!
 //! Inside, `parts` has what is kept side by side, and each call is a few lines over it. A change of
 //! rows goes through `judge`, whether the row may come or go, which changes nothing; `change`, the
-//! catalog first; and `reach`, the queries that read the relation, one after another. Where one of
+//! catalog first; and djq_reach, the queries that read the relation, one after another. Where one of
 //! them finds no memory, those before it give the row back, and so does the catalog.
 //!
 //! A read of a cursor is bounded by the head alone, since just the free-connex queries are
@@ -52,14 +52,15 @@ pub use engine::Engine;
 pub use lent::LentAnswer;
 
 mod asking;
+mod batch;
 mod change;
 mod cursor;
 mod engine;
 mod judge;
 mod lent;
+mod outdating;
 mod parts;
 mod places;
-mod reach;
 mod reading;
 mod registering;
 mod rows;

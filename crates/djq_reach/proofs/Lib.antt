@@ -1,0 +1,4 @@
+pub mod Among
+pub mod Reaching
+pub mod Tending
+pub mod Working

@@ -1,0 +1,27 @@
+//! What a change of rows does to the queries in their places, and to their logs.
+//!
+//! [`take_in`] and [`let_out`] hand a row that came or went to the queries in these places, one
+//! after another; [`empty_logs`] and [`age`] empty their logs and make their cursors stale. Who reads
+//! the relation, and in which place, the caller says: no other place is looked at.
+//!
+//! It keeps nothing, and it knows no catalog, no names and no sessions. A query is djq_live's, and
+//! what it is kept over stands in contracts alone (`specs/Reaching.antt`). What the logs tell and
+//! what is counted is said for all places together (`specs/Tending.antt`).
+//!
+//! What surprises: where one query finds no memory, those before it give the row back, so that all
+//! are kept over the rows that they had before; but the logs of those that had taken it tell of it,
+//! and are to be emptied.
+//!
+//! ```text
+//! place    0   1   2   3         the readers of r: 0, 3
+//! query    q   p   -   s
+//! watched  yes no  -   yes       add r 4 5: q takes it, and its log tells; s takes it, and its log
+//!                                tells; p isn't looked at. Where s finds no memory, q gives it back
+//! ```
+#![tactic(auto)]
+
+pub use places::is_watched;
+pub use reach::{age, empty_logs, let_out, take_in};
+
+mod places;
+mod reach;
