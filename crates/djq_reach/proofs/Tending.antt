@@ -28,7 +28,7 @@ reader_front (p ∷ places) (suc k) i e = step (p == i) e (reader_front places k
 
 -- ---- one log
 
-pub tells_where : (Changed : Catalog → Catalog → Tuple → Type 0) (b : Bool) (l : Live) (old mid new : Log) → Readies b old mid → LogsWhere b Changed l mid new → TellsWhere b Changed l old new
+pub tells_where : {R : Type 0} (Changed : Catalog → Catalog → R → Type 0) (b : Bool) (l : Live) (old mid new : Log) → Readies b old mid → LogsWhere b Changed l mid new → TellsWhere b Changed l old new
 tells_where Changed true l old mid new r h = record {
   tells = λ e c d row k ch. subst (λ (ls : List Line). IsDeltaOf l c d (map (change_of d.texts l) ls))
       (sym (h.behind e ∙ ap (λ (xs : List Line). xs ++ h.lines) r)) (h.tells e c d row k ch);
@@ -222,7 +222,7 @@ pub lists_nothing : {R : Type 0} (Changed : Catalog → Catalog → R → Type 0
 lists_nothing Changed l true at before now e h = absurd (false≢true (sym e))
 lists_nothing Changed l false at before now e h = h
 
-module _ (Changed : Catalog → Catalog → Tuple → Type 0) (ws : List ℕ) (at : ℕ) where
+module _ {R : Type 0} (Changed : Catalog → Catalog → R → Type 0) (ws : List ℕ) (at : ℕ) where
   pub costs_none : (gs : List (Option Live)) (n : ℕ) → Costs Changed [] ws gs at n n
   costs_none gs n c d row f ch kept deltas = omega arith
 
