@@ -11,3 +11,4 @@ pub mod Outdating
 pub mod Registering
 pub mod Watching
 pub mod Lending
+pub mod Putting

@@ -61,6 +61,7 @@ mod lent;
 mod outdating;
 mod parts;
 mod places;
+mod putting;
 mod reading;
 mod registering;
 mod rows;

@@ -20,13 +20,11 @@
 //! ```
 #![tactic(auto)]
 
-pub use batch::take_in_batch;
 pub use group::Group;
 pub use places::is_watched;
 pub use reach::{age, empty_logs, let_out, take_in};
 pub use rows::take_in_all;
 
-mod batch;
 mod group;
 mod places;
 mod reach;
