@@ -96,7 +96,7 @@ as_many r s n e same few = record {
       omega (arith, a, b);
 }
 
-more_room : (r : Reducts) (n k : ℕ) → HasAtMost r n → HasAtMost r (n + k)
+pub more_room : (r : Reducts) (n k : ℕ) → HasAtMost r n → HasAtMost r (n + k)
 more_room r n k few = record { each = λ j low. let a = few.each j low in omega (arith, a) }
 
 pub fewer_then : (a b c : Reducts) → HasMore b a → HasMore c b → HasMore c a
@@ -169,7 +169,7 @@ works_update l at times before now h n has =
     subst (λ (m : ℕ). now ≤ before + work_of at times m false (Some l)) even (h n has)
 
 -- so many times the bound
-bound_as : (l m : Live) (at n : ℕ) → SameQuery l m → atoms_over m at * update_bound m n ≡ atoms_over l at * update_bound l n
+pub bound_as : (l m : Live) (at n : ℕ) → SameQuery l m → atoms_over m at * update_bound m n ≡ atoms_over l at * update_bound l n
 bound_as l m at n same =
     ap (λ (x : Numbered). length (filter (λ a. a.relation == at) x.atoms) * (16 * ((length x.atoms + length x.variables) * (n + 1)))) same.numbered
 
@@ -263,11 +263,11 @@ module _ (places : List ℕ) (k d at : ℕ) (cells : List (List ℕ)) (old now m
       both (Some l) (Some m) t h = (
         grown_by l.reducts m.reducts n (length cells) t.same.tree t.grows h,
         (let w = atoms_over l at * update_bound l (n + length cells) in
-        let even : atoms_over m at * update_bound m (n + length cells + 0) ≡ w =
-        bound_as l m at (n + length cells + 0) t.same ∙ ap (λ (x : ℕ). atoms_over l at * update_bound l x) (omega arith) in
-        let e : length cells * (atoms_over m at * update_bound m (n + length cells + 0)) ≡ length cells * w = ap (λ (x : ℕ). length cells * x) even in
-        let whole : (length cells + 2) * w ≡ length cells * w + 2 * w = omega arith in
-        omega (arith, e, whole)),
+            let even : atoms_over m at * update_bound m (n + length cells + 0) ≡ w =
+            bound_as l m at (n + length cells + 0) t.same ∙ ap (λ (x : ℕ). atoms_over l at * update_bound l x) (omega arith) in
+            let e : length cells * (atoms_over m at * update_bound m (n + length cells + 0)) ≡ length cells * w = ap (λ (x : ℕ). length cells * x) even in
+            let whole : (length cells + 2) * w ≡ length cells * w + 2 * w = omega arith in
+            omega (arith, e, whole)),
       )
 
       grown : (j : ℕ) → is_reader (take k places) j ≡ true

@@ -11,7 +11,7 @@ use Rattle.djq_lines.specs.declared.answer.Sign.TheVariants.{Came, Went}
 use Rattle.djq_machine.specs.Delta.{Change, HasChanged, IsDelta}
 use Rattle.djq_deltas.specs.Decided.{Decided}
 use Rattle.djq_deltas.proofs.Lists.{pairs_head, pairs_tail, pairs_join, kept_hold, kept_there}
-use Rattle.djq_reach.specs.Growing.{Grows, Split}
+use Rattle.djq_reach.specs.Growing.{Grows}
 
 abbrev answers_in : List Change → List Tuple
 answers_in cs = map (λ (c : Change). c.answer) cs
@@ -73,6 +73,20 @@ isnt_held : {P : Type 0} (o : Decided P) → (P → ⊥) → not (holds o) ≡ t
 isnt_held (inl p) n = absurd (n p)
 isnt_held (inr none) n = refl
 
+-- The changes of a delta whose answers are there in between, and those whose answers aren't.
+module _ (B : Tuple → Type 0) (decided : (t : Tuple) → Decided (B t)) where
+  abbrev pub is_early : Change → Bool
+  is_early c = holds (decided c.answer)
+
+  abbrev pub early_part : List Change → List Change
+  early_part zs = filter is_early zs
+
+  abbrev pub late_part : List Change → List Change
+  late_part zs = filter (λ c. not (is_early c)) zs
+
+  pub parts_long : (zs : List Change) → length (early_part zs) + length (late_part zs) ≡ length zs
+  parts_long zs = kept_parts is_early zs
+
 -- ---- two changes
 module _ (A B C : Tuple → Type 0) (up : Grows A B) (more : Grows B C) (decided : (t : Tuple) → Decided (B t)) where
   only_came : (s : Sign) (t : Tuple) → HasChanged A B s t → B t × (A t → ⊥)
@@ -112,39 +126,32 @@ module _ (A B C : Tuple → Type 0) (up : Grows A B) (more : Grows B C) (decided
           by (inl b) = Contains-append_left xs ys (record { sign = Came; answer = t }) (x.complete Came t (b, h.1))
           by (inr none) = Contains-append_right xs ys (record { sign = Came; answer = t }) (y.complete Came t (h.0, none))
 
-  -- whether a change came with the first one
-  abbrev is_early : Change → Bool
-  is_early c = holds (decided c.answer)
-
-  early : (c : Change) → is_early c ≡ true → HasChanged A C c.sign c.answer → HasChanged A B c.sign c.answer
+  early : (c : Change) → is_early B decided c ≡ true → HasChanged A C c.sign c.answer → HasChanged A B c.sign c.answer
   early c e h = by c.sign h
     where
       by : (s : Sign) → HasChanged A C s c.answer → HasChanged A B s c.answer
       by Came h = (held (decided c.answer) e, h.1)
       by Went h = absurd (h.1 (more c.answer (up c.answer h.0)))
 
-  late : (c : Change) → not (is_early c) ≡ true → HasChanged A C c.sign c.answer → HasChanged B C c.sign c.answer
+  late : (c : Change) → not (is_early B decided c) ≡ true → HasChanged A C c.sign c.answer → HasChanged B C c.sign c.answer
   late c e h = by c.sign h
     where
       by : (s : Sign) → HasChanged A C s c.answer → HasChanged B C s c.answer
       by Came h = (h.0, not_held (decided c.answer) e)
       by Went h = absurd (h.1 (more c.answer (up c.answer h.0)))
 
-  pub delta_split : (zs : List Change) → IsDelta A C zs → Split A B C zs
-  delta_split zs z = record {
-    first = filter is_early zs;
-    second = filter (λ c. not (is_early c)) zs;
-    early = record {
-      different = kept_different is_early zs z.different;
-      changed = kept_hold (λ c. HasChanged A C c.sign c.answer) (λ c. HasChanged A B c.sign c.answer) is_early zs early z.changed;
-      complete = λ s t h. kept_there is_early zs (record { sign = s; answer = t }) (is_held (decided t) (only_came s t h).0) (z.complete s t (first_both s t h));
-    };
-    late = record {
-      different = kept_different (λ c. not (is_early c)) zs z.different;
-      changed = kept_hold (λ c. HasChanged A C c.sign c.answer) (λ c. HasChanged B C c.sign c.answer) (λ c. not (is_early c)) zs late z.changed;
-      complete = λ s t h. kept_there (λ c. not (is_early c)) zs (record { sign = s; answer = t }) (isnt_held (decided t) (only_later s t h).1) (z.complete s t (last_both s t h));
-    };
-    long = kept_parts is_early zs;
+  pub early_delta : (zs : List Change) → IsDelta A C zs → IsDelta A B (early_part B decided zs)
+  early_delta zs z = record {
+    different = kept_different (is_early B decided) zs z.different;
+    changed = kept_hold (λ c. HasChanged A C c.sign c.answer) (λ c. HasChanged A B c.sign c.answer) (is_early B decided) zs early z.changed;
+    complete = λ s t h. kept_there (is_early B decided) zs (record { sign = s; answer = t }) (is_held (decided t) (only_came s t h).0) (z.complete s t (first_both s t h));
+  }
+
+  pub late_delta : (zs : List Change) → IsDelta A C zs → IsDelta B C (late_part B decided zs)
+  late_delta zs z = record {
+    different = kept_different (λ c. not (is_early B decided c)) zs z.different;
+    changed = kept_hold (λ c. HasChanged A C c.sign c.answer) (λ c. HasChanged B C c.sign c.answer) (λ c. not (is_early B decided c)) zs late z.changed;
+    complete = λ s t h. kept_there (λ c. not (is_early B decided c)) zs (record { sign = s; answer = t }) (isnt_held (decided t) (only_later s t h).1) (z.complete s t (last_both s t h));
   }
 
 -- where nothing changes, nothing is told

@@ -25,7 +25,7 @@ record Ends {A : Type 0} (P : List A → Type 0) (f : A → Type 0) (xs : List A
   before : P front
   there : f last
 
-all_front : {A : Type 0} (P : A → Type 0) (xs ys : List A) → All P (xs ++ ys) → All P xs
+pub all_front : {A : Type 0} (P : A → Type 0) (xs ys : List A) → All P (xs ++ ys) → All P xs
 all_front P xs ys h = λ k d low. subst P (get_or_append_left xs ys d k low)
     (h k d (omega (arith, low, length-append xs ys)))
 

@@ -14,10 +14,10 @@ use Rattle.djq_model.specs.Answer.{Assignment, Satisfies, IsAnswer}
 use Rattle.djq_machine.specs.Stale.{reads}
 use Rattle.djq_query.specs.declared.numbered.Variable.{Variable}
 use Rattle.djq_query.specs.declared.numbered.NumberedAtom.{NumberedAtom}
+use Rattle.djq_query.specs.Numbered.{Numbered}
 use Rattle.djq_rows.specs.Catalog.{Catalog, IsCatalog, relation_at, rows_at}
-use Rattle.djq_live.specs.Asked.{IsAtomOf, AreAtomsOf}
+use Rattle.djq_live.specs.Asked.{IsAtomOf, AreAtomsOf, IsAsked}
 use Rattle.djq_live.specs.Changes.{IsLater, CameAll}
-use Rattle.djq_live.specs.Live.{Live, IsKept}
 use Rattle.djq_live.proofs.Rows.{found_at, rows_are}
 use Rattle.djq_reach.specs.Growing.{Grows}
 
@@ -92,16 +92,16 @@ module _ (c d : Catalog) (at : ℕ) (cells : List (List ℕ)) (new : List Tuple)
           false≢true (sym isnt ∙ (bytes_eq-decides a.relation (relation_at c.relations at).name).1 named)
 
 -- answers only come
-pub came_grows : (c d : Catalog) (at : ℕ) (cells : List (List ℕ)) (new : List Tuple) (l : Live) → IsKept c l
-    → CameAll c d at cells new → Grows (IsAnswer c.relations l.query) (IsAnswer d.relations l.query)
-came_grows c d at cells new l kept came =
-    answers_stay c.relations d.relations l.query
-    (atoms_stay c d at cells new l.numbered.variables kept.over.asked.catalog came l.query.atoms l.numbered.atoms kept.over.asked.atoms)
+pub came_grows : (c d : Catalog) (at : ℕ) (cells : List (List ℕ)) (new : List Tuple) (q : Query) (n : Numbered) → IsAsked c q n
+    → CameAll c d at cells new → Grows (IsAnswer c.relations q) (IsAnswer d.relations q)
+came_grows c d at cells new q n asked came =
+    answers_stay c.relations d.relations q
+    (atoms_stay c d at cells new n.variables asked.catalog came q.atoms n.atoms asked.atoms)
 
 -- and stay where the relation isn't read
-pub came_stays : (c d : Catalog) (at : ℕ) (cells : List (List ℕ)) (new : List Tuple) (l : Live) → IsKept c l
-    → CameAll c d at cells new → reads l.query (relation_at c.relations at).name ≡ false
-    → Grows (IsAnswer d.relations l.query) (IsAnswer c.relations l.query)
-came_stays c d at cells new l kept came none =
-    answers_stay d.relations c.relations l.query
-    (atoms_back c d at cells new l.numbered.variables kept.over.asked.catalog came l.query.atoms l.numbered.atoms kept.over.asked.atoms none)
+pub came_stays : (c d : Catalog) (at : ℕ) (cells : List (List ℕ)) (new : List Tuple) (q : Query) (n : Numbered) → IsAsked c q n
+    → CameAll c d at cells new → reads q (relation_at c.relations at).name ≡ false
+    → Grows (IsAnswer d.relations q) (IsAnswer c.relations q)
+came_stays c d at cells new q n asked came none =
+    answers_stay d.relations c.relations q
+    (atoms_back c d at cells new n.variables asked.catalog came q.atoms n.atoms asked.atoms none)

@@ -6,3 +6,9 @@ pub mod Deltas
 pub mod Growing
 pub mod Going
 pub mod Batching
+pub mod Clearing
+pub mod Chaining
+pub mod Summing
+pub mod Telling
+pub mod Costing
+pub mod Refusing

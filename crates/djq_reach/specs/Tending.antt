@@ -22,7 +22,7 @@ pub record Tells {R : Type 0} (Changed : Catalog → Catalog → R → Type 0) (
 
 -- A log is made ready to tell anew, where that is wanted.
 abbrev pub Readies : Bool → Log → Log → Type 0
-Readies true old new = new.lines ≡ []
+Readies true old new = IsEmpty new
 Readies false old new = new ≡ old
 
 -- It does where the query is watched, and is as before where it isn't.
