@@ -30,11 +30,13 @@
 //! go again along a chain with one row less at each step.
 #![tactic(auto)]
 
+pub use batch::take_in_batch;
 pub use group::Group;
 pub use places::is_watched;
 pub use reach::{age, empty_logs, let_out, take_in};
 pub use rows::take_in_all;
 
+mod batch;
 mod group;
 mod places;
 mod reach;
