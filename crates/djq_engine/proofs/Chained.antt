@@ -138,19 +138,20 @@ module _ (c d : Catalog) (ic : IsCatalog c) (id : IsCatalog d) (law : CellsStay)
   start_counted : (groups : List Group) → AreWithin groups → (r : ℕ) → counted_at (start_of groups).relations r ≡ cond (is_reader (relations_of groups) r) (counted_at c.relations r) (counted_at d.relations r)
   unfolding start_of
   start_counted [] w r = refl
-  start_counted (g ∷ groups) w r = by (g.relation.at == r) refl
+  start_counted (g ∷ groups) w r = by (g.relation.at == r) refl (start_counted groups (within_rest g groups w) r)
     where
       by : (b : Bool) → (g.relation.at == r) ≡ b
+          → counted_at (start_of groups).relations r ≡ cond (is_reader (relations_of groups) r) (counted_at c.relations r) (counted_at d.relations r)
           → counted_at (with_rows_at (start_of groups).relations g.relation.at (counted_at c.relations g.relation.at)) r
           ≡ cond (b || is_reader (relations_of groups) r) (counted_at c.relations r) (counted_at d.relations r)
-      by true e =
+      by true e more =
           let s = eqb-true g.relation.at r e in
           ap (counted_at (with_rows_at (start_of groups).relations g.relation.at (counted_at c.relations g.relation.at))) (sym s)
           ∙ rows_with (start_of groups).relations g.relation.at (counted_at c.relations g.relation.at) (omega (arith, within_first g groups w, start_long groups))
           ∙ ap (counted_at c.relations) s
-      by false e =
+      by false e more =
           ap (λ (x : Relation). x.rows) (other_at (start_of groups).relations g.relation.at (counted_at c.relations g.relation.at) r (λ s. false≢true (sym e ∙ eq-eqb g.relation.at r (sym s))))
-          ∙ start_counted groups (within_rest g groups w) r
+          ∙ more
 
   pub start_catalog : (groups : List Group) → AreWithin groups → IsCatalog (start_of groups)
   unfolding start_of

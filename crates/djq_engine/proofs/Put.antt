@@ -28,7 +28,7 @@ use Rattle.djq_reach.specs.Places.{is_reader}
 use Rattle.djq_reach.specs.Grouping.{relations_of}
 use Rattle.djq_engine.specs.declared.putting.Placed.{Placed}
 use Rattle.djq_engine.specs.Judging.{bare, Suits, MayStand}
-use Rattle.djq_engine.specs.Putting.{bare_of, IsStoreOf, PutsNew, PutsMore, JoinsGroup, AreGrouped, PutsAll, RefusesAll, WentInAll, AreCounted, rows_for}
+use Rattle.djq_engine.specs.Putting.{bare_of, IsStoreOf, PutsNew, PutsMore, PutsOne, JoinsGroup, AreGrouped, PutsAll, RefusesAll, WentIn, WentInAll, AreCounted, rows_for}
 use Rattle.djq_engine.proofs.Carrying.{rows_with, field_with, long_with}
 use Rattle.djq_engine.proofs.Chained.{other_at, stand_as}
 use Rattle.djq_engine.proofs.TakenBack.{catalog_counted}
@@ -146,7 +146,7 @@ module _ (st : Store) (xs : List HeldRow) (c : Catalog) (count : ℕ) (groups : 
             ∙ sym (more_relations (with_all st xs) h at suits there names differ_now)
             ∙ ap (λ (s : Store). s.relations) (sym (all_more st xs h));
         texts = m.texts ∙ p.texts ∙ sym texts_now ∙ ap (λ (s : Store). s.texts) (sym (all_more st xs h));
-        count = omega (arith, p.count, count_more st xs h, ap (λ b. cond b 0 1) there);
+        count = omega (arith, p.count, count_more st xs h, ap {B = ℕ} (λ b. cond b 0 1) there);
         grouped = record {
           differ = (p.grouped).differ;
           within = (p.grouped).within;
@@ -244,7 +244,7 @@ module _ (st : Store) (xs : List HeldRow) (c : Catalog) (count : ℕ) (groups : 
                   ap (λ (rs : List Relation). rows_at rs q.relation.at) n.relations
                       ∙ ap tuples_of (rows_with c.relations q.relation.at (with_row (counted_at c.relations q.relation.at) h.row) low)
                       ∙ tuples_with_row (counted_at c.relations q.relation.at) h.row
-                      ∙ ap (λ (rows : List Tuple). rows ++ h.row ∷ []) x.1 ∙ append_assoc,
+                      ∙ ap (λ (rows : List Tuple). rows ++ h.row ∷ []) x.1 ∙ append_assoc (rows_at st.relations q.relation.at) x.0 (h.row ∷ []),
                   subst (λ (cs : List (List ℕ)). StandForRows d q.relation.at cs (x.0 ++ h.row ∷ []))
                       (sym (j.rows q.relation.at ∙ ap (λ b. cond b (rows_for groups q.relation.at ++ q.cells ∷ []) (rows_for groups q.relation.at)) (eq-eqb q.relation.at q.relation.at refl)))
                       (stand_more d q.relation.at (rows_for groups q.relation.at) x.0 q.cells h.row
@@ -265,7 +265,7 @@ module _ (st : Store) (xs : List HeldRow) (c : Catalog) (count : ℕ) (groups : 
             places = new_places;
             relations = new_relations_are;
             texts = is_texts ∙ ap (λ (s : Store). s.texts) (sym (all_more st xs h));
-            count = omega (arith, p.count, count_more st xs h, ap (λ b. cond b 0 1) absent);
+            count = omega (arith, p.count, count_more st xs h, ap {B = ℕ} (λ b. cond b 0 1) absent);
             grouped = record {
               differ = j.differ (p.grouped).differ;
               within = λ r e. by_there r (is_reader (relations_of groups) r) refl (sym (j.there r) ∙ e);
@@ -326,3 +326,39 @@ stops_learned law st h known Limit (inl s) = ([], s.1 ∙ sym (append-nil st.tex
 stops_learned law st h known Limit (inr s) = let k = law st.texts (s.2).first in (k.0, (s.2).learned ∙ k.1)
 stops_learned law st h known NoMemory s = let k = law st.texts (s.1).first in (k.0, (s.1).learned ∙ k.1)
 stops_learned law st h known _ s = absurd s
+
+-- one row, whether it came
+pub put_more : NamesTell → TextsStay → CellsStay → (st : Store) (xs : List HeldRow) (c : Catalog) (count : ℕ) (groups : List Group) → PutsAll st xs c count groups → (h : HeldRow) (seq : ℕ) → st.seq ≡ seq → IsCatalog c
+    → (n : ℕ) (d : Catalog) (after : List Group) → PutsOne c groups h seq n d after → PutsAll st (xs ++ h ∷ []) d (count + n) after
+put_more names texts cells st xs c count groups p h seq same ic zero d after one =
+    let more = put_copy st xs c count groups p h seq same names ic d one.0 in
+    subst (λ (gs : List Group). PutsAll st (xs ++ h ∷ []) d (count + 0) gs) (sym one.1)
+    (subst (λ (k : ℕ). PutsAll st (xs ++ h ∷ []) d k groups) (omega arith) more)
+put_more names texts cells st xs c count groups p h seq same ic (suc zero) d after one =
+    put_new st xs c count groups p h seq same names ic texts d one.0 one.1 cells after one.2
+put_more names texts cells st xs c count groups p h seq same ic (suc (suc n)) d after one = absurd one
+
+pub at_most_one : (c : Catalog) (groups : List Group) (h : HeldRow) (seq n : ℕ) (d : Catalog) (after : List Group) → PutsOne c groups h seq n d after → n ≤ 1
+at_most_one c groups h seq zero d after one = omega arith
+at_most_one c groups h seq (suc zero) d after one = omega arith
+at_most_one c groups h seq (suc (suc n)) d after one = absurd one
+
+pub one_learned : TextsStay → (c : Catalog) (groups : List Group) (h : HeldRow) (seq n : ℕ) (d : Catalog) (after : List Group) → PutsOne c groups h seq n d after → (more : List Bytes) × (d.texts ≡ c.texts ++ more)
+one_learned law c groups h seq zero d after one = ([], (one.0).texts ∙ sym (append-nil c.texts))
+one_learned law c groups h seq (suc zero) d after one = let k = law c.texts (texts_in h.row) in (k.0, ((one.1).learns).0 ∙ k.1)
+one_learned law c groups h seq (suc (suc n)) d after one = absurd one
+
+-- a single row that went in, and behind which memory lacks
+none_put : (c : Catalog) (seq : ℕ) → PutsAll (bare_of c seq) [] c 0 []
+none_put c seq = put_none (bare_of c seq) c refl refl
+
+pub one_in : NamesTell → TextsStay → (c : Catalog) (seq : ℕ) (h : HeldRow) → IsCatalog c → suit_refusal (bare c.relations seq) h.relation h.row ≡ None → (d : Catalog) (q : Placed) → PutsNew c h seq q d
+    → WentIn (bare_of c seq) h d.relations
+one_in names texts c seq h ic suit d q n = record {
+  suits = suit;
+  counted = catalog_counted c ic;
+  are = new_relations_are (bare_of c seq) [] c 0 [] (none_put c seq) h seq refl names ic texts d q n;
+}
+
+pub one_stops : NamesTell → TextsStay → (c : Catalog) (seq : ℕ) (h : HeldRow) → IsCatalog c → (d : Catalog) (q : Placed) → PutsNew c h seq q d → StopsAt (bare_of c seq) h d.texts NoMemory
+one_stops names texts c seq h ic d q n = new_stops (bare_of c seq) [] c 0 [] (none_put c seq) h seq refl names ic texts d q n

@@ -1,5 +1,5 @@
 -- The rows of a batch go into the catalog, one after another.
-use Rattle.std.specs.Prelude.{ℕ, List, [], ◌∷◌, ◌++◌, ◌==◌, ◌≡◌, ◌<◌, ◌≤◌, ◌+◌, ◌||◌, Bool, true, false, Option, None, Some, if◌then◌else◌, length, All}
+use Rattle.std.specs.Prelude.{ℕ, zero, suc, List, [], ◌∷◌, ◌++◌, ◌==◌, ◌≡◌, ◌<◌, ◌≤◌, ◌+◌, ◌||◌, Bool, true, false, Option, None, Some, if◌then◌else◌, length, All}
 use Rattle.djq_model.specs.declared.relation.Relation.{Relation}
 use Rattle.djq_model.specs.Data.{Bytes, Tuple, has_row, copies_among, with_row, with_copies}
 use Rattle.djq_model.specs.Known.{texts_in}
@@ -62,6 +62,13 @@ pub record JoinsGroup (at : ℕ) (cells : List ℕ) (old new : List Group) : Typ
   pub there : (r : ℕ) → is_reader (relations_of new) r ≡ (is_reader (relations_of old) r || at == r)
   pub rows : (r : ℕ) → rows_for new r
       ≡ (if at == r then rows_for old r ++ cells ∷ [] else rows_for old r)
+
+-- A held row went in, and is in its group where it came. This many came.
+abbrev pub PutsOne : Catalog → List Group → HeldRow → ℕ → ℕ → Catalog → List Group → Type 0
+PutsOne c groups h seq zero d after = PutsMore c h seq d × (after ≡ groups)
+PutsOne c groups h seq (suc zero) d after =
+    (p : Placed) × PutsNew c h seq p d × JoinsGroup p.relation.at p.cells groups after
+PutsOne c groups h seq (suc (suc n)) d after = ⊥
 
 -- Rows came behind the old ones of each relation, in these groups.
 pub record AreGrouped (old : List Relation) (c : Catalog) (groups : List Group) : Type 0 where

@@ -5,7 +5,7 @@ ghost use Rattle.djq_lines.specs.declared.limits.TheConstants.{HELD};
 ghost use Rattle.djq_machine.specs.State.{Store};
 ghost use Rattle.djq_machine.specs.Batch.{suit_refusal, SuitAll, StopsAt};
 ghost use Rattle.djq_engine.specs.Judging.{bare};
-ghost use Rattle.djq_engine.specs.Putting.{bare_of, IsStoreOf, PutsRow, JoinsGroup, PutsAll};
+ghost use Rattle.djq_engine.specs.Putting.{bare_of, IsStoreOf, PutsRow, PutsOne, JoinsGroup, PutsAll};
 ghost use Rattle.djq_engine.specs.Putting.{RefusesAll, WentIn, WentInAll};
 
 use crate::judge::judge_held;
@@ -134,6 +134,43 @@ pub fn take_back<L: Ledger>(catalog: &mut Catalog, held: &[HeldRow], tally: &mut
     }
 }
 
+// A held row goes in, and joins those of its relation where it came. How many came is told.
+//
+// # Errors
+//
+// `Limit` where it has no place, or a text of it finds none; `NoMemory` out of memory.
+fn put_one<L: Ledger>(
+    catalog: &mut Catalog,
+    alloc: Global,
+    groups: &mut Vec<Group>,
+    held: &HeldRow,
+    seq: u64,
+    tally: &mut Tally<L>,
+) -> Result<usize, Refusal>
+    requires { suit_refusal (bare catalog.old.relations seq) held.now.relation held.now.row ≡ None }
+    ensures ok { IfOk result (λ n. PutsOne catalog.old groups.old.items held.now seq n
+        catalog.new groups.new.items) }
+    ensures err { IfErr result (λ r.
+        StopsAt (bare_of catalog.old seq) held.now catalog.new.texts r) }
+    ensures stays { OnErr result (catalog.new.relations ≡ catalog.old.relations) }
+{
+    names_tell();
+    texts_stay();
+    catalog.laws();
+    let placed = match put_row(catalog, held, seq, tally) {
+        Ok(Some(placed)) => placed,
+        Ok(None) => return Ok(0),
+        Err(refusal) => return Err(refusal),
+    };
+    match join_group(alloc, groups, placed) {
+        Ok(()) => Ok(1),
+        Err(_error) => {
+            take_row_back(catalog, held, tally);
+            Err(Refusal::NoMemory)
+        }
+    }
+}
+
 /// The rows of a batch go in, and those that came are told by relation; or none does.
 ///
 /// # Errors
@@ -164,15 +201,8 @@ pub fn put_all<L: Ledger>(
     let mut count = 0;
     for at in 0..held.len() {
         catalog.laws();
-        match put_row(catalog, &held[at], seq, tally) {
-            Ok(None) => {}
-            Ok(Some(placed)) => match join_group(alloc, &mut groups, placed) {
-                Ok(()) => count += 1,
-                Err(_error) => {
-                    take_back(catalog, &held[..at + 1], tally);
-                    return Err(Refusal::NoMemory);
-                }
-            },
+        match put_one(catalog, alloc, &mut groups, &held[at], seq, tally) {
+            Ok(came) => count += came,
             Err(refusal) => {
                 take_back(catalog, &held[..at], tally);
                 return Err(refusal);
