@@ -1,5 +1,6 @@
 -- Which queries a batch outdates: those that read a relation of which a row came, which is one of a group.
-use Rattle.std.proofs.Common.{ℕ, zero, suc, List, [], ◌∷◌, ◌++◌, ◌+◌, ◌≡◌, ◌<◌, ◌≤◌, Bool, true, false, refl, sym, ap, ap₂, ◌∙◌, subst, length, get_or, arith}
+use Rattle.std.proofs.Common.{ℕ, zero, suc, List, [], ◌∷◌, ◌++◌, ◌+◌, ◌≡◌, ◌<◌, ◌≤◌, Bool, true, false, refl, sym, ap, ap₂, ◌∙◌, subst, length, take, get_or, arith, append-nil}
+use Rattle.std.proofs.lemmas.List.{take_more}
 use Rattle.std.specs.Prelude.{◌&&◌, ◌||◌, ◌==◌, not, Option, None, Some, is_some, IsSome, cond, map, filter, All, Contains}
 use Rattle.std.proofs.lemmas.Bool.{eqb-true, eq-eqb, false≢true}
 use Rattle.djq_model.specs.declared.relation.Relation.{Relation}
@@ -74,6 +75,36 @@ reached_has readers (g ∷ groups) i e =
         → (r : ℕ) × (is_reader (relations_of (g ∷ groups)) r ≡ true) × (is_reader (readers_at readers r) i ≡ true)
     by true h k more = (g.relation.at, ap (λ b. b || is_reader (relations_of groups) g.relation.at) (eq-eqb g.relation.at g.relation.at refl), h)
     by false h k more = let m = more k in (m.0, behind (g.relation.at == m.0) m.0 m.1, m.2)
+
+-- of one group more
+reached_more : (readers : List (List ℕ)) (xs : List Group) (g : Group) (i : ℕ) → is_reader (reached readers (xs ++ g ∷ [])) i ≡ (is_reader (reached readers xs) i || is_reader (readers_at readers g.relation.at) i)
+reached_more readers [] g i = ap (λ (ps : List ℕ). is_reader ps i) (append-nil (readers_at readers g.relation.at))
+reached_more readers (x ∷ xs) g i =
+    reader_append (readers_at readers x.relation.at) (reached readers (xs ++ g ∷ [])) i
+    ∙ by (is_reader (readers_at readers x.relation.at) i) (reached_more readers xs g i)
+    ∙ ap (λ b. b || is_reader (readers_at readers g.relation.at) i) (sym (reader_append (readers_at readers x.relation.at) (reached readers xs) i))
+  where
+    by : (b : Bool) → is_reader (reached readers (xs ++ g ∷ [])) i ≡ (is_reader (reached readers xs) i || is_reader (readers_at readers g.relation.at) i)
+        → (b || is_reader (reached readers (xs ++ g ∷ [])) i) ≡ ((b || is_reader (reached readers xs) i) || is_reader (readers_at readers g.relation.at) i)
+    by true e = refl
+    by false e = e
+
+pub reached_next : (readers : List (List ℕ)) (groups : List Group) (k : ℕ) (g : Group) (i : ℕ) → k < length groups → g ≡ get_or groups k g → is_reader (reached readers (take k groups)) i ≡ false
+    → is_reader (readers_at readers g.relation.at) i ≡ false → is_reader (reached readers (take (k + 1) groups)) i ≡ false
+reached_next readers groups k g i low is e f =
+    ap (λ (xs : List Group). is_reader (reached readers xs) i) (take_more groups k g low ∙ ap (λ (x : Group). take k groups ++ x ∷ []) (sym is))
+    ∙ reached_more readers (take k groups) g i
+    ∙ ap₂ (λ (a b : Bool). a || b) e f
+
+-- a group is among its groups
+pub group_there : (groups : List Group) (k : ℕ) (g : Group) → k < length groups → g ≡ get_or groups k g → is_reader (relations_of groups) g.relation.at ≡ true
+group_there [] k g low is = absurd (omega (arith, low))
+group_there (x ∷ groups) zero g low is = ap (λ b. b || is_reader (relations_of groups) g.relation.at) (eq-eqb x.relation.at g.relation.at (ap (λ (y : Group). y.relation.at) (sym is)))
+group_there (x ∷ groups) (suc k) g low is = by (x.relation.at == g.relation.at) (group_there groups k g (omega (arith, low)) is)
+  where
+    by : (b : Bool) → is_reader (relations_of groups) g.relation.at ≡ true → (b || is_reader (relations_of groups) g.relation.at) ≡ true
+    by true e = refl
+    by false e = e
 
 -- ---- the first relation that a query reads
 
