@@ -37,4 +37,5 @@ pub mod Reached
 pub mod Filled
 pub mod Rested
 pub mod Accepted
+pub mod Settled
 pub mod Joined

@@ -76,8 +76,8 @@ none_come st (h ∷ held) e name = by (is_there st h) (bytes_eq h.relation name)
   where
     by : (t b : Bool) → cond t 0 1 + count_came (with_held st h) held ≡ 0 → (count_came (with_held st h) held ≡ 0 → has_come (with_held st h) held name ≡ false)
         → ((b && not t) || has_come (with_held st h) held name) ≡ false
-    by true true f more = more f
-    by true false f more = more f
+    by true true f more = more (omega (arith, f))
+    by true false f more = more (omega (arith, f))
     by false b f more = absurd (omega (arith, f))
 
 pub no_groups : (st : Store) (held : List HeldRow) (c : Catalog) (count : ℕ) (groups : List Group) → PutsAll st held c count groups → count ≡ 0 → groups ≡ []
@@ -107,7 +107,7 @@ none_adds st held c count groups p e = (
 -- ---- it was refused
 
 pub refuses_batch : (st : Store) (held : List HeldRow) (texts : List Bytes) (r : Refusal) → RefusesAll st held texts r → (new : Store) → new ≡ record st { texts = texts } → RefusesBatch st held new r
-refuses_batch st held texts r x new e = record {
+refuses_batch st held texts r x after e = record {
   front = x.front;
   at = x.at;
   rest = x.rest;

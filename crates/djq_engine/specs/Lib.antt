@@ -12,3 +12,4 @@ pub mod Registering
 pub mod Watching
 pub mod Lending
 pub mod Putting
+pub mod Taking
