@@ -130,8 +130,10 @@ module _ (old : Parts) (s : IsWhole old) (held : List HeldRow) (now : Catalog) (
   pub came_within : All (λ g. g.relation.at < length (old.catalog).relations) groups
   came_within = groups_within groups (length (old.catalog).relations) (p.grouped).within
 
-  pub came_here : All (λ g. g.relation.at < length old.readers.items) groups
-  came_here = groups_within groups (length old.readers.items) (λ r e. (let low = (p.grouped).within r e in omega (arith, low, s.long)))
+  pub came_here : (readers : List (List ℕ)) → readers ≡ old.readers.items → All (λ g. g.relation.at < length readers) groups
+  came_here readers e =
+      let same = ap (λ (rs : List (List ℕ)). length rs) e in
+      groups_within groups (length readers) (λ r f. (let low = (p.grouped).within r f in omega (arith, low, s.long, same)))
 
   start_leads : Leads old.readers.items groups old.queries.items start_here now
   unfolding start_here
@@ -204,11 +206,12 @@ module _ (old : Parts) (s : IsWhole old) (held : List HeldRow) (now : Catalog) (
       tends = t.tends;
     }
 
-    pub came_readers : AreReaders (mid.catalog).relations old.readers.items mid.queries.items
-    came_readers =
-        subst (λ (x : Catalog). AreReaders x.relations old.readers.items mid.queries.items) (sym e)
+    pub came_readers : mid.readers.items ≡ old.readers.items → AreReaders (mid.catalog).relations mid.readers.items mid.queries.items
+    came_readers f =
+        subst (λ (rs : List (List ℕ)). AreReaders (mid.catalog).relations rs mid.queries.items) (sym f)
+        (subst (λ (x : Catalog). AreReaders x.relations old.readers.items mid.queries.items) (sym e)
         (readers_renewed (old.catalog).relations now.relations old.readers.items old.queries.items mid.queries.items now (reached old.readers.items groups)
-        (sound_readers old.catalog old.queries.items old.order old.readers.items s) (p.grouped).long (p.grouped).names reach_now)
+        (sound_readers old.catalog old.queries.items old.order old.readers.items s) (p.grouped).long (p.grouped).names reach_now))
 
 -- ---- memory lacks
 

@@ -550,7 +550,7 @@ affect_reached-requires-clause-within g c =
     let groups = c.as_slice-came.result.now in
     let count = c.in-Ok.came.count in
     let p = as_slice (kept_in old).store held d count c.in-Ok.came.groups.items groups c.as_slice-came.ensures.value (c.in-Ok.ensures.put (kept_in old).store (agrees old)) in
-    subst (λ (rs : List (List ℕ)). All (λ (x : Group). x.relation.at < length rs) groups) (sym c.take_groups.ensures.rest.readers) (came_here old c.requires.whole held d groups count c.cells_stay.ensures c.laws.ensures c.laws-2.ensures c.requires.suit p learned.0 learned.1)
+    came_here old c.requires.whole held d groups count c.cells_stay.ensures c.laws.ensures c.laws-2.ensures c.requires.suit p learned.0 learned.1 c.take_groups.new.parts.readers.items c.take_groups.ensures.rest.readers
 
 pub outdate_came-requires-clause-readers : goal.outdate_came-requires-clause-readers
 outdate_came-requires-clause-readers g c =
@@ -563,8 +563,7 @@ outdate_came-requires-clause-readers g c =
     let p = as_slice (kept_in old).store held d count c.in-Ok.came.groups.items groups c.as_slice-came.ensures.value (c.in-Ok.ensures.put (kept_in old).store (agrees old)) in
     let mid = c.take_groups.new.parts in
     let start = start_here old c.requires.whole held d groups count c.cells_stay.ensures c.laws.ensures c.laws-2.ensures c.requires.suit p learned.0 learned.1 in
-    subst (λ (rs : List (List ℕ)). AreReaders mid.catalog.relations rs mid.queries.items) (sym c.take_groups.ensures.rest.readers)
-    (came_readers old c.requires.whole held d groups count c.cells_stay.ensures c.laws.ensures c.laws-2.ensures c.requires.suit p learned.0 learned.1 c.live_stays.ensures (λ e. omega (arith, e, c.if-count-eq0.false)) mid c.in-Ok-take_groups.ensures.taken c.take_groups.ensures.catalog)
+    came_readers old c.requires.whole held d groups count c.cells_stay.ensures c.laws.ensures c.laws-2.ensures c.requires.suit p learned.0 learned.1 c.live_stays.ensures (λ e. omega (arith, e, c.if-count-eq0.false)) mid c.in-Ok-take_groups.ensures.taken c.take_groups.ensures.catalog c.take_groups.ensures.rest.readers
 
 pub outdate_came-requires-clause-found : goal.outdate_came-requires-clause-found
 outdate_came-requires-clause-found g c =
