@@ -75,10 +75,8 @@ fn register(parts: &mut Parts, query: LiveQuery) -> Result<(), NoMem>
     ensures ok { OnOk result (Registers query parts.old parts.new) }
     ensures err { OnErr result (SameParts parts.old parts.new) }
 {
-    match parts.affected.reserve(parts.order.len() + 1) {
-        Ok(()) => {}
-        Err(_error) => return Err(NoMem),
-    }
+    let listed = parts.order.len();
+    parts.affected.reserve(listed + 1)?;
     let (queries, watchers, logs) = (&mut parts.queries, &mut parts.watchers, &mut parts.logs);
     let at = match vacant_place(parts.alloc, queries, watchers, logs) {
         Ok(at) => at,
