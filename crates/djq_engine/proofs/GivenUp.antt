@@ -75,7 +75,7 @@ readers_logged p s t r i e = by_length (cases_lt r (length (p.catalog).relations
     by_length (inr high) = absurd (false≢true (sym (ap (λ (ps : List ℕ). is_reader ps i) (get_or_past p.readers.items r [] (omega (arith, high, s.long)))) ∙ e))
 
 -- held rows that suit have their relations
-suits_found : (st : Store) (h : HeldRow) → suit_refusal st h.relation h.row ≡ None → IsSome (relation_of st.relations h.relation)
+pub suits_found : (st : Store) (h : HeldRow) → suit_refusal st h.relation h.row ≡ None → IsSome (relation_of st.relations h.relation)
 suits_found st h e = by_relation (relation_of st.relations h.relation) refl
   where
     by_relation : (o : Option Relation) → relation_of st.relations h.relation ≡ o → IsSome o

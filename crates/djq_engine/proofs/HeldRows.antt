@@ -53,16 +53,6 @@ module _ (st : Store) (h : HeldRow) (at : ℕ) (s : Suits st.relations h.relatio
         held_relations true e = absurd (false≢true (sym e))
         held_relations false e = refl
 
-    pub new_texts : (with_held st h).texts ≡ all_learned st.texts (texts_in h.row)
-    new_texts = held_texts (is_there st h) absent
-      where
-        held_texts : (b : Bool) → b ≡ false
-            → (let x : Store = cond b (record st { relations = with_rows st.relations h.relation (with_copies (counted_of st.relations h.relation) h.row (copies_among (counted_of st.relations h.relation) h.row + 1)) })
-            (record st { relations = with_rows st.relations h.relation (with_row (counted_of st.relations h.relation) h.row); texts = all_learned st.texts (texts_in h.row) }) in x).texts
-            ≡ all_learned st.texts (texts_in h.row)
-        held_texts true e = absurd (false≢true (sym e))
-        held_texts false e = refl
-
   -- where it was
   module _ (there : is_there st h ≡ true) where
     pub more_relations : NamesTell → AllPairs (λ r s. r.name ≢ s.name) st.relations
@@ -78,16 +68,6 @@ module _ (st : Store) (h : HeldRow) (at : ℕ) (s : Suits st.relations h.relatio
             ≡ with_rows st.relations h.relation (with_copies (counted_of st.relations h.relation) h.row (copies_among (counted_of st.relations h.relation) h.row + 1))
         held_relations true e = refl
         held_relations false e = absurd (false≢true e)
-
-    pub more_texts : (with_held st h).texts ≡ st.texts
-    more_texts = held_texts (is_there st h) there
-      where
-        held_texts : (b : Bool) → b ≡ true
-            → (let x : Store = cond b (record st { relations = with_rows st.relations h.relation (with_copies (counted_of st.relations h.relation) h.row (copies_among (counted_of st.relations h.relation) h.row + 1)) })
-            (record st { relations = with_rows st.relations h.relation (with_row (counted_of st.relations h.relation) h.row); texts = all_learned st.texts (texts_in h.row) }) in x).texts
-            ≡ st.texts
-        held_texts true e = refl
-        held_texts false e = absurd (false≢true e)
 
 pub held_seq : (st : Store) (h : HeldRow) → (with_held st h).seq ≡ st.seq
 held_seq st h = by (is_there st h)
@@ -201,3 +181,24 @@ suits_held st h n row = by (is_there st h)
 pub suits_all : (st : Store) (xs : List HeldRow) (n : Bytes) (row : Tuple) → suit_refusal (with_all st xs) n row ≡ suit_refusal st n row
 suits_all st [] n row = refl
 suits_all st (x ∷ xs) n row = suits_all (with_held st x) xs n row ∙ suits_held st x n row
+
+-- the texts behind a held row
+pub held_texts_new : (st : Store) (h : HeldRow) → is_there st h ≡ false → (with_held st h).texts ≡ all_learned st.texts (texts_in h.row)
+held_texts_new st h e = by (is_there st h) e
+  where
+    by : (b : Bool) → b ≡ false
+        → (let x : Store = cond b (record st { relations = with_rows st.relations h.relation (with_copies (counted_of st.relations h.relation) h.row (copies_among (counted_of st.relations h.relation) h.row + 1)) })
+        (record st { relations = with_rows st.relations h.relation (with_row (counted_of st.relations h.relation) h.row); texts = all_learned st.texts (texts_in h.row) }) in x).texts
+        ≡ all_learned st.texts (texts_in h.row)
+    by true f = absurd (false≢true (sym f))
+    by false f = refl
+
+pub held_texts_there : (st : Store) (h : HeldRow) → is_there st h ≡ true → (with_held st h).texts ≡ st.texts
+held_texts_there st h e = by (is_there st h) e
+  where
+    by : (b : Bool) → b ≡ true
+        → (let x : Store = cond b (record st { relations = with_rows st.relations h.relation (with_copies (counted_of st.relations h.relation) h.row (copies_among (counted_of st.relations h.relation) h.row + 1)) })
+        (record st { relations = with_rows st.relations h.relation (with_row (counted_of st.relations h.relation) h.row); texts = all_learned st.texts (texts_in h.row) }) in x).texts
+        ≡ st.texts
+    by true f = refl
+    by false f = absurd (false≢true f)

@@ -8,7 +8,6 @@ use Rattle.djq_engine.specs.Finding.{IsFirst}
 use Rattle.djq_reach.specs.Places.{is_reader, AreOnce}
 use Rattle.djq_reach.proofs.Among.{apart, reader_more, or_true, or_false}
 use Rattle.djq_engine.proofs.Firsts.{first_of_position, none_of_position}
-use Rattle.djq_reach.proofs.Among.{reader_more, or_true, or_false, apart}
 
 both_false : (b : Bool) → (b && false) ≡ false
 both_false true = refl

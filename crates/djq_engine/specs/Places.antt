@@ -15,7 +15,6 @@ use Rattle.djq_reach.specs.Places.{place_at, watchers_at, readers_at}
 use Rattle.djq_engine.specs.declared.cursor.CursorId.{CursorId}
 use Rattle.djq_engine.specs.declared.cursor.QueryId.{QueryId}
 use Rattle.djq_engine.specs.Kept.{Held, Registered, Kept}
-use Rattle.djq_reach.specs.Places.{place_at, readers_at, watchers_at}
 
 -- whether one is
 abbrev pub is_live : List (Option Live) → ℕ → Bool
