@@ -1,5 +1,23 @@
 -- What lines say while a batch is open.
-use Rattle.std.specs.Prelude.{ℕ, List, [], ◌∷◌, ◌≡◌, ◌++◌, ◌≤◌, ◌⊎◌, true, false, Option, Some, Result, Ok, Err, length, ⊤}
+use Rattle.std.specs.Prelude.{
+  ℕ,
+  List,
+  [],
+  ◌∷◌,
+  ◌≡◌,
+  ◌++◌,
+  ◌≤◌,
+  ◌⊎◌,
+  true,
+  false,
+  Option,
+  Some,
+  Result,
+  Ok,
+  Err,
+  length,
+  ⊤,
+}
 use Rattle.djq_model.specs.Data.{Bytes, Tuple}
 use Rattle.djq_model.specs.declared.name.TheConstants.{NAME_BYTES}
 use Rattle.djq_lines.specs.declared.answer.Refusal.{Refusal}

@@ -1,5 +1,26 @@
 -- A command on a row, which a session says and which all who watch are told.
-use Rattle.std.specs.Prelude.{ℕ, zero, suc, List, ◌≡◌, ◌+◌, ◌≤◌, Bool, true, false, Option, None, Some, Result, Ok, Err, AllPairs, length, map, if◌then◌else◌}
+use Rattle.std.specs.Prelude.{
+  ℕ,
+  zero,
+  suc,
+  List,
+  ◌≡◌,
+  ◌+◌,
+  ◌≤◌,
+  Bool,
+  true,
+  false,
+  Option,
+  None,
+  Some,
+  Result,
+  Ok,
+  Err,
+  AllPairs,
+  length,
+  map,
+  if◌then◌else◌,
+}
 use Rattle.djq_model.specs.Data.{Bytes, Tuple}
 use Rattle.djq_lines.specs.declared.limits.TheConstants.{PENDING_BYTES, REPLY_BYTES, LAST_LINE_BYTES}
 use Rattle.djq_lines.specs.declared.answer.Refusal.{Refusal}
@@ -82,11 +103,12 @@ pub record Deletes (old : Kept) (name : Bytes) (row : Tuple) (outcome : Outcome)
   pub changed : Changed old (delete_outcome (row_out (old.store).relations name row) result) new was now
 
 -- The rows that a batch held were to be added, at once.
-pub record AddsAll (old : Kept) (held : List HeldRow) (outcome : Outcome) (new : Kept) (was now : ℕ) : Type 0 where
-  pub result : Result ℕ Refusal
-  pub is : outcome ≡ Done result held
-  pub done : AddsBatch old.store held result new.store
-  pub changed : Changed old (batch_outcome old.store held result) new was now
+pub record AddsAll (old : Kept) (held : List HeldRow) (outcome : Outcome) (new : Kept) (was now : ℕ) : Type 0
+  where
+    pub result : Result ℕ Refusal
+    pub is : outcome ≡ Done result held
+    pub done : AddsBatch old.store held result new.store
+    pub changed : Changed old (batch_outcome old.store held result) new was now
 
 -- What a command that may change rows comes to, of a session with this batch open, or with none.
 abbrev pub IsChange : Command → Option (List HeldRow) → Kept → Outcome → Kept → ℕ → ℕ → Type 0

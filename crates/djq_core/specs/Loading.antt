@@ -1,5 +1,21 @@
 -- What loading lines stands on, while no session is open.
-use Rattle.std.specs.Prelude.{List, [], ◌∷◌, ◌≡◌, ◌++◌, ◌⊎◌, Bool, true, false, Option, None, Result, Ok, Err, if◌then◌else◌}
+use Rattle.std.specs.Prelude.{
+  List,
+  [],
+  ◌∷◌,
+  ◌≡◌,
+  ◌++◌,
+  ◌⊎◌,
+  Bool,
+  true,
+  false,
+  Option,
+  None,
+  Result,
+  Ok,
+  Err,
+  if◌then◌else◌,
+}
 use Rattle.djq_model.specs.Data.{Bytes}
 use Rattle.djq_lines.specs.declared.answer.Refusal.{Refusal}
 use Rattle.djq_lines.specs.declared.command.Command.{Command}

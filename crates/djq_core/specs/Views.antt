@@ -31,7 +31,15 @@ cursor_in hs n = record { name = n.name; query = query_in (held_at hs n.cursor);
 
 -- a session of this id
 abbrev pub session_in : List Held → ℕ → Talk → Session
-session_in hs s d = record { id = s; held = d.held; pending = d.pending; cause = d.cause; cursors = map (cursor_in hs) d.cursors; watches = d.watches; batch = d.batch }
+session_in hs s d = record {
+  id = s;
+  held = d.held;
+  pending = d.pending;
+  cause = d.cause;
+  cursors = map (cursor_in hs) d.cursors;
+  watches = d.watches;
+  batch = d.batch;
+}
 
 -- an open session
 abbrev pub open_in : List Held → OpenSession → Session

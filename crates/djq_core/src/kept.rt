@@ -17,6 +17,13 @@ pub(crate) enum KeptLines {
 }
 
 impl KeptLines {
+    /// This is kept in place of what was.
+    pub(crate) fn put(&mut self, lines: KeptLines)
+        ensures { self.new ≡ lines }
+    {
+        *self = lines;
+    }
+
     /// The line with this number, counted from 0, of those that were kept, where this is a copy of the
     /// line that was run.
     pub(crate) fn get<'a>(&'a self, i: usize, copied: &'a [u8]) -> Option<&'a [u8]>

@@ -160,10 +160,12 @@ impl Machine for Core {
             &mut self.row,
             steps,
         );
-        self.kept = line_kept(stepped);
         match left {
-            Left::Nothing { .. } => {}
-            Left::Stopping => self.stopped = true,
+            Left::Nothing { .. } => self.kept.put(line_kept(stepped)),
+            Left::Stopping => {
+                self.stopped = true;
+                self.kept.put(line_kept(stepped));
+            }
             Left::Telling(outcome) => {
                 tell_change(
                     &mut self.engine,
@@ -172,7 +174,7 @@ impl Machine for Core {
                     &outcome,
                     &mut self.text,
                 );
-                self.kept = outcome.lines_kept();
+                self.kept.put(outcome.lines_kept());
             }
         }
         stepped
