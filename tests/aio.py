@@ -174,8 +174,8 @@ async def batches(server):
         seq = (await client.add("r", 0)).seq
         assert seq == 102
         # one that is cancelled is done whole or not at all, and leaves none open
-        for pause in (0, 0, 0.0005, 0.001, 0.002, 0.004, 0.008, 1):
-            rows = [("r", 1000 + number) for number in range(1000)]
+        rows = [("r", 1000 + number) for number in range(1000)]
+        for pause in (0, 0, 0.0005, 0.001, 0.002, 0.004, 0.008, 0.016, 0.032):
             task = asyncio.create_task(awaited_batch_of(client, rows))
             await asyncio.sleep(pause)
             task.cancel()
@@ -185,7 +185,7 @@ async def batches(server):
             for number in range(1000, 1000 + there - 120):
                 while (await client.delete("r", number)).copies:
                     pass
-        assert not task.cancelled() and task.result().rows == 1000
+        assert (await awaited_batch_of(client, rows)).rows == 1000
 
 
 def test_batches(program):

@@ -285,17 +285,17 @@ def test_batches(server):
     with server.connect() as client, server.connect() as other:
         client.relation("bo", int, str)
         client.relation("bl", int, int, str)
-        client.query("qb(o,who,l,what) <- bo(o,who), bl(o,l,what)")
-        seq = other.watch("qb")
+        client.query("qbo(o,who,l,what) <- bo(o,who), bl(o,l,what)")
+        seq = other.watch("qbo")
         with client.batch() as batch:
             for row in (("bl", 7, 1, "bolt"), ("bl", 7, 2, "nut"), ("bo", 7, "bo"), ("bo", 7, "bo")):
                 batch.add(*row)
-            assert not client.has("qb", 7, "bo", 1, "bolt"), "nothing is sent in the block"
+            assert not client.has("qbo", 7, "bo", 1, "bolt"), "nothing is sent in the block"
             raises(djq.Error, batch.result)
         assert batch.result() == djq.Done(seq + 1, 3) and batch.result().changed
         raises(djq.Error, lambda: batch.add("bo", 7, "bo"))
         came = {(7, "bo", 1, "bolt"), (7, "bo", 2, "nut")}
-        assert other.next_change("qb", SECONDS) == djq.Change(seq + 1, came, set())
+        assert other.next_change("qbo", SECONDS) == djq.Change(seq + 1, came, set())
         assert client.delete("bo", 7, "bo") == djq.Removed(seq + 1, 1)
         assert batch_of(client, ("bo", 7, "bo")) == djq.Done(seq + 1, 0)
         assert batch_of(client) == djq.Done(seq + 1, 0) and not batch_of(client).changed
