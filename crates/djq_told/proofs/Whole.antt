@@ -1,6 +1,6 @@
 -- What a mirror makes of all that a session was ever sent: nothing is queued to it before, or behind its end.
 use Rattle.std.specs.Prelude.{ℕ, List, [], ◌∷◌, ◌++◌, ◌≡◌, Option, None, Some, IsSomeAnd}
-use Rattle.std.proofs.Common.{refl, sym, ap, ap₂, ◌∙◌, subst, append-nil}
+use Rattle.std.proofs.Common.{sym, ap, ◌∙◌, subst, append-nil}
 use Rattle.djq_model.specs.Data.{Bytes}
 use Rattle.djq_model.specs.Listed.{Listed, listed_name}
 use Rattle.djq_lines.specs.declared.answer.EndCause.{EndCause}
@@ -12,15 +12,14 @@ use Rattle.djq_machine.specs.Run.{Did, Run, to_session, out}
 use Rattle.djq_machine.specs.Call.{cause_of, cause_in}
 use Rattle.djq_machine.proofs.Walks.{walk_as}
 use Rattle.djq_laws.specs.Moved.{Ends, input_ends, had_ended}
-use Rattle.djq_laws.specs.Sound.{IsSoundState, IsStart}
+use Rattle.djq_laws.specs.Sound.{IsSoundState}
 use Rattle.djq_laws.specs.Silent.{IsOver}
 use Rattle.djq_laws.specs.Watched.{WatchesStep}
 use Rattle.djq_laws.proofs.Moving.{ended_facts}
 use Rattle.djq_laws.proofs.Silent.{closed_is_over, over_is_silent}
 use Rattle.djq_laws.proofs.Sounding.{step_sound, runs_keep_sound, states_are_sound}
-use Rattle.djq_told.specs.Sayable.{IsSayableStore}
 use Rattle.djq_told.specs.Mirrored.{WaitsStep, Reads, EndsNow, IsReadBack}
-use Rattle.djq_told.specs.Whole.{LeavesOff, ReadsWhole, SessionsAreReadBack}
+use Rattle.djq_told.specs.Whole.{LeavesOff, SessionsAreReadBack}
 use Rattle.djq_told.proofs.Waiting.{out_append, readers_are_read_back}
 
 -- a session that has a cause to end doesn't go on
