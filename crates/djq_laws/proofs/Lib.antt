@@ -34,3 +34,4 @@ pub mod Sounding
 pub mod Listing
 pub mod Short
 pub mod Holding
+pub mod Silent

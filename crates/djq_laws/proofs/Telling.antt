@@ -75,7 +75,7 @@ watches_still q st t cause s false e there w =
     inl (subst (λ (o : Option Session). Watches q o) (sym (session_other st t s (ended_by cause) (λ x. refl) e)) w)
 
 -- what is found among sessions that are changed alike
-find_mapped : (p : Session → Bool) (f : Session → Session) → ((x : Session) → p (f x) ≡ p x) → (xs : List Session) → find p (map f xs) ≡ option_map f (find p xs)
+pub find_mapped : (p : Session → Bool) (f : Session → Session) → ((x : Session) → p (f x) ≡ p x) → (xs : List Session) → find p (map f xs) ≡ option_map f (find p xs)
 find_mapped p f keeps [] = refl
 find_mapped p f keeps (x ∷ xs) = step (p x) (keeps x) (find_mapped p f keeps xs)
   where

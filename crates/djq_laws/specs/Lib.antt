@@ -14,3 +14,4 @@ pub mod Listed
 pub mod Copies
 pub mod Stopping
 pub mod Holding
+pub mod Silent

@@ -37,6 +37,7 @@ ghost use Rattle.djq_laws.specs.Added.{DeltasAddUp};
 ghost use Rattle.djq_laws.specs.Watched.{WatchersHaveAnswers};
 ghost use Rattle.djq_laws.specs.Staying.{WatchersStay};
 ghost use Rattle.djq_laws.specs.Stopping.{KeptSaysNoStop};
+ghost use Rattle.djq_laws.specs.Silent.{OverIsSilent, OverOnce};
 ghost use Rattle.djq_laws.specs.Live.{ListingsStayLive};
 ghost use Rattle.djq_laws.specs.Sound.{RunsKeepSound, OpeningIsStart, StatesAreSound};
 ghost use Rattle.djq_laws.specs.Copies.{RowsHaveCopies, AddsCopy, TakesCopy, AddsHeld};
@@ -117,6 +118,13 @@ pub fn sent_bytes()
 /// is pending: along every run in which no session opens twice.
 pub fn sent_in_order()
     ensures { SentInOrder }
+{}
+
+/// Nothing is queued to a session that has ended, or isn't open: no reply, and no delta. It stays so
+/// until a session of its id opens; of one that was open, for good, where none opens twice.
+pub fn ended_are_told_nothing()
+    ensures silent { OverIsSilent }
+    ensures once { OverOnce }
 {}
 
 /// A session's bytes are run in order, whatever the other sessions do: along every run in which it

@@ -317,7 +317,7 @@ waited s old sound fine gives (d ∷ done) new walk =
       gives = more.gives;
     }
 
-out_append : (s : ℕ) (xs ys : List Did) → out s (xs ++ ys) ≡ out s xs ++ out s ys
+pub out_append : (s : ℕ) (xs ys : List Did) → out s (xs ++ ys) ≡ out s xs ++ out s ys
 out_append s xs ys = flat_map-append (λ (d : Did). to_session s d.effect.queued) xs ys
 
 readers_are_well : (q : Listed) (s : ℕ) (first : State) → IsSoundState first → IsSayableState first
