@@ -1,4 +1,5 @@
 //! Batches: rows are held, and go in at once.
+ghost use Rattle.std.specs.Prelude.{◌≡◌};
 
 use super::{Core, is_told, open, say};
 use crate::serving::tests::is_open;
@@ -98,7 +99,7 @@ fn a_batch_takes_rows_alone(rt: HostRuntime) -> Result<(), NoMem> {
 // Whether the last step kept these three lines.
 fn is_lent_batch(core: &Core, row: &[u8]) -> bool {
     let first = match core.accepted(0) {
-        Some(line) => line == b"batch",
+        Some(line) => line == b"batch".as_slice(),
         None => false,
     };
     let second = match core.accepted(1) {
@@ -106,7 +107,7 @@ fn is_lent_batch(core: &Core, row: &[u8]) -> bool {
         None => false,
     };
     let third = match core.accepted(2) {
-        Some(line) => line == b"done",
+        Some(line) => line == b"done".as_slice(),
         None => false,
     };
     first && second && third && core.accepted(3).is_none()
