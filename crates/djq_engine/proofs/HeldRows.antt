@@ -1,12 +1,11 @@
 -- What held rows do to a store, one after another.
-use Rattle.std.proofs.Common.{ℕ, zero, suc, List, [], ◌∷◌, ◌++◌, ◌+◌, ◌≡◌, ◌≢◌, ◌<◌, ◌≤◌, Bool, true, false, refl, sym, ap, ap₂, ◌∙◌, subst, length, take, get_or, arith}
-use Rattle.std.specs.Prelude.{◌&&◌, ◌||◌, ◌==◌, not, Option, None, Some, is_none, option_map, cond, find, All, AllPairs, ⊤}
+use Rattle.std.proofs.Common.{ℕ, List, [], ◌∷◌, ◌++◌, ◌+◌, ◌≡◌, ◌≢◌, ◌≤◌, Bool, true, false, refl, sym, ap, ◌∙◌, length, arith}
+use Rattle.std.specs.Prelude.{◌&&◌, ◌||◌, ◌==◌, not, Option, None, Some, is_none, option_map, cond, find, AllPairs}
 use Rattle.std.proofs.lemmas.Bool.{false≢true}
-use Rattle.std.proofs.lemmas.List.{take_more}
 use Rattle.djq_model.specs.declared.relation.Relation.{Relation}
 use Rattle.djq_model.specs.declared.relation.CountedRow.{CountedRow}
 use Rattle.djq_model.specs.declared.relation.ColumnType.{ColumnType}
-use Rattle.djq_model.specs.Data.{Bytes, Tuple, bytes_eq, change_first, relation_of, counted_in, counted_of, tuples_of, rows_of, has_row, copies_among, with_row, with_copies}
+use Rattle.djq_model.specs.Data.{Bytes, Tuple, bytes_eq, change_first, relation_of, counted_in, counted_of, tuples_of, has_row, copies_among, with_row, with_copies}
 use Rattle.djq_model.specs.Known.{texts_in, all_learned}
 use Rattle.djq_model.specs.Typed.{fits}
 use Rattle.djq_lines.specs.Columns.{types_of}
@@ -17,9 +16,9 @@ use Rattle.djq_lines.specs.declared.held.HeldRow.{HeldRow}
 use Rattle.djq_machine.specs.State.{Store}
 use Rattle.djq_machine.specs.Conditions.{first_of}
 use Rattle.djq_machine.specs.Store.{with_rows}
-use Rattle.djq_machine.specs.Batch.{suit_refusal, SuitAll, is_there, with_held, with_all, count_came, has_come, place_refusal, HavePlaces}
+use Rattle.djq_machine.specs.Batch.{suit_refusal, is_there, with_held, with_all, count_came, has_come, place_refusal, HavePlaces}
 use Rattle.djq_rows.specs.Laws.{NamesTell}
-use Rattle.djq_rows.specs.Catalog.{relation_at, counted_at, rows_at, with_rows_at}
+use Rattle.djq_rows.specs.Catalog.{counted_at, rows_at, with_rows_at}
 use Rattle.djq_engine.specs.Judging.{Suits}
 
 -- ---- one row
@@ -53,16 +52,6 @@ module _ (st : Store) (h : HeldRow) (at : ℕ) (s : Suits st.relations h.relatio
         held_relations true e = absurd (false≢true (sym e))
         held_relations false e = refl
 
-    pub new_texts : (with_held st h).texts ≡ all_learned st.texts (texts_in h.row)
-    new_texts = held_texts (is_there st h) absent
-      where
-        held_texts : (b : Bool) → b ≡ false
-            → (let x : Store = cond b (record st { relations = with_rows st.relations h.relation (with_copies (counted_of st.relations h.relation) h.row (copies_among (counted_of st.relations h.relation) h.row + 1)) })
-            (record st { relations = with_rows st.relations h.relation (with_row (counted_of st.relations h.relation) h.row); texts = all_learned st.texts (texts_in h.row) }) in x).texts
-            ≡ all_learned st.texts (texts_in h.row)
-        held_texts true e = absurd (false≢true (sym e))
-        held_texts false e = refl
-
   -- where it was
   module _ (there : is_there st h ≡ true) where
     pub more_relations : NamesTell → AllPairs (λ r s. r.name ≢ s.name) st.relations
@@ -78,16 +67,6 @@ module _ (st : Store) (h : HeldRow) (at : ℕ) (s : Suits st.relations h.relatio
             ≡ with_rows st.relations h.relation (with_copies (counted_of st.relations h.relation) h.row (copies_among (counted_of st.relations h.relation) h.row + 1))
         held_relations true e = refl
         held_relations false e = absurd (false≢true e)
-
-    pub more_texts : (with_held st h).texts ≡ st.texts
-    more_texts = held_texts (is_there st h) there
-      where
-        held_texts : (b : Bool) → b ≡ true
-            → (let x : Store = cond b (record st { relations = with_rows st.relations h.relation (with_copies (counted_of st.relations h.relation) h.row (copies_among (counted_of st.relations h.relation) h.row + 1)) })
-            (record st { relations = with_rows st.relations h.relation (with_row (counted_of st.relations h.relation) h.row); texts = all_learned st.texts (texts_in h.row) }) in x).texts
-            ≡ st.texts
-        held_texts true e = refl
-        held_texts false e = absurd (false≢true e)
 
 pub held_seq : (st : Store) (h : HeldRow) → (with_held st h).seq ≡ st.seq
 held_seq st h = by (is_there st h)
@@ -201,3 +180,24 @@ suits_held st h n row = by (is_there st h)
 pub suits_all : (st : Store) (xs : List HeldRow) (n : Bytes) (row : Tuple) → suit_refusal (with_all st xs) n row ≡ suit_refusal st n row
 suits_all st [] n row = refl
 suits_all st (x ∷ xs) n row = suits_all (with_held st x) xs n row ∙ suits_held st x n row
+
+-- the texts behind a held row
+pub held_texts_new : (st : Store) (h : HeldRow) → is_there st h ≡ false → (with_held st h).texts ≡ all_learned st.texts (texts_in h.row)
+held_texts_new st h e = by (is_there st h) e
+  where
+    by : (b : Bool) → b ≡ false
+        → (let x : Store = cond b (record st { relations = with_rows st.relations h.relation (with_copies (counted_of st.relations h.relation) h.row (copies_among (counted_of st.relations h.relation) h.row + 1)) })
+        (record st { relations = with_rows st.relations h.relation (with_row (counted_of st.relations h.relation) h.row); texts = all_learned st.texts (texts_in h.row) }) in x).texts
+        ≡ all_learned st.texts (texts_in h.row)
+    by true f = absurd (false≢true (sym f))
+    by false f = refl
+
+pub held_texts_there : (st : Store) (h : HeldRow) → is_there st h ≡ true → (with_held st h).texts ≡ st.texts
+held_texts_there st h e = by (is_there st h) e
+  where
+    by : (b : Bool) → b ≡ true
+        → (let x : Store = cond b (record st { relations = with_rows st.relations h.relation (with_copies (counted_of st.relations h.relation) h.row (copies_among (counted_of st.relations h.relation) h.row + 1)) })
+        (record st { relations = with_rows st.relations h.relation (with_row (counted_of st.relations h.relation) h.row); texts = all_learned st.texts (texts_in h.row) }) in x).texts
+        ≡ st.texts
+    by true f = refl
+    by false f = absurd (false≢true f)

@@ -30,3 +30,12 @@ pub mod Working
 pub mod Turned
 pub mod GivenUp
 pub mod HeldRows
+pub mod TakenBack
+pub mod Chained
+pub mod Put
+pub mod Reached
+pub mod Filled
+pub mod Rested
+pub mod Accepted
+pub mod Settled
+pub mod Joined

@@ -1,9 +1,9 @@
 -- What becomes of queries that read relations of held rows, one relation after another.
-use Rattle.std.proofs.Common.{ℕ, zero, suc, List, [], ◌∷◌, ◌++◌, ◌+◌, ◌≡◌, ◌<◌, ◌≤◌, Bool, true, false, refl, sym, ap, ap₂, ◌∙◌, subst, length, take, get_or, arith}
-use Rattle.std.specs.Prelude.{◌&&◌, ◌||◌, Option, None, Some, is_some, option_map, cond, map, find, All}
+use Rattle.std.proofs.Common.{ℕ, List, [], ◌∷◌, ◌++◌, ◌+◌, ◌≡◌, ◌<◌, Bool, true, false, refl, sym, ap, ap₂, ◌∙◌, subst, length, take, get_or}
+use Rattle.std.specs.Prelude.{◌&&◌, ◌||◌, ◌==◌, Option, None, Some, is_some, cond}
 use Rattle.std.specs.List.{list_any}
 use Rattle.std.proofs.lemmas.Bool.{false≢true}
-use Rattle.std.proofs.lemmas.List.{take_more, take_all, map-append}
+use Rattle.std.proofs.lemmas.List.{take_more}
 use Rattle.djq_model.specs.declared.relation.Relation.{Relation}
 use Rattle.djq_model.specs.declared.query.Query.{Query}
 use Rattle.djq_model.specs.Data.{Bytes}
@@ -15,13 +15,15 @@ use Rattle.djq_cursor.specs.Log.{Log}
 use Rattle.djq_rows.specs.Catalog.{relation_at}
 use Rattle.djq_live.specs.declared.cursors.Progress.{Progress}
 use Rattle.djq_live.specs.declared.cursors.Progress.TheVariants.{Open, Stale}
-use Rattle.djq_live.specs.Cursors.{outdated_progress, outdated_slots}
-use Rattle.djq_live.specs.Live.{Live, IsKept, IsLive}
+use Rattle.djq_live.specs.Cursors.{outdated_slots}
+use Rattle.djq_live.specs.Live.{Live}
 use Rattle.djq_live.specs.Updating.{IsEmpty}
 use Rattle.djq_reach.specs.Places.{place_at, reads_place, is_reader, readers_at, log_at}
 use Rattle.djq_reach.specs.Reaching.{DoneAt, Reach, Ages}
 use Rattle.djq_reach.specs.Tending.{Empties}
-use Rattle.djq_engine.specs.Outdating.{AreReaders, AgesBy, AgesAt, AgesAll, ClearsLogs, reads_held}
+use Rattle.djq_reach.specs.declared.group.Group.{Group}
+use Rattle.djq_reach.specs.Grouping.{relations_of}
+use Rattle.djq_engine.specs.Outdating.{AreReaders, AgesBy, AgesAt, AgesAll, ClearsLogs, reads_held, by_tested}
 
 -- ---- cursors
 
@@ -111,6 +113,37 @@ outdates_still held k d test n gs hs low counts a =
     ∙ first_more (take k held) (get_or held k d) test q
     ∙ ap (λ (t : Bool). or_first (first_read (take k held) test q) (cond (t && listed_reads q (get_or held k d).relation) (Some (get_or held k d).relation) None)) counts) a
     (ages_none (λ q. None) n hs (λ q. refl))
+
+ages_as : (f g : Listed → Option Bytes) (n : ℕ) (gs hs : List (Option Live)) → ((q : Listed) → g q ≡ f q) → AgesAll f n gs hs → AgesAll g n gs hs
+ages_as f g n gs hs same a = record { long = a.long; each = λ i. by_place (place_at gs i) (place_at hs i) (a.each i) }
+  where
+    by_place : (o p : Option Live) → AgesAt f n o p → AgesAt g n o p
+    by_place None p h = h
+    by_place (Some l) p h = subst (λ (x : Option Bytes). AgesBy x n l p) (sym (same (a_query l.query))) h
+
+-- a relation that passes the test outdates those that read it, and another one none
+pub ages_passed : (test : Bytes → Bool) (name : Bytes) (n : ℕ) (gs hs : List (Option Live)) → test name ≡ true → AgesAll (by_relation name) n gs hs → AgesAll (by_tested test name) n gs hs
+ages_passed test name n gs hs e a = ages_as (by_relation name) (by_tested test name) n gs hs (λ q. ap (λ b. cond b (by_relation name q) None) e) a
+
+pub ages_failed : (test : Bytes → Bool) (name : Bytes) (n : ℕ) (gs : List (Option Live)) → test name ≡ false → AgesAll (by_tested test name) n gs gs
+ages_failed test name n gs e = ages_none (by_tested test name) n gs (λ q. ap (λ b. cond b (by_relation name q) None) e)
+
+-- one row more, whose relation is tested
+pub outdates_tested : (held : List HeldRow) (k : ℕ) (d : HeldRow) (test : Bytes → Bool) (n : ℕ) (gs hs ks : List (Option Live)) → k < length held
+    → AgesAll (first_read (take k held) test) n gs hs → AgesAll (by_tested test (get_or held k d).relation) n hs ks → AgesAll (first_read (take (k + 1) held) test) n gs ks
+outdates_tested held k d test n gs hs ks low a b =
+    ages_both (first_read (take k held) test) (by_tested test (get_or held k d).relation) (first_read (take (k + 1) held) test) n gs hs ks
+    (λ q. ap (λ (xs : List HeldRow). first_read xs test q) (take_more held k d low)
+    ∙ first_more (take k held) (get_or held k d) test q
+    ∙ ap (or_first (first_read (take k held) test q)) (both (test (get_or held k d).relation) (listed_reads q (get_or held k d).relation) (get_or held k d).relation)) a b
+  where
+    both : (t r : Bool) (name : Bytes) → cond (t && r) (Some name) None ≡ cond t (cond r (Some name) None) None
+    both true r name = refl
+    both false r name = refl
+
+pub group_any : (groups : List Group) (at : ℕ) → list_any (λ g. g.relation.at == at) groups ≡ is_reader (relations_of groups) at
+group_any [] at = refl
+group_any (g ∷ groups) at = ap (λ b. (g.relation.at == at) || b) (group_any groups at)
 
 -- ---- who reads a relation
 

@@ -264,7 +264,7 @@ has_copies law stays old new at row n s sound low texts rel queries logs = recor
 learned_known : (texts : List Bytes) (t : Bytes) → knows texts t ≡ true → learned texts t ≡ texts
 learned_known texts t h = rw h refl
 
-none_learned : (texts : List Bytes) (row : Tuple) → HaveCells texts row → all_learned texts (texts_in row) ≡ texts
+pub none_learned : (texts : List Bytes) (row : Tuple) → HaveCells texts row → all_learned texts (texts_in row) ≡ texts
 none_learned texts [] h = refl
 none_learned texts (Int i ∷ vs) h = none_learned texts vs h.1
 none_learned texts (Text t ∷ vs) h =

@@ -11,3 +11,5 @@ pub mod Outdating
 pub mod Registering
 pub mod Watching
 pub mod Lending
+pub mod Putting
+pub mod Taking

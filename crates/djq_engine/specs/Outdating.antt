@@ -1,15 +1,18 @@
 -- Queries whose cursors become stale by the first of several relations that they read.
-use Rattle.std.specs.Prelude.{ℕ, List, [], ◌∷◌, ◌≡◌, ◌<◌, Bool, true, false, Option, None, Some, length}
+use Rattle.std.specs.Prelude.{ℕ, List, ◌≡◌, ◌<◌, Bool, true, false, Option, None, Some, if◌then◌else◌, length}
 use Rattle.std.specs.List.{list_any}
 use Rattle.djq_model.specs.declared.relation.Relation.{Relation}
 use Rattle.djq_model.specs.Data.{Bytes}
 use Rattle.djq_model.specs.Listed.{Listed, a_query}
 use Rattle.djq_lines.specs.declared.held.HeldRow.{HeldRow}
 use Rattle.djq_cursor.specs.Log.{Log}
+use Rattle.djq_machine.specs.Stale.{by_relation}
 use Rattle.djq_machine.specs.Batch.{first_read}
 use Rattle.djq_rows.specs.Catalog.{relation_at}
 use Rattle.djq_live.specs.Live.{Live}
 use Rattle.djq_live.specs.Updating.{IsEmpty}
+use Rattle.djq_reach.specs.declared.group.Group.{Group}
+use Rattle.djq_reach.specs.Grouping.{relations_of}
 use Rattle.djq_reach.specs.Places.{place_at, reads_place, is_reader, readers_at, log_at, AreOnce}
 use Rattle.djq_reach.specs.Reaching.{Ages}
 use Rattle.djq_engine.specs.declared.parts.Parts.{Parts}
@@ -39,6 +42,15 @@ pub record AgesAll (outdater : Listed → Option Bytes) (n : ℕ) (gs hs : List 
   where
     pub long : length hs ≡ length gs
     pub each : (i : ℕ) → AgesAt outdater n (place_at gs i) (place_at hs i)
+
+-- A test passes the relations of these groups, and no others.
+abbrev pub AreTested : List Relation → List Group → (Bytes → Bool) → Type 0
+AreTested relations groups test = (r : ℕ) → r < length relations
+    → test (relation_at relations r).name ≡ is_reader (relations_of groups) r
+
+-- the relation outdates the queries that read it, where it passes the test
+abbrev pub by_tested : (Bytes → Bool) → Bytes → Listed → Option Bytes
+by_tested test relation q = if test relation then by_relation relation q else None
 
 -- whether the query in a place reads the relation of one of these rows
 abbrev pub reads_held : List HeldRow → Option Live → Bool

@@ -48,7 +48,7 @@ pub use laws::{
 pub use listing::Next;
 pub use live::LiveQuery;
 pub use plan::{PlannedQuery, Unplanned, plan_query};
-pub use staying::{came_passes, live_stays, went_passes};
+pub use staying::{came_all_passes, came_passes, live_stays, went_passes};
 
 mod batch;
 mod bind;

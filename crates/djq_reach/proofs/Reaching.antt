@@ -130,7 +130,7 @@ pub all_go : (places : List ℕ) (at : ℕ) (cells : List ℕ) (gs : List (Optio
 all_go places at cells gs h i e = some_as (place_at gs i) (λ l. IsKept h.before l) (λ l. CanDelete l at cells)
     (λ l k. record { before = h.before; after = h.after; row = h.row; kept = k; there = h.there; went = h.went }) (h.kept i e)
 
-reader_front : (places : List ℕ) (k i : ℕ) → is_reader (take k places) i ≡ true → is_reader places i ≡ true
+pub reader_front : (places : List ℕ) (k i : ℕ) → is_reader (take k places) i ≡ true → is_reader places i ≡ true
 reader_front [] zero i e = e
 reader_front [] (suc k) i e = e
 reader_front (p ∷ places) zero i e = absurd cc
@@ -150,7 +150,26 @@ once_front (p ∷ places) (suc k) o = (none (is_reader (take k places) p) refl, 
     none true e = absurd (false≢true (sym o.0 ∙ reader_front places k p e))
     none false e = refl
 
--- where one is refused, those in front of it can give back
+-- where one is refused, what was done to those in front of it holds of them
+pub front_kept : (places : List ℕ) (k d : ℕ) (Does Last : Live → Live → Type 0) (P Q : Live → Type 0) (old now new : List (Option Live)) → AreOnce places → k < length places → AllAt places old P
+    → Reach (take k places) Does old now → Reach (get_or places k d ∷ []) Last now new → ((l m : Live) → P l → Does l m → Q m) → AllAt (take k places) new Q
+front_kept places k d Does Last P Q old now new o low h r last turns i e =
+    let same : place_at new i ≡ place_at now i =
+    subst (λ (b : Bool). DoneAt Last b (place_at now i) (place_at new i)) (only (get_or places k d) i ∙ apart_last) (last.each i) in
+    subst (λ (q : Option Live). IsSomeAnd q Q) (sym same)
+    (done (place_at old i) (place_at now i) (subst (λ (b : Bool). DoneAt Does b (place_at old i) (place_at now i)) e (r.each i)) (h i (reader_front places k i e)))
+  where
+    apart_last : (get_or places k d == i) ≡ false
+    apart_last = apart (get_or places k d) i (λ s.
+        false≢true (sym (once_at places k d o low) ∙ ap (is_reader (take k places)) s ∙ e))
+
+    done : (p q : Option Live) → DoneAt Does true p q → IsSomeAnd p P → IsSomeAnd q Q
+    done None None t k' = absurd k'
+    done (Some l) None t k' = absurd t
+    done None (Some m) t k' = absurd t
+    done (Some l) (Some m) t k' = turns l m k' t
+
+-- they can give back
 pub front_goes : (places : List ℕ) (k d at : ℕ) (cells : List ℕ) (old now new : List (Option Live)) → AreOnce places → k < length places → CanCome places at cells old
     → Reach (take k places) (TakesIn at cells) old now → Reach (get_or places k d ∷ []) Remains now new → CanGo (take k places) at cells new
 front_goes places k d at cells old now new o low h r last = record {
@@ -159,27 +178,11 @@ front_goes places k d at cells old now new o low h r last = record {
   row = h.row;
   there = h.there;
   went = h.went;
-  kept = λ i e. took i e;
+  kept = front_kept places k d (TakesIn at cells) Remains (λ l. IsKept h.before l) (λ l. IsKept h.after l) old now new o low h.kept r last
+      (λ l m k' t. t.follows h.before h.after h.row k' h.came);
 }
-  where
-    apart_last : (i : ℕ) → is_reader (take k places) i ≡ true → (get_or places k d == i) ≡ false
-    apart_last i e = apart (get_or places k d) i (λ s.
-        false≢true (sym (once_at places k d o low) ∙ ap (is_reader (take k places)) s ∙ e))
 
-    done : (i : ℕ) (p q : Option Live) → DoneAt (TakesIn at cells) true p q → IsSomeAnd p (λ l. IsKept h.before l) → IsSomeAnd q (λ l. IsKept h.after l)
-    done i None None t k' = absurd k'
-    done i (Some l) None t k' = absurd t
-    done i None (Some m) t k' = absurd t
-    done i (Some l) (Some m) t k' = t.follows h.before h.after h.row k' h.came
-
-    took : (i : ℕ) → is_reader (take k places) i ≡ true → IsSomeAnd (place_at new i) (λ l. IsKept h.after l)
-    took i e =
-        let same : place_at new i ≡ place_at now i =
-        subst (λ (b : Bool). DoneAt Remains b (place_at now i) (place_at new i)) (only (get_or places k d) i ∙ apart_last i e) (last.each i) in
-        subst (λ (q : Option Live). IsSomeAnd q (λ l. IsKept h.after l)) (sym same)
-        (done i (place_at old i) (place_at now i) (subst (λ (b : Bool). DoneAt (TakesIn at cells) b (place_at old i) (place_at now i)) e (r.each i)) (h.kept i (reader_front places k i e)))
-
-same_refl : (l : Live) → SameQuery l l
+pub same_refl : (l : Live) → SameQuery l l
 same_refl l = record { query = refl; numbered = refl; patterns = refl; tree = refl; cursors = refl }
 
 pub same_then : (l m n : Live) → SameQuery l m → SameQuery m n → SameQuery l n
@@ -191,66 +194,73 @@ same_then l m n s t = record {
   cursors = t.cursors ∙ s.cursors;
 }
 
--- a row that came into some of the places and went again
-pub given_back : (places : List ℕ) (k d at : ℕ) (cells : List ℕ) (old now mid new : List (Option Live)) → AreOnce places → k < length places
-    → Reach (take k places) (TakesIn at cells) old now → Reach (get_or places k d ∷ []) Remains now mid → Reach (take k places) (LetsOut at cells) mid new
-    → Reach places (GivesBack at cells) old new
-given_back places k d at cells old now mid new o low a b c = record {
+-- What was done to some of the places and undone again: to those in front of one, which refused it.
+pub done_back : (places : List ℕ) (k d : ℕ) (Does Last Back Out : Live → Live → Type 0) (old now mid new : List (Option Live)) → AreOnce places → k < length places
+    → Reach (take k places) Does old now → Reach (get_or places k d ∷ []) Last now mid → Reach (take k places) Back mid new
+    → ((l m n : Live) → Does l m → Back m n → Out l n) → ((l m : Live) → Last l m → Out l m) → ((l : Live) → Out l l)
+    → Reach places Out old new
+done_back places k d Does Last Back Out old now mid new o low a b c two refused itself = record {
   length = c.length ∙ b.length ∙ a.length;
   each = λ i. by_front i (is_reader (take k places) i) refl;
 }
   where
-    last : ℕ
-    last = get_or places k d
-
-    both : (p q r : Option Live) → DoneAt (TakesIn at cells) true p q → DoneAt (LetsOut at cells) true q r → DoneAt (GivesBack at cells) true p r
+    both : (p q r : Option Live) → DoneAt Does true p q → DoneAt Back true q r → DoneAt Out true p r
     both None None None t u = tt
     both None None (Some n) t u = absurd u
     both None (Some m) r t u = absurd t
     both (Some l) None r t u = absurd t
     both (Some l) (Some m) None t u = absurd u
-    both (Some l) (Some m) (Some n) t u = record {
-      kept = λ c d row came went k'. u.follows d c row (t.follows c d row k' came) went;
-      same = same_then l m n t.same u.same;
-    }
+    both (Some l) (Some m) (Some n) t u = two l m n t u
 
-    one : (p q : Option Live) → DoneAt Remains true p q → DoneAt (GivesBack at cells) true p q
+    one : (p q : Option Live) → DoneAt Last true p q → DoneAt Out true p q
     one None None t = tt
     one None (Some m) t = absurd t
     one (Some l) None t = absurd t
-    one (Some l) (Some m) t = record { kept = λ c d row came went k'. t.kept c k'; same = t.same }
+    one (Some l) (Some m) t = refused l m t
 
-    none : (e : Bool) (p q : Option Live) → q ≡ p → DoneAt (GivesBack at cells) e p q
+    none : (e : Bool) (p q : Option Live) → q ≡ p → DoneAt Out e p q
     none false p q e = e
     none true None None e = tt
     none true None (Some m) e = absurd cc
     none true (Some l) None e = absurd cc
-    none true (Some l) (Some m) e = subst (λ (q : Option Live). DoneAt (GivesBack at cells) true (Some l) q) (sym e)
-        (record { kept = λ c d row came went k'. k'; same = same_refl l })
+    none true (Some l) (Some m) e = subst (λ (q : Option Live). DoneAt Out true (Some l) q) (sym e) (itself l)
 
-    by_last : (i : ℕ) → is_reader (take k places) i ≡ false → (f : Bool) → (get_or places k d == i) ≡ f → DoneAt (GivesBack at cells) (is_reader places i) (place_at old i) (place_at new i)
+    by_last : (i : ℕ) → is_reader (take k places) i ≡ false → (f : Bool) → (get_or places k d == i) ≡ f → DoneAt Out (is_reader places i) (place_at old i) (place_at new i)
     by_last i e true f =
-        let first : place_at now i ≡ place_at old i = subst (λ (b : Bool). DoneAt (TakesIn at cells) b (place_at old i) (place_at now i)) e (a.each i) in
-        let end : place_at new i ≡ place_at mid i = subst (λ (b : Bool). DoneAt (LetsOut at cells) b (place_at mid i) (place_at new i)) e (c.each i) in
+        let first : place_at now i ≡ place_at old i = subst (λ (b : Bool). DoneAt Does b (place_at old i) (place_at now i)) e (a.each i) in
+        let end : place_at new i ≡ place_at mid i = subst (λ (b : Bool). DoneAt Back b (place_at mid i) (place_at new i)) e (c.each i) in
         let here : is_reader places i ≡ true = ap (is_reader places) (sym (eqb-true (get_or places k d) i f)) ∙ reader_there places k d low in
-        subst (λ (b : Bool). DoneAt (GivesBack at cells) b (place_at old i) (place_at new i)) (sym here)
-        (subst (λ (q : Option Live). DoneAt (GivesBack at cells) true (place_at old i) q) (sym end)
-        (subst (λ (p : Option Live). DoneAt (GivesBack at cells) true p (place_at mid i)) first
-        (one (place_at now i) (place_at mid i) (subst (λ (b : Bool). DoneAt Remains b (place_at now i) (place_at mid i)) (only (get_or places k d) i ∙ f) (b.each i)))))
+        subst (λ (b : Bool). DoneAt Out b (place_at old i) (place_at new i)) (sym here)
+        (subst (λ (q : Option Live). DoneAt Out true (place_at old i) q) (sym end)
+        (subst (λ (p : Option Live). DoneAt Out true p (place_at mid i)) first
+        (one (place_at now i) (place_at mid i) (subst (λ (b : Bool). DoneAt Last b (place_at now i) (place_at mid i)) (only (get_or places k d) i ∙ f) (b.each i)))))
     by_last i e false f =
         none (is_reader places i) (place_at old i) (place_at new i)
-        (subst (λ (b : Bool). DoneAt (LetsOut at cells) b (place_at mid i) (place_at new i)) e (c.each i)
-        ∙ subst (λ (b : Bool). DoneAt Remains b (place_at now i) (place_at mid i)) (only (get_or places k d) i ∙ f) (b.each i)
-        ∙ subst (λ (b : Bool). DoneAt (TakesIn at cells) b (place_at old i) (place_at now i)) e (a.each i))
+        (subst (λ (b : Bool). DoneAt Back b (place_at mid i) (place_at new i)) e (c.each i)
+        ∙ subst (λ (b : Bool). DoneAt Last b (place_at now i) (place_at mid i)) (only (get_or places k d) i ∙ f) (b.each i)
+        ∙ subst (λ (b : Bool). DoneAt Does b (place_at old i) (place_at now i)) e (a.each i))
 
-    by_front : (i : ℕ) (e : Bool) → is_reader (take k places) i ≡ e → DoneAt (GivesBack at cells) (is_reader places i) (place_at old i) (place_at new i)
+    by_front : (i : ℕ) (e : Bool) → is_reader (take k places) i ≡ e → DoneAt Out (is_reader places i) (place_at old i) (place_at new i)
     by_front i true e =
         let other : (get_or places k d == i) ≡ false = apart (get_or places k d) i (λ s.
         false≢true (sym (once_at places k d o low) ∙ ap (is_reader (take k places)) s ∙ e)) in
-        let middle : place_at mid i ≡ place_at now i = subst (λ (b : Bool). DoneAt Remains b (place_at now i) (place_at mid i)) (only (get_or places k d) i ∙ other) (b.each i) in
-        subst (λ (b : Bool). DoneAt (GivesBack at cells) b (place_at old i) (place_at new i)) (sym (reader_front places k i e))
+        let middle : place_at mid i ≡ place_at now i = subst (λ (b : Bool). DoneAt Last b (place_at now i) (place_at mid i)) (only (get_or places k d) i ∙ other) (b.each i) in
+        subst (λ (b : Bool). DoneAt Out b (place_at old i) (place_at new i)) (sym (reader_front places k i e))
         (both (place_at old i) (place_at now i) (place_at new i)
-        (subst (λ (b : Bool). DoneAt (TakesIn at cells) b (place_at old i) (place_at now i)) e (a.each i))
-        (subst (λ (p : Option Live). DoneAt (LetsOut at cells) true p (place_at new i)) middle
-        (subst (λ (b : Bool). DoneAt (LetsOut at cells) b (place_at mid i) (place_at new i)) e (c.each i))))
+        (subst (λ (b : Bool). DoneAt Does b (place_at old i) (place_at now i)) e (a.each i))
+        (subst (λ (p : Option Live). DoneAt Back true p (place_at new i)) middle
+        (subst (λ (b : Bool). DoneAt Back b (place_at mid i) (place_at new i)) e (c.each i))))
     by_front i false e = by_last i e (get_or places k d == i) refl
+
+-- a row that came into some of the places and went again
+pub given_back : (places : List ℕ) (k d at : ℕ) (cells : List ℕ) (old now mid new : List (Option Live)) → AreOnce places → k < length places
+    → Reach (take k places) (TakesIn at cells) old now → Reach (get_or places k d ∷ []) Remains now mid → Reach (take k places) (LetsOut at cells) mid new
+    → Reach places (GivesBack at cells) old new
+given_back places k d at cells old now mid new o low a b c =
+    done_back places k d (TakesIn at cells) Remains (LetsOut at cells) (GivesBack at cells) old now mid new o low a b c
+    (λ l m n t u. record {
+      kept = λ c d row came went k'. u.follows d c row (t.follows c d row k' came) went;
+      same = same_then l m n t.same u.same;
+    })
+    (λ l m t. record { kept = λ c d row came went k'. t.kept c k'; same = t.same })
+    (λ l. record { kept = λ c d row came went k'. k'; same = same_refl l })

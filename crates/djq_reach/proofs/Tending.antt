@@ -28,12 +28,12 @@ reader_front (p ∷ places) (suc k) i e = step (p == i) e (reader_front places k
 
 -- ---- one log
 
-pub tells_where : (Changed : Catalog → Catalog → Tuple → Type 0) (b : Bool) (l : Live) (old mid new : Log) → Readies b old mid → LogsWhere b Changed l mid new → TellsWhere b Changed l old new
+pub tells_where : {R : Type 0} (Changed : Catalog → Catalog → R → Type 0) (b : Bool) (l : Live) (old mid new : Log) → Readies b old mid → LogsWhere b Changed l mid new → TellsWhere b Changed l old new
 tells_where Changed true l old mid new r h = record {
   tells = λ e c d row k ch. subst (λ (ls : List Line). IsDeltaOf l c d (map (change_of d.texts l) ls))
-      (sym (h.behind e ∙ ap (λ (xs : List Line). xs ++ h.lines) r)) (h.tells e c d row k ch);
+      (sym (h.behind e ∙ ap (λ (xs : List Line). xs ++ h.lines) r.lines)) (h.tells e c d row k ch);
   shown = λ e c d row k ch. subst (λ (ls : List Line). All (λ x. IsShowable d.texts l x.answer) ls)
-      (sym (h.behind e ∙ ap (λ (xs : List Line). xs ++ h.lines) r)) (h.shown e c d row k ch);
+      (sym (h.behind e ∙ ap (λ (xs : List Line). xs ++ h.lines) r.lines)) (h.shown e c d row k ch);
 }
 tells_where Changed false l old mid new r h = h ∙ r
 
@@ -222,7 +222,7 @@ pub lists_nothing : {R : Type 0} (Changed : Catalog → Catalog → R → Type 0
 lists_nothing Changed l true at before now e h = absurd (false≢true (sym e))
 lists_nothing Changed l false at before now e h = h
 
-module _ (Changed : Catalog → Catalog → Tuple → Type 0) (ws : List ℕ) (at : ℕ) where
+module _ {R : Type 0} (Changed : Catalog → Catalog → R → Type 0) (ws : List ℕ) (at : ℕ) where
   pub costs_none : (gs : List (Option Live)) (n : ℕ) → Costs Changed [] ws gs at n n
   costs_none gs n c d row f ch kept deltas = omega arith
 

@@ -13,27 +13,27 @@ use Rattle.djq_reach.specs.Places.{place_at, is_reader, log_at, watched_at}
 use Rattle.djq_reach.specs.Reaching.{AllAt}
 
 -- Unless it is lost, a log tells how the answers of a query changed.
-pub record Tells (Changed : Catalog → Catalog → Tuple → Type 0) (l : Live) (log : Log) : Type 0
-  where
-    pub tells : log.lost ≡ false → (c d : Catalog) (row : Tuple) → IsKept c l → Changed c d row
-        → IsDeltaOf l c d (map (change_of d.texts l) log.lines)
-    pub shown : log.lost ≡ false → (c d : Catalog) (row : Tuple) → IsKept c l → Changed c d row
-        → All (λ k. IsShowable d.texts l k.answer) log.lines
+pub record Tells {R : Type 0} (Changed : Catalog → Catalog → R → Type 0) (l : Live) (log : Log) :
+    Type 0 where
+  pub tells : log.lost ≡ false → (c d : Catalog) (what : R) → IsKept c l → Changed c d what
+      → IsDeltaOf l c d (map (change_of d.texts l) log.lines)
+  pub shown : log.lost ≡ false → (c d : Catalog) (what : R) → IsKept c l → Changed c d what
+      → All (λ k. IsShowable d.texts l k.answer) log.lines
 
 -- A log is made ready to tell anew, where that is wanted.
 abbrev pub Readies : Bool → Log → Log → Type 0
-Readies true old new = new.lines ≡ []
+Readies true old new = IsEmpty new
 Readies false old new = new ≡ old
 
 -- It does where the query is watched, and is as before where it isn't.
 abbrev pub TellsWhere :
-    Bool → (Catalog → Catalog → Tuple → Type 0) → Live → Log → Log → Type 0
-TellsWhere true Changed l old new = Tells Changed l new
-TellsWhere false Changed l old new = new ≡ old
+    {R : Type 0} → Bool → (Catalog → Catalog → R → Type 0) → Live → Log → Log → Type 0
+TellsWhere {R} true Changed l old new = Tells Changed l new
+TellsWhere {R} false Changed l old new = new ≡ old
 
 abbrev pub TellsAt :
-    List ℕ → (Catalog → Catalog → Tuple → Type 0) → ℕ → Live → Log → Log → Type 0
-TellsAt watchers Changed i = TellsWhere (watched_at watchers i) Changed
+    {R : Type 0} → List ℕ → (Catalog → Catalog → R → Type 0) → ℕ → Live → Log → Log → Type 0
+TellsAt {R} watchers Changed i = TellsWhere (watched_at watchers i) Changed
 
 -- A log is as before, or can be shown, unless it is lost.
 abbrev pub Shows : (Catalog → Catalog → Tuple → Type 0) → ℕ → Live → Log → Log → Type 0
@@ -85,10 +85,10 @@ cost_at watchers gs at f i =
     if watched_at watchers i then cost_of at (f i) (place_at gs i) else 0
 
 -- What listing the deltas of the queries in these places counts at most, whatever deltas they have.
-abbrev pub Costs : (Catalog → Catalog → Tuple → Type 0) → List ℕ → List ℕ → List (Option Live)
-    → ℕ → ℕ → ℕ → Type 0
-Costs Changed places watchers gs at before now = (c d : Catalog) (row : Tuple)
-    (f : ℕ → List Change) → Changed c d row → AllAt places gs (λ l. IsKept c l)
+abbrev pub Costs : {R : Type 0} → (Catalog → Catalog → R → Type 0) → List ℕ → List ℕ
+    → List (Option Live) → ℕ → ℕ → ℕ → Type 0
+Costs {R} Changed places watchers gs at before now = (c d : Catalog) (what : R)
+    (f : ℕ → List Change) → Changed c d what → AllAt places gs (λ l. IsKept c l)
     → DeltasOf places watchers gs c d f → now ≤ before + sum_by (cost_at watchers gs at f) places
 
 -- nobody watches the queries in these places

@@ -14,8 +14,8 @@ use djq_model::{Name, NoMem};
 use djq_rows::RelationId;
 use djq_steps::{Ledgers, Steps};
 
-// A log is made ready to tell anew, where that is wanted.
-fn ready(log: &mut DeltaLog, wanted: bool)
+/// A log is made ready to tell anew, where that is wanted.
+pub(crate) fn ready(log: &mut DeltaLog, wanted: bool)
     ensures { Readies wanted log.old log.new }
 {
     if wanted {
