@@ -1,39 +1,33 @@
 -- A batch of which rows came: what is kept, where cursors stand, and what is told.
-use Rattle.std.proofs.Common.{ℕ, zero, suc, List, [], ◌∷◌, ◌++◌, ◌+◌, ◌≡◌, ◌<◌, ◌≤◌, Bool, true, false, refl, sym, ap, ap₂, ◌∙◌, subst, length, get_or, arith}
-use Rattle.std.specs.Prelude.{◌&&◌, Option, None, Some, is_some, IsSome, IsSomeAnd, cond, map, filter, sum_by, vec_capacity, All, Ok, ⊤}
+use Rattle.std.proofs.Common.{ℕ, List, ◌++◌, ◌+◌, ◌≡◌, ◌≤◌, Bool, true, false, refl, sym, ap, ap₂, ◌∙◌, subst, length, arith}
+use Rattle.std.specs.Prelude.{◌&&◌, Option, Some, is_some, map, filter, sum_by, vec_capacity, All, Ok, ⊤}
 use Rattle.std.proofs.lemmas.Bool.{false≢true}
-use Rattle.std.proofs.lemmas.Nat.{mul-le}
-use Rattle.djq_model.specs.declared.query.Query.{Query}
 use Rattle.djq_model.specs.declared.relation.Relation.{Relation}
-use Rattle.djq_model.specs.Data.{Bytes, Tuple, relation_of}
+use Rattle.djq_model.specs.Data.{Bytes}
 use Rattle.djq_model.specs.Answer.{IsAnswer}
-use Rattle.djq_model.specs.Listed.{Listed, a_query}
+use Rattle.djq_model.specs.Listed.{Listed}
 use Rattle.djq_lines.specs.declared.held.HeldRow.{HeldRow}
 use Rattle.djq_machine.specs.State.{Store}
-use Rattle.djq_machine.specs.Changes.{RowsChange, RowsOutcome, accepted, is_outdated, tried}
-use Rattle.djq_machine.specs.Store.{most_steps}
-use Rattle.djq_machine.specs.Batch.{AddsBatch, with_all, has_come, first_read, rows_in, batch_outcome, store_behind, count_came}
+use Rattle.djq_machine.specs.Changes.{RowsChange, RowsOutcome, is_outdated, tried}
+use Rattle.djq_machine.specs.Batch.{AddsBatch, with_all, has_come, first_read, rows_in, batch_outcome}
 use Rattle.djq_machine.specs.Delta.{Change, IsDelta}
 use Rattle.djq_machine.specs.Watch.{delta_steps}
 use Rattle.djq_cursor.specs.Log.{Log}
-use Rattle.djq_rows.specs.Catalog.{Catalog, relation_at, rows_at}
-use Rattle.djq_live.specs.Changes.{HasSameRows}
+use Rattle.djq_rows.specs.Catalog.{Catalog}
 use Rattle.djq_live.specs.Live.{Live, IsKept, IsShowable, ShowableStays}
 use Rattle.djq_live.specs.Staying.{StaysOver, LiveStays}
 use Rattle.djq_live.specs.Updating.{change_of}
 use Rattle.djq_reach.specs.declared.group.Group.{Group}
-use Rattle.djq_reach.specs.Places.{place_at, reads_place, is_reader, watched_at, log_at}
-use Rattle.djq_reach.specs.Reaching.{AllAt, Reach, Renews}
+use Rattle.djq_reach.specs.Places.{place_at, is_reader, watched_at, log_at}
+use Rattle.djq_reach.specs.Reaching.{Reach, Renews}
 use Rattle.djq_reach.specs.Tending.{AreShown, Tells, TellsWhere, TellsAt, TendedAt, Tends}
-use Rattle.djq_reach.specs.Grouping.{Leads, CostsBy, reached, relations_of, batch_cost, batch_cost_at}
+use Rattle.djq_reach.specs.Grouping.{Leads, CostsBy, reached}
 use Rattle.djq_engine.specs.declared.parts.Parts.{Parts}
 use Rattle.djq_engine.specs.Kept.{Outdates}
-use Rattle.djq_engine.specs.Places.{query_in, queries_in, is_live}
+use Rattle.djq_engine.specs.Places.{query_in, queries_in}
 use Rattle.djq_engine.specs.Outdating.{AgesAll}
-use Rattle.djq_engine.specs.Putting.{PutsAll}
 use Rattle.djq_engine.specs.Watching.{TellsChange}
 use Rattle.djq_engine.specs.Whole.{kept_in, IsWhole, IsTended}
-use Rattle.djq_engine.proofs.Aging.{SameNames}
 use Rattle.djq_engine.proofs.Affecting.{outdated_places, place_outdated, AreFor, deltas_with, accepted_tells, both_true}
 use Rattle.djq_engine.proofs.Carrying.{stays_then}
 use Rattle.djq_engine.proofs.HeldRows.{all_queries}

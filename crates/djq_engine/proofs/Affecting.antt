@@ -1,8 +1,8 @@
 -- What a change of rows makes known of the watched queries that it outdates, whichever relations it
 -- changes.
-use Rattle.std.proofs.Common.{ℕ, zero, suc, List, [], ◌∷◌, ◌+◌, ◌≡◌, ◌<◌, ◌≤◌, ◌⊎◌, inl, inr, Bool, true, false, refl, sym, ap, ap₂, ◌∙◌, subst, length, arith}
-use Rattle.std.specs.Prelude.{◌==◌, ◌&&◌, ◌||◌, Option, None, Some, is_some, IsSomeAnd, cond, map, filter, sum_by, slice_index_or, All}
-use Rattle.std.proofs.lemmas.Bool.{eqb-true, eq-eqb, false≢true}
+use Rattle.std.proofs.Common.{ℕ, zero, suc, List, [], ◌∷◌, ◌+◌, ◌≡◌, ◌≤◌, ◌⊎◌, inl, inr, Bool, true, false, refl, sym, ap, ◌∙◌, subst, arith}
+use Rattle.std.specs.Prelude.{◌==◌, ◌&&◌, ◌||◌, Option, None, Some, is_some, cond, map, filter, sum_by, slice_index_or, All}
+use Rattle.std.proofs.lemmas.Bool.{eq-eqb, false≢true}
 use Rattle.std.proofs.lemmas.List.Sums.{sum_by-cons}
 use Rattle.djq_model.specs.Data.{Bytes}
 use Rattle.djq_model.specs.Answer.{IsAnswer}
@@ -15,9 +15,8 @@ use Rattle.djq_rows.specs.Catalog.{Catalog}
 use Rattle.djq_live.specs.Live.{Live}
 use Rattle.djq_live.specs.Updating.{change_of}
 use Rattle.djq_reach.specs.Places.{place_at, is_reader, watched_at, log_at}
-use Rattle.djq_engine.specs.declared.cursor.QueryId.{QueryId}
 use Rattle.djq_engine.specs.declared.parts.Parts.{Parts}
-use Rattle.djq_engine.specs.Kept.{Kept, Registered, registered_at, readers_of, affected_of, is_watched, told_at}
+use Rattle.djq_engine.specs.Kept.{Kept, Registered, readers_of, affected_of, is_watched, told_at}
 use Rattle.djq_engine.specs.Places.{is_live, query_in, id_at, registered_as, registered_in, told_from}
 use Rattle.djq_engine.specs.Sound.{IsSound}
 use Rattle.djq_engine.specs.Changing.{KeepsLogs}

@@ -1,8 +1,8 @@
 -- The catalogs that lead from the rows before a batch to those behind it, relation after relation.
-use Rattle.std.proofs.Common.{ℕ, zero, suc, List, [], ◌∷◌, ◌++◌, ◌≡◌, ◌≢◌, ◌<◌, ◌≤◌, ◌⊎◌, inl, inr, Bool, true, false, refl, sym, ap, ap₂, ◌∙◌, subst, length, get_or, arith, append-nil}
-use Rattle.std.specs.Prelude.{◌==◌, ◌||◌, Option, None, Some, cond, map, All, AllPairs}
+use Rattle.std.proofs.Common.{ℕ, List, [], ◌∷◌, ◌++◌, ◌≡◌, ◌≢◌, ◌<◌, ◌≤◌, Bool, true, false, refl, sym, ap, ◌∙◌, subst, length, get_or, arith, append-nil}
+use Rattle.std.specs.Prelude.{◌==◌, ◌||◌, cond, All, AllPairs}
 use Rattle.std.proofs.lemmas.Bool.{eqb-true, eq-eqb, false≢true}
-use Rattle.std.proofs.lemmas.List.{get_or-set_same, get_or-set_other, get_or_default, length-set}
+use Rattle.std.proofs.lemmas.List.{get_or-set_same, get_or-set_other, get_or_default}
 use Rattle.djq_model.specs.declared.relation.Relation.{Relation}
 use Rattle.djq_model.specs.declared.relation.ColumnType.{ColumnType}
 use Rattle.djq_model.specs.declared.relation.CountedRow.{CountedRow}
@@ -12,10 +12,9 @@ use Rattle.djq_lines.specs.declared.limits.TheConstants.{COPIES}
 use Rattle.djq_rows.specs.Cells.{HaveCells, StandFor}
 use Rattle.djq_rows.specs.Laws.{CellsStay}
 use Rattle.djq_rows.specs.Catalog.{Catalog, IsCatalog, IsKept, no_relation, relation_at, counted_at, rows_at, with_rows_at}
-use Rattle.djq_live.specs.Changes.{IsLater, HasSameRows, CameAll, StandForRows}
+use Rattle.djq_live.specs.Changes.{HasSameRows, StandForRows}
 use Rattle.djq_reach.specs.declared.group.Group.{Group}
 use Rattle.djq_reach.specs.Places.{is_reader, AreOnce}
-use Rattle.djq_reach.specs.Batching.{Comes}
 use Rattle.djq_reach.specs.Grouping.{relations_of, ComesBy}
 use Rattle.djq_engine.specs.Putting.{AreGrouped, rows_for}
 use Rattle.djq_engine.proofs.Carrying.{rows_with, field_with, long_with}
@@ -208,11 +207,11 @@ module _ (c d : Catalog) (ic : IsCatalog c) (id : IsCatalog d) (law : CellsStay)
           };
         },
         start_comes groups wr once.1 (λ r m.
-        let x = h r (in_rest r (at == r) m) in (
-          x.0,
-          x.1,
-          subst (λ (cells : List (List ℕ)). StandForRows d r cells x.0) (rest_rows r m) x.2,
-        )),
+            let x = h r (in_rest r (at == r) m) in (
+              x.0,
+              x.1,
+              subst (λ (cells : List (List ℕ)). StandForRows d r cells x.0) (rest_rows r m) x.2,
+            )),
       )
     where
       in_rest : (r : ℕ) (b : Bool) → is_reader (relations_of groups) r ≡ true → (b || is_reader (relations_of groups) r) ≡ true

@@ -1,7 +1,7 @@
 -- What is known of a batch once its rows are in the catalog, in groups by relation, whether the queries
 -- take them in or find no memory.
-use Rattle.std.proofs.Common.{ℕ, zero, suc, List, [], ◌∷◌, ◌++◌, ◌+◌, ◌≡◌, ◌<◌, ◌≤◌, Bool, true, false, refl, sym, ap, ap₂, ◌∙◌, subst, length, get_or, arith}
-use Rattle.std.specs.Prelude.{◌&&◌, ◌||◌, Option, None, Some, is_some, IsSome, IsSomeAnd, cond, map, filter, sum_by, vec_capacity, All, Ok, ⊤}
+use Rattle.std.proofs.Common.{ℕ, zero, suc, List, [], ◌∷◌, ◌+◌, ◌≡◌, ◌≤◌, Bool, true, false, refl, sym, ap, ap₂, ◌∙◌, subst, length, arith}
+use Rattle.std.specs.Prelude.{◌&&◌, ◌||◌, Option, None, Some, is_some, IsSome, IsSomeAnd, cond, filter, sum_by, All, Ok}
 use Rattle.std.proofs.lemmas.Bool.{false≢true}
 use Rattle.std.proofs.lemmas.Bool.{eq-eqb}
 use Rattle.std.proofs.lemmas.List.Sums.{sum_by-cons}
@@ -10,25 +10,25 @@ use Rattle.djq_model.specs.declared.query.Query.{Query}
 use Rattle.djq_model.specs.declared.relation.Relation.{Relation}
 use Rattle.djq_model.specs.Data.{Bytes, Tuple, relation_of}
 use Rattle.djq_model.specs.Answer.{IsAnswer}
-use Rattle.djq_model.specs.Listed.{Listed, a_query}
+use Rattle.djq_model.specs.Listed.{a_query}
 use Rattle.djq_lines.specs.declared.held.HeldRow.{HeldRow}
 use Rattle.djq_machine.specs.State.{Store}
-use Rattle.djq_machine.specs.Changes.{RowsChange, RowsOutcome, accepted, is_outdated, tried}
+use Rattle.djq_machine.specs.Changes.{RowsChange, accepted, is_outdated}
 use Rattle.djq_machine.specs.Store.{most_steps}
-use Rattle.djq_machine.specs.Batch.{AddsBatch, with_all, has_come, first_read, rows_in, batch_outcome, store_behind, count_came}
+use Rattle.djq_machine.specs.Batch.{with_all, has_come, first_read, rows_in, batch_outcome, store_behind, count_came}
 use Rattle.djq_machine.specs.Delta.{Change, IsDelta}
 use Rattle.djq_machine.specs.Watch.{delta_steps}
 use Rattle.djq_rows.specs.Catalog.{Catalog, relation_at, rows_at}
 use Rattle.djq_live.specs.Changes.{HasSameRows}
-use Rattle.djq_live.specs.Live.{Live, IsKept, IsShowable, ShowableStays}
+use Rattle.djq_live.specs.Live.{Live, IsKept}
 use Rattle.djq_live.specs.Staying.{StaysOver, LiveStays}
 use Rattle.djq_reach.specs.declared.group.Group.{Group}
-use Rattle.djq_reach.specs.Places.{place_at, reads_place, is_reader, watched_at, log_at}
+use Rattle.djq_reach.specs.Places.{place_at, reads_place, is_reader, watched_at}
 use Rattle.djq_reach.specs.Grouping.{Leads, CostsBy, reached, relations_of, batch_cost, batch_cost_at}
 use Rattle.djq_engine.specs.declared.parts.Parts.{Parts}
-use Rattle.djq_engine.specs.Places.{query_in, queries_in, is_live}
+use Rattle.djq_engine.specs.Places.{query_in, is_live}
 use Rattle.djq_engine.specs.Putting.{PutsAll}
-use Rattle.djq_engine.specs.Whole.{kept_in, IsWhole, IsTended}
+use Rattle.djq_engine.specs.Whole.{kept_in, IsWhole}
 use Rattle.djq_engine.proofs.Affecting.{outdated_places, place_is, AreFor, deltas_with, steps_by, both_true}
 use Rattle.djq_engine.proofs.GivenUp.{sound_readers}
 use Rattle.djq_engine.proofs.Listing.{behind}

@@ -1,6 +1,6 @@
 -- A batch for which memory lacks: what is kept, where cursors stand, and what is told.
-use Rattle.std.proofs.Common.{ℕ, zero, suc, List, [], ◌∷◌, ◌++◌, ◌+◌, ◌≡◌, ◌<◌, ◌≤◌, ◌⊎◌, inl, inr, Bool, true, false, refl, sym, ap, ap₂, ◌∙◌, subst, length, get_or, arith}
-use Rattle.std.specs.Prelude.{◌&&◌, Option, None, Some, is_some, IsSome, IsSomeAnd, cond, map, sum_by, vec_capacity, All}
+use Rattle.std.proofs.Common.{ℕ, List, [], ◌∷◌, ◌++◌, ◌+◌, ◌≡◌, ◌<◌, ◌≤◌, ◌⊎◌, inl, inr, Bool, true, false, refl, sym, ap, ap₂, ◌∙◌, subst, length, get_or, arith}
+use Rattle.std.specs.Prelude.{◌&&◌, Option, None, Some, is_some, IsSome, sum_by, All}
 use Rattle.std.proofs.lemmas.Bool.{cases_lt, false≢true}
 use Rattle.std.proofs.lemmas.List.{get_or_past}
 use Rattle.std.specs.List.{list_any}
@@ -32,7 +32,7 @@ use Rattle.djq_engine.specs.Kept.{Outdates}
 use Rattle.djq_engine.specs.Places.{is_live, query_in, queries_in}
 use Rattle.djq_engine.specs.Sound.{IsSound}
 use Rattle.djq_engine.specs.Changing.{KeepsRest, KeepsLogs}
-use Rattle.djq_engine.specs.Outdating.{AreReaders, AgesAll, ClearsLogs, GivesUp, reads_held}
+use Rattle.djq_engine.specs.Outdating.{AreReaders, AgesAll, GivesUp, reads_held}
 use Rattle.djq_engine.specs.Watching.{TellsChange}
 use Rattle.djq_engine.specs.Whole.{kept_in, IsWhole, IsTended}
 use Rattle.djq_engine.proofs.Adding.{names_kept}
@@ -40,7 +40,7 @@ use Rattle.djq_engine.proofs.Affecting.{outdated_places, place_is, both_true, Ar
 use Rattle.djq_engine.proofs.Carrying.{readers_once, reader_is}
 use Rattle.djq_engine.proofs.Naming.{There, live_there}
 use Rattle.djq_engine.proofs.Outdated.{reads_first}
-use Rattle.djq_engine.proofs.Reporting.{affected_same, told_stay, room_kept}
+use Rattle.djq_engine.proofs.Reporting.{affected_same, told_stay}
 use Rattle.djq_engine.proofs.Judged.{suited_none}
 use Rattle.djq_engine.proofs.Tending.{showable_alike, shown_more}
 use Rattle.djq_engine.proofs.Turned.{Turned, alike_then, whole_then, queries_then, cursors_then, registered_then}

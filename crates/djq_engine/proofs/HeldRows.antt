@@ -1,12 +1,11 @@
 -- What held rows do to a store, one after another.
-use Rattle.std.proofs.Common.{ℕ, zero, suc, List, [], ◌∷◌, ◌++◌, ◌+◌, ◌≡◌, ◌≢◌, ◌<◌, ◌≤◌, Bool, true, false, refl, sym, ap, ap₂, ◌∙◌, subst, length, take, get_or, arith}
-use Rattle.std.specs.Prelude.{◌&&◌, ◌||◌, ◌==◌, not, Option, None, Some, is_none, option_map, cond, find, All, AllPairs, ⊤}
+use Rattle.std.proofs.Common.{ℕ, List, [], ◌∷◌, ◌++◌, ◌+◌, ◌≡◌, ◌≢◌, ◌≤◌, Bool, true, false, refl, sym, ap, ◌∙◌, length, arith}
+use Rattle.std.specs.Prelude.{◌&&◌, ◌||◌, ◌==◌, not, Option, None, Some, is_none, option_map, cond, find, AllPairs}
 use Rattle.std.proofs.lemmas.Bool.{false≢true}
-use Rattle.std.proofs.lemmas.List.{take_more}
 use Rattle.djq_model.specs.declared.relation.Relation.{Relation}
 use Rattle.djq_model.specs.declared.relation.CountedRow.{CountedRow}
 use Rattle.djq_model.specs.declared.relation.ColumnType.{ColumnType}
-use Rattle.djq_model.specs.Data.{Bytes, Tuple, bytes_eq, change_first, relation_of, counted_in, counted_of, tuples_of, rows_of, has_row, copies_among, with_row, with_copies}
+use Rattle.djq_model.specs.Data.{Bytes, Tuple, bytes_eq, change_first, relation_of, counted_in, counted_of, tuples_of, has_row, copies_among, with_row, with_copies}
 use Rattle.djq_model.specs.Known.{texts_in, all_learned}
 use Rattle.djq_model.specs.Typed.{fits}
 use Rattle.djq_lines.specs.Columns.{types_of}
@@ -17,9 +16,9 @@ use Rattle.djq_lines.specs.declared.held.HeldRow.{HeldRow}
 use Rattle.djq_machine.specs.State.{Store}
 use Rattle.djq_machine.specs.Conditions.{first_of}
 use Rattle.djq_machine.specs.Store.{with_rows}
-use Rattle.djq_machine.specs.Batch.{suit_refusal, SuitAll, is_there, with_held, with_all, count_came, has_come, place_refusal, HavePlaces}
+use Rattle.djq_machine.specs.Batch.{suit_refusal, is_there, with_held, with_all, count_came, has_come, place_refusal, HavePlaces}
 use Rattle.djq_rows.specs.Laws.{NamesTell}
-use Rattle.djq_rows.specs.Catalog.{relation_at, counted_at, rows_at, with_rows_at}
+use Rattle.djq_rows.specs.Catalog.{counted_at, rows_at, with_rows_at}
 use Rattle.djq_engine.specs.Judging.{Suits}
 
 -- ---- one row

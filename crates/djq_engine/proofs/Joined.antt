@@ -1,6 +1,6 @@
 -- A row that came joins those of its relation.
 use Rattle.std.proofs.Common.{ℕ, zero, suc, List, [], ◌∷◌, ◌++◌, ◌≡◌, ◌<◌, Bool, true, false, refl, sym, ap, ap₂, ◌∙◌, subst, length, get_or, set, arith}
-use Rattle.std.specs.Prelude.{◌==◌, ◌||◌, Option, None, Some, cond, find, position, map}
+use Rattle.std.specs.Prelude.{◌==◌, ◌||◌, None, Some, cond, find, position}
 use Rattle.std.proofs.lemmas.Bool.{eqb-true, eq-eqb, false≢true}
 use Rattle.std.proofs.lemmas.List.{map-append}
 use Rattle.djq_reach.specs.declared.group.Group.{Group}

@@ -1,9 +1,9 @@
 -- What becomes of queries that read relations of held rows, one relation after another.
-use Rattle.std.proofs.Common.{ℕ, zero, suc, List, [], ◌∷◌, ◌++◌, ◌+◌, ◌≡◌, ◌<◌, ◌≤◌, Bool, true, false, refl, sym, ap, ap₂, ◌∙◌, subst, length, take, get_or, arith}
-use Rattle.std.specs.Prelude.{◌&&◌, ◌||◌, ◌==◌, Option, None, Some, is_some, option_map, cond, map, find, All}
+use Rattle.std.proofs.Common.{ℕ, List, [], ◌∷◌, ◌++◌, ◌+◌, ◌≡◌, ◌<◌, Bool, true, false, refl, sym, ap, ap₂, ◌∙◌, subst, length, take, get_or}
+use Rattle.std.specs.Prelude.{◌&&◌, ◌||◌, ◌==◌, Option, None, Some, is_some, cond}
 use Rattle.std.specs.List.{list_any}
 use Rattle.std.proofs.lemmas.Bool.{false≢true}
-use Rattle.std.proofs.lemmas.List.{take_more, take_all, map-append}
+use Rattle.std.proofs.lemmas.List.{take_more}
 use Rattle.djq_model.specs.declared.relation.Relation.{Relation}
 use Rattle.djq_model.specs.declared.query.Query.{Query}
 use Rattle.djq_model.specs.Data.{Bytes}
@@ -15,8 +15,8 @@ use Rattle.djq_cursor.specs.Log.{Log}
 use Rattle.djq_rows.specs.Catalog.{relation_at}
 use Rattle.djq_live.specs.declared.cursors.Progress.{Progress}
 use Rattle.djq_live.specs.declared.cursors.Progress.TheVariants.{Open, Stale}
-use Rattle.djq_live.specs.Cursors.{outdated_progress, outdated_slots}
-use Rattle.djq_live.specs.Live.{Live, IsKept, IsLive}
+use Rattle.djq_live.specs.Cursors.{outdated_slots}
+use Rattle.djq_live.specs.Live.{Live}
 use Rattle.djq_live.specs.Updating.{IsEmpty}
 use Rattle.djq_reach.specs.Places.{place_at, reads_place, is_reader, readers_at, log_at}
 use Rattle.djq_reach.specs.Reaching.{DoneAt, Reach, Ages}

@@ -1,6 +1,6 @@
 -- Held rows that went into a catalog, one after another.
 use Rattle.std.proofs.Common.{ℕ, zero, suc, List, [], ◌∷◌, ◌++◌, ◌+◌, ◌≡◌, ◌≢◌, ◌<◌, ◌≤◌, ◌⊎◌, inl, inr, Bool, true, false, refl, sym, ap, ap₂, ◌∙◌, subst, length, take, get_or, arith, append-nil, append_assoc}
-use Rattle.std.specs.Prelude.{◌&&◌, ◌||◌, ◌==◌, not, Option, None, Some, cond, map, All, AllPairs}
+use Rattle.std.specs.Prelude.{◌&&◌, ◌||◌, ◌==◌, not, None, cond, AllPairs}
 use Rattle.std.proofs.lemmas.Bool.{eqb-true, eq-eqb, cases_order, false≢true}
 use Rattle.std.proofs.lemmas.List.{take_more}
 use Rattle.std.proofs.lemmas.List.Elements.{All-take}
@@ -11,15 +11,14 @@ use Rattle.djq_model.specs.Data.{Bytes, Tuple, bytes_eq, tuples_of, has_row, cop
 use Rattle.djq_model.specs.Equality.{bytes_eq-decides}
 use Rattle.djq_model.specs.Known.{texts_in, all_learned}
 use Rattle.djq_model.proofs.Counted.{tuples_with_row, tuples_with_copies}
-use Rattle.djq_lines.specs.declared.limits.TheConstants.{TEXTS}
 use Rattle.djq_lines.specs.declared.answer.Refusal.{Refusal}
 use Rattle.djq_lines.specs.declared.answer.Refusal.TheVariants.{Limit, NoMemory}
 use Rattle.djq_lines.specs.declared.held.HeldRow.{HeldRow}
 use Rattle.djq_machine.specs.State.{Store}
-use Rattle.djq_machine.specs.Store.{LearnsAll, LearnsFirst, FindsNoPlace}
-use Rattle.djq_machine.specs.Batch.{suit_refusal, SuitAll, is_there, with_held, with_all, count_came, has_come, place_refusal, HavePlaces, StopsAt}
+use Rattle.djq_machine.specs.Store.{LearnsFirst, FindsNoPlace}
+use Rattle.djq_machine.specs.Batch.{suit_refusal, SuitAll, is_there, with_held, with_all, has_come, place_refusal, HavePlaces, StopsAt}
 use Rattle.djq_model.specs.Typed.{fits}
-use Rattle.djq_rows.specs.Cells.{HaveCells, cells_of, StandFor}
+use Rattle.djq_rows.specs.Cells.{StandFor}
 use Rattle.djq_rows.specs.Laws.{NamesTell, TextsStay, CellsStay}
 use Rattle.djq_rows.specs.Catalog.{Catalog, IsCatalog, StandForRow, no_relation, relation_at, counted_at, rows_at, with_rows_at}
 use Rattle.djq_live.specs.Changes.{StandForRows}
@@ -28,7 +27,7 @@ use Rattle.djq_reach.specs.Places.{is_reader}
 use Rattle.djq_reach.specs.Grouping.{relations_of}
 use Rattle.djq_engine.specs.declared.putting.Placed.{Placed}
 use Rattle.djq_engine.specs.Judging.{bare, Suits, MayStand}
-use Rattle.djq_engine.specs.Putting.{bare_of, IsStoreOf, PutsNew, PutsMore, PutsOne, JoinsGroup, AreGrouped, PutsAll, RefusesAll, WentIn, WentInAll, AreCounted, rows_for}
+use Rattle.djq_engine.specs.Putting.{bare_of, IsStoreOf, PutsNew, PutsMore, PutsOne, JoinsGroup, PutsAll, RefusesAll, WentIn, WentInAll, AreCounted, rows_for}
 use Rattle.djq_engine.proofs.Carrying.{rows_with, field_with, long_with}
 use Rattle.djq_engine.proofs.Chained.{other_at, stand_as}
 use Rattle.djq_engine.proofs.TakenBack.{catalog_counted}
@@ -239,17 +238,17 @@ module _ (st : Store) (xs : List HeldRow) (c : Catalog) (count : ℕ) (groups : 
           by true e =
               let s : q.relation.at ≡ r = eqb-true q.relation.at r e in
               subst (λ (k : ℕ). (rows : List Tuple) × (rows_at d.relations k ≡ rows_at st.relations k ++ rows) × StandForRows d k (rows_for after k) rows) s (
-                let x = (p.grouped).rows q.relation.at in (
-                  x.0 ++ h.row ∷ [],
-                  ap (λ (rs : List Relation). rows_at rs q.relation.at) n.relations
-                      ∙ ap tuples_of (rows_with c.relations q.relation.at (with_row (counted_at c.relations q.relation.at) h.row) low)
-                      ∙ tuples_with_row (counted_at c.relations q.relation.at) h.row
-                      ∙ ap (λ (rows : List Tuple). rows ++ h.row ∷ []) x.1 ∙ append_assoc (rows_at st.relations q.relation.at) x.0 (h.row ∷ []),
-                  subst (λ (cs : List (List ℕ)). StandForRows d q.relation.at cs (x.0 ++ h.row ∷ []))
-                      (sym (j.rows q.relation.at ∙ ap (λ b. cond b (rows_for groups q.relation.at ++ q.cells ∷ []) (rows_for groups q.relation.at)) (eq-eqb q.relation.at q.relation.at refl)))
-                      (stand_more d q.relation.at (rows_for groups q.relation.at) x.0 q.cells h.row
-                      (stand_later cells c d q.relation.at learned.0 learned.1 (types_new q.relation.at) (rows_for groups q.relation.at) x.0 x.2) stands_new),
-                )
+              let x = (p.grouped).rows q.relation.at in (
+                x.0 ++ h.row ∷ [],
+                ap (λ (rs : List Relation). rows_at rs q.relation.at) n.relations
+                    ∙ ap tuples_of (rows_with c.relations q.relation.at (with_row (counted_at c.relations q.relation.at) h.row) low)
+                    ∙ tuples_with_row (counted_at c.relations q.relation.at) h.row
+                    ∙ ap (λ (rows : List Tuple). rows ++ h.row ∷ []) x.1 ∙ append_assoc (rows_at st.relations q.relation.at) x.0 (h.row ∷ []),
+                subst (λ (cs : List (List ℕ)). StandForRows d q.relation.at cs (x.0 ++ h.row ∷ []))
+                    (sym (j.rows q.relation.at ∙ ap (λ b. cond b (rows_for groups q.relation.at ++ q.cells ∷ []) (rows_for groups q.relation.at)) (eq-eqb q.relation.at q.relation.at refl)))
+                    (stand_more d q.relation.at (rows_for groups q.relation.at) x.0 q.cells h.row
+                    (stand_later cells c d q.relation.at learned.0 learned.1 (types_new q.relation.at) (rows_for groups q.relation.at) x.0 x.2) stands_new),
+              )
               )
           by false e =
               let x = (p.grouped).rows r in (
@@ -262,27 +261,27 @@ module _ (st : Store) (xs : List HeldRow) (c : Catalog) (count : ℕ) (groups : 
 
       pub put_new : PutsAll st (xs ++ h ∷ []) d (count + 1) after
       put_new = record {
-            places = new_places;
-            relations = new_relations_are;
-            texts = is_texts ∙ ap (λ (s : Store). s.texts) (sym (all_more st xs h));
-            count = omega (arith, p.count, count_more st xs h, ap {B = ℕ} (λ b. cond b 0 1) absent);
-            grouped = record {
-              differ = j.differ (p.grouped).differ;
-              within = λ r e. by_there r (is_reader (relations_of groups) r) refl (sym (j.there r) ∙ e);
-              long = ap (λ (rs : List Relation). length rs) n.relations ∙ long_with c.relations q.relation.at (with_row (counted_at c.relations q.relation.at) h.row) ∙ (p.grouped).long;
-              names = λ r. ap (λ (rs : List Relation). (relation_at rs r).name) n.relations ∙ field_with (λ x. x.name) c.relations q.relation.at (with_row (counted_at c.relations q.relation.at) h.row) low refl r ∙ (p.grouped).names r;
-              types = λ r. types_new r ∙ (p.grouped).types r;
-              rows = new_rows;
-            };
-            come = λ r l.
-                let long = (p.grouped).long in
-                j.there r
-                ∙ ap₂ (λ (a b : Bool). a || b) (p.come r l)
-                (same_place c.relations ic.names q.relation.at r low (omega (arith, l, long))
-                ∙ ap₂ (λ (a b : Bytes). bytes_eq a b) (n.stands).relation.named ((p.grouped).names r)
-                ∙ sym (and_not (bytes_eq h.relation (relation_at st.relations r).name) (is_there (with_all st xs) h) absent))
-                ∙ sym (come_more st xs h (relation_at st.relations r).name);
-          }
+        places = new_places;
+        relations = new_relations_are;
+        texts = is_texts ∙ ap (λ (s : Store). s.texts) (sym (all_more st xs h));
+        count = omega (arith, p.count, count_more st xs h, ap {B = ℕ} (λ b. cond b 0 1) absent);
+        grouped = record {
+          differ = j.differ (p.grouped).differ;
+          within = λ r e. by_there r (is_reader (relations_of groups) r) refl (sym (j.there r) ∙ e);
+          long = ap (λ (rs : List Relation). length rs) n.relations ∙ long_with c.relations q.relation.at (with_row (counted_at c.relations q.relation.at) h.row) ∙ (p.grouped).long;
+          names = λ r. ap (λ (rs : List Relation). (relation_at rs r).name) n.relations ∙ field_with (λ x. x.name) c.relations q.relation.at (with_row (counted_at c.relations q.relation.at) h.row) low refl r ∙ (p.grouped).names r;
+          types = λ r. types_new r ∙ (p.grouped).types r;
+          rows = new_rows;
+        };
+        come = λ r l.
+            let long = (p.grouped).long in
+            j.there r
+            ∙ ap₂ (λ (a b : Bool). a || b) (p.come r l)
+            (same_place c.relations ic.names q.relation.at r low (omega (arith, l, long))
+            ∙ ap₂ (λ (a b : Bytes). bytes_eq a b) (n.stands).relation.named ((p.grouped).names r)
+            ∙ sym (and_not (bytes_eq h.relation (relation_at st.relations r).name) (is_there (with_all st xs) h) absent))
+            ∙ sym (come_more st xs h (relation_at st.relations r).name);
+      }
         where
           and_not : (b t : Bool) → t ≡ false → (b && not t) ≡ b
           and_not true t e = ap not e

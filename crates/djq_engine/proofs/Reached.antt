@@ -1,12 +1,12 @@
 -- Which queries a batch outdates: those that read a relation of which a row came, which is one of a group.
 use Rattle.std.proofs.Common.{ℕ, zero, suc, List, [], ◌∷◌, ◌++◌, ◌+◌, ◌≡◌, ◌<◌, ◌≤◌, Bool, true, false, refl, sym, ap, ap₂, ◌∙◌, subst, length, take, get_or, arith, append-nil}
 use Rattle.std.proofs.lemmas.List.{take_more}
-use Rattle.std.specs.Prelude.{◌&&◌, ◌||◌, ◌==◌, not, Option, None, Some, is_some, IsSome, cond, map, filter, All, Contains}
+use Rattle.std.specs.Prelude.{◌&&◌, ◌||◌, ◌==◌, not, Option, Some, is_some, IsSome, cond, filter, All, Contains}
 use Rattle.std.proofs.lemmas.Bool.{eqb-true, eq-eqb, false≢true}
 use Rattle.djq_model.specs.declared.relation.Relation.{Relation}
 use Rattle.djq_model.specs.declared.query.Query.{Query}
 use Rattle.djq_model.specs.declared.query.Atom.{Atom}
-use Rattle.djq_model.specs.Data.{Bytes, Tuple, bytes_eq, relation_of, counted_in, counted_of, tuples_of, rows_of}
+use Rattle.djq_model.specs.Data.{Bytes, Tuple, bytes_eq, relation_of, counted_in, tuples_of, rows_of}
 use Rattle.djq_model.specs.Answer.{IsAnswer, Satisfies}
 use Rattle.djq_model.specs.Listed.{Listed, a_query}
 use Rattle.djq_model.specs.Equality.{bytes_eq-decides}

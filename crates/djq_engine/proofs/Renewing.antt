@@ -1,7 +1,7 @@
 -- Queries are carried over, and the cursors of those that a change outdates become stale: what is
 -- kept, and where all cursors stand.
-use Rattle.std.proofs.Common.{ℕ, zero, suc, List, [], ◌∷◌, ◌++◌, ◌≡◌, ◌<◌, Bool, true, false, refl, sym, ap, ap₂, ◌∙◌, subst, length}
-use Rattle.std.specs.Prelude.{Option, None, Some, IsSomeAnd, is_some, option_map, map, cond, ⊤}
+use Rattle.std.proofs.Common.{ℕ, zero, List, ◌≡◌, ◌<◌, Bool, true, false, refl, sym, ap, ◌∙◌, subst}
+use Rattle.std.specs.Prelude.{Option, None, Some, is_some, option_map, map}
 use Rattle.std.proofs.lemmas.Bool.{false≢true}
 use Rattle.djq_model.specs.declared.query.Query.{Query}
 use Rattle.djq_model.specs.Data.{Bytes}
@@ -17,7 +17,7 @@ use Rattle.djq_live.specs.Staying.{StaysOver}
 use Rattle.djq_engine.specs.declared.cursor.CursorId.{CursorId}
 use Rattle.djq_engine.specs.Kept.{Held, held_at, same_id, outdated_held}
 use Rattle.djq_reach.specs.Places.{place_at, is_reader, reads_place}
-use Rattle.djq_reach.specs.Reaching.{DoneAt, Reach, Renews, Ages}
+use Rattle.djq_reach.specs.Reaching.{DoneAt, Reach, Renews}
 use Rattle.djq_engine.specs.Places.{is_live, query_in, queries_in, held_as, held_of, held_from}
 use Rattle.djq_engine.specs.Sound.{IsSound}
 use Rattle.djq_engine.specs.Outdating.{AgesBy, AgesAt, AgesAll}

@@ -1,9 +1,8 @@
 -- What a change of rows makes known of the watched queries that read its relation.
-use Rattle.std.proofs.Common.{ℕ, zero, suc, List, [], ◌∷◌, ◌++◌, ◌+◌, ◌≡◌, ◌≢◌, ◌<◌, ◌≤◌, ◌⊎◌, inl, inr, Bool, true, false, refl, sym, ap, ap₂, ◌∙◌, subst, length, arith}
-use Rattle.std.specs.Prelude.{◌==◌, ◌&&◌, ◌||◌, Option, None, Some, IsSomeAnd, cond, map, filter, sum_by, slice_index_or, vec_capacity, All, AllPairs, not, is_none, nat_le, Ok, Err, Result, IsErr, IfErr}
-use Rattle.std.proofs.lemmas.Bool.{eqb-true, eq-eqb, false≢true}
+use Rattle.std.proofs.Common.{ℕ, List, [], ◌∷◌, ◌++◌, ◌+◌, ◌≡◌, ◌≢◌, ◌<◌, ◌≤◌, Bool, true, false, refl, sym, ap, ap₂, ◌∙◌, subst, length, arith}
+use Rattle.std.specs.Prelude.{◌==◌, ◌&&◌, Option, None, Some, IsSomeAnd, cond, map, filter, sum_by, slice_index_or, vec_capacity, AllPairs, not, is_none, nat_le, Ok, Err, Result, IsErr, IfErr}
+use Rattle.std.proofs.lemmas.Bool.{eqb-true, false≢true}
 use Rattle.std.proofs.lemmas.List.{append-nil}
-use Rattle.std.proofs.lemmas.List.Sums.{sum_by-cons}
 use Rattle.std.proofs.lemmas.Nat.{mul-le}
 use Rattle.djq_model.specs.declared.relation.Relation.{Relation}
 use Rattle.djq_model.specs.declared.query.Atom.{Atom}
@@ -18,12 +17,12 @@ use Rattle.djq_lines.specs.declared.answer.AddOutcome.{AddOutcome}
 use Rattle.djq_lines.specs.declared.answer.DeleteOutcome.{DeleteOutcome}
 use Rattle.djq_machine.specs.Changes.{RowsChange, RowsOutcome, accepted, out_of_memory, unchanged, one_change, new_rows, row_in, row_out, add_outcome, delete_outcome, is_outdated}
 use Rattle.djq_model.specs.Answer.{IsAnswer}
-use Rattle.djq_model.specs.Listed.{a_query, AnswersOf}
+use Rattle.djq_model.specs.Listed.{a_query}
 use Rattle.djq_model.specs.Equality.{bytes_eq-decides}
 use Rattle.djq_machine.specs.Delta.{Change, IsDelta}
 use Rattle.djq_machine.specs.Stale.{reads, listed_reads}
 use Rattle.djq_machine.specs.Store.{most_steps, with_rows, add_refusal}
-use Rattle.djq_machine.specs.Watch.{Delta, AreDeltas, delta_steps}
+use Rattle.djq_machine.specs.Watch.{delta_steps}
 use Rattle.djq_query.specs.declared.numbered.NumberedAtom.{NumberedAtom}
 use Rattle.djq_query.specs.declared.numbered.Variable.{Variable}
 use Rattle.djq_cursor.specs.Log.{Log}
@@ -36,16 +35,15 @@ use Rattle.djq_live.specs.Body.{HeadsAreBound}
 use Rattle.djq_live.specs.Live.{Live, IsKept, ShowableStays}
 use Rattle.djq_live.specs.Updating.{atoms_over, delta_bound, change_of}
 use Rattle.djq_engine.specs.declared.cursor.QueryId.{QueryId}
-use Rattle.djq_engine.specs.Kept.{Kept, Registered, registered_at, affected_of, readers_of, told_at}
+use Rattle.djq_engine.specs.Kept.{Kept, registered_at, told_at}
 use Rattle.djq_reach.specs.Places.{place_at, is_reader, readers_at, reads_place, watched_at, log_at}
-use Rattle.djq_engine.specs.Places.{is_live, query_in, id_at, registered_as, registered_in, told_of, told_from}
-use Rattle.djq_engine.specs.Sound.{IsSound}
+use Rattle.djq_engine.specs.Places.{is_live, query_in, id_at, registered_in, told_of, told_from}
 use Rattle.djq_reach.specs.Tending.{AreShown, Empties, HaveLogs, cost_of, cost_at}
 use Rattle.djq_engine.proofs.Tending.{shown_alike}
 use Rattle.djq_engine.specs.declared.parts.Parts.{Parts}
 use Rattle.djq_reach.specs.Reaching.{Carries}
 use Rattle.djq_engine.specs.Changing.{IsDeltaWith, TellsRows, CountsRows, KeepsRest, KeepsLogs, AgesReaders, LacksMemory, NoPlace, for_copies, for_texts, LacksPlace, PutsRow, Drops, reads_at, tells_at}
-use Rattle.djq_engine.specs.Watching.{LogTells, LogsTell, TellsChange, queries_affected, reaches}
+use Rattle.djq_engine.specs.Watching.{TellsChange, reaches}
 use Rattle.djq_engine.specs.Whole.{kept_in, IsWhole, IsTended}
 use Rattle.djq_engine.specs.Judging.{bare, Suits}
 use Rattle.djq_engine.proofs.Judged.{counted_found}
@@ -53,7 +51,7 @@ use Rattle.djq_engine.proofs.Listing.{filter_members}
 use Rattle.djq_engine.proofs.Carrying.{reader_is, reader_reads}
 use Rattle.djq_engine.proofs.Affecting.{both_true, outdated_places, AreFor, deltas_with, steps_by, ToldStay, Discards, refused_tells, accepted_tells}
 use Rattle.djq_engine.proofs.Enlisted.{outdated_reads, registered_same}
-use Rattle.djq_engine.proofs.Told.{AlikeAt, AreAlike, aged_alike, told_is, told_alike_at, told_empty, told_stays, query_alike_at, alike_same}
+use Rattle.djq_engine.proofs.Told.{AlikeAt, AreAlike, aged_alike, told_is, told_empty, told_stays, query_alike_at, alike_same}
 use Rattle.djq_engine.proofs.Naming.{There, live_there, order_there}
 use Rattle.djq_reach.proofs.Reaching.{place_below}
 

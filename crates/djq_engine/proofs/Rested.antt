@@ -1,18 +1,17 @@
 -- A batch of which no row came, or that was refused: only the catalog has changed, and no relation has
 -- other rows. And one that the queries found no memory for.
-use Rattle.std.proofs.Common.{ℕ, zero, suc, List, [], ◌∷◌, ◌++◌, ◌+◌, ◌≡◌, ◌<◌, ◌≤◌, Bool, true, false, refl, sym, ap, ap₂, ◌∙◌, subst, length, get_or, arith, append-nil}
-use Rattle.std.specs.Prelude.{◌&&◌, ◌||◌, not, Option, None, Some, is_some, cond, All, Ok}
+use Rattle.std.proofs.Common.{ℕ, List, [], ◌∷◌, ◌+◌, ◌≡◌, ◌≤◌, Bool, true, false, refl, sym, ap, ap₂, ◌∙◌, subst, length, arith, append-nil}
+use Rattle.std.specs.Prelude.{◌&&◌, ◌||◌, not, Option, None, Some, is_some, cond, Ok}
 use Rattle.std.proofs.lemmas.Bool.{eq-eqb, false≢true}
 use Rattle.djq_model.specs.declared.relation.Relation.{Relation}
 use Rattle.djq_model.specs.Data.{Bytes, bytes_eq}
-use Rattle.djq_model.specs.Known.{texts_in, all_learned}
+use Rattle.djq_model.specs.Known.{texts_in}
 use Rattle.djq_model.specs.Listed.{Listed, a_query}
-use Rattle.djq_lines.specs.declared.limits.TheConstants.{TEXTS}
 use Rattle.djq_lines.specs.declared.answer.Refusal.{Refusal}
 use Rattle.djq_lines.specs.declared.answer.Refusal.TheVariants.{NoMemory}
 use Rattle.djq_lines.specs.declared.held.HeldRow.{HeldRow}
 use Rattle.djq_machine.specs.State.{Store}
-use Rattle.djq_machine.specs.Stale.{reads, listed_reads}
+use Rattle.djq_machine.specs.Stale.{listed_reads}
 use Rattle.djq_machine.specs.Changes.{unchanged}
 use Rattle.djq_machine.specs.Store.{LearnsFirst}
 use Rattle.djq_machine.specs.Batch.{AddsBatch, RefusesBatch, HavePlaces, StopsAt, is_there, with_held, with_all, has_come, count_came, first_read, store_behind}
@@ -27,7 +26,6 @@ use Rattle.djq_reach.specs.Reaching.{Reach, Renews}
 use Rattle.djq_reach.specs.Grouping.{relations_of, reached}
 use Rattle.djq_engine.specs.declared.parts.Parts.{Parts}
 use Rattle.djq_engine.specs.Kept.{Outdates}
-use Rattle.djq_engine.specs.Places.{id_at}
 use Rattle.djq_engine.specs.Putting.{PutsAll, RefusesAll}
 use Rattle.djq_engine.specs.Outdating.{reads_held}
 use Rattle.djq_engine.specs.Watching.{TellsChange}
@@ -36,7 +34,6 @@ use Rattle.djq_engine.proofs.Aging.{rested_held}
 use Rattle.djq_engine.proofs.Carrying.{sound_rows, reach_as}
 use Rattle.djq_engine.proofs.Filled.{Filled, reaches, reached_there}
 use Rattle.djq_engine.proofs.HeldRows.{all_queries, all_seq, held_texts_new, held_texts_there}
-use Rattle.djq_engine.proofs.Naming.{There}
 use Rattle.djq_engine.proofs.Outdated.{reads_first}
 use Rattle.djq_engine.proofs.Reporting.{tells_nothing, told_stay}
 use Rattle.djq_engine.proofs.Tending.{shown_more}

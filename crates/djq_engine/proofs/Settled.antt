@@ -1,31 +1,28 @@
 -- A batch as the code goes: its groups lead to the catalog, and the queries take them in, or memory lacks.
-use Rattle.std.proofs.Common.{ℕ, zero, suc, List, [], ◌∷◌, ◌++◌, ◌+◌, ◌≡◌, ◌<◌, ◌≤◌, Bool, true, false, refl, sym, ap, ap₂, ◌∙◌, subst, length, get_or, arith}
-use Rattle.std.specs.Prelude.{◌&&◌, not, nat_le, Option, None, Some, is_some, IsSome, IsSomeAnd, cond, map, sum_by, vec_capacity, All, ⊤}
+use Rattle.std.proofs.Common.{ℕ, zero, suc, List, [], ◌∷◌, ◌++◌, ◌+◌, ◌≡◌, ◌<◌, ◌≤◌, Bool, true, false, refl, sym, ap, ◌∙◌, subst, length, get_or, arith}
+use Rattle.std.specs.Prelude.{◌&&◌, not, nat_le, Option, None, Some, is_some, IsSome, IsSomeAnd, cond, sum_by, All}
 use Rattle.std.proofs.lemmas.Bool.{false≢true, leb-false}
 use Rattle.std.proofs.lemmas.List.{get_or_default}
 use Rattle.std.proofs.lemmas.List.Elements.{All-nil, All-append}
 use Rattle.djq_model.specs.declared.relation.Relation.{Relation}
 use Rattle.djq_model.specs.Data.{Bytes, relation_of, rows_of}
 use Rattle.djq_model.specs.Answer.{IsAnswer}
-use Rattle.djq_model.specs.Listed.{Listed, a_query}
 use Rattle.djq_lines.specs.declared.limits.TheConstants.{COPIES, ROWS, LAST_SEQ}
-use Rattle.djq_lines.specs.declared.answer.Refusal.{Refusal}
 use Rattle.djq_lines.specs.declared.answer.Refusal.TheVariants.{Limit, NoMemory}
 use Rattle.djq_lines.specs.declared.held.HeldRow.{HeldRow}
 use Rattle.djq_machine.specs.State.{Store}
-use Rattle.djq_machine.specs.Changes.{RowsChange, out_of_memory, is_outdated}
+use Rattle.djq_machine.specs.Changes.{out_of_memory}
 use Rattle.djq_machine.specs.Store.{copies_of}
-use Rattle.djq_machine.specs.Batch.{SuitAll, RefusesBatch, HavePlaces, is_there, place_refusal, with_held, with_all, has_come, count_came, first_read, rows_tried}
+use Rattle.djq_machine.specs.Batch.{SuitAll, RefusesBatch, HavePlaces, is_there, with_held, with_all, has_come, count_came, first_read, rows_tried}
 use Rattle.djq_machine.specs.Delta.{Change, IsDelta}
 use Rattle.djq_machine.specs.Watch.{delta_steps}
 use Rattle.djq_rows.specs.Laws.{CellsStay}
 use Rattle.djq_rows.specs.Catalog.{Catalog, IsCatalog, relation_at, rows_at}
-use Rattle.djq_live.specs.Changes.{HasSameRows}
 use Rattle.djq_live.specs.Live.{Live, IsKept, ShowableStays}
 use Rattle.djq_live.specs.Staying.{StaysOver, LiveStays}
 use Rattle.djq_reach.specs.declared.group.Group.{Group}
-use Rattle.djq_reach.specs.Places.{place_at, reads_place, is_reader, readers_at, watched_at, log_at}
-use Rattle.djq_reach.specs.Reaching.{AllAt, DoneAt, Reach, Renews}
+use Rattle.djq_reach.specs.Places.{place_at, reads_place, is_reader, readers_at, watched_at}
+use Rattle.djq_reach.specs.Reaching.{DoneAt, Reach, Renews}
 use Rattle.djq_reach.specs.Tending.{AreUnwatched}
 use Rattle.djq_reach.specs.Grouping.{Leads, CostsBy, reached, relations_of}
 use Rattle.djq_reach.proofs.Reaching.{reach_none}
@@ -36,7 +33,7 @@ use Rattle.djq_engine.specs.Kept.{Outdates, IsUnwatched}
 use Rattle.djq_engine.specs.Outdating.{AreReaders, AreTested, GivesUp, reads_held}
 use Rattle.djq_engine.specs.Places.{query_in}
 use Rattle.djq_engine.specs.Putting.{PutsAll, RefusesAll}
-use Rattle.djq_engine.specs.Taking.{LeadsHere, TakesGroups, LacksGroups, reached_in}
+use Rattle.djq_engine.specs.Taking.{LeadsHere, TakesGroups, LacksGroups}
 use Rattle.djq_engine.specs.Watching.{TellsChange}
 use Rattle.djq_engine.specs.Whole.{kept_in, IsWhole, IsTended}
 use Rattle.djq_engine.proofs.Affecting.{outdated_places, AreFor, deltas_with}

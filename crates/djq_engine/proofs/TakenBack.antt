@@ -1,6 +1,6 @@
 -- A row that was held and went in is taken back.
-use Rattle.std.proofs.Common.{ℕ, zero, suc, List, [], ◌∷◌, ◌++◌, ◌+◌, ◌≡◌, ◌≢◌, ◌<◌, ◌≤◌, Bool, true, false, refl, sym, ap, ap₂, ◌∙◌, subst, length, take, get_or, arith}
-use Rattle.std.specs.Prelude.{Option, None, Some, IsSome, cond, find, All, AllPairs, ⊤}
+use Rattle.std.proofs.Common.{ℕ, List, [], ◌∷◌, ◌+◌, ◌≡◌, ◌≢◌, ◌<◌, ◌≤◌, Bool, true, false, refl, sym, ap, ap₂, ◌∙◌, length, take, get_or, arith}
+use Rattle.std.specs.Prelude.{None, Some, IsSome, cond, All, AllPairs}
 use Rattle.std.proofs.lemmas.Bool.{false≢true}
 use Rattle.std.proofs.lemmas.List.{take_more}
 use Rattle.std.proofs.lemmas.List.Elements.{All-cons, All-nil, All-head, All-tail, All-append}
@@ -8,7 +8,6 @@ use Rattle.djq_model.specs.declared.relation.Relation.{Relation}
 use Rattle.djq_model.specs.declared.relation.CountedRow.{CountedRow}
 use Rattle.djq_model.specs.Data.{Bytes, Tuple, bytes_eq, tuple_eq, change_first, relation_of, counted_in, counted_of, tuples_of, rows_of, has_row, copies_among, with_row, with_copies, without_copies}
 use Rattle.djq_model.specs.Known.{texts_in, all_learned}
-use Rattle.djq_model.specs.Equality.{bytes_eq-decides}
 use Rattle.djq_model.proofs.Counted.{tuples_with_row, tuples_with_copies, copies_hold, came_copies, changed_copies}
 use Rattle.djq_lines.specs.declared.answer.DeleteOutcome.{DeleteOutcome}
 use Rattle.djq_lines.specs.declared.answer.DeleteOutcome.TheVariants.{Last, Left, Absent}
@@ -97,7 +96,6 @@ copies_with (c ∷ rows) row n l h =
 pub counted_held : (st : Store) (h : HeldRow) → AreCounted st.relations → AreCounted (with_held st h).relations
 counted_held st h k = by (is_there st h)
   where
-
     by : (b : Bool) → AreCounted (let x : Store = cond b (record st { relations = with_rows st.relations h.relation (with_copies (counted_of st.relations h.relation) h.row (copies_among (counted_of st.relations h.relation) h.row + 1)) })
         (record st { relations = with_rows st.relations h.relation (with_row (counted_of st.relations h.relation) h.row); texts = all_learned st.texts (texts_in h.row) }) in x).relations
     by true = counted_with st.relations h.relation (with_copies (counted_of st.relations h.relation) h.row (copies_among (counted_of st.relations h.relation) h.row + 1))

@@ -1,5 +1,5 @@
 -- What is kept once queries were carried over to another catalog, and cursors outdated.
-use Rattle.std.proofs.Common.{ℕ, zero, List, ◌≡◌, Bool, true, false, refl, sym, ap, ap₂, ◌∙◌, subst}
+use Rattle.std.proofs.Common.{ℕ, zero, List, ◌≡◌, true, false, refl, sym, ap, ap₂, ◌∙◌, subst}
 use Rattle.std.specs.Prelude.{Option, Some, is_some, map}
 use Rattle.djq_model.specs.Data.{Bytes}
 use Rattle.djq_model.specs.Listed.{Listed}

@@ -11,7 +11,7 @@ use Rattle.djq_live.specs.Live.{Live, position_of}
 use Rattle.djq_live.specs.Updating.{change_of}
 use Rattle.djq_machine.specs.Delta.{Change}
 use Rattle.djq_cursor.specs.Log.{Log}
-use Rattle.djq_reach.specs.Places.{place_at, watchers_at, readers_at}
+use Rattle.djq_reach.specs.Places.{place_at, watchers_at}
 use Rattle.djq_engine.specs.declared.cursor.CursorId.{CursorId}
 use Rattle.djq_engine.specs.declared.cursor.QueryId.{QueryId}
 use Rattle.djq_engine.specs.Kept.{Held, Registered, Kept}

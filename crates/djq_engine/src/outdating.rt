@@ -103,9 +103,7 @@ fn outdate_held(
 fn has_group(groups: &[Group], relation: RelationId) -> bool
     ensures { result ≡ list_any (λ g. g.relation.at == relation.at) groups.now }
 {
-    groups
-        .iter()
-        .any(|group| group.relation.at == relation.at)
+    groups.iter().any(|group| group.relation.at == relation.at)
 }
 
 // The open cursors of all queries that read a relation of the groups become stale by it; of another
@@ -206,5 +204,11 @@ pub fn give_up(parts: &mut Parts, held: &[HeldRow])
 {
     empty_held(&mut parts.logs, &parts.readers, &parts.catalog, held);
     let seq = parts.seq;
-    outdate_held(&mut parts.queries, &parts.readers, &parts.catalog, held, seq);
+    outdate_held(
+        &mut parts.queries,
+        &parts.readers,
+        &parts.catalog,
+        held,
+        seq,
+    );
 }

@@ -1,66 +1,32 @@
-use Rattle.std.proofs.Common.{◌≡◌, ◌∙◌, ◌<◌, ◌≤◌, ◌++◌, ◌+◌, ◌⊎◌, inl, inr, ℕ, List, [], refl, sym, ap, subst, arith, length}
-use Rattle.std.specs.Prelude.{Option, Some, Ok, All, filter, OnErr}
+use Rattle.std.proofs.Common.{◌≡◌, ◌∙◌, ◌+◌, ◌⊎◌, inl, inr, ℕ, List, [], refl, sym, ap, subst, arith, length}
+use Rattle.std.specs.Prelude.{Some, filter}
 use Rattle.djq_model.specs.declared.relation.Relation.{Relation}
-use Rattle.djq_model.specs.Data.{Bytes, Tuple}
+use Rattle.djq_model.specs.Data.{Bytes}
 use Rattle.djq_model.specs.Answer.{IsAnswer}
-use Rattle.djq_model.specs.Listed.{Listed, a_query}
+use Rattle.djq_model.specs.Listed.{a_query}
 use Rattle.djq_lines.specs.declared.answer.Refusal.{Refusal}
 use Rattle.djq_lines.specs.declared.answer.Refusal.TheVariants.{Limit, NoMemory}
 use Rattle.djq_lines.specs.declared.held.HeldRow.{HeldRow}
 use Rattle.djq_machine.specs.State.{Store}
-use Rattle.djq_machine.specs.Batch.{with_all, has_come, SuitAll}
+use Rattle.djq_machine.specs.Batch.{with_all, has_come}
 use Rattle.djq_machine.specs.Delta.{Change, IsDelta}
 use Rattle.djq_deltas.specs.Finite.{DeltasExist}
-use Rattle.djq_rows.specs.Catalog.{Catalog, IsCatalog, relation_at}
-use Rattle.djq_rows.specs.Laws.{CellsStay}
+use Rattle.djq_rows.specs.Catalog.{Catalog, relation_at}
 use Rattle.djq_live.specs.Body.{HeadsAreBound}
-use Rattle.djq_live.specs.Changes.{HasSameRows}
 use Rattle.djq_live.specs.Live.{Live}
-use Rattle.djq_live.specs.Staying.{LiveStays}
 use Rattle.djq_reach.specs.declared.group.Group.{Group}
 use Rattle.djq_reach.specs.Places.{place_at, is_reader}
 use Rattle.djq_reach.specs.Grouping.{reached}
 use Rattle.djq_engine.specs.declared.parts.Parts.{Parts}
-use Rattle.djq_engine.specs.Changing.{KeepsRest}
-use Rattle.djq_engine.specs.Outdating.{AreReaders}
 use Rattle.djq_engine.specs.Places.{queries_in}
 use Rattle.djq_engine.specs.Putting.{IsStoreOf, PutsAll, RefusesAll, WentInAll}
-use Rattle.djq_engine.specs.Taking.{TakesGroups, LacksGroups}
-use Rattle.djq_engine.specs.Whole.{kept_in, IsWhole, IsTended}
+use Rattle.djq_engine.specs.Whole.{kept_in, IsWhole}
 use Rattle.djq_engine.proofs.Accepted.{Settles, taken_whole, taken_registered, taken_cursors, taken_adds, taken_tended, taken_tells}
-use Rattle.djq_engine.proofs.Carrying.{readers_once}
 use Rattle.djq_engine.proofs.Chained.{same_none}
 use Rattle.djq_engine.proofs.GivenUp.{sound_readers}
 use Rattle.djq_engine.proofs.Put.{refused_kind}
 use Rattle.djq_engine.proofs.Rested.{rests_whole, rests_tended, rests_cursors, rests_tells, no_groups, none_adds, refuses_batch}
-use Rattle.djq_engine.proofs.Settled.{
-  Lacks,
-  start_here,
-  begun,
-  leads_here,
-  came_within,
-  came_here,
-  came_tested,
-  came_found,
-  came_seq,
-  filled_mid,
-  came_takes,
-  came_readers,
-  unwatched_reached,
-  lacks_rows,
-  lacks_groups,
-  lacks_readers,
-  lacks_logged,
-  lacks_found,
-  lacks_whole,
-  lacks_tended,
-  lacks_cursors,
-  lacks_registered,
-  lacks_refuses,
-  lacks_tells,
-  lacks_last,
-  lacks_counts,
-}
+use Rattle.djq_engine.proofs.Settled.{start_here, begun, leads_here, came_within, came_here, came_tested, came_found, came_seq, filled_mid, came_takes, came_readers, unwatched_reached, lacks_rows, lacks_groups, lacks_readers, lacks_logged, lacks_found, lacks_whole, lacks_tended, lacks_cursors, lacks_registered, lacks_refuses, lacks_tells, lacks_last, lacks_counts}
 use Rattle.djq_engine.proofs.Storing.{same_rows}
 use Rattle.djq_engine.proofs.TakenBack.{catalog_counted}
 use Rattle.djq_engine.proofs.batch.done_in.Goals as goal

@@ -1,7 +1,6 @@
-use Rattle.std.proofs.Common.{◌≡◌, ◌∙◌, ℕ, List, refl, sym, ap, subst, length}
-use Rattle.std.specs.Prelude.{Option, Result, Ok, Err, OnOk, OnErr, ⊤}
-use Rattle.djq_rows.specs.Catalog.{Catalog}
-use Rattle.djq_live.specs.Live.{Live, IsKept}
+use Rattle.std.proofs.Common.{◌∙◌, ℕ, List, refl, sym, ap, subst, length}
+use Rattle.std.specs.Prelude.{Result, Ok, Err, OnOk, OnErr, ⊤}
+use Rattle.djq_live.specs.Live.{IsKept}
 use Rattle.djq_reach.specs.Places.{readers_at, AreOnce}
 use Rattle.djq_reach.specs.Reaching.{AllAt, Reach, Renews}
 use Rattle.djq_reach.specs.Tending.{AreUnwatched, TellsAt, Tends, Empties}

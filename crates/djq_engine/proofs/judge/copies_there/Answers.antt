@@ -1,6 +1,6 @@
-use Rattle.std.proofs.Common.{arith, sym, ◌∙◌}
+use Rattle.std.proofs.Common.{arith, sym}
 use Rattle.djq_model.proofs.Counted.{no_copies}
-use Rattle.djq_rows.specs.Catalog.{no_relation, relation_at, counted_at, StandForRow}
+use Rattle.djq_rows.specs.Catalog.{no_relation, relation_at, counted_at}
 use Rattle.djq_engine.proofs.Judged.{fits_length}
 use Rattle.djq_engine.proofs.judge.copies_there.Goals as goal
 

@@ -1,4 +1,4 @@
-use Rattle.std.proofs.Common.{◌≡◌, ℕ, List, ap, arith, length, take}
+use Rattle.std.proofs.Common.{ℕ, List, ap, arith, length, take}
 use Rattle.std.proofs.lemmas.List.{length-take-le}
 use Rattle.djq_reach.specs.Places.{is_reader}
 use Rattle.djq_reach.specs.Grouping.{reached}

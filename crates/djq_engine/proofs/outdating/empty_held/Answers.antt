@@ -1,4 +1,4 @@
-use Rattle.std.proofs.Common.{List, subst, arith, ◌∙◌, take}
+use Rattle.std.proofs.Common.{List, subst, arith, ◌∙◌}
 use Rattle.std.proofs.lemmas.List.{take_all}
 use Rattle.djq_lines.specs.declared.held.HeldRow.{HeldRow}
 use Rattle.djq_reach.specs.Places.{place_at}

@@ -1,6 +1,5 @@
-use Rattle.std.proofs.Common.{List, ℕ, sym, ap, ◌∙◌, ◌≡◌, arith}
-use Rattle.std.specs.Prelude.{true}
-use Rattle.djq_reach.specs.Places.{is_reader, readers_at}
+use Rattle.std.proofs.Common.{List, ℕ, sym, ap, ◌∙◌, arith}
+use Rattle.djq_reach.specs.Places.{is_reader}
 use Rattle.djq_engine.proofs.Storing.{places_read}
 use Rattle.djq_engine.proofs.outdating.empty_readers.Goals as goal
 

@@ -1,4 +1,4 @@
-use Rattle.std.proofs.Common.{◌≡◌, ◌∙◌, ◌<◌, ℕ, List, true, sym, ap, subst, get_or, length}
+use Rattle.std.proofs.Common.{◌∙◌, ◌<◌, ℕ, List, sym, ap, subst, get_or, length}
 use Rattle.djq_reach.specs.declared.group.Group.{Group}
 use Rattle.djq_reach.specs.Places.{is_reader}
 use Rattle.djq_engine.proofs.Reached.{group_there, reached_by, reached_next}

@@ -1,8 +1,5 @@
-use Rattle.std.proofs.Common.{◌≡◌, ◌∙◌, ◌<◌, ℕ, List, Bool, true, false, sym, ap, subst, arith, length}
-use Rattle.std.specs.Prelude.{Option}
-use Rattle.djq_model.specs.Data.{Bytes}
+use Rattle.std.proofs.Common.{◌≡◌, ◌∙◌, ℕ, List, true, false, sym, ap, subst, arith}
 use Rattle.djq_rows.specs.Catalog.{relation_at}
-use Rattle.djq_live.specs.Live.{Live}
 use Rattle.djq_reach.specs.Reaching.{Reach, Ages}
 use Rattle.djq_engine.proofs.Outdated.{ages_readers, ages_passed, ages_failed, group_any}
 use Rattle.djq_engine.proofs.Storing.{places_read}

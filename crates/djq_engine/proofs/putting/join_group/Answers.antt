@@ -1,5 +1,5 @@
 use Rattle.std.proofs.Common.{refl, ◌≡◌, ◌∙◌, ◌∷◌, ◌++◌, [], List, ℕ, sym, ap, subst}
-use Rattle.std.specs.Prelude.{Ok, Err, Result, OnOk, position, ◌==◌, slice_set}
+use Rattle.std.specs.Prelude.{Ok, Err, Result, OnOk, position, ◌==◌}
 use Rattle.djq_reach.specs.declared.group.Group.{Group}
 use Rattle.djq_engine.specs.Putting.{JoinsGroup}
 use Rattle.djq_engine.proofs.Joined.{joins_there, joins_new}

@@ -1,9 +1,7 @@
-use Rattle.std.proofs.Common.{◌≡◌, ◌≤◌, ◌<◌, ◌∙◌, ◌+◌, ◌++◌, ◌∷◌, [], ℕ, List, refl, sym, ap, subst, arith, take, get_or, length, append_assoc, append-nil}
+use Rattle.std.proofs.Common.{◌∙◌, ◌+◌, ◌++◌, [], ℕ, List, refl, sym, ap, subst, arith, take, append_assoc, append-nil}
 use Rattle.std.proofs.lemmas.List.{take_all}
 use Rattle.djq_model.specs.Data.{Bytes}
-use Rattle.djq_model.specs.declared.relation.Relation.{Relation}
 use Rattle.djq_lines.specs.declared.held.HeldRow.{HeldRow}
-use Rattle.djq_machine.specs.State.{Store}
 use Rattle.djq_machine.specs.Batch.{StopsAt, with_all}
 use Rattle.djq_rows.specs.Catalog.{Catalog}
 use Rattle.djq_reach.specs.declared.group.Group.{Group}

@@ -1,5 +1,5 @@
-use Rattle.std.proofs.Common.{◌≡◌, ◌∙◌, ℕ, List, sym, subst}
-use Rattle.std.specs.Prelude.{Some, None, Option}
+use Rattle.std.proofs.Common.{◌≡◌, ℕ, List, sym, subst}
+use Rattle.std.specs.Prelude.{Some, Option}
 use Rattle.djq_model.specs.Data.{Bytes}
 use Rattle.djq_lines.specs.declared.answer.Refusal.TheVariants.{NoMemory}
 use Rattle.djq_lines.specs.declared.held.HeldRow.{HeldRow}

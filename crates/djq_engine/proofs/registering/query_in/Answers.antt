@@ -268,8 +268,7 @@ returns-in-Ok-register-clause-tellings g c =
     let new = c.register.new.parts in
     let r = c.in-Ok-register.ensures.ok in
     let l = c.in-Ok-build.live in
-    let whole : IsWhole new = returns-in-Ok-register-clause-whole g c in
-    (
+    let whole : IsWhole new = returns-in-Ok-register-clause-whole g c in (
       ap (map id_at) r.affected,
       subst (λ (o : Option Registered). IsSomeAnd o (λ x. TellsOf (kept_in old) x.id (Some []) (kept_in new)))
           (sym (name_found new.catalog new.queries.items new.order new.readers.items new.watchers.items whole c.args.query.name r.place

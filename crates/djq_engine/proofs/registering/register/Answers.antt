@@ -24,10 +24,10 @@ pub returns-in-Err-join_readers-clause-err : goal.returns-in-Err-join_readers-cl
 returns-in-Err-join_readers-clause-err c =
     let old = c.args.parts.now in
     let same : c.remove.new.self ≡ old.order = c.remove.ensures.others
-          ∙ ap₂ (λ (l : List ℕ) (k : ℕ). remove l k) c.in-Ok-push.ensures.ok
-          (last_place old.order c.in-Ok.at c.len.result
-          (c.len.ensures ∙ ap length c.in-Ok-push.ensures.ok))
-          ∙ remove_last old.order c.in-Ok.at in
+    ∙ ap₂ (λ (l : List ℕ) (k : ℕ). remove l k) c.in-Ok-push.ensures.ok
+    (last_place old.order c.in-Ok.at c.len.result
+    (c.len.ensures ∙ ap length c.in-Ok-push.ensures.ok))
+    ∙ remove_last old.order c.in-Ok.at in
     record {
       queries = c.in-Ok.ensures.same;
       readers = joined_left c.in-Ok.at old.readers.items c.join_readers.new.lists.items
