@@ -1,9 +1,9 @@
 -- How a batch that lines left open is ended, or isn't.
-use Rattle.std.specs.Prelude.{ℕ, List, [], ◌∷◌, ◌++◌, ◌≡◌, ◌<◌, Option, None, Some, IsSome, is_some, false, codes}
-use Rattle.std.proofs.Common.{refl, sym, ap, ◌∙◌, subst}
+use Rattle.std.specs.Prelude.{ℕ, List, [], ◌∷◌, ◌++◌, ◌≡◌, ◌<◌, Option, None, Some, IsSome, codes}
+use Rattle.std.proofs.Common.{refl, sym, subst}
 use Rattle.djq_io.specs.Faults.{Counted}
 use Rattle.djq_disk.specs.History.{History, WhereTold}
-use Rattle.djq_disk.proofs.Telling.{told_none, told_so}
+use Rattle.djq_disk.proofs.Telling.{told_so}
 use Rattle.djq_journal.specs.Standing.{IsIdle}
 use Rattle.djq_journal.specs.Appending.{Appends, gate_after}
 use Rattle.djq_journal.specs.Keeping.{lines_in as whole_lines, IsKeeping, WasKeeping}
@@ -27,25 +27,7 @@ abbrev pub Kept : Appended → ℕ → DiskSeen → DiskSeen → Type 0
 Kept answer gate before now = (lines : List Bytes) → WhereTold before.told now.told
     (λ o n. IsIdle lines gate o.file → Appends answer lines abandoning o n)
 
--- No batch was left open, and nothing was done.
-pub none_ended : (gate : ℕ) (log : Option ℕ) (old : Loading) (seen : DiskSeen) → is_some old.batch ≡ false → log ≡ Some gate → EndsBatch gate log old old seen seen
-none_ended gate log old seen none at = by old.batch refl none
-  where
-    by : (o : Option (List HeldRow)) → old.batch ≡ o → is_some o ≡ false → EndsBatch gate log old old seen seen
-    by (Some held) e is = absurd cc
-    by None e is = record {
-      loads = subst (λ (b : Option (List HeldRow)). Loads old (lines_in (first_kept b)) old) (sym e) refl;
-      closed = e;
-      behind = gate;
-      at = at;
-      kept = λ found. subst (λ (b : Option (List HeldRow)). WhereTold seen.told seen.told (λ o n. (start : History)
-          → IsKeeping found [] gate start o → IsKeeping found (first_kept b) gate start n)) (sym e)
-          (told_none seen.told (λ o n. (start : History) → IsKeeping found [] gate start o → IsKeeping found [] gate start n)
-          (λ o start keeping. keeping));
-      faults = refl;
-    }
-
--- One was: it is ended by the line that was loaded and kept.
+-- A batch was left open: it is ended by the line that was loaded and kept.
 pub batch_ended : (gate behind : ℕ) (log : Option ℕ) (old new : Loading) (how : Loaded) (before now : DiskSeen)
     → IsSome old.batch → LoadStep old (codes "abandon") how new → log ≡ Some behind → now.faults ≡ before.faults
     → Kept (Done behind) gate before now → EndsBatch gate log old new before now

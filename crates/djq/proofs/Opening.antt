@@ -1,26 +1,24 @@
 -- How a log is opened, and its lines are loaded.
 use Rattle.std.specs.Prelude.{ℕ, List, [], ◌∷◌, ◌++◌, ◌≡◌, ◌⊎◌, Option, None, Some, IfSome, length, take, drop}
-use Rattle.std.proofs.Common.{refl, sym, ap, ◌∙◌, subst, inl, inr, arith, append-nil}
-use Rattle.djq_io.specs.Faults.{Counted}
-use Rattle.djq_disk.specs.File.{File, IsSettled, settled}
+use Rattle.std.proofs.Common.{refl, sym, ap, ◌∙◌, subst, inl, inr, arith}
+use Rattle.djq_disk.specs.File.{File, settled}
 use Rattle.djq_disk.specs.History.{History, WhereTold, Opens as OpensPath, Sizes}
 use Rattle.djq_disk.specs.Leaving.{LeavesOnly}
 use Rattle.djq_disk.specs.declared.disk.DiskLen.{DiskLen}
 use Rattle.djq_disk.specs.declared.disk.DiskLen.TheVariants.{Len}
 use Rattle.djq_disk.proofs.Telling.{told_so, told_both}
-use Rattle.djq_disk.proofs.Keeping.{leaves_none, leaves_move}
-use Rattle.djq_journal.specs.Format.{header, OpensTo, IsBad, front}
+use Rattle.djq_disk.proofs.Keeping.{leaves_move}
+use Rattle.djq_journal.specs.Format.{OpensTo, IsBad, front}
 use Rattle.djq_journal.specs.Standing.{IsAt, IsIdle}
 use Rattle.djq_journal.specs.Calls.{after_sync, Makes, Opens, Reads}
-use Rattle.djq_journal.specs.Keeping.{lines_in, OpensWithin, IsKeeping}
+use Rattle.djq_journal.specs.Keeping.{OpensWithin, IsKeeping}
 use Rattle.djq_journal.specs.declared.journal.Made.TheVariants.{Done as Made, Failed as Unmade}
 use Rattle.djq_journal.specs.declared.journal.Opened.TheVariants.{Ready, BadLog as NoLog, Failed as Unopened}
-use Rattle.djq_journal.specs.declared.line.Line.{Line}
-use Rattle.djq_journal.specs.declared.line.Line.TheVariants.{Got, End, BadLog as BadLine, Failed as Unread}
+use Rattle.djq_journal.specs.declared.line.Line.TheVariants.{Got, End, BadLog as BadLine}
 use Rattle.djq_journal.proofs.Going.{keeps_on}
 use Rattle.djq_journal.proofs.Once.{opens_once}
 use Rattle.djq_model.specs.Data.{Bytes}
-use Rattle.djq.specs.Logged.{asked_for, IsMade, IsOlder, SinceOpened, Finds, IsUnwritten, IsUnmade, LeavesUnloaded, HasNoHeader}
+use Rattle.djq.specs.Logged.{asked_for, IsMade, Finds, LeavesUnloaded, HasNoHeader}
 use Rattle.djq.specs.Parts.{HasFile, LacksFile, IsOpened}
 
 -- What is told in the end, by what was told before, if it matters.

@@ -1,10 +1,8 @@
 -- What a stop leaves of a log opens to whole groups, and these are loaded.
-use Rattle.std.specs.Prelude.{ℕ, List, [], ◌∷◌, ◌++◌, ◌≡◌, ◌≤◌, ◌-◌, Option, None, Some, IfSome, length}
-use Rattle.std.specs.Prelude.{◌+◌}
+use Rattle.std.specs.Prelude.{ℕ, List, [], ◌∷◌, ◌++◌, ◌≡◌, ◌≤◌, ◌+◌, ◌-◌, Some, length}
 use Rattle.std.proofs.Common.{refl, sym, ap, ap₂, ◌∙◌, subst, arith, append_assoc, length-append}
 use Rattle.std.proofs.lemmas.Grind.{flat_map-append}
-use Rattle.djq_disk.specs.File.{IsImage}
-use Rattle.djq_disk.specs.History.{History, WhereTold}
+use Rattle.djq_disk.specs.History.{History}
 use Rattle.djq_disk.specs.Leaving.{LeavesOnly}
 use Rattle.djq_journal.specs.Format.{OpensTo}
 use Rattle.djq_journal.specs.Keeping.{lines_in as whole_lines, OpensWithin, IsKeeping}
@@ -19,7 +17,7 @@ use Rattle.djq_kept.proofs.Reloading.{stops_reload}
 use Rattle.djq_serve.specs.declared.served.Served.{Served}
 use Rattle.djq_serve.specs.declared.served.Served.TheVariants.{Stopped, Over, TurnsUsed, HubFault, DiskFault, LogFull}
 use Rattle.djq_serve.specs.Server.{all_done}
-use Rattle.djq.specs.Logged.{LogSeen, SinceOpened, KeptAs}
+use Rattle.djq.specs.Logged.{SinceOpened, KeptAs}
 use Rattle.djq.specs.Reopened.{answered, Reopens, LogsReopen}
 use Rattle.djq.proofs.Living.{starts}
 use Rattle.djq.proofs.Opening.{told_end}

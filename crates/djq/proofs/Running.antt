@@ -1,7 +1,7 @@
 -- The headline of the program's run, from the state that it starts from.
 use Rattle.std.specs.Prelude.{ℕ, List, [], ◌≡◌, true, Option, None, Some, IsSomeAnd, Result, Ok, Err, OnErr}
 use Rattle.std.specs.Borrow.{Bor}
-use Rattle.std.proofs.Common.{refl, subst, inl}
+use Rattle.std.proofs.Common.{refl, subst}
 use Rattle.djq_model.specs.Data.{Bytes}
 use Rattle.djq_machine.specs.State.{State, opening}
 use Rattle.djq_laws.specs.Course.{Outside}

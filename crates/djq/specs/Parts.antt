@@ -1,5 +1,5 @@
 -- What the parts of the program promise that open a log and tell what was sent.
-use Rattle.std.specs.Prelude.{ℕ, List, [], ◌++◌, ◌≡◌, ◌⊎◌, false, Option, None, Some, IsSome, IfSome, Result, MatchResult}
+use Rattle.std.specs.Prelude.{ℕ, List, [], ◌≡◌, ◌⊎◌, false, Option, None, Some, IsSome, IfSome, Result, MatchResult}
 use Rattle.djq_io.specs.Faults.{Counted}
 use Rattle.djq_io.specs.SteadyHub.{has_gone}
 use Rattle.djq_io.specs.declared.hub.Told.{Told}

@@ -1,5 +1,5 @@
 -- What a stop leaves of a log, opened and loaded at the next start.
-use Rattle.std.specs.Prelude.{ℕ, List, ◌++◌, ◌≡◌, ◌≤◌, ◌-◌, Option, Some, IfSome, length}
+use Rattle.std.specs.Prelude.{ℕ, List, ◌++◌, ◌≡◌, ◌≤◌, ◌-◌, Some, IfSome, length}
 use Rattle.djq_disk.specs.Leaving.{LeavesOnly}
 use Rattle.djq_journal.specs.Format.{OpensTo}
 use Rattle.djq_model.specs.Data.{Bytes}

@@ -1,8 +1,8 @@
-use Rattle.std.proofs.Common.{◌≡◌, ◌∙◌, sym, ap, rules}
+use Rattle.std.proofs.Common.{rules}
 use Rattle.std.specs.Prelude.{IsSome}
 use Rattle.djq_core.specs.Views.{loading_in}
 use Rattle.djq.specs.Logged.{disk_seen}
-use Rattle.djq.proofs.Abandoning.{none_ended, batch_ended, fails_to_end, has_no_room}
+use Rattle.djq.proofs.Abandoning.{batch_ended, fails_to_end, has_no_room}
 use Rattle.djq.proofs.log.end_batch.Goals as goal
 
 pub returns-in-Done-clause-ends : goal.returns-in-Done-clause-ends

@@ -1,4 +1,4 @@
-use Rattle.std.proofs.Common.{◌≡◌, ◌∙◌, ℕ, ◌+◌, List, [], ◌∷◌, ◌++◌, take, refl, sym, ap, subst, inl, inr, arith, Option}
+use Rattle.std.proofs.Common.{◌≡◌, ◌∙◌, ℕ, List, [], ◌∷◌, ◌++◌, take, refl, sym, ap, subst, inl, inr, arith, Option}
 use Rattle.std.specs.Prelude.{IfSome}
 use Rattle.djq_io.specs.Faults.{Counted}
 use Rattle.djq_disk.specs.History.{History}
@@ -7,7 +7,7 @@ use Rattle.djq_journal.specs.Standing.{IsAt, IsIdle}
 use Rattle.djq_model.specs.Data.{Bytes}
 use Rattle.djq_lines.specs.declared.held.HeldRow.{HeldRow}
 use Rattle.djq_machine.specs.State.{State, opening}
-use Rattle.djq_machine.specs.declared.machine.Loaded.TheVariants.{Ran, Refused}
+use Rattle.djq_machine.specs.declared.machine.Loaded.TheVariants.{Ran}
 use Rattle.djq_machine.specs.Loading.{Loading, loading, LoadStep}
 use Rattle.djq_core.specs.Views.{loading_in}
 use Rattle.djq_machine.proofs.Walks.{walk_more}

@@ -1,4 +1,4 @@
-use Rattle.std.proofs.Common.{◌≡◌, ◌-◌, List, [], ◌∷◌}
+use Rattle.std.proofs.Common.{◌≡◌, ◌-◌, List}
 use Rattle.std.specs.Prelude.{IfSome}
 use Rattle.djq_disk.specs.History.{WhereTold}
 use Rattle.djq_journal.specs.Standing.{IsAt}

@@ -4,7 +4,6 @@ use Rattle.djq_io.specs.declared.hub.Coming.{Coming}
 use Rattle.djq_machine.specs.Call.{counts}
 use Rattle.djq.specs.Logged.{disk_seen, log_seen}
 use Rattle.djq.specs.Replay.{ComesTo, ComesToNothing}
-use Rattle.djq.proofs.Replaying.{nothing_comes, unasked}
 use Rattle.djq.proofs.replay.make_text.Goals as goal
 
 pub returns-in-Ok : goal.returns-in-Ok
