@@ -32,7 +32,7 @@ ghost use Rattle.djq_told.specs.Told.{WatchersAreToldExactly};
 ghost use Rattle.djq_told.specs.Mirrored.{WatchersAreMirrored, ReadersAreMirrored};
 ghost use Rattle.djq_told.specs.Lines.{PrintedAreLines};
 ghost use Rattle.djq_told.specs.Mirrored.{StartsAreMirrored, EndsAreMirrored, MirroredAreHeld, ReadersAreReadBack};
-ghost use Rattle.djq_told.specs.Whole.{SessionsAreReadBack};
+ghost use Rattle.djq_told.specs.Whole.{SessionsAreReadBack, OpenedAreReadBack, HeldAlone};
 
 /// Along every run from a state to start from whose names and values lines can say, all names are
 /// names, all values are within their limits and their texts of UTF-8, and each variable of a
@@ -65,6 +65,13 @@ pub fn readers_are_mirrored()
     ensures held { MirroredAreHeld }
     ensures read_back { ReadersAreReadBack }
     ensures whole { SessionsAreReadBack }
+    ensures opened { OpenedAreReadBack }
+{}
+
+/// An input that comes to what a mirror holds is refused at no line, and whatever else it may come to
+/// shows the same answers.
+pub fn inputs_are_held_alone()
+    ensures { HeldAlone }
 {}
 
 /// A printed reply is one line, without an LF inside, and no longer than 16,384 bytes: a rest too, where
