@@ -1,18 +1,17 @@
 -- What an input comes to in a mirror is all that it comes to: lines are cut in one way, and a line has one turn.
-use Rattle.std.specs.Prelude.{ℕ, List, [], ◌∷◌, ◌++◌, ◌≡◌, ◌≢◌, ◌||◌, ◌&&◌, Bool, true, false, not, Option, None, Some, All}
+use Rattle.std.specs.Prelude.{ℕ, List, [], ◌∷◌, ◌++◌, ◌≡◌, ◌≢◌, ◌||◌, ◌&&◌, Bool, true, false, not, Option, None, Some}
 use Rattle.std.specs.List.Sorted.{IsStrictlySortedBy}
 use Rattle.std.proofs.Common.{refl, sym, ap, ap₂, ◌∙◌, subst, append_assoc}
 use Rattle.std.proofs.lemmas.List.Elements.{All-head, All-tail}
 use Rattle.djq_model.specs.Data.{Bytes, bytes_eq}
 use Rattle.djq_lines.specs.Reply.{line, cells_text}
 use Rattle.djq_mirror.specs.declared.mode.Mode.{Mode}
-use Rattle.djq_mirror.specs.Inputs.{lines_text, HasNoLf, FollowsAll, Stops, IsHeld, IsRefused}
+use Rattle.djq_mirror.specs.Inputs.{lines_text, HasNoLf, FollowsAll, Stops}
 use Rattle.djq_mirror.specs.Mirror.{Held, at_first, Act, keep, clear, put, take_out, turn_of, may_act, may_turn, allows, has_text, IsInOrder, Acted, Turned, IsLine, Follows}
-use Rattle.djq_mirror.specs.Reading.{News, news_of, told_in, turn_by}
+use Rattle.djq_mirror.specs.Reading.{News, news_of}
 use Rattle.djq_mirror.specs.Replies.{Reply}
 use Rattle.djq_mirror.proofs.Telling.{reply_told}
 use Rattle.djq_mirror.proofs.Turning.{turn_told}
-use Rattle.djq_told.specs.Mirrored.{Shows}
 use Rattle.djq_told.specs.Whole.{HeldAlone}
 
 -- ---- lines

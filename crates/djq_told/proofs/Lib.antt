@@ -21,3 +21,4 @@ mod Holding
 pub mod Whole
 pub mod Alone
 pub mod Opening
+pub mod Loaded

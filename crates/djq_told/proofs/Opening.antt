@@ -1,7 +1,7 @@
 -- A session that is read back from its opening on: before it isn't there, and it opens once.
-use Rattle.std.specs.Prelude.{ℕ, List, [], ◌∷◌, ◌==◌, ◌++◌, ◌≡◌, ◌<◌, ◌⊎◌, Bool, true, false, Option, None, Some, IsSome, IsSomeAnd, All, AllPairs}
+use Rattle.std.specs.Prelude.{ℕ, List, [], ◌∷◌, ◌==◌, ◌++◌, ◌≡◌, ◌<◌, ◌⊎◌, Bool, true, false, All, AllPairs}
 use Rattle.std.proofs.Common.{refl, sym, ap, ap₂, ◌∙◌, subst, inl, inr, arith, append-nil, append_assoc}
-use Rattle.std.proofs.lemmas.Bool.{eqb-true, eq-eqb}
+use Rattle.std.proofs.lemmas.Bool.{eqb-true}
 use Rattle.std.proofs.lemmas.Grind.{flat_map-append}
 use Rattle.std.proofs.lemmas.List.Elements.{All-nil, All-cons, All-head, All-tail, All-contains, All-weaker}
 use Rattle.djq_model.specs.Data.{Bytes}
@@ -13,7 +13,7 @@ use Rattle.djq_machine.specs.Run.{Did, Run, to_session, out}
 use Rattle.djq_machine.specs.Call.{IsOpen}
 use Rattle.djq_laws.specs.Moved.{Spares}
 use Rattle.djq_laws.specs.Sent.{opened_by, all_opened}
-use Rattle.djq_laws.specs.Sound.{IsSoundState, IsStart}
+use Rattle.djq_laws.specs.Sound.{IsStart}
 use Rattle.djq_laws.specs.Silent.{IsOver, OpensNone}
 use Rattle.djq_laws.proofs.Containing.{found_there, found_passes}
 use Rattle.djq_laws.proofs.Courses.{walk_then}
@@ -23,10 +23,9 @@ use Rattle.djq_laws.proofs.Dropping.{Later, later as rises}
 use Rattle.djq_laws.proofs.Queueing.{stepped_open}
 use Rattle.djq_laws.proofs.Sending.{acts_moves, step_open}
 use Rattle.djq_laws.proofs.Silent.{all_above, all_apart, over_is_silent}
-use Rattle.djq_laws.proofs.Sounding.{step_sound, runs_keep_sound, start_sound}
-use Rattle.djq_told.specs.Sayable.{IsSayableStore}
-use Rattle.djq_told.specs.Mirrored.{WaitsStep, IsWaiting, WaitsAlong, Reads, EndsNow, IsReadBack}
-use Rattle.djq_told.specs.Whole.{LeavesOff, GoesOnBehind, ReadsWhole, ReadsSinceOpened, OpensOnceOnly, OpenedAreReadBack}
+use Rattle.djq_laws.proofs.Sounding.{start_sound}
+use Rattle.djq_told.specs.Mirrored.{EndsNow}
+use Rattle.djq_told.specs.Whole.{LeavesOff, GoesOnBehind, ReadsSinceOpened, OpensOnceOnly, OpenedAreReadBack}
 use Rattle.djq_told.proofs.Waiting.{out_append}
 use Rattle.djq_told.proofs.Whole.{sessions_are_read_back}
 

@@ -28,6 +28,7 @@
 #![tactic(auto)]
 
 ghost use Rattle.djq_told.specs.Sayable.{RunsKeepSayable, OpeningIsSayable, StatesAreSayable};
+ghost use Rattle.djq_told.specs.Loaded.{LoadedAreSayable};
 ghost use Rattle.djq_told.specs.Told.{WatchersAreToldExactly};
 ghost use Rattle.djq_told.specs.Mirrored.{WatchersAreMirrored, ReadersAreMirrored};
 ghost use Rattle.djq_told.specs.Lines.{PrintedAreLines};
@@ -37,11 +38,13 @@ ghost use Rattle.djq_told.specs.Whole.{SessionsAreReadBack, OpenedAreReadBack, H
 /// Along every run from a state to start from whose names and values lines can say, all names are
 /// names, all values are within their limits and their texts of UTF-8, and each variable of a
 /// registered query's head stands in its body: of relations, queries, cursors and watches, of rows
-/// and constants, of what cursors have given, and of what batches hold.
+/// and constants, of what cursors have given, and of what batches hold. What lines that are loaded come
+/// to is such a state to start from.
 pub fn states_are_sayable()
     ensures kept { RunsKeepSayable }
     ensures opening { OpeningIsSayable }
     ensures reached { StatesAreSayable }
+    ensures loaded { LoadedAreSayable }
 {}
 
 /// What is queued to a session that watches a query is whole reply lines, and those among them that
