@@ -29,8 +29,8 @@ RunIsReadBack = (status : Status) (before now : Outside) (serves : Serves openin
 
 -- However `serve` ends: likewise, of each session for which the hub took all that was queued to it.
 abbrev pub ServeIsReadBack : Type 0
-ServeIsReadBack = (log : Option LogSeen) (status : Status) (addr : Bytes) (turns : ℕ) (hub : HubSeen) (counted : Counts)
-    (hub' : HubSeen) (counted' : Counts)
+ServeIsReadBack = (log : Option LogSeen) (status : Status) (addr : Bytes) (turns : ℕ) (hub : HubSeen)
+    (counted : Counts) (hub' : HubSeen) (counted' : Counts)
     → (serves : ServesHub log status addr turns hub counted hub' counted')
     → (q : Listed) (s : ℕ) (at : State)
     → ReadsSinceOpened q s serves.start (all_done serves.ends.goes.moves) at serves.state

@@ -1,5 +1,5 @@
 -- Lines that are loaded keep to what lines can say, in batches too.
-use Rattle.std.specs.Prelude.{List, [], ◌∷◌, ◌++◌, ◌≡◌, ◌⊎◌, Option, None, Some, IfSome, Result, Ok, Err, All, ⊤}
+use Rattle.std.specs.Prelude.{List, [], ◌∷◌, ◌++◌, ◌≡◌, Option, None, Some, IfSome, Result, Ok, Err, All, ⊤}
 use Rattle.std.proofs.Common.{refl, sym, subst, inl, inr}
 use Rattle.std.proofs.lemmas.List.Elements.{All-nil, All-push}
 use Rattle.djq_model.specs.Data.{Bytes, Tuple}
@@ -11,7 +11,7 @@ use Rattle.djq_lines.specs.Grammar.{Reading, outside, past_limit, says as says_c
 use Rattle.djq_machine.specs.State.{Store, opening}
 use Rattle.djq_machine.specs.declared.machine.Loaded.{Loaded}
 use Rattle.djq_machine.specs.declared.machine.Loaded.TheVariants.{Ran as ran}
-use Rattle.djq_machine.specs.Loading.{Loading, loading, StoreLoads, CommandLoads, HoldsLoaded, ReadingLoads, LoadStep, Loads}
+use Rattle.djq_machine.specs.Loading.{Loading, loading, StoreLoads, CommandLoads, HoldsLoaded, ReadingLoads, LoadStep}
 use Rattle.djq_machine.proofs.Walks.{walk_keeps}
 use Rattle.djq_told.specs.Loaded.{LoadedAreSayable}
 use Rattle.djq_told.specs.Sayable.{IsName, IsSayableRow, IsSayableStore, IsSayableHeld}
