@@ -58,12 +58,8 @@ one_less : (found : List Bytes) (first whole : List Group) (last : Group) (group
     → OpensWithin found (first ++ groups) (length first + (length groups - 1)) image
 one_less found first whole last groups image cut o =
     fewer found (first ++ groups) (length (first ++ whole)) (length first + (length groups - 1)) image
-    (omega (
-      arith,
-      length-append first whole,
-      ap (λ (gs : List Group). length gs) cut,
-      length-append whole (last ∷ []),
-    )) o
+    (omega (arith, length-append first whole, ap (λ (gs : List Group). length gs) cut,
+    length-append whole (last ∷ []))) o
 
 behind_first : (first whole : List Group) (last : Group) (groups : List Group) → groups ≡ whole ++ last ∷ []
     → first ++ groups ≡ (first ++ whole) ++ last ∷ []

@@ -29,8 +29,7 @@ const PROBED: [&[u8]; 4] = [
 ];
 
 /// A line that is kept, and a batch of two rows.
-const BATCH: &[u8] =
-    b"open 1\nsay 1 rel r int\nsay 1 batch\nsay 1 add r 7\nsay 1 add r 8\nsay 1 done\n";
+const BATCH: &[u8] = b"open 1\nsay 1 rel r int\nsay 1 batch\nsay 1 add r 7\nsay 1 add r 8\nsay 1 done\n";
 
 /// What they are answered.
 const BATCH_LINES: &[u8] = b"1< ok\n1< ok batch\n1< ok held 1\n1< ok held 2\n1< ok done 1 2\n";
@@ -276,14 +275,8 @@ fn a_call_that_fails_leaves_whole_batches(rt: HostRuntime) -> Result<(), Fail> {
         let failed = n <= made as u64;
         assert!(rt; (status == Status::DiskFault) == failed, "at {n}");
         assert!(rt; BATCH_LINES.starts_with(lines.as_slice()), "at {n}");
-        let found = groups_found(&rt, disk.bytes(), BATCH_PROBE, &BATCH_PROBED)?.ok_or(
-            "the log is bad",
-        )?;
-        let answered = if lines.as_slice() == BATCH_LINES {
-            2
-        } else {
-            0
-        };
+        let found = groups_found(&rt, disk.bytes(), BATCH_PROBE, &BATCH_PROBED)?.ok_or("the log is bad")?;
+        let answered = if lines.as_slice() == BATCH_LINES { 2 } else { 0 };
         assert!(rt; answered <= found, "at {n}");
     }
     Ok(())
@@ -294,16 +287,9 @@ fn a_call_that_fails_leaves_whole_batches(rt: HostRuntime) -> Result<(), Fail> {
 fn a_log_that_ends_within_a_batch_is_ended(rt: HostRuntime) -> Result<(), Fail> {
     let mut disk = MemDisk::of(rt.alloc(), OPEN_FILE)?;
     for _ in 0..2 {
-        let (status, lines) = replay_logged(
-            &rt,
-            &mut disk,
-            b"open 1\nsay 1 del r 7\nsay 1 done\n",
-        )?;
+        let (status, lines) = replay_logged(&rt, &mut disk, b"open 1\nsay 1 del r 7\nsay 1 done\n")?;
         assert_eq!(rt; status, Status::Done);
-        assert_eq!(rt;
-            lines.as_slice(),
-            b"1< ok absent 0\n1< err 18 batch\n".as_slice()
-        );
+        assert_eq!(rt; lines.as_slice(), b"1< ok absent 0\n1< err 18 batch\n".as_slice());
         assert_eq!(rt; disk.bytes(), ENDED_FILE);
     }
     Ok(())
