@@ -2,6 +2,8 @@ pub mod Opening
 pub mod Logging
 pub mod Abandoning
 pub mod Living
+pub mod ReadingBack
+pub mod MirroringBack
 pub mod Reopening
 pub mod Running
 pub mod Finishing

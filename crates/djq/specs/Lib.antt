@@ -1,9 +1,11 @@
 pub mod Logged
 pub mod Replay
 pub mod Mirror
+pub mod Mirrored
 pub mod Gen
 pub mod Parts
 pub mod Reopened
 pub mod Ends
 pub mod Finished
 pub mod Live
+pub mod ReadBack

@@ -1,5 +1,6 @@
 ghost use Rattle.djq.specs.Finished.{FinishedCursors};
 ghost use Rattle.djq.specs.Live.{RunIsLive, ServeIsLive};
+ghost use Rattle.djq.specs.ReadBack.{RunIsReadBack, ServeIsReadBack, RunMomentsAreReadBack, ServeMomentsAreReadBack};
 ghost use Rattle.djq.specs.Reopened.{LogsReopen};
 
 /// At each moment of a run of the program, a cursor that was open and had been told the end had
@@ -21,6 +22,20 @@ pub fn run_stays_live()
 /// So it is with each session that the program serves.
 pub fn serve_stays_live()
     ensures { ServeIsLive }
+{}
+
+/// `mirror` refuses nothing of what a run of the program wrote that let its session watch a query and read
+/// it through one cursor at a time; and the answers that it writes in the end are those over the rows that
+/// there are, or that there were as the session's input ended.
+pub fn run_is_read_back()
+    ensures end { RunIsReadBack }
+    ensures moments { RunMomentsAreReadBack }
+{}
+
+/// So it is with each session that the program serves, and with what the hub took for it.
+pub fn serve_is_read_back()
+    ensures end { ServeIsReadBack }
+    ensures moments { ServeMomentsAreReadBack }
 {}
 
 /// What a stop leaves of a log behind the program's end opens to lines that, loaded, give what was

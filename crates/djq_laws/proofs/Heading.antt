@@ -23,7 +23,7 @@ next_spares st (took s bytes) h = tt
 next_spares st (ended s) h = tt
 next_spares st (closed s bytes) h = absurd h
 
-walk_spares : (old : State) (done : List Did) (new : State) → Walk RunNext old done new → All (λ d. Spares d.event 1) done
+pub walk_spares : (old : State) (done : List Did) (new : State) → Walk RunNext old done new → All (λ d. Spares d.event 1) done
 walk_spares old [] new w = All-nil (λ (d : Did). Spares d.event 1)
 walk_spares old (d ∷ done) new w = All-cons (λ (e : Did). Spares e.event 1) d done (next_spares old d.event w.1.0) (walk_spares w.0 done new w.2)
 

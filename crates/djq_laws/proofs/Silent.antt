@@ -4,7 +4,7 @@ use Rattle.std.specs.List.{list_any}
 use Rattle.std.proofs.Common.{refl, sym, ap, ap₂, ◌∙◌, subst, inl, inr, arith}
 use Rattle.std.proofs.lemmas.Bool.{eqb-true}
 use Rattle.std.proofs.lemmas.Grind.{flat_map-append}
-use Rattle.std.proofs.lemmas.List.Elements.{All-nil, All-cons, All-head, All-tail, All-contains}
+use Rattle.std.proofs.lemmas.List.Elements.{All-nil, All-cons, All-head, All-tail, All-contains, All-weaker}
 use Rattle.djq_model.specs.Data.{Bytes, bytes_eq}
 use Rattle.djq_model.specs.Listed.{listed_name}
 use Rattle.djq_lines.specs.declared.answer.EndCause.{EndCause}
@@ -433,26 +433,33 @@ behind : {A : Type 0} (P : A → Type 0) (xs ys : List A) → All P (xs ++ ys) �
 behind P [] ys h = h
 behind P (x ∷ xs) ys h = behind P xs ys (All-tail P x (xs ++ ys) h)
 
-above_none : (s : ℕ) (event : Event) (rest : List ℕ) → All (λ t. s < t) (opened_by event ++ rest) → OpensNone s event
-above_none s (opened t) rest h = apart (t == s) refl
+apart_none : (s : ℕ) (event : Event) (rest : List ℕ) → All (λ t. (t == s) ≡ false) (opened_by event ++ rest)
+    → OpensNone s event
+apart_none s (opened t) rest h = All-head (λ i. (i == s) ≡ false) t rest h
+apart_none s (fed t bytes) rest h = tt
+apart_none s (stepped t outcome) rest h = tt
+apart_none s (took t bytes) rest h = tt
+apart_none s (ended t) rest h = tt
+apart_none s (closed t bytes) rest h = tt
+
+-- none of these has the id
+pub all_apart : (s : ℕ) (done : List Did) → All (λ t. (t == s) ≡ false) (all_opened done) → All (λ d. OpensNone s d.event) done
+all_apart s [] h = All-nil (λ (d : Did). OpensNone s d.event)
+all_apart s (d ∷ done) h =
+    All-cons (λ (c : Did). OpensNone s c.event) d done (apart_none s d.event (all_opened done) h)
+    (all_apart s done (behind (λ t. (t == s) ≡ false) (opened_by d.event) (all_opened done) h))
+
+-- all of these are above it
+pub all_above : (s : ℕ) (done : List Did) → All (λ t. s < t) (all_opened done) → All (λ d. OpensNone s d.event) done
+all_above s done h =
+    all_apart s done (All-weaker (λ t. s < t) (λ t. (t == s) ≡ false) apart (all_opened done) h)
   where
-    less : s < t
-    less = All-head (λ i. s < i) t rest h
-
-    apart : (b : Bool) → (t == s) ≡ b → b ≡ false
-    apart false e = refl
-    apart true e = let same : t ≡ s = eqb-true t s e in absurd (omega (arith, less, same))
-above_none s (fed t bytes) rest h = tt
-above_none s (stepped t outcome) rest h = tt
-above_none s (took t bytes) rest h = tt
-above_none s (ended t) rest h = tt
-above_none s (closed t bytes) rest h = tt
-
-all_above : (s : ℕ) (done : List Did) → All (λ t. s < t) (all_opened done) → All (λ d. OpensNone s d.event) done
-all_above s [] h = All-nil (λ (d : Did). OpensNone s d.event)
-all_above s (d ∷ done) h =
-    All-cons (λ (c : Did). OpensNone s c.event) d done (above_none s d.event (all_opened done) h)
-    (all_above s done (behind (λ t. s < t) (opened_by d.event) (all_opened done) h))
+    apart : (t : ℕ) → s < t → (t == s) ≡ false
+    apart t less = by (t == s) refl
+      where
+        by : (b : Bool) → (t == s) ≡ b → b ≡ false
+        by false e = refl
+        by true e = let same : t ≡ s = eqb-true t s e in absurd (omega (arith, less, same))
 
 pub over_once : OverOnce
 over_once s old sound there done mid w over more new v once =

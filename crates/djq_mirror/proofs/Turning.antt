@@ -48,7 +48,7 @@ turn_same name mode (ended e) = refl
 turn_same name mode cut = refl
 turn_same name mode bye = refl
 
-turn_told : (name : Bytes) (mode : Mode) (r : Reply) (w : News) → news_of r ≡ w → turn_of name mode r ≡ turn_by name mode w
+pub turn_told : (name : Bytes) (mode : Mode) (r : Reply) (w : News) → news_of r ≡ w → turn_of name mode r ≡ turn_by name mode w
 turn_told name mode r w e = turn_same name mode r ∙ ap (turn_by name mode) e
 
 pub follows : (name : Bytes) (old new : Held) (l : Bytes) (w : News) → told_in l ≡ Some w → length l ≤ REPLY_LINE_BYTES

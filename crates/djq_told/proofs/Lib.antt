@@ -19,3 +19,6 @@ mod Lengths
 mod Resting
 mod Holding
 pub mod Whole
+pub mod Alone
+pub mod Opening
+pub mod Loaded

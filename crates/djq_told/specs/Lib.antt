@@ -3,3 +3,4 @@ pub mod Told
 pub mod Lines
 pub mod Mirrored
 pub mod Whole
+pub mod Loaded

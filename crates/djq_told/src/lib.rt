@@ -28,20 +28,23 @@
 #![tactic(auto)]
 
 ghost use Rattle.djq_told.specs.Sayable.{RunsKeepSayable, OpeningIsSayable, StatesAreSayable};
+ghost use Rattle.djq_told.specs.Loaded.{LoadedAreSayable};
 ghost use Rattle.djq_told.specs.Told.{WatchersAreToldExactly};
 ghost use Rattle.djq_told.specs.Mirrored.{WatchersAreMirrored, ReadersAreMirrored};
 ghost use Rattle.djq_told.specs.Lines.{PrintedAreLines};
 ghost use Rattle.djq_told.specs.Mirrored.{StartsAreMirrored, EndsAreMirrored, MirroredAreHeld, ReadersAreReadBack};
-ghost use Rattle.djq_told.specs.Whole.{SessionsAreReadBack};
+ghost use Rattle.djq_told.specs.Whole.{SessionsAreReadBack, OpenedAreReadBack, HeldAlone};
 
 /// Along every run from a state to start from whose names and values lines can say, all names are
 /// names, all values are within their limits and their texts of UTF-8, and each variable of a
 /// registered query's head stands in its body: of relations, queries, cursors and watches, of rows
-/// and constants, of what cursors have given, and of what batches hold.
+/// and constants, of what cursors have given, and of what batches hold. What lines that are loaded come
+/// to is such a state to start from.
 pub fn states_are_sayable()
     ensures kept { RunsKeepSayable }
     ensures opening { OpeningIsSayable }
     ensures reached { StatesAreSayable }
+    ensures loaded { LoadedAreSayable }
 {}
 
 /// What is queued to a session that watches a query is whole reply lines, and those among them that
@@ -65,6 +68,13 @@ pub fn readers_are_mirrored()
     ensures held { MirroredAreHeld }
     ensures read_back { ReadersAreReadBack }
     ensures whole { SessionsAreReadBack }
+    ensures opened { OpenedAreReadBack }
+{}
+
+/// An input that comes to what a mirror holds is refused at no line, and whatever else it may come to
+/// shows the same answers.
+pub fn inputs_are_held_alone()
+    ensures { HeldAlone }
 {}
 
 /// A printed reply is one line, without an LF inside, and no longer than 16,384 bytes: a rest too, where

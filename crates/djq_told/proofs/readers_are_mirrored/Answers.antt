@@ -1,6 +1,7 @@
 use Rattle.djq_told.proofs.Holding.{mirrored_are_held}
 use Rattle.djq_told.proofs.Mirrored.{watchers_are_mirrored}
 use Rattle.djq_told.proofs.Waiting.{readers_are_mirrored, starts_are_mirrored, ends_are_mirrored, readers_are_read_back}
+use Rattle.djq_told.proofs.Opening.{opened_are_read_back}
 use Rattle.djq_told.proofs.Whole.{sessions_are_read_back}
 use Rattle.djq_told.proofs.readers_are_mirrored.Goals as goal
 
@@ -24,3 +25,6 @@ returns-clause-read_back c = readers_are_read_back
 
 pub returns-clause-whole : goal.returns-clause-whole
 returns-clause-whole c = sessions_are_read_back
+
+pub returns-clause-opened : goal.returns-clause-opened
+returns-clause-opened c = opened_are_read_back

@@ -1,3 +1,4 @@
+use Rattle.djq_told.proofs.Loaded.{loaded_are_sayable}
 use Rattle.djq_told.proofs.Sayable.{runs_keep_sayable, opening_is_sayable, states_are_sayable}
 use Rattle.djq_told.proofs.states_are_sayable.Goals as goal
 
@@ -9,3 +10,6 @@ returns-clause-opening c = opening_is_sayable
 
 pub returns-clause-reached : goal.returns-clause-reached
 returns-clause-reached c = states_are_sayable
+
+pub returns-clause-loaded : goal.returns-clause-loaded
+returns-clause-loaded c = loaded_are_sayable
