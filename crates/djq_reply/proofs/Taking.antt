@@ -1,11 +1,11 @@
 -- How a line is written into room that was taken.
-use Rattle.std.proofs.Common.{◌≡◌, ◌+◌, ◌<◌, ◌≤◌, ◌++◌, ◌∷◌, [], ℕ, List, length, take, get_or, refl, sym, ap, subst, ◌∙◌, arith, append_assoc, length-append}
-use Rattle.std.proofs.lemmas.List.{take-take, length-take-le}
+use Rattle.std.proofs.Common.{◌≡◌, ◌+◌, ◌<◌, ◌≤◌, ◌++◌, ◌∷◌, [], ℕ, List, length, take, get_or, sym, ap, subst, ◌∙◌, arith, length-append}
+use Rattle.std.proofs.lemmas.List.{length-take-le}
 use Rattle.std.specs.List.{flat_map}
 use Rattle.std.specs.Prelude.{Option, None, Some, Result, Ok, Err}
 use Rattle.bytes.specs.Filled.{Filled}
 use Rattle.djq_model.specs.Data.{Bytes}
-use Rattle.djq_value.specs.Output.{Put, Lacks, Puts}
+use Rattle.djq_value.specs.Output.{Put, Puts}
 use Rattle.djq_value.specs.Writing.{Written, Writes}
 use Rattle.djq_value.proofs.Putting.{texts_more}
 use Rattle.djq_value.proofs.Writing.{written_more, stays_before}

@@ -1,4 +1,4 @@
-use Rattle.std.proofs.Common.{◌∷◌, [], ◌++◌, sym, subst, ◌∙◌, append_assoc, ap}
+use Rattle.std.proofs.Common.{◌∷◌, [], ◌++◌, sym, subst, append_assoc}
 use Rattle.djq_model.specs.Data.{Bytes}
 use Rattle.djq_lines.specs.Reply.{cells_text, line, sign_text}
 use Rattle.djq_value.specs.Writing.{Writes, Written}
