@@ -1,5 +1,5 @@
 // Values written into bytes that are there, from a place on.
-ghost use Rattle.std.specs.Prelude.{◌≡◌, ◌+◌, ◌∷◌, [], ◌<◌, ◌≤◌, IsTrue, length};
+ghost use Rattle.std.specs.Prelude.{◌≡◌, ◌+◌, ◌*◌, ◌∷◌, [], ◌<◌, ◌≤◌, IsTrue, length};
 ghost use Rattle.std.specs.Fmt.{decimal, signed_decimal};
 ghost use Rattle.std.specs.List.{flat_map};
 ghost use Rattle.djq_model.specs.Lent.{value_lent};
@@ -15,7 +15,7 @@ use itoa::write_digits;
 const INTEGER_ROOM: usize = 22;
 
 /// Writes a space and a value, as [`print_cell`](crate::print_cell) prints it, and gives where it
-/// ends: none where there may be too little room for it, and for a text that needs an escape.
+/// ends; none where there may be too little room for it.
 #[inline]
 pub fn write_cell(value: Lent<'_>, bytes: &mut [u8], at: usize) -> Option<usize>
     requires { at ≤ length bytes.old }
@@ -66,20 +66,63 @@ fn write_natural(number: u64, bytes: &mut [u8], at: usize) -> usize
     end
 }
 
-// A space and a text in quotes, where no byte of it needs an escape.
+// A space and a text in quotes. There is room where each byte may need an escape.
 #[inline]
 fn write_text(text: &[u8], bytes: &mut [u8], at: usize) -> Option<usize>
     requires { at ≤ length bytes.old }
     ensures { Writes bytes.old bytes.new at (32 ∷ quoted text.now) result }
 {
     let room = bytes.len() - at;
-    if room < 3 || room - 3 < text.len() || !is_plain(text) {
+    if room < 3 || (room - 3) / 2 < text.len() {
         return None;
     }
     let front = write_byte(b' ', bytes, at);
     let open = write_byte(b'"', bytes, front);
-    let close = write_bytes(text, bytes, open);
+    let close = write_escaped(text, bytes, open);
     Some(write_byte(b'"', bytes, close))
+}
+
+// The bytes of a text with their escapes, in one piece where there is none.
+#[inline]
+fn write_escaped(text: &[u8], bytes: &mut [u8], at: usize) -> usize
+    requires { at + 2 * length text.now ≤ length bytes.old }
+    ensures few { result ≤ at + 2 * length text.now }
+    ensures written { Written bytes.old bytes.new at (flat_map escaped text.now) result }
+{
+    if is_plain(text) {
+        write_bytes(text, bytes, at)
+    } else {
+        write_each(text, bytes, at)
+    }
+}
+
+// The bytes of a text with their escapes, one by one.
+#[inline(never)]
+fn write_each(text: &[u8], bytes: &mut [u8], at: usize) -> usize
+    requires { at + 2 * length text.now ≤ length bytes.old }
+    ensures few { result ≤ at + 2 * length text.now }
+    ensures written { Written bytes.old bytes.new at (flat_map escaped text.now) result }
+{
+    let mut end = at;
+    for byte in text {
+        end = write_escape(*byte, bytes, end);
+    }
+    end
+}
+
+// A byte as it stands in a text that is printed.
+#[inline]
+fn write_escape(byte: u8, bytes: &mut [u8], at: usize) -> usize
+    requires { at + 2 ≤ length bytes.old }
+    ensures few { result ≤ at + 2 }
+    ensures written { Written bytes.old bytes.new at (escaped byte) result }
+{
+    match byte {
+        b'"' => write_bytes(b"\\\"", bytes, at),
+        b'\\' => write_bytes(b"\\\\", bytes, at),
+        b'\n' => write_bytes(b"\\n", bytes, at),
+        other => write_byte(other, bytes, at),
+    }
 }
 
 // Whether no byte of a text needs an escape.
