@@ -1,24 +1,61 @@
 // The lines of listings and changes, which are of any length.
 //
-// A line is printed piece by piece. Out of memory its pieces are taken back, once for the whole
-// line.
-ghost use Rattle.std.specs.Prelude.{◌≡◌, ◌≤◌, ◌++◌, codes};
+// A line of values is written into all the room that there is, which is taken once; what it doesn't
+// need is given back. Where the room may be too small, the line is printed piece by piece, and each
+// piece asks for its own. Out of memory its pieces are taken back, once for the whole line.
+ghost use Rattle.std.specs.Prelude.{◌≡◌, ◌≤◌, ◌++◌, codes, length};
 ghost use Rattle.djq_lines.specs.Reply.{answer_line, at_line, cells_text, change_line, last_line};
+ghost use Rattle.djq_lines.specs.Reply.{line};
 ghost use Rattle.djq_lines.specs.Reply.{sign_text as sign_text_of};
 ghost use Rattle.djq_reply.specs.Adding.{Adds};
+ghost use Rattle.djq_reply.specs.Taking.{IsTaken};
 ghost use Rattle.djq_value.specs.Output.{Puts};
+ghost use Rattle.djq_value.specs.Writing.{Writes};
 
 use bytes::BytesMut;
 use djq_lines::Sign;
 use djq_model::{Answered, Name, NoMem};
-use djq_value::{KEPT, digit_count, extend_digits, print_cell, put};
+use djq_value::{
+    KEPT, digit_count, extend_digits, print_cell, put, write_byte, write_bytes, write_cell,
+};
 
 /// Appends an answer that `next` lists.
 ///
 /// # Errors
 ///
 /// `NoMem` comes only where the room is too small and can't grow; the output is then as before.
+#[tactic(auto, using(crate::proofs::Taking::line_put, crate::proofs::Taking::none_put, crate::proofs::Taking::puts_alike))]
 pub fn put_answer<A: Answered>(answer: &A, out: &mut BytesMut) -> Result<(), NoMem>
+    ensures { Puts out.old out.new (answer_line (A.values answer.now)) result }
+{
+    let start = take_room(out);
+    match write_answer(answer, out.as_mut_slice(), start) {
+        Some(end) => {
+            out.truncate(end);
+            Ok(())
+        }
+        None => {
+            out.truncate(start);
+            put_answer_by_pieces(answer, out)
+        }
+    }
+}
+
+// An answer, from a place on.
+fn write_answer<A: Answered>(answer: &A, bytes: &mut [u8], at: usize) -> Option<usize>
+    requires { at ≤ length bytes.old }
+    ensures { Writes bytes.old bytes.new at (answer_line (A.values answer.now)) result }
+{
+    if at == bytes.len() {
+        return None;
+    }
+    let front = write_byte(b'=', bytes, at);
+    write_values(answer, bytes, front)
+}
+
+// An answer, where the room for it may be too small.
+#[inline(never)]
+fn put_answer_by_pieces<A: Answered>(answer: &A, out: &mut BytesMut) -> Result<(), NoMem>
     ensures { Puts out.old out.new (answer_line (A.values answer.now)) result }
 {
     let start = out.len();
@@ -42,7 +79,51 @@ fn add_answer<A: Answered>(answer: &A, out: &mut BytesMut) -> Result<(), NoMem>
 /// # Errors
 ///
 /// `NoMem` comes only where the room is too small and can't grow; the output is then as before.
+#[tactic(auto, using(crate::proofs::Taking::line_put, crate::proofs::Taking::none_put, crate::proofs::Taking::puts_alike))]
 pub fn put_change<A: Answered>(
+    sign: Sign,
+    query: &Name,
+    answer: &A,
+    out: &mut BytesMut,
+) -> Result<(), NoMem>
+    ensures { Puts out.old out.new (change_line sign query.now (A.values answer.now)) result }
+{
+    let start = take_room(out);
+    match write_change(sign, query.as_bytes(), answer, out.as_mut_slice(), start) {
+        Some(end) => {
+            out.truncate(end);
+            Ok(())
+        }
+        None => {
+            out.truncate(start);
+            put_change_by_pieces(sign, query, answer, out)
+        }
+    }
+}
+
+// An answer that came or went, from a place on.
+fn write_change<A: Answered>(
+    sign: Sign,
+    query: &[u8],
+    answer: &A,
+    bytes: &mut [u8],
+    at: usize,
+) -> Option<usize>
+    requires { at ≤ length bytes.old }
+    ensures { Writes bytes.old bytes.new at (change_line sign query.now (A.values answer.now)) result }
+{
+    let room = bytes.len() - at;
+    if room < 2 || room - 2 < query.len() {
+        return None;
+    }
+    let name = write_bytes(sign_text(sign), bytes, at);
+    let front = write_bytes(query, bytes, name);
+    write_values(answer, bytes, front)
+}
+
+// An answer that came or went, where the room for it may be too small.
+#[inline(never)]
+fn put_change_by_pieces<A: Answered>(
     sign: Sign,
     query: &Name,
     answer: &A,
@@ -149,4 +230,32 @@ fn add_cells<A: Answered>(answer: &A, out: &mut BytesMut) -> Result<(), NoMem>
         print_cell(answer.value(at), out)?;
     }
     Ok(())
+}
+
+// Takes all the room but the one that stays behind what is queued, and gives the place where it
+// begins.
+fn take_room(out: &mut BytesMut) -> usize
+    ensures { IsTaken out.old out.new result }
+{
+    let start = out.len();
+    out.advance_mut((out.capacity() - start).saturating_sub(KEPT));
+    start
+}
+
+// Values, each behind a space, and the line's end, from a place on.
+fn write_values<A: Answered>(answer: &A, bytes: &mut [u8], at: usize) -> Option<usize>
+    requires { at ≤ length bytes.old }
+    ensures { Writes bytes.old bytes.new at (line (cells_text (A.values answer.now))) result }
+{
+    let mut end = at;
+    for place in 0..answer.len() {
+        let Some(behind) = write_cell(answer.value(place), bytes, end) else {
+            return None;
+        };
+        end = behind;
+    }
+    if end == bytes.len() {
+        return None;
+    }
+    Some(write_byte(b'\n', bytes, end))
 }

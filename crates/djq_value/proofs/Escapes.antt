@@ -1,8 +1,11 @@
 -- How many bytes a text has with its escapes.
-use Rattle.std.proofs.Common.{◌≡◌, ◌+◌, ◌∷◌, ◌++◌, [], ℕ, List, length, cond, true, false, Bool, eqb, refl, ap, ◌∙◌, arith, length-append, count_by, ◌||◌, suc}
+use Rattle.std.proofs.Common.{◌≡◌, ◌+◌, ◌∷◌, ◌++◌, [], ℕ, List, length, cond, true, false, Bool, eqb, refl, ap, ◌∙◌, arith, length-append, count_by, ◌||◌, suc, ◌<◌, get_or, take, sym}
+use Rattle.std.proofs.lemmas.Bool.{ne_eqb}
+use Rattle.std.proofs.lemmas.List.{take_more}
 use Rattle.std.specs.List.{flat_map}
 use Rattle.std.proofs.lemmas.List.Sums.{sum_by-cons}
 use Rattle.djq_value.specs.ValueText.{escaped, is_escaped}
+use Rattle.djq_value.proofs.Putting.{texts_more}
 
 -- a byte has one more where it needs an escape
 length-escaped : (b : ℕ) → length (escaped b) ≡ cond (is_escaped b) 2 1
@@ -28,7 +31,7 @@ plain_more : (p : Bool) (b : ℕ) (k m : ℕ) (here rest text : List ℕ) → m 
 plain_more true b k m here rest text e z h r = absurd (omega (arith, e, z))
 plain_more false b k m here rest text e z h r = ap (λ (xs : List ℕ). xs ++ rest) (h refl) ∙ ap (λ (xs : List ℕ). b ∷ xs) (r (omega (arith, e, z)))
 
-plain_byte : (b : ℕ) → is_escaped b ≡ false → escaped b ≡ b ∷ []
+pub plain_byte : (b : ℕ) → is_escaped b ≡ false → escaped b ≡ b ∷ []
 plain_byte b = none_of (eqb b 34) (eqb b 92) (eqb b 10)
   where
     none_of : (p q r : Bool) → (p || q || r) ≡ false → cond p (92 ∷ 34 ∷ []) (cond q (92 ∷ 92 ∷ []) (cond r (92 ∷ 110 ∷ []) (b ∷ []))) ≡ b ∷ []
@@ -43,3 +46,16 @@ plain_text [] z = refl
 plain_text (b ∷ bs) z =
     plain_more (is_escaped b) b (count_by is_escaped bs) (count_by is_escaped (b ∷ bs)) (escaped b) (flat_map escaped bs) bs
     (sum_by-cons (λ x. cond (is_escaped x) 1 0) b bs) z (plain_byte b) (plain_text bs)
+
+-- one more byte that needs no escape
+pub plain_longer : (t : List ℕ) (k b : ℕ) → k < length t → get_or t k 0 ≡ b → flat_map escaped (take k t) ≡ take k t → is_escaped b ≡ false
+    → flat_map escaped (take (k + 1) t) ≡ take (k + 1) t
+plain_longer t k b h e so z =
+    texts_more escaped t k 0 h
+    ∙ ap (λ xs. xs ++ escaped (get_or t k 0)) so
+    ∙ ap (λ xs. take k t ++ xs) (ap escaped e ∙ plain_byte b z ∙ ap (λ x. x ∷ []) (sym e))
+    ∙ sym (take_more t k 0 h)
+
+-- no byte above the backslash needs an escape
+pub plain_above : (b : ℕ) → 92 < b → is_escaped b ≡ false
+plain_above b h = rw (ne_eqb b 34 (λ e. omega (arith, h, e)), ne_eqb b 92 (λ e. omega (arith, h, e)), ne_eqb b 10 (λ e. omega (arith, h, e))) refl

@@ -1,3 +1,4 @@
+pub mod Counting
 pub mod Lexes
 pub mod Texts
 pub mod Spellings
@@ -5,4 +6,5 @@ pub mod Scanning
 pub mod Words
 pub mod Escapes
 pub mod Putting
+pub mod Writing
 pub mod Literals

@@ -9,4 +9,5 @@ pub mod Number
 pub mod Reads
 pub mod ValueText
 pub mod Output
+pub mod Writing
 pub mod ReadValue

@@ -12,6 +12,18 @@ pub fn digit_count(number: u64) -> usize
     ensures value { result ≡ length (decimal number) }
     ensures few { result ≤ 20 }
 {
+    if number < 100_000_000 {
+        middle_count(number)
+    } else {
+        long_count(number)
+    }
+}
+
+// By one division for each four digits.
+fn long_count(number: u64) -> usize
+    ensures value { result ≡ length (decimal number) }
+    ensures few { result ≤ 20 }
+{
     let mut left = number;
     let mut count = 0;
     while left >= 10_000 {
@@ -21,10 +33,30 @@ pub fn digit_count(number: u64) -> usize
     count + short_count(left)
 }
 
+// Of a number of at most eight digits, without a division.
+#[inline]
+#[tactic(auto, using(crate::proofs::Counting::length_five, crate::proofs::Counting::length_six, crate::proofs::Counting::length_seven, crate::proofs::Counting::length_eight))]
+fn middle_count(number: u64) -> usize
+    requires { number < 100000000 }
+    ensures value { result ≡ length (decimal number) }
+    ensures few { result ≤ 8 }
+{
+    if number < 10_000 {
+        short_count(number)
+    } else if number < 1_000_000 {
+        if number < 100_000 { 5 } else { 6 }
+    } else if number < 10_000_000 {
+        7
+    } else {
+        8
+    }
+}
+
 // How many digits a number below 10,000 has.
 fn short_count(number: u64) -> usize
     requires { number < 10000 }
-    ensures { result ≡ length (decimal number) }
+    ensures value { result ≡ length (decimal number) }
+    ensures few { result ≤ 4 }
 {
     if number < 100 {
         if number < 10 { 1 } else { 2 }

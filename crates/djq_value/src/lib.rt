@@ -20,7 +20,8 @@
 //! its text whole, or nothing. An integer has several spellings and is printed in one; a text has
 //! one.
 //!
-//! Inside, `lexer` cuts, `word`, `number`, `literal` and `quoted` read, `print` and `output` write.
+//! Inside, `lexer` cuts, `word`, `number`, `literal` and `quoted` read; `print` and `output` append,
+//! and `write` writes into bytes that are there.
 //! A text stays in its line as [`Quoted`] until it is copied. `laws` has the promises on both ways
 //! at once: what is printed is read back, and tokens and values are read exactly as they are
 //! spelled.
@@ -36,6 +37,7 @@ pub use print::print_cell;
 pub use quoted::Quoted;
 pub use reading::{ValueRefusal, read_value};
 pub use word::{is_name, is_text, next_name, next_word, read_name};
+pub use write::{write_byte, write_bytes, write_cell};
 
 mod digits;
 mod laws;
@@ -49,3 +51,4 @@ mod reading;
 #[cfg(test)]
 mod tests;
 mod word;
+mod write;

@@ -75,11 +75,12 @@ fn escape_count(text: &[u8]) -> usize
     text.iter().filter(|b| is_escaped(**b)).count()
 }
 
-// Whether a byte of a text needs an escape.
-fn is_escaped(byte: u8) -> bool
+// Whether a byte of a text needs an escape. Small letters are above all that do.
+#[tactic(auto, using(crate::proofs::Escapes::plain_above))]
+pub(crate) fn is_escaped(byte: u8) -> bool
     ensures { result ≡ is_escaped_of byte }
 {
-    (byte == b'"') | (byte == b'\\') | (byte == b'\n')
+    byte <= b'\\' && ((byte == b'"') | (byte == b'\\') | (byte == b'\n'))
 }
 
 // The bytes of a text with their escapes, in one piece where there is none.

@@ -1,7 +1,7 @@
 use Rattle.std.proofs.Common.{arith}
 use Rattle.std.proofs.lemmas.Fmt.{length-decimal-le}
 use Rattle.itoa.proofs.Decimal.{length_four}
-use Rattle.djq_value.proofs.digits.digit_count.Goals as goal
+use Rattle.djq_value.proofs.digits.long_count.Goals as goal
 
 pub overflow_add-count : goal.overflow_add-count
 overflow_add-count c =
@@ -16,9 +16,9 @@ loop-left-preserved c =
 pub overflow_add-result : goal.overflow_add-result
 overflow_add-result c =
     let most = length-decimal-le 20 c.args.number (omega arith) (omega arith) (omega arith) in
-    record { fits = omega (arith, most, c.short_count.ensures, c.loop-left.invariant) }
+    record { fits = omega (arith, most, c.short_count.ensures.value, c.loop-left.invariant) }
 
 pub returns-clause-few : goal.returns-clause-few
 returns-clause-few c =
     let most = length-decimal-le 20 c.args.number (omega arith) (omega arith) (omega arith) in
-    omega (arith, most, c.short_count.ensures, c.loop-left.invariant)
+    omega (arith, most, c.short_count.ensures.value, c.loop-left.invariant)

@@ -1,6 +1,6 @@
 use Rattle.std.proofs.Common.{◌≡◌, ◌+◌, length}
 use Rattle.std.specs.Fmt.{decimal}
-use Rattle.djq_value.proofs.digits.digit_count.Given as goal
+use Rattle.djq_value.proofs.digits.long_count.Given as goal
 
 abbrev pub invariant-loop-left : goal.invariant-loop-left
 invariant-loop-left l = l.count + length (decimal l.left) ≡ length (decimal l.number)

@@ -1,0 +1,38 @@
+-- How texts are written behind one another.
+use Rattle.std.proofs.Common.{ℕ, ◌+◌, ◌≡◌, ◌≤◌, ◌++◌, refl, length, take, drop, sym, ap, ◌∙◌, append_assoc, arith, length-append}
+use Rattle.std.proofs.Math.Seq.{take-add}
+use Rattle.std.proofs.lemmas.List.{length-take-le, take_at, take-take}
+use Rattle.djq_model.specs.Data.{Bytes}
+use Rattle.djq_value.specs.Writing.{Written}
+
+-- a text that is written in two parts
+pub written_more : (old mid new : Bytes) (at middle end : ℕ) (text more : Bytes) → Written old mid at text middle
+    → Written mid new middle more end → Written old new at (text ++ more) end
+written_more old mid new at middle end text more p h = record {
+  ends = omega (arith, p.ends, h.ends, length-append text more);
+  within = h.within;
+  items = h.items ∙ ap (λ xs. xs ++ more) p.items ∙ append_assoc (take at old) text more;
+}
+
+-- what is before a text stays, where a part of it was written
+pub stays_before : (old mid new : Bytes) (at middle : ℕ) (text : Bytes) → at ≤ length old → Written old mid at text middle
+    → take middle new ≡ take middle mid → take at new ≡ take at old
+stays_before old mid new at middle text fits p h =
+    sym (take-take at middle new (omega (arith, p.ends)))
+    ∙ ap (take at) (h ∙ p.items)
+    ∙ take_at (take at old) text at (length-take-le at old fits)
+
+-- digits that are written in front of their end
+pub written_digits : (old new digits behind : Bytes) (start at end : ℕ) → start + length digits ≡ end → end ≡ at + length digits
+    → end ≤ length new → drop start new ≡ digits ++ behind → take start new ≡ take start old → Written old new at digits end
+written_digits old new digits behind start at end s e within d t =
+    let same : start ≡ at = omega (arith, s, e) in
+    record {
+      ends = e;
+      within = within;
+      items =
+          ap (λ n. take n new) (sym s) ∙ take-add start (length digits) new
+          ∙ ap (λ xs. take start new ++ take (length digits) xs) d
+          ∙ ap (λ xs. take start new ++ xs) (take_at digits behind (length digits) refl)
+          ∙ ap (λ xs. xs ++ digits) (t ∙ ap (λ n. take n old) same);
+    }

@@ -1,0 +1,160 @@
+// Values written into bytes that are there, from a place on.
+ghost use Rattle.std.specs.Prelude.{◌≡◌, ◌+◌, ◌*◌, ◌∷◌, [], ◌<◌, ◌≤◌, IsTrue, length};
+ghost use Rattle.std.specs.Fmt.{decimal, signed_decimal};
+ghost use Rattle.std.specs.List.{flat_map};
+ghost use Rattle.djq_model.specs.Lent.{value_lent};
+ghost use Rattle.djq_value.specs.ValueText.{escaped, quoted, value_text};
+ghost use Rattle.djq_value.specs.Writing.{Writes, Written};
+
+use crate::digits::digit_count;
+use crate::print::is_escaped;
+use djq_model::Lent;
+use itoa::write_digits;
+
+// The most that a space and an integer take, with a sign and 20 digits.
+const INTEGER_ROOM: usize = 22;
+
+/// Writes a space and a value, as [`print_cell`](crate::print_cell) prints it, and gives where it
+/// ends; none where there may be too little room for it.
+#[inline]
+pub fn write_cell(value: Lent<'_>, bytes: &mut [u8], at: usize) -> Option<usize>
+    requires { at ≤ length bytes.old }
+    ensures { Writes bytes.old bytes.new at (32 ∷ value_text (value_lent value.entry)) result }
+{
+    match value {
+        Lent::Int(number) => write_integer(number, bytes, at),
+        Lent::Text(text) => write_text(text, bytes, at),
+    }
+}
+
+// A space and an integer.
+#[inline]
+fn write_integer(number: i64, bytes: &mut [u8], at: usize) -> Option<usize>
+    requires { at ≤ length bytes.old }
+    ensures { Writes bytes.old bytes.new at (32 ∷ signed_decimal number) result }
+{
+    if bytes.len() - at < INTEGER_ROOM {
+        return None;
+    }
+    let front = write_byte(b' ', bytes, at);
+    Some(write_signed(number, bytes, front))
+}
+
+// An integer.
+#[inline]
+fn write_signed(number: i64, bytes: &mut [u8], at: usize) -> usize
+    requires { at + 21 ≤ length bytes.old }
+    ensures { Written bytes.old bytes.new at (signed_decimal number) result }
+{
+    let size = number.unsigned_abs();
+    if number < 0 {
+        let front = write_byte(b'-', bytes, at);
+        write_natural(size, bytes, front)
+    } else {
+        write_natural(size, bytes, at)
+    }
+}
+
+// A number without a sign.
+#[inline]
+fn write_natural(number: u64, bytes: &mut [u8], at: usize) -> usize
+    requires { at + 20 ≤ length bytes.old }
+    ensures { Written bytes.old bytes.new at (decimal number) result }
+{
+    let end = at + digit_count(number);
+    let _start = write_digits(number, bytes, end);
+    end
+}
+
+// A space and a text in quotes. There is room where each byte may need an escape.
+#[inline]
+fn write_text(text: &[u8], bytes: &mut [u8], at: usize) -> Option<usize>
+    requires { at ≤ length bytes.old }
+    ensures { Writes bytes.old bytes.new at (32 ∷ quoted text.now) result }
+{
+    let room = bytes.len() - at;
+    if room < 3 || (room - 3) / 2 < text.len() {
+        return None;
+    }
+    let front = write_byte(b' ', bytes, at);
+    let open = write_byte(b'"', bytes, front);
+    let close = write_escaped(text, bytes, open);
+    Some(write_byte(b'"', bytes, close))
+}
+
+// The bytes of a text with their escapes, in one piece where there is none.
+#[inline]
+fn write_escaped(text: &[u8], bytes: &mut [u8], at: usize) -> usize
+    requires { at + 2 * length text.now ≤ length bytes.old }
+    ensures few { result ≤ at + 2 * length text.now }
+    ensures written { Written bytes.old bytes.new at (flat_map escaped text.now) result }
+{
+    if is_plain(text) {
+        write_bytes(text, bytes, at)
+    } else {
+        write_each(text, bytes, at)
+    }
+}
+
+// The bytes of a text with their escapes, one by one.
+#[inline(never)]
+fn write_each(text: &[u8], bytes: &mut [u8], at: usize) -> usize
+    requires { at + 2 * length text.now ≤ length bytes.old }
+    ensures few { result ≤ at + 2 * length text.now }
+    ensures written { Written bytes.old bytes.new at (flat_map escaped text.now) result }
+{
+    let mut end = at;
+    for byte in text {
+        end = write_escape(*byte, bytes, end);
+    }
+    end
+}
+
+// A byte as it stands in a text that is printed.
+#[inline]
+fn write_escape(byte: u8, bytes: &mut [u8], at: usize) -> usize
+    requires { at + 2 ≤ length bytes.old }
+    ensures few { result ≤ at + 2 }
+    ensures written { Written bytes.old bytes.new at (escaped byte) result }
+{
+    match byte {
+        b'"' => write_bytes(b"\\\"", bytes, at),
+        b'\\' => write_bytes(b"\\\\", bytes, at),
+        b'\n' => write_bytes(b"\\n", bytes, at),
+        other => write_byte(other, bytes, at),
+    }
+}
+
+// Whether no byte of a text needs an escape.
+#[inline]
+fn is_plain(text: &[u8]) -> bool
+    ensures { IsTrue result → flat_map escaped text.now ≡ text.now }
+{
+    for byte in text {
+        if is_escaped(*byte) {
+            return false;
+        }
+    }
+    true
+}
+
+/// Writes a byte, and gives the place behind it.
+#[inline]
+pub fn write_byte(byte: u8, bytes: &mut [u8], at: usize) -> usize
+    requires { at < length bytes.old }
+    ensures { Written bytes.old bytes.new at (byte ∷ []) result }
+{
+    bytes[at] = byte;
+    at + 1
+}
+
+/// Writes bytes, and gives the place behind them.
+#[inline]
+pub fn write_bytes(piece: &[u8], bytes: &mut [u8], at: usize) -> usize
+    requires { at + length piece.now ≤ length bytes.old }
+    ensures { Written bytes.old bytes.new at piece.now result }
+{
+    let end = at + piece.len();
+    bytes[at..end].copy_from_slice(piece);
+    end
+}
