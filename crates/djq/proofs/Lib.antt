@@ -1,8 +1,9 @@
 pub mod Opening
 pub mod Logging
+pub mod Abandoning
+pub mod Living
 pub mod Reopening
 pub mod Running
 pub mod Finishing
-pub mod Living
 pub mod Gathering
 pub mod Replaying

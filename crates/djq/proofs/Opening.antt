@@ -93,7 +93,7 @@ idle_synced gate h idle =
       leaves = leaves_move (OpensWithin [] [] 0) h h (settled h.file.bytes) keeping.leaves now;
     }
 
-made_finds : (path : Bytes) (old since new : History) → IsMade path [] old since → IsKeeping [] [] 8 since new → Finds path [] 8 old new
+made_finds : (path : Bytes) (old since new : History) → IsMade path [] old since → IsKeeping [] [] 8 since new → Finds path [] [] 8 old new
 made_finds path old since new made keeping = record { since = since; begins = inl made; holds = keeping }
 
 -- what is left where a journal wasn't opened
@@ -107,16 +107,16 @@ lacks_leaves path old new told = told_so old new (LacksFile path) (LeavesUnloade
 -- behind the sync of an opening
 opened_synced : (path : Bytes) (o m n : History) → HasFile path o m → n ≡ after_sync m → IsOpened path o n
 opened_synced path o m n (inl is) same = inl (same ∙ ap after_sync is)
-opened_synced path o m n (inr (made, idle)) same = inr (subst (λ (h : History). Finds path [] 8 o h) (sym same)
+opened_synced path o m n (inr (made, idle)) same = inr (subst (λ (h : History). Finds path [] [] 8 o h) (sym same)
     (made_finds path o m (after_sync m) made (idle_synced 8 m idle)))
 
 leaves_opened : (path : Bytes) (o n : History) → IsOpened path o n → LeavesUnloaded path o n
 leaves_opened path o n (inl is) = inl (inr (inr is))
-leaves_opened path o n (inr finds) = inr (inr finds)
+leaves_opened path o n (inr finds) = inr (inr (inl ([], 8, finds)))
 
 leaves_unsynced : (path : Bytes) (o m : History) → HasFile path o m → LeavesUnloaded path o m
 leaves_unsynced path o m (inl is) = inl (inr (inl is))
-leaves_unsynced path o m (inr (made, idle)) = inr (inr (made_finds path o m m made (idle_none 8 m idle)))
+leaves_unsynced path o m (inr (made, idle)) = inr (inr (inl ([], 8, made_finds path o m m made (idle_none 8 m idle))))
 
 pub ready_opened : (path : Bytes) (gate : ℕ) (old mid new : Option History) → WhereTold old mid (HasFile path) → WhereTold mid new (Opens (Ready gate))
     → WhereTold old new (IsOpened path)
@@ -151,7 +151,7 @@ opened_leaves path old mid new opened same = told_both old mid new (IsOpened pat
     (λ o m n p q. subst (λ (h : History). LeavesUnloaded path o h) (sym q) (leaves_opened path o m p)) opened same
 
 -- the older journal has these lines
-older_finds : (path : Bytes) (found : List Bytes) (gate : ℕ) (o n : History) → n ≡ after_sync (asked_for path o) → IsIdle found gate n.file → Finds path found gate o n
+older_finds : (path : Bytes) (found : List Bytes) (gate : ℕ) (o n : History) → n ≡ after_sync (asked_for path o) → IsIdle found gate n.file → Finds path found [] gate o n
 older_finds path found gate o n is idle = record {
   since = n;
   begins = inr (record { lines = subst (λ (bytes : List ℕ). OpensTo found bytes) (ap (λ (h : History). h.file.bytes) is) idle.opens; is = is });
@@ -159,23 +159,23 @@ older_finds path found gate o n is idle = record {
 }
 
 -- a journal that was made has none
-made_has_none : (path : Bytes) (found : List Bytes) (gate : ℕ) (o n : History) → Finds path [] 8 o n → IsIdle found gate n.file → Finds path found gate o n
+made_has_none : (path : Bytes) (found : List Bytes) (gate : ℕ) (o n : History) → Finds path [] [] 8 o n → IsIdle found gate n.file → Finds path found [] gate o n
 made_has_none path found gate o n finds idle =
     let none : [] ≡ found = opens_once [] found n.file.bytes ((finds.holds).idle).opens idle.opens in
     let place : 8 ≡ gate = ((finds.holds).idle).place ∙ ap (λ (ls : List Bytes). length (front ls)) none ∙ sym idle.place in
-    subst (λ (k : ℕ). Finds path found k o n) place (subst (λ (ls : List Bytes). Finds path ls 8 o n) none finds)
+    subst (λ (k : ℕ). Finds path found [] k o n) place (subst (λ (ls : List Bytes). Finds path ls [] 8 o n) none finds)
 
 -- All lines were found.
 pub opened_finds : (path : Bytes) (found : List Bytes) (gate : ℕ) (old mid new : Option History) → WhereTold old mid (IsOpened path)
-    → IfSome new (λ h. IsIdle found gate h.file) → WhereTold mid new (λ o n. n ≡ o) → WhereTold old new (Finds path found gate)
+    → IfSome new (λ h. IsIdle found gate h.file) → WhereTold mid new (λ o n. n ≡ o) → WhereTold old new (Finds path found [] gate)
 opened_finds path found gate old mid new opened idle same =
-    told_then old mid new (IsOpened path) (λ o n. n ≡ o) (λ h. IsIdle found gate h.file) (Finds path found gate) (λ o m n p r q. all o m n p r q) opened idle same
+    told_then old mid new (IsOpened path) (λ o n. n ≡ o) (λ h. IsIdle found gate h.file) (Finds path found [] gate) (λ o m n p r q. all o m n p r q) opened idle same
   where
-    at_moment : (o n : History) → IsOpened path o n → IsIdle found gate n.file → Finds path found gate o n
+    at_moment : (o n : History) → IsOpened path o n → IsIdle found gate n.file → Finds path found [] gate o n
     at_moment o n (inl is) r = older_finds path found gate o n is r
     at_moment o n (inr finds) r = made_has_none path found gate o n finds r
 
-    all : (o m n : History) → IsOpened path o m → IsIdle found gate n.file → n ≡ m → Finds path found gate o n
+    all : (o m n : History) → IsOpened path o m → IsIdle found gate n.file → n ≡ m → Finds path found [] gate o n
     all o m n p r q = at_moment o n (subst (λ (h : History). IsOpened path o h) (sym q) p) r
 
 -- What is read at a journal's place.

@@ -19,7 +19,7 @@ use Rattle.djq_io.specs.declared.hub.Told.{Told}
 use Rattle.djq_io.specs.declared.hub.Told.TheVariants.{Listening, Turning, Sending, Closing}
 use Rattle.djq_model.specs.Data.{Bytes}
 use Rattle.djq_machine.specs.State.{State}
-use Rattle.djq_machine.specs.Run.{Walk, groups_of}
+use Rattle.djq_machine.specs.Run.{Walk, Group, groups_of}
 use Rattle.djq_machine.specs.Call.{Counts}
 use Rattle.djq_laws.specs.declared.limits.TheConstants.{READ_BYTES}
 use Rattle.djq_run.specs.declared.status.Status.{Status}
@@ -153,28 +153,29 @@ made_steady bytes hub made = record {
 }
 
 -- How serving ended, and what of it is in the log.
-pub record EndsKept (log : Option LogSeen) (found : List Bytes) (answer : Served) (most : ℕ) (hub : Shown) (loaded : Counts) (start : State) (hub' : Shown)
+pub record EndsKept (log : Option LogSeen) (found : List Bytes) (first : List Group) (answer : Served) (most : ℕ) (hub : Shown) (loaded : Counts) (start : State) (hub' : Shown)
     (counted' : Counts) (state : State) : Type 0 where
   pub ends : ServeEnds answer most hub loaded start hub' counted' state
-  pub logs : Logs log found answer (groups_of (all_done ends.goes.moves))
+  pub logs : Logs log found first answer (groups_of (all_done ends.goes.moves))
   pub silent : UnkeptIsSilent answer ends.goes.moves
 
 -- The hub of a schedule was served.
-pub plays : (log : Option LogSeen) (found : List Bytes) (bytes : Bytes) (made hub hub' : Recorded) (answer : Served) (most : ℕ) (counted loaded counted' : Counts) (start state : State)
-    → Begins log found counted start loaded → IsMade bytes made → hub ≡ made → most ≡ length (lines_of bytes) + 1
-    → EndsKept log found answer most (steady hub) loaded start (steady hub') counted' state
+pub plays : (log : Option LogSeen) (found : List Bytes) (first : List Group) (bytes : Bytes) (made hub hub' : Recorded) (answer : Served) (most : ℕ) (counted loaded counted' : Counts) (start state : State)
+    → Begins log found first counted start loaded → IsMade bytes made → hub ≡ made → most ≡ length (lines_of bytes) + 1
+    → EndsKept log found first answer most (steady hub) loaded start (steady hub') counted' state
     → FaultsCount answer 0 0 → Plays log made.script.turns (length (lines_of bytes) + 1) counted counted' hub'.past
-plays log found bytes made hub hub' answer most counted loaded counted' start state begins is_made same is_most ends faults =
+plays log found first bytes made hub hub' answer most counted loaded counted' start state begins is_made same is_most ends faults =
     let turns = made.script.turns in
     let lines = length (lines_of bytes) in
     let of_made = ap steady same ∙ made_hub bytes made is_made in
-    let of_turns : EndsKept log found answer most (hub_of turns) loaded start (steady hub') counted' state =
-    subst (λ (h : Shown). EndsKept log found answer most h loaded start (steady hub') counted' state) of_made ends in
-    let served : EndsKept log found answer (lines + 1) (hub_of turns) loaded start (steady hub') counted' state =
-    subst (λ (n : ℕ). EndsKept log found answer n (hub_of turns) loaded start (steady hub') counted' state) is_most of_turns in
+    let of_turns : EndsKept log found first answer most (hub_of turns) loaded start (steady hub') counted' state =
+    subst (λ (h : Shown). EndsKept log found first answer most h loaded start (steady hub') counted' state) of_made ends in
+    let served : EndsKept log found first answer (lines + 1) (hub_of turns) loaded start (steady hub') counted' state =
+    subst (λ (n : ℕ). EndsKept log found first answer n (hub_of turns) loaded start (steady hub') counted' state) is_most of_turns in
     let more = turn_for_each_line bytes turns is_made.turns in
     record {
       found = found;
+      first = first;
       start = start;
       loaded = loaded;
       begins = begins;
@@ -209,20 +210,20 @@ comes_to_nothing log bytes turns counted counted' past whole p is status none =
     inr (record { past = past; plays = p; is = none ∙ ap (λ (s : Status). first_fault s NoMemory) is })
 
 -- The hub was served, and its past is told, or there is no memory for it.
-pub schedule_served : {A : Type 0} (r : Result A Status) (text : A → Bytes) (answered : A → Status) (log : Option LogSeen) (found : List Bytes) (bytes : Bytes) (made hub hub' : Recorded)
+pub schedule_served : {A : Type 0} (r : Result A Status) (text : A → Bytes) (answered : A → Status) (log : Option LogSeen) (found : List Bytes) (first : List Group) (bytes : Bytes) (made hub hub' : Recorded)
     (answer : Served) (most : ℕ) (counted loaded counted' : Counts) (start state : State) (whole : Status)
-    → Begins log found counted start loaded → IsMade bytes made → hub ≡ made → most ≡ length (lines_of bytes) + 1
-    → EndsKept log found answer most (steady hub) loaded start (steady hub') counted' state
+    → Begins log found first counted start loaded → IsMade bytes made → hub ≡ made → most ≡ length (lines_of bytes) + 1
+    → EndsKept log found first answer most (steady hub) loaded start (steady hub') counted' state
     → FaultsCount answer 0 0 → whole ≡ status_of answer
     → MatchResult r (λ a. TellsAll (text a) (answered a) hub'.past whole) (λ status. TellsNone status whole)
     → MatchResult r (λ a. ComesTo log (Ok made.script.turns) bytes counted counted' (text a) (answered a)) (λ status. ComesToNothing log status (Ok made.script.turns) bytes counted counted')
 unfolding plays
-schedule_served (Ok a) text answered log found bytes made hub hub' answer most counted loaded counted' start state whole begins is_made same is_most ends faults is tells =
+schedule_served (Ok a) text answered log found first bytes made hub hub' answer most counted loaded counted' start state whole begins is_made same is_most ends faults is tells =
     comes_to log bytes made.script.turns counted counted' hub'.past whole
-    (plays log found bytes made hub hub' answer most counted loaded counted' start state begins is_made same is_most ends faults) is (text a) (answered a) tells
-schedule_served (Err status) text answered log found bytes made hub hub' answer most counted loaded counted' start state whole begins is_made same is_most ends faults is none =
+    (plays log found first bytes made hub hub' answer most counted loaded counted' start state begins is_made same is_most ends faults) is (text a) (answered a) tells
+schedule_served (Err status) text answered log found first bytes made hub hub' answer most counted loaded counted' start state whole begins is_made same is_most ends faults is none =
     comes_to_nothing log bytes made.script.turns counted counted' hub'.past whole
-    (plays log found bytes made hub hub' answer most counted loaded counted' start state begins is_made same is_most ends faults) is status none
+    (plays log found first bytes made hub hub' answer most counted loaded counted' start state begins is_made same is_most ends faults) is status none
 
 -- A hub in memory tells its past.
 pub tells_past : (told : List Told) (past : Option (List Told)) (text : Bytes) (whole : Status) → past ≡ Some told → IfSome past (λ p. has_gone p ≡ false) → text ≡ sent_text told → TellsAll text whole past whole

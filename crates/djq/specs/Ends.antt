@@ -10,7 +10,7 @@ use Rattle.djq_io.specs.declared.hub.Told.TheVariants.{Listening}
 use Rattle.djq_model.specs.Data.{Bytes}
 use Rattle.djq_lines.specs.Reply.{line}
 use Rattle.djq_machine.specs.State.{State, opening}
-use Rattle.djq_machine.specs.Run.{groups_of}
+use Rattle.djq_machine.specs.Run.{Group, groups_of}
 use Rattle.djq_machine.specs.Call.{Counts}
 use Rattle.djq_laws.specs.Course.{Outside}
 use Rattle.djq_laws.specs.Given.{Headline}
@@ -60,23 +60,25 @@ pub record Listens (addr : Bytes) (answer : Listened) (old new : Shown) : Type 0
   pub script : WhereTold old.script new.script (λ a b. b ≡ a)
   pub ids : new.ids ≡ old.ids
 
--- **The theorem of `serve`.** The lines of the log were loaded, the hub listened at the address, and
--- then the server served it from what they gave on: by moves that are a run of the join machine, of
--- which the hub tells, with each session sent what is its. What the run keeps is in the log, before
--- anything is sent behind it. And the status says exactly why it ended.
+-- **The theorem of `serve`.** The lines of the log were loaded, and a batch that they left open was
+-- ended by a line kept behind them; the hub listened at the address, and then the server served it from
+-- what they gave on: by moves that are a run of the join machine, of which the hub tells, with each
+-- session sent what is its. What the run keeps is in the log, before anything is sent behind it. And
+-- the status says exactly why it ended.
 pub record ServesHub (log : Option LogSeen) (status : Status) (addr : Bytes) (turns : ℕ) (hub : HubSeen)
     (counted : Counts) (hub' : HubSeen) (counted' : Counts) : Type 0 where
   pub found : List Bytes
+  pub first : List Group
   pub start : State
   pub loaded : Counts
-  pub begins : Begins log found counted start loaded
+  pub begins : Begins log found first counted start loaded
   pub ready : Shown
   pub listens : Listens addr Ready hub.shown ready
   pub state : State
   pub answer : Served
   pub ends : ServeEnds answer turns ready loaded start hub'.shown counted' state
   pub faults : FaultsCount answer hub.faults hub'.faults
-  pub logs : Logs log found answer (groups_of (all_done ends.goes.moves))
+  pub logs : Logs log found first answer (groups_of (all_done ends.goes.moves))
   pub silent : UnkeptIsSilent answer ends.goes.moves
   pub is : status ≡ status_of answer
 
@@ -84,10 +86,11 @@ pub record ServesHub (log : Option LogSeen) (status : Status) (addr : Bytes) (tu
 pub record Unheard (log : Option LogSeen) (status : Status) (addr : Bytes) (hub : HubSeen) (counted : Counts)
     (hub' : HubSeen) (counted' : Counts) : Type 0 where
   pub found : List Bytes
+  pub first : List Group
   pub start : State
-  pub begins : Begins log found counted start counted'
+  pub begins : Begins log found first counted start counted'
   pub gate : Option ℕ
-  pub lines : FoundIn log found gate
+  pub lines : FoundIn log found first gate
   pub listens : Listens addr Failed hub.shown hub'.shown
   pub faults : Counted hub.faults hub'.faults
   pub is : status ≡ HubFault

@@ -1,19 +1,20 @@
 -- How the log of a program is opened and loaded, and what it keeps of the run that follows.
-use Rattle.std.specs.Prelude.{ℕ, List, [], ◌∷◌, ◌++◌, ◌≡◌, ◌⊎◌, Option, None, Some, IfSome, drop}
+use Rattle.std.specs.Prelude.{ℕ, List, [], ◌∷◌, ◌++◌, ◌≡◌, ◌⊎◌, Option, None, Some, IsSome, IfSome, drop, codes}
 use Rattle.std.specs.Borrow.{Bor}
 use Rattle.djq_io.specs.Faults.{Counted}
 use Rattle.djq_disk.specs.History.{History, WhereTold}
 use Rattle.djq_journal.specs.Format.{header, OpensTo, IsBad}
-use Rattle.djq_journal.specs.Standing.{IsAt}
+use Rattle.djq_journal.specs.Standing.{IsAt, IsIdle}
 use Rattle.djq_journal.specs.Calls.{after_sync}
 use Rattle.djq_journal.specs.Keeping.{IsKeeping, WasKeeping}
 use Rattle.djq_journal.specs.Logging.{Overfull}
 use Rattle.djq_model.specs.Data.{Bytes}
-use Rattle.djq_machine.specs.State.{Store, State, opening}
-use Rattle.djq_machine.specs.Run.{Group}
+use Rattle.djq_lines.specs.declared.held.HeldRow.{HeldRow}
+use Rattle.djq_machine.specs.State.{State, opening}
+use Rattle.djq_machine.specs.Run.{Group, lines_in}
 use Rattle.djq_machine.specs.Call.{Counts}
 use Rattle.djq_machine.specs.declared.machine.Loaded.TheVariants.{Refused as refused}
-use Rattle.djq_machine.specs.Loading.{LoadStep, Loads}
+use Rattle.djq_machine.specs.Loading.{Loading, loading, LoadStep, Loads}
 use Rattle.djq_run.specs.declared.status.Status.{Status}
 use Rattle.djq_run.specs.declared.status.Status.TheVariants.{Done, NoMemory, HubFault, TurnsUsed, DiskFault, LogFull, BadLog}
 use Rattle.djq_serve.specs.declared.served.Served.{Served}
@@ -35,10 +36,13 @@ pub record LogSeen : Type 0 where
   pub before : DiskSeen
   pub now : DiskSeen
 
+abbrev pub log_at : Bytes → DiskSeen → DiskSeen → LogSeen
+log_at path before now = record { path = path; before = before; now = now }
+
 -- the log that is asked for, if one is
 abbrev pub log_seen : Option (Bor Bytes) → DiskSeen → DiskSeen → Option LogSeen
 log_seen None before now = None
-log_seen (Some path) before now = Some (record { path = path.now; before = before; now = now })
+log_seen (Some path) before now = Some (log_at path.now before now)
 
 -- nothing was asked of its disk
 abbrev pub IsUnasked : Option LogSeen → Type 0
@@ -76,49 +80,60 @@ pub record SinceOpened (path : Bytes) (found : List Bytes) (P : History → Type
   pub begins : IsMade path found old since ⊎ IsOlder path found old since
   pub holds : P since
 
--- The journal has these lines, and stands idle behind them; and at each moment since it was opened a
--- stop leaves them and no others.
-abbrev pub Finds : Bytes → List Bytes → ℕ → History → History → Type 0
-Finds path found gate old new = SinceOpened path found (λ since. IsKeeping found [] gate since new) old
+-- the group that ends a batch which the lines found leave open
+abbrev pub abandoning : Group
+abandoning = codes "abandon" ∷ []
 
--- All but the last of some groups were kept, and that may be.
-pub record LostLast (found : List Bytes) (groups : List Group) (since new : History) : Type 0 where
+-- what is kept before anything is served: nothing, where the lines found leave no batch open; and
+-- `abandon` behind them, where they leave one open
+abbrev pub first_kept : Option (List HeldRow) → List Group
+first_kept None = []
+first_kept (Some held) = abandoning ∷ []
+
+-- The journal has these lines, and behind them these groups, and stands idle then; and at each moment
+-- since it was opened a stop leaves the lines and whole groups, the first ones.
+abbrev pub Finds : Bytes → List Bytes → List Group → ℕ → History → History → Type 0
+Finds path found first gate old new = SinceOpened path found (λ since. IsKeeping found first gate since new) old
+
+-- All but the last of some groups were kept behind the first ones, and that may be.
+pub record LostLast (found : List Bytes) (first groups : List Group) (since new : History) : Type 0 where
   pub whole : List Group
   pub last : Group
   pub cut : groups ≡ whole ++ last ∷ []
-  pub kept : WasKeeping found whole last since new
+  pub kept : WasKeeping found (first ++ whole) last since new
 
--- All but the last of some groups are kept, and for that there is no room.
-pub record LeftLast (found : List Bytes) (groups : List Group) (since new : History) : Type 0 where
+-- All but the last of some groups are kept behind the first ones, and for that there is no room.
+pub record LeftLast (found : List Bytes) (first groups : List Group) (since new : History) : Type 0 where
   pub whole : List Group
   pub last : Group
   pub cut : groups ≡ whole ++ last ∷ []
   pub gate : ℕ
   pub full : Overfull (Some gate) last
-  pub kept : IsKeeping found whole gate since new
+  pub kept : IsKeeping found (first ++ whole) gate since new
 
--- What is kept of groups behind the lines found, by the answer of the loop: at each moment since a
--- stop leaves whole groups, the first ones; and in the end all of them, or all but the last.
-abbrev pub KeptAs : Served → List Bytes → List Group → History → History → Type 0
-KeptAs DiskFailed found groups since new = LostLast found groups since new
-KeptAs Full found groups since new = LeftLast found groups since new
-KeptAs _ found groups since new = (gate : ℕ) × IsKeeping found groups gate since new
+-- What is kept of groups behind the lines found and what was kept first, by the answer of the loop: at
+-- each moment since a stop leaves whole groups, the first ones; and in the end all of them, or all but
+-- the last.
+abbrev pub KeptAs : Served → List Bytes → List Group → List Group → History → History → Type 0
+KeptAs DiskFailed found first groups since new = LostLast found first groups since new
+KeptAs Full found first groups since new = LeftLast found first groups since new
+KeptAs _ found first groups since new = (gate : ℕ) × IsKeeping found (first ++ groups) gate since new
 
--- What serving leaves in the log that is asked for, if one is: behind the lines found the groups of
--- lines that the machine's steps kept. Without one it doesn't end by the disk.
-abbrev pub Logs : Option LogSeen → List Bytes → Served → List Group → Type 0
-Logs None found answer groups = IsPlain answer
-Logs (Some log) found answer groups = DiskCounts (Some answer) log.before.faults log.now.faults
+-- What serving leaves in the log that is asked for, if one is: behind the lines found what was kept
+-- first, and the groups of lines that the machine's steps kept. Without one it doesn't end by the disk.
+abbrev pub Logs : Option LogSeen → List Bytes → List Group → Served → List Group → Type 0
+Logs None found first answer groups = IsPlain answer
+Logs (Some log) found first answer groups = DiskCounts (Some answer) log.before.faults log.now.faults
     × WhereTold log.before.told log.now.told
-    (λ o n. SinceOpened log.path found (λ since. KeptAs answer found groups since n) o)
+    (λ o n. SinceOpened log.path found (λ since. KeptAs answer found first groups since n) o)
 
--- The log that is asked for, if one is, has these lines, and nothing else was done: it stands idle
--- at this gate.
-abbrev pub FoundIn : Option LogSeen → List Bytes → Option ℕ → Type 0
-FoundIn None found gate = gate ≡ None
-FoundIn (Some log) found None = ⊥
-FoundIn (Some log) found (Some gate) = (log.now.faults ≡ log.before.faults)
-    × WhereTold log.before.told log.now.told (Finds log.path found gate)
+-- The log that is asked for, if one is, has these lines and what was kept first, and nothing else was
+-- done: it stands idle at this gate.
+abbrev pub FoundIn : Option LogSeen → List Bytes → List Group → Option ℕ → Type 0
+FoundIn None found first gate = gate ≡ None
+FoundIn (Some log) found first None = ⊥
+FoundIn (Some log) found first (Some gate) = (log.now.faults ≡ log.before.faults)
+    × WhereTold log.before.told log.now.told (Finds log.path found first gate)
 
 -- What loading counts: no lookup or link of a listing. Where no log is asked for no line is found,
 -- and nothing is counted.
@@ -126,11 +141,20 @@ abbrev pub LoadCounts : Option LogSeen → List Bytes → Counts → Counts → 
 LoadCounts None found counted loaded = (found ≡ []) × (loaded ≡ counted)
 LoadCounts (Some log) found counted loaded = loaded.listing ≡ counted.listing
 
--- The state to start from, and what was counted until then: the lines found, loaded one after
--- another into a machine in which nothing has happened, give its store, and nothing else of it.
-pub record Begins (log : Option LogSeen) (found : List Bytes) (counted : Counts) (start : State) (loaded : Counts)
-    : Type 0 where
-  pub loads : Loads opening.store found start.store
+-- Lines, loaded into a machine in which nothing has happened, come to this; and so what is kept behind
+-- them is this.
+pub record KeepsFirst (found : List Bytes) (first : List Group) : Type 0 where
+  pub end : Loading
+  pub loads : Loads (loading opening.store) found end
+  pub is : first ≡ first_kept end.batch
+
+-- The state to start from, and what was counted until then: the lines found and what was kept first,
+-- loaded one after another into a machine in which nothing has happened, give its store, and nothing
+-- else of it; and leave no batch open.
+pub record Begins (log : Option LogSeen) (found : List Bytes) (first : List Group) (counted : Counts) (start : State)
+    (loaded : Counts) : Type 0 where
+  pub keeps : KeepsFirst found first
+  pub loads : Loads (loading opening.store) (found ++ lines_in first) (loading start.store)
   pub fresh : start ≡ record opening { store = start.store }
   pub counts : LoadCounts log found counted loaded
 
@@ -144,43 +168,67 @@ pub record IsUnmade (path : Bytes) (old new : History) : Type 0 where
   pub empty : old.file.bytes ≡ []
   pub paths : new.paths ≡ old.paths ++ path ∷ []
 
--- What is left of the file where its lines weren't loaded: all that it was; or what failed to become
--- a journal; or one without lines, that was made.
+-- These lines, loaded, leave a batch open.
+pub record LeavesOpen (found : List Bytes) : Type 0 where
+  pub end : Loading
+  pub loads : Loads (loading opening.store) found end
+  pub is_open : IsSome end.batch
+
+-- The lines found leave a batch open, and `abandon` failed to be kept behind them: at each moment since
+-- the journal was opened a stop leaves them, with it or without.
+pub record IsUnended (path : Bytes) (old new : History) : Type 0 where
+  pub found : List Bytes
+  pub leaves : LeavesOpen found
+  pub lost : SinceOpened path found (λ since. WasKeeping found [] abandoning since new) old
+
+-- What is left of the file where nothing begins: all that it was; or what failed to become a journal;
+-- or a journal with its lines and nothing behind them; or with `abandon` behind them, or not.
 abbrev pub LeavesUnloaded : Bytes → History → History → Type 0
-LeavesUnloaded path old new = IsUnwritten path old new ⊎ (IsUnmade path old new ⊎ Finds path [] 8 old new)
+LeavesUnloaded path old new = IsUnwritten path old new ⊎ (IsUnmade path old new
+    ⊎ (((found : List Bytes) × (gate : ℕ) × Finds path found [] gate old new) ⊎ IsUnended path old new))
 
 -- the file doesn't begin as a journal does; the place is its first
 abbrev pub HasNoHeader : ℕ → History → Type 0
 HasNoHeader at h = (at ≡ 0) × ((rest : List ℕ) → h.file.bytes ≡ header ++ rest → ⊥)
 
--- The line at a place, behind lines that give this store, is refused there.
-pub record IsRefusedAt (at : ℕ) (found : List Bytes) (store : Store) (told : Option History) : Type 0 where
+-- The line at a place, behind lines of which the loading has come to this, is refused there.
+pub record IsRefusedAt (at : ℕ) (found : List Bytes) (end : Loading) (told : Option History) : Type 0 where
   pub line : Bytes
-  pub same : Store
-  pub refuses : LoadStep store line refused same
+  pub same : Loading
+  pub refuses : LoadStep end line refused same
   pub stands : IfSome told (λ h. (behind : ℕ) × IsAt (found ++ line ∷ []) behind h.file)
 
 -- The lines before a place are loaded, and there the file is bad, or its line is refused.
 pub record IsBadBehind (at : ℕ) (told : Option History) : Type 0 where
   pub found : List Bytes
-  pub store : Store
-  pub loads : Loads opening.store found store
+  pub end : Loading
+  pub loads : Loads (loading opening.store) found end
   pub stands : IfSome told (λ h. IsAt found at h.file)
-  pub bad : IfSome told (λ h. IsBad (drop at h.file.bytes)) ⊎ IsRefusedAt at found store told
+  pub bad : IfSome told (λ h. IsBad (drop at h.file.bytes)) ⊎ IsRefusedAt at found end told
 
 -- Why a log is bad from this place on, as far as its file is told.
 abbrev pub IsBadFrom : ℕ → Option History → Type 0
 IsBadFrom at told = IfSome told (HasNoHeader at) ⊎ IsBadBehind at told
 
+-- The lines found leave a batch open, and the journal, which stands idle behind them, has no room for
+-- `abandon`.
+pub record LacksRoom (told : Option History) : Type 0 where
+  pub found : List Bytes
+  pub leaves : LeavesOpen found
+  pub gate : ℕ
+  pub full : Overfull (Some gate) abandoning
+  pub idle : IfSome told (λ h. IsIdle found gate h.file)
+
 -- The causes of the statuses with which loading ends, by the count of the disk's faults before.
 abbrev pub UnloadedFor : Status → ℕ → DiskSeen → Type 0
 UnloadedFor DiskFault faults now = Counted faults now.faults
+UnloadedFor LogFull faults now = (now.faults ≡ faults) × LacksRoom now.told
 UnloadedFor (BadLog at) faults now = (now.faults ≡ faults) × IsBadFrom at now.told
 UnloadedFor NoMemory faults now = now.faults ≡ faults
 UnloadedFor _ faults now = ⊥
 
--- The log wasn't loaded to its end: the disk failed, the log is bad, or memory was wanted. No lookup
--- or link of a listing was counted.
+-- The log wasn't loaded to its end, or a batch that its lines leave open couldn't be ended: the disk
+-- failed, the log is full or bad, or memory was wanted. No lookup or link of a listing was counted.
 pub record Unloaded (log : LogSeen) (status : Status) (counted counted' : Counts) : Type 0 where
   pub caused : UnloadedFor status log.before.faults log.now
   pub leaves : WhereTold log.before.told log.now.told (LeavesUnloaded log.path)

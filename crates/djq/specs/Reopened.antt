@@ -21,9 +21,9 @@ answered DiskFault groups = length groups - 1
 answered LogFull groups = length groups - 1
 answered _ groups = length groups
 
--- A file opens to the lines found at the start of a run and to the first groups that it kept, so many
--- at least; and these lines, loaded, are refused nowhere and give what the run had where it had kept
--- just these groups.
+-- A file opens to the lines that a run started from and to the first groups that it kept, so many at
+-- least; and these lines, loaded, are refused nowhere and give what the run had where it had kept just
+-- these groups.
 pub record Reopens (found : List Bytes) (start : State) (done : List Did) (state : State) (least : ℕ) (file : List ℕ)
     : Type 0 where
   pub whole : List Group
@@ -35,13 +35,15 @@ pub record Reopens (found : List Bytes) (start : State) (done : List Did) (state
   pub loads : LoadsTo opening.store (found ++ lines_in whole) at.mid.store
 
 -- However serving with a log ends, and a stop behind it leaves the file: it opens to lines that give
--- what was there behind a first part of the lines that the run kept, which has each that was answered.
+-- what was there behind the first of the groups of lines that the run kept, among them each that was
+-- answered. The run started from the lines found and what was kept first.
 abbrev pub LogsReopen : Type 0
-LogsReopen = (log : LogSeen) (found : List Bytes) (counted : Counts) (start : State) (loaded : Counts)
-    → Begins (Some log) found counted start loaded
+LogsReopen = (log : LogSeen) (found : List Bytes) (first : List Group) (counted : Counts) (start : State)
+    (loaded : Counts)
+    → Begins (Some log) found first counted start loaded
     → (answer : Served) (turns : ℕ) (hub hub' : Shown) (counted' : Counts) (state : State)
     → (ends : ServeEnds answer turns hub loaded start hub' counted' state)
-    → Logs (Some log) found answer (groups_of (all_done ends.goes.moves))
+    → Logs (Some log) found first answer (groups_of (all_done ends.goes.moves))
     → IfSome log.now.told (λ h. LeavesOnly
-    (Reopens found start (all_done ends.goes.moves) state
+    (Reopens (found ++ lines_in first) start (all_done ends.goes.moves) state
     (answered answer (groups_of (all_done ends.goes.moves)))) h.file)

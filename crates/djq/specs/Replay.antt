@@ -12,7 +12,7 @@ use Rattle.djq_io.specs.declared.hub.Coming.{Coming}
 use Rattle.djq_io.specs.declared.hub.Told.{Told}
 use Rattle.djq_model.specs.Data.{Bytes}
 use Rattle.djq_machine.specs.State.{State}
-use Rattle.djq_machine.specs.Run.{groups_of}
+use Rattle.djq_machine.specs.Run.{Group, groups_of}
 use Rattle.djq_machine.specs.Call.{Counts}
 use Rattle.djq_laws.specs.declared.limits.TheConstants.{MOST_READS}
 use Rattle.djq_laws.specs.Course.{Outside}
@@ -68,24 +68,25 @@ IsWhole AllTaken = ⊥
 IsWhole HubFailed = ⊥
 IsWhole _ = Unit {0}
 
--- The lines of the log were loaded, and the hub of these turns was served from what they gave on,
--- until it was over, a session said `stop`, or the log failed: by moves that are a run of the join
--- machine, which counted no more of listings than it may cost, with each session sent what is its.
--- What the run keeps is in the log. The hub tells what is left of its turns, so each turn that was
--- taken is the next of these. At the end it tells this past.
+-- The lines of the log were loaded, a batch that they left open was ended, and the hub of these turns
+-- was served from what they gave on, until it was over, a session said `stop`, or the log failed: by
+-- moves that are a run of the join machine, which counted no more of listings than it may cost, with
+-- each session sent what is its. What the run keeps is in the log. The hub tells what is left of its
+-- turns, so each turn that was taken is the next of these. At the end it tells this past.
 pub record Plays (log : Option LogSeen) (turns : List Coming) (most : ℕ) (counted counted' : Counts)
     (past : Option (List Told)) : Type 0 where
   pub found : List Bytes
+  pub first : List Group
   pub start : State
   pub loaded : Counts
-  pub begins : Begins log found counted start loaded
+  pub begins : Begins log found first counted start loaded
   pub left : Script
   pub ids : Ids
   pub state : State
   pub answer : Served
   pub ends : ServeEnds answer most (hub_of turns) loaded start (shown past (Some left) ids)
       counted' state
-  pub logs : Logs log found answer (groups_of (all_done ends.goes.moves))
+  pub logs : Logs log found first answer (groups_of (all_done ends.goes.moves))
   pub silent : UnkeptIsSilent answer ends.goes.moves
   pub whole : IsWhole answer
 

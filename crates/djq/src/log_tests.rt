@@ -28,6 +28,37 @@ const PROBED: [&[u8]; 4] = [
     b"1< ok removed 1 1\n1< ok removed 2 0\n1< ok absent 2\n",
 ];
 
+/// A line that is kept, and a batch of two rows.
+const BATCH: &[u8] =
+    b"open 1\nsay 1 rel r int\nsay 1 batch\nsay 1 add r 7\nsay 1 add r 8\nsay 1 done\n";
+
+/// What they are answered.
+const BATCH_LINES: &[u8] = b"1< ok\n1< ok batch\n1< ok held 1\n1< ok held 2\n1< ok done 1 2\n";
+
+/// The file behind them.
+const BATCH_FILE: &[u8] =
+    b"DJQLOG1\n\x01\0\x09rel r int\x01\0\x05batch\x01\0\x07add r 7\x01\0\x07add r 8\x01\0\x04done\0";
+
+/// Lines whose answers tell which of them were found: none, the first, or all.
+const BATCH_PROBE: &[u8] = b"open 1\nsay 1 del r 7\nsay 1 del r 8\n";
+
+/// These answers.
+const BATCH_PROBED: [&[u8]; 3] = [
+    b"1< err 3 no relation\n1< err 3 no relation\n",
+    b"1< ok absent 0\n1< ok absent 0\n",
+    b"1< ok removed 2 0\n1< ok removed 3 0\n",
+];
+
+/// A file that ends within a batch.
+const OPEN_FILE: &[u8] = b"DJQLOG1\n\x01\0\x09rel r int\x01\0\x05batch\x01\0\x07add r 7\0";
+
+/// Lines that change nothing behind it.
+const OPEN_PROBE: &[u8] = b"open 1\nsay 1 del r 7\nsay 1 done\n";
+
+/// The same file, once it was opened.
+const ENDED_FILE: &[u8] =
+    b"DJQLOG1\n\x01\0\x09rel r int\x01\0\x05batch\x01\0\x07add r 7\x01\0\x07abandon\0";
+
 fn counted<L: Ledgers>(
     rt: &HostRuntime,
     blanks: Blanks,
@@ -108,14 +139,19 @@ fn a_log_with_a_byte_set_is_empty_or_bad(rt: HostRuntime) -> Result<(), Fail> {
     Ok(())
 }
 
-/// How many lines of the row were found on a disk with these bytes, or `None` where it is none of
-/// these numbers.
-fn lines_found(rt: &HostRuntime, bytes: &[u8]) -> Result<Option<u64>, Fail> {
+/// How many groups of lines were found on a disk with these bytes, by what it answers to a probe; or
+/// `None` where it is none of these answers.
+fn groups_found(
+    rt: &HostRuntime,
+    bytes: &[u8],
+    probe: &[u8],
+    probed: &[&[u8]],
+) -> Result<Option<u64>, Fail> {
     let mut disk = MemDisk::of(rt.alloc(), bytes)?;
-    let (_, lines) = replay_logged(rt, &mut disk, PROBE)?;
+    let (_, lines) = replay_logged(rt, &mut disk, probe)?;
     let mut found = 0u64;
-    for probed in PROBED {
-        if probed == lines.as_slice() {
+    for answers in probed {
+        if *answers == lines.as_slice() {
             return Ok(Some(found));
         }
         found = found.saturating_add(1);
@@ -167,8 +203,28 @@ fn put(bytes: &mut Vec<u8>, at: usize, piece: &[u8]) -> Result<(), Fail> {
     Ok(())
 }
 
-/// Two syncs make and open the journal, and two more keep each line, behind which it is answered. A
-/// stop leaves whole lines, all that were answered and at most one more.
+/// The first call at which a stop leaves other than the groups that were answered and at most one more.
+/// Two syncs make and open the journal, and two more keep each group, behind which it is answered.
+fn first_loss(
+    rt: &HostRuntime,
+    calls: &[DiskCall],
+    probe: &[u8],
+    probed: &[&[u8]],
+) -> Result<Option<usize>, Fail> {
+    for n in 0..calls.len() {
+        let answered = syncs(&calls[..n]).saturating_sub(2) / 2;
+        for unsynced in [false, true] {
+            let bytes = image(rt, &calls[..n], unsynced)?;
+            let found = groups_found(rt, &bytes, probe, probed)?.ok_or("the log is bad")?;
+            if found < answered || answered.saturating_add(1) < found {
+                return Ok(Some(n));
+            }
+        }
+    }
+    Ok(None)
+}
+
+/// A stop leaves whole lines.
 #[test]
 fn a_stop_at_each_call_leaves_what_was_answered(rt: HostRuntime) -> Result<(), Fail> {
     let mut disk = MemDisk::of(rt.alloc(), b"")?;
@@ -176,17 +232,21 @@ fn a_stop_at_each_call_leaves_what_was_answered(rt: HostRuntime) -> Result<(), F
     assert_eq!(rt; status, Status::Done);
     let calls = disk.calls().ok_or("the record is lost")?;
     assert!(rt; syncs(calls) == 8);
-    for n in 0..calls.len() {
-        let answered = syncs(&calls[..n]).saturating_sub(2) / 2;
-        for unsynced in [false, true] {
-            let bytes = image(&rt, &calls[..n], unsynced)?;
-            let found = lines_found(&rt, &bytes)?.ok_or("the log is bad")?;
-            assert!(rt;
-                answered <= found && found <= answered.saturating_add(1),
-                "at {n}"
-            );
-        }
-    }
+    assert_eq!(rt; first_loss(&rt, calls, PROBE, &PROBED)?, None);
+    Ok(())
+}
+
+/// A stop leaves both rows of a batch or none.
+#[test]
+fn a_stop_at_each_call_leaves_whole_batches(rt: HostRuntime) -> Result<(), Fail> {
+    let mut disk = MemDisk::of(rt.alloc(), b"")?;
+    let (status, lines) = replay_logged(&rt, &mut disk, BATCH)?;
+    assert_eq!(rt; status, Status::Done);
+    assert_eq!(rt; lines.as_slice(), BATCH_LINES);
+    assert_eq!(rt; disk.bytes(), BATCH_FILE);
+    let calls = disk.calls().ok_or("the record is lost")?;
+    assert!(rt; syncs(calls) == 6);
+    assert_eq!(rt; first_loss(&rt, calls, BATCH_PROBE, &BATCH_PROBED)?, None);
     Ok(())
 }
 
@@ -202,8 +262,60 @@ fn a_call_that_fails_ends_the_program(rt: HostRuntime) -> Result<(), Fail> {
         assert!(rt; (status == Status::DiskFault) == failed, "at {n}");
         assert!(rt; ROW_LINES.starts_with(lines.as_slice()), "at {n}");
         let answered = lines.iter().filter(|byte| **byte == b'\n').count() as u64;
-        let found = lines_found(&rt, disk.bytes())?.ok_or("the log is bad")?;
+        let found = groups_found(&rt, disk.bytes(), PROBE, &PROBED)?.ok_or("the log is bad")?;
         assert!(rt; answered.min(3) <= found, "at {n}");
+    }
+    Ok(())
+}
+
+/// So it is with a batch, which is answered by its last line.
+#[test]
+fn a_call_that_fails_leaves_whole_batches(rt: HostRuntime) -> Result<(), Fail> {
+    for n in 1..40 {
+        let mut disk = MemDisk::of(rt.alloc(), b"")?;
+        disk.fail_at(n)?;
+        let (status, lines) = replay_logged(&rt, &mut disk, BATCH)?;
+        let made = disk.calls().ok_or("the record is lost")?.len();
+        let failed = n <= made as u64;
+        assert!(rt; (status == Status::DiskFault) == failed, "at {n}");
+        assert!(rt; BATCH_LINES.starts_with(lines.as_slice()), "at {n}");
+        let found = groups_found(&rt, disk.bytes(), BATCH_PROBE, &BATCH_PROBED)?;
+        let groups = found.ok_or("the log is bad")?;
+        let answered = lines.as_slice() == BATCH_LINES;
+        assert!(rt; groups == 2 || !answered, "at {n}");
+    }
+    Ok(())
+}
+
+/// The line that ends a batch which a file leaves open is kept before anything is served, once.
+#[test]
+fn a_log_that_ends_within_a_batch_is_ended(rt: HostRuntime) -> Result<(), Fail> {
+    let mut disk = MemDisk::of(rt.alloc(), OPEN_FILE)?;
+    for _ in 0..2 {
+        let (status, lines) = replay_logged(&rt, &mut disk, OPEN_PROBE)?;
+        assert_eq!(rt; status, Status::Done);
+        assert_eq!(rt;
+            lines.as_slice(),
+            b"1< ok absent 0\n1< err 18 batch\n".as_slice()
+        );
+        assert_eq!(rt; disk.bytes(), ENDED_FILE);
+    }
+    Ok(())
+}
+
+/// Where a call fails as that line is kept, nothing is served, and the file loads at the next start.
+#[test]
+fn a_batch_that_cant_be_ended_ends_the_program(rt: HostRuntime) -> Result<(), Fail> {
+    for n in 1..40 {
+        let mut disk = MemDisk::of(rt.alloc(), OPEN_FILE)?;
+        disk.fail_at(n)?;
+        let (status, lines) = replay_logged(&rt, &mut disk, BATCH_PROBE)?;
+        let made = disk.calls().ok_or("the record is lost")?.len();
+        let failed = n <= made as u64;
+        assert!(rt; (status == Status::DiskFault) == failed, "at {n}");
+        assert!(rt; lines.is_empty() == failed, "at {n}");
+        let found = groups_found(&rt, disk.bytes(), BATCH_PROBE, &BATCH_PROBED)?;
+        assert_eq!(rt; found, Some(1), "at {n}");
     }
     Ok(())
 }

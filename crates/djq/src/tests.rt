@@ -297,6 +297,29 @@ fn limits_are_answered_last(rt: HostRuntime) -> Result<(), Fail> {
 }
 
 /// Two sessions of a schedule share the rows, and each is told its own.
+/// The rows of a batch come at once, in one change; and other commands aren't for a session with a batch
+/// open.
+#[test]
+fn batches_come_at_once(rt: HostRuntime) -> Result<(), Fail> {
+    let sessions = [
+        (
+            b"rel r int int\nquery q(x,y,z) <- r(x,y), r(y,z)\nwatch q\nbatch\nadd r 1 2\nadd r 2 3\nadd r 1 2\ndone\nbatch\nnext c 1\ndone\ndone\n".as_slice(),
+            b"ok\nok query 7\nok watch 0\nok batch\nok held 1\nok held 2\nok held 3\n+ q 1 2 3\nat q 1\nok done 1 2\nok batch\nerr 18 batch\nok done 1 0\nerr 18 batch\n".as_slice(),
+        ),
+        (
+            b"rel r int int\nbatch\nadd z 1\nadd r 1\nabandon\ndone\n",
+            b"ok\nok batch\nerr 3 no relation\nerr 6 arity\nok\nerr 18 batch\n",
+        ),
+    ];
+    for (input, replies) in sessions {
+        let mut source = MemSource::new(input.to_vec(rt.alloc())?, 8192);
+        let mut sink = MemSink::new(rt.alloc());
+        assert_eq!(rt; run_words(&rt, &RUN, &mut source, &mut sink), Status::Done);
+        assert_eq!(rt; sink.taken(), Some(replies));
+    }
+    Ok(())
+}
+
 #[test]
 fn a_schedule_is_replayed(rt: HostRuntime) -> Result<(), Fail> {
     let schedule =

@@ -1,6 +1,6 @@
 -- A change as a step of the machine: its line, what the engine did, and what was told.
-use Rattle.std.proofs.Common.{ℕ, suc, ◌+◌, ◌≤◌, ◌≡◌, ◌||◌, Bool, true, false, List, [], ◌∷◌, map, filter, cond, Option, None, Some, option_map, Result, Ok, Err, nat_lt, refl, sym, ap, ◌∙◌, subst, arith, inr}
-use Rattle.std.specs.Prelude.{◌&&◌, All, IsSome}
+use Rattle.std.proofs.Common.{ℕ, zero, suc, ◌+◌, ◌≤◌, ◌≡◌, ◌||◌, Bool, true, false, List, [], ◌∷◌, map, filter, cond, Option, None, Some, option_map, Result, Ok, Err, nat_lt, refl, sym, ap, ◌∙◌, subst, arith, inr}
+use Rattle.std.specs.Prelude.{◌&&◌, All, IsSome, MatchOption}
 use Rattle.std.specs.List.{list_any}
 use Rattle.std.proofs.lemmas.Bool.{lt-ltb}
 use Rattle.std.proofs.lemmas.List.Elements.{All-filter}
@@ -8,7 +8,8 @@ use Rattle.djq_deltas.proofs.Lists.{hold_each}
 use Rattle.djq_model.specs.Data.{Bytes}
 use Rattle.djq_model.specs.Listed.{Listed, listed_name}
 use Rattle.djq_lines.specs.declared.command.Command.{Command}
-use Rattle.djq_lines.specs.declared.command.Command.TheVariants.{Rel, Add, Del, Query as Register, Drop, Open, Next, Close, Has, Watch, Unwatch, Explain, Shape, Quit, Stop}
+use Rattle.djq_lines.specs.declared.command.Command.TheVariants.{Add, Del, Done as SayDone}
+use Rattle.djq_lines.specs.declared.held.HeldRow.{HeldRow}
 use Rattle.djq_lines.specs.declared.answer.Refusal.{Refusal}
 use Rattle.djq_lines.specs.declared.answer.Refusal.TheVariants.{NoMemory}
 use Rattle.djq_lines.specs.declared.answer.AddOutcome.{AddOutcome}
@@ -16,31 +17,35 @@ use Rattle.djq_lines.specs.declared.answer.AddOutcome.TheVariants.{First, More}
 use Rattle.djq_lines.specs.declared.answer.DeleteOutcome.{DeleteOutcome}
 use Rattle.djq_lines.specs.declared.answer.DeleteOutcome.TheVariants.{Last, Left, Absent}
 use Rattle.djq_lines.specs.Grammar.{Reading, reading_of}
-use Rattle.djq_lines.specs.Reply.{add_reply, delete_reply}
-use Rattle.djq_machine.specs.Keeping.{Keeping, kept_where, is_done, is_removal}
-use Rattle.djq_machine.specs.State.{Session, State, with_session}
+use Rattle.djq_lines.specs.Reply.{add_reply, delete_reply, done_reply}
+use Rattle.djq_machine.specs.Keeping.{Keeping, kept_where, is_done, is_removal, kept_batch}
+use Rattle.djq_machine.specs.Batch.{batch_outcome}
+use Rattle.djq_machine.specs.Run.{groups_in}
+use Rattle.djq_machine.specs.State.{Store, Session, State, with_session}
 use Rattle.djq_machine.specs.Changes.{RowsChange, RowsOutcome, accepted, out_of_memory, unchanged, row_in, row_out, add_outcome, delete_outcome, is_accepted as is_made, tried, is_outdated, sessions_behind, changed}
 use Rattle.djq_machine.specs.Effect.{Effect, queue_all}
 use Rattle.djq_machine.specs.Watch.{Delta, Telling, AreDeltas, ListsDeltas, ChangeStep, affected, is_watching, deltas_steps}
 use Rattle.djq_machine.specs.LineStep.{run, behind_line, FrontStep, ReadStep}
-use Rattle.djq_machine.specs.Call.{Counts, StepGives}
-use Rattle.djq_machine.specs.Command.{CommandStep}
+use Rattle.djq_machine.specs.Call.{Counts, KeepsGroup, StepGives}
+use Rattle.djq_machine.specs.Command.{AddStep, HoldStep, DoneStep, CommandStep, is_misplaced, without_batch}
 use Rattle.djq_machine.specs.declared.machine.Stepped.TheVariants.{Ran}
 use Rattle.djq_engine.specs.declared.cursor.CursorId.{CursorId}
 use Rattle.djq_engine.specs.Kept.{Kept, Held, Registered, held_at, outdated_held, Outdates, registered_at, is_watched, readers_of, affected_of}
 use Rattle.djq_engine.specs.Watching.{LogsTell, queries_affected}
 use Rattle.djq_core.specs.declared.open.OpenSession.{OpenSession}
 use Rattle.djq_core.specs.declared.change.Outcome.{Outcome}
-use Rattle.djq_core.specs.declared.change.Outcome.TheVariants.{Added, Deleted}
-use Rattle.djq_core.specs.Views.{Talk, session_in, open_in, state_in}
+use Rattle.djq_core.specs.declared.change.Outcome.TheVariants.{Added, Deleted, Done}
+use Rattle.djq_core.specs.Views.{Talk, session_in, open_in, state_in, lines_of}
 use Rattle.djq_core.specs.Sound.{ids_of, all_ids, AreHeld, IsSound, is_among_watches, watchers_in}
 use Rattle.djq_core.specs.Performs.{among}
-use Rattle.djq_core.specs.Changing.{Changed, IsChange, LeavesChange, is_accepted, reply_of, is_kept}
+use Rattle.djq_core.specs.Changing.{Changed, IsChange, LeavesChange, is_accepted, reply_of, is_kept, lines_kept}
+use Rattle.djq_core.specs.Stepping.{Copies}
 use Rattle.djq_core.specs.Telling.{AreAffected, TellsAll}
 use Rattle.djq_core.proofs.Ids.{agree_same, agree_held, agree_open, outdated_find, outdated_all_held, outdated_open}
-use Rattle.djq_core.proofs.Around.{parts, whole, becomes}
-use Rattle.djq_core.proofs.Replying.{around_held, around_bytes}
-use Rattle.djq_core.proofs.Lifting.{at_session, same_relations}
+use Rattle.djq_core.proofs.Around.{parts, whole, becomes, looks}
+use Rattle.djq_core.proofs.Carrying.{carried_out}
+use Rattle.djq_core.proofs.Replying.{around_held, around_batch, around_bytes, sound_batch}
+use Rattle.djq_core.proofs.Lifting.{at_session, one_front, same_relations}
 use Rattle.djq_core.proofs.Taking.{sound_bytes}
 use Rattle.djq_core.proofs.Watching.{recount, stays_same, at_its_id}
 
@@ -70,13 +75,14 @@ moves_open old new stopped None xs out = agree_open old.cursors new.cursors xs (
 
 -- all is sound behind a change whose line was taken
 pub sound_changed : (old new : Kept) (front : List OpenSession) (s : ℕ) (before after : Talk) (back : List OpenSession) (o : Option RowsChange) (rest : Bytes)
-    → Outdates old o new → new.registered ≡ old.registered → after ≡ record before { held = rest; room = after.room } → IsSound old (among front s before back) → IsSound new (among front s after back)
+    → Outdates old o new → new.registered ≡ old.registered → after ≡ record before { held = rest; room = after.room; batch = None } → IsSound old (among front s before back) → IsSound new (among front s after back)
 sound_changed old new front s before after back o rest out still e sound =
     let p = around_held old.cursors new.cursors front s before back (moves_held old new o (all_ids front) out) (moves_held old new o (ids_of before.cursors) out)
     (moves_held old new o (all_ids back) out) (λ c i. moves_still old new o c out i) (parts old front s before back sound) in
     subst (λ (d : Talk). IsSound new (among front s d back)) (sym e)
-    (whole new front s (record before { held = rest; room = after.room }) back (around_bytes new.cursors front s before rest before.pending after.room back p)
-    (recount old new.registered front s before (record before { held = rest; room = after.room }) back (stays_same old.registered new.registered before.watches before.watches still refl) (λ q. q) sound))
+    (whole new front s (record before { held = rest; room = after.room; batch = None }) back
+    (around_batch new.cursors front s (record before { held = rest; room = after.room }) None back (around_bytes new.cursors front s before rest before.pending after.room back p))
+    (recount old new.registered front s before (record before { held = rest; room = after.room; batch = None }) back (stays_same old.registered new.registered before.watches before.watches still refl) (λ q. q) sound))
 
 -- the state behind a change
 changed_is : (old new : Kept) (stopped : Bool) (xs : List OpenSession) (o : Option RowsChange) → Outdates old o new
@@ -214,73 +220,140 @@ delete_made change (Ok (Left copies)) = refl
 delete_made change (Ok Absent) = refl
 delete_made change (Err r) = refl
 
--- What a command on a row does, once its line was taken.
-pub record Composed (old : Kept) (stopped : Bool) (xs : List OpenSession) (s : ℕ) (y : Session) (command : Command) (kept : Bool) (new : Kept) (ys : List OpenSession) (was now : ℕ) : Type 0 where
+pub batch_made : (st : Store) (held : List HeldRow) (result : Result ℕ Refusal) → is_accepted (Done result held) ≡ is_made (batch_outcome st held result)
+batch_made st held (Ok zero) = refl
+batch_made st held (Ok (suc n)) = refl
+batch_made st held (Err NoMemory) = refl
+batch_made st held (Err _) = refl
+
+-- what is kept of a change, as the machine says it
+abbrev pub keeping_of : Outcome → Keeping
+keeping_of (Added result) = kept_where (is_done result)
+keeping_of (Deleted result) = kept_where (is_removal result)
+keeping_of (Done result held) = kept_batch held result
+
+-- the group that is
+group_kept : (change : Outcome) (l : Bytes) → KeepsGroup (is_kept change) (groups_in l (keeping_of change)) (lines_of (lines_kept change) l)
+group_kept (Added (Ok a)) l = refl
+group_kept (Added (Err r)) l = (refl, refl)
+group_kept (Deleted (Ok Last)) l = refl
+group_kept (Deleted (Ok (Left n))) l = refl
+group_kept (Deleted (Ok Absent)) l = (refl, refl)
+group_kept (Deleted (Err r)) l = (refl, refl)
+group_kept (Done (Ok n) held) l = refl
+group_kept (Done (Err r) held) l = (refl, refl)
+
+-- A session's batch is closed, where one is open.
+abbrev Shuts : Option (List HeldRow) → ℕ → State → State → Type 0
+Shuts None s old new = new ≡ old
+Shuts (Some held) s old new = new ≡ with_session old s without_batch
+
+-- What a command that may change rows does, once its line was taken.
+pub record Composed (old : State) (s : ℕ) (y : Session) (l : Bytes) (command : Command) (change : Outcome) (new : State) (was now : ℕ) : Type 0 where
   pub effect : Effect
   pub last : State
-  pub does : CommandStep (state_in old stopped xs) s y command effect last
-  pub queued : queue_all last effect.queued ≡ state_in new stopped ys
+  pub does : CommandStep old s y l command effect last
+  pub queued : queue_all last effect.queued ≡ new
   pub counted : now ≤ was + effect.cost
-  pub keeps : effect.kept ≡ kept_where kept
+  pub keeps : effect.kept ≡ keeping_of change
+  pub placed : is_misplaced y.batch command ≡ false
 
-composed : (old mid new : Kept) (stopped : Bool) (xs ys : List OpenSession) (s : ℕ) (y : Session) (change : Outcome) (was now : ℕ) → IsSound old xs → (command : Command) → IsChange command old change mid was now
-    → TellsAll (is_accepted change) (reply_of change (mid.store).seq) mid s xs new ys → Composed old stopped xs s y command (is_kept change) new ys was now
-composed old mid new stopped xs ys s y change was now sound (Add name row) a t =
-    let change = row_in (old.store).relations name row in
-    let told = subst (λ (c : Outcome). TellsAll (is_accepted c) (reply_of c (mid.store).seq) mid s xs new ys) a.is t in
-    let r = change_step old mid new stopped xs ys s (add_outcome change a.result) (add_reply a.result (mid.store).seq) (kept_where (is_done a.result)) was now a.changed sound
-    (subst (λ (b : Bool). TellsAll b (add_reply a.result (mid.store).seq) mid s xs new ys) (add_made change a.result) told) in
-    record {
-      effect = r.0;
-      last = r.1;
-      does = record { result = a.result; store = mid.store; done = a.done; change = r.2.0; kept = r.2.1 };
-      queued = r.3;
-      counted = r.4;
-      keeps = r.2.1 ∙ ap (λ (c : Outcome). kept_where (is_kept c)) (sym a.is);
-    }
-composed old mid new stopped xs ys s y change was now sound (Del name row) a t =
-    let change = row_out (old.store).relations name row in
-    let told = subst (λ (c : Outcome). TellsAll (is_accepted c) (reply_of c (mid.store).seq) mid s xs new ys) a.is t in
-    let r = change_step old mid new stopped xs ys s (delete_outcome change a.result) (delete_reply a.result (mid.store).seq) (kept_where (is_removal a.result)) was now a.changed sound
-    (subst (λ (b : Bool). TellsAll b (delete_reply a.result (mid.store).seq) mid s xs new ys) (delete_made change a.result) told) in
-    record {
-      effect = r.0;
-      last = r.1;
-      does = record { result = a.result; store = mid.store; done = a.done; change = r.2.0; kept = r.2.1 };
-      queued = r.3;
-      counted = r.4;
-      keeps = r.2.1 ∙ ap (λ (c : Outcome). kept_where (is_kept c)) (sym a.is);
-    }
-composed old mid new stopped xs ys s y change was now sound (Rel name types) a t = absurd a
-composed old mid new stopped xs ys s y change was now sound (Register q) a t = absurd a
-composed old mid new stopped xs ys s y change was now sound (Drop q) a t = absurd a
-composed old mid new stopped xs ys s y change was now sound (Open c q) a t = absurd a
-composed old mid new stopped xs ys s y change was now sound (Next c n) a t = absurd a
-composed old mid new stopped xs ys s y change was now sound (Close c) a t = absurd a
-composed old mid new stopped xs ys s y change was now sound (Has q row) a t = absurd a
-composed old mid new stopped xs ys s y change was now sound (Watch q) a t = absurd a
-composed old mid new stopped xs ys s y change was now sound (Unwatch q) a t = absurd a
-composed old mid new stopped xs ys s y change was now sound (Explain q) a t = absurd a
-composed old mid new stopped xs ys s y change was now sound (Shape q) a t = absurd a
-composed old mid new stopped xs ys s y change was now sound Quit a t = absurd a
-composed old mid new stopped xs ys s y change was now sound Stop a t = absurd a
+module _ (old mid new : Kept) (stopped : Bool) (xs zs ys : List OpenSession) (s : ℕ) (y : Session) (l : Bytes) (change : Outcome) (was now : ℕ) where
+  composed : IsSound old xs → (command : Command) (batch : Option (List HeldRow)) → y.batch ≡ batch → Shuts batch s (state_in old stopped zs) (state_in old stopped xs)
+      → IsChange command batch old change mid was now → TellsAll (is_accepted change) (reply_of change (mid.store).seq) mid s xs new ys
+      → Composed (state_in old stopped zs) s y l command change (state_in new stopped ys) was now
+  composed sound (Add name row) None e shut a t =
+      let made = row_in (old.store).relations name row in
+      let told = subst (λ (c : Outcome). TellsAll (is_accepted c) (reply_of c (mid.store).seq) mid s xs new ys) a.is t in
+      let r = change_step old mid new stopped xs ys s (add_outcome made a.result) (add_reply a.result (mid.store).seq) (kept_where (is_done a.result)) was now a.changed sound
+      (subst (λ (b : Bool). TellsAll b (add_reply a.result (mid.store).seq) mid s xs new ys) (add_made made a.result) told) in
+      let step : AddStep (state_in old stopped zs) s name row r.0 r.1 = record {
+        result = a.result;
+        store = mid.store;
+        done = a.done;
+        change = subst (λ (z : State). ChangeStep z s (add_outcome made a.result) mid.store (add_reply a.result (mid.store).seq) r.0 r.1) shut r.2.0;
+        kept = r.2.1;
+      } in
+      record {
+        effect = r.0;
+        last = r.1;
+        does = subst (λ (o : Option (List HeldRow)). MatchOption o (AddStep (state_in old stopped zs) s name row r.0 r.1) (λ held. HoldStep (state_in old stopped zs) s held l name row r.0 r.1)) (sym e) step;
+        queued = r.3;
+        counted = r.4;
+        keeps = r.2.1 ∙ ap keeping_of (sym a.is);
+        placed = ap (λ (o : Option (List HeldRow)). is_misplaced o (Add name row)) e;
+      }
+  composed sound (Del name row) None e shut a t =
+      let made = row_out (old.store).relations name row in
+      let told = subst (λ (c : Outcome). TellsAll (is_accepted c) (reply_of c (mid.store).seq) mid s xs new ys) a.is t in
+      let r = change_step old mid new stopped xs ys s (delete_outcome made a.result) (delete_reply a.result (mid.store).seq) (kept_where (is_removal a.result)) was now a.changed sound
+      (subst (λ (b : Bool). TellsAll b (delete_reply a.result (mid.store).seq) mid s xs new ys) (delete_made made a.result) told) in
+      record {
+        effect = r.0;
+        last = r.1;
+        does = record {
+          result = a.result;
+          store = mid.store;
+          done = a.done;
+          change = subst (λ (z : State). ChangeStep z s (delete_outcome made a.result) mid.store (delete_reply a.result (mid.store).seq) r.0 r.1) shut r.2.0;
+          kept = r.2.1;
+        };
+        queued = r.3;
+        counted = r.4;
+        keeps = r.2.1 ∙ ap keeping_of (sym a.is);
+        placed = ap (λ (o : Option (List HeldRow)). is_misplaced o (Del name row)) e;
+      }
+  composed sound SayDone (Some held) e shut a t =
+      let told = subst (λ (c : Outcome). TellsAll (is_accepted c) (reply_of c (mid.store).seq) mid s xs new ys) a.is t in
+      let r = change_step old mid new stopped xs ys s (batch_outcome old.store held a.result) (done_reply a.result (mid.store).seq) (kept_batch held a.result) was now a.changed sound
+      (subst (λ (b : Bool). TellsAll b (done_reply a.result (mid.store).seq) mid s xs new ys) (batch_made old.store held a.result) told) in
+      let step : DoneStep (state_in old stopped zs) s held r.0 r.1 = record {
+        result = a.result;
+        store = mid.store;
+        done = a.done;
+        change = subst (λ (z : State). ChangeStep z s (batch_outcome old.store held a.result) mid.store (done_reply a.result (mid.store).seq) r.0 r.1) shut r.2.0;
+        kept = r.2.1;
+      } in
+      record {
+        effect = r.0;
+        last = r.1;
+        does = subst (λ (o : Option (List HeldRow)). MatchOption o ⊥ (λ rows. DoneStep (state_in old stopped zs) s rows r.0 r.1)) (sym e) step;
+        queued = r.3;
+        counted = r.4;
+        keeps = r.2.1 ∙ ap keeping_of (sym a.is);
+        placed = ap (λ (o : Option (List HeldRow)). is_misplaced o SayDone) e;
+      }
+  composed sound _ _ e shut a t = absurd a
+
+-- the session behind the line, and then without its batch
+shut_batch : (old : Kept) (stopped : Bool) (front : List OpenSession) (s : ℕ) (taken after : Talk) (back : List OpenSession) (batch : Option (List HeldRow)) → taken.batch ≡ batch
+    → after ≡ record taken { batch = None } → IsSound old (among front s taken back) → Shuts batch s (state_in old stopped (among front s taken back)) (state_in old stopped (among front s after back))
+shut_batch old stopped front s taken after back None e same sound =
+    looks old stopped front s taken after back (ap (session_in old.cursors s) same ∙ ap (λ (b : Option (List HeldRow)). record (session_in old.cursors s taken) { batch = b }) (sym e))
+shut_batch old stopped front s taken after back (Some held) e same sound =
+    becomes old stopped front s taken after back without_batch (parts old front s taken back sound) (ap (session_in old.cursors s) same)
 
 -- A change that was told and answered is a step of the machine.
-pub change_gives : (change : Outcome) (old mid new : Kept) (before after : Talk) (front : List OpenSession) (s : ℕ) (back ys : List OpenSession) (stopped : Bool) (was now : Counts)
+pub change_gives : (change : Outcome) (old mid new : Kept) (before after : Talk) (front : List OpenSession) (s : ℕ) (back ys : List OpenSession) (stopped : Bool) (copy : Bytes) (was now : Counts)
     → LeavesChange change old before mid after was.listing now.listing → IsSound old (among front s before back)
-    → TellsAll (is_accepted change) (reply_of change (mid.store).seq) mid s (among front s after back) new ys
-    → StepGives (state_in old stopped (among front s before back)) s (Ran (is_kept change)) (state_in new stopped ys) was now
-change_gives change old mid new before after front s back ys stopped was now c sound t =
+    → TellsAll (is_accepted change) (reply_of change (mid.store).seq) mid s (among front s after back) new ys → Copies (Ran (is_kept change)) before.held copy
+    → StepGives (state_in old stopped (among front s before back)) s (Ran (is_kept change)) (state_in new stopped ys) was now (lines_of (lines_kept change) copy)
+change_gives change old mid new before after front s back ys stopped copy was now c sound t copies =
     let st = state_in old stopped (among front s before back) in
     let x = session_in old.cursors s before in
-    let seen : session_in old.cursors s after ≡ behind_line c.rest x = ap (session_in old.cursors s) c.taken in
-    let moved : state_in old stopped (among front s after back) ≡ with_session st s (behind_line c.rest)
-    = becomes old stopped front s before after back (behind_line c.rest) (parts old front s before back sound) seen in
-    let sound' : IsSound old (among front s after back) = subst (λ (d : Talk). IsSound old (among front s d back)) (sym c.taken) (sound_bytes old front s before c.rest before.pending after.room back sound) in
-    let r = composed old mid new stopped (among front s after back) ys s (behind_line c.rest x) change was.listing now.listing sound' c.command c.changes t in
-    let read : ReadStep (with_session st s (behind_line c.rest)) s (behind_line c.rest x) c.line (reading_of c.line) r.effect r.last
-    = subst (λ (g : Reading). ReadStep (with_session st s (behind_line c.rest)) s (behind_line c.rest x) c.line g r.effect r.last) (sym c.reads)
-    (true, subst (λ (w : State). CommandStep w s (behind_line c.rest x) c.command r.effect r.last) moved r.does) in (
+    let y = behind_line c.rest x in
+    let taken : Talk = record before { held = c.rest; room = after.room } in
+    let zs = among front s taken back in
+    let xs = among front s after back in
+    let moved : state_in old stopped zs ≡ with_session st s (behind_line c.rest) = becomes old stopped front s before taken back (behind_line c.rest) (parts old front s before back sound) refl in
+    let between : IsSound old zs = sound_bytes old front s before c.rest before.pending after.room back sound in
+    let sound' : IsSound old xs = subst (λ (d : Talk). IsSound old (among front s d back)) (sym c.taken) (sound_batch old front s taken None back between) in
+    let r = composed old mid new stopped xs zs ys s y c.line change was.listing now.listing sound' c.command before.batch refl
+    (shut_batch old stopped front s taken after back before.batch refl c.taken between) c.changes t in
+    let read : ReadStep (with_session st s (behind_line c.rest)) s y c.line (reading_of c.line) r.effect r.last
+    = subst (λ (g : Reading). ReadStep (with_session st s (behind_line c.rest)) s y c.line g r.effect r.last) (sym c.reads)
+    (carried_out _ s y c.line c.command r.effect r.last r.placed (subst (λ (w : State). CommandStep w s y c.line c.command r.effect r.last) moved r.does)) in
+    let same : copy ≡ c.line = one_front before.held c.line copy c.rest copies.0 c.front copies.1 in (
       (
         c.line,
         inr (record {
@@ -296,5 +369,6 @@ change_gives change old mid new before after front s back ys stopped was now c s
           listing = r.counted;
         }),
       ),
-      r.keeps,
+      subst (λ (k : Keeping). KeepsGroup (is_kept change) (groups_in c.line k) (lines_of (lines_kept change) copy)) (sym r.keeps)
+          (subst (λ (m : Bytes). KeepsGroup (is_kept change) (groups_in c.line (keeping_of change)) (lines_of (lines_kept change) m)) (sym same) (group_kept change c.line)),
     )

@@ -142,9 +142,9 @@ moved_among old new before c n h p cut held s front back i stopped room a =
 -- the machine runs `next` where its cursor stands
 pub next_at : (old : Kept) (before : Talk) (c : Bytes) (n : NamedCursor CursorId) (h : Held) (q : Listed) (count : ℕ) (st st' : State) (s : ℕ) (x : Session) (e : Effect)
     → named before.cursors c ≡ Some n → held_at old.cursors n.cursor ≡ Some h → listed_of (old.store).queries h.query ≡ Some q
-    → st.store ≡ old.store → x ≡ session_in old.cursors s before → NextStepAt st s c q count h.position e st' → CommandStep st s x (Next c count) e st'
+    → st.store ≡ old.store → x ≡ session_in old.cursors s before → NextStepAt st s c q count h.position e st' → CommandStep st s x [] (Next c count) e st'
 next_at old before c n h q count st st' s x e f held known store same step =
-    subst (λ (y : Session). CommandStep st s y (Next c count) e st') (sym same)
+    subst (λ (y : Session). CommandStep st s y [] (Next c count) e st') (sym same)
     (at_found old.cursors before.cursors c n (RefusedStep st s NoCursor e st') (λ k. IsSomeAnd (listed_of (st.store).queries k.query) (λ p. NextStepAt st s c p count k.position e st')) f
     (subst (λ (o : Option Held). IsSomeAnd (listed_of (st.store).queries (query_in o)) (λ p. NextStepAt st s c p count (position_in o) e st')) (sym held)
     (subst (λ w. IsSomeAnd (listed_of w.queries h.query) (λ p. NextStepAt st s c p count h.position e st')) (sym store)
@@ -167,7 +167,7 @@ does_whole old new before after c n h q given ended count was now f held known a
           let m = moved_among old new before c n h p cut held w.stands front back s stopped after.room a in
           let seen : record before { room = after.room } ≡ unqueued before after = sym (ap (λ (d : Talk). unqueued before d) w.queued) in
           let e = to_one s (Some text) ((length w.told + 1) * answer_steps q) in
-          subst (λ (d : Talk). CommandStep (state_in old stopped (among front s before back)) s (session_in old.cursors s before) (Next c count) e (state_in new stopped (among front s d back))) seen
+          subst (λ (d : Talk). CommandStep (state_in old stopped (among front s before back)) s (session_in old.cursors s before) [] (Next c count) e (state_in new stopped (among front s d back))) seen
           (next_at old before c n h q count (state_in old stopped (among front s before back)) (state_in new stopped (among front s (record before { room = after.room }) back)) s (session_in old.cursors s before) e f held known refl refl
           (subst (λ (r : Position). NextStepAt (state_in old stopped (among front s before back)) s c q count r e (state_in new stopped (among front s (record before { room = after.room }) back))) (sym at)
           (inl (record { told = w.told; end = w.end; tells = w.tells; effect = refl; state = m.0 }))));
@@ -200,9 +200,9 @@ does_cut old mid new before between last after c n h q given ended count was now
       counted = stays_on old.registered mid.registered new.registered before.watches between.watches []
           (stays_same old.registered mid.registered before.watches between.watches w.stands.registered (ap (λ (d : Talk). d.watches) w.queued)) g.counted;
     } in
-    let left : after ≡ record before { cursors = []; watches = []; room = after.room; cause = Some Memory; pending = behind before.pending (Some text) }
-    = r ∙ ap (λ (d : Talk). record d { pending = d.pending ++ end_memory; room = after.room; cause = Some Memory }) (g.session ∙ ap (λ (d : Talk). record d { cursors = []; watches = [] }) w.queued)
-    ∙ ap (λ (bs : Bytes). record before { cursors = []; watches = []; room = after.room; cause = Some Memory; pending = bs }) (append_assoc before.pending lines end_memory) in
+    let left : after ≡ record before { cursors = []; watches = []; room = after.room; cause = Some Memory; batch = None; pending = behind before.pending (Some text) }
+    = r ∙ ap (λ (d : Talk). record d { pending = d.pending ++ end_memory; room = after.room; cause = Some Memory; batch = None }) (g.session ∙ ap (λ (d : Talk). record d { cursors = []; watches = [] }) w.queued)
+    ∙ ap (λ (bs : Bytes). record before { cursors = []; watches = []; room = after.room; cause = Some Memory; batch = None; pending = bs }) (append_assoc before.pending lines end_memory) in
     ends_costing _ false old new before after (Some text) ((length w.told + 1) * answer_steps q) Memory was now up left w.counted (λ st s x store same.
     let e = to_one s (Some text) ((length w.told + 1) * answer_steps q) in
     next_at old before c n h q count st (with_session st s (ended_by Memory)) s x e f held known store same
@@ -287,7 +287,7 @@ pub does_next_none : (k : Kept) (before after : Talk) (c : Bytes) (count was : �
 does_next_none k before after c count was f r =
     counting _ false k before k after was was (omega arith)
     (refused _ k before after (refusal_line NoCursor) r (λ st s x store same.
-    subst (λ (y : Session). CommandStep st s y (Next c count) (to_one s (Some (refusal_line NoCursor)) 0) st) (sym same)
+    subst (λ (y : Session). CommandStep st s y [] (Next c count) (to_one s (Some (refusal_line NoCursor)) 0) st) (sym same)
     (at_none k.cursors before.cursors c _ (λ k'. IsSomeAnd (listed_of (st.store).queries k'.query) (λ p. NextStepAt st s c p count k'.position (to_one s (Some (refusal_line NoCursor)) 0) st)) f (refl, refl))))
 
 -- the cursor of a name is held

@@ -5,7 +5,7 @@ use Rattle.djq_model.specs.Data.{Bytes}
 use Rattle.djq_model.specs.Listed.{Listed, a_query, listed_of}
 use Rattle.djq_model.specs.declared.query.Query.{Query}
 use Rattle.djq_lines.specs.declared.answer.Refusal.{Refusal}
-use Rattle.djq_lines.specs.declared.answer.Refusal.TheVariants.{Syntax, Taken, NoRelation, NoQuery, NoCursor, Arity, WrongType, HeadUnbound, HeadRepeated, VariableType, Unbound, Limit, NoMemory, InUse}
+use Rattle.djq_lines.specs.declared.answer.Refusal.TheVariants.{Syntax, Taken, NoRelation, NoQuery, NoCursor, Arity, WrongType, HeadUnbound, HeadRepeated, VariableType, Unbound, Limit, NoMemory, InUse, Misplaced}
 use Rattle.djq_lines.specs.declared.answer.EndCause.TheVariants.{Memory}
 use Rattle.djq_lines.specs.declared.rest.QueryOutcome.{QueryOutcome}
 use Rattle.djq_lines.specs.declared.command.Command.TheVariants.{Query as Register, Explain}
@@ -41,7 +41,7 @@ cut_off_after M old mid new before between after was now kept same stays roomy c
     let cut' : CutsOff mid (record before { room = between.room }) new after = subst (λ (d : Talk). CutsOff mid d new after) roomy cut in
     let g = cut'.gives_up in
     let up : GivesUp mid before new (record before { cursors = []; watches = [] }) = record { store = g.store; gone = g.gone; others = g.others; session = refl; counted = g.counted } in
-    let left : after ≡ record before { cursors = []; watches = []; room = after.room; cause = Some Memory; pending = behind before.pending (Some end_memory) } = cut'.ends in
+    let left : after ≡ record before { cursors = []; watches = []; room = after.room; cause = Some Memory; batch = None; pending = behind before.pending (Some end_memory) } = cut'.ends in
     let around = λ (front back : List OpenSession) (s : ℕ) (sound : IsSound old (among front s before back)).
     around_same old.cursors mid.cursors front s before back same (parts old front s before back sound) in
     record {
@@ -60,9 +60,9 @@ cut_off_after M old mid new before between after was now kept same stays roomy c
           (does st s (session_in old.cursors s before) refl));
       sound = λ front back s sound.
           subst (λ (d : Talk). IsSound new (among front s d back)) (sym left)
-          (whole new front s (record before { cursors = []; watches = []; room = after.room; cause = Some Memory; pending = behind before.pending (Some end_memory) }) back
+          (whole new front s (record before { cursors = []; watches = []; room = after.room; cause = Some Memory; batch = None; pending = behind before.pending (Some end_memory) }) back
           (ends_among mid new before Memory false after.room (behind before.pending (Some end_memory)) up front back s (around front back s sound)).1
-          (recount old new.registered front s before (record before { cursors = []; watches = []; room = after.room; cause = Some Memory; pending = behind before.pending (Some end_memory) }) back
+          (recount old new.registered front s before (record before { cursors = []; watches = []; room = after.room; cause = Some Memory; batch = None; pending = behind before.pending (Some end_memory) }) back
           (stays_on old.registered mid.registered new.registered before.watches before.watches [] stays g.counted) (λ q. refl) sound));
       counted = omega (arith, counted);
     }
@@ -175,6 +175,7 @@ late_is : (P : Type 0) (r : Refusal) → OutOfMemoryWhere P r → r ≡ NoMemory
 late_is P NoMemory h = refl
 late_is P Syntax h = absurd h
 late_is P Taken h = absurd h
+late_is P Misplaced h = absurd h
 late_is P NoRelation h = absurd h
 late_is P NoQuery h = absurd h
 late_is P NoCursor h = absurd h

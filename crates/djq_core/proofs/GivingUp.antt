@@ -147,13 +147,13 @@ agree_apart old new bs (c ∷ cs) h a = (h c a.0, agree_apart old new bs cs h a.
 -- A session that has given up its cursors and ends, among others.
 pub ends_among : (old new : Kept) (before : Talk) (cause : EndCause) (stopped : Bool) (room : ℕ) (pending : Bytes) → GivesUp old before new (record before { cursors = []; watches = [] })
     → (front back : List OpenSession) (s : ℕ) → Around old.cursors front s before back
-    → (state_in new stopped (among front s (record before { cursors = []; watches = []; room = room; cause = Some cause }) back) ≡ with_session (state_in old stopped (among front s before back)) s (ended_by cause))
-    × Around new.cursors front s (record before { cursors = []; watches = []; room = room; cause = Some cause; pending = pending }) back
+    → (state_in new stopped (among front s (record before { cursors = []; watches = []; room = room; cause = Some cause; batch = None }) back) ≡ with_session (state_in old stopped (among front s before back)) s (ended_by cause))
+    × Around new.cursors front s (record before { cursors = []; watches = []; room = room; cause = Some cause; batch = None; pending = pending }) back
 ends_among old new before cause stopped room pending g front back s p =
     let ids = ids_of before.cursors in
     let ga = agree_apart old.cursors new.cursors ids (all_ids front) g.others (apart_fronts (all_ids front) ids (all_ids back) p.apart) in
     let ge = agree_apart old.cursors new.cursors ids (all_ids back) g.others (apart_backs ids (all_ids back) (apart_rest (all_ids front) (ids ++ all_ids back) p.apart)) in (
-      moved old new stopped front s before (record before { cursors = []; watches = []; room = room; cause = Some cause }) back (ended_by cause) p ga ge g.store refl,
+      moved old new stopped front s before (record before { cursors = []; watches = []; room = room; cause = Some cause; batch = None }) back (ended_by cause) p ga ge g.store refl,
       record {
         rising = p.rising;
         few = p.few;
@@ -170,7 +170,7 @@ ends_among old new before cause stopped room pending g front back s p =
 
 -- A session gives up its cursors and ends, for a cause; a text may be queued to it.
 pub ends_costing : (M : State → ℕ → Session → Effect → State → Type 0) (stops : Bool) (old new : Kept) (before after : Talk) (text : Option Bytes) (cost : ℕ) (cause : EndCause) (was now : ℕ)
-    → GivesUp old before new (record before { cursors = []; watches = [] }) → after ≡ record before { cursors = []; watches = []; room = after.room; cause = Some cause; pending = behind before.pending text }
+    → GivesUp old before new (record before { cursors = []; watches = [] }) → after ≡ record before { cursors = []; watches = []; room = after.room; cause = Some cause; batch = None; pending = behind before.pending text }
     → now ≤ was + cost
     → ((st : State) (s : ℕ) (x : Session) → st.store ≡ old.store → x ≡ session_in old.cursors s before → M st s x (to_one s text cost) (with_session (record st { stopped = stops || st.stopped }) s (ended_by cause)))
     → Performs M stops old before new after was now
@@ -189,19 +189,19 @@ ends_costing M stops old new before after text cost cause was now up left counte
   sound = λ front back s sound.
       let p = parts old front s before back sound in
       subst (λ (d : Talk). IsSound new (among front s d back)) (sym left)
-      (whole new front s (record before { cursors = []; watches = []; room = after.room; cause = Some cause; pending = behind before.pending text }) back
+      (whole new front s (record before { cursors = []; watches = []; room = after.room; cause = Some cause; batch = None; pending = behind before.pending text }) back
       (ends_among old new before cause false after.room (behind before.pending text) up front back s p).1
-      (recount old new.registered front s before (record before { cursors = []; watches = []; room = after.room; cause = Some cause; pending = behind before.pending text }) back up.counted (λ q. refl) sound));
+      (recount old new.registered front s before (record before { cursors = []; watches = []; room = after.room; cause = Some cause; batch = None; pending = behind before.pending text }) back up.counted (λ q. refl) sound));
   counted = counted;
 }
 
 pub ends : (M : State → ℕ → Session → Effect → State → Type 0) (stops : Bool) (old new : Kept) (before mid after : Talk) (text : Option Bytes) (cause : EndCause)
-    → GivesUp old before new mid → after ≡ record mid { pending = behind mid.pending text; room = after.room; cause = Some cause }
+    → GivesUp old before new mid → after ≡ record mid { pending = behind mid.pending text; room = after.room; cause = Some cause; batch = None }
     → ((st : State) (s : ℕ) (x : Session) → M st s x (to_one s text 0) (with_session (record st { stopped = stops || st.stopped }) s (ended_by cause)))
     → Performs M stops old before new after 0 0
 ends M stops old new before mid after text cause g same does =
-    let left : after ≡ record before { cursors = []; watches = []; room = after.room; cause = Some cause; pending = behind before.pending text }
-    = same ∙ ap (λ (d : Talk). record d { pending = behind d.pending text; room = after.room; cause = Some cause }) g.session in
+    let left : after ≡ record before { cursors = []; watches = []; room = after.room; cause = Some cause; batch = None; pending = behind before.pending text }
+    = same ∙ ap (λ (d : Talk). record d { pending = behind d.pending text; room = after.room; cause = Some cause; batch = None }) g.session in
     let up : GivesUp old before new (record before { cursors = []; watches = [] }) = record { store = g.store; gone = g.gone; others = g.others; session = refl; counted = g.counted } in
     ends_costing M stops old new before after text 0 cause 0 0 up left (omega arith) (λ st s x e f. does st s x)
 
@@ -215,5 +215,5 @@ cut_some [] h = absurd (cc)
 cut_some (b ∷ bs) h = refl
 
 -- a cause that is kept alone
-pub quiet_end : (d e : Talk) (cause : EndCause) → e ≡ record d { cause = Some cause } → e ≡ record d { pending = d.pending; room = e.room; cause = Some cause }
-quiet_end d e cause h = h ∙ ap (λ (r : ℕ). record d { room = r; cause = Some cause }) (sym (ap (λ (x : Talk). x.room) h))
+pub quiet_end : (d e : Talk) (cause : EndCause) → e ≡ record d { cause = Some cause; batch = None } → e ≡ record d { pending = d.pending; room = e.room; cause = Some cause; batch = None }
+quiet_end d e cause h = h ∙ ap (λ (r : ℕ). record d { room = r; cause = Some cause; batch = None }) (sym (ap (λ (x : Talk). x.room) h))

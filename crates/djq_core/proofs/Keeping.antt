@@ -1,38 +1,17 @@
--- The line that a step keeps.
-use Rattle.std.proofs.Common.{ℕ, zero, suc, ◌-◌, ◌+◌, ◌≡◌, ◌≤◌, ◌∙◌, ◌||◌, Bool, true, false, List, cond, length, Option, None, Some, refl, sym, ap, subst, arith}
-use Rattle.std.specs.Prelude.{◌==◌, ◌&&◌, not, nat_le, take, slice_get, slice_index}
-use Rattle.std.proofs.lemmas.Bool.{leb-true, leb-false, false≢true}
+-- The lines that a step keeps.
+use Rattle.std.proofs.Common.{ℕ, zero, suc, ◌-◌, ◌+◌, ◌≡◌, ◌≤◌, ◌∙◌, ◌||◌, Bool, true, false, List, cond, length, Option, None, Some, refl, sym, ap, subst, arith, [], ◌∷◌, map, ◌<◌, inl, inr, ◌⊎◌, ◌++◌}
+use Rattle.std.specs.Prelude.{◌==◌, ◌&&◌, not, nat_le, take, slice_get, slice_index, slice_index_or}
+use Rattle.std.proofs.lemmas.Bool.{cases_order, leb-true, leb-false, false≢true}
 use Rattle.std.proofs.lemmas.List.{length-take-le}
 use Rattle.djq_model.specs.Data.{Bytes}
 use Rattle.djq_lines.specs.declared.limits.TheConstants.{LINE_BYTES}
 use Rattle.djq_lines.specs.Line.{a_line, too_long, line_or_dry, front_of, before_lf, behind_lf, without_cr, is_long}
-use Rattle.djq_machine.specs.State.{State}
+use Rattle.djq_lines.specs.declared.held.HeldRow.{HeldRow}
 use Rattle.djq_machine.specs.declared.machine.Stepped.{Stepped}
 use Rattle.djq_machine.specs.declared.machine.Stepped.TheVariants.{Ran, Dry, Ended}
-use Rattle.djq_machine.specs.Call.{StepKeeps, held_of}
-use Rattle.djq_engine.specs.Kept.{Kept}
-use Rattle.djq_core.specs.declared.open.OpenSession.{OpenSession}
-use Rattle.djq_core.specs.Views.{kept_line, state_in}
-use Rattle.djq_core.specs.Stepping.{keeps_line, Copies}
-use Rattle.djq_core.proofs.Places.{Here, held_at_state}
+use Rattle.djq_core.specs.Stepping.{Copies}
 
--- the bytes of the session that stands there
-pub held_here : (k : Kept) (st : State) (stopped : Bool) (xs : List OpenSession) (at s : ℕ) (e : OpenSession) → Here k xs at s e → state_in k stopped xs ≡ st → held_of st s ≡ (e.session).held
-held_here k st stopped xs at s e h v = ap (λ (x : State). held_of x s) (sym v) ∙ held_at_state k stopped xs at s e h
-
--- It is the one that was copied.
-pub step_keeps : (st : State) (s : ℕ) (stepped : Stepped) (held copy : Bytes) (kept : Bool) → held_of st s ≡ held → kept ≡ keeps_line stepped → Copies stepped held copy
-    → StepKeeps st s stepped (kept_line kept copy)
-step_keeps st s stepped held copy kept same e copies =
-    subst (λ (b : Bool). StepKeeps st s stepped (kept_line b copy)) (sym e) (by stepped copies)
-  where
-    by : (r : Stepped) → Copies r held copy → StepKeeps st s r (kept_line (keeps_line r) copy)
-    by (Ran true) c = (copy, c.0, ap front_of same ∙ c.1, refl)
-    by (Ran false) c = refl
-    by Dry c = refl
-    by (Ended cause) c = refl
-
--- so it is where any line stood in front
+-- a line that stood in front is copied
 pub copies_front : (stepped : Stepped) (held copy rest : Bytes) → front_of held ≡ a_line copy rest → Copies stepped held copy
 copies_front (Ran kept) held copy rest f = (rest, f)
 copies_front Dry held copy rest f = tt
@@ -80,3 +59,49 @@ short_front held line rest e = by (is_long (before_lf held)) refl (behind_lf hel
     by false f (Some behind) g =
         let same : without_cr (before_lf held) ≡ line = cc (g) in
         subst (λ (bs : Bytes). length bs ≤ LINE_BYTES) same (short_line (before_lf held) f)
+
+-- ---- the lines of a batch
+
+row_at : (rows : List HeldRow) (last : Bytes) (j : ℕ) (h : HeldRow) → j < length rows → h ≡ slice_index_or rows j h → Some h.line ≡ slice_get (map (λ (r : HeldRow). r.line) rows ++ last ∷ []) j
+row_at [] last j h l e = absurd (omega (arith, l))
+row_at (r ∷ rows) last zero h l e = ap (λ (x : HeldRow). Some x.line) e
+row_at (r ∷ rows) last (suc j) h l e = row_at rows last j h (omega (arith, l)) e
+
+last_at : (rows : List HeldRow) (last : Bytes) (j : ℕ) → j ≡ length rows → Some last ≡ slice_get (map (λ (r : HeldRow). r.line) rows ++ last ∷ []) j
+last_at [] last zero e = refl
+last_at [] last (suc j) e = absurd (omega (arith, e))
+last_at (r ∷ rows) last zero e = absurd (omega (arith, e))
+last_at (r ∷ rows) last (suc j) e = last_at rows last j (omega (arith, e))
+
+past_at : (rows : List HeldRow) (last : Bytes) (j : ℕ) → length rows < j → None ≡ slice_get (map (λ (r : HeldRow). r.line) rows ++ last ∷ []) j
+past_at [] last zero l = absurd (omega (arith, l))
+past_at [] last (suc j) l = refl
+past_at (r ∷ rows) last zero l = absurd (omega (arith, l))
+past_at (r ∷ rows) last (suc j) l = past_at rows last j (omega (arith, l))
+
+-- with a line in front
+pub batch_row : (first last : Bytes) (rows : List HeldRow) (i : ℕ) (h : HeldRow) → (i ≡ 0 → ⊥) → i - 1 < length rows → h ≡ slice_index_or rows (i - 1) h
+    → Some h.line ≡ slice_get (first ∷ (map (λ (r : HeldRow). r.line) rows ++ last ∷ [])) i
+batch_row first last rows zero h n l e = absurd (n refl)
+batch_row first last rows (suc j) h n l e =
+    let same : suc j - 1 ≡ j = omega arith in
+    row_at rows last j h (subst (λ (k : ℕ). k < length rows) same l) (subst (λ (k : ℕ). h ≡ slice_index_or rows k h) same e)
+
+pub batch_last : (first last : Bytes) (rows : List HeldRow) (i : ℕ) → i ≡ length rows + 1 → Some last ≡ slice_get (first ∷ (map (λ (r : HeldRow). r.line) rows ++ last ∷ [])) i
+batch_last first last rows zero e = absurd (omega (arith, e))
+batch_last first last rows (suc j) e = last_at rows last j (omega (arith, e))
+
+pub batch_past : (first last : Bytes) (rows : List HeldRow) (i : ℕ) → (i ≡ 0 → ⊥) → (i - 1 < length rows → ⊥) → (i ≡ length rows + 1 → ⊥)
+    → None ≡ slice_get (first ∷ (map (λ (r : HeldRow). r.line) rows ++ last ∷ [])) i
+batch_past first last rows zero n l e = absurd (n refl)
+batch_past first last rows (suc j) n l e =
+    let same : j ≡ suc j - 1 = omega arith in
+    past_at rows last j (beyond j (length rows) (λ k. l (subst (λ (m : ℕ). m < length rows) same k)) e)
+  where
+    beyond : (a b : ℕ) → (a < b → ⊥) → (suc a ≡ b + 1 → ⊥) → b < a
+    beyond a b l e = by (cases_order a b)
+      where
+        by : (a ≡ b) ⊎ ((a < b) ⊎ (b < a)) → b < a
+        by (inl q) = absurd (e (omega (arith, q)))
+        by (inr (inl q)) = absurd (l q)
+        by (inr (inr q)) = q

@@ -11,11 +11,14 @@ pub mod Enrolling
 pub mod Cutting
 pub mod Telling
 pub mod Continuing
+pub mod Carrying
 pub mod Taking
 mod Unkept
+pub mod Batching
 pub mod Saying
 pub mod Fronting
 pub mod Leaving
+pub mod Holding
 pub mod Lifting
 pub mod Places
 pub mod Queueing
@@ -24,6 +27,8 @@ pub mod Printing
 pub mod Spreading
 pub mod Affecting
 pub mod Closing
+pub mod Suiting
+pub mod Suited
 pub mod Composing
 pub mod Stepping
 pub mod Seen

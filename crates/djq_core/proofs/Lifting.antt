@@ -1,5 +1,5 @@
 -- From one session to the state of all.
-use Rattle.std.proofs.Common.{ℕ, ◌+◌, ◌≤◌, ◌≡◌, ◌++◌, ◌⊎◌, ◌||◌, Bool, List, [], ◌∷◌, Option, None, Some, refl, sym, ap, ap₂, ◌∙◌, subst, inl, inr}
+use Rattle.std.proofs.Common.{ℕ, ◌+◌, ◌≤◌, ◌≡◌, ◌++◌, ◌⊎◌, ◌||◌, Bool, true, false, List, [], ◌∷◌, Option, None, Some, refl, sym, ap, ap₂, ◌∙◌, subst, inl, inr}
 use Rattle.std.specs.Prelude.{IsSomeAnd, MatchOption}
 use Rattle.std.proofs.lemmas.List.Sorted.{IsPermutation-refl}
 use Rattle.djq_model.specs.declared.relation.Relation.{Relation}
@@ -9,17 +9,20 @@ use Rattle.djq_lines.specs.declared.answer.EndCause.TheVariants.{Input, Quit, St
 use Rattle.djq_machine.specs.declared.machine.Stepped.{Stepped}
 use Rattle.djq_machine.specs.declared.machine.Stepped.TheVariants.{Ran, Dry, Ended}
 use Rattle.djq_machine.specs.State.{Session, State, session_of}
-use Rattle.djq_machine.specs.Keeping.{kept_where}
+use Rattle.djq_lines.specs.Line.{a_line, front_of}
+use Rattle.djq_machine.specs.Keeping.{Keeping, no_line, kept_where}
+use Rattle.djq_machine.specs.Run.{groups_in}
 use Rattle.djq_machine.specs.Effect.{Effect, queue_all}
 use Rattle.djq_machine.specs.LineStep.{LineOutcome, long, blank, slow, no_room, run, FrontStep}
 use Rattle.djq_machine.specs.Step.{Event, stepped, Acts, Step, SameRelations, is_dry}
-use Rattle.djq_machine.specs.Call.{Counts, MakesCounted, RanStep, kept_by, EndedStepAs, StepGives, cause_of, cause_in, held_of, held_in}
+use Rattle.djq_machine.specs.Call.{Counts, MakesCounted, RanStep, KeepsGroup, groups_by, EndedStepAs, StepGives, cause_of, cause_in, held_of, held_in}
 use Rattle.djq_engine.specs.Kept.{Kept}
 use Rattle.djq_core.specs.declared.open.OpenSession.{OpenSession}
-use Rattle.djq_core.specs.Views.{Talk, session_in, state_in}
+use Rattle.djq_core.specs.Changing.{line_where}
+use Rattle.djq_core.specs.Views.{Talk, session_in, state_in, lines_of}
 use Rattle.djq_core.specs.Sound.{IsSound}
 use Rattle.djq_core.specs.Performs.{among, to_one, to_keep, behind, unqueued, Performs}
-use Rattle.djq_core.specs.Stepping.{Fronts, FrontsKeeping, EndsBefore, Unchanged, StepsTo}
+use Rattle.djq_core.specs.Stepping.{Fronts, FrontsKeeping, EndsBefore, Unchanged, StepsTo, Copies, line_kept}
 use Rattle.djq_core.proofs.Around.{parts, found, becomes}
 use Rattle.djq_core.proofs.Replying.{around_bytes}
 
@@ -105,27 +108,54 @@ unchanged : (stops : Bool) (old : Kept) (before : Talk) (new : Kept) (after : Ta
 unchanged stops old before new after was now front back s stopped u =
     ap (λ (b : Bool). state_in new (b || stopped) (among front s after back)) u.goes_on ∙ ap₂ (λ (k : Kept) (d : Talk). state_in k stopped (among front s d back)) u.engine u.session
 
+-- the group that is kept of a line, where it is
+pub line_group : (b : Bool) (l : Bytes) → KeepsGroup b (groups_in l (kept_where b)) (lines_of (line_where b) l)
+line_group true l = refl
+line_group false l = (refl, refl)
+
+-- of a blank line none is
+unkept_blank : (b : Bool) (l : Bytes) → no_line ≡ kept_where b → KeepsGroup b [] (lines_of (line_where b) l)
+unkept_blank true l e = absurd (cc (e))
+unkept_blank false l e = (refl, refl)
+
+-- the line in front is one
+pub one_front : (held l m r q : Bytes) → front_of held ≡ a_line l r → front_of held ≡ a_line m q → m ≡ l
+one_front held l m r q e f = let g : a_line l r ≡ a_line m q = sym e ∙ f in cc (g)
+
 -- A step of a session is what a step of the machine answers.
-pub step_gives : (result : Stepped) (stops : Bool) (old : Kept) (before : Talk) (new : Kept) (after : Talk) (was now : Counts) (front back : List OpenSession) (s : ℕ) (stopped : Bool)
-    → StepsTo result stops old before new after was now → IsSound old (among front s before back)
-    → StepGives (state_in old stopped (among front s before back)) s result (state_in new (stops || stopped) (among front s after back)) was now
-step_gives (Ran kept) stops old before new after was now front back s stopped t sound = by t.1.1
+pub step_gives : (result : Stepped) (stops : Bool) (old : Kept) (before : Talk) (new : Kept) (after : Talk) (copy : Bytes) (was now : Counts) (front back : List OpenSession) (s : ℕ) (stopped : Bool)
+    → StepsTo result stops old before new after was now → Copies result before.held copy → IsSound old (among front s before back)
+    → StepGives (state_in old stopped (among front s before back)) s result (state_in new (stops || stopped) (among front s after back)) was now (lines_of (line_kept result) copy)
+step_gives (Ran kept) stops old before new after copy was now front back s stopped t copies sound = by t.1.1
   where
     by : (FrontsKeeping (blank t.1.0) kept stops old before new after was.listing now.listing ⊎ FrontsKeeping (run t.1.0) kept stops old before new after was.listing now.listing)
         → (ran : RanStep (state_in old stopped (among front s before back)) s (state_in new (stops || stopped) (among front s after back)) was now)
-        × (kept_by (state_in old stopped (among front s before back)) s (state_in new (stops || stopped) (among front s after back)) was now ran ≡ kept_where kept)
-    by (inl f) = let m = fronts_keeping (blank t.1.0) kept stops old before new after was now front back s stopped t.0 f sound in ((t.1.0, inl m.0), m.1)
-    by (inr f) = let m = fronts_keeping (run t.1.0) kept stops old before new after was now front back s stopped t.0 f sound in ((t.1.0, inr m.0), m.1)
-step_gives Dry stops old before new after was now front back s stopped t sound = (
+        × KeepsGroup kept (groups_by (state_in old stopped (among front s before back)) s (state_in new (stops || stopped) (among front s after back)) was now ran) (lines_of (line_where kept) copy)
+    by (inl f) =
+        let m = fronts_keeping (blank t.1.0) kept stops old before new after was now front back s stopped t.0 f sound in
+        let d = f.does front back s stopped sound in
+        ((t.1.0, inl m.0), unkept_blank kept copy (sym (ap (λ (e : Effect). e.kept) (d.0.1).then.0) ∙ d.1))
+    by (inr f) =
+        let m = fronts_keeping (run t.1.0) kept stops old before new after was now front back s stopped t.0 f sound in
+        let d = f.does front back s stopped sound in
+        let same : copy ≡ t.1.0 = one_front before.held t.1.0 copy (d.0.2).rest copies.0 (d.0.2).front copies.1 in (
+          (t.1.0, inr m.0),
+          subst (λ (k : Keeping). KeepsGroup kept (groups_in t.1.0 k) (lines_of (line_where kept) copy)) (sym m.1)
+              (subst (λ (l : Bytes). KeepsGroup kept (groups_in t.1.0 (kept_where kept)) (lines_of (line_where kept) l)) (sym same) (line_group kept t.1.0)),
+        )
+step_gives Dry stops old before new after copy was now front back s stopped t copies sound = (
   unchanged stops old before new after was now front back s stopped t.2,
   t.2.counted,
   cause_is old stopped front s before back sound ∙ t.0,
   ap is_dry (held_is old stopped front s before back sound) ∙ t.1,
+  refl,
 )
-step_gives (Ended c) stops old before new after was now front back s stopped t sound =
-    subst (λ (o : Option EndCause). MatchOption o (EndedStepAs c (state_in old stopped (among front s before back)) s (state_in new (stops || stopped) (among front s after back)) was now)
-    (λ d. (d ≡ c) × (state_in new (stops || stopped) (among front s after back) ≡ state_in old stopped (among front s before back)) × (now ≡ was)))
-    (sym (cause_is old stopped front s before back sound)) (by before.cause refl t)
+step_gives (Ended c) stops old before new after copy was now front back s stopped t copies sound = (
+  refl,
+  subst (λ (o : Option EndCause). MatchOption o (EndedStepAs c (state_in old stopped (among front s before back)) s (state_in new (stops || stopped) (among front s after back)) was now)
+      (λ d. (d ≡ c) × (state_in new (stops || stopped) (among front s after back) ≡ state_in old stopped (among front s before back)) × (now ≡ was)))
+      (sym (cause_is old stopped front s before back sound)) (by before.cause refl t),
+)
   where
     by : (o : Option EndCause) → before.cause ≡ o → MatchOption o (EndsBefore c stops old before new after was now) (λ d. (d ≡ c) × Unchanged stops old before new after was now)
         → MatchOption o (EndedStepAs c (state_in old stopped (among front s before back)) s (state_in new (stops || stopped) (among front s after back)) was now)

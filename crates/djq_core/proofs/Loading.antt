@@ -1,23 +1,31 @@
 -- What loading does while no session is open.
-use Rattle.std.proofs.Common.{ℕ, zero, suc, ◌≡◌, ◌∙◌, Bool, true, false, List, [], ◌∷◌, map, cond, Option, None, Some, option_map, Result, Ok, Err, nat_lt, refl, sym, ap, ap₂, subst, arith, inl, inr}
+use Rattle.std.proofs.Common.{ℕ, zero, suc, ◌≡◌, ◌∙◌, Bool, true, false, List, [], ◌∷◌, ◌++◌, length, map, cond, Option, None, Some, option_map, Result, Ok, Err, nat_lt, refl, sym, ap, subst, arith, inl, inr}
 use Rattle.std.specs.Prelude.{⊤, All, IsSome, IsSomeAnd, find, not}
 use Rattle.std.proofs.lemmas.Bool.{false≢true, lt-ltb}
 use Rattle.std.proofs.lemmas.List.Elements.{All-append, All-cons, All-contains, All-filter, All-head, All-nil, All-tail}
 use Rattle.djq_deltas.proofs.Lists.{hold_each}
 use Rattle.djq_model.specs.declared.query.Query.{Query}
-use Rattle.djq_model.specs.Data.{Bytes, bytes_eq}
+use Rattle.djq_model.specs.Data.{Bytes, Tuple, bytes_eq}
 use Rattle.djq_model.specs.Listed.{a_query, listed_name}
 use Rattle.djq_lines.specs.declared.answer.Refusal.{Refusal}
+use Rattle.djq_lines.specs.Conditions.{Answers, OutOfMemoryWhere}
+use Rattle.djq_lines.specs.declared.answer.Refusal.TheVariants.{NoMemory}
 use Rattle.djq_lines.specs.declared.command.Command.{Command}
-use Rattle.djq_lines.specs.Grammar.{Reading, command_of, reading_of}
+use Rattle.djq_lines.specs.declared.command.Command.TheVariants.{Add, Batch, Done, Abandon, Quit, Stop}
+use Rattle.djq_lines.specs.declared.held.HeldRow.{HeldRow}
+use Rattle.djq_lines.specs.Grammar.{Reading, outside, past_limit, says, command_of, reading_of}
 use Rattle.djq_lines.specs.declared.rest.QueryOutcome.{QueryOutcome}
 use Rattle.djq_lines.specs.declared.rest.QueryOutcome.TheVariants.{Registered as HasRegistered, Cyclic, NotConnex}
-use Rattle.djq_machine.specs.State.{Store, Session, State}
+use Rattle.djq_machine.specs.State.{Store, State}
 use Rattle.djq_machine.specs.Store.{DropsQuery}
 use Rattle.djq_machine.specs.Changes.{RowsChange}
 use Rattle.djq_machine.specs.declared.machine.Loaded.{Loaded}
 use Rattle.djq_machine.specs.declared.machine.Loaded.TheVariants.{Ran as ran, Refused as refused, NoMem as no_memory}
-use Rattle.djq_machine.specs.Loading.{CommandLoads, LoadStep, ReadingLoads, loaded_by}
+use Rattle.djq_machine.specs.Batch.{AddsBatch, hold_refusal}
+use Rattle.djq_machine.specs.Command.{is_misplaced}
+use Rattle.djq_machine.specs.Keeping.{is_done}
+use Rattle.djq_machine.specs.LineStep.{past_limit_refusal}
+use Rattle.djq_machine.specs.Loading.{CommandLoads, Loading, LoadStep, ReadingLoads, StoreLoads, loaded_by, refused_by}
 use Rattle.djq_proto.specs.declared.refusal.LineRefusal.{LineRefusal}
 use Rattle.djq_proto.specs.declared.refusal.LineRefusal.TheVariants.{Syntax as Outside, Range, NoMem}
 use Rattle.djq_proto.specs.Reading.{Reads}
@@ -26,11 +34,14 @@ use Rattle.djq_engine.specs.Kept.{Kept, Held, Registered, held_at, is_watched, S
 use Rattle.djq_engine.specs.Watching.{Enrols}
 use Rattle.djq_core.specs.declared.open.OpenSession.{OpenSession}
 use Rattle.djq_core.specs.Views.{open_in, state_in}
-use Rattle.djq_core.specs.Sound.{IsSound, IsCore}
-use Rattle.djq_core.specs.Loading.{IsIdle, comes_to}
+use Rattle.djq_core.specs.Sound.{BatchSuits, AreSuited, batches_of, IsSound, IsCore}
+use Rattle.djq_core.specs.Stepping.{refused_as}
+use Rattle.djq_core.specs.Batching.{MakesRow, RefusedBy, row_of}
+use Rattle.djq_core.specs.Loading.{IsIdle, LoadsRow, comes_to, is_batch, loading_by}
 use Rattle.djq_core.proofs.Ids.{outdated_find}
 use Rattle.djq_core.proofs.Lifting.{same_relations}
-use Rattle.djq_core.proofs.Saying.{in_memory, in_outside, in_range_past, reads_as}
+use Rattle.djq_core.proofs.Saying.{in_any_batch, in_memory, in_outside, in_range_past, late_alone, reads_as}
+use Rattle.djq_core.proofs.Suiting.{holds}
 
 -- ---- the core without sessions
 
@@ -81,6 +92,10 @@ core_idle old new is xs id_room room core none idle = record {
   room_for_ids = core.room_for_ids;
   room_for_all = core.room_for_all;
 }
+
+-- where no session is open, the batch of the loaded lines is the only one
+pub suits_loaded : (st : Store) (batch : Option (List HeldRow)) (xs : List OpenSession) → xs ≡ [] → BatchSuits st batch → AreSuited st (batches_of batch xs)
+suits_loaded st batch xs none h = subst (λ (ys : List OpenSession). AreSuited st (batches_of batch ys)) (sym none) (h, tt)
 
 -- ---- what the verbs leave
 
@@ -155,26 +170,110 @@ comes_by kept (Err r) how b e h = h
 
 -- ---- a line
 
-step_loads : (old new : Store) (line : Bytes) (how : Loaded) → ReadingLoads old (reading_of line) how new → LoadStep old line how new
-step_loads old new line how l = record { mid = new; loads = l; relations = new.relations; reordered = same_relations new.relations; after = refl }
+pub step_loads : (old new : Loading) (line : Bytes) (how : Loaded) → ReadingLoads old line (reading_of line) how new → LoadStep old line how new
+step_loads old new line how l =
+    record { mid = new; loads = l; relations = (new.store).relations; reordered = same_relations (new.store).relations; after = refl }
 
--- one that says a command
-pub loads_said : (old new : Store) (line : Bytes) (c : Command) (how : Loaded) → Reads line (Ok c) → CommandLoads old c how new → LoadStep old line how new
-loads_said old new line c how g l =
-    step_loads old new line how (subst (λ (r : Reading). ReadingLoads old r how new) (sym (reads_as line c g)) (inl l))
+module _ (k : Kept) (line : Bytes) where
+  -- outside a batch: one opens
+  pub opens_batch : (c : Command) → Reads line (Ok c) → is_batch c ≡ true → ReadingLoads (loading_by k None) line (reading_of line) ran (loading_by k (Some []))
+  opens_batch c g b =
+      subst (λ (r : Reading). ReadingLoads (loading_by k None) line r ran (loading_by k (Some []))) (sym (reads_as line c g)) (inl (by c b))
+    where
+      by : (c : Command) → is_batch c ≡ true → CommandLoads (loading_by k None) line c ran (loading_by k (Some []))
+      by Batch e = inl (refl, refl)
+      by _ e = absurd (cc (e))
 
--- one that gives no command
-abbrev pub unread_as : LineRefusal → Loaded
-unread_as Outside = refused
-unread_as Range = refused
-unread_as NoMem = no_memory
+  -- or a command is loaded by itself
+  pub said_alone : (new : Kept) (c : Command) (how : Loaded) → Reads line (Ok c) → is_batch c ≡ false → StoreLoads k.store c how new.store
+      → ReadingLoads (loading_by k None) line (reading_of line) how (loading_by new None)
+  said_alone new c how g b l =
+      subst (λ (r : Reading). ReadingLoads (loading_by k None) line r how (loading_by new None)) (sym (reads_as line c g)) (inl (by c b l))
+    where
+      by : (c : Command) → is_batch c ≡ false → StoreLoads k.store c how new.store → CommandLoads (loading_by k None) line c how (loading_by new None)
+      by Batch e h = absurd (cc (e))
+      by _ e h = (h, refl)
 
-pub loads_unread : (st : Store) (line : Bytes) (r : LineRefusal) → Reads line (Err r) → LoadStep st line (unread_as r) st
-loads_unread st line Outside g =
-    step_loads st st line refused (subst (λ (r : Reading). ReadingLoads st r refused st) (sym (in_outside (command_of line) g)) (refl, refl))
-loads_unread st line Range g =
-    let past = in_range_past (command_of line) g in
-    step_loads st st line refused (subst (λ (r : Reading). ReadingLoads st r refused st) (sym past.1) (refl, refl))
-loads_unread st line NoMem g =
-    let m = in_memory (command_of line) g in
-    step_loads st st line no_memory (subst (λ (r : Reading). ReadingLoads st r no_memory st) (sym m.1) (inr (m.2, refl, refl)))
+  -- or the line gives none
+  pub unread_alone : (r : LineRefusal) → Reads line (Err r) → ReadingLoads (loading_by k None) line (reading_of line) (refused_by (refused_as r)) (loading_by k None)
+  unread_alone Outside g =
+      subst (λ (r : Reading). ReadingLoads (loading_by k None) line r refused (loading_by k None)) (sym (in_outside (command_of line) g)) (refl, refl)
+  unread_alone Range g =
+      let past = in_range_past (command_of line) g in
+      subst (λ (r : Reading). ReadingLoads (loading_by k None) line r refused (loading_by k None)) (sym past.2) (refl, refl)
+  unread_alone NoMem g =
+      let m = in_memory (command_of line) g in
+      subst (λ (r : Reading). ReadingLoads (loading_by k None) line r no_memory (loading_by k None)) (sym m.2) (inr (m.3, late_alone m.0 (inr m.3), refl, refl))
+
+module _ (k : Kept) (line : Bytes) (held : List HeldRow) where
+  -- in a batch: a row is held
+  pub said_hold : (name : Bytes) (row : Tuple) (made : Result HeldRow Refusal) (how : Loaded) (rows : List HeldRow) → reading_of line ≡ says (Add name row)
+      → MakesRow k.store (length held) line name row made → LoadsRow held made how rows
+      → ReadingLoads (loading_by k (Some held)) line (reading_of line) how (loading_by k (Some rows)) × (BatchSuits k.store (Some held) → BatchSuits k.store (Some rows))
+  said_hold name row made how rows g makes loads = (
+    subst (λ (r : Reading). ReadingLoads (loading_by k (Some held)) line r how (loading_by k (Some rows))) (sym g) (inl (by made (makes held refl) loads).0),
+    (by made (makes held refl) loads).1,
+  )
+    where
+      made_new : (o : Option Refusal) (new : HeldRow) → Answers {A = HeldRow} o (Ok new) (λ h. h ≡ row_of line name row) (OutOfMemoryWhere ⊤)
+          → (new ≡ row_of line name row) × Answers {A = ⊤} o (Ok tt) (λ d. ⊤) (OutOfMemoryWhere ⊤) × Answers {A = ⊤} o (Err NoMemory) (λ d. ⊤) (OutOfMemoryWhere ⊤)
+      made_new None new a = (a, tt, tt)
+      made_new (Some r) new a = absurd a
+
+      made_none : (o : Option Refusal) (r : Refusal) → Answers {A = HeldRow} o (Err r) (λ h. h ≡ row_of line name row) (OutOfMemoryWhere ⊤) → Answers {A = ⊤} o (Err r) (λ d. ⊤) (OutOfMemoryWhere ⊤)
+      made_none None r a = a
+      made_none (Some q) r a = a
+
+      by : (m : Result HeldRow Refusal) → Answers (hold_refusal k.store held name row) m (λ h. h ≡ row_of line name row) (OutOfMemoryWhere ⊤) → LoadsRow held m how rows
+          → CommandLoads (loading_by k (Some held)) line (Add name row) how (loading_by k (Some rows)) × (BatchSuits k.store (Some held) → BatchSuits k.store (Some rows))
+      by (Ok new) a (inl l) =
+          let n = made_new (hold_refusal k.store held name row) new a in
+          let grown : rows ≡ held ++ row_of line name row ∷ [] = l.1 ∙ ap (λ (h : HeldRow). held ++ h ∷ []) n.0 in (
+            (Ok tt, n.1, l.0, ap (λ (hs : List HeldRow). loading_by k (Some hs)) grown),
+            λ h. subst (λ (hs : List HeldRow). BatchSuits k.store (Some hs)) (sym grown) (holds k.store held line name row (Ok tt) n.1 h tt refl),
+          )
+      by (Ok new) a (inr l) =
+          let n = made_new (hold_refusal k.store held name row) new a in
+          ((Err NoMemory, n.2, l.0, ap (λ (hs : List HeldRow). loading_by k (Some hs)) l.1), λ h. subst (λ (hs : List HeldRow). BatchSuits k.store (Some hs)) (sym l.1) h)
+      by (Err r) a l =
+          ((Err r, made_none (hold_refusal k.store held name row) r a, l.0, ap (λ (hs : List HeldRow). loading_by k (Some hs)) l.1), λ h. subst (λ (hs : List HeldRow). BatchSuits k.store (Some hs)) (sym l.1) h)
+
+  -- it is done
+  pub said_done : (new : Kept) (result : Result ℕ Refusal) (how : Loaded) → reading_of line ≡ says Done → AddsBatch k.store held result new.store → how ≡ loaded_by is_done result
+      → ReadingLoads (loading_by k (Some held)) line (reading_of line) how (loading_by new None)
+  said_done new result how g adds e =
+      subst (λ (r : Reading). ReadingLoads (loading_by k (Some held)) line r how (loading_by new None)) (sym g) (inl (result, adds, e, refl))
+
+  -- it is dropped
+  pub said_abandon : reading_of line ≡ says Abandon → ReadingLoads (loading_by k (Some held)) line (reading_of line) ran (loading_by k None)
+  said_abandon g = subst (λ (r : Reading). ReadingLoads (loading_by k (Some held)) line r ran (loading_by k None)) (sym g) (inl (refl, refl))
+
+  -- a session's end is none of a log's
+  pub said_quit : reading_of line ≡ says Quit → ReadingLoads (loading_by k (Some held)) line (reading_of line) refused (loading_by k (Some held))
+  said_quit g = subst (λ (r : Reading). ReadingLoads (loading_by k (Some held)) line r refused (loading_by k (Some held))) (sym g) (inl (refl, refl))
+
+  pub said_stop : reading_of line ≡ says Stop → ReadingLoads (loading_by k (Some held)) line (reading_of line) refused (loading_by k (Some held))
+  said_stop g = subst (λ (r : Reading). ReadingLoads (loading_by k (Some held)) line r refused (loading_by k (Some held))) (sym g) (inl (refl, refl))
+
+  misplaced_loads : (c : Command) → is_misplaced {A = List HeldRow} (Some []) c ≡ true → CommandLoads (loading_by k (Some held)) line c refused (loading_by k (Some held))
+  misplaced_loads (Add name row) e = absurd (cc (e))
+  misplaced_loads Done e = absurd (cc (e))
+  misplaced_loads Abandon e = absurd (cc (e))
+  misplaced_loads Quit e = absurd (cc (e))
+  misplaced_loads Stop e = absurd (cc (e))
+  misplaced_loads _ e = (refl, refl)
+
+  past_is : (b : Bool) (why : Refusal) → why ≡ past_limit_refusal b → refused_by why ≡ refused
+  past_is true why e = ap refused_by e
+  past_is false why e = ap refused_by e
+
+  -- or the line is refused
+  pub said_nothing : (why : Refusal) → RefusedBy (Some []) (reading_of line) why → ReadingLoads (loading_by k (Some held)) line (reading_of line) (refused_by why) (loading_by k (Some held))
+  said_nothing why h = by (reading_of line) h
+    where
+      by : (r : Reading) → RefusedBy (Some []) r why → ReadingLoads (loading_by k (Some held)) line r (refused_by why) (loading_by k (Some held))
+      by outside e = (ap refused_by e, refl)
+      by (past_limit c) e = (past_is (is_misplaced {A = List HeldRow} (Some []) c) why e, refl)
+      by (says c) (inl (m, e)) =
+          inl (subst (λ (h : Loaded). CommandLoads (loading_by k (Some held)) line c h (loading_by k (Some held))) (sym (ap refused_by e)) (misplaced_loads c m))
+      by (says c) (inr (m, t, e)) = inr (t, in_any_batch held c ∙ m, ap refused_by e, refl)

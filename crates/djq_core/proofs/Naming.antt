@@ -209,4 +209,4 @@ pub does_close_none : (k : Kept) (before after : Talk) (c : Bytes) → named bef
     → Executes (Close c) false k before k after 0 0
 does_close_none k before after c f r =
     refused _ k before after (refusal_line NoCursor) r (λ st s x store same.
-    subst (λ (y : Session). CommandStep st s y (Close c) (to_one s (Some (refusal_line NoCursor)) 0) st) (sym same) (at_none k.cursors before.cursors c _ _ f (refl, refl)))
+    subst (λ (y : Session). CommandStep st s y [] (Close c) (to_one s (Some (refusal_line NoCursor)) 0) st) (sym same) (at_none k.cursors before.cursors c _ _ f (refl, refl)))

@@ -9,6 +9,7 @@ use Rattle.std.proofs.lemmas.List.{length-map, get_or_default}
 use Rattle.djq_model.specs.Data.{Bytes}
 use Rattle.djq_lines.specs.declared.limits.TheConstants.{SESSIONS}
 use Rattle.djq_lines.specs.declared.answer.EndCause.{EndCause}
+use Rattle.djq_lines.specs.declared.held.HeldRow.{HeldRow}
 use Rattle.djq_lines.specs.declared.answer.EndCause.TheVariants.{Memory}
 use Rattle.djq_lines.specs.Reply.{end_memory}
 use Rattle.djq_machine.specs.declared.machine.Stepped.{Stepped}
@@ -22,11 +23,11 @@ use Rattle.djq_engine.specs.declared.cursor.CursorId.{CursorId}
 use Rattle.djq_engine.specs.Kept.{Kept, Held as HeldCursor}
 use Rattle.djq_core.specs.declared.open.OpenSession.{OpenSession}
 use Rattle.djq_session.specs.Dialog.{IsFresh}
-use Rattle.djq_core.specs.Views.{Talk, cursor_in, session_in, open_in, state_in}
+use Rattle.djq_core.specs.Views.{Talk, cursor_in, session_in, open_in, state_in, lines_of}
 use Rattle.djq_core.specs.Sound.{IsBelow, Rises, IsSound, IsOwn, IsCore, ids_of, all_ids, AreHeld, AreApart, NoneOnceEnded, AreOwned}
 use Rattle.djq_core.specs.Ends.{GivesUp, EndsQuietly}
 use Rattle.djq_core.specs.Performs.{among, to_keep, Performs}
-use Rattle.djq_core.specs.Stepping.{StepsTo}
+use Rattle.djq_core.specs.Stepping.{StepsTo, Copies, line_kept}
 use Rattle.djq_core.proofs.Watching.{has_count, count_left, count_more}
 use Rattle.djq_core.proofs.Ids.{Agree, held_join, apart_split, agree_open, agree_held, owned_without}
 use Rattle.djq_core.proofs.Around.{ended_join, parts, ids_are, cursors_are, open_are, found, becomes, rises_push, rises_without, IsAbove, above_front, map_append}
@@ -125,13 +126,13 @@ still_core k new is xs id_room room at s e d core h sound = record {
 }
 
 -- `step`
-pub steps : (k new : Kept) (xs : List OpenSession) (at s : ℕ) (e : OpenSession) (d : Talk) (result : Stepped) (stops stopped : Bool) (was now : Counts) → Here k xs at s e
-    → StepsTo result stops k e.session new d was now
-    → StepGives (state_in k stopped xs) s result (state_in new (stops || stopped) (set xs at (record e { session = d }))) was now
-steps k new xs at s e d result stops stopped was now h t =
-    subst (λ (ys : List OpenSession). StepGives (state_in k stopped ys) s result (state_in new (stops || stopped) (set xs at (record e { session = d }))) was now) (sym h.is)
-    (subst (λ (ys : List OpenSession). StepGives (state_in k stopped (among (take at xs) s e.session (drop (suc at) xs))) s result (state_in new (stops || stopped) ys) was now) (sym (h.put d))
-    (step_gives result stops k e.session new d was now (take at xs) (drop (suc at) xs) s stopped t h.sound))
+pub steps : (k new : Kept) (xs : List OpenSession) (at s : ℕ) (e : OpenSession) (d : Talk) (result : Stepped) (stops stopped : Bool) (copy : Bytes) (was now : Counts) → Here k xs at s e
+    → StepsTo result stops k e.session new d was now → Copies result (e.session).held copy
+    → StepGives (state_in k stopped xs) s result (state_in new (stops || stopped) (set xs at (record e { session = d }))) was now (lines_of (line_kept result) copy)
+steps k new xs at s e d result stops stopped copy was now h t copies =
+    subst (λ (ys : List OpenSession). StepGives (state_in k stopped ys) s result (state_in new (stops || stopped) (set xs at (record e { session = d }))) was now (lines_of (line_kept result) copy)) (sym h.is)
+    (subst (λ (ys : List OpenSession). StepGives (state_in k stopped (among (take at xs) s e.session (drop (suc at) xs))) s result (state_in new (stops || stopped) ys) was now (lines_of (line_kept result) copy)) (sym (h.put d))
+    (step_gives result stops k e.session new d copy was now (take at xs) (drop (suc at) xs) s stopped t copies h.sound))
 
 pub steps_sound : (k new : Kept) (is : List ℕ) (xs : List OpenSession) (id_room room at s : ℕ) (e : OpenSession) (d : Talk) (result : Stepped) (stops : Bool) (was now : Counts) → IsCore k is xs id_room room → Here k xs at s e
     → StepsTo result stops k e.session new d was now → IsCore new is (set xs at (record e { session = d })) id_room room
@@ -400,8 +401,9 @@ above_all hs (x ∷ xs) s h = (h 0 (open_in hs x) (omega arith), above_all hs xs
 fresh_session : (hs : List HeldCursor) (s : ℕ) (d : Talk) → IsFresh d → session_in hs s d ≡ fresh s
 fresh_session hs s d f =
     ap₂ (λ (held pending : Bytes). record (session_in hs s d) { held = held; pending = pending }) f.held f.pending
-    ∙ ap₂ (λ (c : Option EndCause) (ns : _). record { id = s; held = []; pending = []; cause = c; cursors = map (cursor_in hs) ns; watches = d.watches }) f.cause f.cursors
-    ∙ ap (λ (ws : List Bytes). record { id = s; held = []; pending = []; cause = None; cursors = []; watches = ws }) f.watches
+    ∙ ap₂ (λ (c : Option EndCause) (ns : _). record { id = s; held = []; pending = []; cause = c; cursors = map (cursor_in hs) ns; watches = d.watches; batch = d.batch }) f.cause f.cursors
+    ∙ ap (λ (ws : List Bytes). record { id = s; held = []; pending = []; cause = None; cursors = []; watches = ws; batch = d.batch }) f.watches
+    ∙ ap (λ (b : Option (List HeldRow)). record { id = s; held = []; pending = []; cause = None; cursors = []; watches = []; batch = b }) f.batch
 
 pub opens : (k : Kept) (is : List ℕ) (xs : List OpenSession) (id_room room s : ℕ) (d : Talk) (st : State) (stopped : Bool) → IsCore k is xs id_room room → state_in k stopped xs ≡ st → length is < SESSIONS → IsFresh d → All (λ (x : Session). x.id < s) st.sessions
     → (Makes st (opened s) (state_in k stopped (xs ++ record { id = s; session = d } ∷ [])) × IsOpen (state_in k stopped (xs ++ record { id = s; session = d } ∷ [])) s)

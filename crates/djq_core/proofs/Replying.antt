@@ -13,6 +13,7 @@ use Rattle.djq_machine.specs.Keeping.{Keeping, no_line, kept_where, is_done, is_
 use Rattle.djq_machine.specs.Command.{uses}
 use Rattle.djq_model.specs.declared.relation.ColumnType.{ColumnType}
 use Rattle.djq_lines.specs.declared.answer.Refusal.{Refusal}
+use Rattle.djq_lines.specs.declared.held.HeldRow.{HeldRow}
 use Rattle.djq_lines.specs.declared.answer.Shape.{Shape}
 use Rattle.djq_lines.specs.declared.rest.QueryOutcome.{QueryOutcome}
 use Rattle.djq_lines.specs.declared.command.Command.TheVariants.{Rel, Query as Register, Has, Shape as AskShape, Drop}
@@ -72,6 +73,28 @@ around_bytes hs front s d held pending room back p = record {
   ended_here = p.ended_here;
   ended_back = p.ended_back;
 }
+
+pub around_batch : (hs : List Held) (front : List OpenSession) (s : ℕ) (d : Talk) (b : Option (List HeldRow)) (back : List OpenSession)
+    → Around hs front s d back → Around hs front s (record d { batch = b }) back
+around_batch hs front s d b back p = record {
+  rising = p.rising;
+  few = p.few;
+  held_front = p.held_front;
+  held_here = p.held_here;
+  held_back = p.held_back;
+  apart = p.apart;
+  owned = p.owned;
+  ended_front = p.ended_front;
+  ended_here = p.ended_here;
+  ended_back = p.ended_back;
+}
+
+-- a session with another batch is as sound
+pub sound_batch : (k : Kept) (front : List OpenSession) (s : ℕ) (d : Talk) (b : Option (List HeldRow)) (back : List OpenSession) → IsSound k (among front s d back)
+    → IsSound k (among front s (record d { batch = b }) back)
+sound_batch k front s d b back sound =
+    whole k front s (record d { batch = b }) back (around_batch k.cursors front s d b back (parts k front s d back sound))
+    (counted_same k.registered front s d (record d { batch = b }) back refl (λ q. q) sound.counted)
 
 -- a reply leaves all sound
 pub sound_replied : (k : Kept) (front : List OpenSession) (s : ℕ) (before after : Talk) (text : Bytes) (back : List OpenSession) → Replies before after text

@@ -1,5 +1,5 @@
 -- What reading a line gives, as the machine says it; and that what is read is served.
-use Rattle.std.proofs.Common.{ℕ, zero, suc, length, ◌≡◌, ◌<◌, ◌≤◌, true, false, Bool, List, [], ◌∷◌, Option, None, Some, Ok, Err, cond, option_map, refl, sym, ap, ◌∙◌, subst, arith, nat_le}
+use Rattle.std.proofs.Common.{ℕ, length, ◌≡◌, ◌<◌, ◌≤◌, true, false, Bool, List, [], ◌∷◌, Option, None, Some, is_some, Ok, Err, cond, option_map, refl, sym, ap, ◌∙◌, ◌⊎◌, inl, inr, subst, arith, nat_le}
 use Rattle.std.specs.Str.{is_utf8}
 use Rattle.std.proofs.lemmas.Bool.{and_parts, leb-true, true≢false}
 use Rattle.djq_model.specs.declared.relation.ColumnType.{ColumnType}
@@ -7,27 +7,28 @@ use Rattle.djq_model.specs.declared.query.Query.{Query}
 use Rattle.djq_model.specs.Data.{Bytes, Tuple}
 use Rattle.djq_value.specs.Token.{Token, word, text, open_paren, close_paren, comma, arrow, operator, stray, tokens}
 use Rattle.djq_value.specs.Literal.{is_lower, is_name, natural_of, literal_of}
-use Rattle.djq_lines.specs.declared.answer.Refusal.TheVariants.{WrongType, Syntax}
+use Rattle.djq_lines.specs.declared.answer.Refusal.{Refusal}
+use Rattle.djq_lines.specs.declared.answer.Refusal.TheVariants.{WrongType, Syntax, NoMemory, Misplaced}
+use Rattle.djq_lines.specs.declared.held.HeldRow.{HeldRow}
 use Rattle.djq_lines.specs.declared.command.Command.{Command}
-use Rattle.djq_lines.specs.declared.command.Command.TheVariants.{Rel, Add, Del, Query as Register, Drop, Open, Next, Close, Has, Watch, Unwatch, Explain, Shape, Quit, Stop}
+use Rattle.djq_lines.specs.declared.command.Command.TheVariants.{Rel, Add, Del, Query as Register, Drop, Open, Next, Close, Has, Watch, Unwatch, Explain, Shape, Batch, Done, Abandon, Quit, Stop}
 use Rattle.djq_lines.specs.declared.keyword.Keyword.{Keyword}
-use Rattle.djq_lines.specs.declared.keyword.Keyword.TheVariants.{Rel as RelWord, Add as AddWord, Del as DelWord, Query as QueryWord, Drop as DropWord, Open as OpenWord, Next as NextWord, Close as CloseWord, Has as HasWord, Watch as WatchWord, Unwatch as UnwatchWord, Explain as ExplainWord, Shape as ShapeWord, Quit as QuitWord, Stop as StopWord}
-use Rattle.djq_lines.specs.Reply.{refusal_line}
-use Rattle.djq_lines.specs.Grammar.{outside, past_limit, says, reading_in, reading_of, command_of, command_in, command_with, command_behind, is_in_range, takes_memory_to_read, is_count, count_of, keyword_of, nothing, type_of, all_of, named_some, named_any, query_in, query_of, Body, body_in, items_in, with_atoms, in_front, list_in, name_of, one_name, two_names, name_and_count}
+use Rattle.djq_lines.specs.declared.keyword.Keyword.TheVariants.{Rel as RelWord, Add as AddWord, Del as DelWord, Query as QueryWord, Drop as DropWord, Open as OpenWord, Next as NextWord, Close as CloseWord, Has as HasWord, Watch as WatchWord, Unwatch as UnwatchWord, Explain as ExplainWord, Shape as ShapeWord, Batch as BatchWord, Done as DoneWord, Abandon as AbandonWord, Quit as QuitWord, Stop as StopWord}
+use Rattle.djq_lines.specs.Grammar.{Reading, outside, past_limit, says, reading_in, reading_of, command_of, command_in, command_with, command_behind, is_in_range, takes_memory_to_read, is_count, count_of, keyword_of, nothing, type_of, all_of, named_some, named_any, query_in, query_of, Body, body_in, items_in, with_atoms, in_front, list_in, name_of, one_name, two_names, name_and_count}
 use Rattle.djq_proto.specs.declared.refusal.LineRefusal.{LineRefusal}
 use Rattle.djq_proto.specs.declared.refusal.LineRefusal.TheVariants.{Syntax as Outside, Range, NoMem}
 use Rattle.djq_proto.specs.Reading.{Gives, Reads}
-use Rattle.djq_proto.specs.RowReading.{begins_row}
+use Rattle.djq_proto.specs.RowReading.{begins_row, row_word_in}
+use Rattle.djq_proto.specs.declared.row.RowWord.{RowWord}
+use Rattle.djq_proto.specs.declared.row.RowWord.TheVariants.{Add as Adds, Del as Deletes}
+use Rattle.djq_proto.proofs.RowWords.{row_word_for, begins_for}
 use Rattle.djq_proto.specs.Saying.{Says}
 use Rattle.djq_proto.proofs.Sayings.{commands_are_said}
-use Rattle.djq_machine.specs.Keeping.{kept_where}
-use Rattle.djq_machine.specs.LineStep.{ReadStep}
-use Rattle.djq_session.specs.Dialog.{Replies}
-use Rattle.djq_engine.specs.Kept.{Kept}
-use Rattle.djq_core.specs.Views.{Talk}
-use Rattle.djq_core.specs.Performs.{Performs}
+use Rattle.djq_machine.specs.Command.{is_misplaced}
+use Rattle.djq_machine.specs.LineStep.{past_limit_refusal}
+use Rattle.std.specs.Prelude.{IsSome}
+use Rattle.djq_core.specs.Batching.{ReadsInBatch, RefusedBy, in_batch, misplaced_as, row_refused_as}
 use Rattle.djq_core.specs.Stepping.{IsRunnable, is_on_row, refused_as}
-use Rattle.djq_core.proofs.Taking.{reads_refused, reads_nothing}
 
 -- what a command in range gives
 read_by : (in_range : Bool) (c : Command) → in_range ≡ true → cond in_range (says c) (past_limit c) ≡ says c
@@ -45,21 +46,106 @@ pub in_outside : (o : Option Command) → Gives o (Err Outside) → reading_in o
 in_outside None g = refl
 in_outside (Some a) g = absurd g.0
 
-pub in_range_past : (o : Option Command) → Gives o (Err Range) → (c : Command) × (reading_in o ≡ past_limit c)
+pub in_range_past : (o : Option Command) → Gives o (Err Range) → (c : Command) × (o ≡ Some c) × (reading_in o ≡ past_limit c) × (is_in_range c ≡ false)
 in_range_past None g = absurd (cc (g.0))
-in_range_past (Some a) g = (a, ap (λ (b : Bool). cond b (says a) (past_limit a)) g.0)
+in_range_past (Some a) g = (a, refl, ap (λ (b : Bool). cond b (says a) (past_limit a)) g.0, g.0)
 
-pub in_memory : (o : Option Command) → Gives o (Err NoMem) → (c : Command) × (reading_in o ≡ says c) × (takes_memory_to_read c ≡ true)
+pub in_memory : (o : Option Command) → Gives o (Err NoMem) → (c : Command) × (o ≡ Some c) × (reading_in o ≡ says c) × (takes_memory_to_read c ≡ true)
 in_memory None g = absurd (cc (g.0))
-in_memory (Some a) g = (a, read_by (is_in_range a) a g.0, g.1)
+in_memory (Some a) g = (a, refl, read_by (is_in_range a) a g.0, g.1)
 
--- a line that gives no command
-pub reads_err : (k : Kept) (before after : Talk) (line : Bytes) (r : LineRefusal) (was : ℕ) → Reads line (Err r) → Replies before after (refusal_line (refused_as r))
-    → Performs (λ st s x e st'. ReadStep st s x line (reading_of line) e st' × (e.kept ≡ kept_where false)) false k before k after was was
-reads_err k before after line Outside was g reply = reads_refused k before after line outside Syntax was (in_outside (command_of line) g) (λ st s x e st' h. h) reply
-reads_err k before after line Range was g reply =
-    let past = in_range_past (command_of line) g in reads_refused k before after line (past_limit past.0) WrongType was past.1 (λ st s x e st' h. h) reply
-reads_err k before after line NoMem was g reply = let m = in_memory (command_of line) g in reads_nothing k before after line m.0 was m.1 m.2 reply
+-- A command that may find no memory as it is read, or of which a literal is past its limit.
+abbrev pub IsLate : Command → Type 0
+IsLate c = (is_in_range c ≡ false) ⊎ (takes_memory_to_read c ≡ true)
+
+-- It has its place outside a batch.
+pub late_alone : (c : Command) → IsLate c → is_misplaced {A = List HeldRow} None c ≡ false
+late_alone Done (inl e) = absurd (cc (e))
+late_alone Done (inr e) = absurd (cc (e))
+late_alone Abandon (inl e) = absurd (cc (e))
+late_alone Abandon (inr e) = absurd (cc (e))
+late_alone _ e = refl
+
+-- And it has none in one, where it isn't `add`.
+pub late_misplaced : (c : Command) → (row_word_for c ≡ Some Adds → ⊥) → IsLate c → is_misplaced {A = List HeldRow} (Some []) c ≡ true
+late_misplaced (Add name row) n e = absurd (n refl)
+late_misplaced Done n (inl e) = absurd (cc (e))
+late_misplaced Done n (inr e) = absurd (cc (e))
+late_misplaced Abandon n (inl e) = absurd (cc (e))
+late_misplaced Abandon n (inr e) = absurd (cc (e))
+late_misplaced Quit n (inl e) = absurd (cc (e))
+late_misplaced Quit n (inr e) = absurd (cc (e))
+late_misplaced Stop n (inl e) = absurd (cc (e))
+late_misplaced Stop n (inr e) = absurd (cc (e))
+late_misplaced _ n e = refl
+
+-- A line that gives no command is refused so where its command would have its place.
+pub placed_refused : (b : Option (List HeldRow)) (line : Bytes) (r : LineRefusal) → Reads line (Err r) → ((c : Command) → command_of line ≡ Some c → IsLate c → is_misplaced b c ≡ false)
+    → RefusedBy b (reading_of line) (refused_as r)
+placed_refused b line Outside g placed = subst (λ (o : Reading). RefusedBy b o Syntax) (sym (in_outside (command_of line) g)) refl
+placed_refused b line Range g placed =
+    let past = in_range_past (command_of line) g in
+    subst (λ (o : Reading). RefusedBy b o WrongType) (sym past.2) (ap past_limit_refusal (sym (placed past.0 past.1 (inl past.3))))
+placed_refused b line NoMem g placed =
+    let m = in_memory (command_of line) g in
+    subst (λ (o : Reading). RefusedBy b o NoMemory) (sym m.2) (inr (placed m.0 m.1 (inr m.3), m.3, refl))
+
+-- And so where it would have none.
+pub misplaced_refused : (b : Option (List HeldRow)) (line : Bytes) (r : LineRefusal) → Reads line (Err r) → ((c : Command) → command_of line ≡ Some c → IsLate c → is_misplaced b c ≡ true)
+    → RefusedBy b (reading_of line) (misplaced_as r)
+misplaced_refused b line Outside g mis = subst (λ (o : Reading). RefusedBy b o Syntax) (sym (in_outside (command_of line) g)) refl
+misplaced_refused b line Range g mis =
+    let past = in_range_past (command_of line) g in
+    subst (λ (o : Reading). RefusedBy b o Misplaced) (sym past.2) (ap past_limit_refusal (sym (mis past.0 past.1 (inl past.3))))
+misplaced_refused b line NoMem g mis =
+    let m = in_memory (command_of line) g in
+    subst (λ (o : Reading). RefusedBy b o Misplaced) (sym m.2) (inl (mis m.0 m.1 (inr m.3), refl))
+
+-- a command that is read, and has no place
+pub misplaced_said : (b : Option (List HeldRow)) (line : Bytes) (c : Command) → Reads line (Ok c) → is_misplaced b c ≡ true → RefusedBy b (reading_of line) Misplaced
+misplaced_said b line c g m = subst (λ (o : Reading). RefusedBy b o Misplaced) (sym (reads_as line c g)) (inl (m, refl))
+
+-- outside a batch
+pub refused_alone : (b : Option (List HeldRow)) (line : Bytes) (r : LineRefusal) → b ≡ None → Reads line (Err r) → RefusedBy b (reading_of line) (refused_as r)
+refused_alone b line r e g =
+    placed_refused b line r g (λ c f late. ap (λ (o : Option (List HeldRow)). is_misplaced o c) e ∙ late_alone c late)
+
+-- in one, of a line of `add`, of one of `del`, and of any other
+adds_word : (c : Command) → row_word_for c ≡ Some Adds → is_misplaced {A = List HeldRow} (Some []) c ≡ false
+adds_word (Add name row) e = refl
+adds_word (Del name row) e = absurd (cc (e))
+adds_word _ e = absurd (cc (e))
+
+pub refused_add : (line : Bytes) (r : LineRefusal) → row_word_in (tokens line) ≡ Some Adds → Reads line (Err r) → RefusedBy (Some []) (reading_of line) (refused_as r)
+refused_add line r w g = placed_refused (Some []) line r g (λ c f late. adds_word c (sym (begins_for line c f) ∙ w))
+
+pub refused_delete : (line : Bytes) (r : LineRefusal) → row_word_in (tokens line) ≡ Some Deletes → Reads line (Err r) → RefusedBy (Some []) (reading_of line) (misplaced_as r)
+refused_delete line r w g =
+    misplaced_refused (Some []) line r g (λ c f late. late_misplaced c (λ a. absurd (cc (sym (begins_for line c f) ∙ w, a))) late)
+
+pub refused_row : (line : Bytes) (verb : RowWord) (r : LineRefusal) → row_word_in (tokens line) ≡ Some verb → Reads line (Err r) → RefusedBy (Some []) (reading_of line) (row_refused_as verb r)
+refused_row line Adds r w g = refused_add line r w g
+refused_row line Deletes r w g = refused_delete line r w g
+
+pub refused_other : (line : Bytes) (r : LineRefusal) → begins_row (tokens line) ≡ false → Reads line (Err r) → RefusedBy (Some []) (reading_of line) (misplaced_as r)
+refused_other line r w g =
+    misplaced_refused (Some []) line r g
+    (λ c f late. late_misplaced c (λ a. absurd (true≢false (sym (ap (λ o. is_some o) (begins_for line c f ∙ a)) ∙ w))) late)
+
+-- Which batch is open makes no difference to where a command has its place.
+pub in_any_batch : (held : List HeldRow) (c : Command) → is_misplaced (Some held) c ≡ is_misplaced {A = List HeldRow} (Some []) c
+in_any_batch held (Add name row) = refl
+in_any_batch held Done = refl
+in_any_batch held Abandon = refl
+in_any_batch held Quit = refl
+in_any_batch held Stop = refl
+in_any_batch held _ = refl
+
+pub refused_in_any : (held : List HeldRow) (r : Reading) (why : Refusal) → RefusedBy (Some []) r why → RefusedBy (Some held) r why
+refused_in_any held outside why h = h
+refused_in_any held (past_limit c) why h = h ∙ ap past_limit_refusal (sym (in_any_batch held c))
+refused_in_any held (says c) why (inl (m, e)) = inl (in_any_batch held c ∙ m, e)
+refused_in_any held (says c) why (inr (m, t, e)) = inr (in_any_batch held c ∙ m, t, e)
 
 -- A count that a line says is one at least.
 
@@ -205,6 +291,9 @@ runnable_behind WatchWord ts command e = made_of (λ q. Watch q) (one_name ts) c
 runnable_behind UnwatchWord ts command e = made_of (λ q. Unwatch q) (one_name ts) command (IsRunnable command) (λ a f g. subst IsRunnable g tt) e
 runnable_behind ExplainWord ts command e = made_of (λ q. Explain q) (one_name ts) command (IsRunnable command) (λ a f g. subst IsRunnable g tt) e
 runnable_behind ShapeWord ts command e = made_of (λ q. Shape q) (one_name ts) command (IsRunnable command) (λ a f g. subst IsRunnable g tt) e
+runnable_behind BatchWord ts command e = no_count Batch ts command (IsRunnable command) (λ g. subst IsRunnable g tt) e
+runnable_behind DoneWord ts command e = no_count Done ts command (IsRunnable command) (λ g. subst IsRunnable g tt) e
+runnable_behind AbandonWord ts command e = no_count Abandon ts command (IsRunnable command) (λ g. subst IsRunnable g tt) e
 runnable_behind QuitWord ts command e = no_count Quit ts command (IsRunnable command) (λ g. subst IsRunnable g tt) e
 runnable_behind StopWord ts command e = no_count Stop ts command (IsRunnable command) (λ g. subst IsRunnable g tt) e
 
@@ -270,6 +359,9 @@ other_said (Watch q) ts h e = refl
 other_said (Unwatch q) ts h e = refl
 other_said (Explain q) ts h e = refl
 other_said (Shape q) ts h e = refl
+other_said Batch ts h e = refl
+other_said Done ts h e = refl
+other_said Abandon ts h e = refl
 other_said Quit ts h e = refl
 other_said Stop ts h e = refl
 
@@ -287,3 +379,22 @@ short_to_add line n row g = short_name n (tokens_say line (Add n row) g).1.1
 
 pub short_to_delete : (line n : Bytes) (row : Tuple) → Reads line (Ok (Del n row)) → length n ≤ 32
 short_to_delete line n row g = short_name n (tokens_say line (Del n row) g).1.1
+
+-- What a command that isn't one of a row is in a batch.
+pub said_in_batch : (line : Bytes) (c : Command) → Reads line (Ok c) → begins_row (tokens line) ≡ false → (row : Tuple) → ReadsInBatch line (in_batch c) row
+said_in_batch line (Add name values) g e row = absurd (cc (other line (Add name values) g e))
+said_in_batch line (Del name values) g e row = absurd (cc (other line (Del name values) g e))
+said_in_batch line Done g e row = reads_as line Done g
+said_in_batch line Abandon g e row = reads_as line Abandon g
+said_in_batch line Quit g e row = reads_as line Quit g
+said_in_batch line Stop g e row = reads_as line Stop g
+said_in_batch line c g e row = misplaced_said (Some []) line c g refl
+
+-- A command that has its place in a batch has it in one that is open.
+pub placed_in : (o : Option (List HeldRow)) (c : Command) → IsSome o → is_misplaced {A = List HeldRow} (Some []) c ≡ false → is_misplaced o c ≡ false
+placed_in None c h e = absurd (cc (h))
+placed_in (Some held) c h e = in_any_batch held c ∙ e
+
+pub refused_in : (o : Option (List HeldRow)) (r : Reading) (why : Refusal) → IsSome o → RefusedBy (Some []) r why → RefusedBy o r why
+refused_in None r why h e = absurd (cc (h))
+refused_in (Some held) r why h e = refused_in_any held r why e

@@ -1,13 +1,15 @@
 -- A step of a session that leaves a change to tell.
-use Rattle.std.proofs.Common.{ℕ, zero, suc, ◌<◌, ◌≡◌, ◌∙◌, Bool, true, List, [], ◌∷◌, length, set, Option, Some, refl, sym, ap, subst, arith}
+use Rattle.std.proofs.Common.{ℕ, zero, suc, ◌<◌, ◌≡◌, ◌∙◌, Bool, true, List, [], ◌∷◌, length, set, Option, None, Some, refl, sym, ap, subst, arith}
 use Rattle.std.specs.Prelude.{All, IsSome, IsSomeAnd, slice_get}
 use Rattle.std.proofs.lemmas.List.Elements.{All-map}
 use Rattle.djq_lines.specs.declared.command.Command.{Command}
-use Rattle.djq_lines.specs.declared.command.Command.TheVariants.{Rel, Add, Del, Query as Register, Drop, Open, Next, Close, Has, Watch, Unwatch, Explain, Shape, Quit, Stop}
+use Rattle.djq_lines.specs.declared.command.Command.TheVariants.{Add, Del, Done}
+use Rattle.djq_lines.specs.declared.held.HeldRow.{HeldRow}
 use Rattle.djq_machine.specs.declared.machine.Stepped.{Stepped}
 use Rattle.djq_machine.specs.declared.machine.Stepped.TheVariants.{Ran, Dry, Ended}
 use Rattle.djq_machine.specs.Call.{Counts}
 use Rattle.djq_machine.specs.Changes.{RowsChange, RowsOutcome, row_in, row_out, add_outcome, delete_outcome, is_accepted as is_made, tried}
+use Rattle.djq_machine.specs.Batch.{batch_outcome}
 use Rattle.djq_engine.specs.declared.cursor.QueryId.{QueryId}
 use Rattle.djq_engine.specs.Kept.{Kept, Registered, Outdates, IsRegistered}
 use Rattle.djq_core.specs.declared.open.OpenSession.{OpenSession}
@@ -18,7 +20,7 @@ use Rattle.djq_core.specs.Sound.{IsSound}
 use Rattle.djq_core.specs.Performs.{among}
 use Rattle.djq_core.specs.Changing.{Changed, IsChange, LeavesChange, is_accepted, is_kept}
 use Rattle.djq_core.specs.Stepping.{LeavesTo}
-use Rattle.djq_core.proofs.Composing.{sound_changed, add_made, delete_made, readers_by, affected_logs}
+use Rattle.djq_core.proofs.Composing.{sound_changed, add_made, delete_made, batch_made, readers_by, affected_logs}
 
 -- Only a line that was run leaves one.
 pub telling_ran : (stepped : Stepped) (change : Outcome) (old : Kept) (before : Talk) (new : Kept) (after : Talk) (was now : Counts)
@@ -28,29 +30,18 @@ telling_ran Dry change old before new after was now l = absurd l
 telling_ran (Ended c) change old before new after was now l = absurd l
 
 -- What of it the cursors see.
-outdated_by : (command : Command) (old : Kept) (change : Outcome) (new : Kept) (was now : ℕ) → IsChange command old change new was now
+outdated_by : (command : Command) (batch : Option (List HeldRow)) (old : Kept) (change : Outcome) (new : Kept) (was now : ℕ) → IsChange command batch old change new was now
     → (o : Option RowsChange) × Outdates old o new × (new.registered ≡ old.registered)
-outdated_by (Add name row) old change new was now a = (tried (add_outcome (row_in (old.store).relations name row) a.result), (a.changed).outdated, (a.changed).registered)
-outdated_by (Del name row) old change new was now a = (tried (delete_outcome (row_out (old.store).relations name row) a.result), (a.changed).outdated, (a.changed).registered)
-outdated_by (Rel name types) old change new was now a = absurd a
-outdated_by (Register q) old change new was now a = absurd a
-outdated_by (Drop q) old change new was now a = absurd a
-outdated_by (Open c q) old change new was now a = absurd a
-outdated_by (Next c n) old change new was now a = absurd a
-outdated_by (Close c) old change new was now a = absurd a
-outdated_by (Has q row) old change new was now a = absurd a
-outdated_by (Watch q) old change new was now a = absurd a
-outdated_by (Unwatch q) old change new was now a = absurd a
-outdated_by (Explain q) old change new was now a = absurd a
-outdated_by (Shape q) old change new was now a = absurd a
-outdated_by Quit old change new was now a = absurd a
-outdated_by Stop old change new was now a = absurd a
+outdated_by (Add name row) None old change new was now a = (tried (add_outcome (row_in (old.store).relations name row) a.result), (a.changed).outdated, (a.changed).registered)
+outdated_by (Del name row) None old change new was now a = (tried (delete_outcome (row_out (old.store).relations name row) a.result), (a.changed).outdated, (a.changed).registered)
+outdated_by Done (Some held) old change new was now a = (tried (batch_outcome old.store held a.result), (a.changed).outdated, (a.changed).registered)
+outdated_by _ _ old change new was now a = absurd a
 
 -- All is sound behind it.
 pub sound_left : (change : Outcome) (old new : Kept) (front : List OpenSession) (s : ℕ) (before after : Talk) (back : List OpenSession) (was now : ℕ)
     → LeavesChange change old before new after was now → IsSound old (among front s before back) → IsSound new (among front s after back)
 sound_left change old new front s before after back was now c sound =
-    let o = outdated_by c.command old change new was now c.changes in
+    let o = outdated_by c.command before.batch old change new was now c.changes in
     sound_changed old new front s before after back o.0 c.rest o.1 o.2 c.taken sound
 
 -- an element that was set is there
@@ -69,30 +60,22 @@ readers_are old new outcome was now c held =
     subst (λ (ids : List QueryId). All (IsRegistered new) ids) (sym r.affected)
     (All-map (IsRegistered new) (λ (x : Registered). x.id) (readers_by old.registered outcome) (λ k d lt. subst (λ (o : Option Registered). IsSome o) (sym (r.there k d lt)) refl))
 
-registered_by : (command : Command) (old : Kept) (change : Outcome) (new : Kept) (was now : ℕ) → IsChange command old change new was now → is_accepted change ≡ true → All (IsRegistered new) new.affected
-registered_by (Add name row) old change new was now a held =
+registered_by : (command : Command) (batch : Option (List HeldRow)) (old : Kept) (change : Outcome) (new : Kept) (was now : ℕ) → IsChange command batch old change new was now → is_accepted change ≡ true
+    → All (IsRegistered new) new.affected
+registered_by (Add name row) None old change new was now a held =
     let made = row_in (old.store).relations name row in
     readers_are old new (add_outcome made a.result) was now a.changed
     (sym (add_made made a.result) ∙ subst (λ (c : Outcome). is_accepted c ≡ true) a.is held)
-registered_by (Del name row) old change new was now a held =
+registered_by (Del name row) None old change new was now a held =
     let made = row_out (old.store).relations name row in
     readers_are old new (delete_outcome made a.result) was now a.changed
     (sym (delete_made made a.result) ∙ subst (λ (c : Outcome). is_accepted c ≡ true) a.is held)
-registered_by (Rel name types) old change new was now a held = absurd a
-registered_by (Register q) old change new was now a held = absurd a
-registered_by (Drop q) old change new was now a held = absurd a
-registered_by (Open c q) old change new was now a held = absurd a
-registered_by (Next c n) old change new was now a held = absurd a
-registered_by (Close c) old change new was now a held = absurd a
-registered_by (Has q row) old change new was now a held = absurd a
-registered_by (Watch q) old change new was now a held = absurd a
-registered_by (Unwatch q) old change new was now a held = absurd a
-registered_by (Explain q) old change new was now a held = absurd a
-registered_by (Shape q) old change new was now a held = absurd a
-registered_by Quit old change new was now a held = absurd a
-registered_by Stop old change new was now a held = absurd a
+registered_by Done (Some rows) old change new was now a held =
+    readers_are old new (batch_outcome old.store rows a.result) was now a.changed
+    (sym (batch_made old.store rows a.result) ∙ subst (λ (c : Outcome). is_accepted c ≡ true) a.is held)
+registered_by _ _ old change new was now a held = absurd a
 
 -- The queries that an accepted change affects are registered.
 pub registered_left : (change : Outcome) (old new : Kept) (before after : Talk) (was now : ℕ) → LeavesChange change old before new after was now
     → is_accepted change ≡ true → All (IsRegistered new) new.affected
-registered_left change old new before after was now c held = registered_by c.command old change new was now c.changes held
+registered_left change old new before after was now c held = registered_by c.command before.batch old change new was now c.changes held

@@ -1,16 +1,16 @@
 -- A line is taken of a session's bytes, and what is done behind it.
-use Rattle.std.proofs.Common.{ℕ, ◌≤◌, ◌≡◌, ◌||◌, Bool, true, false, List, length, Some, refl, sym, subst, arith}
+use Rattle.std.proofs.Common.{ℕ, ◌≤◌, ◌≡◌, ◌||◌, Bool, false, List, length, Some, refl, sym, ap, subst, arith}
 use Rattle.djq_model.specs.Data.{Bytes}
 use Rattle.djq_lines.specs.declared.limits.TheConstants.{PENDING_BYTES}
 use Rattle.djq_lines.specs.declared.answer.Refusal.{Refusal}
-use Rattle.djq_lines.specs.declared.answer.Refusal.TheVariants.{NoMemory}
 use Rattle.djq_lines.specs.declared.command.Command.{Command}
 use Rattle.djq_lines.specs.Line.{a_line, front_of, is_blank}
-use Rattle.djq_lines.specs.Grammar.{Reading, says, reading_of, takes_memory_to_read}
+use Rattle.djq_lines.specs.Grammar.{Reading, says, reading_of}
 use Rattle.djq_lines.specs.Reply.{refusal_line}
 use Rattle.djq_machine.specs.State.{Session, State}
 use Rattle.djq_machine.specs.Keeping.{kept_where}
-use Rattle.djq_machine.specs.Effect.{Effect, RefusedStep}
+use Rattle.djq_machine.specs.Effect.{Effect}
+use Rattle.djq_machine.specs.Command.{CommandStep, is_misplaced}
 use Rattle.djq_machine.specs.LineStep.{run, TakenLine, behind_line, ReadStep}
 use Rattle.djq_session.specs.Dialog.{Replies}
 use Rattle.djq_engine.specs.Kept.{Kept}
@@ -18,7 +18,9 @@ use Rattle.djq_core.specs.declared.open.OpenSession.{OpenSession}
 use Rattle.djq_core.specs.Views.{Talk, session_in, state_in}
 use Rattle.djq_core.specs.Sound.{IsSound}
 use Rattle.djq_core.specs.Performs.{among, to_one, to_keep, unqueued, Performs, ExecutesKeeping}
-use Rattle.djq_core.specs.Stepping.{FrontsKeeping}
+use Rattle.djq_core.specs.Batching.{RefusedBy}
+use Rattle.djq_core.specs.Stepping.{FrontsKeeping, is_on_row}
+use Rattle.djq_core.proofs.Carrying.{carried_out, any_line, refused_line}
 use Rattle.djq_core.proofs.Around.{parts, whole, becomes, looks}
 use Rattle.djq_core.proofs.Replying.{refused, around_bytes}
 use Rattle.djq_core.proofs.Continuing.{counting}
@@ -83,32 +85,43 @@ runs kept stops old before mid l rest new after was now f e said few p =
     (λ st st' s x eff h q t. ((said, subst (λ (bs : Bytes). length bs ≤ PENDING_BYTES) (sym q) few, record { rest = t.rest; front = t.front; then = t.then.0 }), t.then.1)) p
 
 -- a line that says a command
-pub reads_command : (kept stops : Bool) (old : Kept) (before : Talk) (l : Bytes) (command : Command) (new : Kept) (after : Talk) (was now : ℕ)
-    → reading_of l ≡ says command → ExecutesKeeping command kept stops old before new after was now → Performs (λ st s x e st'. ReadStep st s x l (reading_of l) e st' × (e.kept ≡ kept_where kept)) stops old before new after was now
-reads_command kept stops old before l command new after was now r p = record {
+pub reads_said : (kept stops : Bool) (old : Kept) (before : Talk) (l : Bytes) (command : Command) (new : Kept) (after : Talk) (was now : ℕ)
+    → reading_of l ≡ says command → is_misplaced before.batch command ≡ false
+    → Performs (λ st s x e st'. CommandStep st s x l command e st' × (e.kept ≡ kept_where kept)) stops old before new after was now
+    → Performs (λ st s x e st'. ReadStep st s x l (reading_of l) e st' × (e.kept ≡ kept_where kept)) stops old before new after was now
+reads_said kept stops old before l command new after was now r placed p = record {
   text = p.text;
   cost = p.cost;
   kept = p.kept;
   pending = p.pending;
   does = λ front back s stopped sound. let d = p.does front back s stopped sound in (
     subst (λ (r : Reading). ReadStep (state_in old stopped (among front s before back)) s (session_in old.cursors s before) l r (to_keep s p.text p.cost p.kept) (state_in new (stops || stopped) (among front s (unqueued before after) back)))
-        (sym r) (true, d.0),
+        (sym r) (carried_out _ s (session_in old.cursors s before) l command _ _ placed d.0),
     d.1,
   );
   sound = p.sound;
   counted = p.counted;
 }
 
--- a line that is refused whatever the state is
-pub reads_refused : (k : Kept) (before after : Talk) (l : Bytes) (r : Reading) (why : Refusal) (was : ℕ) → reading_of l ≡ r
-    → ((st : State) (s : ℕ) (x : Session) (e : Effect) (st' : State) → RefusedStep st s why e st' → ReadStep st s x l r e st') → Replies before after (refusal_line why) → Performs (λ st s x e st'. ReadStep st s x l (reading_of l) e st' × (e.kept ≡ kept_where false)) false k before k after was was
-reads_refused k before after l r why was is refuses reply =
-    counting _ false k before k after was was (omega arith)
-    (refused _ k before after (refusal_line why) reply (λ st s x store same. (subst (λ (g : Reading). ReadStep st s x l g (to_one s (Some (refusal_line why)) 0) st) (sym is) (refuses st s x (to_one s (Some (refusal_line why)) 0) st (refl, refl)), refl)))
+-- one that isn't one of a row
+pub reads_command : (kept stops : Bool) (old : Kept) (before : Talk) (l : Bytes) (command : Command) (new : Kept) (after : Talk) (was now : ℕ)
+    → reading_of l ≡ says command → is_on_row command ≡ false → is_misplaced before.batch command ≡ false → ExecutesKeeping command kept stops old before new after was now
+    → Performs (λ st s x e st'. ReadStep st s x l (reading_of l) e st' × (e.kept ≡ kept_where kept)) stops old before new after was now
+reads_command kept stops old before l command new after was now r other placed p =
+    reads_said kept stops old before l command new after was now r placed (record {
+      text = p.text;
+      cost = p.cost;
+      kept = p.kept;
+      pending = p.pending;
+      does = λ front back s stopped sound. let d = p.does front back s stopped sound in (any_line _ s _ l command _ _ other d.0, d.1);
+      sound = p.sound;
+      counted = p.counted;
+    })
 
--- a line for whose command there was no memory
-pub reads_nothing : (k : Kept) (before after : Talk) (l : Bytes) (command : Command) (was : ℕ)
-    → reading_of l ≡ says command → takes_memory_to_read command ≡ true → Replies before after (refusal_line NoMemory) → Performs (λ st s x e st'. ReadStep st s x l (reading_of l) e st' × (e.kept ≡ kept_where false)) false k before k after was was
-reads_nothing k before after l command was r takes reply =
+-- a line that is refused before its command is done
+pub reads_refused : (k : Kept) (before after : Talk) (l : Bytes) (why : Refusal) (was : ℕ) → RefusedBy before.batch (reading_of l) why → Replies before after (refusal_line why)
+    → Performs (λ st s x e st'. ReadStep st s x l (reading_of l) e st' × (e.kept ≡ kept_where false)) false k before k after was was
+reads_refused k before after l why was by reply =
     counting _ false k before k after was was (omega arith)
-    (refused _ k before after (refusal_line NoMemory) reply (λ st s x store same. (subst (λ (r : Reading). ReadStep st s x l r (to_one s (Some (refusal_line NoMemory)) 0) st) (sym r) (false, (takes, (refl, refl))), refl)))
+    (refused _ k before after (refusal_line why) reply (λ st s x store same.
+    (refused_line st s x before.batch l (reading_of l) why (to_one s (Some (refusal_line why)) 0) st (ap (λ (y : Session). y.batch) same) by (refl, refl), refl)))

@@ -6,14 +6,14 @@ use Rattle.djq_model.specs.Listed.{Listed, a_query, listed_of}
 use Rattle.djq_lines.specs.declared.answer.Refusal.{Refusal}
 use Rattle.djq_lines.specs.declared.answer.Refusal.TheVariants.{NoQuery, NoCursor}
 use Rattle.djq_lines.specs.declared.command.Command.{Command}
-use Rattle.djq_lines.specs.declared.command.Command.TheVariants.{Rel, Add, Del, Query as Register, Drop, Open, Next, Close, Has, Watch, Unwatch, Explain, Shape, Quit, Stop}
+use Rattle.djq_lines.specs.declared.command.Command.TheVariants.{Rel, Add, Del, Query as Register, Drop, Open, Next, Close, Has, Watch, Unwatch, Explain, Shape, Batch, Done, Abandon, Quit, Stop}
 use Rattle.djq_machine.specs.State.{Session, State, Cursor, Position, open_at, stale, cursor_of}
 use Rattle.djq_machine.specs.Keeping.{no_line}
 use Rattle.djq_machine.specs.Effect.{Effect, RefusedStep}
-use Rattle.djq_machine.specs.Command.{NextStepAt, CloseStep, ExplainStepOf, TellsLines, explain_lines, CommandStep}
+use Rattle.djq_machine.specs.Command.{NextStepAt, CloseStep, ExplainStepOf, TellsLines, explain_lines}
 use Rattle.djq_engine.specs.Kept.{Kept}
 use Rattle.djq_core.specs.Views.{Talk}
-use Rattle.djq_core.specs.Performs.{Executes, ExecutesKeeping}
+use Rattle.djq_core.specs.Performs.{Does, Executes, ExecutesKeeping}
 
 -- whether a command's line may be kept
 abbrev may_keep : Command → Bool
@@ -22,6 +22,7 @@ may_keep (Add name row) = true
 may_keep (Del name row) = true
 may_keep (Register q) = true
 may_keep (Drop q) = true
+may_keep Done = true
 may_keep _ = false
 
 some_of : {A : Type 0} (P : A → Type 0) (o : Option A) → IsSomeAnd o P → (a : A) × P a
@@ -56,7 +57,7 @@ module _ (st : State) (s : ℕ) (e : Effect) (st' : State) where
       by (inl k) = ap (λ (f : Effect). f.kept) k.0
       by (inr (told, lacking, rest, parts, ends)) = ap (λ (f : Effect). f.kept) ends.0
 
-  step_unkept : (x : Session) (c : Command) → may_keep c ≡ false → CommandStep st s x c e st' → e.kept ≡ no_line
+  step_unkept : (x : Session) (c : Command) → may_keep c ≡ false → Does c st s x e st' → e.kept ≡ no_line
   step_unkept x (Open c q) m h = ap (λ (f : Effect). f.kept) h.effect
   step_unkept x (Next c count) m h = read_unkept c count (cursor_of x.cursors c) h
   step_unkept x (Close c) m h = close_unkept c (cursor_of x.cursors c) h
@@ -65,6 +66,9 @@ module _ (st : State) (s : ℕ) (e : Effect) (st' : State) where
   step_unkept x (Unwatch q) m h = ap (λ (f : Effect). f.kept) h.effect
   step_unkept x (Explain q) m h = explain_unkept (listed_of st.store.queries q) h
   step_unkept x (Shape q) m h = ap (λ (f : Effect). f.kept) h.effect
+  step_unkept x Batch m h = ap (λ (f : Effect). f.kept) h.effect
+  step_unkept x Abandon m h = ap (λ (f : Effect). f.kept) h.0
+  step_unkept x Done m h = absurd cc
   step_unkept x Quit m h = ap (λ (f : Effect). f.kept) h.0
   step_unkept x Stop m h = ap (λ (f : Effect). f.kept) h.0
   step_unkept x (Rel name types) m h = absurd cc

@@ -9,3 +9,4 @@ pub mod Watches
 pub mod Changing
 pub mod Telling
 pub mod Stepping
+pub mod Batching

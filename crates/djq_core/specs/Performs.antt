@@ -50,11 +50,15 @@ pub record Performs (Machine : State → ℕ → Session → Effect → State �
   pub sound : (front back : List OpenSession) (s : ℕ) → IsSound old (among front s before back) → IsSound new (among front s after back)
   pub counted : now ≤ was + cost
 
--- A command is done, and its line is kept where this holds.
+-- What a command that isn't one of a row does: which line says it makes no difference.
+abbrev pub Does : Command → State → ℕ → Session → Effect → State → Type 0
+Does command st s x e st' = CommandStep st s x [] command e st'
+
+-- Such a command is done, and its line is kept where this holds.
 abbrev pub ExecutesKeeping : Command → Bool → Bool → Kept → Talk → Kept → Talk → ℕ → ℕ → Type 0
 ExecutesKeeping command kept stops old before new after was now =
-    Performs (λ st s x e st'. CommandStep st s x command e st' × (e.kept ≡ kept_where kept)) stops old before new after was now
+    Performs (λ st s x e st'. Does command st s x e st' × (e.kept ≡ kept_where kept)) stops old before new after was now
 
--- A command is done.
+-- Such a command is done.
 abbrev pub Executes : Command → Bool → Kept → Talk → Kept → Talk → ℕ → ℕ → Type 0
-Executes command stops old before new after was now = Performs (λ st s x e st'. CommandStep st s x command e st') stops old before new after was now
+Executes command stops old before new after was now = Performs (λ st s x e st'. Does command st s x e st') stops old before new after was now

@@ -5,11 +5,13 @@ use Rattle.djq_model.specs.Data.{Bytes, bytes_eq}
 use Rattle.djq_model.specs.Answer.{AreDifferent}
 use Rattle.djq_model.specs.Listed.{listed_name}
 use Rattle.djq_lines.specs.declared.answer.EndCause.{EndCause}
-use Rattle.djq_lines.specs.declared.limits.TheConstants.{SESSIONS, REPLY_BYTES, LAST_LINE_BYTES}
+use Rattle.djq_lines.specs.declared.limits.TheConstants.{SESSIONS, REPLY_BYTES, LAST_LINE_BYTES, HELD}
+use Rattle.djq_lines.specs.declared.held.HeldRow.{HeldRow}
 use Rattle.djq_session.specs.declared.named.NamedCursor.{NamedCursor}
 use Rattle.djq_engine.specs.declared.cursor.CursorId.{CursorId}
 use Rattle.djq_engine.specs.Kept.{Kept, Held, Registered, held_at, same_id, registered_of}
-use Rattle.djq_machine.specs.State.{Position, open_at, stale}
+use Rattle.djq_machine.specs.State.{Store, Position, open_at, stale}
+use Rattle.djq_machine.specs.Batch.{SuitAll}
 use Rattle.djq_core.specs.declared.open.OpenSession.{OpenSession}
 use Rattle.djq_core.specs.Views.{Talk}
 
@@ -148,6 +150,19 @@ pub record IsReady (k : Kept) (d : Talk) : Type 0 where
   pub own : IsOwn k d
   pub running : d.cause ≡ None
   pub room : REPLY_BYTES + LAST_LINE_BYTES ≤ d.room
+
+-- What a batch holds is at most so much, and each row suits its relation.
+abbrev pub BatchSuits : Store → Option (List HeldRow) → Type 0
+BatchSuits st None = ⊤
+BatchSuits st (Some held) = (length held ≤ HELD) × SuitAll st held
+
+abbrev pub AreSuited : Store → List (Option (List HeldRow)) → Type 0
+AreSuited st [] = ⊤
+AreSuited st (b ∷ bs) = BatchSuits st b × AreSuited st bs
+
+-- the batches of the sessions, behind that of the loaded lines
+abbrev pub batches_of : Option (List HeldRow) → List OpenSession → List (Option (List HeldRow))
+batches_of loading xs = loading ∷ map (λ (x : OpenSession). (x.session).batch) xs
 
 -- What holds of the core: the ids are those of the sessions, which are sound, and there is room for as many as may be open.
 pub record IsCore (k : Kept) (ids : List ℕ) (xs : List OpenSession) (id_room room : ℕ) : Type 0 where

@@ -21,7 +21,9 @@ use Rattle.djq_core.specs.Views.{Talk}
 use Rattle.djq_core.specs.declared.change.Left.{Left}
 use Rattle.djq_core.specs.declared.change.Left.TheVariants.{Nothing, Stopping, Telling}
 use Rattle.djq_core.specs.Performs.{Performs, ExecutesKeeping}
-use Rattle.djq_core.specs.Changing.{IsChange, LeavesChange, is_kept}
+use Rattle.djq_core.specs.declared.kept.KeptLines.{KeptLines}
+use Rattle.djq_core.specs.declared.kept.KeptLines.TheVariants.{Nothing as KeepsNothing}
+use Rattle.djq_core.specs.Changing.{IsChange, LeavesChange, is_kept, line_where}
 
 -- As a line says a command: its relation has a column at least, its query an atom, and it asks for
 -- an answer at least.
@@ -85,7 +87,7 @@ is_kept_by (Telling outcome) = is_kept outcome
 abbrev pub Obeys : Command → Left → Kept → Talk → Kept → Talk → ℕ → ℕ → Type 0
 Obeys command (Nothing kept) old before new after was now = ExecutesKeeping command kept false old before new after was now
 Obeys command Stopping old before new after was now = ExecutesKeeping command false true old before new after was now
-Obeys command (Telling outcome) old before new after was now = IsChange command old outcome new was now × (after ≡ before)
+Obeys command (Telling outcome) old before new after was now = IsChange command before.batch old outcome new was now × (after ≡ record before { batch = None })
 
 -- So it is of a line.
 abbrev pub LineLeaves : Bytes → Left → Kept → Talk → Kept → Talk → ℕ → ℕ → Type 0
@@ -101,11 +103,11 @@ LeavesTo (Ran kept) (Telling outcome) old before new after was now = (kept ≡ i
 LeavesTo Dry (Telling outcome) old before new after was now = ⊥
 LeavesTo (Ended c) (Telling outcome) old before new after was now = ⊥
 
--- whether a step that answers so keeps its line
-abbrev pub keeps_line : Stepped → Bool
-keeps_line (Ran kept) = kept
-keeps_line Dry = false
-keeps_line (Ended c) = false
+-- what a step keeps that answers so and leaves no change to tell
+abbrev pub line_kept : Stepped → KeptLines
+line_kept (Ran kept) = line_where kept
+line_kept Dry = KeepsNothing
+line_kept (Ended c) = KeepsNothing
 
 -- Where a line was run, it was copied before: it stood in front of these bytes.
 abbrev pub Copies : Stepped → Bytes → Bytes → Type 0

@@ -1,11 +1,15 @@
 -- What the join machine sees of what the core keeps.
-use Rattle.std.specs.Prelude.{ℕ, List, [], ◌∷◌, Bool, true, false, Option, None, Some, map}
+use Rattle.std.specs.Prelude.{ℕ, List, [], ◌∷◌, ◌++◌, Bool, Option, None, Some, map, codes}
 use Rattle.djq_model.specs.Data.{Bytes}
+use Rattle.djq_lines.specs.declared.held.HeldRow.{HeldRow}
 use Rattle.djq_session.specs.declared.named.NamedCursor.{NamedCursor}
 use Rattle.djq_session.specs.Dialog.{Dialog}
 use Rattle.djq_engine.specs.declared.cursor.CursorId.{CursorId}
 use Rattle.djq_engine.specs.Kept.{Kept, Held, held_at}
+use Rattle.djq_machine.specs.Loading.{Loading}
 use Rattle.djq_machine.specs.State.{Position, stale, Cursor, Session, State}
+use Rattle.djq_core.specs.declared.kept.KeptLines.{KeptLines}
+use Rattle.djq_core.specs.declared.kept.KeptLines.TheVariants.{Nothing, Line, Batch}
 use Rattle.djq_core.specs.declared.open.OpenSession.{OpenSession}
 
 -- A session over the engine: its cursors are the engine's, and it watches queries by name.
@@ -27,7 +31,15 @@ cursor_in hs n = record { name = n.name; query = query_in (held_at hs n.cursor);
 
 -- a session of this id
 abbrev pub session_in : List Held → ℕ → Talk → Session
-session_in hs s d = record { id = s; held = d.held; pending = d.pending; cause = d.cause; cursors = map (cursor_in hs) d.cursors; watches = d.watches }
+session_in hs s d = record {
+  id = s;
+  held = d.held;
+  pending = d.pending;
+  cause = d.cause;
+  cursors = map (cursor_in hs) d.cursors;
+  watches = d.watches;
+  batch = d.batch;
+}
 
 -- an open session
 abbrev pub open_in : List Held → OpenSession → Session
@@ -37,16 +49,25 @@ open_in hs x = session_in hs x.id x.session
 abbrev pub state_in : Kept → Bool → List OpenSession → State
 state_in k stopped xs = record { store = k.store; stopped = stopped; sessions = map (open_in k.cursors) xs }
 
--- What contracts see of the core: the state of the join machine, and the lines that its last step kept.
+-- What contracts see of the core: the state of the join machine, the lines that its last step kept, and
+-- the rows that the batch of the loaded lines holds, where one is open.
 pub record Visible : Type 0 where
   pub state : State
   pub kept : List Bytes
+  pub batch : Option (List HeldRow)
 
--- a line where it is kept
-abbrev pub kept_line : Bool → Bytes → List Bytes
-kept_line true line = line ∷ []
-kept_line false line = []
+-- where the loading of lines has come to
+abbrev pub loading_in : Visible → Loading
+loading_in c = record { store = (c.state).store; batch = c.batch }
 
--- a core with this engine, these sessions, and the copy of a line, kept or not
-abbrev pub seen_in : Kept → Bool → List OpenSession → Bool → Bytes → Visible
-seen_in k stopped xs kept line = record { state = state_in k stopped xs; kept = kept_line kept line }
+-- the lines that a step kept: none, the one that it ran, or the batch that this one ended, whole
+abbrev pub lines_of : KeptLines → Bytes → List Bytes
+lines_of Nothing line = []
+lines_of Line line = line ∷ []
+lines_of (Batch held) line = codes "batch" ∷ map (λ h. h.line) held ++ codes "done" ∷ []
+
+-- a core with this engine, these sessions, what its last step kept, of which this is the line, and the
+-- batch of the loaded lines
+abbrev pub seen_in : Kept → Bool → List OpenSession → KeptLines → Bytes → Option (List HeldRow) → Visible
+seen_in k stopped xs kept line batch =
+    record { state = state_in k stopped xs; kept = lines_of kept line; batch = batch }

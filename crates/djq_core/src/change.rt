@@ -1,34 +1,76 @@
 ghost use Rattle.std.specs.Prelude.{◌≡◌};
-ghost use Rattle.djq_core.specs.Changing.{is_kept};
+ghost use Rattle.djq_machine.specs.Keeping.{is_removal};
+ghost use Rattle.djq_core.specs.Changing.{is_kept, line_where, lines_kept};
 ghost use Rattle.djq_core.specs.Stepping.{is_kept_by};
 
-use djq_lines::{AddOutcome, DeleteOutcome, Refusal};
+use crate::kept::KeptLines;
+use djq_lines::{AddOutcome, DeleteOutcome, HeldRow, Refusal};
+use djq_model::Sequence;
 
-/// What a command on a row came to.
-#[derive(Clone, Copy, Debug)]
+/// What a command that may change rows came to.
+#[derive(Drop)]
 pub(crate) enum Outcome {
     /// Of `add`.
     Added(Result<AddOutcome, Refusal>),
     /// Of `del`.
     Deleted(Result<DeleteOutcome, Refusal>),
+    /// Of `done`, with the rows that the batch held.
+    Done(Result<usize, Refusal>, Sequence<HeldRow>),
 }
 
 impl Outcome {
-    /// Whether the line is kept.
+    /// Whether the line is kept, alone or with the batch that it ends.
     pub(crate) fn is_kept(&self) -> bool
         ensures { result ≡ is_kept self.now }
     {
-        match *self {
-            Outcome::Added(Ok(_)) => true,
-            Outcome::Deleted(Ok(DeleteOutcome::Last | DeleteOutcome::Left(_))) => true,
-            Outcome::Added(Err(_)) => false,
-            Outcome::Deleted(Ok(DeleteOutcome::Absent) | Err(_)) => false,
+        match self {
+            Outcome::Added(result) => result.is_ok(),
+            Outcome::Deleted(result) => is_removal(*result),
+            Outcome::Done(result, _held) => result.is_ok(),
+        }
+    }
+
+    /// What is kept of it.
+    pub(crate) fn lines_kept(self) -> KeptLines
+        ensures { result ≡ lines_kept self }
+    {
+        match self {
+            Outcome::Added(result) => line_where(result.is_ok()),
+            Outcome::Deleted(result) => line_where(is_removal(result)),
+            Outcome::Done(result, held) => {
+                if result.is_ok() {
+                    KeptLines::Batch(held)
+                } else {
+                    KeptLines::Nothing
+                }
+            }
         }
     }
 }
 
+/// Whether a copy of a row went.
+pub(crate) fn is_removal(outcome: Result<DeleteOutcome, Refusal>) -> bool
+    ensures { result ≡ is_removal outcome }
+{
+    match outcome {
+        Ok(DeleteOutcome::Last | DeleteOutcome::Left(_)) => true,
+        Ok(DeleteOutcome::Absent) | Err(_) => false,
+    }
+}
+
+/// The line that was run, where it is kept.
+pub(crate) fn line_where(kept: bool) -> KeptLines
+    ensures { result ≡ line_where kept }
+{
+    if kept {
+        KeptLines::Line
+    } else {
+        KeptLines::Nothing
+    }
+}
+
 /// What is left to do once a session's line was run.
-#[derive(Clone, Copy, Debug)]
+#[derive(Drop)]
 pub(crate) enum Left {
     /// Nothing.
     Nothing {
@@ -37,7 +79,7 @@ pub(crate) enum Left {
     },
     /// The server is stopped.
     Stopping,
-    /// A command on a row was done or refused: that is to be told to those who watch, and answered.
+    /// A command that may change rows was done or refused: that is to be told to those who watch, and answered.
     Telling(Outcome),
 }
 
@@ -46,8 +88,8 @@ impl Left {
     pub(crate) fn is_kept(&self) -> bool
         ensures { result ≡ is_kept_by self.now }
     {
-        match *self {
-            Left::Nothing { kept } => kept,
+        match self {
+            Left::Nothing { kept } => *kept,
             Left::Stopping => false,
             Left::Telling(outcome) => outcome.is_kept(),
         }

@@ -70,6 +70,7 @@ pub(crate) fn end_by(
     ensures ended { session.new.cause ≡ Some cause }
     ensures told { KeepsTold engine.old engine.new }
     ensures watches { session.new.watches ≡ [] }
+    ensures closed { session.new.batch ≡ None }
 {
     give_up(engine, session);
     session.end_by(line, cause);
@@ -79,8 +80,10 @@ pub(crate) fn end_by(
 pub(crate) fn end_input(engine: &mut Engine, session: &mut Session<CursorId, Name>)
     requires own { IsOwn engine.old session.old }
     requires running { session.old.cause ≡ None }
-    ensures { Performs (λ st s x e st'. EndsQuietly session.old.held st s e st') false
+    ensures performs { Performs (λ st s x e st'. EndsQuietly session.old.held st s e st') false
         engine.old session.old engine.new session.new 0 0 }
+    ensures told { KeepsTold engine.old engine.new }
+    ensures closed { session.new.batch ≡ None }
 {
     give_up(engine, session);
     if session.held().is_empty() {

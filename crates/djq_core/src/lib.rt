@@ -25,25 +25,32 @@
 //!
 //! What is kept of a step is its line, where the line is one that, loaded into a core without
 //! sessions, does there what it did here: `accepted` lends it, from a copy that was made before the
-//! session let go of it; `load` takes it in again.
+//! session let go of it; `load` takes it in again. Of a batch that is done its lines are kept, which
+//! stay where they were held until the next step.
 //!
 //! Inside: `serving` has the sessions by id and the calls; `line` the order of checks before a line
 //! is run, and tells a row's line apart: its values are read into memory that is used again, and any
 //! other command is made anew; `commands`, `watch`, `listing` and `ending` what commands do, `next`
 //! line by line, and a session's end; `tell` what a command on rows leaves to do, each delta printed
-//! once, and then its answer. `told` lends an answer of the engine to the session that prints it;
-//! `copied` is where a line is copied.
+//! once, and then its answer. While a session has a batch open, `reading` says what its line is to
+//! the batch, `held` makes the rows that are held, and `batch` runs it. `told` lends an answer of the
+//! engine to the session that prints it; `copied` is where a line is copied, and `kept` what a step
+//! kept.
 #![tactic(auto)]
 
 pub use serving::Core;
 
+mod batch;
 mod change;
 mod commands;
 mod copied;
 mod ending;
+mod held;
+mod kept;
 mod line;
 mod listing;
 mod open;
+mod reading;
 mod serving;
 mod tell;
 mod told;

@@ -1,14 +1,15 @@
 //! The order of checks before a line is run, and which command it says.
-ghost use Rattle.std.specs.Prelude.{◌≡◌, ◌≤◌, ◌||◌, None, Bool, false, length, take, drop};
+ghost use Rattle.std.specs.Prelude.{◌≡◌, ◌≤◌, ◌||◌, None, Bool, false, length, take, drop, ⊤};
 ghost use Rattle.djq_lines.specs.Line.{a_line, front_of, is_blank as is_blank_line};
 ghost use Rattle.djq_lines.specs.declared.limits.TheConstants.{PENDING_BYTES};
 ghost use Rattle.djq_machine.specs.Call.{counts};
 ghost use Rattle.djq_proto.specs.RowReading.{begins_row};
 ghost use Rattle.djq_value.specs.Token.{tokens};
-ghost use Rattle.djq_core.specs.Sound.{IsOwn, IsReady};
+ghost use Rattle.djq_machine.specs.Command.{is_misplaced};
+ghost use Rattle.djq_core.specs.Sound.{BatchSuits, IsOwn, IsReady};
 ghost use Rattle.djq_core.specs.Stepping.{Copies, IsRunnable, LeavesTo, LineLeaves, Obeys, is_on_row};
-ghost use Rattle.djq_core.specs.Stepping.{refused_as};
 
+use crate::batch::{run_batch, run_in_batch};
 use crate::change::Left;
 use crate::commands::{
     run_add, run_close, run_del, run_drop, run_explain, run_has, run_open, run_query, run_quit,
@@ -17,13 +18,14 @@ use crate::commands::{
 use crate::copied::Copied;
 use crate::ending::end_by;
 use crate::listing::run_next;
+use crate::reading::refusal_of;
 use crate::watch::{run_unwatch, run_watch};
 use djq_engine::{CursorId, Engine};
 use djq_lines::limits::{PENDING_BYTES, REPLY_BYTES};
 use djq_lines::{Command, EndCause, EndLine, Refusal};
 use djq_machine::Stepped;
 use djq_model::{Name, Value};
-use djq_proto::{Front, LineRefusal, RowLine, is_blank, read_command, read_row};
+use djq_proto::{Front, RowLine, is_blank, read_command, read_row};
 use djq_session::Session;
 use djq_steps::{Ledgers, Steps};
 use std::alloc::Global;
@@ -38,6 +40,7 @@ fn obey<L: Ledgers>(
     requires ready { IsReady engine.old session.old }
     requires runnable { IsRunnable command }
     requires other { is_on_row command ≡ false }
+    requires alone { is_misplaced {A = ⊤} None command ≡ false }
     ensures { Obeys command result engine.old session.old engine.new session.new
         steps.old.listing steps.new.listing }
 {
@@ -85,6 +88,11 @@ fn obey<L: Ledgers>(
             run_shape(engine, session, &query);
             Left::Nothing { kept: false }
         }
+        Command::Batch => {
+            run_batch(engine, session);
+            Left::Nothing { kept: false }
+        }
+        Command::Done | Command::Abandon => unreachable!(),
         Command::Quit => {
             run_quit(engine, session);
             Left::Nothing { kept: false }
@@ -96,8 +104,35 @@ fn obey<L: Ledgers>(
     }
 }
 
-// Takes the line in front, runs what it says, and tells what is left to do. Room for a reply was
-// kept.
+// Takes the line in front of a session, with a batch open or without, runs what it says, and tells
+// what is left to do. Room for a reply was kept.
+fn run_front<L: Ledgers>(
+    alloc: Global,
+    engine: &mut Engine,
+    session: &mut Session<CursorId, Name>,
+    end: usize,
+    rest: usize,
+    row: &mut Vec<Value>,
+    steps: &mut Steps<L>,
+) -> Left
+    requires ready { IsReady engine.old session.old }
+    requires suits { BatchSuits engine.old.store session.old.batch }
+    requires front { front_of session.old.held ≡ a_line (take end session.old.held)
+        (drop rest session.old.held) }
+    requires within { (end ≤ length session.old.held) × (rest ≤ length session.old.held) }
+    requires said { is_blank_line (take end session.old.held) ≡ false }
+    requires few { length session.old.pending ≤ PENDING_BYTES }
+    ensures { LineLeaves (take end session.old.held) result
+        engine.old session.old engine.new session.new steps.old.listing steps.new.listing }
+{
+    if session.has_batch() {
+        return run_in_batch(alloc, engine, session, end, rest, row, steps);
+    }
+    run_line(alloc, engine, session, end, rest, row, steps)
+}
+
+// Takes the line in front of a session without a batch, runs what it says, and tells what is left to
+// do. Room for a reply was kept.
 fn run_line<L: Ledgers>(
     alloc: Global,
     engine: &mut Engine,
@@ -113,6 +148,7 @@ fn run_line<L: Ledgers>(
     requires within { (end ≤ length session.old.held) × (rest ≤ length session.old.held) }
     requires said { is_blank_line (take end session.old.held) ≡ false }
     requires few { length session.old.pending ≤ PENDING_BYTES }
+    requires alone { session.old.batch ≡ None }
     ensures { LineLeaves (take end session.old.held) result
         engine.old session.old engine.new session.new steps.old.listing steps.new.listing }
 {
@@ -127,7 +163,7 @@ fn run_line<L: Ledgers>(
             session.take_line(rest);
             Left::Telling(outcome)
         }
-        RowLine::Refused(refusal) => {
+        RowLine::Refused(_verb, refusal) => {
             session.take_line(rest);
             session.refuse(refusal_of(refusal));
             Left::Nothing { kept: false }
@@ -153,6 +189,7 @@ fn run_other<L: Ledgers>(
     requires within { (end ≤ length session.old.held) × (rest ≤ length session.old.held) }
     requires said { is_blank_line (take end session.old.held) ≡ false }
     requires few { length session.old.pending ≤ PENDING_BYTES }
+    requires alone { session.old.batch ≡ None }
     requires other { begins_row (tokens (take end session.old.held)) ≡ false }
     ensures { LineLeaves (take end session.old.held) result
         engine.old session.old engine.new session.new steps.old.listing steps.new.listing }
@@ -160,7 +197,13 @@ fn run_other<L: Ledgers>(
     let command = read_command(alloc, &session.held()[..end]);
     session.take_line(rest);
     match command {
-        Ok(command) => obey(engine, session, command, steps),
+        Ok(command) => {
+            if is_for_batch(&command) {
+                session.refuse(Refusal::Misplaced);
+                return Left::Nothing { kept: false };
+            }
+            obey(engine, session, command, steps)
+        }
         Err(refusal) => {
             session.refuse(refusal_of(refusal));
             Left::Nothing { kept: false }
@@ -168,15 +211,11 @@ fn run_other<L: Ledgers>(
     }
 }
 
-// What a line that gives no command is answered.
-fn refusal_of(refusal: LineRefusal) -> Refusal
-    ensures { result ≡ refused_as refusal }
+// Whether a command is only for a session with a batch open.
+fn is_for_batch(command: &Command) -> bool
+    ensures { result ≡ is_misplaced {A = ⊤} None command.now }
 {
-    match refusal {
-        LineRefusal::Syntax => Refusal::Syntax,
-        LineRefusal::Range => Refusal::WrongType,
-        LineRefusal::NoMem => Refusal::NoMemory,
-    }
+    matches!(command, Command::Done | Command::Abandon)
 }
 
 // Runs the line in front of a session that goes on, in the order of checks, and tells what is left
@@ -191,6 +230,7 @@ fn step_line<L: Ledgers>(
     steps: &mut Steps<L>,
 ) -> (Stepped, Left)
     requires own { IsOwn engine.old session.old }
+    requires suits { BatchSuits engine.old.store session.old.batch }
     requires running { session.old.cause ≡ None }
     requires front { front_of session.old.held ≡ a_line (take end session.old.held)
         (drop rest session.old.held) }
@@ -213,7 +253,7 @@ fn step_line<L: Ledgers>(
     }
     match session.keep(REPLY_BYTES) {
         Ok(()) => {
-            let left = run_line(alloc, engine, session, end, rest, row, steps);
+            let left = run_front(alloc, engine, session, end, rest, row, steps);
             let kept = left.is_kept();
             (Stepped::Ran { kept }, left)
         }
@@ -238,7 +278,8 @@ pub(crate) fn step_session<L: Ledgers>(
     row: &mut Vec<Value>,
     steps: &mut Steps<L>,
 ) -> (Stepped, Left)
-    requires { IsOwn engine.old session.old }
+    requires own { IsOwn engine.old session.old }
+    requires suits { BatchSuits engine.old.store session.old.batch }
     ensures leaves { LeavesTo result.0 result.1 engine.old session.old engine.new session.new
         (counts steps.old.listing steps.old.update steps.old.rows)
         (counts steps.new.listing steps.new.update steps.new.rows) }

@@ -1,22 +1,23 @@
-ghost use Rattle.std.specs.Prelude.{◌≡◌, ◌<◌, ◌&&◌, [], nat_le, IfOk, find, option_map, length, slice_index, Contains};
+ghost use Rattle.std.specs.Prelude.{◌≡◌, ◌<◌, ◌&&◌, [], None, nat_le, IfOk, find, option_map, length, slice_index, Contains};
 ghost use Rattle.djq_model.specs.Data.{rows_of};
 ghost use Rattle.djq_machine.specs.State.{opening};
 ghost use Rattle.djq_session.specs.Dialog.{is_due};
 ghost use Rattle.djq_core.specs.Sound.{Rises};
-ghost use Rattle.djq_core.specs.Stepping.{keeps_line};
+ghost use Rattle.djq_core.specs.Stepping.{line_kept};
 
-use crate::change::Left;
+use crate::change::{Left, line_where};
 use crate::copied::Copied;
 use crate::ending::{end_by, end_input, give_up};
+use crate::kept::KeptLines;
 use crate::line::step_session;
 use crate::open::OpenSession;
 use crate::tell::tell_change;
 use bytes::BytesMut;
 use djq_engine::Engine;
 use djq_lines::limits::{COLUMNS, SESSIONS};
-use djq_lines::{EndCause, EndLine};
+use djq_lines::{EndCause, EndLine, HeldRow};
 use djq_machine::{Fed, Machine, OpenRefusal, Stepped};
-use djq_model::{Name, NoMem, Value};
+use djq_model::{Name, NoMem, Sequence, Value};
 use djq_session::Session;
 use djq_steps::{Ledgers, Steps};
 use std::alloc::Global;
@@ -26,8 +27,8 @@ mod load;
 #[cfg(test)]
 mod tests;
 
-/// The join machine: an engine, and the open sessions. Contracts see its state, and the lines that
-/// its last step kept.
+/// The join machine: an engine, and the open sessions. Contracts see its state, the lines that its
+/// last step kept, and what the batch of the loaded lines holds.
 ///
 /// ```text
 /// ids:      [ 1, 4, 5 ]              rising; a session is found by binary search
@@ -42,9 +43,11 @@ pub struct Core {
     stopped: bool,
     // where a delta is printed once for all who watch
     text: BytesMut,
-    // the line that was in front of the last step, and whether that step kept it
+    // the line that was in front of the last step, and what that step kept
     copied: Copied,
-    kept: bool,
+    kept: KeptLines,
+    // the rows that the batch of the loaded lines holds, where one is open
+    batch: Option<Sequence<HeldRow>>,
     // the values of the last row that was read, in memory that is used again
     row: Vec<Value>,
     alloc: Global,
@@ -57,12 +60,13 @@ impl Model for Core {
 
     ghost use Rattle.std.specs.Prelude.{vec_capacity};
     ghost use Rattle.djq_core.specs.Views.{seen_in};
-    ghost use Rattle.djq_core.specs.Sound.{IsCore};
+    ghost use Rattle.djq_core.specs.Sound.{IsCore, AreSuited, batches_of};
 
-    ghost view = { λ c. seen_in c.engine c.stopped c.sessions.items c.kept c.copied };
+    ghost view = { λ c. seen_in c.engine c.stopped c.sessions.items c.kept c.copied c.batch };
 
     ghost invariant = { λ c. IsCore c.engine c.ids.items c.sessions.items (vec_capacity c.ids)
-        (vec_capacity c.sessions) };
+        (vec_capacity c.sessions)
+        × AreSuited (c.engine).store (batches_of c.batch c.sessions.items) };
 }
 
 impl Core {
@@ -75,6 +79,7 @@ impl Core {
     pub fn new(alloc: Global) -> Result<Core, NoMem>
         ensures state { IfOk result (λ core. core.state ≡ opening) }
         ensures kept { IfOk result (λ core. core.kept ≡ []) }
+        ensures batch { IfOk result (λ core. core.batch ≡ None) }
     {
         Ok(Core {
             engine: Engine::new(alloc)?,
@@ -83,7 +88,8 @@ impl Core {
             stopped: false,
             text: BytesMut::new(alloc),
             copied: Copied::new(alloc)?,
-            kept: false,
+            kept: KeptLines::Nothing,
+            batch: None,
             row: Vec::with_capacity(alloc, COLUMNS)?,
             alloc,
         })
@@ -154,27 +160,28 @@ impl Machine for Core {
             &mut self.row,
             steps,
         );
-        self.kept = keeps_line(stepped);
         match left {
-            Left::Nothing { .. } => {}
-            Left::Stopping => self.stopped = true,
-            Left::Telling(outcome) => tell_change(
-                &mut self.engine,
-                &mut self.sessions,
-                at,
-                outcome,
-                &mut self.text,
-            ),
+            Left::Nothing { .. } => self.kept.put(line_kept(stepped)),
+            Left::Stopping => {
+                self.stopped = true;
+                self.kept.put(line_kept(stepped));
+            }
+            Left::Telling(outcome) => {
+                tell_change(
+                    &mut self.engine,
+                    &mut self.sessions,
+                    at,
+                    &outcome,
+                    &mut self.text,
+                );
+                self.kept.put(outcome.lines_kept());
+            }
         }
         stepped
     }
 
     fn accepted(&self, i: usize) -> Option<&[u8]> {
-        if self.kept && i == 0 {
-            Some(self.copied.line())
-        } else {
-            None
-        }
+        self.kept.get(i, self.copied.line())
     }
 
     fn pending(&self, id: u64) -> &[u8] {
@@ -222,13 +229,13 @@ impl Machine for Core {
     }
 }
 
-// Whether a step that answers so keeps its line.
-fn keeps_line(stepped: Stepped) -> bool
-    ensures { result ≡ keeps_line stepped }
+// What a step keeps that answers so and leaves no change to tell.
+fn line_kept(stepped: Stepped) -> KeptLines
+    ensures { result ≡ line_kept stepped }
 {
     match stepped {
-        Stepped::Ran { kept } => kept,
-        Stepped::Dry | Stepped::Ended(_) => false,
+        Stepped::Ran { kept } => line_where(kept),
+        Stepped::Dry | Stepped::Ended(_) => KeptLines::Nothing,
     }
 }
 

@@ -29,9 +29,9 @@ use djq_model::Name;
 use djq_reply::{put_at, put_change};
 use djq_session::Session;
 
-// Whether a change was accepted: a row came that wasn't there, or went with its last copy.
-fn is_accepted(outcome: Outcome) -> bool
-    ensures { result ≡ is_accepted outcome }
+// Whether a change was accepted: rows came that weren't there, or one went with its last copy.
+fn is_accepted(outcome: &Outcome) -> bool
+    ensures { result ≡ is_accepted outcome.now }
 {
     match outcome {
         Outcome::Added(Ok(added)) => match added {
@@ -42,7 +42,8 @@ fn is_accepted(outcome: Outcome) -> bool
             DeleteOutcome::Last => true,
             DeleteOutcome::Left(_) | DeleteOutcome::Absent => false,
         },
-        Outcome::Added(Err(_)) | Outcome::Deleted(Err(_)) => false,
+        Outcome::Done(Ok(rows), _held) => *rows > 0,
+        Outcome::Added(Err(_)) | Outcome::Deleted(Err(_)) | Outcome::Done(Err(_), _) => false,
     }
 }
 
@@ -133,10 +134,10 @@ fn tell_affected(engine: &mut Engine, sessions: &mut Vec<OpenSession>, text: &mu
 }
 
 // The own session is answered, where it goes on. Behind a delta room is made anew.
-fn answer_last(engine: &mut Engine, session: &mut Session<CursorId, Name>, outcome: Outcome)
+fn answer_last(engine: &mut Engine, session: &mut Session<CursorId, Name>, outcome: &Outcome)
     requires { IsOwn engine.old session.old }
     ensures { Performs (λ st s x e st'. AnswersLast (nat_le (REPLY_BYTES + LAST_LINE_BYTES)
-        session.old.room) (reply_of outcome engine.old.store.seq) st s x e st') false
+        session.old.room) (reply_of outcome.now engine.old.store.seq) st s x e st') false
         engine.old session.old engine.new session.new 0 0 }
 {
     if session.cause().is_some() {
@@ -147,8 +148,9 @@ fn answer_last(engine: &mut Engine, session: &mut Session<CursorId, Name>, outco
         return;
     }
     match outcome {
-        Outcome::Added(result) => session.answer_added(result, engine.seq()),
-        Outcome::Deleted(result) => session.answer_deleted(result, engine.seq()),
+        Outcome::Added(result) => session.answer_added(*result, engine.seq()),
+        Outcome::Deleted(result) => session.answer_deleted(*result, engine.seq()),
+        Outcome::Done(result, _held) => session.answer_batch_done(*result, engine.seq()),
     }
 }
 
@@ -157,16 +159,16 @@ pub(crate) fn tell_change(
     engine: &mut Engine,
     sessions: &mut Vec<OpenSession>,
     at: usize,
-    outcome: Outcome,
+    outcome: &Outcome,
     text: &mut BytesMut,
 )
     requires sound { IsSound engine.old sessions.old.items }
     requires room { IsSomeAnd (slice_get sessions.old.items at)
         (λ x. REPLY_BYTES + LAST_LINE_BYTES ≤ x.session.room) }
-    requires registered { is_accepted outcome ≡ true
+    requires registered { is_accepted outcome.now ≡ true
         → All (IsRegistered engine.old) engine.old.affected }
     ensures tells { IsSomeAnd (slice_get sessions.old.items at)
-        (λ x. TellsAll (is_accepted outcome) (reply_of outcome engine.old.store.seq) engine.old
+        (λ x. TellsAll (is_accepted outcome.now) (reply_of outcome.now engine.old.store.seq) engine.old
         x.id sessions.old.items engine.new sessions.new.items) }
     ensures cap { sessions.new.cap ≡ sessions.old.cap }
 {

@@ -12,6 +12,7 @@ pub mod Tuples
 pub mod Filling
 pub mod Keeping
 pub mod Going
+pub mod Remaining
 pub mod Placing
 pub mod Checking
 pub mod Paths

@@ -20,7 +20,7 @@ use Rattle.std.proofs.Common.{
   ◌∙◌,
   arith,
 }
-use Rattle.std.specs.Prelude.{◌↔◌, slice_index_or}
+use Rattle.std.specs.Prelude.{◌↔◌, slice_index_or, Contains}
 use Rattle.std.specs.Bool.{OnTrue, OnFalse}
 use Rattle.std.proofs.lemmas.Bool.{false≢true, lt-ltb, ltb-true}
 use Rattle.std.proofs.lemmas.List.{length_push, get_or_push, get_or_append_left, get_or_default}
@@ -124,7 +124,7 @@ whole_listing Answer all w =
           answer. contains_of all a (w.complete a answer);
     }
 
-front_some : (Answer : List ℕ → Type 0) (all front rest : List (List ℕ)) → Whole Answer all
+pub front_some : (Answer : List ℕ → Type 0) (all front rest : List (List ℕ)) → Whole Answer all
     → all ≡ front ++ rest → AreSome Answer front
 front_some Answer all front rest w e = record {
   different = different_of front (once_front front rest (subst AreOnce e w.once));
@@ -166,6 +166,20 @@ pub given_listing : (Answer : List ℕ → Type 0) (all given : List (List ℕ))
     → given ≡ all → IsListing Answer given
 given_listing Answer all given w e = subst (IsListing Answer) (sym e) (whole_listing Answer all w)
 
+-- the last of different ones is none of the others
+pub last_is_new : (Answer : List ℕ → Type 0) (old new : List (List ℕ)) (a : List ℕ)
+    → new ≡ old ++ a ∷ [] → AreSome Answer new → Contains old a → ⊥
+last_is_new Answer old new a e some c =
+    let here : length old < length new =
+    (let l = ap (λ (l : List (List ℕ)). length l) e ∙ length_push old a in omega arith) in
+    let last : slice_index_or new (length old) [] ≡ a = ap
+    (λ (l : List (List ℕ)). slice_index_or l (length old) []) e
+    ∙ get_or_push old a [] (length old) refl in
+    let first : slice_index_or new c.0 [] ≡ a =
+    ap (λ (l : List (List ℕ)). slice_index_or l c.0 []) e
+    ∙ get_or_append_left old (a ∷ []) [] c.0 c.1 ∙ get_or_default old c.0 [] a c.1 ∙ c.2 in
+    some.different c.0 (length old) [] c.1 here (first ∙ sym last)
+
 -- where one more was given it wasn't
 pub one_left : (Answer : List ℕ → Type 0) (old new : List (List ℕ)) (a : List ℕ)
     → new ≡ old ++ a ∷ [] → AreSome Answer new → IsListing Answer old → ⊥
@@ -176,11 +190,7 @@ one_left Answer old new a e some listing =
     (λ (l : List (List ℕ)). slice_index_or l (length old) []) e
     ∙ get_or_push old a [] (length old) refl in
     let answer : Answer a = subst Answer last (some.all (length old) [] here) in
-    let c = listing.complete a answer in
-    let first : slice_index_or new c.0 [] ≡ a =
-    ap (λ (l : List (List ℕ)). slice_index_or l c.0 []) e
-    ∙ get_or_append_left old (a ∷ []) [] c.0 c.1 ∙ get_or_default old c.0 [] a c.1 ∙ c.2 in
-    some.different c.0 (length old) [] c.1 here (first ∙ sym last)
+    last_is_new Answer old new a e some (listing.complete a answer)
 
 -- ---- whole groups
 

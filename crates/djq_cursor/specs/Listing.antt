@@ -10,6 +10,11 @@ pub record AreSome (P : List ℕ → Type 0) (ts : List (List ℕ)) : Type 0 whe
   pub different : AreDifferent ts
   pub all : All P ts
 
+-- a tuple that has a property, and isn't among these
+pub record IsLeft (P : List ℕ → Type 0) (ts : List (List ℕ)) (t : List ℕ) : Type 0 where
+  pub is : P t
+  pub fresh : Contains ts t → ⊥
+
 -- a listing has each tuple with the property once, and nothing else
 pub record IsListing (P : List ℕ → Type 0) (ts : List (List ℕ)) : Type 0 where
   pub different : AreDifferent ts

@@ -139,6 +139,12 @@ pub record IsClear (r : Reducts) (menu : Menu) (entered : Bool) : Type 0 where
 abbrev pub all_given : Reducts → Menu → Bool → List (List ℕ)
 all_given r menu entered = cond entered (all_of r.tree menu) []
 
+-- behind these answers there is a next one
+pub record HasNext (given all : List (List ℕ)) : Type 0 where
+  pub next : List ℕ
+  pub rest : List (List ℕ)
+  pub is : all ≡ given ++ next ∷ rest
+
 -- what was given in this state, with these choices
 abbrev pub given_by : Reducts → Menu → Bool → State → List Choice → List (List ℕ)
 given_by r menu entered Start cs = []

@@ -1,10 +1,11 @@
-ghost use Rattle.std.specs.Prelude.{◌≡◌, ◌↔◌, ◌+◌, ◌*◌, ◌≤◌, false, [], ◌∷◌, ◌++◌, length};
+ghost use Rattle.std.specs.Prelude.{◌≡◌, ◌↔◌, ◌+◌, ◌*◌, ◌≤◌, false, [], ◌∷◌, ◌++◌, length, ℕ, List};
 ghost use Rattle.std.specs.Bool.{OnTrue, OnFalse};
 ghost use Rattle.djq_reduct.specs.Reducts as spec;
-ghost use Rattle.djq_cursor.specs.Listing.{AreSome, IsListing};
+ghost use Rattle.djq_cursor.specs.Listing.{AreSome, IsLeft, IsListing};
 ghost use Rattle.djq_reduct.specs.Answers.{IsAnswerOf};
 ghost use Rattle.djq_cursor.specs.Given.{Fits, given};
 
+use crate::left::is_left_by;
 use crate::places::Places;
 use crate::walk::advance_by;
 use crate::whole::Whole;
@@ -45,17 +46,6 @@ impl Cursor {
             places: Places::new(),
             state: State::Start,
             answer: Answer::new(0),
-        }
-    }
-
-    /// The same cursor once more. Each goes on by itself.
-    pub fn copy(&self) -> Cursor
-        ensures { result ≡ self.now }
-    {
-        Cursor {
-            places: self.places.copy(),
-            state: self.state,
-            answer: self.answer.copy(),
         }
     }
 
@@ -100,5 +90,20 @@ impl Cursor {
         }
         *answer = self.answer.copy();
         true
+    }
+
+    /// Whether an answer is left. The cursor doesn't move. Where it has given nothing a call counts
+    /// one look-up, and later at most one link for each variable of the head.
+    pub fn is_left<L: Ledger>(&self, reducts: &Reducts, listing: &mut Tally<L>) -> bool
+        requires { Fits reducts.now self.now }
+        ensures answers { AreSome (IsAnswerOf reducts.now) (given reducts.now self.now) }
+        ensures left { OnTrue result ((u : List ℕ)
+            × IsLeft (IsAnswerOf reducts.now) (given reducts.now self.now) u) }
+        ensures end { result ≡ false
+            ↔ IsListing (IsAnswerOf reducts.now) (given reducts.now self.now) }
+        ensures counted { listing.new ≤ listing.old + (length reducts.now.tree.head + 1) }
+    {
+        reducts.laws();
+        is_left_by(&Whole, reducts, self, listing)
     }
 }

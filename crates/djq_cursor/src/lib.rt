@@ -4,7 +4,8 @@
 //! A [`Cursor`] gives one answer a call. Each call, the first and the last too, counts at most two
 //! look-ups and links for each variable of the head, and one, however many answers there are and
 //! however many tuples lead nowhere: in reducts none does. [`has`] tells whether a tuple is an
-//! answer, by one look-up an atom at most. Neither takes memory.
+//! answer, by one look-up an atom at most, and [`Cursor::is_left`] whether a cursor has an answer left,
+//! without moving it. None takes memory.
 //!
 //! It is no snapshot: a cursor fits reducts only until they change, and doesn't notice a change. It
 //! has no order of answers to offer, but the order in which tables keep their groups.
@@ -43,6 +44,7 @@
 mod choices;
 mod cursor;
 mod delta;
+mod left;
 mod levels;
 mod log;
 mod lookup;
@@ -54,6 +56,7 @@ mod whole;
 pub use choices::Choices;
 pub use cursor::{Cursor, State};
 pub use delta::{DeltaCursor, changes_are};
+pub use left::is_left_by;
 pub use levels::source;
 pub use log::{DeltaLog, Line};
 pub use lookup::has;

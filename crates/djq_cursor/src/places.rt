@@ -44,16 +44,6 @@ impl Places {
         }
     }
 
-    /// The same choices once more.
-    pub fn copy(&self) -> Places
-        ensures { result ≡ self.now }
-    {
-        Places {
-            choices: self.choices,
-            len: self.len,
-        }
-    }
-
     /// How many choices there are.
     pub fn len(&self) -> usize
         ensures { result ≡ length self.now }

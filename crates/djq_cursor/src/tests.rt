@@ -23,8 +23,13 @@ fn no_rows(alloc: Global) -> Result<Reducts, AllocError>
     Reducts::new(alloc, tree)
 }
 
-/// Whether a cursor gives an answer of these reducts, and whether the tuple without cells is one.
-fn asked<L: Ledgers>(rt: &HostRuntime, blanks: Blanks, reducts: &Reducts) -> (bool, bool, bool)
+/// Whether the tuple without cells is an answer of these reducts, whether a cursor says that one is
+/// left, and whether it gives one, and another.
+fn asked<L: Ledgers>(
+    rt: &HostRuntime,
+    blanks: Blanks,
+    reducts: &Reducts,
+) -> (bool, bool, bool, bool)
     requires listing { blanks.listing.name ≡ L.listing }
     requires update { blanks.update.name ≡ L.update }
     requires rows { blanks.rows.name ≡ L.rows }
@@ -34,17 +39,18 @@ fn asked<L: Ledgers>(rt: &HostRuntime, blanks: Blanks, reducts: &Reducts) -> (bo
     let mut answer = Answer::new(0);
     let is_answer = has(reducts, &answer, &mut steps.listing);
     let mut cursor = Cursor::start();
+    let left = cursor.is_left(reducts, &mut steps.listing);
     let first = cursor.advance(reducts, &mut answer, &mut steps.listing);
     let second = cursor.advance(reducts, &mut answer, &mut steps.listing);
-    (is_answer, first, second)
+    (is_answer, left, first, second)
 }
 
 // Reducts with rows are tested where rows come in.
 #[test]
 fn lists_nothing_where_there_is_no_row(rt: HostRuntime) -> Result<(), Fail> {
     let reducts = no_rows(rt.alloc())?;
-    let (is_answer, first, second) = asked::<Brand>(&rt, Blanks::new(&rt), &reducts);
-    assert!(rt; !is_answer);
+    let (is_answer, left, first, second) = asked::<Brand>(&rt, Blanks::new(&rt), &reducts);
+    assert!(rt; !is_answer && !left);
     assert!(rt; !first && !second);
     Ok(())
 }

@@ -15,9 +15,10 @@ use Rattle.djq_live.specs.Live.{Live, IsLive, position_of}
 use Rattle.djq_live.specs.Staying.{StaysOver}
 use Rattle.djq_engine.specs.declared.cursor.CursorId.{CursorId}
 use Rattle.djq_engine.specs.Kept.{Held, held_at, same_id, outdated_held}
-use Rattle.djq_engine.specs.Places.{place_at, is_live, is_reader, readers_at, query_in, queries_in, reads_place, held_as, held_of, held_from}
+use Rattle.djq_reach.specs.Places.{place_at, is_reader, readers_at, reads_place}
+use Rattle.djq_engine.specs.Places.{is_live, query_in, queries_in, held_as, held_of, held_from}
 use Rattle.djq_engine.specs.Sound.{IsSound}
-use Rattle.djq_engine.specs.Reaching.{DoneAt, Reach, AllAt, Ages, Renews}
+use Rattle.djq_reach.specs.Reaching.{DoneAt, Reach, AllAt, Ages, Renews}
 use Rattle.djq_engine.proofs.Firsts.{find_mapped}
 use Rattle.djq_engine.proofs.Holding.{held_is}
 use Rattle.djq_engine.proofs.Listing.{filter_members, map_members}
@@ -61,13 +62,13 @@ carried_there d ps gs hs all r i e =
     by_place (Some l) (Some m) t h = tt
 
 -- one slot after a change
-outdated_at : (name : Bytes) (n : ℕ) (slots : List (Option Progress)) (k : ℕ) → slot_at (outdated_slots name n slots) k ≡ option_map (outdated_progress name n) (slot_at slots k)
+pub outdated_at : (name : Bytes) (n : ℕ) (slots : List (Option Progress)) (k : ℕ) → slot_at (outdated_slots name n slots) k ≡ option_map (outdated_progress name n) (slot_at slots k)
 outdated_at name n [] zero = refl
 outdated_at name n [] (suc k) = refl
 outdated_at name n (s ∷ slots) zero = refl
 outdated_at name n (s ∷ slots) (suc k) = outdated_at name n slots k
 
-abbrev held_with : CursorId → Bytes → Position → Held
+abbrev pub held_with : CursorId → Bytes → Position → Held
 held_with id q p = record { id = id; query = q; position = p }
 
 -- Relations that have other rows, and the same names.

@@ -9,11 +9,12 @@ use Rattle.djq_live.specs.Updating.{change_of}
 use Rattle.djq_engine.specs.declared.cursor.QueryId.{QueryId}
 use Rattle.djq_engine.specs.declared.parts.Parts.{Parts}
 use Rattle.djq_engine.specs.Kept.{Kept, Registered, registered_at, IsRegistered, with_watchers, told_at}
-use Rattle.djq_engine.specs.Places.{place_at, watchers_at, log_at, told_of, registered_as, kept_of}
+use Rattle.djq_reach.specs.Places.{place_at, watchers_at, log_at}
+use Rattle.djq_engine.specs.Places.{told_of, registered_as, kept_of}
 use Rattle.djq_engine.specs.Whole.{kept_in, watches_in, IsWhole, IsTended}
 use Rattle.djq_engine.proofs.Enlisted.{registered_has, registered_there, registered_gives, watchers_with}
 use Rattle.djq_engine.proofs.Naming.{There}
-use Rattle.djq_engine.proofs.Reaching.{place_below, place_read}
+use Rattle.djq_reach.proofs.Reaching.{place_below, place_read}
 use Rattle.djq_engine.proofs.Told.{told_is}
 
 pub there_not_none : (gs : List (Option Live)) (i : ℕ) → There gs i → (o : Option Live) → o ≡ get_or gs i o → o ≡ None → ⊥

@@ -13,9 +13,10 @@ use Rattle.djq_live.specs.Changes.{Came, Went}
 use Rattle.djq_live.specs.Live.{Live, IsKept, IsLive, SameQuery}
 use Rattle.djq_live.specs.Staying.{StaysOver, CamePasses, WentPasses}
 use Rattle.djq_live.proofs.Members.{in_first, in_rest}
-use Rattle.djq_engine.specs.Places.{place_at, is_live, is_reader, readers_at, reads_place}
-use Rattle.djq_engine.specs.Sound.{IsSound, AreOnce}
-use Rattle.djq_engine.specs.Reaching.{DoneAt, Reach, AllAt, TakesIn, LetsOut, GivesBack, Renews, Carries}
+use Rattle.djq_reach.specs.Places.{place_at, is_reader, readers_at, reads_place, AreOnce}
+use Rattle.djq_engine.specs.Places.{is_live}
+use Rattle.djq_engine.specs.Sound.{IsSound}
+use Rattle.djq_reach.specs.Reaching.{DoneAt, Reach, AllAt, TakesIn, LetsOut, GivesBack, Renews, Carries}
 use Rattle.djq_engine.proofs.Listing.{reader_filter, once_filter}
 
 -- ---- rows

@@ -20,13 +20,14 @@ use Rattle.djq_live.specs.Live.{Live, IsLive, position_of, values_of}
 use Rattle.djq_live.specs.Reading as live
 use Rattle.djq_engine.specs.declared.cursor.CursorId.{CursorId}
 use Rattle.djq_engine.specs.Kept.{Held, Kept, held_at, MovesCursor, OpensCursor, OpenGives, ClosesCursor, NextGives, NextGivesAt, read_steps, MoreGives, MoreGivesAt, IsHeld, IsThere, AnswerIs, IsFresh, IsOpenAt}
-use Rattle.djq_engine.specs.Places.{place_at, queries_in, held_as, held_from, held_of, kept_of, is_query, Watches, told_of}
+use Rattle.djq_reach.specs.Places.{place_at}
+use Rattle.djq_engine.specs.Places.{queries_in, held_as, held_from, held_of, kept_of, is_query, Watches, told_of}
 use Rattle.djq_engine.specs.Sound.{IsSound}
 use Rattle.djq_engine.specs.Moving.{Moves, IsReadable, IsFreshly, OpensAt, ClosesAt, ReadsAt, TellsAt}
 use Rattle.djq_engine.proofs.Conditions.{answers_refused, answers_done, answers_lacking}
 use Rattle.djq_engine.proofs.Holding.{held_is}
 use Rattle.djq_engine.proofs.Naming.{Named, query_kept, query_named, no_query_of}
-use Rattle.djq_engine.proofs.Reaching.{below_some, place_read}
+use Rattle.djq_reach.proofs.Reaching.{below_some, place_read}
 use Rattle.djq_engine.proofs.Shifting.{slot_set, place_here, moved_sound, moved_store, moved_registered, moved_there, moved_others}
 use Rattle.djq_engine.proofs.Told.{told_set}
 

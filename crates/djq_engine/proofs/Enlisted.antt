@@ -15,9 +15,11 @@ use Rattle.djq_rows.specs.Catalog.{Catalog, relation_at}
 use Rattle.djq_live.specs.Live.{Live}
 use Rattle.djq_engine.specs.declared.cursor.QueryId.{QueryId}
 use Rattle.djq_engine.specs.Kept.{Registered, same_query, registered_at, registered_of, with_watchers, is_watched, readers_of, affected_of}
-use Rattle.djq_engine.specs.Places.{place_at, is_live, is_reader, readers_at, query_in, queries_in, reads_place, is_query, watchers_at, watched_at, id_at, registered_as, registered_in}
-use Rattle.djq_engine.specs.Sound.{IsSound, AreOnce}
-use Rattle.djq_engine.proofs.Listing.{apart, map_members, filter_members}
+use Rattle.djq_reach.specs.Places.{place_at, is_reader, readers_at, reads_place, watchers_at, watched_at, AreOnce}
+use Rattle.djq_engine.specs.Places.{is_live, query_in, queries_in, is_query, id_at, registered_as, registered_in}
+use Rattle.djq_engine.specs.Sound.{IsSound}
+use Rattle.djq_reach.proofs.Among.{apart}
+use Rattle.djq_engine.proofs.Listing.{map_members, filter_members}
 use Rattle.djq_engine.proofs.Naming.{There, Named, live_there, order_there, unnamed}
 
 abbrev registered_with : QueryId → Listed → ℕ → Registered
@@ -63,7 +65,7 @@ found_mapped p f (x ∷ xs) = step (p (f x)) (found_mapped p f xs)
     step true e = refl
     step false e = e
 
-filter_mapped : {A : Type 0} (p : A → Bool) (f : ℕ → A) (xs : List ℕ) → filter p (map f xs) ≡ map f (filter (λ i. p (f i)) xs)
+pub filter_mapped : {A : Type 0} (p : A → Bool) (f : ℕ → A) (xs : List ℕ) → filter p (map f xs) ≡ map f (filter (λ i. p (f i)) xs)
 filter_mapped p f [] = refl
 filter_mapped p f (x ∷ xs) = step (p (f x)) (filter_mapped p f xs)
   where
@@ -200,7 +202,7 @@ module _ (c : Catalog) (gs : List (Option Live)) (order : List ℕ) (readers : L
       ∙ ap (registered_in gs ws) (filter_members (λ i. is_some (by_relation name (query_in (place_at gs i)))) (λ i. reads_place name (place_at gs i)) order
       (λ i e. outdated_reads name (query_in (place_at gs i)) ∙ reads_as name i e) ∙ sym (s.reading at low))
 
-  filter_both : {A : Type 0} (p q : A → Bool) (xs : List A) → filter (λ x. p x && q x) xs ≡ filter q (filter p xs)
+  pub filter_both : {A : Type 0} (p q : A → Bool) (xs : List A) → filter (λ x. p x && q x) xs ≡ filter q (filter p xs)
   filter_both p q [] = refl
   filter_both p q (x ∷ xs) = step (p x) (filter_both p q xs)
     where

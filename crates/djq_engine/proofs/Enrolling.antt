@@ -15,13 +15,15 @@ use Rattle.djq_live.specs.declared.cursors.Progress.{Progress}
 use Rattle.djq_live.specs.Cursors.{slot_at, are_vacant}
 use Rattle.djq_live.specs.Live.{Live, IsLive}
 use Rattle.djq_engine.specs.Kept.{SameCursors}
-use Rattle.djq_engine.specs.Places.{place_at, is_live, is_reader, readers_at, query_in, queries_in, reads_place, held_as, held_of, held_from, left}
-use Rattle.djq_engine.specs.Sound.{IsSound, AreOnce}
+use Rattle.djq_reach.specs.Places.{place_at, is_reader, readers_at, reads_place, AreOnce}
+use Rattle.djq_engine.specs.Places.{is_live, query_in, queries_in, held_as, held_of, held_from, left}
+use Rattle.djq_engine.specs.Sound.{IsSound}
 use Rattle.djq_engine.specs.Placing.{SamePlaces, SameLists, LeavesAll, JoinsReaders, JoinsSome, AllOnce}
 use Rattle.djq_engine.proofs.Holding.{held_is, slot_none}
-use Rattle.djq_engine.proofs.Listing.{apart, reader_more, or_true, or_false, reader_filter, once_filter, once_push, filter_members, map_members, all_but, drop_listed, filter_twice}
+use Rattle.djq_reach.proofs.Among.{apart, reader_more, or_true, or_false}
+use Rattle.djq_engine.proofs.Listing.{reader_filter, once_filter, once_push, filter_members, map_members, all_but, drop_listed, filter_twice}
 use Rattle.djq_engine.proofs.Naming.{query_there}
-use Rattle.djq_engine.proofs.Reaching.{everywhere, place_below}
+use Rattle.djq_reach.proofs.Reaching.{everywhere, place_below}
 
 same_some : (x y : Live) → Some x ≡ Some y → x ≡ y
 same_some x y f = cc

@@ -31,7 +31,7 @@ none_of_position p xs e =
 
 -- a first one, and look-ups
 
-first_behind : {A : Type 0} (p : A → Bool) (x : A) (xs : List A) (i : ℕ) → IsFirst p (x ∷ xs) (suc i) → IsFirst p xs i
+pub first_behind : {A : Type 0} (p : A → Bool) (x : A) (xs : List A) (i : ℕ) → IsFirst p (x ∷ xs) (suc i) → IsFirst p xs i
 first_behind p x xs i h = record {
   below = omega (arith, h.below);
   passes = λ d. h.passes d;

@@ -10,8 +10,9 @@ use Rattle.djq_live.specs.Cursors.{slot_at}
 use Rattle.djq_live.specs.Live.{Live}
 use Rattle.djq_engine.specs.declared.cursor.CursorId.{CursorId}
 use Rattle.djq_engine.specs.Kept.{same_id, held_at}
-use Rattle.djq_engine.specs.Places.{place_at, held_as, held_in, held_from, held_of}
-use Rattle.djq_engine.proofs.Listing.{apart}
+use Rattle.djq_reach.specs.Places.{place_at}
+use Rattle.djq_engine.specs.Places.{held_as, held_in, held_from, held_of}
+use Rattle.djq_reach.proofs.Among.{apart}
 
 and_false : (b c : Bool) → c ≡ false → (b && c) ≡ false
 and_false true c e = e

@@ -1,7 +1,7 @@
 -- The conditions on a row, one after another.
-use Rattle.std.proofs.Common.{ℕ, suc, List, [], ◌∷◌, ◌≡◌, ◌<◌, ◌≤◌, ◌⊎◌, inl, inr, Bool, true, false, refl, ap, ap₂, ◌∙◌, length, arith}
+use Rattle.std.proofs.Common.{ℕ, suc, List, [], ◌∷◌, ◌≡◌, ◌<◌, ◌≤◌, ◌⊎◌, inl, inr, Bool, true, false, refl, sym, ap, ap₂, ◌∙◌, length, arith}
 use Rattle.std.specs.Prelude.{◌==◌, ◌&&◌, not, nat_le, Option, None, Some, is_none, cond}
-use Rattle.std.proofs.lemmas.Bool.{eq-eqb, le-leb, lt-leb}
+use Rattle.std.proofs.lemmas.Bool.{eqb-true, eq-eqb, le-leb, lt-leb}
 use Rattle.djq_model.specs.declared.relation.Relation.{Relation}
 use Rattle.djq_model.specs.declared.relation.ColumnType.{ColumnType}
 use Rattle.djq_model.specs.declared.relation.CountedRow.{CountedRow}
@@ -14,10 +14,11 @@ use Rattle.djq_lines.specs.declared.answer.Refusal.TheVariants.{NoRelation, Arit
 use Rattle.djq_lines.specs.Columns.{types_of}
 use Rattle.djq_machine.specs.Conditions.{first_of}
 use Rattle.djq_machine.specs.Store.{row_refusals, add_refusal, delete_refusal}
+use Rattle.djq_machine.specs.Batch.{suit_refusal}
 use Rattle.djq_rows.specs.Catalog.{relation_at, counted_at, rows_at}
 use Rattle.djq_engine.specs.Judging.{bare, Suits}
 use Rattle.djq_engine.proofs.Conditions.{front_refuses, front_passes}
-use Rattle.djq_engine.proofs.Listing.{apart}
+use Rattle.djq_reach.proofs.Among.{apart}
 
 pub fits_length : (types : List ColumnType) (row : Tuple) → fits types row ≡ true → length row ≡ length types
 fits_length [] [] e = refl
@@ -33,7 +34,7 @@ module _ (rs : List Relation) (name : Bytes) (row : Tuple) where
   pub suited_none : relation_of rs name ≡ None → first_of (row_refusals (bare rs 0) name row) ≡ Some NoRelation
   suited_none e = ap (λ (o : Option Relation). first_of ((is_none o, NoRelation) ∷ (not (length row == length (types_of o)), Arity) ∷ (not (fits (types_of o) row), WrongType) ∷ [])) e
 
-  by_parts : (r : Relation) (a b : Bool) → relation_of rs name ≡ Some r → (length row == length r.types) ≡ a → fits r.types row ≡ b
+  pub by_parts : (r : Relation) (a b : Bool) → relation_of rs name ≡ Some r → (length row == length r.types) ≡ a → fits r.types row ≡ b
       → first_of (row_refusals (bare rs 0) name row) ≡ cond (not a) (Some Arity) (cond (not b) (Some WrongType) None)
   by_parts r a b e f h =
       ap (λ (o : Option Relation). first_of ((is_none o, NoRelation) ∷ (not (length row == length (types_of o)), Arity) ∷ (not (fits (types_of o) row), WrongType) ∷ [])) e
@@ -68,20 +69,62 @@ module _ (rs : List Relation) (name : Bytes) (row : Tuple) where
       pub rows_found : rows_of rs name ≡ rows_at rs at
       rows_found = ap tuples_of counted_found
 
-      passes : first_of (row_refusals (bare rs 0) name row) ≡ None
-      passes = by_parts (relation_at rs at) true true s.found
+      pub suits_pass : first_of (row_refusals (bare rs 0) name row) ≡ None
+      suits_pass = by_parts (relation_at rs at) true true s.found
           (eq-eqb (length row) (length (relation_at rs at).types) (fits_length (relation_at rs at).types row s.suits)) s.suits
+
+      -- the conditions on its place
+      place_by : (many there full last : Bool) → nat_le COPIES (copies_among (counted_at rs at) row) ≡ many
+          → has_row (rows_at rs at) row ≡ there → nat_le ROWS (length (rows_at rs at)) ≡ full → nat_le LAST_SEQ seq ≡ last
+          → first_of (adding (counted_of rs name) seq)
+          ≡ cond many (Some Limit) (cond (not there && full) (Some Limit) (cond (not there && last) (Some Limit) None))
+      place_by many there full last m e f h =
+          ap (λ (rows : List CountedRow). first_of (adding rows seq)) counted_found
+          ∙ ap (λ (b : Bool). cond b (Some Limit) (cond (not (has_row (rows_at rs at) row) && nat_le ROWS (length (rows_at rs at))) (Some Limit) (cond (not (has_row (rows_at rs at) row) && nat_le LAST_SEQ seq) (Some Limit) None))) m
+          ∙ ap (λ (b : Bool). cond many (Some Limit) (cond (not b && nat_le ROWS (length (rows_at rs at))) (Some Limit) (cond (not b && nat_le LAST_SEQ seq) (Some Limit) None))) e
+          ∙ ap₂ (λ x y. cond many (Some Limit) (cond (not there && x) (Some Limit) (cond (not there && y) (Some Limit) None))) f h
 
       add_by : (many there full last : Bool) → nat_le COPIES (copies_among (counted_at rs at) row) ≡ many
           → has_row (rows_at rs at) row ≡ there → nat_le ROWS (length (rows_at rs at)) ≡ full → nat_le LAST_SEQ seq ≡ last
           → add_refusal (bare rs seq) name row
           ≡ cond many (Some Limit) (cond (not there && full) (Some Limit) (cond (not there && last) (Some Limit) None))
       add_by many there full last m e f h =
-          front_passes (row_refusals (bare rs 0) name row) (adding (counted_of rs name) seq) passes
-          ∙ ap (λ (rows : List CountedRow). first_of (adding rows seq)) counted_found
-          ∙ ap (λ (b : Bool). cond b (Some Limit) (cond (not (has_row (rows_at rs at) row) && nat_le ROWS (length (rows_at rs at))) (Some Limit) (cond (not (has_row (rows_at rs at) row) && nat_le LAST_SEQ seq) (Some Limit) None))) m
-          ∙ ap (λ (b : Bool). cond many (Some Limit) (cond (not b && nat_le ROWS (length (rows_at rs at))) (Some Limit) (cond (not b && nat_le LAST_SEQ seq) (Some Limit) None))) e
-          ∙ ap₂ (λ x y. cond many (Some Limit) (cond (not there && x) (Some Limit) (cond (not there && y) (Some Limit) None))) f h
+          front_passes (row_refusals (bare rs 0) name row) (adding (counted_of rs name) seq) suits_pass
+          ∙ place_by many there full last m e f h
+
+      -- it has its place, or it doesn't, as the code reads it by the number of its copies
+      module _ (n : ℕ) (many : n ≡ copies_among (counted_at rs at) row) (has : has_row (rows_at rs at) row ≡ not (n == 0)) where
+        pub place_passes : n < COPIES → (n ≡ 0 → (length (rows_at rs at) < ROWS) × (seq < LAST_SEQ)) → first_of (adding (counted_of rs name) seq) ≡ None
+        place_passes few room = by_test (n == 0) refl
+          where
+            fewer : nat_le COPIES (copies_among (counted_at rs at) row) ≡ false
+            fewer = lt-leb COPIES (copies_among (counted_at rs at) row) (omega (arith, many, few))
+
+            by_test : (b : Bool) → (n == 0) ≡ b → first_of (adding (counted_of rs name) seq) ≡ None
+            by_test true e =
+                let r = room (eqb-true n 0 e) in
+                place_by false false false false fewer (has ∙ ap not e) (lt-leb ROWS (length (rows_at rs at)) r.0) (lt-leb LAST_SEQ seq r.1)
+            by_test false e = place_by false true (nat_le ROWS (length (rows_at rs at))) (nat_le LAST_SEQ seq) fewer (has ∙ ap not e) refl refl
+
+        pub place_many : COPIES ≤ n → first_of (adding (counted_of rs name) seq) ≡ Some Limit
+        place_many l = place_by true (has_row (rows_at rs at) row) (nat_le ROWS (length (rows_at rs at))) (nat_le LAST_SEQ seq)
+            (le-leb COPIES (copies_among (counted_at rs at) row) (omega (arith, many, l))) refl refl refl
+
+        pub place_full : n ≡ 0 → (ROWS ≤ length (rows_at rs at)) ⊎ (seq ≡ LAST_SEQ) → first_of (adding (counted_of rs name) seq) ≡ Some Limit
+        place_full none h =
+            place_by (nat_le COPIES (copies_among (counted_at rs at) row)) false (nat_le ROWS (length (rows_at rs at))) (nat_le LAST_SEQ seq) refl (has ∙ ap (λ (k : ℕ). not (k == 0)) none) refl refl
+            ∙ limits_all (nat_le COPIES (copies_among (counted_at rs at) row)) (nat_le ROWS (length (rows_at rs at))) (nat_le LAST_SEQ seq) (by_limit h)
+          where
+            limits_all : (a full last : Bool) → (full ≡ true) ⊎ (last ≡ true) → cond a (Some Limit) (cond full (Some Limit) (cond last (Some Limit) None)) ≡ Some Limit
+            limits_all true full last h = refl
+            limits_all false true last h = refl
+            limits_all false false true h = refl
+            limits_all false false false (inl e) = absurd cc
+            limits_all false false false (inr e) = absurd cc
+
+            by_limit : (ROWS ≤ length (rows_at rs at)) ⊎ (seq ≡ LAST_SEQ) → (nat_le ROWS (length (rows_at rs at)) ≡ true) ⊎ (nat_le LAST_SEQ seq ≡ true)
+            by_limit (inl l) = inl (le-leb ROWS (length (rows_at rs at)) l)
+            by_limit (inr l) = inr (le-leb LAST_SEQ seq (omega (arith, l)))
 
       -- a row that is there may have a copy more, where it has fewer than there may be
       pub add_more : has_row (rows_at rs at) row ≡ true → copies_among (counted_at rs at) row < COPIES → add_refusal (bare rs seq) name row ≡ None
@@ -113,7 +156,7 @@ module _ (rs : List Relation) (name : Bytes) (row : Tuple) where
 
       delete_by : (one last : Bool) → (copies_among (counted_at rs at) row == 1) ≡ one → nat_le LAST_SEQ seq ≡ last → delete_refusal (bare rs seq) name row ≡ cond (one && last) (Some Limit) None
       delete_by one last e h =
-          front_passes (row_refusals (bare rs 0) name row) (deleting (counted_of rs name) seq) passes
+          front_passes (row_refusals (bare rs 0) name row) (deleting (counted_of rs name) seq) suits_pass
           ∙ ap (λ (rows : List CountedRow). first_of (deleting rows seq)) counted_found
           ∙ ap₂ (λ x y. cond (x && y) (Some Limit) None) e h
 
@@ -136,3 +179,19 @@ module _ (rs : List Relation) (name : Bytes) (row : Tuple) where
       -- one of several copies, or none
       pub delete_several : (copies_among (counted_at rs at) row ≡ 1 → ⊥) → delete_refusal (bare rs seq) name row ≡ None
       delete_several d = delete_by false (nat_le LAST_SEQ seq) (apart (copies_among (counted_at rs at) row) 1 d) refl
+
+-- a row that suits a relation that is found suits it in its place
+pub suits_here : (rs : List Relation) (seq : ℕ) (name : Bytes) (row : Tuple) (at : ℕ) → suit_refusal (bare rs seq) name row ≡ None → at < length rs → (relation_at rs at).name ≡ name
+    → relation_of rs name ≡ Some (relation_at rs at) → Suits rs name row at
+suits_here rs seq name row at suit low named found = record {
+  below = low;
+  named = named;
+  found = found;
+  suits = by_tests (length row == length (relation_at rs at).types) (fits (relation_at rs at).types row)
+      (sym (by_parts rs name row (relation_at rs at) (length row == length (relation_at rs at).types) (fits (relation_at rs at).types row) found refl refl) ∙ suit);
+}
+  where
+    by_tests : (a b : Bool) → cond (not a) (Some Arity) (cond (not b) (Some WrongType) None) ≡ None → b ≡ true
+    by_tests a true e = refl
+    by_tests true false e = absurd cc
+    by_tests false false e = absurd cc

@@ -12,10 +12,10 @@ use Rattle.djq_live.specs.Cursors.{slot_at}
 use Rattle.djq_live.specs.Live.{Live, position_of}
 use Rattle.djq_live.specs.Reading as live
 use Rattle.djq_engine.specs.Moving.{Moves, OpensAt, ClosesAt, ReadsAt, TellsAt}
-use Rattle.djq_engine.specs.Places.{place_at}
+use Rattle.djq_reach.specs.Places.{place_at}
 use Rattle.djq_engine.specs.Sound.{IsSound}
-use Rattle.djq_engine.specs.Tending.{AreShown}
-use Rattle.djq_engine.proofs.Reaching.{everywhere, place_below}
+use Rattle.djq_reach.specs.Tending.{AreShown}
+use Rattle.djq_reach.proofs.Reaching.{everywhere, place_below}
 use Rattle.djq_engine.proofs.Tending.{shown_alike}
 use Rattle.djq_engine.proofs.Told.{Alike, AlikeAt, AreAlike, alike_same}
 

@@ -1,7 +1,6 @@
 pub mod Firsts
 pub mod Conditions
 pub mod Listing
-pub mod Reaching
 pub mod Lists
 pub mod Holding
 pub mod Naming
@@ -10,6 +9,8 @@ pub mod Cursors
 pub mod Judged
 pub mod Carrying
 pub mod Aging
+pub mod Renewing
+pub mod Outdated
 pub mod Storing
 pub mod Adding
 pub mod Making
@@ -21,7 +22,20 @@ pub mod Unseating
 pub mod Told
 pub mod Enlisted
 pub mod Tending
+pub mod Affecting
 pub mod Reporting
 pub mod Attending
 pub mod Keeping
 pub mod Working
+pub mod Turned
+pub mod GivenUp
+pub mod HeldRows
+pub mod TakenBack
+pub mod Chained
+pub mod Put
+pub mod Reached
+pub mod Filled
+pub mod Rested
+pub mod Accepted
+pub mod Settled
+pub mod Joined

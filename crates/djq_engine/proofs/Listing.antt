@@ -5,39 +5,9 @@ use Rattle.std.proofs.lemmas.Bool.{eqb-true, eq-eqb}
 use Rattle.djq_model.specs.Data.{Bytes, bytes_eq, drop_first}
 use Rattle.djq_model.specs.Listed.{Listed, listed_name}
 use Rattle.djq_engine.specs.Finding.{IsFirst}
-use Rattle.djq_engine.specs.Places.{is_reader}
-use Rattle.djq_engine.specs.Sound.{AreOnce}
+use Rattle.djq_reach.specs.Places.{is_reader, AreOnce}
+use Rattle.djq_reach.proofs.Among.{apart, reader_more, or_true, or_false}
 use Rattle.djq_engine.proofs.Firsts.{first_of_position, none_of_position}
-
--- readers, one more
-
-pub reader_more : (readers : List ℕ) (i j : ℕ) → is_reader (readers ++ i ∷ []) j ≡ (is_reader readers j || (i == j))
-reader_more [] i j = last (i == j)
-  where
-    last : (b : Bool) → (b || false) ≡ (false || b)
-    last true = refl
-    last false = refl
-reader_more (r ∷ readers) i j = step (r == j) (reader_more readers i j)
-  where
-    step : (b : Bool) → is_reader (readers ++ i ∷ []) j ≡ (is_reader readers j || (i == j))
-        → (b || is_reader (readers ++ i ∷ []) j) ≡ ((b || is_reader readers j) || (i == j))
-    step true e = refl
-    step false e = e
-
-pub or_true : (b : Bool) → (b || true) ≡ true
-or_true true = refl
-or_true false = refl
-
-pub or_false : (b : Bool) → (b || false) ≡ b
-or_false true = refl
-or_false false = refl
-
-pub apart : (i j : ℕ) → (i ≡ j → ⊥) → (i == j) ≡ false
-apart i j h = by_test (i == j) refl
-  where
-    by_test : (b : Bool) → (i == j) ≡ b → b ≡ false
-    by_test true e = absurd (h (eqb-true i j e))
-    by_test false e = refl
 
 both_false : (b : Bool) → (b && false) ≡ false
 both_false true = refl
@@ -79,10 +49,10 @@ once_push (x ∷ xs) i h e =
     not_same : x ≡ i → (x == i) ≡ false → ⊥
     not_same s f = let t : (x == i) ≡ true = eq-eqb x i s in absurd cc
 
-here : (x : ℕ) (xs : List ℕ) → is_reader (x ∷ xs) x ≡ true
+pub here : (x : ℕ) (xs : List ℕ) → is_reader (x ∷ xs) x ≡ true
 here x xs = ap (λ b. b || is_reader xs x) (eq-eqb x x refl)
 
-behind : (x : ℕ) (xs : List ℕ) (i : ℕ) → is_reader xs i ≡ true → is_reader (x ∷ xs) i ≡ true
+pub behind : (x : ℕ) (xs : List ℕ) (i : ℕ) → is_reader xs i ≡ true → is_reader (x ∷ xs) i ≡ true
 behind x xs i h = ap (λ b. (x == i) || b) h ∙ or_true (x == i)
 
 -- tests and functions that agree on these places

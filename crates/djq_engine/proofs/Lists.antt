@@ -5,13 +5,14 @@ use Rattle.std.proofs.lemmas.List.{get_or-set_same, get_or-set_other, get_or_def
 use Rattle.std.specs.Prelude.{Option, None, Some}
 use Rattle.djq_cursor.specs.Log.{Log}
 use Rattle.djq_live.specs.Live.{Live}
-use Rattle.djq_engine.specs.Places.{place_at, readers_at, left, no_log}
+use Rattle.djq_reach.specs.Places.{place_at, readers_at, no_log}
+use Rattle.djq_engine.specs.Places.{left}
 use Rattle.djq_model.specs.declared.relation.Relation.{Relation}
 use Rattle.djq_model.specs.declared.query.Query.{Query}
 use Rattle.djq_machine.specs.Stale.{reads}
 use Rattle.djq_rows.specs.Catalog.{relation_at}
 use Rattle.djq_engine.specs.Placing.{LeavesAll, JoinsReaders, JoinsSome, SameLogs}
-use Rattle.djq_engine.proofs.Reaching.{place_below}
+use Rattle.djq_reach.proofs.Reaching.{place_below}
 
 -- a list, as the code reads it
 pub list_read : (now old : List (List ℕ)) (k : ℕ) (p : List ℕ) → k < length now → p ≡ get_or now k p → readers_at now k ≡ readers_at old k → p ≡ readers_at old k

@@ -19,7 +19,7 @@ use Rattle.djq_live.specs.Asked.{AreAtomsOf}
 use Rattle.djq_live.specs.Changes.{HasSameRows}
 use Rattle.djq_live.specs.Live.{Live}
 use Rattle.djq_live.specs.Staying.{LiveStays}
-use Rattle.djq_engine.specs.Places.{place_at, is_reader, readers_at, reads_place}
+use Rattle.djq_reach.specs.Places.{place_at, is_reader, readers_at, reads_place}
 use Rattle.djq_engine.specs.Sound.{IsSound}
 use Rattle.djq_engine.proofs.Listing.{filter_members}
 use Rattle.djq_engine.proofs.Naming.{none_passes, order_there}

@@ -6,11 +6,12 @@ use Rattle.djq_model.specs.Listed.{a_query, listed_name, listed_of}
 use Rattle.djq_model.specs.Equality.{bytes_eq-decides}
 use Rattle.djq_rows.specs.Catalog.{Catalog}
 use Rattle.djq_live.specs.Live.{Live}
-use Rattle.djq_engine.specs.Places.{place_at, is_live, is_query, query_in, queries_in, is_reader}
+use Rattle.djq_reach.specs.Places.{place_at, is_reader}
+use Rattle.djq_engine.specs.Places.{is_live, is_query, query_in, queries_in}
 use Rattle.djq_engine.specs.Sound.{IsSound}
 use Rattle.djq_engine.proofs.Firsts.{first_of_position, none_of_position}
 use Rattle.djq_engine.proofs.Listing.{find_listed, none_listed}
-use Rattle.djq_engine.proofs.Reaching.{place_below}
+use Rattle.djq_reach.proofs.Reaching.{place_below}
 
 -- the query of a place where one is
 pub record There (gs : List (Option Live)) (i : ℕ) : Type 0 where

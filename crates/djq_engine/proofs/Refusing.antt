@@ -1,6 +1,6 @@
 -- What the machine says of a query that is to be registered, or dropped.
 use Rattle.std.proofs.Common.{ℕ, zero, suc, List, [], ◌∷◌, ◌++◌, ◌≡◌, ◌<◌, ◌≤◌, ◌⊎◌, inl, inr, Bool, true, false, refl, sym, ap, ap₂, ◌∙◌, subst, length, set, arith, append-nil}
-use Rattle.std.specs.Prelude.{Option, None, Some, is_some, is_none, IsSomeAnd, IfSome, option_map, count_by, Result, Ok, Err, position, cond, nat_le, slice_index_or, ⊤}
+use Rattle.std.specs.Prelude.{not, filter, map, Option, None, Some, is_some, is_none, IsSomeAnd, IfSome, option_map, count_by, Result, Ok, Err, position, cond, nat_le, slice_index_or, ⊤}
 use Rattle.std.proofs.lemmas.Bool.{eq-eqb, eqb-true, cases_lt, le-leb, lt-leb, false≢true}
 use Rattle.std.proofs.lemmas.List.{length-map, get_or-set_other}
 use Rattle.djq_model.specs.declared.relation.Relation.{Relation}
@@ -31,19 +31,20 @@ use Rattle.djq_live.specs.Live.{Live, IsLive, ShowableStays}
 use Rattle.djq_live.specs.Staying.{StaysOver, LiveStays}
 use Rattle.djq_engine.specs.declared.cursor.CursorId.{CursorId}
 use Rattle.djq_engine.specs.declared.parts.Parts.{Parts}
-use Rattle.djq_engine.specs.Kept.{Held, Registered as Enlisted, registered_of, is_watched, held_at, SameCursors, DropGives, TellsOf}
-use Rattle.djq_engine.specs.Places.{place_at, query_in, queries_in, store_of, kept_of, held_as, held_from, held_of, is_query, left, watched_at, id_at, registered_as, registered_in, told_from, Watches}
+use Rattle.djq_engine.specs.Kept.{Held, Registered as Enlisted, registered_of, same_query, is_watched, held_at, SameCursors, DropGives, TellsOf}
+use Rattle.djq_reach.specs.Places.{place_at, watched_at}
+use Rattle.djq_engine.specs.Places.{query_in, queries_in, store_of, kept_of, held_as, held_from, held_of, is_query, left, id_at, registered_as, registered_in, told_from, Watches}
 use Rattle.djq_engine.specs.Sound.{IsSound}
-use Rattle.djq_engine.specs.Tending.{AreShown}
+use Rattle.djq_reach.specs.Tending.{AreShown}
 use Rattle.djq_engine.proofs.Tending.{shown_more}
 use Rattle.djq_engine.specs.Placing.{LeavesAll, SameLogs}
 use Rattle.djq_engine.specs.Registering.{Registers, SameParts}
-use Rattle.djq_engine.specs.Whole.{kept_in, watches_in, IsWhole}
+use Rattle.djq_engine.specs.Whole.{kept_in, IsWhole}
 use Rattle.djq_engine.proofs.Conditions.{answers_refused, answers_done, front_refuses, front_passes, first_false}
 use Rattle.djq_engine.proofs.Enrolling.{registered_sound, registered_cursors, registered_queries, dropped_sound, dropped_cursors, dropped_queries, by_name, all_empty, sound_same, queries_same, cursors_same}
-use Rattle.djq_engine.proofs.Enlisted.{name_found, name_unknown, delisted}
+use Rattle.djq_engine.proofs.Enlisted.{name_found, name_unknown, delisted, filter_mapped}
 use Rattle.djq_engine.proofs.Holding.{held_is}
-use Rattle.djq_engine.proofs.Lasting.{tells_of, told_then, told_gone, told_left, other_place}
+use Rattle.djq_engine.proofs.Lasting.{told_then, told_gone, told_left, other_place}
 use Rattle.djq_engine.proofs.Naming.{Named, query_found, query_named, no_query_of, unnamed}
 use Rattle.djq_engine.proofs.Storing.{learned_rows, all_stay}
 use Rattle.djq_model.specs.Equality.{bytes_eq-decides}
@@ -307,11 +308,11 @@ module _ (old : Parts) (s : IsWhole old) (name : Bytes) where
         false≢true (sym (ap (λ (x : Live). is_some (slot_at x.cursors id.cursor)) same
         ∙ ap is_some (all_empty n.query.cursors (eqb-true (count_by is_some n.query.cursors) 0 e) id.cursor)) ∙ o.3)
 
-    pub drop_done : (hs : List (Option Live)) (order' : List ℕ) (readers' : List (List ℕ)) (x : Log) → hs ≡ set old.queries.items at None → order' ≡ left at old.order → LeavesAll at old.readers.items readers'
+    pub drop_done : (hs : List (Option Live)) (order' : List ℕ) (readers' : List (List ℕ)) (x : Log) (affected' : List ℕ) → affected' ≡ left at old.affected.items → hs ≡ set old.queries.items at None → order' ≡ left at old.order → LeavesAll at old.readers.items readers'
         → are_vacant n.query.cursors ≡ true → watched_at old.watchers.items at ≡ false
         → IsSound old.catalog hs order' readers'
-        × DropGives (kept_in old) name (Ok tt) (kept_of old.catalog hs order' old.seq (record { readers = readers'; watchers = old.watchers.items; logs = set old.logs.items at x; changed = old.changed }))
-    drop_done hs order' readers' x is places leaves e unwatched = (
+        × DropGives (kept_in old) name (Ok tt) (kept_of old.catalog hs order' old.seq (record { readers = readers'; watchers = old.watchers.items; logs = set old.logs.items at x; affected = affected' }))
+    drop_done hs order' readers' x affected' less is places leaves e unwatched = (
       dropped_sound old.catalog old.queries.items hs old.order order' old.readers.items readers' s at n.query n.there is places leaves,
       record {
         used = false;
@@ -332,14 +333,17 @@ module _ (old : Parts) (s : IsWhole old) (name : Bytes) where
             ∙ by_name old.catalog old.queries.items hs old.order order' old.readers.items readers' s at n.query n.there is places leaves j m);
         tellings =
             let texts = (old.catalog).texts in
-            let v : Watches = record { readers = readers'; watchers = old.watchers.items; logs = set old.logs.items at x; changed = old.changed } in
-            subst (λ (o : Option Enlisted). IsSomeAnd o (λ r. TellsOf (kept_in old) r.id None (kept_of old.catalog hs order' old.seq v))) (sym enlisted_as)
-            (tells_of old.catalog old.catalog old.queries.items hs old.order order' old.seq old.seq (watches_in old) v s
-            (dropped_sound old.catalog old.queries.items hs old.order order' old.readers.items readers' s at n.query n.there is places leaves)
-            refl refl (id_at at) None
-            (ap (λ (xs : List (Option Live)). slice_index_or (told_from texts xs v.logs) at None) is ∙ told_gone texts old.queries.items old.logs.items at n.query n.there x)
-            (λ other d. ap (λ (xs : List (Option Live)). slice_index_or (told_from texts xs v.logs) other.at None) is
-            ∙ told_left texts old.queries.items old.logs.items at x other.at (other_place other (id_at at) d)));
+            let v : Watches = record { readers = readers'; watchers = old.watchers.items; logs = set old.logs.items at x; affected = affected' } in
+            let new = kept_of old.catalog hs order' old.seq v in
+            subst (λ (o : Option Enlisted). IsSomeAnd o (λ r. TellsOf (kept_in old) r.id None new
+            × (new.affected ≡ filter (λ id. not (same_query id r.id)) (kept_in old).affected))) (sym enlisted_as) (
+              record {
+                here = ap (λ (xs : List (Option Live)). slice_index_or (told_from texts xs v.logs) at None) is ∙ told_gone texts old.queries.items old.logs.items at n.query n.there x;
+                others = λ other d. ap (λ (xs : List (Option Live)). slice_index_or (told_from texts xs v.logs) other.at None) is
+                    ∙ told_left texts old.queries.items old.logs.items at x other.at (other_place other (id_at at) d);
+              },
+              ap (map id_at) less ∙ sym (filter_mapped (λ id. not (same_query id (id_at at))) id_at old.affected.items),
+            );
       },
     )
 

@@ -1,9 +1,8 @@
 -- What a change of rows makes known of the watched queries that read its relation.
-use Rattle.std.proofs.Common.{ℕ, zero, suc, List, [], ◌∷◌, ◌++◌, ◌+◌, ◌≡◌, ◌≢◌, ◌<◌, ◌≤◌, ◌⊎◌, inl, inr, Bool, true, false, refl, sym, ap, ap₂, ◌∙◌, subst, length, arith}
-use Rattle.std.specs.Prelude.{◌==◌, ◌&&◌, ◌||◌, Option, None, Some, IsSomeAnd, cond, map, filter, sum_by, slice_index_or, All, AllPairs, not, is_none, nat_le, Ok, Err, Result, IsErr, IfErr}
-use Rattle.std.proofs.lemmas.Bool.{eqb-true, eq-eqb, false≢true}
+use Rattle.std.proofs.Common.{ℕ, List, [], ◌∷◌, ◌++◌, ◌+◌, ◌≡◌, ◌≢◌, ◌<◌, ◌≤◌, Bool, true, false, refl, sym, ap, ap₂, ◌∙◌, subst, length, arith}
+use Rattle.std.specs.Prelude.{◌==◌, ◌&&◌, Option, None, Some, IsSomeAnd, cond, map, filter, sum_by, slice_index_or, vec_capacity, AllPairs, not, is_none, nat_le, Ok, Err, Result, IsErr, IfErr}
+use Rattle.std.proofs.lemmas.Bool.{eqb-true, false≢true}
 use Rattle.std.proofs.lemmas.List.{append-nil}
-use Rattle.std.proofs.lemmas.List.Sums.{sum_by-cons}
 use Rattle.std.proofs.lemmas.Nat.{mul-le}
 use Rattle.djq_model.specs.declared.relation.Relation.{Relation}
 use Rattle.djq_model.specs.declared.query.Atom.{Atom}
@@ -18,12 +17,12 @@ use Rattle.djq_lines.specs.declared.answer.AddOutcome.{AddOutcome}
 use Rattle.djq_lines.specs.declared.answer.DeleteOutcome.{DeleteOutcome}
 use Rattle.djq_machine.specs.Changes.{RowsChange, RowsOutcome, accepted, out_of_memory, unchanged, one_change, new_rows, row_in, row_out, add_outcome, delete_outcome, is_outdated}
 use Rattle.djq_model.specs.Answer.{IsAnswer}
-use Rattle.djq_model.specs.Listed.{a_query, AnswersOf}
+use Rattle.djq_model.specs.Listed.{a_query}
 use Rattle.djq_model.specs.Equality.{bytes_eq-decides}
 use Rattle.djq_machine.specs.Delta.{Change, IsDelta}
 use Rattle.djq_machine.specs.Stale.{reads, listed_reads}
 use Rattle.djq_machine.specs.Store.{most_steps, with_rows, add_refusal}
-use Rattle.djq_machine.specs.Watch.{Delta, AreDeltas, delta_steps}
+use Rattle.djq_machine.specs.Watch.{delta_steps}
 use Rattle.djq_query.specs.declared.numbered.NumberedAtom.{NumberedAtom}
 use Rattle.djq_query.specs.declared.numbered.Variable.{Variable}
 use Rattle.djq_cursor.specs.Log.{Log}
@@ -36,24 +35,25 @@ use Rattle.djq_live.specs.Body.{HeadsAreBound}
 use Rattle.djq_live.specs.Live.{Live, IsKept, ShowableStays}
 use Rattle.djq_live.specs.Updating.{atoms_over, delta_bound, change_of}
 use Rattle.djq_engine.specs.declared.cursor.QueryId.{QueryId}
-use Rattle.djq_engine.specs.Kept.{Kept, Registered, registered_at, affected_of, readers_of, told_at}
-use Rattle.djq_engine.specs.Places.{place_at, is_live, is_reader, readers_at, query_in, watched_at, log_at, id_at, registered_as, registered_in, told_of, told_from}
-use Rattle.djq_engine.specs.Sound.{IsSound}
-use Rattle.djq_engine.specs.Tending.{AreShown, Empties, HaveLogs, cost_of, cost_at}
+use Rattle.djq_engine.specs.Kept.{Kept, registered_at, told_at}
+use Rattle.djq_reach.specs.Places.{place_at, is_reader, readers_at, reads_place, watched_at, log_at}
+use Rattle.djq_engine.specs.Places.{is_live, query_in, id_at, registered_in, told_of, told_from}
+use Rattle.djq_reach.specs.Tending.{AreShown, Empties, HaveLogs, cost_of, cost_at}
 use Rattle.djq_engine.proofs.Tending.{shown_alike}
 use Rattle.djq_engine.specs.declared.parts.Parts.{Parts}
-use Rattle.djq_engine.specs.Reaching.{Carries}
+use Rattle.djq_reach.specs.Reaching.{Carries}
 use Rattle.djq_engine.specs.Changing.{IsDeltaWith, TellsRows, CountsRows, KeepsRest, KeepsLogs, AgesReaders, LacksMemory, NoPlace, for_copies, for_texts, LacksPlace, PutsRow, Drops, reads_at, tells_at}
-use Rattle.djq_engine.specs.Watching.{LogTells, LogsTell, TellsChange, queries_affected, reaches}
+use Rattle.djq_engine.specs.Watching.{TellsChange, reaches}
 use Rattle.djq_engine.specs.Whole.{kept_in, IsWhole, IsTended}
 use Rattle.djq_engine.specs.Judging.{bare, Suits}
 use Rattle.djq_engine.proofs.Judged.{counted_found}
-use Rattle.djq_engine.proofs.Listing.{reader_filter}
+use Rattle.djq_engine.proofs.Listing.{filter_members}
 use Rattle.djq_engine.proofs.Carrying.{reader_is, reader_reads}
-use Rattle.djq_engine.proofs.Enlisted.{outdated_reads, map_mapped, readers_are, affected_are, registered_has, registered_same}
-use Rattle.djq_engine.proofs.Told.{AlikeAt, AreAlike, aged_alike, told_is, told_alike_at, told_empty, told_stays, query_alike_at, alike_same}
-use Rattle.djq_engine.proofs.Naming.{There, live_there}
-use Rattle.djq_engine.proofs.Reaching.{place_below}
+use Rattle.djq_engine.proofs.Affecting.{both_true, outdated_places, AreFor, deltas_with, steps_by, ToldStay, Discards, refused_tells, accepted_tells}
+use Rattle.djq_engine.proofs.Enlisted.{outdated_reads, registered_same}
+use Rattle.djq_engine.proofs.Told.{AlikeAt, AreAlike, aged_alike, told_is, told_empty, told_stays, query_alike_at, alike_same}
+use Rattle.djq_engine.proofs.Naming.{There, live_there, order_there}
+use Rattle.djq_reach.proofs.Reaching.{place_below}
 
 -- ---- atoms over a relation, by place and by name
 
@@ -81,176 +81,7 @@ bound_steps c at l changes after k =
     let fewer : atoms_over l at ≤ length (filter (λ a. bytes_eq a.relation (relation_at c.relations at).name) l.query.atoms) = atoms_of c at l.numbered.variables l.query.atoms l.numbered.atoms k.over.asked.atoms in
     mul-le (length changes + atoms_over l at) (most_steps (length l.query.head)) (length changes + length (filter (λ a. bytes_eq a.relation (relation_at c.relations at).name) l.query.atoms)) (most_steps (length l.query.head)) (omega (arith, fewer)) (omega arith)
 
--- ---- lists that are made from places
-
-all_made : {A : Type 0} (P : A → Type 0) (g : ℕ → A) (xs : List ℕ) → ((i : ℕ) → is_reader xs i ≡ true → P (g i)) → All P (map g xs)
-all_made P g [] h k d l = absurd (omega (arith, l))
-all_made P g (x ∷ xs) h zero d l = h x (ap (λ b. b || is_reader xs x) (eq-eqb x x refl))
-all_made P g (x ∷ xs) h (suc k) d l = all_made P g xs (λ i e. h i (step i (x == i) e)) k d (omega (arith, l))
-  where
-    step : (i : ℕ) (b : Bool) → is_reader xs i ≡ true → (b || is_reader xs i) ≡ true
-    step i true e = refl
-    step i false e = e
-
-pub both_true : (a b : Bool) → (a && b) ≡ true → (a ≡ true) × (b ≡ true)
-both_true true b e = (refl, e)
-both_true false b e = absurd (false≢true e)
-
--- ---- the deltas
-
-module _ (c : Catalog) (gs : List (Option Live)) (order : List ℕ) (readers : List (List ℕ)) (s : IsSound c gs order readers) (at : ℕ) (low : at < length c.relations) (ws : List ℕ) (name : Bytes) (named : (relation_at c.relations at).name ≡ name)
-    (after : List Relation) where
-  abbrev watched : List ℕ
-  watched = filter (watched_at ws) (readers_at readers at)
-
-  abbrev delta_at : (ℕ → List Change) → ℕ → Delta
-  delta_at f i = record { query = query_in (place_at gs i); changes = f i }
-
-  abbrev pub deltas_with : (ℕ → List Change) → List Delta
-  deltas_with f = map (delta_at f) watched
-
-  -- deltas of the watched readers
-  abbrev pub AreFor : (ℕ → List Change) → Type 0
-  AreFor f = (i : ℕ) (l : Live) → is_reader (readers_at readers at) i ≡ true → watched_at ws i ≡ true → place_at gs i ≡ Some l
-      → IsDelta (IsAnswer c.relations l.query) (IsAnswer after l.query) (f i)
-
-  reader_there : (i : ℕ) → is_reader (readers_at readers at) i ≡ true → There gs i
-  reader_there i e = live_there gs i (both_true (is_live gs i) _ (sym (reader_is c gs order readers s at low i) ∙ e)).0
-
-  pub listed_with : (f : ℕ → List Change) → AreFor f → AreDeltas c.relations after (map (λ r. r.query) (affected_of (registered_in gs ws order) (one_change name after))) (deltas_with f)
-  listed_with f h = record {
-    of_queries =
-        map_mapped (λ (d : Delta). d.query) (delta_at f) watched
-        ∙ sym (map_mapped (λ (r : Registered). r.query) (registered_as gs ws) watched)
-        ∙ ap (map (λ (r : Registered). r.query)) (sym (ap (λ (x : Bytes). affected_of (registered_in gs ws order) (one_change x after)) (sym named) ∙ affected_are c gs order readers ws s at low after));
-    are_deltas = all_made (λ d. IsDelta (AnswersOf c.relations d.query) (AnswersOf after d.query) d.changes) (delta_at f) watched (λ i e.
-        let b = both_true (is_reader (readers_at readers at) i) (watched_at ws i) (sym (reader_filter (watched_at ws) (readers_at readers at) i) ∙ e) in
-        let t = reader_there i b.0 in
-        subst (λ (o : Option Live). IsDelta (AnswersOf c.relations (query_in o)) (AnswersOf after (query_in o)) (f i)) (sym t.is) (h i t.query b.0 b.1 t.is));
-  }
-
-  pub steps_with : (f : ℕ → List Change) → sum_by (cost_at ws gs at f) (readers_at readers at) ≤ sum_by (delta_steps (one_change name after)) (deltas_with f)
-  steps_with f = subst (λ (x : Bytes). sum_by (cost_at ws gs at f) (readers_at readers at) ≤ sum_by (delta_steps (one_change x after)) (deltas_with f)) named (over (readers_at readers at) (λ i e. e))
-    where
-      cost_steps : (i : ℕ) → is_reader (readers_at readers at) i ≡ true → cost_of at (f i) (place_at gs i) ≤ delta_steps (one_change (relation_at c.relations at).name after) (delta_at f i)
-      cost_steps i e =
-          let t = reader_there i e in
-          subst (λ (o : Option Live). cost_of at (f i) o ≤ delta_steps (one_change (relation_at c.relations at).name after) (record { query = query_in o; changes = f i })) (sym t.is)
-          (bound_steps c at t.query (f i) after (s.live i t.query t.is).kept)
-
-      over : (xs : List ℕ) → ((i : ℕ) → is_reader xs i ≡ true → is_reader (readers_at readers at) i ≡ true)
-          → sum_by (cost_at ws gs at f) xs ≤ sum_by (delta_steps (one_change (relation_at c.relations at).name after)) (map (delta_at f) (filter (watched_at ws) xs))
-      over [] h = omega arith
-      over (x ∷ xs) h = step (watched_at ws x) refl (over xs (λ i e. h i (behind i (x == i) e)))
-        where
-          behind : (i : ℕ) (b : Bool) → is_reader xs i ≡ true → (b || is_reader xs i) ≡ true
-          behind i true e = refl
-          behind i false e = e
-
-          step : (b : Bool) → watched_at ws x ≡ b → sum_by (cost_at ws gs at f) xs ≤ sum_by (delta_steps (one_change (relation_at c.relations at).name after)) (map (delta_at f) (filter (watched_at ws) xs))
-              → sum_by (cost_at ws gs at f) (x ∷ xs) ≤ sum_by (delta_steps (one_change (relation_at c.relations at).name after)) (map (delta_at f) (cond b (x ∷ filter (watched_at ws) xs) (filter (watched_at ws) xs)))
-          step true e more =
-              let first = sum_by-cons (cost_at ws gs at f) x xs in
-              let second = sum_by-cons (delta_steps (one_change (relation_at c.relations at).name after)) (delta_at f x) (map (delta_at f) (filter (watched_at ws) xs)) in
-              let cost : cost_at ws gs at f x ≡ cost_of at (f x) (place_at gs x) = ap (λ b. cond b (cost_of at (f x) (place_at gs x)) 0) e in
-              let bound = cost_steps x (h x (ap (λ b. b || is_reader xs x) (eq-eqb x x refl))) in
-              omega (arith, first, second, cost, bound, more)
-          step false e more =
-              let first = sum_by-cons (cost_at ws gs at f) x xs in
-              let cost : cost_at ws gs at f x ≡ 0 = ap (λ b. cond b (cost_of at (f x) (place_at gs x)) 0) e in
-              omega (arith, first, cost, more)
-
-  pub affected_with : map id_at (readers_at readers at) ≡ map (λ r. r.id) (readers_of (registered_in gs ws order) (one_change name after))
-  affected_with =
-      sym (map_mapped (λ (r : Registered). r.id) (registered_as gs ws) (readers_at readers at))
-      ∙ ap (map (λ (r : Registered). r.id)) (sym (ap (λ (x : Bytes). readers_of (registered_in gs ws order) (one_change x after)) (sym named) ∙ readers_are c gs order readers ws s at low after))
-
-  pub logs_with : (f : ℕ → List Change) (new : Kept) → ((i : ℕ) → is_reader (readers_at readers at) i ≡ true → LogTells new (registered_as gs ws i) (delta_at f i))
-      → LogsTell new (affected_of (registered_in gs ws order) (one_change name after)) (deltas_with f)
-  logs_with f new h =
-      subst (λ (rs : List Registered). LogsTell new rs (deltas_with f)) (sym (ap (λ (x : Bytes). affected_of (registered_in gs ws order) (one_change x after)) (sym named) ∙ affected_are c gs order readers ws s at low after))
-      (over watched (λ i e. h i (both_true (is_reader (readers_at readers at) i) (watched_at ws i) (sym (reader_filter (watched_at ws) (readers_at readers at) i) ∙ e)).0))
-    where
-      over : (xs : List ℕ) → ((i : ℕ) → is_reader xs i ≡ true → LogTells new (registered_as gs ws i) (delta_at f i)) → LogsTell new (registered_in gs ws xs) (map (delta_at f) xs)
-      over [] k = tt
-      over (x ∷ xs) k = (k x (ap (λ b. b || is_reader xs x) (eq-eqb x x refl)), over xs (λ i e. k i (behind i (x == i) e)))
-        where
-          behind : (i : ℕ) (b : Bool) → is_reader xs i ≡ true → (b || is_reader xs i) ≡ true
-          behind i true e = refl
-          behind i false e = e
-
-  -- a delta of each query, as one exists
-  module _ (have : (i : ℕ) (l : Live) → place_at gs i ≡ Some l → (changes : List Change) × IsDelta (IsAnswer c.relations l.query) (IsAnswer after l.query) changes) where
-    some_in : (i : ℕ) (o : Option Live) → place_at gs i ≡ o → List Change
-    some_in i None e = []
-    some_in i (Some l) e = (have i l e).0
-
-    pub some_changes : ℕ → List Change
-    some_changes i = some_in i (place_at gs i) refl
-
-    pub some_are : (i : ℕ) (l : Live) → place_at gs i ≡ Some l → IsDelta (IsAnswer c.relations l.query) (IsAnswer after l.query) (some_changes i)
-    unfolding some_changes some_in
-    some_are i l there = by_place (place_at gs i) refl there
-      where
-        same_some : (x y : Live) → Some x ≡ Some y → x ≡ y
-        same_some x y f = cc
-
-        by_place : (o : Option Live) (e : place_at gs i ≡ o) → o ≡ Some l → IsDelta (IsAnswer c.relations l.query) (IsAnswer after l.query) (some_in i o e)
-        by_place None e f = absurd cc
-        by_place (Some m) e f = subst (λ (x : Live). IsDelta (IsAnswer c.relations x.query) (IsAnswer after x.query) (have i m e).0) (same_some m l f) (have i m e).1
-
-    -- the delta that a log tells, or else one that exists
-    told_or : ℕ → Option (List Change) → List Change
-    told_or i None = some_changes i
-    told_or i (Some changes) = changes
-
-    pub told_changes : Kept → ℕ → List Change
-    told_changes new i = told_or i (told_at new (id_at i))
-
-    pub told_are : (new : Kept) → ((i : ℕ) (l : Live) → is_reader (readers_at readers at) i ≡ true → watched_at ws i ≡ true → place_at gs i ≡ Some l → (changes : List Change)
-        → told_at new (id_at i) ≡ Some changes → IsDelta (IsAnswer c.relations l.query) (IsAnswer after l.query) changes) → AreFor (told_changes new)
-    unfolding told_changes told_or some_changes
-    told_are new h i l r w there = by_told (told_at new (id_at i)) refl
-      where
-        by_told : (o : Option (List Change)) → told_at new (id_at i) ≡ o → IsDelta (IsAnswer c.relations l.query) (IsAnswer after l.query) (told_or i o)
-        by_told None e = some_are i l there
-        by_told (Some changes) e = h i l r w there changes e
-
-    pub told_by_log : (new : Kept) (i : ℕ) → LogTells new (registered_as gs ws i) (delta_at (told_changes new) i)
-    unfolding told_changes told_or
-    told_by_log new i = by_told (told_at new (id_at i)) refl
-      where
-        by_told : (o : Option (List Change)) → told_at new (id_at i) ≡ o → (told_at new (id_at i) ≡ None) ⊎ (told_at new (id_at i) ≡ Some (told_or i o))
-        by_told None e = inl e
-        by_told (Some changes) e = inr e
-
--- ---- what a log of a watched reader tells, as contracts see it
-
-pub told_delta : (texts : List Bytes) (hs : List (Option Live)) (logs : List Log) (i : ℕ) (l : Live) (D : List Change → Type 0) → AlikeAt (Some l) (place_at hs i)
-    → ((log_at logs i).lost ≡ false → D (map (change_of texts l) (log_at logs i).lines)) → (changes : List Change) → slice_index_or (told_from texts hs logs) i None ≡ Some changes → D changes
-told_delta texts hs logs i l D alike h changes e =
-    by_lost (log_at logs i).lost refl (sym (told_is texts hs logs i ∙ told_alike_at texts (log_at logs i) (Some l) (place_at hs i) alike) ∙ e)
-  where
-    same_some : (x y : List Change) → Some x ≡ Some y → x ≡ y
-    same_some x y f = cc
-
-    by_lost : (b : Bool) → (log_at logs i).lost ≡ b → cond (log_at logs i).lost None (Some (map (change_of texts l) (log_at logs i).lines)) ≡ Some changes → D changes
-    by_lost true f g = let none : cond (log_at logs i).lost None (Some (map (change_of texts l) (log_at logs i).lines)) ≡ None = ap (λ b. cond b None (Some (map (change_of texts l) (log_at logs i).lines))) f in absurd cc
-    by_lost false f g =
-        subst D (same_some (map (change_of texts l) (log_at logs i).lines) changes
-        (sym (ap (λ b. cond b None (Some (map (change_of texts l) (log_at logs i).lines))) f) ∙ g)) (h f)
-
 -- ---- the parts of an engine
-
--- a query of which the log stays is told the same
-abbrev pub ToldStay : Parts → Parts → Type 0
-ToldStay old new = (i : ℕ) → log_at new.logs.items i ≡ log_at old.logs.items i
-    → told_at (kept_in new) (id_at i) ≡ told_at (kept_in old) (id_at i)
-
--- of the queries that read a relation nothing is told, and the logs of the others stay
-pub record Discards (old : Parts) (at : ℕ) (new : Parts) : Type 0 where
-  pub emptied : (i : ℕ) → reads_at old at i ≡ true → told_at (kept_in new) (id_at i) ≡ Some []
-  pub others : KeepsLogs (reads_at old at) old new
 
 pub told_stay : ShowableStays → (old new : Parts) (more : List Bytes)
     → (new.catalog).texts ≡ (old.catalog).texts ++ more → IsTended old
@@ -266,7 +97,7 @@ told_stay law old new more e t alike i same =
 pub discards_by : (old mid new : Parts) → IsWhole old → (at : ℕ) → at < length (old.catalog).relations
     → mid.readers.items ≡ old.readers.items → KeepsLogs (reads_at old at) old mid
     → Empties (readers_at mid.readers.items at) mid.logs.items new.logs.items
-    → AreAlike old.queries.items new.queries.items → Discards old at new
+    → AreAlike old.queries.items new.queries.items → Discards old (reads_at old at) new
 discards_by old mid new s at low readers apart empty alike = record {
   emptied = λ i e.
       let t = live_there old.queries.items i (both_true (is_live old.queries.items i) _
@@ -340,9 +171,9 @@ told_drop law old mid new at row p same t alike =
     told_stay law old new [] (ap (λ (x : Catalog). x.texts) same ∙ p.texts ∙ sym (append-nil (old.catalog).texts)) t
     alike
 
--- the same relation changed last
-pub affected_same : (old new : Parts) → new.readers.items ≡ old.readers.items → new.changed ≡ old.changed → (kept_in new).affected ≡ (kept_in old).affected
-affected_same old new readers changed = ap₂ (λ (rs : List (List ℕ)) (k : ℕ). map id_at (readers_at rs k)) readers changed
+-- the same queries are affected
+pub affected_same : (old new : Parts) → new.affected.items ≡ old.affected.items → (kept_in new).affected ≡ (kept_in old).affected
+affected_same old new same = ap (map id_at) same
 
 -- nothing is told
 pub tells_nothing : (old new : Kept) (before now : ℕ) → now ≤ before → new.affected ≡ old.affected
@@ -380,71 +211,52 @@ module _ (old : Parts) (s : IsWhole old) (at : ℕ) (low : at < length (old.cata
       ∙ ap (λ (o : Option Live). listed_reads (query_in o) name) (sym t.is)
       ∙ sym (outdated_reads name (query_in (place_at old.queries.items i)))
 
+  places_are : readers_at old.readers.items at ≡ outdated_places old.queries.items old.order one
+  places_are = s.reading at low ∙ filter_members (λ i. reads_place (relation_at (old.catalog).relations at).name (place_at old.queries.items i)) (λ i. is_outdated one (query_in (place_at old.queries.items i))) old.order
+      (λ i e.
+      let t = order_there old.catalog old.queries.items old.order old.readers.items s i e in
+      ap (reads_place (relation_at (old.catalog).relations at).name) t.is
+      ∙ sym (reader_reads old.catalog old.queries.items old.order old.readers.items s at low i t.query t.is)
+      ∙ reads_are i t)
+
+  have_one : (i : ℕ) (l : Live) → place_at old.queries.items i ≡ Some l → (changes : List Change)
+      × IsDelta (IsAnswer (old.catalog).relations l.query) (IsAnswer one.after l.query) changes
+  have_one = subst (λ (rs : List Relation). (i : ℕ) (l : Live) → place_at old.queries.items i ≡ Some l → (changes : List Change)
+      × IsDelta (IsAnswer (old.catalog).relations l.query) (IsAnswer rs l.query) changes) after_is have
+
+  counts_one : (f : ℕ → List Change)
+      → AreFor old.catalog old.queries.items old.order old.readers.items s old.watchers.items one (readers_at old.readers.items at) places_are f
+      → now ≤ before + sum_by (delta_steps one) (deltas_with old.catalog old.queries.items old.order old.readers.items s old.watchers.items one (readers_at old.readers.items at) places_are f)
+  counts_one f h =
+      let total = counts f (λ i l r w there. subst (λ (rs : List Relation). IsDelta (IsAnswer (old.catalog).relations l.query) (IsAnswer rs l.query) (f i)) (sym after_is) (h i l r w there)) in
+      let steps = steps_by old.catalog old.queries.items old.order old.readers.items s old.watchers.items one (readers_at old.readers.items at) places_are
+      (cost_at old.watchers.items old.queries.items at f) f
+      (λ i e w. ap (λ b. cond b (cost_of at (f i) (place_at old.queries.items i)) 0) w)
+      (λ i e w.
+      let t = live_there old.queries.items i (both_true (is_live old.queries.items i) _ (sym (reader_is old.catalog old.queries.items old.order old.readers.items s at low i) ∙ e)).0 in
+      let bound : cost_of at (f i) (place_at old.queries.items i) ≤ delta_steps one (record { query = query_in (place_at old.queries.items i); changes = f i }) =
+      subst (λ (o : Option Live). cost_of at (f i) o ≤ delta_steps one (record { query = query_in o; changes = f i })) (sym t.is)
+      (subst (λ (x : Bytes). delta_bound t.query at (f i) ≤ delta_steps (one_change x (with_rows (old.catalog).relations name rows)) (record { query = a_query t.query.query; changes = f i })) named
+      (bound_steps old.catalog at t.query (f i) (with_rows (old.catalog).relations name rows) (s.live i t.query t.is).kept)) in
+      let cost : cost_at old.watchers.items old.queries.items at f i ≡ cost_of at (f i) (place_at old.queries.items i) = ap (λ b. cond b (cost_of at (f i) (place_at old.queries.items i)) 0) w in
+      omega (arith, cost, bound)) in
+      omega (arith, total, steps)
+
   -- where memory was refused
-  pub tells_refused : (new : Parts) → (kept_in new).affected ≡ (kept_in old).affected → Discards old at new → ToldStay old new
+  pub tells_refused : (new : Parts) → (kept_in new).affected ≡ (kept_in old).affected → Discards old (reads_at old at) new → ToldStay old new
       → TellsChange (kept_in old) (out_of_memory one) (kept_in new) before now
-  tells_refused new affected empty told =
-      let c = old.catalog in
-      let after = with_rows_at c.relations at rows in
-      let f = some_changes c old.queries.items old.order old.readers.items s at low old.watchers.items name named after have in
-      let total = counts f (λ i l r w there. some_are c old.queries.items old.order old.readers.items s at low old.watchers.items name named after have i l there) in
-      let ds = deltas_with c old.queries.items old.order old.readers.items s at low old.watchers.items name named after f in
-      let steps : sum_by (cost_at old.watchers.items old.queries.items at f) (readers_at old.readers.items at) ≤ sum_by (delta_steps one) ds =
-      subst (λ (rs : List Relation). sum_by (cost_at old.watchers.items old.queries.items at f) (readers_at old.readers.items at) ≤ sum_by (delta_steps (one_change name rs)) ds) after_is
-      (steps_with c old.queries.items old.order old.readers.items s at low old.watchers.items name named after f) in record {
-        deltas = ds;
-        listed = subst (λ (rs : List Relation). AreDeltas c.relations rs (queries_affected (kept_in old) one)
-            (deltas_with c old.queries.items old.order old.readers.items s at low old.watchers.items name named after f)) after_is
-            (listed_with c old.queries.items old.order old.readers.items s at low old.watchers.items name named after f (λ i l r w there. some_are c old.queries.items old.order old.readers.items s at low old.watchers.items name named after have i l there));
-        counted = omega (arith, total, steps);
-        affected = affected;
-        logs = tt;
-        discards = λ id h.
-            let r = registered_has c old.queries.items old.order old.readers.items old.watchers.items s id
-            (λ r. is_outdated one r.query ≡ true) h in
-            empty.emptied id.at (reads_are id.at r.0 ∙ r.1);
-        stays = λ id h.
-            let r = registered_has c old.queries.items old.order old.readers.items old.watchers.items s id
-            (λ r. reaches (out_of_memory one) r ≡ false) h in
-            told id.at (empty.others id.at r.0.query r.0.is (reads_are id.at r.0 ∙ r.1));
-      }
+  tells_refused = refused_tells old s one (readers_at old.readers.items at) places_are have_one before now counts_one
 
   -- where the change was accepted
   pub tells_done : (new : Parts) → ((i : ℕ) (l : Live) → is_reader (readers_at old.readers.items at) i ≡ true → watched_at old.watchers.items i ≡ true
       → place_at old.queries.items i ≡ Some l → (log_at new.logs.items i).lost ≡ false
       → IsDeltaWith at rows (old.catalog).relations l (map (change_of (new.catalog).texts l) (log_at new.logs.items i).lines))
-      → AreAlike old.queries.items new.queries.items → new.readers.items ≡ old.readers.items → new.changed ≡ at
+      → AreAlike old.queries.items new.queries.items → new.affected.items ≡ readers_at old.readers.items at
       → KeepsLogs (tells_at old at) old new → ToldStay old new
       → TellsChange (kept_in old) (accepted one) (kept_in new) before now
-  tells_done new tells alike readers changed quiet told =
-      let c = old.catalog in
-      let after = with_rows_at c.relations at rows in
-      let f = told_changes c old.queries.items old.order old.readers.items s at low old.watchers.items name named after have (kept_in new) in
-      let are = told_are c old.queries.items old.order old.readers.items s at low old.watchers.items name named after have (kept_in new)
-      (λ i l r w there changes e. told_delta (new.catalog).texts new.queries.items new.logs.items i l (λ (cs : List Change). IsDelta (IsAnswer c.relations l.query) (IsAnswer after l.query) cs)
-      (subst (λ (o : Option Live). AlikeAt o (place_at new.queries.items i)) there (alike i)) (tells i l r w there) changes e) in
-      let total = counts f are in
-      let ds = deltas_with c old.queries.items old.order old.readers.items s at low old.watchers.items name named after f in
-      let steps : sum_by (cost_at old.watchers.items old.queries.items at f) (readers_at old.readers.items at) ≤ sum_by (delta_steps one) ds =
-      subst (λ (rs : List Relation). sum_by (cost_at old.watchers.items old.queries.items at f) (readers_at old.readers.items at) ≤ sum_by (delta_steps (one_change name rs)) ds) after_is
-      (steps_with c old.queries.items old.order old.readers.items s at low old.watchers.items name named after f) in record {
-        deltas = ds;
-        listed = subst (λ (rs : List Relation). AreDeltas c.relations rs (queries_affected (kept_in old) one)
-            (deltas_with c old.queries.items old.order old.readers.items s at low old.watchers.items name named after f)) after_is
-            (listed_with c old.queries.items old.order old.readers.items s at low old.watchers.items name named after f are);
-        counted = omega (arith, total, steps);
-        affected = ap₂ (λ (rs : List (List ℕ)) (k : ℕ). map id_at (readers_at rs k)) readers changed
-            ∙ affected_with c old.queries.items old.order old.readers.items s at low old.watchers.items name named after;
-        logs = logs_with c old.queries.items old.order old.readers.items s at low old.watchers.items name named after f (kept_in new)
-            (λ i r. told_by_log c old.queries.items old.order old.readers.items s at low old.watchers.items name named after have (kept_in new) i);
-        discards = tt;
-        stays = λ id h.
-            let r = registered_has c old.queries.items old.order old.readers.items old.watchers.items s id
-            (λ r. reaches (accepted one) r ≡ false) h in
-            told id.at (quiet id.at r.0.query r.0.is
-            (ap (λ b. b && watched_at old.watchers.items id.at) (reads_are id.at r.0)
-            ∙ r.1));
-      }
+  tells_done new tells =
+      accepted_tells old s one (readers_at old.readers.items at) places_are have_one before now counts_one new
+      (λ i l r w there lost. subst (λ (rs : List Relation). IsDelta (IsAnswer (old.catalog).relations l.query) (IsAnswer rs l.query) (map (change_of (new.catalog).texts l) (log_at new.logs.items i).lines)) after_is (tells i l r w there lost))
 
 -- ---- what is kept once readers were reached and their cursors outdated
 
@@ -459,20 +271,41 @@ module _ (old mid new : Parts) (at : ℕ) (name : Bytes) (carries : Carries (rea
       ∙ registered_same old.queries.items new.queries.items old.watchers.items old.watchers.items old.order
       (λ i. query_alike_at (place_at old.queries.items i) (place_at new.queries.items i) (alike_now i)) (λ i. refl)
 
-  pub tended_now : IsTended old → AreShown (mid.catalog).texts old.queries.items mid.logs.items → IsTended new
-  tended_now t h = record {
+  pub tended_now : IsTended old → length mid.order ≤ vec_capacity mid.affected → AreShown (mid.catalog).texts old.queries.items mid.logs.items → IsTended new
+  tended_now t room h = record {
     watched = ap (λ (xs : List ℕ). length xs) (a.rest.watchers ∙ watchers) ∙ t.watched ∙ sym (a.reach.length ∙ carries.reach.length);
     logged = ap (λ (xs : List Log). length xs) a.logs ∙ long ∙ t.logged ∙ sym (a.reach.length ∙ carries.reach.length);
     shown = subst (λ (x : Catalog). AreShown x.texts new.queries.items new.logs.items) (sym a.catalog)
         (subst (λ (xs : List Log). AreShown (mid.catalog).texts new.queries.items xs) (sym a.logs)
         (shown_alike (mid.catalog).texts old.queries.items new.queries.items mid.logs.items alike_now h));
+    room = omega (arith, room, a.rest.room, ap (λ (xs : List ℕ). length xs) a.rest.order);
   }
+
+pub filter_few : (p : ℕ → Bool) (xs : List ℕ) → length (filter p xs) ≤ length xs
+filter_few p [] = omega arith
+filter_few p (x ∷ xs) = step (p x) (filter_few p xs)
+  where
+    step : (b : Bool) → length (filter p xs) ≤ length xs → length (cond b (x ∷ filter p xs) (filter p xs)) ≤ length (x ∷ xs)
+    step true h = omega (arith, h)
+    step false h = omega (arith, h)
+
+-- room for all queries stays, and the readers of a relation are among them
+pub room_kept : (old new : Parts) → IsTended old → KeepsRest old new → length new.order ≤ vec_capacity new.affected
+room_kept old new t k = omega (arith, t.room, k.room, ap (λ (xs : List ℕ). length xs) k.order)
+
+pub readers_few : (old mid : Parts) → IsWhole old → (at : ℕ) → at < length (old.catalog).relations
+    → KeepsRest old mid → IsTended old → length (readers_at mid.readers.items at) ≤ vec_capacity mid.affected
+readers_few old mid s at low k t =
+    let few = filter_few (λ i. reads_place (relation_at (old.catalog).relations at).name (place_at old.queries.items i)) old.order in
+    let long = ap (λ (rs : List (List ℕ)). length (readers_at rs at)) k.readers ∙ ap (λ (xs : List ℕ). length xs) (s.reading at low) in
+    omega (arith, few, long, t.room, k.room)
 
 pub tended_still : (old new : Parts) → IsTended old → KeepsRest old new → new.queries.items ≡ old.queries.items → AreShown (new.catalog).texts old.queries.items new.logs.items → IsTended new
 tended_still old new t k q h = record {
   watched = ap (λ (xs : List ℕ). length xs) k.watchers ∙ t.watched ∙ sym (ap (λ (gs : List (Option Live)). length gs) q);
   logged = k.long ∙ t.logged ∙ sym (ap (λ (gs : List (Option Live)). length gs) q);
   shown = subst (λ (gs : List (Option Live)). AreShown (new.catalog).texts gs new.logs.items) (sym q) h;
+  room = room_kept old new t k;
 }
 
 pub registered_still : (old new : Parts) → KeepsRest old new → new.queries.items ≡ old.queries.items → registered_in new.queries.items new.watchers.items new.order ≡ registered_in old.queries.items old.watchers.items old.order
@@ -492,7 +325,7 @@ module _ (old : Parts) (s : IsWhole old) (name : Bytes) (row : Tuple) (at : ℕ)
   rows_are = counted_found (old.catalog).relations name row old.seq at m
 
   pub adds_refused : CountsRows at (with_row (counted_at (old.catalog).relations at) row) old before now → (new : Parts)
-      → (kept_in new).affected ≡ (kept_in old).affected → Discards old at new → ToldStay old new
+      → (kept_in new).affected ≡ (kept_in old).affected → Discards old (reads_at old at) new → ToldStay old new
       → TellsChange (kept_in old) (out_of_memory (row_in (old.catalog).relations name row)) (kept_in new) before now
   adds_refused counts new affected empty told =
       subst (λ (rows : List CountedRow). TellsChange (kept_in old) (out_of_memory (new_rows (old.catalog).relations name
@@ -501,15 +334,14 @@ module _ (old : Parts) (s : IsWhole old) (name : Bytes) (row : Tuple) (at : ℕ)
       (have (with_row (counted_at (old.catalog).relations at) row)) before now counts new affected empty told)
 
   module _ (mid new : Parts) (logs : new.logs.items ≡ mid.logs.items) (catalog : new.catalog ≡ mid.catalog)
-      (alike : AreAlike old.queries.items new.queries.items) (readers : new.readers.items ≡ old.readers.items)
-      (changed : new.changed ≡ at)
+      (alike : AreAlike old.queries.items new.queries.items) (places : new.affected.items ≡ readers_at old.readers.items at)
       (quiet : KeepsLogs (tells_at old at) old mid) (told : ToldStay old new) where
     done : (rows : List CountedRow) → CountsRows at rows old before now → TellsRows at rows old mid
         → TellsChange (kept_in old) (accepted (new_rows (old.catalog).relations name rows)) (kept_in new) before now
     done rows counts tells = tells_done old s at m.below name m.named rows law differ (have rows) before now counts new
         (λ i l r w there. subst (λ (ls : List Log). (log_at ls i).lost ≡ false → IsDeltaWith at rows (old.catalog).relations l (map (change_of (new.catalog).texts l) (log_at ls i).lines)) (sym logs)
         (subst (λ (x : Catalog). (log_at mid.logs.items i).lost ≡ false → IsDeltaWith at rows (old.catalog).relations l (map (change_of x.texts l) (log_at mid.logs.items i).lines)) (sym catalog) (tells i l r w there)))
-        alike readers changed
+        alike places
         (λ i l there e. ap (λ (ls : List Log). log_at ls i) logs ∙ quiet i l there e) told
 
     pub adds_done : CountsRows at (with_row (counted_at (old.catalog).relations at) row) old before now → TellsRows at (with_row (counted_at (old.catalog).relations at) row) old mid

@@ -14,11 +14,12 @@ use Rattle.djq_live.specs.Cursors.{slot_at, SetsSlot}
 use Rattle.djq_live.specs.Live.{Live, IsLive}
 use Rattle.djq_engine.specs.declared.cursor.CursorId.{CursorId}
 use Rattle.djq_engine.specs.Kept.{Registered, held_at, OthersStay}
-use Rattle.djq_engine.specs.Places.{place_at, is_live, query_in, queries_in, reads_place, held_as, held_from, held_of, store_of, id_at, watchers_at, registered_as, registered_in}
+use Rattle.djq_reach.specs.Places.{place_at, reads_place, watchers_at}
+use Rattle.djq_engine.specs.Places.{is_live, query_in, queries_in, held_as, held_from, held_of, store_of, id_at, registered_as, registered_in}
 use Rattle.djq_engine.specs.Sound.{IsSound}
 use Rattle.djq_engine.proofs.Holding.{held_is}
 use Rattle.djq_engine.proofs.Listing.{filter_members, map_members}
-use Rattle.djq_engine.proofs.Reaching.{everywhere, place_below}
+use Rattle.djq_reach.proofs.Reaching.{everywhere, place_below}
 
 pub slot_set : (slots : List (Option Progress)) (k : ℕ) (p : Progress) (slot : Option Progress) → slot_at slots k ≡ Some p → SetsSlot slots k slot (set slots k slot)
 slot_set slots k p slot e = record {

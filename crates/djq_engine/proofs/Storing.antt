@@ -26,9 +26,9 @@ use Rattle.djq_live.specs.Live.{Live, IsKept}
 use Rattle.djq_live.specs.Staying.{StaysOver, LiveStays, CamePasses, WentPasses}
 use Rattle.djq_live.proofs.Members.{in_last}
 use Rattle.djq_engine.specs.declared.parts.Parts.{Parts}
-use Rattle.djq_engine.specs.Places.{place_at, readers_at}
-use Rattle.djq_engine.specs.Sound.{IsSound, AreOnce}
-use Rattle.djq_engine.specs.Reaching.{Reach, AllAt, CanCome, CanGo, TakesIn, LetsOut, GivesBack, Carries}
+use Rattle.djq_reach.specs.Places.{place_at, readers_at, AreOnce}
+use Rattle.djq_engine.specs.Sound.{IsSound}
+use Rattle.djq_reach.specs.Reaching.{Reach, AllAt, CanCome, CanGo, TakesIn, LetsOut, GivesBack, Carries}
 use Rattle.djq_engine.specs.Changing.{IsNew, IsOld, LacksMemory, Puts, Waits, PutsRow, NoPlace, for_copies, for_texts, HasCopies, HasMore, AddsCells, AddsTo, IfCame, IfLacking, IfStill}
 use Rattle.djq_lines.specs.declared.limits.TheConstants.{TEXTS, ROWS, COPIES}
 use Rattle.djq_engine.proofs.Carrying.{has_contains, without_last, last_there, rows_with, field_with, long_with, back_with, readers_once, readers_kept, came_carries, went_carries, back_carries, idle_carries, stays_itself, texts_then}
@@ -264,7 +264,7 @@ has_copies law stays old new at row n s sound low texts rel queries logs = recor
 learned_known : (texts : List Bytes) (t : Bytes) → knows texts t ≡ true → learned texts t ≡ texts
 learned_known texts t h = rw h refl
 
-none_learned : (texts : List Bytes) (row : Tuple) → HaveCells texts row → all_learned texts (texts_in row) ≡ texts
+pub none_learned : (texts : List Bytes) (row : Tuple) → HaveCells texts row → all_learned texts (texts_in row) ≡ texts
 none_learned texts [] h = refl
 none_learned texts (Int i ∷ vs) h = none_learned texts vs h.1
 none_learned texts (Text t ∷ vs) h =

@@ -26,11 +26,12 @@ use Rattle.djq_engine.specs.Lending.{LendsQuery}
 use Rattle.djq_engine.specs.Whole.{kept_in, IsWhole}
 use Rattle.djq_engine.proofs.Enlisted.{registered_gives}
 use Rattle.djq_engine.proofs.Holding.{held_is}
-use Rattle.djq_engine.specs.Places.{place_at, queries_in, query_in, store_of, held_as, held_of, is_query}
+use Rattle.djq_reach.specs.Places.{place_at}
+use Rattle.djq_engine.specs.Places.{queries_in, query_in, store_of, held_as, held_of, is_query}
 use Rattle.djq_engine.specs.Sound.{IsSound}
 use Rattle.djq_engine.proofs.Conditions.{answers_refused, answers_done, answers_lacking}
 use Rattle.djq_engine.proofs.Naming.{Named, query_named, no_query_of}
-use Rattle.djq_engine.proofs.Reaching.{place_below, below_some, place_read}
+use Rattle.djq_reach.proofs.Reaching.{place_below, below_some, place_read}
 
 same_live : (x y : Live) (o : Option Live) → o ≡ Some x → o ≡ Some y → x ≡ y
 same_live x y o e f = cc

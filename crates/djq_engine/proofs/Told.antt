@@ -13,8 +13,9 @@ use Rattle.djq_rows.specs.Catalog.{Catalog}
 use Rattle.djq_live.specs.Shown.{shown}
 use Rattle.djq_live.specs.Live.{Live, IsShowable, ShowableStays, values_of}
 use Rattle.djq_live.specs.Updating.{change_of, IsEmpty}
-use Rattle.djq_engine.specs.Places.{place_at, is_reader, query_in, no_log, log_at, told_of, told_from}
-use Rattle.djq_engine.specs.Reaching.{DoneAt, Reach, Renews, Ages}
+use Rattle.djq_reach.specs.Places.{place_at, is_reader, no_log, log_at}
+use Rattle.djq_engine.specs.Places.{query_in, told_of, told_from}
+use Rattle.djq_reach.specs.Reaching.{DoneAt, Reach, Renews, Ages}
 
 -- another query in a place, of which the logs tell the same
 pub told_set : (texts : List Bytes) (gs : List (Option Live)) (logs : List Log) (i : ℕ) (o : Option Live) → ((log : Log) → told_of texts o log ≡ told_of texts (place_at gs i) log)

@@ -1,5 +1,5 @@
 -- What the parts of a change of rows do.
-use Rattle.std.specs.Prelude.{ℕ, List, ◌+◌, ◌≡◌, ◌<◌, ◌≤◌, ◌&&◌, Bool, true, false, Some, Result, Ok, Err, length, map, sum_by, ⊤}
+use Rattle.std.specs.Prelude.{ℕ, List, ◌+◌, ◌≡◌, ◌<◌, ◌≤◌, ◌&&◌, Bool, true, false, Some, Result, Ok, Err, length, map, sum_by, vec_capacity, ⊤}
 use Rattle.djq_model.specs.Data.{Bytes, Tuple, has_row, copies_among, with_row, with_copies, without_copies}
 use Rattle.djq_model.specs.declared.relation.Relation.{Relation}
 use Rattle.djq_model.specs.declared.relation.CountedRow.{CountedRow}
@@ -20,9 +20,9 @@ use Rattle.djq_live.specs.Live.{Live}
 use Rattle.djq_live.specs.Updating.{change_of}
 use Rattle.djq_live.specs.Staying.{StaysOver}
 use Rattle.djq_engine.specs.declared.parts.Parts.{Parts}
-use Rattle.djq_engine.specs.Places.{place_at, is_reader, readers_at, watched_at, log_at}
-use Rattle.djq_engine.specs.Reaching.{Reach, Ages, Carries}
-use Rattle.djq_engine.specs.Tending.{Works, cost_at}
+use Rattle.djq_reach.specs.Places.{place_at, is_reader, readers_at, watched_at, log_at}
+use Rattle.djq_reach.specs.Reaching.{Reach, Ages, Carries}
+use Rattle.djq_reach.specs.Tending.{Works, cost_at}
 
 -- The cells stand for a row.
 abbrev pub HasRow : Catalog → ℕ → List ℕ → Type 0
@@ -45,7 +45,8 @@ pub record KeepsRest (old new : Parts) : Type 0 where
   pub order : new.order ≡ old.order
   pub seq : new.seq ≡ old.seq
   pub watchers : new.watchers.items ≡ old.watchers.items
-  pub changed : new.changed ≡ old.changed
+  pub affected : new.affected.items ≡ old.affected.items
+  pub room : vec_capacity new.affected ≡ vec_capacity old.affected
   pub long : length new.logs.items ≡ length old.logs.items
 
 -- The readers of a relation are carried over to the new catalog.

@@ -4,8 +4,10 @@ use Rattle.djq_model.specs.declared.relation.Relation.{Relation}
 use Rattle.djq_model.specs.Data.{Bytes, Tuple, relation_of, rows_of, has_row, copies_among}
 use Rattle.djq_model.specs.Typed.{fits}
 use Rattle.djq_lines.specs.declared.limits.TheConstants.{ROWS, LAST_SEQ}
+use Rattle.djq_lines.specs.declared.held.HeldRow.{HeldRow}
 use Rattle.djq_machine.specs.State.{Store}
 use Rattle.djq_machine.specs.Store.{delete_refusal}
+use Rattle.djq_machine.specs.Batch.{place_refusal}
 use Rattle.djq_rows.specs.Cells.{HaveCells, cells_of}
 use Rattle.djq_rows.specs.Catalog.{Catalog, relation_at, counted_at, rows_at}
 use Rattle.djq_engine.specs.declared.judge.Deletion.{Deletion}
@@ -27,6 +29,11 @@ pub record MayCome (relations : List Relation) (name : Bytes) (row : Tuple) (seq
   pub relation : Suits relations name row at
   pub room : has_row (rows_at relations at) row ≡ false → length (rows_at relations at) < ROWS
   pub more : has_row (rows_at relations at) row ≡ false → seq < LAST_SEQ
+
+-- A held row suits the relation at this place, and has its place there.
+pub record MayStand (relations : List Relation) (h : HeldRow) (seq : ℕ) (at : ℕ) : Type 0 where
+  pub relation : Suits relations h.relation h.row at
+  pub passes : place_refusal (bare relations seq) h ≡ None
 
 -- A copy of it may be deleted, and it has these cells.
 pub record MayGo (c : Catalog) (name : Bytes) (row : Tuple) (seq : ℕ) (found : Deletion) : Type 0

@@ -12,7 +12,7 @@ use Rattle.djq_tree.specs.Explaining.{explain_of}
 use Rattle.djq_machine.specs.State.{Store, Position, open_at, stale}
 use Rattle.djq_machine.specs.Conditions.{first_of, Answers, OutOfMemoryWhere}
 use Rattle.djq_machine.specs.Store.{DropsQuery, IsLeft, AreAll, answer_steps}
-use Rattle.djq_machine.specs.Stale.{listed_reads, outdated, outdater_of}
+use Rattle.djq_machine.specs.Stale.{outdated, outdater_of}
 use Rattle.djq_machine.specs.Changes.{RowsChange, is_outdated}
 use Rattle.djq_machine.specs.Delta.{Change}
 use Rattle.djq_reduct.specs.Answers.{IsAnswerOf}
@@ -35,7 +35,7 @@ pub record Registered : Type 0 where
   pub watchers : ℕ
 
 -- What the engine keeps: the store of the join machine, and cursors; the registered queries, in
--- order of registration; those that read the relation of the last accepted change, in that order;
+-- order of registration; those that the last accepted change affected, in that order;
 -- and by place how a query's answers changed last, or that it was lost. Beside them the queries by
 -- place, of which contracts speak only where an answer is lent.
 pub record Kept : Type 0 where
@@ -126,21 +126,11 @@ pub record SameTellings (old new : Kept) : Type 0 where
   pub affected : new.affected ≡ old.affected
   pub told : new.told ≡ old.told
 
--- The affected queries are those that read this relation, in order of registration; or none is.
-abbrev pub AffectedAre : Option Bytes → Kept → Type 0
-AffectedAre None k = k.affected ≡ []
-AffectedAre (Some relation) k =
-    k.affected ≡ map (λ r. r.id) (filter (λ r. listed_reads r.query relation) k.registered)
-
--- This is told of one query, and of the others what was told before. The affected queries are those
--- that read the relation of the last change, as before.
+-- This is told of one query, and of the others what was told before.
 pub record TellsOf (old : Kept) (id : QueryId) (told : Option (List Change)) (new : Kept) : Type 0
   where
     pub here : told_at new id ≡ told
     pub others : (other : QueryId) → same_query other id ≡ false → told_at new other ≡ told_at old other
-    pub relation : Option Bytes
-    pub before : AffectedAre relation old
-    pub after : AffectedAre relation new
 
 -- A new cursor stands in front of the answers of its query.
 pub record OpensCursor (old : Kept) (query : Bytes) (id : CursorId) (new : Kept) : Type 0 where
@@ -258,10 +248,12 @@ DropsRegistered old query (Ok done) new =
     new ≡ filter (λ r. not (bytes_eq (listed_name r.query) query)) old
 DropsRegistered old query (Err r) new = new ≡ old
 
--- Of a query that was dropped nothing is told any more; else nothing has changed of what is told.
+-- Of a query that was dropped nothing is told any more, and it isn't affected; else nothing has
+-- changed of what is told.
 abbrev pub DropsTelling : Kept → Bytes → Result ⊤ Refusal → Kept → Type 0
-DropsTelling old query (Ok done) new =
-    IsSomeAnd (registered_of old.registered query) (λ r. TellsOf old r.id None new)
+DropsTelling old query (Ok done) new = IsSomeAnd (registered_of old.registered query)
+    (λ r. TellsOf old r.id None new
+    × (new.affected ≡ filter (λ id. not (same_query id r.id)) old.affected))
 DropsTelling old query (Err r) new = SameTellings old new
 
 -- A query that isn't in use is registered no more, and all cursors are as before.

@@ -3,12 +3,13 @@ pub mod Kept
 pub mod Places
 pub mod Sound
 pub mod Placing
-pub mod Reaching
-pub mod Tending
 pub mod Moving
 pub mod Whole
 pub mod Judging
 pub mod Changing
+pub mod Outdating
 pub mod Registering
 pub mod Watching
 pub mod Lending
+pub mod Putting
+pub mod Taking

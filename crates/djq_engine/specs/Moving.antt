@@ -6,7 +6,7 @@ use Rattle.djq_live.specs.declared.listing.Next.{Next}
 use Rattle.djq_live.specs.Cursors.{slot_at}
 use Rattle.djq_live.specs.Live.{Live, IsLive, FitsIn}
 use Rattle.djq_live.specs.Reading.{NextGives, MoreGives, OpensIn, next_steps, IsFreshIn}
-use Rattle.djq_engine.specs.Places.{place_at}
+use Rattle.djq_reach.specs.Places.{place_at}
 
 -- The query in a place becomes another, and nothing else changes.
 pub record Moves (Does : Live → Live → Type 0) (at : ℕ) (gs hs : List (Option Live)) : Type 0

@@ -1,11 +1,9 @@
 -- The registered queries in their places and their cursors, as the engine keeps them, and what
 -- contracts see of them.
-use Rattle.std.specs.Prelude.{ℕ, zero, suc, List, [], ◌∷◌, ◌++◌, ◌==◌, nat_lt, Bool, true, false, not, Option, None, Some, is_some, option_map, if◌then◌else◌, map, filter, slice_index_or}
-use Rattle.std.specs.List.{list_any}
+use Rattle.std.specs.Prelude.{ℕ, zero, suc, List, [], ◌∷◌, ◌++◌, ◌==◌, Bool, false, not, Option, None, Some, is_some, option_map, if◌then◌else◌, map, filter}
 use Rattle.djq_model.specs.Data.{Bytes, bytes_eq}
 use Rattle.djq_model.specs.Listed.{Listed, a_query}
 use Rattle.djq_machine.specs.State.{Store}
-use Rattle.djq_machine.specs.Stale.{reads}
 use Rattle.djq_rows.specs.Catalog.{Catalog}
 use Rattle.djq_live.specs.declared.cursors.Progress.{Progress}
 use Rattle.djq_live.specs.Cursors.{slot_at}
@@ -13,13 +11,10 @@ use Rattle.djq_live.specs.Live.{Live, position_of}
 use Rattle.djq_live.specs.Updating.{change_of}
 use Rattle.djq_machine.specs.Delta.{Change}
 use Rattle.djq_cursor.specs.Log.{Log}
+use Rattle.djq_reach.specs.Places.{place_at, watchers_at}
 use Rattle.djq_engine.specs.declared.cursor.CursorId.{CursorId}
 use Rattle.djq_engine.specs.declared.cursor.QueryId.{QueryId}
 use Rattle.djq_engine.specs.Kept.{Held, Registered, Kept}
-
--- the query in a place, where one is registered there
-abbrev pub place_at : List (Option Live) → ℕ → Option Live
-place_at gs i = slice_index_or gs i None
 
 -- whether one is
 abbrev pub is_live : List (Option Live) → ℕ → Bool
@@ -42,19 +37,6 @@ queries_in gs order = map (λ i. query_in (place_at gs i)) order
 abbrev pub is_query : Bytes → Option Live → Bool
 is_query name None = false
 is_query name (Some l) = bytes_eq l.query.name name
-
--- whether the query in a place reads a relation
-abbrev pub reads_place : Bytes → Option Live → Bool
-reads_place relation None = false
-reads_place relation (Some l) = reads l.query relation
-
--- whether a place is among these
-abbrev pub is_reader : List ℕ → ℕ → Bool
-is_reader readers i = list_any (λ j. j == i) readers
-
--- the places of the queries that read the relation at a place
-abbrev pub readers_at : List (List ℕ) → ℕ → List ℕ
-readers_at readers r = slice_index_or readers r []
 
 -- the places without one
 abbrev pub left : ℕ → List ℕ → List ℕ
@@ -93,22 +75,6 @@ store_of c gs order seq = record {
   seq = seq;
 }
 
--- how many sessions watch the query in a place
-abbrev pub watchers_at : List ℕ → ℕ → ℕ
-watchers_at watchers i = slice_index_or watchers i 0
-
--- whether one does
-abbrev pub watched_at : List ℕ → ℕ → Bool
-watched_at watchers i = nat_lt 0 (watchers_at watchers i)
-
--- what stands for the log of no place
-abbrev pub no_log : Log
-no_log = record { lines = []; lost = true }
-
--- the log in a place
-abbrev pub log_at : List Log → ℕ → Log
-log_at logs i = slice_index_or logs i no_log
-
 -- the name of a place
 abbrev pub id_at : ℕ → QueryId
 id_at i = record { at = i }
@@ -137,12 +103,12 @@ told_from texts (g ∷ gs) [] = []
 told_from texts (g ∷ gs) (log ∷ logs) = told_of texts g log ∷ told_from texts gs logs
 
 -- What the engine keeps for watching: the readers of each relation, how many sessions watch the
--- query in each place, its log, and the relation of the last accepted change.
+-- query in each place, its log, and the places that the last accepted change affected.
 pub record Watches : Type 0 where
   pub readers : List (List ℕ)
   pub watchers : List ℕ
   pub logs : List Log
-  pub changed : ℕ
+  pub affected : List ℕ
 
 -- what contracts see
 abbrev pub kept_of : Catalog → List (Option Live) → List ℕ → ℕ → Watches → Kept
@@ -150,7 +116,7 @@ kept_of c gs order seq w = record {
   store = store_of c gs order seq;
   cursors = held_from c.texts zero gs;
   registered = registered_in gs w.watchers order;
-  affected = map id_at (readers_at w.readers w.changed);
+  affected = map id_at w.affected;
   told = told_from c.texts gs w.logs;
   places = gs;
 }

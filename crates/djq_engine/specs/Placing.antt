@@ -6,8 +6,8 @@ use Rattle.djq_machine.specs.Stale.{reads}
 use Rattle.djq_rows.specs.Catalog.{relation_at}
 use Rattle.djq_live.specs.Live.{Live}
 use Rattle.djq_cursor.specs.Log.{Log}
-use Rattle.djq_engine.specs.Places.{place_at, readers_at, watchers_at, log_at, left}
-use Rattle.djq_engine.specs.Sound.{AreOnce}
+use Rattle.djq_reach.specs.Places.{place_at, readers_at, watchers_at, log_at, AreOnce}
+use Rattle.djq_engine.specs.Places.{left}
 
 -- What stands in each place is as before.
 abbrev pub SamePlaces : List (Option Live) → List (Option Live) → Type 0

@@ -1,9 +1,9 @@
 -- A query that is registered, or dropped.
-use Rattle.std.specs.Prelude.{ℕ, [], ◌∷◌, ◌++◌, ◌≡◌, ◌≢◌, None, Some, length}
+use Rattle.std.specs.Prelude.{ℕ, [], ◌∷◌, ◌++◌, ◌≡◌, ◌≢◌, ◌≤◌, None, Some, length, vec_capacity}
 use Rattle.djq_live.specs.Live.{Live}
 use Rattle.djq_live.specs.Updating.{IsEmpty}
 use Rattle.djq_engine.specs.declared.parts.Parts.{Parts}
-use Rattle.djq_engine.specs.Places.{place_at, watchers_at, log_at}
+use Rattle.djq_reach.specs.Places.{place_at, watchers_at, log_at}
 use Rattle.djq_engine.specs.Placing.{SamePlaces, SameLists, SameWatchers, SameLogs, JoinsReaders}
 
 -- A query stands in a place where none was, which comes behind the others in order, and behind the
@@ -23,7 +23,8 @@ pub record Registers (q : Live) (old new : Parts) : Type 0 where
       ≡ watchers_at old.watchers.items i
   pub empty : IsEmpty (log_at new.logs.items place)
   pub logs : SameLogs old.queries.items old.logs.items new.logs.items
-  pub changed : new.changed ≡ old.changed
+  pub affected : new.affected.items ≡ old.affected.items
+  pub room : length new.order ≤ vec_capacity new.affected
   pub watched : length new.watchers.items ≡ length new.queries.items
   pub logged : length new.logs.items ≡ length new.queries.items
 
@@ -36,6 +37,7 @@ pub record SameParts (old new : Parts) : Type 0 where
   pub seq : new.seq ≡ old.seq
   pub watchers : SameWatchers old.watchers.items new.watchers.items
   pub logs : SameLogs old.queries.items old.logs.items new.logs.items
-  pub changed : new.changed ≡ old.changed
+  pub affected : new.affected.items ≡ old.affected.items
+  pub room : length new.order ≤ vec_capacity new.affected
   pub watched : length new.watchers.items ≡ length new.queries.items
   pub logged : length new.logs.items ≡ length new.queries.items

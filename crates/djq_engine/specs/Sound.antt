@@ -1,14 +1,10 @@
 -- What holds of what the engine keeps, between any two calls.
-use Rattle.std.specs.Prelude.{ℕ, List, [], ◌∷◌, ◌≡◌, ◌<◌, ◌≤◌, false, Option, Some, filter, length, ⊤}
+use Rattle.std.specs.Prelude.{ℕ, List, ◌≡◌, ◌<◌, ◌≤◌, Option, Some, filter, length}
 use Rattle.djq_lines.specs.declared.limits.TheConstants.{QUERIES}
 use Rattle.djq_rows.specs.Catalog.{Catalog, relation_at}
 use Rattle.djq_live.specs.Live.{Live, IsLive}
-use Rattle.djq_engine.specs.Places.{place_at, is_live, reads_place, is_reader, readers_at}
-
--- no two are the same
-abbrev pub AreOnce : List ℕ → Type 0
-AreOnce [] = ⊤
-AreOnce (i ∷ more) = (is_reader more i ≡ false) × AreOnce more
+use Rattle.djq_reach.specs.Places.{place_at, reads_place, is_reader, readers_at, AreOnce}
+use Rattle.djq_engine.specs.Places.{is_live}
 
 -- Each registered query is kept over the catalog and its cursors can go on, and names differ. The
 -- order has each place where a query is registered once, and no more than there may be. The readers

@@ -84,10 +84,11 @@ Enrols old q (Ok (HasRegistered most)) new =
     × (new ≡ old ++ record { id = id; query = a_query q; watchers = 0 } ∷ [])
 Enrols old q _ new = new ≡ old
 
--- Of a query that was registered no change is told yet. Else what is told of each is as before.
+-- Of a query that was registered no change is told yet. Else what is told of each is as before; and
+-- so are the affected queries.
 abbrev pub EnrolsTelling : Kept → Query → Result QueryOutcome Refusal → Kept → Type 0
-EnrolsTelling old q (Ok (HasRegistered most)) new =
-    IsSomeAnd (registered_of new.registered q.name) (λ r. TellsOf old r.id (Some []) new)
+EnrolsTelling old q (Ok (HasRegistered most)) new = (new.affected ≡ old.affected)
+    × IsSomeAnd (registered_of new.registered q.name) (λ r. TellsOf old r.id (Some []) new)
 EnrolsTelling old q _ new =
     (new.affected ≡ old.affected) × ((id : QueryId) → told_at new id ≡ told_at old id)
 

@@ -1,10 +1,10 @@
 -- The parts of an engine together.
-use Rattle.std.specs.Prelude.{◌≡◌, length}
+use Rattle.std.specs.Prelude.{◌≡◌, ◌≤◌, length, vec_capacity}
 use Rattle.djq_engine.specs.declared.parts.Parts.{Parts}
 use Rattle.djq_engine.specs.Kept.{Kept}
 use Rattle.djq_engine.specs.Places.{Watches, kept_of}
 use Rattle.djq_engine.specs.Sound.{IsSound}
-use Rattle.djq_engine.specs.Tending.{AreShown}
+use Rattle.djq_reach.specs.Tending.{AreShown}
 
 -- what is kept for watching
 abbrev pub watches_in : Parts → Watches
@@ -12,7 +12,7 @@ watches_in p = record {
   readers = p.readers.items;
   watchers = p.watchers.items;
   logs = p.logs.items;
-  changed = p.changed;
+  affected = p.affected.items;
 }
 
 -- what contracts see
@@ -23,8 +23,10 @@ kept_in p = kept_of p.catalog p.queries.items p.order p.seq (watches_in p)
 abbrev pub IsWhole : Parts → Type 0
 IsWhole p = IsSound p.catalog p.queries.items p.order p.readers.items
 
--- Each place has its number of watchers, and its log, which can be shown.
+-- Each place has its number of watchers, and its log, which can be shown. There is room for all queries
+-- to be affected.
 pub record IsTended (p : Parts) : Type 0 where
   pub watched : length p.watchers.items ≡ length p.queries.items
   pub logged : length p.logs.items ≡ length p.queries.items
   pub shown : AreShown (p.catalog).texts p.queries.items p.logs.items
+  pub room : length p.order ≤ vec_capacity p.affected

@@ -8,12 +8,11 @@ ghost use Rattle.djq_engine.specs.Changing.{HasRow, AddsCells, AddsTo, DeletesFr
 ghost use Rattle.djq_engine.specs.Changing.{IfCame, IfLacking, IfStill, IfWent, IfNoneWent};
 ghost use Rattle.djq_engine.specs.Changing.{TellsRows, CountsRows};
 ghost use Rattle.djq_engine.specs.Changing.{KeepsLogs, WorksRows, reads_at, tells_at};
-ghost use Rattle.djq_engine.specs.Places.{readers_at};
-ghost use Rattle.djq_engine.specs.Tending.{AreShown, AreUnwatched};
+ghost use Rattle.djq_reach.specs.Places.{readers_at};
+ghost use Rattle.djq_reach.specs.Tending.{AreShown, AreUnwatched};
 ghost use Rattle.djq_engine.specs.Whole.{IsWhole, IsTended};
 
 use crate::parts::Parts;
-use crate::reach::{let_out, take_in};
 use djq_dict::InternRefusal;
 use djq_lines::{AddOutcome, DeleteOutcome};
 use djq_live::{
@@ -21,6 +20,7 @@ use djq_live::{
     went_passes,
 };
 use djq_model::Value;
+use djq_reach::{let_out, take_in};
 use djq_rows::{RelationId, RowsRefusal, texts_stay};
 use djq_steps::{Ledgers, Steps};
 

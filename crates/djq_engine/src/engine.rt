@@ -1,11 +1,12 @@
 ghost use Rattle.std.specs.Prelude.{◌≡◌, ◌≤◌, ◌+◌, ◌-◌, ◌<◌, ◌∷◌, ◌++◌, false, [], length, map, option_map, slice_get, IfOk, IsSomeAnd, AllPairs};
 ghost use Rattle.djq_model.specs.Data.{bytes_eq, rows_of, without_row};
 ghost use Rattle.djq_model.specs.Listed.{listed_name, listed_of};
-ghost use Rattle.djq_lines.specs.declared.limits.TheConstants.{SESSIONS};
+ghost use Rattle.djq_lines.specs.declared.limits.TheConstants.{SESSIONS, HELD};
 ghost use Rattle.djq_machine.specs.State.{opening};
 ghost use Rattle.djq_machine.specs.Store.{MakesRelation, AddsRow, DeletesRow, RegistersQuery};
 ghost use Rattle.djq_machine.specs.Store.{TellsShape, TellsWhether, has_steps};
 ghost use Rattle.djq_machine.specs.Changes.{row_in, row_out, add_outcome, delete_outcome, tried};
+ghost use Rattle.djq_machine.specs.Batch.{TellsSuits, SuitAll, AddsBatch, batch_outcome};
 ghost use Rattle.djq_engine.specs.Kept.{SameCursors, SameTellings, Outdates, DropGives, OpenGives, NextGives};
 ghost use Rattle.djq_engine.specs.Kept.{MoreGives, ClosesCursor, IsHeld, IsFresh, IsThere};
 ghost use Rattle.djq_engine.specs.Kept.{AnswerIs, ExplainGives, IsUnwatched};
@@ -16,6 +17,7 @@ ghost use Rattle.djq_engine.specs.Watching.{TellsChange, Enrols, EnrolsTelling};
 ghost use Rattle.djq_engine.specs.Watching.{CountsUpdates, add_times, delete_times};
 
 use crate::asking::{answer_in, explain_in, has_in, live_in, shape_in};
+use crate::batch::{done_in, held_ok_in};
 use crate::cursor::{CursorId, QueryId};
 use crate::lent::LentAnswer;
 use crate::parts::Parts;
@@ -26,7 +28,7 @@ use crate::watching::{
     affected_count_in, affected_in, delta_len_in, delta_line_in, laws_in, query_id_in,
     query_name_in, unwatch_in, watch_in, watchers_in,
 };
-use djq_lines::{AddOutcome, DeleteOutcome, QueryOutcome, Refusal, Shape, Sign};
+use djq_lines::{AddOutcome, DeleteOutcome, HeldRow, QueryOutcome, Refusal, Shape, Sign};
 use djq_live::{LiveQuery, Next};
 use djq_model::{Name, NoMem, Query, Sequence, Types, Value};
 use djq_reduct::Answer;
@@ -79,7 +81,7 @@ impl Engine {
                     logs: Vec::new(alloc),
                     order: Sequence::new(alloc),
                     seq: 0,
-                    changed: 0,
+                    affected: Vec::new(alloc),
                 },
             }),
             Err(error) => Err(error),
@@ -167,7 +169,7 @@ impl Engine {
         watchers_in(&self.parts, id)
     }
 
-    /// How many queries read the relation of the last accepted change.
+    /// How many queries read a relation that the last accepted change changed.
     pub fn affected_count(&self) -> usize
         ensures { result ≡ length self.now.affected }
     {
@@ -285,6 +287,47 @@ impl Engine {
             steps.old.update steps.new.update }
     {
         del_in(&mut self.parts, name, row, steps)
+    }
+
+    /// Whether a row suits a relation, and so may be held in a batch. It takes no memory.
+    ///
+    /// # Errors
+    ///
+    /// `NoRelation` where none has the name; `Arity` and `WrongType` where the row doesn't suit its
+    /// columns.
+    pub fn held_ok(&self, name: &Name, row: &[Value]) -> Result<(), Refusal>
+        ensures { TellsSuits self.now.store name.now row.now result }
+    {
+        held_ok_in(&self.parts, name, row)
+    }
+
+    /// Adds all rows that a batch held, at once, and tells how many of them weren't there. A row that
+    /// was, or that came before it in the batch, has a further copy. Where rows came, that is one
+    /// change: cursors over a query become stale by the first relation of the batch that the query
+    /// reads and of which a row came, and each watched query tells one delta.
+    ///
+    /// # Errors
+    ///
+    /// `Limit` where a row finds no place over what the rows before it leave: its copies, its relation,
+    /// the number of changes or that of known texts are at their limit. `NoMemory` out of memory, and
+    /// cursors over a query are stale by the first relation of the batch that the query reads, and
+    /// nothing is told of it. Texts that became known stay so, and no row has changed.
+    pub fn done<L: Ledgers>(
+        &mut self,
+        held: &[HeldRow],
+        steps: &mut Steps<L>,
+    ) -> Result<usize, Refusal>
+        requires suit { SuitAll self.old.store held.now }
+        requires few { length held.now ≤ HELD }
+        ensures adds { AddsBatch self.old.store held.now result self.new.store }
+        ensures outdates { Outdates self.old (tried (batch_outcome self.old.store held.now result))
+            self.new }
+        ensures watches { self.new.registered ≡ self.old.registered }
+        ensures tells { TellsChange self.old (batch_outcome self.old.store held.now result) self.new
+            steps.old.listing steps.new.listing }
+        ensures unlisted { IsUnwatched self.old → steps.new.listing ≡ steps.old.listing }
+    {
+        done_in(&mut self.parts, held, steps)
     }
 
     /// Registers a free-connex query, and tells how many lookups and links one of its answers takes

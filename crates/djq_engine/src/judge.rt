@@ -1,15 +1,16 @@
 //! Whether a row may be added to a relation, or deleted from it.
-ghost use Rattle.std.specs.Prelude.{◌≡◌, ◌<◌, ◌≤◌, ◌+◌, true, Some, IfOk, IfErr, length};
-ghost use Rattle.djq_model.specs.Data.{has_row};
+ghost use Rattle.std.specs.Prelude.{◌≡◌, ◌<◌, ◌≤◌, ◌+◌, ◌==◌, not, true, None, Some, IfOk, IfErr, length};
+ghost use Rattle.djq_model.specs.Data.{has_row, copies_among};
 ghost use Rattle.djq_model.specs.Typed.{fits};
 ghost use Rattle.djq_machine.specs.Conditions.{first_of};
 ghost use Rattle.djq_machine.specs.Store.{row_refusals, add_refusal, delete_refusal};
-ghost use Rattle.djq_rows.specs.Catalog.{relation_at, rows_at};
-ghost use Rattle.djq_engine.specs.Judging.{bare, Suits, MayCome, JudgesDelete};
+ghost use Rattle.djq_machine.specs.Batch.{suit_refusal, place_refusal};
+ghost use Rattle.djq_rows.specs.Catalog.{relation_at, counted_at, rows_at};
+ghost use Rattle.djq_engine.specs.Judging.{bare, Suits, MayCome, MayStand, JudgesDelete};
 
 use djq_index::Cells;
-use djq_lines::Refusal;
-use djq_lines::limits::{LAST_SEQ, ROWS};
+use djq_lines::limits::{COPIES, LAST_SEQ, ROWS};
+use djq_lines::{HeldRow, Refusal};
 use djq_model::{Name, Value};
 use djq_rows::{Catalog, RelationId};
 use djq_steps::Tally;
@@ -22,8 +23,12 @@ pub struct Deletion {
     pub cells: Cells,
 }
 
-// The relation of a name, where a row suits its columns.
-fn suited(catalog: &Catalog, name: &Name, row: &[Value]) -> Result<RelationId, Refusal>
+/// The relation of a name, where a row suits its columns.
+///
+/// # Errors
+///
+/// `NoRelation`, `Arity`, `WrongType`: the first condition that holds.
+pub fn suited(catalog: &Catalog, name: &Name, row: &[Value]) -> Result<RelationId, Refusal>
     ensures ok { IfOk result (λ id. Suits catalog.now.relations name.now row.now id.at) }
     ensures err { IfErr result (λ r.
         first_of (row_refusals (bare catalog.now.relations 0) name.now row.now) ≡ Some r) }
@@ -80,6 +85,55 @@ pub fn judge_add<L: Ledger>(
         return Ok(id);
     }
     if !is_there(catalog, id, row, tally) {
+        return Err(Refusal::Limit);
+    }
+    Ok(id)
+}
+
+// How many copies of a row that suits a relation are there. Of an unknown text there is none.
+fn copies_there<L: Ledger>(
+    catalog: &Catalog,
+    id: RelationId,
+    row: &[Value],
+    tally: &mut Tally<L>,
+) -> u32
+    requires there { id.at < length catalog.now.relations }
+    requires suits { fits (relation_at catalog.now.relations id.at).types row.now ≡ true }
+    ensures copies { result ≡ copies_among (counted_at catalog.now.relations id.at) row.now }
+    ensures has { has_row (rows_at catalog.now.relations id.at) row.now ≡ not (result == 0) }
+{
+    catalog.laws();
+    match catalog.cells(row) {
+        Some(cells) => catalog.copies(id, cells.as_slice(), tally),
+        None => 0,
+    }
+}
+
+/// The relation of a held row that suits it, where the row has its place there, its texts aside.
+///
+/// # Errors
+///
+/// `Limit` where its copies, the relation or the number of changes are at their limit.
+pub fn judge_held<L: Ledger>(
+    catalog: &Catalog,
+    held: &HeldRow,
+    seq: u64,
+    tally: &mut Tally<L>,
+) -> Result<RelationId, Refusal>
+    requires { suit_refusal (bare catalog.now.relations seq) held.now.relation held.now.row ≡ None }
+    ensures ok { IfOk result (λ id. MayStand catalog.now.relations held.now seq id.at) }
+    ensures err { IfErr result (λ r.
+        place_refusal (bare catalog.now.relations seq) held.now ≡ Some r) }
+{
+    let row = held.row.as_slice();
+    let Some(id) = catalog.id(&held.relation) else {
+        unreachable!()
+    };
+    let copies = copies_there(catalog, id, row, tally);
+    if copies >= COPIES {
+        return Err(Refusal::Limit);
+    }
+    if copies == 0 && (catalog.row_count(id) >= ROWS || seq == LAST_SEQ) {
         return Err(Refusal::Limit);
     }
     Ok(id)

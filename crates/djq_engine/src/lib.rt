@@ -3,12 +3,13 @@
 //! call.
 //!
 //! An [`Engine`] is what the join machine calls the store, in code. [`Engine::rel`],
-//! [`Engine::add`], [`Engine::del`], [`Engine::query`] and [`Engine::drop_query`] change it,
-//! [`Engine::open`], [`Engine::next`], [`Engine::more`] and [`Engine::close`] serve cursors, and
-//! [`Engine::has`] and [`Engine::explain`] ask. Each is refused by the first condition that holds,
-//! or does what djq_machine says (`specs/Store.antt`). Behind a change [`Engine::affected`] tells
-//! which queries read its relation, and [`Engine::delta_line`] the answers of each that came or
-//! went. Contracts see one record, `Kept` (`specs/Kept.antt`).
+//! [`Engine::add`], [`Engine::done`], [`Engine::del`], [`Engine::query`] and
+//! [`Engine::drop_query`] change it, [`Engine::open`], [`Engine::next`], [`Engine::more`] and
+//! [`Engine::close`] serve cursors, and [`Engine::has`] and [`Engine::explain`] ask. Each is refused
+//! by the first condition that holds, or does what djq_machine says (`specs/Store.antt`, and of a
+//! batch `specs/Batch.antt`). Behind a change [`Engine::affected`] tells which queries read its
+//! relations, and [`Engine::delta_line`] the answers of each that came or went. Contracts see one
+//! record, `Kept` (`specs/Kept.antt`).
 //!
 //! It knows no session, no bytes and no names of cursors, and it sends nothing. It counts how many
 //! watch a query, and not who. How a query is judged, kept and listed is djq_live's.
@@ -33,8 +34,11 @@
 //!
 //! Inside, `parts` has what is kept side by side, and each call is a few lines over it. A change of
 //! rows goes through `judge`, whether the row may come or go, which changes nothing; `change`, the
-//! catalog first; and `reach`, the queries that read the relation, one after another. Where one of
-//! them finds no memory, those before it give the row back, and so does the catalog.
+//! catalog first; and djq_reach, the queries that read the relation, one after another. Where one of
+//! them finds no memory, those before it give the row back, and so does the catalog. A batch goes
+//! through `putting`, which judges its rows and puts them into the catalog one after another, and
+//! groups those that came by relation; djq_reach, group after group; and `outdating`, the cursors and
+//! the affected queries, once for all rows.
 //!
 //! A read of a cursor is bounded by the head alone, since just the free-connex queries are
 //! registered (Bagan, Durand, Grandjean, *On acyclic conjunctive queries and constant delay
@@ -52,14 +56,16 @@ pub use engine::Engine;
 pub use lent::LentAnswer;
 
 mod asking;
+mod batch;
 mod change;
 mod cursor;
 mod engine;
 mod judge;
 mod lent;
+mod outdating;
 mod parts;
 mod places;
-mod reach;
+mod putting;
 mod reading;
 mod registering;
 mod rows;

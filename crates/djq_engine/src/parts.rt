@@ -22,6 +22,7 @@ pub struct Parts {
     pub order: Sequence<usize>,
     /// The number of accepted changes of rows.
     pub seq: u64,
-    /// The place of the relation of the last one.
-    pub changed: usize,
+    /// The places of the queries that the last one affected, in order of registration. There is room
+    /// for all of them.
+    pub affected: Vec<usize>,
 }

@@ -1,7 +1,7 @@
 //! The places of the registered queries.
-ghost use Rattle.std.specs.Prelude.{◌≡◌, ◌==◌, ◌<◌, None, not, filter, position, length, IfOk};
-ghost use Rattle.djq_engine.specs.Places.{place_at, is_query, left, watched_at};
-ghost use Rattle.djq_engine.specs.Sound.{AreOnce};
+ghost use Rattle.std.specs.Prelude.{◌≡◌, ◌==◌, ◌<◌, None, not, filter, position, length, vec_capacity, IfOk};
+ghost use Rattle.djq_reach.specs.Places.{place_at, AreOnce};
+ghost use Rattle.djq_engine.specs.Places.{is_query, left};
 ghost use Rattle.djq_engine.specs.Placing.{SamePlaces, SameWatchers, SameLogs, AllOnce, LeavesAll};
 
 use djq_cursor::DeltaLog;
@@ -61,14 +61,6 @@ pub fn vacant_place(
     Ok(at)
 }
 
-/// Whether a session watches the query in a place.
-pub fn is_watched(watchers: &[u32], at: usize) -> bool
-    requires { at < length watchers.now }
-    ensures { result ≡ watched_at watchers.now at }
-{
-    watchers[at] > 0
-}
-
 // Where a place stands in a list of places.
 fn find_place(places: &[usize], at: usize) -> Option<usize>
     ensures { result ≡ position (λ i. i == at) places.now }
@@ -84,6 +76,14 @@ pub fn leave_out(places: &mut Sequence<usize>, at: usize)
     if let Some(place) = find_place(places.as_slice(), at) {
         let _ = places.remove(place);
     }
+}
+
+/// Takes a place out of a list of affected ones.
+pub fn unaffect(places: &mut Vec<usize>, at: usize)
+    ensures items { places.new.items ≡ left at places.old.items }
+    ensures room { vec_capacity places.new ≡ vec_capacity places.old }
+{
+    places.retain(|place| *place != at);
 }
 
 /// Takes a place out of all of these lists of different places.

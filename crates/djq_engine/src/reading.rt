@@ -1,6 +1,6 @@
 //! Cursors: opening, reading and closing them.
 ghost use Rattle.std.specs.Prelude.{◌≡◌, ⊤, IsSomeAnd, IfOk, OnErr};
-ghost use Rattle.djq_engine.specs.Places.{place_at};
+ghost use Rattle.djq_reach.specs.Places.{place_at};
 ghost use Rattle.djq_engine.specs.Kept.{IsHeld, IsFresh, OpenGives, NextGives, MoreGives, ClosesCursor};
 ghost use Rattle.djq_engine.specs.Moving.{Moves, IsReadable, IsFreshly, OpensAt, ClosesAt, ReadsAt, TellsAt};
 ghost use Rattle.djq_engine.specs.Whole.{kept_in, IsWhole, IsTended};

@@ -4,14 +4,14 @@ ghost use Rattle.djq_machine.specs.Stale.{reads};
 ghost use Rattle.djq_machine.specs.Store.{RegistersQuery, query_refusal};
 ghost use Rattle.djq_live.specs.Cursors.{are_vacant};
 ghost use Rattle.djq_engine.specs.Kept.{SameCursors, DropGives};
-ghost use Rattle.djq_engine.specs.Places.{place_at};
+ghost use Rattle.djq_reach.specs.Places.{place_at};
 ghost use Rattle.djq_engine.specs.Placing.{JoinsReaders, JoinsSome};
 ghost use Rattle.djq_engine.specs.Registering.{Registers, SameParts};
 ghost use Rattle.djq_engine.specs.Watching.{Enrols, EnrolsTelling};
 ghost use Rattle.djq_engine.specs.Whole.{kept_in, IsWhole, IsTended};
 
 use crate::parts::Parts;
-use crate::places::{find_query, is_watched, leave_all, leave_out, vacant_place};
+use crate::places::{find_query, leave_all, leave_out, unaffect, vacant_place};
 use djq_dict::InternRefusal;
 use djq_lines::limits::QUERIES;
 use djq_lines::{QueryOutcome, Refusal};
@@ -19,6 +19,7 @@ use djq_live::{
     LiveQuery, Unplanned, intern_constants, live_stays, plan_query, query_fault_of, showable_stays,
 };
 use djq_model::{Name, NoMem, Query, Sequence};
+use djq_reach::is_watched;
 use djq_rows::{Catalog, RelationId, texts_stay};
 use djq_steps::{Ledgers, Steps};
 
@@ -74,6 +75,8 @@ fn register(parts: &mut Parts, query: LiveQuery) -> Result<(), NoMem>
     ensures ok { OnOk result (Registers query parts.old parts.new) }
     ensures err { OnErr result (SameParts parts.old parts.new) }
 {
+    let listed = parts.order.len();
+    parts.affected.reserve(listed + 1)?;
     let (queries, watchers, logs) = (&mut parts.queries, &mut parts.watchers, &mut parts.logs);
     let at = match vacant_place(parts.alloc, queries, watchers, logs) {
         Ok(at) => at,
@@ -193,6 +196,7 @@ pub fn drop_in(parts: &mut Parts, query: &Name) -> Result<(), Refusal>
     }
     leave_all(&mut parts.readers, at);
     leave_out(&mut parts.order, at);
+    unaffect(&mut parts.affected, at);
     parts.logs[at].clear();
     parts.queries[at] = None;
     Ok(())

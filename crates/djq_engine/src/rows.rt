@@ -1,12 +1,11 @@
 //! Rows that are added and deleted, and relations that are made.
-ghost use Rattle.std.specs.Prelude.{◌≡◌, ◌<◌, [], ◌∷◌, ◌++◌, ⊤, length};
+ghost use Rattle.std.specs.Prelude.{◌≡◌, ◌<◌, ◌≤◌, [], ◌∷◌, ◌++◌, ⊤, length, vec_capacity};
 ghost use Rattle.djq_model.specs.Data.{rows_of, without_row};
 ghost use Rattle.djq_machine.specs.Store.{MakesRelation, AddsRow, DeletesRow};
 ghost use Rattle.djq_machine.specs.Changes.{row_in, row_out, add_outcome, delete_outcome, tried};
 ghost use Rattle.djq_engine.specs.Kept.{IsUnwatched, Outdates, SameCursors, SameTellings};
-ghost use Rattle.djq_engine.specs.Places.{readers_at};
-ghost use Rattle.djq_engine.specs.Sound.{AreOnce};
-ghost use Rattle.djq_engine.specs.Reaching.{AllAt};
+ghost use Rattle.djq_reach.specs.Places.{readers_at, AreOnce};
+ghost use Rattle.djq_reach.specs.Reaching.{AllAt};
 ghost use Rattle.djq_engine.specs.Changing.{AgesReaders};
 ghost use Rattle.djq_engine.specs.Watching.{TellsChange, CountsUpdates, add_times, delete_times};
 ghost use Rattle.djq_engine.specs.Whole.{kept_in, IsWhole, IsTended};
@@ -14,15 +13,26 @@ ghost use Rattle.djq_engine.specs.Whole.{kept_in, IsWhole, IsTended};
 use crate::change::{drop_cells, put_row};
 use crate::judge::{judge_add, judge_delete};
 use crate::parts::Parts;
-use crate::reach::{age, empty_logs};
 use djq_deltas::deltas_exist;
 use djq_dict::InternRefusal;
 use djq_lines::limits::{COLUMNS, RELATIONS};
 use djq_lines::{AddOutcome, DeleteOutcome, Refusal};
 use djq_live::{heads_are_bound, leaves_are_small, live_stays, showable_stays};
 use djq_model::{Name, Sequence, Types, Value};
+use djq_reach::{age, empty_logs};
 use djq_rows::{RelationId, names_tell, texts_stay};
 use djq_steps::{Ledgers, Steps};
+
+// The queries that read a relation are the affected ones from now on.
+fn affect(affected: &mut Vec<usize>, readers: &Vec<Sequence<usize>>, id: RelationId)
+    requires within { id.at < length readers.now.items }
+    requires room { length (readers_at readers.now.items id.at) ≤ vec_capacity affected.old }
+    ensures items { affected.new.items ≡ readers_at readers.now.items id.at }
+    ensures room { vec_capacity affected.old ≤ vec_capacity affected.new }
+{
+    affected.clear();
+    let _ = affected.extend_from_slice(readers[id.at].as_slice());
+}
 
 // The open cursors over a relation become stale, by a change of the present number.
 fn age_readers(parts: &mut Parts, id: RelationId, name: &Name)
@@ -82,7 +92,7 @@ pub fn add_in<L: Ledgers>(
         }
     }
     parts.seq += 1;
-    parts.changed = id.at;
+    affect(&mut parts.affected, &parts.readers, id);
     age_readers(parts, id, name);
     Ok(AddOutcome::First)
 }
@@ -131,7 +141,7 @@ pub fn del_in<L: Ledgers>(
         DeleteOutcome::Absent => return Ok(DeleteOutcome::Absent),
     }
     parts.seq += 1;
-    parts.changed = found.relation.at;
+    affect(&mut parts.affected, &parts.readers, found.relation);
     age_readers(parts, found.relation, name);
     Ok(DeleteOutcome::Last)
 }

@@ -92,14 +92,11 @@ pub fn watchers_in(parts: &Parts, id: QueryId) -> u32
     parts.watchers[id.at]
 }
 
-/// How many queries read the relation of the last accepted change.
+/// How many queries the last accepted change affected.
 pub fn affected_count_in(parts: &Parts) -> usize
     ensures { result ≡ length (kept_in parts.now).affected }
 {
-    match parts.readers.get(parts.changed) {
-        Some(readers) => readers.as_slice().len(),
-        None => 0,
-    }
+    parts.affected.len()
 }
 
 /// The nth of them, in order of registration.
@@ -107,9 +104,8 @@ pub fn affected_in(parts: &Parts, nth: usize) -> QueryId
     requires { nth < length (kept_in parts.now).affected }
     ensures { slice_get (kept_in parts.now).affected nth ≡ Some result }
 {
-    let readers = &parts.readers[parts.changed];
     QueryId {
-        at: readers.as_slice()[nth],
+        at: parts.affected[nth],
     }
 }
 

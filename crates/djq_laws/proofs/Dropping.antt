@@ -27,7 +27,7 @@ not_found s (x ∷ xs) h =
     ∙ not_found s xs (All-tail (λ i. (i == s) ≡ false) x.id rest h)
 
 -- what holds of all ids holds of that of a session that is found
-at_found : (P : ℕ → Type 0) (s : ℕ) (xs : List Session) (x : Session) → find (λ (y : Session). y.id == s) xs ≡ Some x
+pub at_found : (P : ℕ → Type 0) (s : ℕ) (xs : List Session) (x : Session) → find (λ (y : Session). y.id == s) xs ≡ Some x
     → All P (map (λ (y : Session). y.id) xs) → P s
 at_found P s [] x e h = absurd cc
 at_found P s (y ∷ xs) x e h =
@@ -104,11 +104,11 @@ none_taken s old (d ∷ done) new w above out =
     ∙ none_taken s mid done new w.2 (behind (λ t. s < t) (opened_by d.event) rest above) later
 
 -- Those that open have greater ids than those that are open, and than those that open before them.
-record Later (here : List ℕ) (opening : List ℕ) : Type 0 where
+pub record Later (here : List ℕ) (opening : List ℕ) : Type 0 where
   pub above : All (λ s. All (λ t. s < t) opening) here
   pub rising : AllPairs (λ s t. s < t) opening
 
-later : (here opening : List ℕ) → AllPairs (λ s t. s < t) (here ++ opening) → Later here opening
+pub later : (here opening : List ℕ) → AllPairs (λ s t. s < t) (here ++ opening) → Later here opening
 later [] opening h = record { above = All-nil (λ s. All (λ t. s < t) opening); rising = h }
 later (s ∷ here) opening h =
     let rest = later here opening

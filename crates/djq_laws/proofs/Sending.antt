@@ -90,7 +90,7 @@ opened_moves old s e mid t none (inr h) = record {
 }
 
 -- a session that closes
-gone_same : (s : ℕ) (xs : List Session) → find (λ (x : Session). x.id == s) (filter (λ (x : Session). not (x.id == s)) xs) ≡ None
+pub gone_same : (s : ℕ) (xs : List Session) → find (λ (x : Session). x.id == s) (filter (λ (x : Session). not (x.id == s)) xs) ≡ None
 gone_same s [] = refl
 gone_same s (x ∷ xs) = gone_at (x.id == s) refl (gone_same s xs)
   where

@@ -13,3 +13,5 @@ pub mod Sound
 pub mod Listed
 pub mod Copies
 pub mod Stopping
+pub mod Holding
+pub mod Silent

@@ -36,6 +36,7 @@ use Rattle.std.specs.Prelude.{
   OnErr,
   slice_set,
   slice_index_or,
+  All,
 }
 use Rattle.std.proofs.lemmas.Bool.{cases_eq, cases_lt}
 use Rattle.std.proofs.lemmas.List.{
@@ -57,7 +58,7 @@ use Rattle.djq_machine.specs.State.{Position, open_at}
 use Rattle.djq_machine.specs.Store.{IsLeft, AreAll}
 use Rattle.djq_reduct.specs.Answers.{IsAnswerOf}
 use Rattle.djq_cursor.specs.declared.cursor.Cursor.{Cursor}
-use Rattle.djq_cursor.specs.Listing.{AreSome, IsListing}
+use Rattle.djq_cursor.specs.Listing.{AreSome, IsLeft as IsTupleLeft, IsListing}
 use Rattle.djq_cursor.specs.Given.{given}
 use Rattle.djq_rows.specs.Catalog.{Catalog}
 use Rattle.djq_live.specs.declared.cursors.Progress.{Progress}
@@ -86,30 +87,42 @@ last_at (v ∷ us) u d = last_at us u d
 
 -- ---- in values
 
--- an answer that comes behind different ones shows a tuple that none of them shows
+-- an answer that isn't among others shows a tuple that none of them shows
+shows_left : (c : Catalog) (l : Live) (us : List (List ℕ)) (u : List ℕ) → IsLive c l
+    → All (IsAnswerOf l.reducts) us → IsTupleLeft (IsAnswerOf l.reducts) us u
+    → IsLeft (IsAnswer c.relations l.query) (map (values_of c.texts l) us) (values_of c.texts l u)
+shows_left c l us u live each left =
+    let over = live.kept.over in
+    let show : List ℕ → Tuple = values_of c.texts l in (
+      query_answer c l.query l.numbered l.patterns l.reducts u over left.is,
+      λ there.
+          let long : length (map show us) ≡ length us = length-map us show in
+          let low = there.1 in
+          let i = there.0 in
+          let v = slice_index_or us i u in
+          let same = differ c l.query l.numbered l.patterns l.reducts over v u
+          (each i u (omega arith)) left.is
+          (sym (get_or-map show us i u (show u) (omega arith)) ∙ there.2) in
+          left.fresh (i, omega arith, same),
+    )
+
+-- an answer that comes behind different ones isn't among them
 left_of : (c : Catalog) (l : Live) (us : List (List ℕ)) (u : List ℕ) → IsLive c l
     → AreSome (IsAnswerOf l.reducts) (us ++ u ∷ [])
     → IsLeft (IsAnswer c.relations l.query) (map (values_of c.texts l) us) (values_of c.texts l u)
 left_of c l us u live some =
-    let over = live.kept.over in
     let r = l.reducts in
-    let show : List ℕ → Tuple = values_of c.texts l in
-    let is = (all_in (IsAnswerOf r) (us ++ u ∷ []) u some.all (in_last u us)) in (
-      query_answer c l.query l.numbered l.patterns r u over is,
-      λ there.
-          let long : length (map show us) ≡ length us = length-map us show in
-          let whole : length (us ++ u ∷ []) ≡ length us + 1 = length-append us (u ∷ []) in
+    let whole : length (us ++ u ∷ []) ≡ length us + 1 = length-append us (u ∷ []) in
+    shows_left c l us u live
+    (λ i d low. subst (IsAnswerOf r) (get_or_append_left us (u ∷ []) d i low)
+    (some.all i d (omega arith)))
+    (record {
+      is = all_in (IsAnswerOf r) (us ++ u ∷ []) u some.all (in_last u us);
+      fresh = λ there.
           let low = there.1 in
-          let i = there.0 in
-          let v = slice_index_or us i u in
-          let before : slice_index_or (us ++ u ∷ []) i u ≡ v =
-          get_or_append_left us (u ∷ []) u i (omega arith) in
-          let other = subst (IsAnswerOf r) before (some.all i u (omega arith)) in
-          let same = differ c l.query l.numbered l.patterns r over v u other is
-          (sym (get_or-map show us i u (show u) (omega arith)) ∙ there.2) in
-          some.different i (length us) u (omega arith) (omega arith)
-          (before ∙ same ∙ sym (last_at us u u)),
-    )
+          some.different there.0 (length us) u low (omega arith)
+          (get_or_append_left us (u ∷ []) u there.0 low ∙ there.2 ∙ sym (last_at us u u));
+    })
 
 -- where each answer is listed, each tuple is
 all_given : (c : Catalog) (l : Live) (us : List (List ℕ)) → IsLive c l
@@ -229,14 +242,12 @@ looks_at : (c : Catalog) (l : Live) (k : ℕ) (p q : Progress) (left : Bool) →
     → slot_at l.cursors k ≡ Some p → Looks l.reducts p left q
     → MoreGivesAt c l k (position_of c.texts l p) left
     (record l { cursors = slice_set l.cursors k (Some q) })
-looks_at c l k (Open old ended) q true live there h =
-    let a = h.1.2 in
-    let some = subst (AreSome (IsAnswerOf l.reducts)) a.gives a.some in (
-      (values_of c.texts l h.1.0, left_of c l (given l.reducts old) h.1.0 live some),
-      moves c l k q _ live
-          (subst (FitsOver l.reducts) (sym h.0) (live.fits k old ended there))
-          (ap (position_of c.texts l) h.0),
-    )
+looks_at c l k (Open old ended) q true live there h = (
+  (values_of c.texts l h.2.0, shows_left c l (given l.reducts old) h.2.0 live (h.1).all h.2.1),
+  moves c l k q _ live
+      (subst (FitsOver l.reducts) (sym h.0) (live.fits k old ended there))
+      (ap (position_of c.texts l) h.0),
+)
 looks_at c l k (Open old ended) q false live there h = (
   all_given c l (given l.reducts old) live h.1,
   moves c l k q _ live (subst (FitsOver l.reducts) (sym h.0) (live.fits k old ended there))

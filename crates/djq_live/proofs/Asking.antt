@@ -237,7 +237,7 @@ heads_same {A} ls f g (x ∷ xs) (name ∷ names) e h =
     (λ y other m k. h y other (member_on y x xs m) k))
 
 -- the types of a query's answers are those of its head's numbers
-types_are : (c : Catalog) (q : Query) (n : Numbered) (ps : List Shape) (r : Reducts)
+pub types_are : (c : Catalog) (q : Query) (n : Numbered) (ps : List Shape) (r : Reducts)
     → IsOver c q n ps r
     → answer_types c.relations q ≡ map (column_of n.variables) n.head
 types_are c q n ps r h =
@@ -250,7 +250,7 @@ types_are c q n ps r h =
 
 -- ---- widths
 
-head_long : (c : Catalog) (q : Query) (n : Numbered) (ps : List Shape) (r : Reducts)
+pub head_long : (c : Catalog) (q : Query) (n : Numbered) (ps : List Shape) (r : Reducts)
     → IsOver c q n ps r → length n.head ≡ length q.head
 head_long c q n ps r h =
     sym (length-map n.head (slice_get (labels n.variables)))
@@ -264,7 +264,7 @@ atoms_long c vs [] (m ∷ ms) h = absurd h
 atoms_long c vs (a ∷ atoms) [] h = absurd h
 atoms_long c vs (a ∷ atoms) (m ∷ ms) h = ap (λ (k : ℕ). suc k) (atoms_long c vs atoms ms h.1)
 
-leaves_long : (c : Catalog) (q : Query) (n : Numbered) (ps : List Shape) (r : Reducts)
+pub leaves_long : (c : Catalog) (q : Query) (n : Numbered) (ps : List Shape) (r : Reducts)
     → IsOver c q n ps r → r.tree.leaves ≡ length q.atoms
 leaves_long c q n ps r h = h.long ∙ atoms_long c n.variables q.atoms n.atoms h.asked.atoms
 
@@ -299,7 +299,7 @@ fewer xs V x s within =
     ]
 
 -- a tree's head is no longer than its query's
-head_narrow : (c : Catalog) (q : Query) (n : Numbered) (ps : List Shape) (r : Reducts)
+pub head_narrow : (c : Catalog) (q : Query) (n : Numbered) (ps : List Shape) (r : Reducts)
     → IsOver c q n ps r → length r.tree.head ≤ length q.head
 head_narrow c q n ps r h =
     let simple = simple_of r.tree.head h.reducts.family.is_tree.head_set.rising in
@@ -400,7 +400,7 @@ suits_long c l t live h =
 -- ---- whether a tuple is an answer
 
 -- the cells that show values are the values' cells
-shown_have : (texts : List Bytes) (vs : List Variable) (F u xs : List ℕ) (t : Tuple)
+pub shown_have : (texts : List Bytes) (vs : List Variable) (F u xs : List ℕ) (t : Tuple)
     → AreShownAs texts vs F u xs t
     → HaveCells texts t × (map (reading F u) xs ≡ cells_of texts t)
 shown_have texts vs F u [] [] h = (tt, refl)

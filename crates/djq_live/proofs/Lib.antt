@@ -50,3 +50,5 @@ pub mod Compared
 pub mod Batched
 pub mod Batches
 pub mod Crowding
+pub mod InHead
+pub mod Standing

@@ -31,9 +31,9 @@ use Rattle.djq_live.specs.Cursors.{slot_at}
 use Rattle.djq_live.specs.Asked.{AreAtomsOf, column_of}
 use Rattle.djq_live.specs.Leaves.{IsOver}
 use Rattle.djq_live.specs.Shown.{value_at}
-use Rattle.djq_live.specs.Changes.{IsLater, Gains, Loses, LeavesChange}
+use Rattle.djq_live.specs.Changes.{IsLater, GainsAll, Loses, LeavesChange}
 use Rattle.djq_live.specs.Live.{Live, IsKept, IsLive, given_by, position_of, values_of}
-use Rattle.djq_live.specs.Staying.{StaysOver, LiveStays, CamePasses, WentPasses}
+use Rattle.djq_live.specs.Staying.{StaysOver, LiveStays, CamePasses, CameAllPasses, WentPasses}
 use Rattle.djq_reduct.proofs.Readings.{member_here, member_on}
 use Rattle.djq_live.proofs.Showing.{head_stands}
 use Rattle.djq_live.proofs.Changing.{over_stays, over_gains, over_loses}
@@ -155,11 +155,15 @@ unchanged Changes c at l none live = record {
   others = λ j m e apart. λ u. refl;
 }
 
+pub came_all_lives : CameAllPasses
+came_all_lives c d at cells rows l came low none live =
+    kept_so c d l came.later live
+    (over_gains c d l.query l.numbered l.patterns l.reducts l.reducts at cells rows
+    live.kept.over came (unchanged (λ p old new. GainsAll p cells old new) c at l none live))
+
 pub came_lives : CamePasses
 came_lives c d at cells row l came low none live =
-    kept_so c d l came.later live
-    (over_gains c d l.query l.numbered l.patterns l.reducts l.reducts at (cells ∷ []) (row ∷ [])
-    live.kept.over came (unchanged (λ p old new. Gains p cells old new) c at l none live))
+    came_all_lives c d at (cells ∷ []) (row ∷ []) l came low none live
 
 pub went_lives : WentPasses
 went_lives c d at cells row l went low none live =

@@ -17,7 +17,7 @@ use Rattle.std.specs.Prelude.{
 use Rattle.djq_reduct.specs.Reducts.{Reducts}
 use Rattle.djq_cursor.specs.declared.cursor.Cursor.{Cursor}
 use Rattle.djq_reduct.specs.Answers.{IsAnswerOf}
-use Rattle.djq_cursor.specs.Listing.{AreSome, IsListing}
+use Rattle.djq_cursor.specs.Listing.{AreSome, IsLeft, IsListing}
 use Rattle.djq_cursor.specs.Given.{given, Fits}
 use Rattle.djq_live.specs.declared.cursors.Progress.{Progress}
 use Rattle.djq_live.specs.declared.cursors.Progress.TheVariants.{Open, Stale}
@@ -58,7 +58,8 @@ Reads r _ _ u _ = ⊥
 -- A look at whether an answer is left: the cursor has given what it had given before.
 abbrev pub Looks : Reducts → Progress → Bool → Progress → Type 0
 Looks r (Open old ended) true new =
-    (new ≡ Open old false) × ((u : List ℕ) × (next : Cursor) × Advances r old u next)
+    (new ≡ Open old false) × AreSome (IsAnswerOf r) (given r old)
+    × ((u : List ℕ) × IsLeft (IsAnswerOf r) (given r old) u)
 Looks r (Open old ended) false new =
     (new ≡ Open old true) × IsListing (IsAnswerOf r) (given r old)
 Looks r (Stale q m) left new = ⊥

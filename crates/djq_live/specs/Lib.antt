@@ -16,3 +16,4 @@ pub mod Stepping
 pub mod Ordering
 pub mod Building
 pub mod Batching
+pub mod Member

@@ -5,7 +5,7 @@ use Rattle.djq_machine.specs.Stale.{reads}
 use Rattle.djq_rows.specs.Catalog.{Catalog, relation_at}
 use Rattle.djq_live.specs.declared.cursors.Progress.{Progress}
 use Rattle.djq_live.specs.Cursors.{slot_at}
-use Rattle.djq_live.specs.Changes.{Came, Went, HasSameRows}
+use Rattle.djq_live.specs.Changes.{Came, CameAll, Went, HasSameRows}
 use Rattle.djq_live.specs.Live.{Live, IsLive, position_of}
 
 -- The query is kept over a later catalog, and its cursors stand where they stood.
@@ -29,3 +29,9 @@ CamePasses = LivePasses (λ c d at cells row. Came c d at cells row)
 
 abbrev pub WentPasses : Type 0
 WentPasses = LivePasses (λ c d at cells row. Went c d at cells row)
+
+-- It does, too, where many rows came.
+abbrev pub CameAllPasses : Type 0
+CameAllPasses = (c d : Catalog) (at : ℕ) (cells : List (List ℕ)) (rows : List Tuple) (l : Live)
+    → CameAll c d at cells rows → at < length c.relations
+    → reads l.query (relation_at c.relations at).name ≡ false → IsLive c l → StaysOver c d l

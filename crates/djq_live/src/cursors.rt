@@ -91,7 +91,7 @@ impl Progress {
         }
     }
 
-    // Whether a cursor that isn't stale has an answer left. A copy of it looks, and is dropped.
+    // Whether a cursor that isn't stale has an answer left.
     fn look<L: Ledger>(&mut self, reducts: &Reducts, listing: &mut Tally<L>) -> bool
         requires fits { FitsOver reducts.now self.old }
         requires fresh { IsOpen self.old }
@@ -100,7 +100,7 @@ impl Progress {
     {
         match self {
             Progress::Open { cursor, ended } => {
-                let left = cursor.copy().advance(reducts, &mut Answer::new(0), listing);
+                let left = cursor.is_left(reducts, listing);
                 *ended = !left;
                 left
             }

@@ -47,8 +47,11 @@ pub use laws::{
 };
 pub use listing::Next;
 pub use live::LiveQuery;
+pub use member::{
+    answers_are_had, answers_have_cells, cells_in_head_stand, cells_tell_values, had_cells_stand,
+};
 pub use plan::{PlannedQuery, Unplanned, plan_query};
-pub use staying::{came_passes, live_stays, went_passes};
+pub use staying::{came_all_passes, came_passes, live_stays, went_passes};
 
 mod batch;
 mod bind;
@@ -61,6 +64,7 @@ mod laws;
 mod listing;
 mod live;
 mod lookup;
+mod member;
 mod names;
 mod plan;
 mod rest;

@@ -108,7 +108,7 @@ impl LiveQuery {
     }
 
     /// Whether a further answer is left for a cursor that isn't stale; where none is, it stands at
-    /// its end. It takes no memory, and counts as much as [`next`](LiveQuery::next).
+    /// its end. It takes no memory, and counts no more than [`next`](LiveQuery::next).
     pub fn more<L: Ledgers>(&mut self, slot: usize, listing: &mut Tally<Listing<L>>) -> bool
         requires fresh { IsFreshIn self.old slot }
         requires fits { FitsIn self.old slot }

@@ -1,5 +1,5 @@
 //! What stays of the queries that a change of rows doesn't touch.
-ghost use Rattle.djq_live.specs.Staying.{LiveStays, CamePasses, WentPasses};
+ghost use Rattle.djq_live.specs.Staying.{LiveStays, CamePasses, CameAllPasses, WentPasses};
 
 /// Where no rows change, each registered query is kept over the later catalog, however many texts
 /// and relations more there are, and its cursors stand where they stood.
@@ -10,6 +10,11 @@ pub fn live_stays()
 /// Where a row came, so it is with each query that doesn't read its relation.
 pub fn came_passes()
     ensures { CamePasses }
+{}
+
+/// Where many rows came into a relation, likewise.
+pub fn came_all_passes()
+    ensures { CameAllPasses }
 {}
 
 /// Where a row went, likewise.

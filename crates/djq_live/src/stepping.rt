@@ -317,6 +317,7 @@ pub(crate) fn give_from_leaves<L: Ledgers>(
     requires bare { IsBare reducts.old.tables }
     ensures lost { ChangesBelow (λ p old new. Loses p cells.now old new) relation atoms.now
         patterns.now end reducts.old reducts.new }
+    ensures fewer { HasMore reducts.new reducts.old }
     ensures listing { steps.new.listing ≡ steps.old.listing }
     ensures updates { CountsLeaves reducts.old (atoms_below relation atoms.now end)
         steps.old.update steps.new.update }

@@ -7,7 +7,7 @@ ghost use Rattle.djq_live.specs.Batching.{GrowsBy};
 ghost use Rattle.djq_live.specs.Changes.{Came, CameAll, Went, HasSameRows};
 ghost use Rattle.djq_live.specs.Cursors.{outdated_slots};
 ghost use Rattle.djq_live.specs.Live.{IsKept, IsLive, SameQuery};
-ghost use Rattle.djq_live.specs.Stepping.{GrowsByOne};
+ghost use Rattle.djq_live.specs.Stepping.{GrowsByOne, HasMore};
 ghost use Rattle.djq_live.specs.Updating.{
   CanAdd,
   CanAddAll,
@@ -221,6 +221,7 @@ impl LiveQuery {
         requires { CanDelete self.old relation.at cells.now }
         ensures deleted { Follows (λ c d. Went c d relation.at cells.now) self.old self.new }
         ensures same { SameQuery self.old self.new }
+        ensures fewer { HasMore self.new.reducts self.old.reducts }
         ensures counted { steps.new.listing ≡ steps.old.listing }
         ensures updates { CountsUpdate 1 self.old relation.at
             steps.old.update steps.new.update }

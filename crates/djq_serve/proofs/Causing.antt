@@ -10,7 +10,7 @@ use Rattle.djq_io.specs.declared.hub.Told.{Told}
 use Rattle.djq_io.specs.declared.hub.Told.TheVariants.{Turning, Closing}
 use Rattle.djq_model.specs.Data.{Bytes}
 use Rattle.djq_machine.specs.State.{State}
-use Rattle.djq_machine.specs.Keeping.{Keeping, no_line, the_line}
+use Rattle.djq_machine.specs.Keeping.{Keeping, no_line, the_line, the_batch}
 use Rattle.djq_machine.specs.LineStep.{LineOutcome, long, blank, slow, no_room, run}
 use Rattle.djq_machine.specs.Step.{Event, stepped, took, closed}
 use Rattle.djq_machine.specs.Run.{Did, Group, Walk, pending_of}
@@ -111,15 +111,22 @@ turn_stands Failed piece st more done new next told (stays, none, phase) f =
     (flags_more st new told (Turning Failed piece ∷ more) false false false false false true f (kept_still st new done stays ∙ f.stopped)
     (ap (λ (ts : List Told). has_over (Turning Failed piece ∷ ts)) none) (ap (λ (ts : List Told). has_failed (Turning Failed piece ∷ ts)) none))
 
--- where the line's step kept it, no session said `stop`
+-- where a line's step kept something, no session said `stop`
 line_stands : (s : ℕ) (outcome : LineOutcome) (k : Keeping) (st : State) (told : List Told)
-    → (k ≡ the_line → st.stopped ≡ false) → Flags st told st.stopped false false → Stands (behind_front s outcome k) st told
+    → ((k ≡ no_line → ⊥) → st.stopped ≡ false) → Flags st told st.stopped false false → Stands (behind_front s outcome k) st told
 line_stands s long k st told kept f = f
 line_stands s (blank l) k st told kept f = (f, λ some. absurd (some refl))
 line_stands s (slow l) k st told kept f = f
 line_stands s (no_room l) k st told kept f = f
 line_stands s (run l) no_line st told kept f = (f, λ some. absurd (some refl))
-line_stands s (run l) the_line st told kept f = (f, λ some. kept refl)
+line_stands s (run l) the_line st told kept f = (f, λ some. kept line_is_kept)
+  where
+    line_is_kept : the_line ≡ no_line → ⊥
+    line_is_kept e = cc
+line_stands s (run l) (the_batch held) st told kept f = (f, λ some. kept batch_is_kept)
+  where
+    batch_is_kept : the_batch held ≡ no_line → ⊥
+    batch_is_kept e = cc
 
 first_false : (a b : Bool) → (not a && b) ≡ true → a ≡ false
 first_false true b e = absurd cc

@@ -16,3 +16,4 @@ pub mod Lawful
 pub mod Causing
 pub mod Losing
 pub mod Completing
+pub mod Holding

@@ -9,7 +9,8 @@ use Rattle.djq_machine.specs.State.{State}
 use Rattle.djq_machine.specs.LineStep.{LineOutcome, long, blank, slow, no_room, run}
 use Rattle.djq_machine.specs.Step.{stepped}
 use Rattle.djq_machine.specs.Run.{Group, group_of}
-use Rattle.djq_machine.specs.Call.{MakesCounted, RanStep, EndedStepAs, StepGives, Counts, cause_of, held_of}
+use Rattle.djq_model.specs.Data.{Bytes}
+use Rattle.djq_machine.specs.Call.{MakesCounted, RanStep, EndedStepAs, StepGives, Counts, cause_of, held_of, groups_by}
 use Rattle.djq_laws.proofs.Rising.{step_ids}
 use Rattle.djq_laws.proofs.Moving.{stepped_facts}
 use Rattle.djq_serve.specs.declared.served.Served.TheVariants.{DiskFault, LogFull}
@@ -18,7 +19,6 @@ use Rattle.djq_serve.specs.Server.{Next, more_lines, next_turn, lines, keeping, 
 use Rattle.djq_serve.specs.Goes.{Far, far, with_groups, seen, Goes, GoesQuietly}
 use Rattle.djq_serve.specs.Kept.{Agrees, AllSettled, OthersSettled, Spares}
 use Rattle.djq_serve.specs.Parts.{IsServed, NotServed}
-use Rattle.djq_serve.proofs.Accepting.{group_by}
 use Rattle.djq_serve.proofs.Going.{goes_none, goes_then}
 use Rattle.djq_serve.proofs.Agreeing.{agrees_same}
 use Rattle.djq_serve.proofs.Settling.{ran_settled, closed_settled, one_and_others}
@@ -71,7 +71,7 @@ line_done x y before mid now old st ran s groups outcome so_far going makes behi
     (line_runs y mid now between st ran s outcome (may_run_by st s outcome makes.effect ran makes.step going) makes)))
 
 line_ran : (x y : Shown) (before mid now : Counts) (old st ran : State) (s : ℕ) (groups : List Group) → Lining x y before mid old st s groups → IsServed st s → (r : RanStep st s ran mid now)
-    → (f : Far) → Goes (seen x before f) (server old (lines s)) (seen y now (with_groups (groups ++ group_by st s ran mid now r) f)) (server ran (keeping s (group_by st s ran mid now r)))
+    → (f : Far) → Goes (seen x before f) (server old (lines s)) (seen y now (with_groups (groups ++ groups_by st s ran mid now r) f)) (server ran (keeping s (groups_by st s ran mid now r)))
 line_ran x y before mid now old st ran s groups so_far served (l, inl m) f = line_done x y before mid now old st ran s groups (blank l) so_far served.going m refl f
 line_ran x y before mid now old st ran s groups so_far served (l, inr m) f = line_done x y before mid now old st ran s groups (run l) so_far served.going m refl f
 
@@ -82,9 +82,9 @@ ran_others st ran s mid now (l, inr m) settled = ran_settled st s (run l) m.effe
 -- it is kept, and a flush followed
 pub line_then : (x y z : Shown) (before mid now : Counts) (old st ran new : State) (s : ℕ) (groups : List Group) → Lining x y before mid old st s groups → IsServed st s → (r : RanStep st s ran mid now)
     → ((next : Next) → GoesQuietly y (server ran (flushing 0 next)) z (server new (after new next))) → Agrees new z.ids → Spares ran new
-    → Lining x z before now old new s (groups ++ group_by st s ran mid now r)
+    → Lining x z before now old new s (groups ++ groups_by st s ran mid now r)
 line_then x y z before mid now old st ran new s groups so_far served r flushed agrees spares =
-    let more : List Group = group_by st s ran mid now r in
+    let more : List Group = groups_by st s ran mid now r in
     let all : List Group = groups ++ more in
     record {
       agrees = agrees;
@@ -97,19 +97,19 @@ line_then x y z before mid now old st ran new s groups so_far served r flushed a
 
 -- it can't be kept
 pub line_fails : (x y : Shown) (before mid now : Counts) (old st ran : State) (s : ℕ) (groups : List Group) → Lining x y before mid old st s groups → IsServed st s → (r : RanStep st s ran mid now)
-    → (group_by st s ran mid now r ≡ [] → ⊥)
-    → (f : Far) → Goes (seen x before f) (server old (lines s)) (seen y now (with_groups (groups ++ group_by st s ran mid now r) f)) (server ran (closing DiskFault))
+    → (groups_by st s ran mid now r ≡ [] → ⊥)
+    → (f : Far) → Goes (seen x before f) (server old (lines s)) (seen y now (with_groups (groups ++ groups_by st s ran mid now r) f)) (server ran (closing DiskFault))
 line_fails x y before mid now old st ran s groups so_far served r some f =
-    let more : List Group = group_by st s ran mid now r in
+    let more : List Group = groups_by st s ran mid now r in
     let all : Far = with_groups (groups ++ more) f in
     goes_then (seen x before f) (server old (lines s)) (seen y now all) (server ran (keeping s more)) (seen y now all) (server ran (closing DiskFault))
     (line_ran x y before mid now old st ran s groups so_far served r f) (line_lost y ran s more some now all)
 
 pub line_fills : (x y : Shown) (before mid now : Counts) (old st ran : State) (s : ℕ) (groups : List Group) → Lining x y before mid old st s groups → IsServed st s → (r : RanStep st s ran mid now)
-    → (group_by st s ran mid now r ≡ [] → ⊥)
-    → (f : Far) → Goes (seen x before f) (server old (lines s)) (seen y now (with_groups (groups ++ group_by st s ran mid now r) f)) (server ran (closing LogFull))
+    → (groups_by st s ran mid now r ≡ [] → ⊥)
+    → (f : Far) → Goes (seen x before f) (server old (lines s)) (seen y now (with_groups (groups ++ groups_by st s ran mid now r) f)) (server ran (closing LogFull))
 line_fills x y before mid now old st ran s groups so_far served r some f =
-    let more : List Group = group_by st s ran mid now r in
+    let more : List Group = groups_by st s ran mid now r in
     let all : Far = with_groups (groups ++ more) f in
     goes_then (seen x before f) (server old (lines s)) (seen y now all) (server ran (keeping s more)) (seen y now all) (server ran (closing LogFull))
     (line_ran x y before mid now old st ran s groups so_far served r f) (line_left y ran s more some now all)
@@ -142,8 +142,8 @@ not_lined x y before now old st s groups so_far (inl stopped) =
 not_lined x y before now old st s groups so_far (inr gone) =
     lined_here x y before now old st s groups so_far (may_not_closed st s gone) (λ going. one_and_others st s (closed_settled st s gone) so_far.settled)
 
-pub dry_lined : (x y : Shown) (before mid now : Counts) (old st new : State) (s : ℕ) (groups : List Group) → Lining x y before mid old st s groups → StepGives st s Dry new mid now → Lined x y before now old new s groups
-dry_lined x y before mid now old st new s groups so_far h =
+pub dry_lined : (x y : Shown) (before mid now : Counts) (old st new : State) (s : ℕ) (groups : List Group) (kept : List Bytes) → Lining x y before mid old st s groups → StepGives st s Dry new mid now kept → Lined x y before now old new s groups
+dry_lined x y before mid now old st new s groups kept so_far h =
     lined_still x y before mid now old st new s groups h.0 h.1
     (lined_here x y before mid old st s groups so_far (may_not_dry st s h.3) (λ going. one_and_others st s (inr h.3) so_far.settled))
 
@@ -184,5 +184,5 @@ ended_as x y before mid now old st new s groups c (Some d) e so_far going h =
     lined_still x y before mid now old st new s groups h.1 h.2
     (lined_here x y before mid old st s groups so_far (may_not_ended st s d e) (λ _. one_and_others st s (inl (some_of (cause_of st s) d e)) so_far.settled))
 
-pub ended_lined : (x y : Shown) (before mid now : Counts) (old st new : State) (s : ℕ) (groups : List Group) (c : EndCause) → Lining x y before mid old st s groups → IsServed st s → StepGives st s (Ended c) new mid now → Lined x y before now old new s groups
-ended_lined x y before mid now old st new s groups c so_far served h = ended_as x y before mid now old st new s groups c (cause_of st s) refl so_far served.going h
+pub ended_lined : (x y : Shown) (before mid now : Counts) (old st new : State) (s : ℕ) (groups : List Group) (c : EndCause) (kept : List Bytes) → Lining x y before mid old st s groups → IsServed st s → StepGives st s (Ended c) new mid now kept → Lined x y before now old new s groups
+ended_lined x y before mid now old st new s groups c kept so_far served h = ended_as x y before mid now old st new s groups c (cause_of st s) refl so_far served.going h.1

@@ -1,5 +1,5 @@
 -- Where a group isn't kept, nothing is sent behind the step that it is of.
-use Rattle.std.specs.Prelude.{ℕ, List, [], ◌∷◌, ◌++◌, ◌≡◌, ◌⊎◌, Bool, true, false, cond, Option, None, Some, All}
+use Rattle.std.specs.Prelude.{ℕ, List, [], ◌∷◌, ◌++◌, ◌≡◌, ◌⊎◌, Bool, true, false, cond, Option, None, Some, All, codes}
 use Rattle.std.proofs.Common.{refl, sym, ap, ap₂, ◌∙◌, subst, inl, inr, append-nil}
 use Rattle.std.proofs.lemmas.Grind.{flat_map-append}
 use Rattle.std.proofs.lemmas.List.Elements.{All-nil, All-cons, All-head, All-tail, All-append}
@@ -9,7 +9,7 @@ use Rattle.djq_io.specs.declared.hub.Told.{Told}
 use Rattle.djq_io.specs.declared.hub.Told.TheVariants.{Closing}
 use Rattle.djq_model.specs.Data.{Bytes}
 use Rattle.djq_machine.specs.State.{State}
-use Rattle.djq_machine.specs.Keeping.{Keeping, no_line, the_line}
+use Rattle.djq_machine.specs.Keeping.{Keeping, no_line, the_line, the_batch}
 use Rattle.djq_machine.specs.LineStep.{LineOutcome, long, blank, slow, no_room, run}
 use Rattle.djq_machine.specs.Step.{Event, opened, fed, stepped, took, ended, closed}
 use Rattle.djq_machine.specs.Run.{Did, Group, Walk, group_of, groups_of, pending_of}
@@ -127,6 +127,9 @@ front_loses s (no_room l) k m moves quiet is f = loses_more m moves f
 front_loses s (run l) no_line m moves quiet is f = none_kept s m moves f
 front_loses s (run l) the_line m moves quiet is (inl f) = loses_more m moves f
 front_loses s (run l) the_line m moves quiet is (inr (some, c)) = step_loses m moves (l ∷ []) quiet is c
+front_loses s (run l) (the_batch held) m moves quiet is (inl f) = loses_more m moves f
+front_loses s (run l) (the_batch held) m moves quiet is (inr (some, c)) =
+    step_loses m moves (codes "batch" ∷ held ++ codes "done" ∷ []) quiet is c
 
 -- the group of one step
 group_of_one : (event : Event) (st new : State) (done : List Did) → (h : Happens event st done new)

@@ -1,5 +1,6 @@
 ghost use Rattle.std.specs.Prelude.{◌≡◌, None, MatchBool};
 ghost use Rattle.djq_machine.specs.Call.{counts};
+ghost use Rattle.djq_laws.specs.Holding.{HoldLines};
 ghost use Rattle.djq_serve.specs.Told.{shown};
 ghost use Rattle.djq_serve.specs.Kept.{Agrees, OthersSettled};
 ghost use Rattle.djq_serve.specs.Logged.{DiskCounts};
@@ -14,8 +15,8 @@ use djq_journal::{Kept, Log};
 use djq_machine::{Machine, Stepped};
 use djq_steps::{Ledgers, Steps};
 
-/// Runs the whole lines that a session holds, each kept and with a flush behind it, until none is left,
-/// the session has ended or is closed, a session said `stop`, or a line can't be kept.
+/// Runs the whole lines that a session holds, what each keeps kept and with a flush behind it, until none
+/// is left, the session has ended or is closed, a session said `stop`, or what a line keeps can't be kept.
 pub(crate) fn run_lines<M: Machine, H: Hub, D: Disk, L: Ledgers>(
     machine: &mut M,
     hub: &mut H,
@@ -26,6 +27,7 @@ pub(crate) fn run_lines<M: Machine, H: Hub, D: Disk, L: Ledgers>(
 ) -> Option<Served>
     requires agrees { Agrees (M.state machine.old) (H.ids hub.old) }
     requires settled { OthersSettled id (M.state machine.old) }
+    requires lines { HoldLines (M.state machine.old) }
     ensures runs { RunsLines result (shown (H.past hub.old) (H.script hub.old) (H.ids hub.old))
         (counts steps.old.listing steps.old.update steps.old.rows) (M.state machine.old) id
         (shown (H.past hub.new) (H.script hub.new) (H.ids hub.new))

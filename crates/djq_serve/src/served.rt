@@ -9,8 +9,8 @@ pub enum Served {
     TurnsUsed,
     /// The hub failed.
     HubFault,
-    /// The disk failed as a line was kept. Nothing was sent behind it.
+    /// The disk failed as a line was kept, or a batch. Nothing was sent behind it.
     DiskFault,
-    /// The journal had no room for a line. Nothing was sent behind it.
+    /// The journal had no room for a line, or for a batch. Nothing was sent behind it.
     LogFull,
 }

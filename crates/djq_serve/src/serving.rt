@@ -2,6 +2,7 @@ ghost use Rattle.std.specs.Prelude.{◌≡◌, [], None, Some, false, length};
 ghost use Rattle.djq_io.specs.Faults.{Counted};
 ghost use Rattle.djq_machine.specs.Call.{counts, ids_of};
 ghost use Rattle.djq_laws.specs.declared.limits.TheConstants.{READ_BYTES};
+ghost use Rattle.djq_laws.specs.Holding.{HoldLines};
 ghost use Rattle.djq_serve.specs.Told.{shown};
 ghost use Rattle.djq_serve.specs.Server.{closing, server};
 ghost use Rattle.djq_serve.specs.Goes.{GoesQuietly};
@@ -48,9 +49,9 @@ pub fn serve<M: Machine, H: Hub, L: Ledgers>(
     serve_logged(machine, hub, &mut NoDisk, &mut log, buffer, turns, steps)
 }
 
-/// Serves the sessions of a hub as [`serve`] does, and keeps each line that is to be kept in the log,
-/// before anything is sent behind it. Serving ends too where a line can't be kept; nothing is sent then
-/// any more.
+/// Serves the sessions of a hub as [`serve`] does, and keeps in the log what each line keeps, itself or the
+/// batch that it ends, whole, before anything is sent behind it. Serving ends too where that can't be kept;
+/// nothing is sent then any more.
 ///
 /// The log's journal is idle on this disk.
 pub fn serve_logged<M: Machine, H: Hub, D: Disk, L: Ledgers>(
@@ -94,6 +95,7 @@ fn take_turns<M: Machine, H: Hub, D: Disk, L: Ledgers>(
     requires room { length buffer.old ≡ READ_BYTES }
     requires agrees { Agrees (M.state machine.old) (H.ids hub.old) }
     requires settled { AllSettled (M.state machine.old) }
+    requires lines { HoldLines (M.state machine.old) }
     ensures took { Took result turns
         (shown (H.past hub.old) (H.script hub.old) (H.ids hub.old))
         (counts steps.old.listing steps.old.update steps.old.rows) (M.state machine.old)

@@ -3,6 +3,7 @@ ghost use Rattle.djq_io.specs.Faults.{Counted};
 ghost use Rattle.djq_machine.specs.Step.{opened};
 ghost use Rattle.djq_machine.specs.Call.{IsOpen, Makes, counts};
 ghost use Rattle.djq_laws.specs.declared.limits.TheConstants.{READ_BYTES};
+ghost use Rattle.djq_laws.specs.Holding.{HoldLines};
 ghost use Rattle.djq_serve.specs.Told.{shown, Tells};
 ghost use Rattle.djq_serve.specs.Server.{flushing, next_turn, server, refusal_for};
 ghost use Rattle.djq_serve.specs.Goes.{GoesQuietly};
@@ -31,6 +32,7 @@ pub(crate) fn take_turn<M: Machine, H: Hub, D: Disk, L: Ledgers>(
     requires room { length buffer.old ≡ READ_BYTES }
     requires agrees { Agrees (M.state machine.old) (H.ids hub.old) }
     requires settled { AllSettled (M.state machine.old) }
+    requires lines { HoldLines (M.state machine.old) }
     ensures takes { TakesTurn result (shown (H.past hub.old) (H.script hub.old) (H.ids hub.old))
         (counts steps.old.listing steps.old.update steps.old.rows) (M.state machine.old)
         (shown (H.past hub.new) (H.script hub.new) (H.ids hub.new))

@@ -3,6 +3,7 @@ use Rattle.std.specs.Prelude.{ℕ, List, [], ◌∷◌, ◌≡◌, ◌+◌, ◌+
 use Rattle.djq_model.specs.Data.{Bytes, bytes_eq}
 use Rattle.djq_lines.specs.declared.limits.TheConstants.{CURSORS, LAST_LINE_BYTES}
 use Rattle.djq_lines.specs.declared.answer.EndCause.{EndCause}
+use Rattle.djq_lines.specs.declared.held.HeldRow.{HeldRow}
 use Rattle.djq_session.specs.declared.named.NamedCursor.{NamedCursor}
 use Rattle.djq_session.specs.Keeps.{KeepsRoom}
 
@@ -20,6 +21,8 @@ pub record Dialog (C Q : Type 0) : Type 0 where
   pub cursors : List (NamedCursor C)
   -- what it watches, in the order in which it came
   pub watches : List Q
+  -- the rows that its batch holds, where one is open
+  pub batch : Option (List HeldRow)
 
 -- the cursor of a name
 abbrev pub named : {C : Type 0} → List (NamedCursor C) → Bytes → Option (NamedCursor C)
@@ -46,6 +49,7 @@ pub record IsFresh {C Q : Type 0} (d : Dialog C Q) : Type 0 where
   pub cause : d.cause ≡ None
   pub cursors : d.cursors ≡ []
   pub watches : d.watches ≡ []
+  pub batch : d.batch ≡ None
 
 -- A reply is queued in the room that there is, and nothing else changes.
 abbrev pub Replies : {C Q : Type 0} → Dialog C Q → Dialog C Q → Bytes → Type 0
@@ -72,9 +76,14 @@ abbrev pub KeepsFor : {A E : Type 0} → ℕ → ℕ → ℕ → Result A E → 
 KeepsFor count old new (Ok a) = (count + LAST_LINE_BYTES ≤ new) × (old ≤ new)
 KeepsFor count old new (Err e) = (old ≤ new) × (old < count + LAST_LINE_BYTES)
 
--- A line is queued, and the cause kept.
+-- A line is queued, the cause kept, and the batch dropped, where one was open.
 abbrev pub EndsWith : {C Q : Type 0} → Dialog C Q → Dialog C Q → Bytes → EndCause → Type 0
-EndsWith old new line cause = new ≡ record old { pending = old.pending ++ line; room = new.room; cause = Some cause }
+EndsWith old new line cause = new ≡ record old { pending = old.pending ++ line; room = new.room; cause = Some cause; batch = None }
+
+-- the rows that a batch holds; none where none is open
+abbrev pub rows_held : Option (List HeldRow) → List HeldRow
+rows_held None = []
+rows_held (Some rows) = rows
 
 -- The last cursor is gone, and what was kept for it is given back.
 abbrev pub PopsCursor : {C Q : Type 0} → Dialog C Q → Dialog C Q → Option C → Type 0

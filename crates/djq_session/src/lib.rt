@@ -1,5 +1,6 @@
 //! What is kept of a session: the bytes that came and aren't run, those that are queued and aren't
-//! taken, its cursors by name, what it watches, and why it takes no further commands.
+//! taken, its cursors by name, what it watches, the rows that its batch holds, and why it takes no
+//! further commands.
 //!
 //! A [`Session`] runs nothing. What a cursor is, and what a query is named by, is left to whoever
 //! keeps the session: it is generic in both. Contracts see one record, `Dialog`.
@@ -21,7 +22,7 @@
 //! ```
 //!
 //! Inside: `input` has the bytes that come, `output` those that go, `replies` each reply in its
-//! place, and `cursors`, `watches` and `end` the rest, a file each. A text is appended where it is
+//! place, and `cursors`, `watches`, `batch` and `end` the rest, a file each. A text is appended where it is
 //! queued, without a copy. Cursors and watches are short lists that are gone through.
 #![tactic(auto)]
 

@@ -3,11 +3,12 @@ ghost use Rattle.djq_session.specs.Dialog.{IsFresh};
 
 use crate::named::NamedCursor;
 use bytes::BytesMut;
-use djq_lines::EndCause;
-use djq_model::NoMem;
+use djq_lines::{EndCause, HeldRow};
+use djq_model::{NoMem, Sequence};
 use std::alloc::Global;
 use std::marker::Model;
 
+mod batch;
 mod cursors;
 mod end;
 mod input;
@@ -31,6 +32,8 @@ pub struct Session<C, Q> {
     cause: Option<EndCause>,
     cursors: Vec<NamedCursor<C>>,
     watches: Vec<Q>,
+    // the rows that its batch holds, where one is open
+    batch: Option<Sequence<HeldRow>>,
     alloc: Global,
 }
 
@@ -46,6 +49,7 @@ impl<C, Q> Model for Session<C, Q> {
       cause = s.cause;
       cursors = s.cursors.items;
       watches = s.watches.items;
+      batch = s.batch;
     } };
 
     ghost invariant = { λ s. IsKept s.cause s.output.spare s.cursors.items };
@@ -66,6 +70,7 @@ impl<C: Copy, Q: Copy + PartialEq> Session<C, Q> {
             cause: None,
             cursors: Vec::new(alloc),
             watches: Vec::new(alloc),
+            batch: None,
             alloc,
         })
     }

@@ -2,8 +2,10 @@ ghost use Rattle.std.specs.Prelude.{◌≡◌, ◌≤◌, None};
 
 use super::*;
 use djq_lines::limits::{CURSORS, REPLY_BYTES};
-use djq_lines::{AddOutcome, DeleteOutcome, EndCause, EndLine, QueryOutcome, Refusal, Sign};
-use djq_model::{Name, NoMem, Row, Value};
+use djq_lines::{
+    AddOutcome, DeleteOutcome, EndCause, EndLine, HeldRow, QueryOutcome, Refusal, Sign,
+};
+use djq_model::{Name, NoMem, Row, Sequence, Value};
 use djq_proto::Front;
 use std::alloc::Global;
 use std::process::Abort;
@@ -312,5 +314,37 @@ fn queries_are_watched(rt: HostRuntime) -> Result<(), Fail> {
         assert!(rt; session.pop_watch().is_some(), "{query}");
     }
     assert!(rt; session.pop_watch().is_none() && !session.watches(0));
+    Ok(())
+}
+
+// A row that a batch holds, of no values.
+fn empty_row(alloc: Global, relation: &Name) -> Result<HeldRow, NoMem> {
+    let mut line = Sequence::new(alloc);
+    line.push(b'a')?;
+    Ok(HeldRow {
+        line,
+        relation: *relation,
+        row: Row::new(alloc),
+    })
+}
+
+#[test]
+fn rows_are_held_in_order(rt: HostRuntime) -> Result<(), Fail> {
+    let mut session = Numbered::new(rt.alloc())?;
+    assert!(rt; !session.has_batch() && session.take_batch().is_none());
+    session.open_batch();
+    assert!(rt; session.has_batch() && session.rows_held() == 0);
+    session.hold(empty_row(rt.alloc(), &name_of(1))?)?;
+    session.hold(empty_row(rt.alloc(), &name_of(2))?)?;
+    assert_eq!(rt; session.rows_held(), 2);
+    let Some(rows) = session.take_batch() else {
+        panic!(rt; "no batch");
+    };
+    assert_eq!(rt; rows.len(), 2);
+    assert!(rt; rows.as_slice()[0].relation == name_of(1));
+    assert!(rt; !session.has_batch() && session.rows_held() == 0);
+    session.open_batch();
+    session.end(EndCause::Quit);
+    assert!(rt; !session.has_batch());
     Ok(())
 }

@@ -18,3 +18,4 @@ mod Weighing
 mod Lengths
 mod Resting
 mod Holding
+pub mod Whole

@@ -2,3 +2,4 @@ pub mod Sayable
 pub mod Told
 pub mod Lines
 pub mod Mirrored
+pub mod Whole

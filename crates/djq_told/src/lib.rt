@@ -32,11 +32,12 @@ ghost use Rattle.djq_told.specs.Told.{WatchersAreToldExactly};
 ghost use Rattle.djq_told.specs.Mirrored.{WatchersAreMirrored, ReadersAreMirrored};
 ghost use Rattle.djq_told.specs.Lines.{PrintedAreLines};
 ghost use Rattle.djq_told.specs.Mirrored.{StartsAreMirrored, EndsAreMirrored, MirroredAreHeld, ReadersAreReadBack};
+ghost use Rattle.djq_told.specs.Whole.{SessionsAreReadBack};
 
 /// Along every run from a state to start from whose names and values lines can say, all names are
 /// names, all values are within their limits and their texts of UTF-8, and each variable of a
 /// registered query's head stands in its body: of relations, queries, cursors and watches, of rows
-/// and constants, and of what cursors have given.
+/// and constants, of what cursors have given, and of what batches hold.
 pub fn states_are_sayable()
     ensures kept { RunsKeepSayable }
     ensures opening { OpeningIsSayable }
@@ -54,7 +55,8 @@ pub fn watchers_are_told_exactly()
 /// through one cursor at a time, refuses nothing; and where it is live, it holds the query's answers
 /// over the present rows, or those that there were as the session's input ended or it was closed.
 /// Said of replies by their forms, and, from a start whose names and values lines can say, of the whole
-/// of the bytes that the session was sent, and behind its end.
+/// of the bytes that the session was sent, and behind its end: to the last step of the run, whatever comes
+/// behind that end.
 pub fn readers_are_mirrored()
     ensures watching { WatchersAreMirrored }
     ensures reading { ReadersAreMirrored }
@@ -62,6 +64,7 @@ pub fn readers_are_mirrored()
     ensures ended { EndsAreMirrored }
     ensures held { MirroredAreHeld }
     ensures read_back { ReadersAreReadBack }
+    ensures whole { SessionsAreReadBack }
 {}
 
 /// A printed reply is one line, without an LF inside, and no longer than 16,384 bytes: a rest too, where

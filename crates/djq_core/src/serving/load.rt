@@ -1,42 +1,100 @@
 //! Lines that were kept, loaded while no session is open: nobody is answered or told.
-ghost use Rattle.std.specs.Prelude.{◌≡◌, []};
-ghost use Rattle.djq_machine.specs.Loading.{CommandLoads, LoadStep};
-ghost use Rattle.djq_core.specs.Loading.{IsIdle, comes_to};
+ghost use Rattle.std.specs.Prelude.{◌≡◌, [], is_some, None, Some};
+ghost use Rattle.djq_machine.specs.Loading.{LoadStep, StoreLoads, refused_by};
+ghost use Rattle.djq_core.specs.Views.{loading_in};
+ghost use Rattle.djq_core.specs.Loading.{IsIdle, LoadsRow, LoadsTo, comes_to, is_batch};
+ghost use Rattle.djq_core.specs.Sound.{BatchSuits};
 ghost use Rattle.djq_core.specs.Stepping.{IsRunnable};
 
 use super::Core;
-use crate::change::Outcome;
+use crate::change::is_removal;
 use crate::commands::is_registered;
+use crate::held::new_row;
+use crate::reading::{BatchLine, read_in_batch};
 use djq_engine::Engine;
-use djq_lines::{Command, Refusal};
+use djq_lines::{Command, HeldRow, Refusal};
 use djq_machine::Loaded;
+use djq_model::{Name, Sequence, Value};
 use djq_proto::{LineRefusal, read_command};
 use djq_steps::{Ledgers, Steps};
+use std::alloc::Global;
 
 impl Core {
     /// Loads a line that was kept, while no session is open: it does to the relations, their rows and
-    /// copies, and the queries what it did as it was run. A line that wouldn't be kept is refused, and
-    /// does nothing, as out of memory.
+    /// copies, and the queries what it did as it was run, and the rows of a batch are held until it is
+    /// done. A line that wouldn't be kept is refused, and does nothing, as out of memory.
     pub fn load<L: Ledgers>(&mut self, line: &[u8], steps: &mut Steps<L>) -> Loaded
         requires none { self.old.state.sessions ≡ [] }
-        ensures loads { LoadStep self.old.state.store line.now result self.new.state.store }
+        ensures loads { LoadStep (loading_in self.old) line.now result (loading_in self.new) }
         ensures rest { self.new.state ≡ record self.old.state { store = self.new.state.store } }
         ensures listing { steps.new.listing ≡ steps.old.listing }
     {
-        match read_command(self.alloc, line) {
-            Ok(command) => load_command(&mut self.engine, command, steps),
-            Err(LineRefusal::Syntax) => Loaded::Refused,
-            Err(LineRefusal::Range) => Loaded::Refused,
-            Err(LineRefusal::NoMem) => Loaded::NoMem,
+        match self.batch.take() {
+            None => {
+                let (loaded, batch) = load_alone(self.alloc, &mut self.engine, line, steps);
+                self.batch = batch;
+                loaded
+            }
+            Some(held) => {
+                let (loaded, batch) = load_in_batch(
+                    self.alloc,
+                    &mut self.engine,
+                    held,
+                    line,
+                    &mut self.row,
+                    steps,
+                );
+                self.batch = batch;
+                loaded
+            }
         }
+    }
+
+    /// Whether the lines that were loaded have opened a batch that they haven't closed. It takes no
+    /// memory.
+    pub fn load_open(&self) -> bool
+        ensures { result ≡ is_some self.now.batch }
+    {
+        self.batch.is_some()
     }
 }
 
-// Does a command of a kind that is kept, and refuses any other.
+// Loads a line where no batch is open; and the batch that it opens, where it does.
+fn load_alone<L: Ledgers>(
+    alloc: Global,
+    engine: &mut Engine,
+    line: &[u8],
+    steps: &mut Steps<L>,
+) -> (Loaded, Option<Sequence<HeldRow>>)
+    requires { IsIdle engine.old }
+    ensures loads { LoadsTo line.now result.0 engine.old None engine.new result.1 }
+    ensures listing { steps.new.listing ≡ steps.old.listing }
+{
+    match read_command(alloc, line) {
+        Ok(command) => {
+            if is_batch(&command) {
+                return (Loaded::Ran, Some(Sequence::new(alloc)));
+            }
+            (load_command(engine, command, steps), None)
+        }
+        Err(LineRefusal::Syntax) => (Loaded::Refused, None),
+        Err(LineRefusal::Range) => (Loaded::Refused, None),
+        Err(LineRefusal::NoMem) => (Loaded::NoMem, None),
+    }
+}
+
+// Whether a command opens a batch.
+fn is_batch(command: &Command) -> bool
+    ensures { result ≡ is_batch command.now }
+{
+    matches!(command, Command::Batch)
+}
+
+// Does a command of a kind that is kept by itself, and refuses any other.
 fn load_command<L: Ledgers>(engine: &mut Engine, command: Command, steps: &mut Steps<L>) -> Loaded
     requires idle { IsIdle engine.old }
     requires runnable { IsRunnable command }
-    ensures loads { CommandLoads engine.old.store command result engine.new.store }
+    ensures loads { StoreLoads engine.old.store command result engine.new.store }
     ensures idle { IsIdle engine.new }
     ensures listing { steps.new.listing ≡ steps.old.listing }
 {
@@ -51,7 +109,7 @@ fn load_command<L: Ledgers>(engine: &mut Engine, command: Command, steps: &mut S
         }
         Command::Del { name, row } => {
             let outcome = engine.del(&name, row.as_slice(), steps);
-            loaded(&outcome, Outcome::Deleted(outcome).is_kept())
+            loaded(&outcome, is_removal(outcome))
         }
         Command::Query { query } => {
             let outcome = engine.query(query, steps);
@@ -65,13 +123,74 @@ fn load_command<L: Ledgers>(engine: &mut Engine, command: Command, steps: &mut S
     }
 }
 
+// Loads a line where a batch is open, which holds these rows; and the batch that is open then.
+fn load_in_batch<L: Ledgers>(
+    alloc: Global,
+    engine: &mut Engine,
+    held: Sequence<HeldRow>,
+    line: &[u8],
+    row: &mut Vec<Value>,
+    steps: &mut Steps<L>,
+) -> (Loaded, Option<Sequence<HeldRow>>)
+    requires idle { IsIdle engine.old }
+    requires suits { BatchSuits engine.old.store (Some held) }
+    ensures loads { LoadsTo line.now result.0 engine.old (Some held) engine.new result.1 }
+    ensures listing { steps.new.listing ≡ steps.old.listing }
+{
+    match read_in_batch(alloc, line, row) {
+        BatchLine::Hold(name) => {
+            let made = new_row(
+                alloc,
+                engine,
+                held.len(),
+                line,
+                &Name::new(name),
+                row.as_slice(),
+            );
+            let (loaded, held) = load_row(held, made);
+            (loaded, Some(held))
+        }
+        BatchLine::Done => {
+            let outcome = engine.done(held.as_slice(), steps);
+            (loaded(&outcome, outcome.is_ok()), None)
+        }
+        BatchLine::Abandon => (Loaded::Ran, None),
+        BatchLine::Quit => (Loaded::Refused, Some(held)),
+        BatchLine::Stop => (Loaded::Refused, Some(held)),
+        BatchLine::Refused(refusal) => (refused(refusal), Some(held)),
+    }
+}
+
+// Holds a row that was made behind the others.
+fn load_row(held: Sequence<HeldRow>, made: Result<HeldRow, Refusal>) -> (Loaded, Sequence<HeldRow>)
+    ensures { LoadsRow held made result.0 result.1 }
+{
+    let mut rows = held;
+    match made {
+        Ok(row) => match rows.push(row) {
+            Ok(()) => (Loaded::Ran, rows),
+            Err(_) => (Loaded::NoMem, rows),
+        },
+        Err(refusal) => (refused(refusal), rows),
+    }
+}
+
 // What a result comes to, by whether its line would be kept.
 fn loaded<A>(outcome: &Result<A, Refusal>, kept: bool) -> Loaded
     ensures { result ≡ comes_to outcome.now kept }
 {
     match outcome {
         Ok(_) => { if kept { Loaded::Ran } else { Loaded::Refused } }
-        Err(Refusal::NoMemory) => Loaded::NoMem,
-        Err(_) => Loaded::Refused,
+        Err(refusal) => refused(*refusal),
+    }
+}
+
+// What a line that is refused comes to.
+fn refused(refusal: Refusal) -> Loaded
+    ensures { result ≡ refused_by refusal }
+{
+    match refusal {
+        Refusal::NoMemory => Loaded::NoMem,
+        _ => Loaded::Refused,
     }
 }

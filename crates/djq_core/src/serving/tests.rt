@@ -5,6 +5,7 @@ use super::*;
 use djq_steps::Blanks;
 use std::marker::Brand;
 
+mod batches;
 mod kept;
 
 // Whether a session is open.

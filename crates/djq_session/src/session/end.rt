@@ -23,12 +23,14 @@ impl<C: Copy, Q: Copy + PartialEq> Session<C, Q> {
         !self.output.is_empty() || self.cause.is_some()
     }
 
-    /// It takes no further commands, for a cause. A session that has ended keeps the cause that it has.
+    /// It takes no further commands, for a cause, and its batch is dropped, where one is open. A
+    /// session that has ended keeps the cause that it has.
     pub fn end(&mut self, cause: EndCause)
         requires { self.old.cause ≡ None }
-        ensures { self.new ≡ record self.old { cause = Some cause } }
+        ensures { self.new ≡ record self.old { cause = Some cause; batch = None } }
     {
         self.cause = Some(cause);
+        self.batch = None;
     }
 
     /// It takes no further commands, for a cause, and is told so by a last line.
@@ -38,6 +40,7 @@ impl<C: Copy, Q: Copy + PartialEq> Session<C, Q> {
     {
         say_end(&mut self.output, line);
         self.cause = Some(cause);
+        self.batch = None;
     }
 
     /// Its input has ended within a line, and it is told so.
@@ -47,6 +50,7 @@ impl<C: Copy, Q: Copy + PartialEq> Session<C, Q> {
     {
         say_cut(&mut self.output);
         self.cause = Some(EndCause::Input);
+        self.batch = None;
     }
 
     /// It takes its leave, which is answered.
@@ -57,5 +61,6 @@ impl<C: Copy, Q: Copy + PartialEq> Session<C, Q> {
     {
         say_bye(&mut self.output);
         self.cause = Some(cause);
+        self.batch = None;
     }
 }

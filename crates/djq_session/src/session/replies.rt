@@ -1,7 +1,7 @@
 // What a session is answered. Short replies stand in the room that `keep` made before the command.
 ghost use Rattle.std.specs.Prelude.{◌+◌, ◌≤◌, ◌++◌, codes};
 ghost use Rattle.djq_lines.specs.Reply.{add_reply, answer_line, at_line, change_line};
-ghost use Rattle.djq_lines.specs.Reply.{delete_reply, has_reply, last_line};
+ghost use Rattle.djq_lines.specs.Reply.{delete_reply, done_reply, has_reply, held_reply, last_line};
 ghost use Rattle.djq_lines.specs.Reply.{ok_reply, query_reply, refusal_line, shape_reply};
 ghost use Rattle.djq_lines.specs.Reply.{stale_line, watch_reply};
 ghost use Rattle.djq_lines.specs.declared.limits.TheConstants.{LAST_LINE_BYTES, REPLY_BYTES};
@@ -11,8 +11,9 @@ use super::Session;
 use djq_lines::{AddOutcome, DeleteOutcome, QueryOutcome, Refusal, Shape, Sign};
 use djq_model::{Answered, Name, NoMem};
 use djq_reply::{
-    put_answer, put_at, put_change, put_explained, put_last, put_registered, say_added,
-    say_deleted, say_done, say_has, say_opened, say_refused, say_shape, say_stale, say_watched,
+    put_answer, put_at, put_change, put_explained, put_last, put_registered, say_added, say_batch,
+    say_batch_done, say_deleted, say_done, say_has, say_held, say_opened, say_refused, say_shape,
+    say_stale, say_watched,
 };
 
 impl<C: Copy, Q: Copy + PartialEq> Session<C, Q> {
@@ -24,7 +25,7 @@ impl<C: Copy, Q: Copy + PartialEq> Session<C, Q> {
         say_refused(&mut self.output, refusal);
     }
 
-    /// `rel`, `drop` and `close` are answered.
+    /// `rel`, `drop`, `close`, `unwatch` and `abandon` are answered.
     pub fn answer_done(&mut self, outcome: Result<(), Refusal>)
         requires { REPLY_BYTES + LAST_LINE_BYTES ≤ self.old.room }
         ensures { Replies self.old self.new (ok_reply (codes "ok") outcome) }
@@ -38,6 +39,30 @@ impl<C: Copy, Q: Copy + PartialEq> Session<C, Q> {
         ensures { Replies self.old self.new (ok_reply (codes "ok open") outcome) }
     {
         say_opened(&mut self.output, outcome);
+    }
+
+    /// `batch` is answered.
+    pub fn answer_batch(&mut self, outcome: Result<(), Refusal>)
+        requires { REPLY_BYTES + LAST_LINE_BYTES ≤ self.old.room }
+        ensures { Replies self.old self.new (ok_reply (codes "ok batch") outcome) }
+    {
+        say_batch(&mut self.output, outcome);
+    }
+
+    /// `add` in a batch is answered, by how many rows it holds then.
+    pub fn answer_held(&mut self, outcome: Result<(), Refusal>, held: usize)
+        requires { REPLY_BYTES + LAST_LINE_BYTES ≤ self.old.room }
+        ensures { Replies self.old self.new (held_reply outcome held) }
+    {
+        say_held(&mut self.output, outcome, held);
+    }
+
+    /// `done` is answered, at a number of changes, by how many rows came.
+    pub fn answer_batch_done(&mut self, outcome: Result<usize, Refusal>, seq: u64)
+        requires { REPLY_BYTES + LAST_LINE_BYTES ≤ self.old.room }
+        ensures { Replies self.old self.new (done_reply outcome seq) }
+    {
+        say_batch_done(&mut self.output, outcome, seq);
     }
 
     /// `add` is answered, at a number of changes.

@@ -1,6 +1,7 @@
 use Rattle.djq_told.proofs.Holding.{mirrored_are_held}
 use Rattle.djq_told.proofs.Mirrored.{watchers_are_mirrored}
 use Rattle.djq_told.proofs.Waiting.{readers_are_mirrored, starts_are_mirrored, ends_are_mirrored, readers_are_read_back}
+use Rattle.djq_told.proofs.Whole.{sessions_are_read_back}
 use Rattle.djq_told.proofs.readers_are_mirrored.Goals as goal
 
 pub returns-clause-watching : goal.returns-clause-watching
@@ -20,3 +21,6 @@ returns-clause-held c = mirrored_are_held
 
 pub returns-clause-read_back : goal.returns-clause-read_back
 returns-clause-read_back c = readers_are_read_back
+
+pub returns-clause-whole : goal.returns-clause-whole
+returns-clause-whole c = sessions_are_read_back

@@ -1,20 +1,27 @@
-use Rattle.std.proofs.Common.{◌≡◌, ◌∙◌, ℕ, ◌+◌, List, [], ◌∷◌, ◌++◌, take, refl, sym, ap, subst, inl, inr, arith, Some}
+use Rattle.std.proofs.Common.{◌≡◌, ◌∙◌, ℕ, ◌+◌, List, [], ◌∷◌, ◌++◌, take, refl, sym, ap, subst, inl, inr, arith, Option}
 use Rattle.std.specs.Prelude.{IfSome}
 use Rattle.djq_io.specs.Faults.{Counted}
 use Rattle.djq_disk.specs.History.{History}
 use Rattle.djq_disk.proofs.Telling.{told_none}
-use Rattle.djq_journal.specs.Standing.{IsAt}
+use Rattle.djq_journal.specs.Standing.{IsAt, IsIdle}
 use Rattle.djq_model.specs.Data.{Bytes}
-use Rattle.djq_machine.specs.State.{State, Store, opening}
+use Rattle.djq_lines.specs.declared.held.HeldRow.{HeldRow}
+use Rattle.djq_machine.specs.State.{State, opening}
 use Rattle.djq_machine.specs.declared.machine.Loaded.TheVariants.{Ran, Refused}
-use Rattle.djq_machine.specs.Loading.{LoadStep, Loads}
+use Rattle.djq_machine.specs.Loading.{Loading, loading, LoadStep}
+use Rattle.djq_core.specs.Views.{loading_in}
 use Rattle.djq_machine.proofs.Walks.{walk_more}
 use Rattle.djq.proofs.Opening.{read_line, read_end, read_bad, read_still, stands_behind, same_both}
 use Rattle.djq.proofs.log.load_lines.Goals as goal
 
 pub lines-init : goal.lines-init
 lines-init g c = record {
-  loading = ([], ap (λ (st : State). st.store) c.requires.fresh, c.requires.first);
+  loading = (
+    [],
+    ap (λ (b : Option (List HeldRow)). record { store = c.args.machine.now.state.store; batch = b }) c.requires.closed
+        ∙ ap (λ (st : State). loading st.store) c.requires.fresh,
+    c.requires.first,
+  );
   fresh = c.requires.fresh ∙ sym (ap (λ (st : State). record opening { store = st.store }) c.requires.fresh);
   faults = refl;
   same = told_none (g.D.Disk.told c.args.disk.now) (λ (o n : History). n ≡ o) (λ (o : History). refl {A = History} {a = o});
@@ -29,14 +36,15 @@ lines-smaller g c = omega (arith, c.in-Got.ensures.place, c.in-Got.ensures.withi
 
 pub lines-preserved : goal.lines-preserved
 lines-preserved g c =
-    let loading = c.lines.invariant.loading in
-    let found = loading.0 in
+    let begun = c.lines.invariant.loading in
+    let found = begun.0 in
     let line = take c.in-Got.n c.next_line.new.buf in
     record {
       loading = (
         found ++ line ∷ [],
-        walk_more (λ (old : Store) (l : Bytes) (new : Store). LoadStep old l Ran new) opening.store found c.lines.machine.state.store line c.load.new.self.state.store loading.1 c.in-Ran.ensures.loads,
-        read_line found c.in-Got.n c.lines.journal c.next_line.new.self c.next_line.new.buf _ _ loading.2 (c.in-Got.ensures.told found),
+        walk_more (λ (old : Loading) (l : Bytes) (new : Loading). LoadStep old l Ran new) (loading opening.store) found
+            (loading_in c.lines.machine) line (loading_in c.load.new.self) begun.1 c.in-Ran.ensures.loads,
+        read_line found c.in-Got.n c.lines.journal c.next_line.new.self c.next_line.new.buf _ _ begun.2 (c.in-Got.ensures.told found),
       );
       fresh = c.in-Ran.ensures.rest ∙ ap (λ (st : State). record st { store = c.load.new.self.state.store }) c.lines.invariant.fresh;
       faults = c.in-Got.ensures.faults ∙ c.lines.invariant.faults;
@@ -46,22 +54,22 @@ lines-preserved g c =
 
 pub returns-in-Refused : goal.returns-in-Refused
 returns-in-Refused g c =
-    let loading = c.lines.invariant.loading in
-    let found = loading.0 in
+    let begun = c.lines.invariant.loading in
+    let found = begun.0 in
     let told = g.D.Disk.told c.next_line.new.disk in
-    let still = read_still found c.lines.journal _ _ _ loading.2 (c.in-Got.ensures.told found) in
-    let behind = read_line found c.in-Got.n c.lines.journal c.next_line.new.self c.next_line.new.buf _ _ loading.2 (c.in-Got.ensures.told found) in
+    let still = read_still found c.lines.journal _ _ _ begun.2 (c.in-Got.ensures.told found) in
+    let behind = read_line found c.in-Got.n c.lines.journal c.next_line.new.self c.next_line.new.buf _ _ begun.2 (c.in-Got.ensures.told found) in
     record {
       caused = (
         c.in-Got.ensures.faults ∙ c.lines.invariant.faults,
         inr (record {
           found = found;
-          store = c.lines.machine.state.store;
-          loads = loading.1;
+          end = loading_in c.lines.machine;
+          loads = begun.1;
           stands = subst (λ (k : ℕ). IfSome told (λ h. IsAt found k h.file)) (sym c.place-at.ensures) still;
           bad = inr (record {
             line = take c.in-Got.n c.next_line.new.buf;
-            same = c.load.new.self.state.store;
+            same = loading_in c.load.new.self;
             refuses = c.in-Refused.ensures.loads;
             stands = stands_behind found _ c.next_line.new.self told behind;
           });
@@ -80,15 +88,14 @@ returns-in-NoMem g c = record {
 
 pub returns-in-End : goal.returns-in-End
 returns-in-End g c =
-    let loading = c.lines.invariant.loading in
-    let found = loading.0 in
+    let begun = c.lines.invariant.loading in
+    let found = begun.0 in
     record {
       found = found;
-      gate = c.lines.journal;
-      at = c.of.ensures ∙ ap (λ (k : ℕ). Some k) c.in-End.ensures.place;
-      loads = loading.1;
+      loads = begun.1;
       fresh = c.lines.invariant.fresh;
-      idle = read_end found c.lines.journal c.next_line.new.self c.next_line.new.buf _ _ loading.2 (c.in-End.ensures.told found);
+      idle = subst (λ (k : ℕ). IfSome (g.D.Disk.told c.next_line.new.disk) (λ h. IsIdle found k h.file)) (sym c.in-End.ensures.place)
+          (read_end found c.lines.journal c.next_line.new.self c.next_line.new.buf _ _ begun.2 (c.in-End.ensures.told found));
       same = same_both _ _ _ _ c.lines.invariant.same (c.in-End.ensures.told found);
       faults = c.in-End.ensures.faults ∙ c.lines.invariant.faults;
       unlisted = c.lines.invariant.unlisted;
@@ -96,13 +103,13 @@ returns-in-End g c =
 
 pub returns-in-BadLog : goal.returns-in-BadLog
 returns-in-BadLog g c =
-    let loading = c.lines.invariant.loading in
-    let found = loading.0 in
-    let bad = read_bad found c.in-BadLog.at c.lines.journal c.next_line.new.self c.next_line.new.buf _ _ loading.2 (c.in-BadLog.ensures.told found) in
+    let begun = c.lines.invariant.loading in
+    let found = begun.0 in
+    let bad = read_bad found c.in-BadLog.at c.lines.journal c.next_line.new.self c.next_line.new.buf _ _ begun.2 (c.in-BadLog.ensures.told found) in
     record {
       caused = (
         c.in-BadLog.ensures.faults ∙ c.lines.invariant.faults,
-        inr (record { found = found; store = c.lines.machine.state.store; loads = loading.1; stands = bad.0; bad = inl bad.1 }),
+        inr (record { found = found; end = loading_in c.lines.machine; loads = begun.1; stands = bad.0; bad = inl bad.1 }),
       );
       same = same_both _ _ _ _ c.lines.invariant.same (c.in-BadLog.ensures.told found);
       unlisted = c.lines.invariant.unlisted;

@@ -4,7 +4,8 @@ use Rattle.djq_disk.specs.History.{WhereTold}
 use Rattle.djq_journal.specs.Standing.{IsAt}
 use Rattle.djq_model.specs.Data.{Bytes}
 use Rattle.djq_machine.specs.State.{opening}
-use Rattle.djq_machine.specs.Loading.{Loads}
+use Rattle.djq_machine.specs.Loading.{loading, Loads}
+use Rattle.djq_core.specs.Views.{loading_in}
 use Rattle.djq.proofs.log.load_lines.Given as goal
 
 -- The lines so far were found, and are loaded.
@@ -12,7 +13,7 @@ abbrev pub invariant-lines : goal.invariant-lines
 invariant-lines g l =
     let told = g.D.Disk.told in
     record {
-      loading : (found : List Bytes) × Loads opening.store found l.machine.state.store × IfSome (told l.disk) (λ h. IsAt found l.journal h.file);
+      loading : (found : List Bytes) × Loads (loading opening.store) found (loading_in l.machine) × IfSome (told l.disk) (λ h. IsAt found l.journal h.file);
       fresh : l.machine.state ≡ record opening { store = l.machine.state.store };
       faults : g.D.Disk.faults l.disk ≡ g.D.Disk.faults l.fn.disk;
       same : WhereTold (told l.fn.disk) (told l.disk) (λ o n. n ≡ o);

@@ -1,10 +1,12 @@
-use Rattle.std.proofs.Common.{[], Bor, sym, subst}
-use Rattle.std.specs.Prelude.{Option, None, Ok}
+use Rattle.std.proofs.Common.{[], Bor, refl, sym, ap, subst}
+use Rattle.std.specs.Prelude.{Option, Ok, Err}
 use Rattle.djq_model.specs.Data.{Bytes}
+use Rattle.djq_machine.specs.State.{State}
 use Rattle.djq_machine.specs.Call.{counts}
-use Rattle.djq.specs.Logged.{LogSeen, disk_seen, log_seen}
+use Rattle.djq_core.specs.Views.{loading_in}
+use Rattle.djq.specs.Logged.{disk_seen, log_seen}
 use Rattle.djq.specs.Parts.{OpensLog}
-use Rattle.djq.proofs.Logging.{begins_empty, loaded_begins, unloaded_begins}
+use Rattle.djq.proofs.Logging.{begins_empty, ended_begins, unended_begins}
 use Rattle.djq.proofs.Replaying.{match_so}
 use Rattle.djq.proofs.log.open_log.Goals as goal
 
@@ -14,28 +16,48 @@ returns-in_default g c =
     let before = c.args.steps.now in
     let counted = counts before.listing before.update before.rows in
     subst
-    (λ (path : Option (Bor Bytes)). OpensLog (log_seen path seen seen) (Ok c.nowhere.result) c.args.machine.now.state counted counted)
-    (sym c.in_default.is)
-    ([], begins_empty counted c.args.machine.now.state c.requires, c.nowhere.ensures)
+    (λ (path : Option (Bor Bytes)). OpensLog (log_seen path seen seen) (Ok c.nowhere.result) c.args.machine.now.state
+    counted counted) (sym c.in_default.is)
+    ([], [], begins_empty counted c.args.machine.now.state c.requires.fresh, c.nowhere.ensures)
 
-pub load_lines-requires : goal.load_lines-requires
-load_lines-requires g c = record { fresh = c.requires; first = c.in-Ok.ensures.first }
+pub end_batch-requires : goal.end_batch-requires
+end_batch-requires g c = record { none = ap (λ (st : State). st.sessions) c.in-Ok.ensures.fresh }
 
 pub returns-in-Ok : goal.returns-in-Ok
 returns-in-Ok g c =
     let told = g.D.Disk.told in
     let faults = g.D.Disk.faults in
     let before = c.args.steps.now in
-    let now = c.load_lines.new.steps in
+    let then = c.read_log.new.steps in
+    let now = c.end_batch.new.steps in
     let counted = counts before.listing before.update before.rows in
     let loaded = counts now.listing now.update now.rows in
     let first = disk_seen (told c.args.disk.now) (faults c.args.disk.now) in
-    let mid = disk_seen (told c.open_journal.new.disk) (faults c.open_journal.new.disk) in
-    let last = disk_seen (told c.load_lines.new.disk) (faults c.load_lines.new.disk) in
-    let state = c.load_lines.new.machine.state in
-    let log : LogSeen = record { path = c.in-Some.path.now; before = first; now = last } in
-    subst (λ (path : Option (Bor Bytes)). OpensLog (log_seen path first last) c.load_lines.result state counted loaded) (sym c.in-Some.is)
-    (match_so c.load_lines.result _ _ _ _
-    (λ gate loads. loaded_begins log c.in-Ok.journal mid gate state counted loaded c.in-Ok.ensures loads)
-    (λ status stops. unloaded_begins log c.in-Ok.journal mid status counted loaded c.in-Ok.ensures stops)
-    c.load_lines.ensures)
+    let mid = disk_seen (told c.read_log.new.disk) (faults c.read_log.new.disk) in
+    let last = disk_seen (told c.end_batch.new.disk) (faults c.end_batch.new.disk) in
+    let state = c.read_log.new.machine.state in
+    let start = c.end_batch.new.machine.state in
+    let end = loading_in c.read_log.new.machine in
+    let new = loading_in c.end_batch.new.machine in
+    let path = c.in-Some.path.now in
+    let ended = c.end_batch.ensures in
+    subst (λ (path : Option (Bor Bytes)). OpensLog (log_seen path first last) c.end_batch.result start counted loaded)
+    (sym c.in-Some.is)
+    (match_so c.end_batch.result _ _ _ _
+    (λ log ends. ended_begins path first mid last c.in-Ok.journal log end new state start counted loaded then.listing
+    c.in-Ok.ensures ends refl ended.rest ended.listing)
+    (λ status cant. unended_begins path first mid last c.in-Ok.journal status end state counted loaded then.listing
+    c.in-Ok.ensures cant ended.listing)
+    ended.ends)
+
+pub returns-in-Err : goal.returns-in-Err
+returns-in-Err g c =
+    let told = g.D.Disk.told in
+    let faults = g.D.Disk.faults in
+    let before = c.args.steps.now in
+    let now = c.read_log.new.steps in
+    let first = disk_seen (told c.args.disk.now) (faults c.args.disk.now) in
+    let last = disk_seen (told c.read_log.new.disk) (faults c.read_log.new.disk) in
+    subst (λ (path : Option (Bor Bytes)). OpensLog (log_seen path first last) (Err c.in-Err.status)
+    c.read_log.new.machine.state (counts before.listing before.update before.rows)
+    (counts now.listing now.update now.rows)) (sym c.in-Some.is) c.in-Err.ensures

@@ -15,7 +15,7 @@ pub returns-in_default-vec : goal.returns-in_default-vec
 returns-in_default-vec g c = inr (inr (never_began c.args.path _ _, refl))
 
 pub open_log-requires : goal.open_log-requires
-open_log-requires g c = c.in-Ok.ensures.state
+open_log-requires g c = record { fresh = c.in-Ok.ensures.state; closed = c.in-Ok.ensures.batch }
 
 pub returns-in-Err : goal.returns-in-Err
 returns-in-Err g c = inr (inr (c.in-Err.ensures, refl))
@@ -24,13 +24,13 @@ pub serve_logged-served-requires-clause-room : goal.serve_logged-served-requires
 serve_logged-served-requires-clause-room g c = omega (arith, c.in-Ok-vec.ensures.len, c.deref_mut.ensures.len)
 
 pub serve_logged-served-requires-clause-none : goal.serve_logged-served-requires-clause-none
-serve_logged-served-requires-clause-none g c = ap (λ (st : State). st.sessions) (c.in-Ok-open_log.ensures.1).fresh
+serve_logged-served-requires-clause-none g c = ap (λ (st : State). st.sessions) (c.in-Ok-open_log.ensures.2).fresh
 
 pub serve_logged-served-requires-clause-alone : goal.serve_logged-served-requires-clause-alone
 serve_logged-served-requires-clause-alone g c = ap (λ (ids : Ids). ids.open_ids) c.in-Ready.ensures.ids ∙ c.requires
 
 pub serve_logged-served-requires-clause-going : goal.serve_logged-served-requires-clause-going
-serve_logged-served-requires-clause-going g c = ap (λ (st : State). st.stopped) (c.in-Ok-open_log.ensures.1).fresh
+serve_logged-served-requires-clause-going g c = ap (λ (st : State). st.stopped) (c.in-Ok-open_log.ensures.2).fresh
 
 pub returns-in-Ready : goal.returns-in-Ready
 returns-in-Ready g c =
@@ -49,18 +49,20 @@ returns-in-Ready g c =
     let last = disk_seen (told c.serve_logged-served.new.disk) (faults c.serve_logged-served.new.disk) in
     inl (record {
       found = begun.0;
+      first = begun.1;
       start = c.open_log.new.machine.state;
       loaded = counts now.listing now.update now.rows;
-      begins = begins_still c.args.path first then last begun.0 (counts before.listing before.update before.rows) c.open_log.new.machine.state
-          (counts now.listing now.update now.rows) begun.1;
+      begins = begins_still c.args.path first then last begun.0 begun.1
+          (counts before.listing before.update before.rows) c.open_log.new.machine.state
+          (counts now.listing now.update now.rows) begun.2;
       ready = shown (past c.listen.new.self) (script c.listen.new.self) (ids c.listen.new.self);
       listens = record { past = heard.past; script = heard.script; ids = heard.ids };
       state = c.serve_logged-served.new.machine.state;
       answer = c.serve_logged-served.result;
       ends = (served.logs).ends;
       faults = faults_from c.serve_logged-served.result _ _ _ heard.faults served.faults;
-      logs = logs_kept c.args.path begun.0 c.serve_logged-served.result _ c.in-Ok-open_log.log c.serve_logged-served.new.log
-          first then last begun.2 (served.logs).kept served.disk served.nowhere;
+      logs = logs_kept c.args.path begun.0 begun.1 c.serve_logged-served.result _ c.in-Ok-open_log.log c.serve_logged-served.new.log
+          first then last begun.3 (served.logs).kept served.disk served.nowhere;
       silent = (served.logs).silent;
       is = c.ended_status.ensures;
     })
@@ -71,10 +73,11 @@ returns g c =
     let unheard = c.in-Failed.ensures in
     inr (inl (record {
       found = begun.0;
+      first = begun.1;
       start = c.open_log.new.machine.state;
-      begins = begun.1;
+      begins = begun.2;
       gate = c.in-Ok-open_log.log;
-      lines = begun.2;
+      lines = begun.3;
       listens = record { past = unheard.past; script = unheard.script; ids = unheard.ids };
       faults = unheard.faults;
       is = refl;

@@ -14,7 +14,7 @@ pub returns-in_default-vec : goal.returns-in_default-vec
 returns-in_default-vec g c = nothing_comes c.args.path _ (Ok c.args.hub.script.turns) c.args.bytes.now _
 
 pub open_log-requires : goal.open_log-requires
-open_log-requires g c = c.in-Ok.ensures.state
+open_log-requires g c = record { fresh = c.in-Ok.ensures.state; closed = c.in-Ok.ensures.batch }
 
 pub returns-in-Err : goal.returns-in-Err
 returns-in-Err g c = inl c.in-Err.ensures
@@ -23,10 +23,10 @@ pub of-hub-requires : goal.of-hub-requires
 of-hub-requires g c = made_steady c.args.bytes.now c.args.hub c.requires
 
 pub serve_logged-served-requires-clause-none : goal.serve_logged-served-requires-clause-none
-serve_logged-served-requires-clause-none g c = ap (λ (st : State). st.sessions) (c.in-Ok-open_log.ensures.1).fresh
+serve_logged-served-requires-clause-none g c = ap (λ (st : State). st.sessions) (c.in-Ok-open_log.ensures.2).fresh
 
 pub serve_logged-served-requires-clause-going : goal.serve_logged-served-requires-clause-going
-serve_logged-served-requires-clause-going g c = ap (λ (st : State). st.stopped) (c.in-Ok-open_log.ensures.1).fresh
+serve_logged-served-requires-clause-going g c = ap (λ (st : State). st.stopped) (c.in-Ok-open_log.ensures.2).fresh
 
 pub returns : goal.returns
 returns g c =
@@ -44,9 +44,9 @@ returns g c =
     let begun = c.in-Ok-open_log.ensures in
     let served = c.serve_logged-served.ensures in
     let then = disk_seen (told c.open_log.new.disk) (faults c.open_log.new.disk) in
-    let begins = begins_still c.args.path first then last begun.0 counted c.open_log.new.machine.state loaded begun.1 in
-    let kept = logs_kept c.args.path begun.0 c.serve_logged-served.result _ c.in-Ok-open_log.log c.serve_logged-served.new.log first
-    then last begun.2 (served.logs).kept served.disk served.nowhere in
-    schedule_served c.tell_sent.result (λ made. made.0.items) (λ made. made.1) log begun.0 c.args.bytes.now c.args.hub c.of-hub.result c.serve_logged-served.new.hub
+    let begins = begins_still c.args.path first then last begun.0 begun.1 counted c.open_log.new.machine.state loaded begun.2 in
+    let kept = logs_kept c.args.path begun.0 begun.1 c.serve_logged-served.result _ c.in-Ok-open_log.log c.serve_logged-served.new.log first
+    then last begun.3 (served.logs).kept served.disk served.nowhere in
+    schedule_served c.tell_sent.result (λ made. made.0.items) (λ made. made.1) log begun.0 begun.1 c.args.bytes.now c.args.hub c.of-hub.result c.serve_logged-served.new.hub
     c.serve_logged-served.result _ counted loaded counted' c.open_log.new.machine.state c.serve_logged-served.new.machine.state c.ended_status.result begins c.requires c.of-hub.ensures
     (ap (λ (n : ℕ). n + 1) c.count_lines-most.ensures.counted) (record { ends = (served.logs).ends; logs = kept; silent = (served.logs).silent }) served.faults c.ended_status.ensures c.tell_sent.ensures

@@ -1,6 +1,6 @@
 use Rattle.std.proofs.Common.{false, true, refl, sym, subst, arith}
 use Rattle.djq_lines.specs.declared.command.Command.{Command}
-use Rattle.djq_lines.specs.declared.command.Command.TheVariants.{Open, Next, Close, Has, Watch, Unwatch, Explain, Shape, Quit, Stop}
+use Rattle.djq_lines.specs.declared.command.Command.TheVariants.{Open, Next, Close, Has, Watch, Unwatch, Explain, Shape, Batch, Quit, Stop}
 use Rattle.djq_model.specs.Data.{Tuple}
 use Rattle.djq_core.specs.Performs.{Executes, ExecutesKeeping}
 use Rattle.djq_core.proofs.Continuing.{counting}
@@ -54,6 +54,12 @@ returns-in-Shape g c =
     subst (λ (command : Command). ExecutesKeeping command false false c.args.engine.now c.args.session.now c.args.engine.now c.run_shape.new.session c.args.steps.now.listing c.args.steps.now.listing) (sym c.in-Shape.is)
     (unkept (Shape c.in-Shape.query) false c.args.engine.now c.args.session.now c.args.engine.now c.run_shape.new.session c.args.steps.now.listing c.args.steps.now.listing refl
     (counting _ false c.args.engine.now c.args.session.now c.args.engine.now c.run_shape.new.session c.args.steps.now.listing c.args.steps.now.listing (omega arith) c.run_shape.ensures))
+
+pub returns-in-Batch : goal.returns-in-Batch
+returns-in-Batch g c =
+    subst (λ (command : Command). ExecutesKeeping command false false c.args.engine.now c.args.session.now c.args.engine.now c.run_batch.new.session c.args.steps.now.listing c.args.steps.now.listing) (sym c.in-Batch.is)
+    (unkept Batch false c.args.engine.now c.args.session.now c.args.engine.now c.run_batch.new.session c.args.steps.now.listing c.args.steps.now.listing refl
+    (counting _ false c.args.engine.now c.args.session.now c.args.engine.now c.run_batch.new.session c.args.steps.now.listing c.args.steps.now.listing (omega arith) c.run_batch.ensures))
 
 pub returns-in-Quit : goal.returns-in-Quit
 returns-in-Quit g c =

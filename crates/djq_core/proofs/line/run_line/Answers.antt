@@ -1,4 +1,4 @@
-use Rattle.std.proofs.Common.{◌≡◌, refl, subst, take, drop, false, Ok, Err}
+use Rattle.std.proofs.Common.{◌≡◌, ◌∙◌, ap, subst, take, drop, false, Ok, Err}
 use Rattle.djq_model.specs.Data.{Bytes, Tuple}
 use Rattle.djq_lines.specs.Reply.{refusal_line}
 use Rattle.djq_lines.specs.declared.answer.Refusal.{Refusal}
@@ -9,9 +9,11 @@ use Rattle.djq_value.specs.Token.{tokens}
 use Rattle.djq_session.specs.Dialog.{Replies}
 use Rattle.djq_core.specs.Changing.{Adds, Deletes}
 use Rattle.djq_core.specs.declared.change.Left.TheVariants.{Telling}
-use Rattle.djq_core.proofs.Taking.{runs}
-use Rattle.djq_core.proofs.Leaving.{line_leaves}
-use Rattle.djq_core.proofs.Saying.{reads_as, reads_err, short_to_add, short_to_delete}
+use Rattle.djq_core.specs.Stepping.{refused_as}
+use Rattle.djq_core.specs.Views.{Talk}
+use Rattle.djq_core.proofs.Taking.{reads_refused, runs}
+use Rattle.djq_core.proofs.Leaving.{line_leaves, tells_alone}
+use Rattle.djq_core.proofs.Saying.{reads_as, refused_alone, short_to_add, short_to_delete}
 use Rattle.djq_core.proofs.line.run_line.Goals as goal
 
 pub new-requires : goal.new-requires
@@ -28,7 +30,9 @@ returns-in-Add g c =
     let adds = subst (λ (values : Tuple). Adds c.args.engine.now name values c.run_add-outcome.result c.run_add-outcome.new.engine c.args.steps.now.listing c.run_add-outcome.new.steps.listing) c.as_slice.ensures.value named in
     line_leaves (Telling c.run_add-outcome.result) c.args.engine.now old c.take_line.new.self line (drop c.args.rest old.held) (Add name row) c.run_add-outcome.new.engine c.take_line.new.self c.args.steps.now.listing c.run_add-outcome.new.steps.listing
     c.requires.front c.take_line.ensures c.requires.said c.requires.few c.requires.ready.running c.requires.ready.room
-    (reads_as line (Add name row) said) (adds, refl)
+    (reads_as line (Add name row) said) (λ h. absurd h)
+    (tells_alone c.run_add-outcome.result c.args.engine.now c.take_line.new.self c.run_add-outcome.new.engine c.args.steps.now.listing c.run_add-outcome.new.steps.listing (Add name row)
+    (ap (λ (d : Talk). d.batch) c.take_line.ensures ∙ c.requires.alone) adds)
 
 pub new-requires-in-Del : goal.new-requires-in-Del
 new-requires-in-Del g c = short_to_delete (take c.args.end c.held.result.now) c.in-Del.name.now c.read_row.new.row.items c.in-Del.ensures
@@ -44,7 +48,9 @@ returns-in-Del g c =
     let deletes = subst (λ (values : Tuple). Deletes c.args.engine.now name values c.run_del-outcome.result c.run_del-outcome.new.engine c.args.steps.now.listing c.run_del-outcome.new.steps.listing) c.as_slice-in-Del.ensures.value named in
     line_leaves (Telling c.run_del-outcome.result) c.args.engine.now old c.take_line-in-Del.new.self line (drop c.args.rest old.held) (Del name row) c.run_del-outcome.new.engine c.take_line-in-Del.new.self c.args.steps.now.listing c.run_del-outcome.new.steps.listing
     c.requires.front c.take_line-in-Del.ensures c.requires.said c.requires.few c.requires.ready.running c.requires.ready.room
-    (reads_as line (Del name row) said) (deletes, refl)
+    (reads_as line (Del name row) said) (λ h. absurd h)
+    (tells_alone c.run_del-outcome.result c.args.engine.now c.take_line-in-Del.new.self c.run_del-outcome.new.engine c.args.steps.now.listing c.run_del-outcome.new.steps.listing (Del name row)
+    (ap (λ (d : Talk). d.batch) c.take_line-in-Del.ensures ∙ c.requires.alone) deletes)
 
 pub returns-in-Refused : goal.returns-in-Refused
 returns-in-Refused g c =
@@ -54,7 +60,8 @@ returns-in-Refused g c =
     let reply = subst (λ (r : Refusal). Replies c.take_line-in-Refused.new.self c.refuse.new.self (refusal_line r)) c.refusal_of.ensures c.refuse.ensures in
     runs false false c.args.engine.now old c.take_line-in-Refused.new.self line (drop c.args.rest old.held) c.args.engine.now c.refuse.new.self c.args.steps.now.listing c.args.steps.now.listing
     c.requires.front c.take_line-in-Refused.ensures c.requires.said c.requires.few
-    (reads_err c.args.engine.now c.take_line-in-Refused.new.self c.refuse.new.self line c.in-Refused.refusal c.args.steps.now.listing said reply)
+    (reads_refused c.args.engine.now c.take_line-in-Refused.new.self c.refuse.new.self line (refused_as c.in-Refused.refusal) c.args.steps.now.listing
+    (refused_alone c.take_line-in-Refused.new.self.batch line c.in-Refused.refusal (ap (λ (d : Talk). d.batch) c.take_line-in-Refused.ensures ∙ c.requires.alone) said) reply)
 
 pub run_other-requires-clause-other : goal.run_other-requires-clause-other
 run_other-requires-clause-other g c = subst (λ (bs : Bytes). begins_row (tokens (take c.args.end bs)) ≡ false) c.held.ensures c.in-Other.ensures.0

@@ -1,7 +1,7 @@
 use Rattle.std.proofs.Common.{ℕ, ◌∙◌, sym, ap, subst, nat_le, ◌+◌, is_some, Option, false}
 use Rattle.djq_lines.specs.declared.answer.EndCause.{EndCause}
 use Rattle.djq_lines.specs.declared.limits.TheConstants.{REPLY_BYTES, LAST_LINE_BYTES}
-use Rattle.djq_lines.specs.Reply.{add_reply, delete_reply}
+use Rattle.djq_lines.specs.Reply.{add_reply, delete_reply, done_reply}
 use Rattle.djq_session.specs.Dialog.{Replies}
 use Rattle.djq_core.specs.declared.change.Outcome.{Outcome}
 use Rattle.djq_core.specs.Changing.{reply_of}
@@ -17,7 +17,7 @@ end_by-requires-clause-own c = owns_roomy c.args.engine.now c.args.session.now c
 pub returns-then-is_err : goal.returns-then-is_err
 returns-then-is_err c =
     let running = none_of c.args.session.now.cause (sym (ap (λ (o : Option EndCause). is_some o) c.cause.ensures) ∙ sym c.is_some.ensures ∙ c.if-is_some.false) in
-    answers_end (nat_le (REPLY_BYTES + LAST_LINE_BYTES) c.args.session.now.room) (reply_of c.args.outcome c.args.engine.now.store.seq) c.args.engine.now c.args.session.now c.keep.new.self
+    answers_end (nat_le (REPLY_BYTES + LAST_LINE_BYTES) c.args.session.now.room) (reply_of c.args.outcome.now c.args.engine.now.store.seq) c.args.engine.now c.args.session.now c.keep.new.self
     c.end_by.new.engine c.end_by.new.session running
     (not_roomy c.args.session.now.room (was_small REPLY_BYTES c.args.session.now.room c.keep.new.self.room c.keep.result (sym c.if-is_err.ensures.value) c.keep.ensures.room))
     c.keep.ensures.others c.end_by.ensures.performs
@@ -39,3 +39,12 @@ returns-in-Deleted c =
     (answers_reply (nat_le (REPLY_BYTES + LAST_LINE_BYTES) c.args.session.now.room) (delete_reply c.in-Deleted.result c.args.engine.now.store.seq) c.args.engine.now c.args.session.now c.keep.new.self
     c.answer_deleted.new.self running c.keep.ensures.others
     (subst (λ (n : ℕ). Replies c.keep.new.self c.answer_deleted.new.self (delete_reply c.in-Deleted.result n)) c.seq-in-Deleted.ensures c.answer_deleted.ensures))
+
+pub returns-in-Done : goal.returns-in-Done
+returns-in-Done c =
+    let running = none_of c.args.session.now.cause (sym (ap (λ (o : Option EndCause). is_some o) c.cause.ensures) ∙ sym c.is_some.ensures ∙ c.if-is_some.false) in
+    subst (λ (o : Outcome). Performs (λ st s x e st'. AnswersLast (nat_le (REPLY_BYTES + LAST_LINE_BYTES) c.args.session.now.room) (reply_of o c.args.engine.now.store.seq) st s x e st') false
+    c.args.engine.now c.args.session.now c.args.engine.now c.answer_batch_done.new.self 0 0) (sym c.in-Done.is)
+    (answers_reply (nat_le (REPLY_BYTES + LAST_LINE_BYTES) c.args.session.now.room) (done_reply c.in-Done.result c.args.engine.now.store.seq) c.args.engine.now c.args.session.now c.keep.new.self
+    c.answer_batch_done.new.self running c.keep.ensures.others
+    (subst (λ (n : ℕ). Replies c.keep.new.self c.answer_batch_done.new.self (done_reply c.in-Done.result n)) c.seq-in-Done.ensures c.answer_batch_done.ensures))

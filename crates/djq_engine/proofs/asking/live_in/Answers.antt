@@ -1,6 +1,6 @@
 use Rattle.std.proofs.Common.{arith}
 use Rattle.djq_engine.proofs.Attending.{below_queries, query_kept_there, there_not_none}
-use Rattle.djq_engine.proofs.Reaching.{place_read}
+use Rattle.djq_reach.proofs.Reaching.{place_read}
 use Rattle.djq_engine.proofs.Telling.{lends}
 use Rattle.djq_engine.proofs.asking.live_in.Goals as goal
 

@@ -7,11 +7,12 @@ use Rattle.djq_rows.specs.Changes.{DeletesRow}
 use Rattle.djq_live.specs.Changes.{Went}
 use Rattle.djq_live.specs.Live.{IsKept}
 use Rattle.djq_engine.specs.Changing.{IsOld}
-use Rattle.djq_engine.specs.Places.{is_reader, watched_at}
-use Rattle.djq_engine.specs.Reaching.{AllAt}
-use Rattle.djq_engine.specs.Tending.{AreUnwatched, AreShown, Costs, Tends, TellsAt, Works}
+use Rattle.djq_reach.specs.Places.{is_reader, watched_at}
+use Rattle.djq_reach.specs.Reaching.{AllAt}
+use Rattle.djq_reach.specs.Tending.{AreUnwatched, AreShown, Costs, Tends, TellsAt, Works}
 use Rattle.djq_engine.proofs.Carrying.{readers_kept}
-use Rattle.djq_engine.proofs.Tending.{counts_rows, shown_tended, tells_rows, tells_show, tends_quiet}
+use Rattle.djq_reach.proofs.Tending.{tells_show, tends_quiet}
+use Rattle.djq_engine.proofs.Tending.{counts_rows, shown_tended, tells_rows}
 use Rattle.djq_engine.proofs.Storing.{catalog_same, has_copies, places_read, gone_once, can_go, drop_carries}
 use Rattle.djq_engine.proofs.change.drop_cells.Goals as goal
 

@@ -7,11 +7,12 @@ use Rattle.djq_rows.specs.Catalog.{counted_at}
 use Rattle.djq_rows.specs.Changes.{AddsRow}
 use Rattle.djq_live.specs.Changes.{Came}
 use Rattle.djq_live.specs.Live.{IsKept}
-use Rattle.djq_engine.specs.Places.{is_reader, watched_at}
-use Rattle.djq_engine.specs.Reaching.{AllAt}
-use Rattle.djq_engine.specs.Tending.{AreShown, AreUnwatched, Costs, Shows, Tends, TellsAt, Works}
+use Rattle.djq_reach.specs.Places.{is_reader, watched_at}
+use Rattle.djq_reach.specs.Reaching.{AllAt}
+use Rattle.djq_reach.specs.Tending.{AreShown, AreUnwatched, Costs, Shows, Tends, TellsAt, Works}
 use Rattle.djq_engine.proofs.Carrying.{readers_kept}
-use Rattle.djq_engine.proofs.Tending.{counts_rows, shown_tended, tells_rows, tends_apart, tends_quiet}
+use Rattle.djq_reach.proofs.Tending.{tends_apart, tends_quiet}
+use Rattle.djq_engine.proofs.Tending.{counts_rows, shown_tended, tells_rows}
 use Rattle.djq_engine.proofs.Storing.{
   came,
   came_new,

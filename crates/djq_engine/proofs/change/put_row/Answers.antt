@@ -5,7 +5,7 @@ use Rattle.djq_model.specs.Data.{with_row}
 use Rattle.djq_rows.specs.Catalog.{no_relation, relation_at, counted_at}
 use Rattle.djq_live.specs.Live.{Live}
 use Rattle.djq_live.specs.Updating.{change_of}
-use Rattle.djq_engine.specs.Places.{is_reader, log_at, place_at, readers_at, watched_at}
+use Rattle.djq_reach.specs.Places.{is_reader, log_at, place_at, readers_at, watched_at}
 use Rattle.djq_engine.specs.Changing.{CountsRows, IsDeltaWith}
 use Rattle.djq_engine.proofs.Tending.{shown_more}
 use Rattle.djq_engine.proofs.Carrying.{sound_texts}
@@ -82,6 +82,7 @@ put_cells-requires-clause-tended g c =
     record {
       watched = c.requires.tended.watched;
       logged = c.requires.tended.logged;
+      room = c.requires.tended.room;
       shown = (shown_more c.showable_stays.ensures old.catalog.texts (c.texts_stay.ensures old.catalog.texts (interned old.catalog.texts c.args.row.now c.intern_row.result c.intern_row.new.self.texts c.intern_row.ensures.interns).0).0 c.intern_row.new.self.texts
           ((interned old.catalog.texts c.args.row.now c.intern_row.result c.intern_row.new.self.texts c.intern_row.ensures.interns).1 ∙ (c.texts_stay.ensures old.catalog.texts (interned old.catalog.texts c.args.row.now c.intern_row.result c.intern_row.new.self.texts c.intern_row.ensures.interns).0).1) old.queries.items old.logs.items c.requires.tended.shown);
     }

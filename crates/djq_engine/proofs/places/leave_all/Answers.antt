@@ -1,6 +1,6 @@
 use Rattle.std.proofs.Common.{◌∙◌, ap, sym, subst, arith, ◌<◌, length}
 use Rattle.djq_engine.specs.Places.{left}
-use Rattle.djq_engine.specs.Sound.{AreOnce}
+use Rattle.djq_reach.specs.Places.{AreOnce}
 use Rattle.djq_engine.proofs.Lists.{list_read, left_more, left_whole}
 use Rattle.djq_engine.proofs.places.leave_all.Goals as goal
 

@@ -1,5 +1,6 @@
 use Rattle.std.proofs.Common.{◌≡◌, ◌<◌, ◌≤◌, ℕ, length}
-use Rattle.djq_engine.specs.Places.{left, readers_at}
+use Rattle.djq_reach.specs.Places.{readers_at}
+use Rattle.djq_engine.specs.Places.{left}
 use Rattle.djq_engine.proofs.places.leave_all.Given as goal
 
 abbrev pub invariant-loop-list : goal.invariant-loop-list

@@ -32,5 +32,6 @@ returns-clause-tended g c =
     record {
       watched = c.requires.tended.watched ∙ sym k.long;
       logged = c.requires.tended.logged ∙ sym k.long;
+      room = c.requires.tended.room;
       shown = k.shown c.requires.tended.shown;
     }

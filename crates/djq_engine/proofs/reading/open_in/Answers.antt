@@ -5,7 +5,7 @@ use Rattle.djq_engine.specs.Places.{is_query}
 use Rattle.djq_engine.specs.Whole.{watches_in}
 use Rattle.djq_engine.proofs.Naming.{first_query}
 use Rattle.djq_engine.proofs.Cursors.{open_refused, open_lacks, open_gives}
-use Rattle.djq_engine.specs.Tending.{AreShown}
+use Rattle.djq_reach.specs.Tending.{AreShown}
 use Rattle.djq_engine.proofs.Keeping.{opened_kept}
 use Rattle.djq_engine.proofs.reading.open_in.Goals as goal
 
@@ -40,6 +40,7 @@ returns-in-Ok-clause-tended c =
     record {
       watched = c.requires.tended.watched ∙ sym k.long;
       logged = c.requires.tended.logged ∙ sym k.long;
+      room = c.requires.tended.room;
       shown = k.shown c.requires.tended.shown;
     }
 
@@ -50,5 +51,6 @@ returns-in-Err-clause-tended c =
     record {
       watched = c.requires.tended.watched ∙ sym (ap (λ (gs : List (Option Live)). length gs) e);
       logged = c.requires.tended.logged ∙ sym (ap (λ (gs : List (Option Live)). length gs) e);
+      room = c.requires.tended.room;
       shown = subst (λ (gs : List (Option Live)). AreShown old.catalog.texts gs old.logs.items) (sym e) c.requires.tended.shown;
     }

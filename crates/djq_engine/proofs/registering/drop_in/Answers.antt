@@ -1,13 +1,15 @@
 use Rattle.std.proofs.Common.{◌≡◌, ◌∙◌, List, ap, refl, set, subst, sym, arith, length, length-set, ℕ}
-use Rattle.std.specs.Prelude.{Option, None, IsSomeAnd, position, ⊤}
+use Rattle.std.specs.Prelude.{◌==◌, not, Option, None, IsSomeAnd, position, ⊤}
 use Rattle.djq_live.specs.Cursors.{are_vacant}
 use Rattle.djq_live.specs.Live.{Live}
-use Rattle.djq_engine.specs.Places.{is_query, place_at, watched_at}
+use Rattle.djq_reach.specs.Places.{place_at, watched_at}
+use Rattle.djq_engine.specs.Places.{is_query}
 use Rattle.djq_engine.proofs.Enrolling.{lists_once}
 use Rattle.djq_engine.proofs.Naming.{first_query}
-use Rattle.djq_engine.proofs.Reaching.{place_below}
+use Rattle.djq_reach.proofs.Reaching.{place_below}
 use Rattle.djq_engine.proofs.Refusing.{drop_done, drop_in_use, drop_unknown, drop_watched, idle_as}
 use Rattle.djq_engine.proofs.Tending.{shown_dropped}
+use Rattle.djq_engine.proofs.Reporting.{filter_few}
 use Rattle.djq_engine.proofs.registering.drop_in.Goals as goal
 
 pub returns-in_default-clause-gives : goal.returns-in_default-clause-gives
@@ -53,7 +55,7 @@ returns-clause-whole c =
     let n = first_query old.queries.items c.args.query.now c.in-Some.at (c.in-Some.ensures ∙ ap (position (is_query c.args.query.now)) c.as_slice.ensures.value) in
     (drop_done old c.requires.whole c.args.query.now c.in-Some.at n
     (set old.queries.items c.in-Some.at None) c.leave_out.new.places c.leave_all.new.lists.items
-    c.clear.new.self refl c.leave_out.ensures c.leave_all.ensures
+    c.clear.new.self c.unaffect.new.places.items c.unaffect.ensures.items refl c.leave_out.ensures c.leave_all.ensures
     ((idle_as old.queries.items c.in-Some.at n.query c.is_idle.result n.there
     (subst (λ (gs : List (Option Live)). IsSomeAnd (place_at gs c.in-Some.at) (λ x. c.is_idle.result ≡ are_vacant x.cursors)) c.as_slice-3.ensures.value c.is_idle.ensures)) ∙ c.if-not-is_idle.false)
     (ap (λ (ws : List ℕ). watched_at ws c.in-Some.at) (sym c.as_slice-2.ensures.value) ∙ sym c.if-is_watched.ensures)).0
@@ -64,7 +66,7 @@ returns-clause-gives c =
     let n = first_query old.queries.items c.args.query.now c.in-Some.at (c.in-Some.ensures ∙ ap (position (is_query c.args.query.now)) c.as_slice.ensures.value) in
     (drop_done old c.requires.whole c.args.query.now c.in-Some.at n
     (set old.queries.items c.in-Some.at None) c.leave_out.new.places c.leave_all.new.lists.items
-    c.clear.new.self refl c.leave_out.ensures c.leave_all.ensures
+    c.clear.new.self c.unaffect.new.places.items c.unaffect.ensures.items refl c.leave_out.ensures c.leave_all.ensures
     ((idle_as old.queries.items c.in-Some.at n.query c.is_idle.result n.there
     (subst (λ (gs : List (Option Live)). IsSomeAnd (place_at gs c.in-Some.at) (λ x. c.is_idle.result ≡ are_vacant x.cursors)) c.as_slice-3.ensures.value c.is_idle.ensures)) ∙ c.if-not-is_idle.false)
     (ap (λ (ws : List ℕ). watched_at ws c.in-Some.at) (sym c.as_slice-2.ensures.value) ∙ sym c.if-is_watched.ensures)).1
@@ -76,5 +78,6 @@ returns-clause-tended c =
     record {
       watched = c.requires.tended.watched ∙ sym (length-set old.queries.items c.in-Some.at None);
       logged = length-set old.logs.items c.in-Some.at c.clear.new.self ∙ c.requires.tended.logged ∙ sym (length-set old.queries.items c.in-Some.at None);
+      room = omega (arith, c.requires.tended.room, c.unaffect.ensures.room, filter_few (λ i. not (i == c.in-Some.at)) old.order, ap (λ (xs : List ℕ). length xs) c.leave_out.ensures);
       shown = shown_dropped old.catalog.texts old.queries.items old.logs.items c.in-Some.at c.clear.new.self (place_below old.queries.items c.in-Some.at n.query n.there) c.clear.ensures.lines c.requires.tended.shown;
     }

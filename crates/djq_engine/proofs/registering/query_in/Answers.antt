@@ -12,14 +12,15 @@ use Rattle.djq_machine.specs.Store.{LearnsAll, LearnsFirst}
 use Rattle.djq_rows.specs.Catalog.{Catalog}
 use Rattle.djq_engine.specs.declared.parts.Parts.{Parts}
 use Rattle.djq_engine.specs.Kept.{Registered, TellsOf}
-use Rattle.djq_engine.specs.Places.{id_at, log_at, place_at, query_in, queries_in, readers_at, registered_in, told_from}
-use Rattle.djq_engine.specs.Tending.{AreShown}
-use Rattle.djq_engine.specs.Whole.{kept_in, watches_in, IsWhole}
+use Rattle.djq_reach.specs.Places.{log_at, place_at}
+use Rattle.djq_engine.specs.Places.{id_at, query_in, queries_in, registered_in, told_from}
+use Rattle.djq_reach.specs.Tending.{AreShown}
+use Rattle.djq_engine.specs.Whole.{kept_in, IsWhole}
 use Rattle.std.specs.Prelude.{Option, Some, None, IsSomeAnd, is_some, map, slice_index_or}
 use Rattle.djq_engine.proofs.Enlisted.{enlisted, name_found, registered_none, registered_same}
 use Rattle.djq_engine.proofs.Tending.{shown_enrolled, shown_places}
 use Rattle.djq_engine.proofs.Refusing.{mid_shown, mid_told, all_first, constants_stay, enrolled_cursors, enrolled_queries, enrolled_whole, passes_of, query_done, query_lacks, same_cursors, same_queries, same_whole}
-use Rattle.djq_engine.proofs.Lasting.{tells_of, other_place}
+use Rattle.djq_engine.proofs.Lasting.{other_place}
 use Rattle.djq_engine.proofs.Told.{alike_same, told_empty, told_is}
 use Rattle.djq_engine.proofs.registering.query_in.Goals as goal
 
@@ -159,6 +160,7 @@ returns-in-Err-Full-clause-tended g c =
     record {
       watched = c.requires.tended.watched;
       logged = c.requires.tended.logged;
+      room = c.requires.tended.room;
       shown = mid_shown c.showable_stays.ensures c.texts_stay.ensures old.catalog.texts c.intern_constants-known.new.catalog.texts (constants_of c.args.query) c.intern_constants-known.result c.intern_constants-known.ensures.interns old.queries.items old.logs.items c.requires.tended.shown;
     }
 
@@ -168,6 +170,7 @@ returns-in-Err-NoMem-known-clause-tended g c =
     record {
       watched = c.requires.tended.watched;
       logged = c.requires.tended.logged;
+      room = c.requires.tended.room;
       shown = mid_shown c.showable_stays.ensures c.texts_stay.ensures old.catalog.texts c.intern_constants-known.new.catalog.texts (constants_of c.args.query) c.intern_constants-known.result c.intern_constants-known.ensures.interns old.queries.items old.logs.items c.requires.tended.shown;
     }
 
@@ -177,6 +180,7 @@ returns-in-Err-clause-tended g c =
     record {
       watched = c.requires.tended.watched;
       logged = c.requires.tended.logged;
+      room = c.requires.tended.room;
       shown = mid_shown c.showable_stays.ensures c.texts_stay.ensures old.catalog.texts c.intern_constants-known.new.catalog.texts (constants_of c.args.query) c.intern_constants-known.result c.intern_constants-known.ensures.interns old.queries.items old.logs.items c.requires.tended.shown;
     }
 
@@ -186,6 +190,7 @@ register-requires-clause-tended g c =
     record {
       watched = c.requires.tended.watched;
       logged = c.requires.tended.logged;
+      room = c.requires.tended.room;
       shown = mid_shown c.showable_stays.ensures c.texts_stay.ensures old.catalog.texts c.intern_constants-known.new.catalog.texts (constants_of c.args.query) c.intern_constants-known.result c.intern_constants-known.ensures.interns old.queries.items old.logs.items c.requires.tended.shown;
     }
 
@@ -197,6 +202,7 @@ returns-in-Ok-register-clause-tended g c =
     record {
       watched = r.watched;
       logged = r.logged;
+      room = r.room;
       shown = subst (λ (x : Catalog). AreShown x.texts new.queries.items new.logs.items) (sym r.catalog)
           (shown_enrolled c.intern_constants-known.new.catalog.texts old.queries.items new.queries.items old.logs.items new.logs.items r.place r.others r.empty.lines r.logs (mid_shown c.showable_stays.ensures c.texts_stay.ensures old.catalog.texts c.intern_constants-known.new.catalog.texts (constants_of c.args.query) c.intern_constants-known.result c.intern_constants-known.ensures.interns old.queries.items old.logs.items c.requires.tended.shown));
     }
@@ -209,6 +215,7 @@ returns-in-Err-register-clause-tended g c =
     record {
       watched = r.watched;
       logged = r.logged;
+      room = r.room;
       shown = subst (λ (x : Catalog). AreShown x.texts new.queries.items new.logs.items) (sym r.catalog)
           (shown_places c.intern_constants-known.new.catalog.texts old.queries.items new.queries.items old.logs.items new.logs.items r.queries r.logs (mid_shown c.showable_stays.ensures c.texts_stay.ensures old.catalog.texts c.intern_constants-known.new.catalog.texts (constants_of c.args.query) c.intern_constants-known.result c.intern_constants-known.ensures.interns old.queries.items old.logs.items c.requires.tended.shown));
     }
@@ -261,23 +268,25 @@ returns-in-Ok-register-clause-tellings g c =
     let new = c.register.new.parts in
     let r = c.in-Ok-register.ensures.ok in
     let l = c.in-Ok-build.live in
-    let whole : IsWhole new = returns-in-Ok-register-clause-whole g c in
-    subst (λ (o : Option Registered). IsSomeAnd o (λ x. TellsOf (kept_in old) x.id (Some []) (kept_in new)))
-    (sym (name_found new.catalog new.queries.items new.order new.readers.items new.watchers.items whole c.args.query.name r.place
-    (record { query = l; there = r.here; called = ap (λ (q : Query). q.name) c.in-Ok-build.ensures.query })))
-    (tells_of old.catalog new.catalog old.queries.items new.queries.items old.order new.order old.seq new.seq (watches_in old) (watches_in new) c.requires.whole whole
-    (ap (λ (x : Catalog). x.relations) r.catalog ∙ c.intern_constants-known.ensures.relations) r.changed (id_at r.place) (Some [])
-    (told_is new.catalog.texts new.queries.items new.logs.items r.place
-    ∙ told_empty new.catalog.texts l (place_at new.queries.items r.place) (alike_same (Some l) (place_at new.queries.items r.place) r.here) (log_at new.logs.items r.place) r.empty)
-    (λ other d. ap (λ (x : Catalog). slice_index_or (told_from x.texts new.queries.items new.logs.items) other.at None) r.catalog
-    ∙ mid_told c.showable_stays.ensures c.texts_stay.ensures old.catalog.texts c.intern_constants-known.new.catalog.texts (constants_of c.args.query) c.intern_constants-known.result c.intern_constants-known.ensures.interns old.queries.items new.queries.items old.logs.items new.logs.items c.requires.tended.shown r.logs other.at (r.others other.at (other_place other (id_at r.place) d))))
+    let whole : IsWhole new = returns-in-Ok-register-clause-whole g c in (
+      ap (map id_at) r.affected,
+      subst (λ (o : Option Registered). IsSomeAnd o (λ x. TellsOf (kept_in old) x.id (Some []) (kept_in new)))
+          (sym (name_found new.catalog new.queries.items new.order new.readers.items new.watchers.items whole c.args.query.name r.place
+          (record { query = l; there = r.here; called = ap (λ (q : Query). q.name) c.in-Ok-build.ensures.query })))
+          (record {
+            here = told_is new.catalog.texts new.queries.items new.logs.items r.place
+                ∙ told_empty new.catalog.texts l (place_at new.queries.items r.place) (alike_same (Some l) (place_at new.queries.items r.place) r.here) (log_at new.logs.items r.place) r.empty;
+            others = λ other d. ap (λ (x : Catalog). slice_index_or (told_from x.texts new.queries.items new.logs.items) other.at None) r.catalog
+                ∙ mid_told c.showable_stays.ensures c.texts_stay.ensures old.catalog.texts c.intern_constants-known.new.catalog.texts (constants_of c.args.query) c.intern_constants-known.result c.intern_constants-known.ensures.interns old.queries.items new.queries.items old.logs.items new.logs.items c.requires.tended.shown r.logs other.at (r.others other.at (other_place other (id_at r.place) d));
+          }),
+    )
 
 pub returns-in-Err-register-clause-tellings : goal.returns-in-Err-register-clause-tellings
 returns-in-Err-register-clause-tellings g c =
     let old = c.args.parts.now in
     let new = c.register.new.parts in
     let r = c.in-Err-register.ensures.err in (
-      ap (map id_at) (ap (readers_at new.readers.items) r.changed ∙ r.readers.each old.changed),
+      ap (map id_at) r.affected,
       λ id. ap (λ (x : Catalog). slice_index_or (told_from x.texts new.queries.items new.logs.items) id.at None) r.catalog
           ∙ mid_told c.showable_stays.ensures c.texts_stay.ensures old.catalog.texts c.intern_constants-known.new.catalog.texts (constants_of c.args.query) c.intern_constants-known.result c.intern_constants-known.ensures.interns old.queries.items new.queries.items old.logs.items new.logs.items c.requires.tended.shown r.logs id.at (r.queries id.at),
     )

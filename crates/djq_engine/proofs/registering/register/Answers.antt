@@ -1,10 +1,10 @@
-use Rattle.std.proofs.Common.{◌∙◌, None, Some, refl, sym, ap, ap₂, subst, arith, ℕ, List, length}
+use Rattle.std.proofs.Common.{◌≡◌, ◌∷◌, [], length-append, ◌∙◌, None, Some, refl, sym, ap, ap₂, subst, arith, ℕ, List, length}
 use Rattle.std.proofs.lemmas.List.{get_or-set_same, get_or-set_other, length-set}
 use Rattle.std.specs.Prelude.{remove}
 use Rattle.djq_model.specs.declared.query.Query.{Query}
 use Rattle.djq_cursor.specs.Log.{Log}
 use Rattle.djq_live.specs.Updating.{IsEmpty}
-use Rattle.djq_engine.specs.Places.{no_log}
+use Rattle.djq_reach.specs.Places.{no_log}
 use Rattle.djq_engine.specs.Placing.{JoinsReaders}
 use Rattle.djq_engine.proofs.Lists.{logs_cleared}
 use Rattle.djq_engine.proofs.Enrolling.{lists_once, lists_without, joined_once, joined_left}
@@ -23,6 +23,11 @@ leave_all-requires c =
 pub returns-in-Err-join_readers-clause-err : goal.returns-in-Err-join_readers-clause-err
 returns-in-Err-join_readers-clause-err c =
     let old = c.args.parts.now in
+    let same : c.remove.new.self ≡ old.order = c.remove.ensures.others
+    ∙ ap₂ (λ (l : List ℕ) (k : ℕ). remove l k) c.in-Ok-push.ensures.ok
+    (last_place old.order c.in-Ok.at c.len.result
+    (c.len.ensures ∙ ap length c.in-Ok-push.ensures.ok))
+    ∙ remove_last old.order c.in-Ok.at in
     record {
       queries = c.in-Ok.ensures.same;
       readers = joined_left c.in-Ok.at old.readers.items c.join_readers.new.lists.items
@@ -30,16 +35,13 @@ returns-in-Err-join_readers-clause-err c =
           (lists_without old.catalog old.queries.items old.order old.readers.items c.in-Ok.at
           c.requires.whole (sym (c.in-Ok.ensures.same c.in-Ok.at) ∙ c.in-Ok.ensures.vacant))
           c.in-Err-join_readers.ensures.err c.leave_all.ensures;
-      order = c.remove.ensures.others
-          ∙ ap₂ (λ (l : List ℕ) (k : ℕ). remove l k) c.in-Ok-push.ensures.ok
-          (last_place old.order c.in-Ok.at c.len.result
-          (c.len.ensures ∙ ap length c.in-Ok-push.ensures.ok))
-          ∙ remove_last old.order c.in-Ok.at;
+      order = same;
       catalog = refl;
       seq = refl;
       watchers = c.vacant_place.ensures.watchers;
       logs = c.vacant_place.ensures.logs;
-      changed = refl;
+      affected = c.reserve.ensures.items;
+      room = omega (arith, c.requires.tended.room, c.reserve.ensures.capacity, ap (λ (xs : List ℕ). length xs) same);
       watched = c.vacant_place.ensures.watched;
       logged = c.vacant_place.ensures.logged;
     }
@@ -70,7 +72,9 @@ returns-in-Ok-join_readers-clause-ok c =
           (record { lines = c.clear.ensures.lines; kept = c.clear.ensures.kept });
       logs = logs_cleared c.args.parts.now.queries.items c.args.parts.now.logs.items ls at c.clear.new.self
           (sym (c.in-Ok.ensures.same at) ∙ c.in-Ok.ensures.vacant) c.in-Ok.ensures.logs;
-      changed = refl;
+      affected = c.reserve.ensures.items;
+      room = (let long = length-append c.args.parts.now.order (c.in-Ok.at ∷ []) in
+          omega (arith, long, c.in_ok-reserve.ensures.ok, c.len-listed.ensures, ap (λ (xs : List ℕ). length xs) c.in-Ok-push.ensures.ok));
       watched = length-set ws at 0 ∙ c.in-Ok.ensures.watched ∙ sym (length-set gs at (Some q));
       logged = length-set ls at c.clear.new.self ∙ c.in-Ok.ensures.logged ∙ sym (length-set gs at (Some q));
     }

@@ -50,13 +50,15 @@ use Rattle.djq_engine.proofs.Reporting.{
   registered_now,
   registered_still,
   affected_same,
+  room_kept,
+  readers_few,
   tells_nothing,
   tended_now,
   tended_still,
 }
 use Rattle.djq_cursor.specs.Log.{Log}
-use Rattle.djq_engine.specs.Places.{readers_at}
-use Rattle.djq_engine.specs.Tending.{Empties, HaveLogs}
+use Rattle.djq_reach.specs.Places.{readers_at}
+use Rattle.djq_reach.specs.Tending.{Empties, HaveLogs}
 use Rattle.djq_engine.proofs.Storing.{places_read}
 use Rattle.djq_engine.proofs.Tending.{shown_emptied}
 use Rattle.djq_engine.proofs.Working.{counts_updates}
@@ -109,28 +111,28 @@ returns-in-Err-NoMem-clause-outdates g c =
 pub age_readers-requires-2-clause-once : goal.age_readers-requires-2-clause-once
 age_readers-requires-2-clause-once g c =
     let came = subst (λ (o : AddOutcome). AddsTo c.in_ok-id.id.at c.args.row.now c.args.parts.now (Ok o) c.put_row.new.parts) c.in-Ok-First.field-0-is c.in-Ok-First.ensures.adds in
-    mid_once c.args.parts.now (record c.put_row.new.parts { seq = c.put_row.new.parts.seq + 1; changed = c.in_ok-id.id.at }) c.requires.whole c.in_ok-id.id.at c.in_ok-id.ensures.ok.relation.below
+    mid_once c.args.parts.now (record c.put_row.new.parts { seq = c.put_row.new.parts.seq + 1; affected = c.affect.new.affected }) c.requires.whole c.in_ok-id.id.at c.in_ok-id.ensures.ok.relation.below
     came.1.has.carries c.put_row.ensures.rest.readers c.put_row.ensures.rest.order
     (same_names c.args.parts.now.catalog c.put_row.new.parts.catalog c.in_ok-id.id.at (with_row (counted_at c.args.parts.now.catalog.relations c.in_ok-id.id.at) c.args.row.now) c.in_ok-id.ensures.ok.relation.below came.1.has.relations)
 
 pub age_readers-requires-2-clause-there : goal.age_readers-requires-2-clause-there
 age_readers-requires-2-clause-there g c =
     let came = subst (λ (o : AddOutcome). AddsTo c.in_ok-id.id.at c.args.row.now c.args.parts.now (Ok o) c.put_row.new.parts) c.in-Ok-First.field-0-is c.in-Ok-First.ensures.adds in
-    mid_there c.args.parts.now (record c.put_row.new.parts { seq = c.put_row.new.parts.seq + 1; changed = c.in_ok-id.id.at }) c.requires.whole c.in_ok-id.id.at c.in_ok-id.ensures.ok.relation.below
+    mid_there c.args.parts.now (record c.put_row.new.parts { seq = c.put_row.new.parts.seq + 1; affected = c.affect.new.affected }) c.requires.whole c.in_ok-id.id.at c.in_ok-id.ensures.ok.relation.below
     came.1.has.carries c.put_row.ensures.rest.readers c.put_row.ensures.rest.order
     (same_names c.args.parts.now.catalog c.put_row.new.parts.catalog c.in_ok-id.id.at (with_row (counted_at c.args.parts.now.catalog.relations c.in_ok-id.id.at) c.args.row.now) c.in_ok-id.ensures.ok.relation.below came.1.has.relations)
 
 pub returns-clause-whole : goal.returns-clause-whole
 returns-clause-whole g c =
     let came = subst (λ (o : AddOutcome). AddsTo c.in_ok-id.id.at c.args.row.now c.args.parts.now (Ok o) c.put_row.new.parts) c.in-Ok-First.field-0-is c.in-Ok-First.ensures.adds in
-    (aged c.args.parts.now (record c.put_row.new.parts { seq = c.put_row.new.parts.seq + 1; changed = c.in_ok-id.id.at }) c.requires.whole c.in_ok-id.id.at c.in_ok-id.ensures.ok.relation.below
+    (aged c.args.parts.now (record c.put_row.new.parts { seq = c.put_row.new.parts.seq + 1; affected = c.affect.new.affected }) c.requires.whole c.in_ok-id.id.at c.in_ok-id.ensures.ok.relation.below
     came.1.has.carries c.put_row.ensures.rest.readers c.put_row.ensures.rest.order
     (same_names c.args.parts.now.catalog c.put_row.new.parts.catalog c.in_ok-id.id.at (with_row (counted_at c.args.parts.now.catalog.relations c.in_ok-id.id.at) c.args.row.now) c.in_ok-id.ensures.ok.relation.below came.1.has.relations) c.age_readers-2.new.parts c.args.name.now c.in_ok-id.ensures.ok.relation.named c.age_readers-2.ensures).whole
 
 pub returns-clause-outdates : goal.returns-clause-outdates
 returns-clause-outdates g c =
     let came = subst (λ (o : AddOutcome). AddsTo c.in_ok-id.id.at c.args.row.now c.args.parts.now (Ok o) c.put_row.new.parts) c.in-Ok-First.field-0-is c.in-Ok-First.ensures.adds in
-    (aged c.args.parts.now (record c.put_row.new.parts { seq = c.put_row.new.parts.seq + 1; changed = c.in_ok-id.id.at }) c.requires.whole c.in_ok-id.id.at c.in_ok-id.ensures.ok.relation.below
+    (aged c.args.parts.now (record c.put_row.new.parts { seq = c.put_row.new.parts.seq + 1; affected = c.affect.new.affected }) c.requires.whole c.in_ok-id.id.at c.in_ok-id.ensures.ok.relation.below
     came.1.has.carries c.put_row.ensures.rest.readers c.put_row.ensures.rest.order
     (same_names c.args.parts.now.catalog c.put_row.new.parts.catalog c.in_ok-id.id.at (with_row (counted_at c.args.parts.now.catalog.relations c.in_ok-id.id.at) c.args.row.now) c.in_ok-id.ensures.ok.relation.below came.1.has.relations) c.age_readers-2.new.parts c.args.name.now c.in_ok-id.ensures.ok.relation.named c.age_readers-2.ensures).cursors
 
@@ -140,7 +142,7 @@ returns-clause-adds g c =
     add_done c.args.parts.now c.args.name.now c.args.row.now c.in_ok-id.id.at c.in_ok-id.ensures.ok c.names_tell.ensures c.laws.ensures.names c.put_row.new.parts c.age_readers-2.new.parts
     came.0
     came.1 c.age_readers-2.ensures.catalog (c.age_readers-2.ensures.rest.seq ∙ ap (λ n. n + 1) c.put_row.ensures.rest.seq)
-    (aged c.args.parts.now (record c.put_row.new.parts { seq = c.put_row.new.parts.seq + 1; changed = c.in_ok-id.id.at }) c.requires.whole c.in_ok-id.id.at c.in_ok-id.ensures.ok.relation.below
+    (aged c.args.parts.now (record c.put_row.new.parts { seq = c.put_row.new.parts.seq + 1; affected = c.affect.new.affected }) c.requires.whole c.in_ok-id.id.at c.in_ok-id.ensures.ok.relation.below
     came.1.has.carries c.put_row.ensures.rest.readers c.put_row.ensures.rest.order
     (same_names c.args.parts.now.catalog c.put_row.new.parts.catalog c.in_ok-id.id.at (with_row (counted_at c.args.parts.now.catalog.relations c.in_ok-id.id.at) c.args.row.now) c.in_ok-id.ensures.ok.relation.below came.1.has.relations) c.age_readers-2.new.parts c.args.name.now c.in_ok-id.ensures.ok.relation.named c.age_readers-2.ensures).queries
 
@@ -174,7 +176,7 @@ returns-in-Err-Full-clause-tells g c =
     let old = c.args.parts.now in
     tells_nothing (kept_in old) (kept_in c.put_row.new.parts) c.args.steps.now.listing c.put_row.new.steps.listing
     (subst (λ (r : InternRefusal). IfStill (Err r) (c.put_row.new.steps.listing ≤ c.args.steps.now.listing)) c.in-Err-Full.field-0-is c.in-Err-Full.ensures.idle)
-    (affected_same old c.put_row.new.parts c.put_row.ensures.rest.readers c.put_row.ensures.rest.changed)
+    (affected_same old c.put_row.new.parts c.put_row.ensures.rest.affected)
     (λ id h. told_full c.showable_stays.ensures c.texts_stay.ensures old c.put_row.new.parts c.in_ok-id.id.at c.args.row.now
     (subst (λ (r : InternRefusal). AddsTo c.in_ok-id.id.at c.args.row.now c.args.parts.now (Err r) c.put_row.new.parts) c.in-Err-Full.field-0-is c.in-Err-Full.ensures.adds) c.requires.tended id.at)
 
@@ -184,6 +186,7 @@ returns-in-Err-NoMem-clause-tended g c =
     c.in_ok-id.id.at c.args.name.now (subst (λ (r : InternRefusal). AddsTo c.in_ok-id.id.at c.args.row.now c.args.parts.now (Err r) c.put_row.new.parts) c.in-Err-NoMem.field-0-is c.in-Err-NoMem.ensures.adds).1.carries
     c.put_row.ensures.rest.watchers c.put_row.ensures.rest.order (c.empty_logs.ensures.long
     ∙ c.put_row.ensures.rest.long) c.age_readers.ensures c.requires.tended
+    (room_kept c.args.parts.now c.put_row.new.parts c.requires.tended c.put_row.ensures.rest)
     (shown_emptied c.put_row.new.parts.catalog.texts c.args.parts.now.queries.items c.as_slice.result.now
     c.put_row.new.parts.logs.items c.empty_logs.new.logs.items c.empty_logs.ensures c.put_row.ensures.shown)
 
@@ -214,8 +217,7 @@ returns-in-Err-NoMem-clause-tells g c =
     adds_refused old c.requires.whole c.args.name.now c.args.row.now c.in_ok-id.id.at m.relation c.deltas_exist.ensures
     c.heads_are_bound.ensures c.names_tell.ensures c.laws.ensures.names
     c.args.steps.now.listing c.put_row.new.steps.listing (subst (λ (r : InternRefusal). IfLacking (Err r) (CountsRows c.in_ok-id.id.at (with_row (counted_at c.args.parts.now.catalog.relations c.in_ok-id.id.at) c.args.row.now) c.args.parts.now c.args.steps.now.listing c.put_row.new.steps.listing)) c.in-Err-NoMem.field-0-is c.in-Err-NoMem.ensures.listed) new
-    (affected_same old new (c.age_readers.ensures.rest.readers ∙ c.put_row.ensures.rest.readers)
-    (c.age_readers.ensures.rest.changed ∙ c.put_row.ensures.rest.changed))
+    (affected_same old new (c.age_readers.ensures.rest.affected ∙ c.put_row.ensures.rest.affected))
     (discards_by old mid new c.requires.whole c.in_ok-id.id.at m.relation.below c.put_row.ensures.rest.readers
     (subst (λ (r : InternRefusal). IfLacking (Err r) (KeepsLogs (reads_at c.args.parts.now c.in_ok-id.id.at) c.args.parts.now c.put_row.new.parts)) c.in-Err-NoMem.field-0-is c.in-Err-NoMem.ensures.apart)
     (subst (λ (ls : List Log). Empties (readers_at mid.readers.items c.in_ok-id.id.at) mid.logs.items ls)
@@ -225,12 +227,13 @@ returns-in-Err-NoMem-clause-tells g c =
 
 pub returns-clause-tended : goal.returns-clause-tended
 returns-clause-tended g c =
-    tended_now c.args.parts.now (record c.put_row.new.parts { seq = c.put_row.new.parts.seq + 1; changed = c.in_ok-id.id.at }) c.age_readers-2.new.parts c.in_ok-id.id.at c.args.name.now (subst (λ (o : AddOutcome). AddsTo c.in_ok-id.id.at c.args.row.now c.args.parts.now (Ok o) c.put_row.new.parts) c.in-Ok-First.field-0-is c.in-Ok-First.ensures.adds).1.has.carries
-    c.put_row.ensures.rest.watchers c.put_row.ensures.rest.order c.put_row.ensures.rest.long c.age_readers-2.ensures c.requires.tended c.put_row.ensures.shown
+    tended_now c.args.parts.now (record c.put_row.new.parts { seq = c.put_row.new.parts.seq + 1; affected = c.affect.new.affected }) c.age_readers-2.new.parts c.in_ok-id.id.at c.args.name.now (subst (λ (o : AddOutcome). AddsTo c.in_ok-id.id.at c.args.row.now c.args.parts.now (Ok o) c.put_row.new.parts) c.in-Ok-First.field-0-is c.in-Ok-First.ensures.adds).1.has.carries
+    c.put_row.ensures.rest.watchers c.put_row.ensures.rest.order c.put_row.ensures.rest.long c.age_readers-2.ensures c.requires.tended
+    (omega (arith, room_kept c.args.parts.now c.put_row.new.parts c.requires.tended c.put_row.ensures.rest, c.affect.ensures.room)) c.put_row.ensures.shown
 
 pub returns-clause-watches : goal.returns-clause-watches
 returns-clause-watches g c =
-    registered_now c.args.parts.now (record c.put_row.new.parts { seq = c.put_row.new.parts.seq + 1; changed = c.in_ok-id.id.at }) c.age_readers-2.new.parts c.in_ok-id.id.at c.args.name.now (subst (λ (o : AddOutcome). AddsTo c.in_ok-id.id.at c.args.row.now c.args.parts.now (Ok o) c.put_row.new.parts) c.in-Ok-First.field-0-is c.in-Ok-First.ensures.adds).1.has.carries
+    registered_now c.args.parts.now (record c.put_row.new.parts { seq = c.put_row.new.parts.seq + 1; affected = c.affect.new.affected }) c.age_readers-2.new.parts c.in_ok-id.id.at c.args.name.now (subst (λ (o : AddOutcome). AddsTo c.in_ok-id.id.at c.args.row.now c.args.parts.now (Ok o) c.put_row.new.parts) c.in-Ok-First.field-0-is c.in-Ok-First.ensures.adds).1.has.carries
     c.put_row.ensures.rest.watchers c.put_row.ensures.rest.order c.put_row.ensures.rest.long c.age_readers-2.ensures
 
 pub returns-clause-tells : goal.returns-clause-tells
@@ -238,21 +241,21 @@ returns-clause-tells g c =
     let came = subst (λ (o : AddOutcome). AddsTo c.in_ok-id.id.at c.args.row.now c.args.parts.now (Ok o) c.put_row.new.parts) c.in-Ok-First.field-0-is c.in-Ok-First.ensures.adds in
     adds_done c.args.parts.now c.requires.whole c.args.name.now c.args.row.now c.in_ok-id.id.at c.in_ok-id.ensures.ok.relation c.deltas_exist.ensures c.heads_are_bound.ensures c.names_tell.ensures c.laws.ensures.names
     c.args.steps.now.listing c.put_row.new.steps.listing
-    (record c.put_row.new.parts { seq = c.put_row.new.parts.seq + 1; changed = c.in_ok-id.id.at }) c.age_readers-2.new.parts c.age_readers-2.ensures.logs c.age_readers-2.ensures.catalog
+    (record c.put_row.new.parts { seq = c.put_row.new.parts.seq + 1; affected = c.affect.new.affected }) c.age_readers-2.new.parts c.age_readers-2.ensures.logs c.age_readers-2.ensures.catalog
     (alike_now c.args.parts.now (record c.put_row.new.parts {
       seq = c.put_row.new.parts.seq + 1;
-      changed = c.in_ok-id.id.at;
+      affected = c.affect.new.affected;
     }) c.age_readers-2.new.parts c.in_ok-id.id.at c.args.name.now
     came.1.has.carries
     c.put_row.ensures.rest.watchers c.put_row.ensures.rest.order c.put_row.ensures.rest.long c.age_readers-2.ensures)
-    (c.age_readers-2.ensures.rest.readers ∙ c.put_row.ensures.rest.readers) c.age_readers-2.ensures.rest.changed
+    (c.age_readers-2.ensures.rest.affected ∙ c.affect.ensures.items ∙ ap (λ (rs : List (List ℕ)). readers_at rs c.in_ok-id.id.at) c.put_row.ensures.rest.readers)
     (subst (λ (o : AddOutcome). IfCame (Ok o) (KeepsLogs (tells_at c.args.parts.now c.in_ok-id.id.at) c.args.parts.now c.put_row.new.parts)) c.in-Ok-First.field-0-is c.in-Ok-First.ensures.quiet)
     (told_put c.showable_stays.ensures c.texts_stay.ensures c.args.parts.now c.put_row.new.parts
     c.age_readers-2.new.parts c.in_ok-id.id.at c.args.row.now came.1 c.age_readers-2.ensures.catalog
     c.requires.tended
     (alike_now c.args.parts.now (record c.put_row.new.parts {
       seq = c.put_row.new.parts.seq + 1;
-      changed = c.in_ok-id.id.at;
+      affected = c.affect.new.affected;
     }) c.age_readers-2.new.parts c.in_ok-id.id.at c.args.name.now
     came.1.has.carries
     c.put_row.ensures.rest.watchers c.put_row.ensures.rest.order c.put_row.ensures.rest.long c.age_readers-2.ensures))
@@ -337,7 +340,7 @@ returns-in-Ok-More-clause-tells g c =
     let new = c.put_row.new.parts in
     tells_nothing (kept_in c.args.parts.now) (kept_in new) c.args.steps.now.listing c.put_row.new.steps.listing
     (subst (λ (o : AddOutcome). IfStill (Ok o) (c.put_row.new.steps.listing ≤ c.args.steps.now.listing)) c.in-Ok-More.field-0-is c.in-Ok-More.ensures.idle)
-    (affected_same c.args.parts.now new c.put_row.ensures.rest.readers c.put_row.ensures.rest.changed)
+    (affected_same c.args.parts.now new c.put_row.ensures.rest.affected)
     (λ id h. told_same c.args.parts.now new more.has.texts more.has.queries more.has.logs id.at)
 
 pub returns-in-Ok-More-clause-updates : goal.returns-in-Ok-More-clause-updates
@@ -364,3 +367,13 @@ pub returns-clause-unlisted : goal.returns-clause-unlisted
 returns-clause-unlisted g c none =
     c.put_row.ensures.unlisted (unwatched_readers c.args.parts.now.catalog c.args.parts.now.queries.items c.args.parts.now.order c.args.parts.now.readers.items c.args.parts.now.watchers.items c.requires.whole
     c.in_ok-id.id.at c.in_ok-id.ensures.ok.relation.below none)
+
+pub affect-requires-clause-within : goal.affect-requires-clause-within
+affect-requires-clause-within g c =
+    readers_within c.args.parts.now c.put_row.new.parts c.requires.whole c.in_ok-id.id.at c.in_ok-id.ensures.ok.relation.below
+    c.put_row.ensures.rest.readers
+
+pub affect-requires-clause-room : goal.affect-requires-clause-room
+affect-requires-clause-room g c =
+    readers_few c.args.parts.now c.put_row.new.parts c.requires.whole c.in_ok-id.id.at c.in_ok-id.ensures.ok.relation.below
+    c.put_row.ensures.rest c.requires.tended

@@ -6,6 +6,7 @@ use Rattle.djq_rows.specs.Catalog.{Catalog, StandForRow, counted_at}
 use Rattle.djq_live.specs.Live.{Live}
 use Rattle.djq_engine.specs.declared.judge.Deletion.{Deletion}
 use Rattle.djq_engine.specs.Kept.{held_at}
+use Rattle.djq_reach.specs.Places.{readers_at}
 use Rattle.djq_engine.specs.Places.{held_from}
 use Rattle.djq_engine.specs.Judging.{JudgesDelete}
 use Rattle.djq_engine.specs.Changing.{
@@ -34,6 +35,9 @@ use Rattle.djq_engine.proofs.Adding.{
 }
 use Rattle.djq_engine.proofs.Reporting.{
   affected_same,
+  room_kept,
+  readers_few,
+  readers_within,
   alike_now,
   delete_refused_tells,
   deletes_done,
@@ -54,7 +58,7 @@ age_readers-requires-clause-once g c =
     let may = subst (λ (j : Option Deletion). JudgesDelete c.args.parts.now.catalog c.args.name.now c.args.row.now c.args.parts.now.seq j) c.in-Some.is c.in_ok-judged.ensures.ok in
     let stand = subst (λ (cells : List ℕ). StandForRow c.args.parts.now.catalog c.in-Some.found.relation.at cells c.args.row.now) (sym c.as_slice.ensures) (stands c.args.parts.now c.args.name.now c.args.row.now c.in-Some.found may) in
     let went = subst (λ (o : DeleteOutcome). DeletesFrom c.in-Some.found.relation.at c.args.row.now c.args.parts.now o c.drop_cells.new.parts) c.in-Last.is (c.drop_cells.ensures.deletes c.args.row.now stand) in
-    mid_once c.args.parts.now (record c.drop_cells.new.parts { seq = c.drop_cells.new.parts.seq + 1; changed = c.in-Some.found.relation.at }) c.requires.whole c.in-Some.found.relation.at may.relation.below
+    mid_once c.args.parts.now (record c.drop_cells.new.parts { seq = c.drop_cells.new.parts.seq + 1; affected = c.affect.new.affected }) c.requires.whole c.in-Some.found.relation.at may.relation.below
     went.2.has.carries c.drop_cells.ensures.rest.readers c.drop_cells.ensures.rest.order
     (same_names c.args.parts.now.catalog c.drop_cells.new.parts.catalog c.in-Some.found.relation.at (without_copies (counted_at c.args.parts.now.catalog.relations c.in-Some.found.relation.at) c.args.row.now) may.relation.below went.2.has.relations)
 
@@ -63,7 +67,7 @@ age_readers-requires-clause-there g c =
     let may = subst (λ (j : Option Deletion). JudgesDelete c.args.parts.now.catalog c.args.name.now c.args.row.now c.args.parts.now.seq j) c.in-Some.is c.in_ok-judged.ensures.ok in
     let stand = subst (λ (cells : List ℕ). StandForRow c.args.parts.now.catalog c.in-Some.found.relation.at cells c.args.row.now) (sym c.as_slice.ensures) (stands c.args.parts.now c.args.name.now c.args.row.now c.in-Some.found may) in
     let went = subst (λ (o : DeleteOutcome). DeletesFrom c.in-Some.found.relation.at c.args.row.now c.args.parts.now o c.drop_cells.new.parts) c.in-Last.is (c.drop_cells.ensures.deletes c.args.row.now stand) in
-    mid_there c.args.parts.now (record c.drop_cells.new.parts { seq = c.drop_cells.new.parts.seq + 1; changed = c.in-Some.found.relation.at }) c.requires.whole c.in-Some.found.relation.at may.relation.below
+    mid_there c.args.parts.now (record c.drop_cells.new.parts { seq = c.drop_cells.new.parts.seq + 1; affected = c.affect.new.affected }) c.requires.whole c.in-Some.found.relation.at may.relation.below
     went.2.has.carries c.drop_cells.ensures.rest.readers c.drop_cells.ensures.rest.order
     (same_names c.args.parts.now.catalog c.drop_cells.new.parts.catalog c.in-Some.found.relation.at (without_copies (counted_at c.args.parts.now.catalog.relations c.in-Some.found.relation.at) c.args.row.now) may.relation.below went.2.has.relations)
 
@@ -72,7 +76,7 @@ returns-clause-whole g c =
     let may = subst (λ (j : Option Deletion). JudgesDelete c.args.parts.now.catalog c.args.name.now c.args.row.now c.args.parts.now.seq j) c.in-Some.is c.in_ok-judged.ensures.ok in
     let stand = subst (λ (cells : List ℕ). StandForRow c.args.parts.now.catalog c.in-Some.found.relation.at cells c.args.row.now) (sym c.as_slice.ensures) (stands c.args.parts.now c.args.name.now c.args.row.now c.in-Some.found may) in
     let went = subst (λ (o : DeleteOutcome). DeletesFrom c.in-Some.found.relation.at c.args.row.now c.args.parts.now o c.drop_cells.new.parts) c.in-Last.is (c.drop_cells.ensures.deletes c.args.row.now stand) in
-    (aged c.args.parts.now (record c.drop_cells.new.parts { seq = c.drop_cells.new.parts.seq + 1; changed = c.in-Some.found.relation.at }) c.requires.whole c.in-Some.found.relation.at may.relation.below
+    (aged c.args.parts.now (record c.drop_cells.new.parts { seq = c.drop_cells.new.parts.seq + 1; affected = c.affect.new.affected }) c.requires.whole c.in-Some.found.relation.at may.relation.below
     went.2.has.carries c.drop_cells.ensures.rest.readers c.drop_cells.ensures.rest.order
     (same_names c.args.parts.now.catalog c.drop_cells.new.parts.catalog c.in-Some.found.relation.at (without_copies (counted_at c.args.parts.now.catalog.relations c.in-Some.found.relation.at) c.args.row.now) may.relation.below went.2.has.relations) c.age_readers.new.parts c.args.name.now may.relation.named c.age_readers.ensures).whole
 
@@ -83,7 +87,7 @@ returns-clause-deletes g c =
     let went = subst (λ (o : DeleteOutcome). DeletesFrom c.in-Some.found.relation.at c.args.row.now c.args.parts.now o c.drop_cells.new.parts) c.in-Last.is (c.drop_cells.ensures.deletes c.args.row.now stand) in
     delete_done c.args.parts.now c.args.name.now c.args.row.now c.in-Some.found may c.names_tell.ensures c.laws.ensures.names c.drop_cells.new.parts c.age_readers.new.parts
     went c.age_readers.ensures.catalog (c.age_readers.ensures.rest.seq ∙ ap (λ n. n + 1) c.drop_cells.ensures.rest.seq)
-    (aged c.args.parts.now (record c.drop_cells.new.parts { seq = c.drop_cells.new.parts.seq + 1; changed = c.in-Some.found.relation.at }) c.requires.whole c.in-Some.found.relation.at may.relation.below
+    (aged c.args.parts.now (record c.drop_cells.new.parts { seq = c.drop_cells.new.parts.seq + 1; affected = c.affect.new.affected }) c.requires.whole c.in-Some.found.relation.at may.relation.below
     went.2.has.carries c.drop_cells.ensures.rest.readers c.drop_cells.ensures.rest.order
     (same_names c.args.parts.now.catalog c.drop_cells.new.parts.catalog c.in-Some.found.relation.at (without_copies (counted_at c.args.parts.now.catalog.relations c.in-Some.found.relation.at) c.args.row.now) may.relation.below went.2.has.relations) c.age_readers.new.parts c.args.name.now may.relation.named c.age_readers.ensures).queries
 
@@ -92,7 +96,7 @@ returns-clause-outdates g c =
     let may = subst (λ (j : Option Deletion). JudgesDelete c.args.parts.now.catalog c.args.name.now c.args.row.now c.args.parts.now.seq j) c.in-Some.is c.in_ok-judged.ensures.ok in
     let stand = subst (λ (cells : List ℕ). StandForRow c.args.parts.now.catalog c.in-Some.found.relation.at cells c.args.row.now) (sym c.as_slice.ensures) (stands c.args.parts.now c.args.name.now c.args.row.now c.in-Some.found may) in
     let went = subst (λ (o : DeleteOutcome). DeletesFrom c.in-Some.found.relation.at c.args.row.now c.args.parts.now o c.drop_cells.new.parts) c.in-Last.is (c.drop_cells.ensures.deletes c.args.row.now stand) in
-    (aged c.args.parts.now (record c.drop_cells.new.parts { seq = c.drop_cells.new.parts.seq + 1; changed = c.in-Some.found.relation.at }) c.requires.whole c.in-Some.found.relation.at may.relation.below
+    (aged c.args.parts.now (record c.drop_cells.new.parts { seq = c.drop_cells.new.parts.seq + 1; affected = c.affect.new.affected }) c.requires.whole c.in-Some.found.relation.at may.relation.below
     went.2.has.carries c.drop_cells.ensures.rest.readers c.drop_cells.ensures.rest.order
     (same_names c.args.parts.now.catalog c.drop_cells.new.parts.catalog c.in-Some.found.relation.at (without_copies (counted_at c.args.parts.now.catalog.relations c.in-Some.found.relation.at) c.args.row.now) may.relation.below went.2.has.relations) c.age_readers.new.parts c.args.name.now may.relation.named c.age_readers.ensures).cursors
 
@@ -109,13 +113,14 @@ returns-in_default-clause-tells g c =
 
 pub returns-clause-tended : goal.returns-clause-tended
 returns-clause-tended g c =
-    tended_now c.args.parts.now (record c.drop_cells.new.parts { seq = c.drop_cells.new.parts.seq + 1; changed = c.in-Some.found.relation.at }) c.age_readers.new.parts c.in-Some.found.relation.at c.args.name.now (subst (λ (o : DeleteOutcome). DeletesFrom c.in-Some.found.relation.at c.args.row.now c.args.parts.now o c.drop_cells.new.parts) c.in-Last.is (c.drop_cells.ensures.deletes c.args.row.now (subst (λ (cells : List ℕ). StandForRow c.args.parts.now.catalog c.in-Some.found.relation.at cells c.args.row.now) (sym c.as_slice.ensures)
+    tended_now c.args.parts.now (record c.drop_cells.new.parts { seq = c.drop_cells.new.parts.seq + 1; affected = c.affect.new.affected }) c.age_readers.new.parts c.in-Some.found.relation.at c.args.name.now (subst (λ (o : DeleteOutcome). DeletesFrom c.in-Some.found.relation.at c.args.row.now c.args.parts.now o c.drop_cells.new.parts) c.in-Last.is (c.drop_cells.ensures.deletes c.args.row.now (subst (λ (cells : List ℕ). StandForRow c.args.parts.now.catalog c.in-Some.found.relation.at cells c.args.row.now) (sym c.as_slice.ensures)
     (stands c.args.parts.now c.args.name.now c.args.row.now c.in-Some.found (subst (λ (j : Option Deletion). JudgesDelete c.args.parts.now.catalog c.args.name.now c.args.row.now c.args.parts.now.seq j) c.in-Some.is c.in_ok-judged.ensures.ok))))).2.has.carries
-    c.drop_cells.ensures.rest.watchers c.drop_cells.ensures.rest.order c.drop_cells.ensures.rest.long c.age_readers.ensures c.requires.tended c.drop_cells.ensures.shown
+    c.drop_cells.ensures.rest.watchers c.drop_cells.ensures.rest.order c.drop_cells.ensures.rest.long c.age_readers.ensures c.requires.tended
+    (omega (arith, room_kept c.args.parts.now c.drop_cells.new.parts c.requires.tended c.drop_cells.ensures.rest, c.affect.ensures.room)) c.drop_cells.ensures.shown
 
 pub returns-clause-watches : goal.returns-clause-watches
 returns-clause-watches g c =
-    registered_now c.args.parts.now (record c.drop_cells.new.parts { seq = c.drop_cells.new.parts.seq + 1; changed = c.in-Some.found.relation.at }) c.age_readers.new.parts c.in-Some.found.relation.at c.args.name.now (subst (λ (o : DeleteOutcome). DeletesFrom c.in-Some.found.relation.at c.args.row.now c.args.parts.now o c.drop_cells.new.parts) c.in-Last.is (c.drop_cells.ensures.deletes c.args.row.now (subst (λ (cells : List ℕ). StandForRow c.args.parts.now.catalog c.in-Some.found.relation.at cells c.args.row.now) (sym c.as_slice.ensures)
+    registered_now c.args.parts.now (record c.drop_cells.new.parts { seq = c.drop_cells.new.parts.seq + 1; affected = c.affect.new.affected }) c.age_readers.new.parts c.in-Some.found.relation.at c.args.name.now (subst (λ (o : DeleteOutcome). DeletesFrom c.in-Some.found.relation.at c.args.row.now c.args.parts.now o c.drop_cells.new.parts) c.in-Last.is (c.drop_cells.ensures.deletes c.args.row.now (subst (λ (cells : List ℕ). StandForRow c.args.parts.now.catalog c.in-Some.found.relation.at cells c.args.row.now) (sym c.as_slice.ensures)
     (stands c.args.parts.now c.args.name.now c.args.row.now c.in-Some.found (subst (λ (j : Option Deletion). JudgesDelete c.args.parts.now.catalog c.args.name.now c.args.row.now c.args.parts.now.seq j) c.in-Some.is c.in_ok-judged.ensures.ok))))).2.has.carries
     c.drop_cells.ensures.rest.watchers c.drop_cells.ensures.rest.order c.drop_cells.ensures.rest.long c.age_readers.ensures
 
@@ -126,20 +131,20 @@ returns-clause-tells g c =
     let went = subst (λ (o : DeleteOutcome). DeletesFrom c.in-Some.found.relation.at c.args.row.now c.args.parts.now o c.drop_cells.new.parts) c.in-Last.is (c.drop_cells.ensures.deletes c.args.row.now stand) in
     deletes_done c.args.parts.now c.requires.whole c.args.name.now c.args.row.now c.in-Some.found.relation.at may.relation c.deltas_exist.ensures c.heads_are_bound.ensures c.names_tell.ensures c.laws.ensures.names
     c.args.steps.now.listing c.drop_cells.new.steps.listing
-    (record c.drop_cells.new.parts { seq = c.drop_cells.new.parts.seq + 1; changed = c.in-Some.found.relation.at }) c.age_readers.new.parts c.age_readers.ensures.logs c.age_readers.ensures.catalog
+    (record c.drop_cells.new.parts { seq = c.drop_cells.new.parts.seq + 1; affected = c.affect.new.affected }) c.age_readers.new.parts c.age_readers.ensures.logs c.age_readers.ensures.catalog
     (alike_now c.args.parts.now (record c.drop_cells.new.parts {
       seq = c.drop_cells.new.parts.seq + 1;
-      changed = c.in-Some.found.relation.at;
+      affected = c.affect.new.affected;
     }) c.age_readers.new.parts c.in-Some.found.relation.at c.args.name.now
     went.2.has.carries
     c.drop_cells.ensures.rest.watchers c.drop_cells.ensures.rest.order c.drop_cells.ensures.rest.long c.age_readers.ensures)
-    (c.age_readers.ensures.rest.readers ∙ c.drop_cells.ensures.rest.readers) c.age_readers.ensures.rest.changed
+    (c.age_readers.ensures.rest.affected ∙ c.affect.ensures.items ∙ ap (λ (rs : List (List ℕ)). readers_at rs c.in-Some.found.relation.at) c.drop_cells.ensures.rest.readers)
     (subst (λ (o : DeleteOutcome). IfWent o (KeepsLogs (tells_at c.args.parts.now c.in-Some.found.relation.at) c.args.parts.now c.drop_cells.new.parts)) c.in-Last.is c.drop_cells.ensures.quiet)
     (told_drop c.showable_stays.ensures c.args.parts.now c.drop_cells.new.parts c.age_readers.new.parts
     c.in-Some.found.relation.at c.args.row.now went.2 c.age_readers.ensures.catalog c.requires.tended
     (alike_now c.args.parts.now (record c.drop_cells.new.parts {
       seq = c.drop_cells.new.parts.seq + 1;
-      changed = c.in-Some.found.relation.at;
+      affected = c.affect.new.affected;
     }) c.age_readers.new.parts c.in-Some.found.relation.at c.args.name.now
     went.2.has.carries
     c.drop_cells.ensures.rest.watchers c.drop_cells.ensures.rest.order c.drop_cells.ensures.rest.long
@@ -197,7 +202,7 @@ returns-in-Left-clause-tells g c =
     (stands c.args.parts.now c.args.name.now c.args.row.now c.in-Some.found (subst (λ (j : Option Deletion). JudgesDelete c.args.parts.now.catalog c.args.name.now c.args.row.now c.args.parts.now.seq j) c.in-Some.is c.in_ok-judged.ensures.ok))))) in
     tells_nothing (kept_in c.args.parts.now) (kept_in c.drop_cells.new.parts) c.args.steps.now.listing c.drop_cells.new.steps.listing
     (subst (λ (o : DeleteOutcome). IfNoneWent o (c.drop_cells.new.steps.listing ≤ c.args.steps.now.listing)) c.in-Left.is c.drop_cells.ensures.idle)
-    (affected_same c.args.parts.now c.drop_cells.new.parts c.drop_cells.ensures.rest.readers c.drop_cells.ensures.rest.changed)
+    (affected_same c.args.parts.now c.drop_cells.new.parts c.drop_cells.ensures.rest.affected)
     (λ id h. told_same c.args.parts.now c.drop_cells.new.parts gone.3.texts gone.3.queries gone.3.logs id.at)
 
 pub returns-in-Left-clause-updates : goal.returns-in-Left-clause-updates
@@ -242,7 +247,7 @@ returns-in-Absent-clause-tells g c =
     (stands c.args.parts.now c.args.name.now c.args.row.now c.in-Some.found (subst (λ (j : Option Deletion). JudgesDelete c.args.parts.now.catalog c.args.name.now c.args.row.now c.args.parts.now.seq j) c.in-Some.is c.in_ok-judged.ensures.ok))))) in
     tells_nothing (kept_in c.args.parts.now) (kept_in c.drop_cells.new.parts) c.args.steps.now.listing c.drop_cells.new.steps.listing
     (subst (λ (o : DeleteOutcome). IfNoneWent o (c.drop_cells.new.steps.listing ≤ c.args.steps.now.listing)) c.in-Absent.is c.drop_cells.ensures.idle)
-    (affected_same c.args.parts.now c.drop_cells.new.parts c.drop_cells.ensures.rest.readers c.drop_cells.ensures.rest.changed)
+    (affected_same c.args.parts.now c.drop_cells.new.parts c.drop_cells.ensures.rest.affected)
     (λ id h. told_same c.args.parts.now c.drop_cells.new.parts (ap (λ (x : Catalog). x.texts) gone.1) gone.2 gone.3 id.at)
 
 pub returns-in-Absent-clause-updates : goal.returns-in-Absent-clause-updates
@@ -267,3 +272,15 @@ returns-clause-unlisted g c none =
     let may = subst (λ (j : Option Deletion). JudgesDelete c.args.parts.now.catalog c.args.name.now c.args.row.now c.args.parts.now.seq j) c.in-Some.is c.in_ok-judged.ensures.ok in
     c.drop_cells.ensures.unlisted (unwatched_readers c.args.parts.now.catalog c.args.parts.now.queries.items c.args.parts.now.order c.args.parts.now.readers.items c.args.parts.now.watchers.items c.requires.whole
     c.in-Some.found.relation.at may.relation.below none)
+
+pub affect-requires-clause-within : goal.affect-requires-clause-within
+affect-requires-clause-within g c =
+    let may = subst (λ (j : Option Deletion). JudgesDelete c.args.parts.now.catalog c.args.name.now c.args.row.now c.args.parts.now.seq j) c.in-Some.is c.in_ok-judged.ensures.ok in
+    readers_within c.args.parts.now c.drop_cells.new.parts c.requires.whole c.in-Some.found.relation.at may.relation.below
+    c.drop_cells.ensures.rest.readers
+
+pub affect-requires-clause-room : goal.affect-requires-clause-room
+affect-requires-clause-room g c =
+    let may = subst (λ (j : Option Deletion). JudgesDelete c.args.parts.now.catalog c.args.name.now c.args.row.now c.args.parts.now.seq j) c.in-Some.is c.in_ok-judged.ensures.ok in
+    readers_few c.args.parts.now c.drop_cells.new.parts c.requires.whole c.in-Some.found.relation.at may.relation.below
+    c.drop_cells.ensures.rest c.requires.tended

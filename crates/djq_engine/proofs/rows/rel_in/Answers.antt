@@ -1,8 +1,7 @@
-use Rattle.std.proofs.Common.{[], ◌∷◌, ◌++◌, ◌∙◌, ap, ap₂, List, ℕ, subst, sym}
-use Rattle.std.specs.Prelude.{map}
+use Rattle.std.proofs.Common.{refl, [], ◌∷◌, ◌++◌, ◌∙◌, ap, ap₂, List, ℕ, subst, sym}
 use Rattle.djq_model.specs.Data.{Bytes}
-use Rattle.djq_engine.specs.Places.{Watches, id_at, readers_at, told_from}
-use Rattle.djq_engine.specs.Tending.{AreShown}
+use Rattle.djq_engine.specs.Places.{Watches, told_from}
+use Rattle.djq_reach.specs.Tending.{AreShown}
 use Rattle.djq_engine.specs.Whole.{watches_in}
 use Rattle.djq_engine.proofs.Lasting.{made_tellings}
 use Rattle.djq_engine.proofs.Making.{made_sound, unmade_sound}
@@ -29,6 +28,7 @@ pub returns-in-Ok-relation-clause-tended : goal.returns-in-Ok-relation-clause-te
 returns-in-Ok-relation-clause-tended c = record {
   watched = c.requires.tended.watched;
   logged = c.requires.tended.logged;
+  room = c.requires.tended.room;
   shown = subst (λ (ts : List Bytes). AreShown ts c.args.parts.now.queries.items c.args.parts.now.logs.items) (sym c.relation.ensures.texts) c.requires.tended.shown;
 }
 
@@ -36,6 +36,7 @@ pub returns-in-Err-clause-tended : goal.returns-in-Err-clause-tended
 returns-in-Err-clause-tended c = record {
   watched = c.requires.tended.watched;
   logged = c.requires.tended.logged;
+  room = c.requires.tended.room;
   shown = subst (λ (ts : List Bytes). AreShown ts c.args.parts.now.queries.items c.args.parts.now.logs.items) (sym c.relation.ensures.texts) c.requires.tended.shown;
 }
 
@@ -51,6 +52,6 @@ pub returns-in-Err-clause-tellings : goal.returns-in-Err-clause-tellings
 returns-in-Err-clause-tellings c =
     let old = c.args.parts.now in
     record {
-      affected = ap (λ (rs : List (List ℕ)). map id_at (readers_at rs old.changed)) c.reserve.ensures.items;
+      affected = refl;
       told = ap (λ (ts : List Bytes). told_from ts old.queries.items old.logs.items) c.relation.ensures.texts;
     }

@@ -2,7 +2,7 @@ use Rattle.std.proofs.Common.{◌<◌, ◌∙◌, ap, arith, length, sym, List}
 use Rattle.djq_cursor.specs.declared.log.Line.{Line}
 use Rattle.djq_cursor.specs.Log.{Log}
 use Rattle.djq_engine.proofs.Attending.{below_queries, long_lines, long_lost, query_kept_there}
-use Rattle.djq_engine.proofs.Tending.{log_read}
+use Rattle.djq_reach.proofs.Tending.{log_read}
 use Rattle.djq_engine.proofs.watching.delta_len_in.Goals as goal
 
 pub index-log-requires : goal.index-log-requires

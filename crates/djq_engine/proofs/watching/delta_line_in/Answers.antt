@@ -4,8 +4,8 @@ use Rattle.djq_cursor.specs.Log.{Log}
 use Rattle.djq_live.specs.Live.{IsShowable}
 use Rattle.djq_engine.proofs.Attending.{all_got, below_queries, line_is, line_there, query_kept_there, there_not_none}
 use Rattle.djq_engine.proofs.Naming.{There}
-use Rattle.djq_engine.proofs.Reaching.{place_read}
-use Rattle.djq_engine.proofs.Tending.{log_read}
+use Rattle.djq_reach.proofs.Reaching.{place_read}
+use Rattle.djq_reach.proofs.Tending.{log_read}
 use Rattle.djq_engine.proofs.watching.delta_line_in.Goals as goal
 
 pub index-requires : goal.index-requires

@@ -5,7 +5,7 @@ use Rattle.djq_model.specs.Listed.{listed_name}
 use Rattle.djq_live.specs.Live.{Live}
 use Rattle.djq_engine.specs.Places.{query_in}
 use Rattle.djq_engine.proofs.Attending.{below_queries, gives_that, query_kept_there, there_not_none}
-use Rattle.djq_engine.proofs.Reaching.{place_read}
+use Rattle.djq_reach.proofs.Reaching.{place_read}
 use Rattle.djq_engine.proofs.watching.query_name_in.Goals as goal
 
 pub index-requires : goal.index-requires

@@ -1,9 +1,12 @@
 use Rattle.std.proofs.Common.{ℕ, ◌∙◌, ◌++◌, [], refl, subst}
 use Rattle.std.specs.Prelude.{Some}
 use Rattle.djq_io.specs.Faults.{Counted}
-use Rattle.djq_machine.specs.Call.{counts}
+use Rattle.djq_machine.specs.Call.{counts, groups_by}
 use Rattle.djq_serve.specs.declared.served.Served.TheVariants.{DiskFault, LogFull}
-use Rattle.djq_serve.proofs.Accepting.{group_by, step_group, step_lines}
+use Rattle.djq_serve.specs.Server.{lines, server}
+use Rattle.djq_serve.specs.Goes.{far}
+use Rattle.djq_serve.proofs.Accepting.{step_group, step_lines}
+use Rattle.djq_serve.proofs.Holding.{goes_hold_lines}
 use Rattle.djq_serve.proofs.Keeping.{none_kept, kept_then, keeps_then, lines_kept, lines_lost, lines_left, some_group, full_some, failed_isnt_all, full_isnt_all}
 use Rattle.djq_serve.proofs.Lining.{lines_begun, ran_agrees, line_then, line_fails, line_fills, line_smaller, not_lined, dry_lined, ended_lined}
 use Rattle.djq_serve.proofs.running.run_lines.Goals as goal
@@ -27,17 +30,19 @@ step-requires g c = c.lines-test.ensures.is_open
 pub keep-requires : goal.keep-requires
 keep-requires g c =
     let state = g.M.Machine.state in
-    step_lines (state c.lines.machine) c.args.id (state c.step.new.self) _ _ c.in-Ran.kept (g.M.Machine.kept c.step.new.self) c.in-Ran.ensures.gives.0 c.in-Ran.ensures.gives.1 c.in-Ran.ensures.keeps
+    let st = state c.lines.machine in
+    step_lines st c.args.id (state c.step.new.self) _ _ c.in-Ran.kept (g.M.Machine.kept c.step.new.self)
+    (goes_hold_lines _ _ _ (server st (lines c.args.id)) (c.lines.invariant.lining.1.goes (far 0 [])) c.requires.lines) c.in-Ran.ensures.0 c.in-Ran.ensures.1
 
 pub flush-requires : goal.flush-requires
 flush-requires g c =
     let state = g.M.Machine.state in
-    record { agrees = ran_agrees (state c.lines.machine) (state c.step.new.self) (g.H.Hub.ids c.lines.hub) c.args.id _ _ c.in-Ran.ensures.gives.0 c.lines.invariant.lining.1.agrees }
+    record { agrees = ran_agrees (state c.lines.machine) (state c.step.new.self) (g.H.Hub.ids c.lines.hub) c.args.id _ _ c.in-Ran.ensures.0 c.lines.invariant.lining.1.agrees }
 
 pub lines-smaller : goal.lines-smaller
 lines-smaller g c =
     let state = g.M.Machine.state in
-    line_smaller (state c.lines.machine) (state c.step.new.self) (state c.flush.new.machine) c.args.id _ _ c.in-Ran.ensures.gives.0 c.flush.ensures.spares
+    line_smaller (state c.lines.machine) (state c.step.new.self) (state c.flush.new.machine) c.args.id _ _ c.in-Ran.ensures.0 c.flush.ensures.spares
 
 pub lines-preserved : goal.lines-preserved
 lines-preserved g c =
@@ -46,10 +51,10 @@ lines-preserved g c =
     let st = state c.lines.machine in
     let ran = state c.step.new.self in
     let lines = g.M.Machine.kept c.step.new.self in
-    let gives = c.in-Ran.ensures.gives in
+    let gives = c.in-Ran.ensures in
     let groups = c.lines.invariant.lining.0 in
-    let more = group_by st c.args.id ran _ _ gives.0 in
-    let is = step_group st c.args.id ran _ _ c.in-Ran.kept lines gives.0 gives.1 c.in-Ran.ensures.keeps in
+    let more = groups_by st c.args.id ran _ _ gives.0 in
+    let is = step_group st c.args.id ran _ _ c.in-Ran.kept lines gives.0 gives.1 in
     record {
       lining = (
         groups ++ more,
@@ -70,11 +75,11 @@ returns-in-Failed g c =
     let st = state c.lines.machine in
     let ran = state c.step.new.self in
     let lines = g.M.Machine.kept c.step.new.self in
-    let gives = c.in-Ran.ensures.gives in
+    let gives = c.in-Ran.ensures in
     let groups = c.lines.invariant.lining.0 in
     let lining = c.lines.invariant.lining.1 in
-    let more = group_by st c.args.id ran _ _ gives.0 in
-    let is = step_group st c.args.id ran _ _ c.in-Ran.kept lines gives.0 gives.1 c.in-Ran.ensures.keeps in
+    let more = groups_by st c.args.id ran _ _ gives.0 in
+    let is = step_group st c.args.id ran _ _ c.in-Ran.kept lines gives.0 gives.1 in
     record {
       runs = record {
         groups = groups ++ more;
@@ -98,11 +103,11 @@ returns-in-Full g c =
     let st = state c.lines.machine in
     let ran = state c.step.new.self in
     let lines = g.M.Machine.kept c.step.new.self in
-    let gives = c.in-Ran.ensures.gives in
+    let gives = c.in-Ran.ensures in
     let groups = c.lines.invariant.lining.0 in
     let lining = c.lines.invariant.lining.1 in
-    let more = group_by st c.args.id ran _ _ gives.0 in
-    let is = step_group st c.args.id ran _ _ c.in-Ran.kept lines gives.0 gives.1 c.in-Ran.ensures.keeps in
+    let more = groups_by st c.args.id ran _ _ gives.0 in
+    let is = step_group st c.args.id ran _ _ c.in-Ran.kept lines gives.0 gives.1 in
     record {
       runs = record {
         groups = groups ++ more;
@@ -123,7 +128,7 @@ pub returns-in-Dry : goal.returns-in-Dry
 returns-in-Dry g c =
     let state = g.M.Machine.state in
     let groups = c.lines.invariant.lining.0 in
-    let lined = dry_lined _ _ _ _ _ (state c.args.machine.now) (state c.lines.machine) (state c.step.new.self) c.args.id groups c.lines.invariant.lining.1 c.in-Dry.ensures.gives in
+    let lined = dry_lined _ _ _ _ _ (state c.args.machine.now) (state c.lines.machine) (state c.step.new.self) c.args.id groups _ c.lines.invariant.lining.1 c.in-Dry.ensures in
     record {
       runs = record { groups = groups; goes = lined.goes; kept = c.lines.invariant.lining.2 };
       agrees = lined.agrees;
@@ -138,7 +143,7 @@ pub returns-in-Ended : goal.returns-in-Ended
 returns-in-Ended g c =
     let state = g.M.Machine.state in
     let groups = c.lines.invariant.lining.0 in
-    let lined = ended_lined _ _ _ _ _ (state c.args.machine.now) (state c.lines.machine) (state c.step.new.self) c.args.id groups _ c.lines.invariant.lining.1 c.lines-test.ensures c.in-Ended.ensures.gives in
+    let lined = ended_lined _ _ _ _ _ (state c.args.machine.now) (state c.lines.machine) (state c.step.new.self) c.args.id groups _ _ c.lines.invariant.lining.1 c.lines-test.ensures c.in-Ended.ensures in
     record {
       runs = record { groups = groups; goes = lined.goes; kept = c.lines.invariant.lining.2 };
       agrees = lined.agrees;

@@ -1,3 +1,4 @@
+use Rattle.djq_laws.proofs.Holding.{none_hold_lines}
 use Rattle.djq_serve.proofs.Agreeing.{agrees_none}
 use Rattle.djq_serve.proofs.Ending.{none_settled}
 use Rattle.djq_serve.proofs.Completing.{serve_logs}
@@ -8,6 +9,9 @@ take_turns-served-requires-clause-agrees g c = agrees_none (g.M.Machine.state c.
 
 pub take_turns-served-requires-clause-settled : goal.take_turns-served-requires-clause-settled
 take_turns-served-requires-clause-settled g c = none_settled (g.M.Machine.state c.args.machine.now) c.requires.none
+
+pub take_turns-served-requires-clause-lines : goal.take_turns-served-requires-clause-lines
+take_turns-served-requires-clause-lines g c = none_hold_lines (g.M.Machine.state c.args.machine.now) c.requires.none
 
 pub returns-clause-logs : goal.returns-clause-logs
 returns-clause-logs g c =

@@ -1,6 +1,8 @@
 use Rattle.std.proofs.Common.{◌≡◌, ◌∙◌, refl, rules}
 use Rattle.std.specs.Prelude.{Some}
 use Rattle.djq_machine.specs.Call.{counts}
+use Rattle.djq_serve.specs.Server.{waiting, server}
+use Rattle.djq_serve.proofs.Holding.{goes_hold_lines}
 use Rattle.djq_serve.proofs.Ending.{taking_begun, turn_more, turn_ends_it, answer_faults, disk_faults, all_taken}
 use Rattle.djq_serve.proofs.serving.take_turns.Goals as goal
 
@@ -14,6 +16,10 @@ loop-init g c = record {
   nowhere = λ none. none;
   room = c.requires.room;
 }
+
+pub take_turn-requires-clause-lines : goal.take_turn-requires-clause-lines
+take_turn-requires-clause-lines g c =
+    goes_hold_lines _ _ _ (server (g.M.Machine.state c.loop.machine) waiting) (c.loop.invariant.taking).goes c.requires.lines
 
 pub loop-preserved : goal.loop-preserved
 loop-preserved g c =

@@ -8,6 +8,7 @@ use Rattle.djq_serve.specs.Goes.{one_turn}
 use Rattle.djq_serve.proofs.Going.{goes_then}
 use Rattle.djq_serve.proofs.Agreeing.{is_new, running_open, agrees_same, agrees_ended}
 use Rattle.djq_serve.proofs.Settling.{fed_settled, ended_settled, opened_settled}
+use Rattle.djq_serve.proofs.Holding.{made_holds_lines}
 use Rattle.djq_serve.proofs.Bringing.{turn_opens, turn_feeds, turn_ends, turn_idles, turn_over, turn_fails, at_room}
 use Rattle.djq_serve.proofs.Visiting.{turn_flushed}
 use Rattle.djq_serve.proofs.Ending.{quiet_turn, over_turn, failed_turn, lost_turn, kept_turn}
@@ -34,6 +35,11 @@ pub run_lines-requires-clause-settled : goal.run_lines-requires-clause-settled
 run_lines-requires-clause-settled g c =
     let state = g.M.Machine.state in
     fed_settled (state c.args.machine.now) c.in-Bytes.id _ (state c.feed.new.self) c.feed.ensures.makes c.requires.settled
+
+pub run_lines-requires-clause-lines : goal.run_lines-requires-clause-lines
+run_lines-requires-clause-lines g c =
+    let state = g.M.Machine.state in
+    made_holds_lines (state c.args.machine.now) (fed c.in-Bytes.id _) (state c.feed.new.self) c.feed.ensures.makes c.requires.lines
 
 pub end_session-requires-clause-open : goal.end_session-requires-clause-open
 end_session-requires-clause-open g c = running_open (g.M.Machine.state c.args.machine.now) (g.H.Hub.ids c.args.hub.now) c.in-Ended.id c.requires.agrees c.in-Ended.ensures.ids.0

@@ -1,41 +1,48 @@
-use Rattle.std.proofs.Common.{ap, subst, Err}
-use Rattle.djq_proto.specs.declared.refusal.LineRefusal.{LineRefusal}
-use Rattle.djq_proto.specs.declared.refusal.LineRefusal.TheVariants.{Syntax, Range, NoMem}
-use Rattle.djq_proto.specs.Reading.{Reads}
-use Rattle.djq_machine.specs.State.{Store}
-use Rattle.djq_machine.specs.Loading.{LoadStep}
-use Rattle.djq_core.specs.Views.{Visible}
-use Rattle.djq_core.proofs.Loading.{core_idle, idle_core, loads_said, loads_unread, none_open}
-use Rattle.djq_core.proofs.Saying.{runnable}
+use Rattle.std.proofs.Common.{◌∙◌, sym, ap, subst, Option, List}
+use Rattle.djq_lines.specs.declared.held.HeldRow.{HeldRow}
+use Rattle.djq_machine.specs.Loading.{Loading, LoadStep}
+use Rattle.djq_core.specs.Sound.{BatchSuits}
+use Rattle.djq_core.specs.Views.{Visible, loading_in}
+use Rattle.djq_core.proofs.Loading.{core_idle, idle_core, none_open, step_loads, suits_loaded}
 use Rattle.djq_core.proofs.serving.Core.load.Goals as goal
 
-pub load_command-requires-clause-idle : goal.load_command-requires-clause-idle
-load_command-requires-clause-idle g c =
-    idle_core c.self.inside.engine c.self.inside.ids.items c.self.inside.sessions.items _ _ c.self.invariant
+pub load_alone-loaded-requires : goal.load_alone-loaded-requires
+load_alone-loaded-requires g c =
+    idle_core c.self.inside.engine c.self.inside.ids.items c.self.inside.sessions.items _ _ c.self.invariant.0
     (none_open c.self.inside.engine c.self.inside.stopped c.self.inside.sessions.items (c.args.self.now).state (ap (λ (v : Visible). v.state) c.self.view_is) c.requires.none)
 
-pub load_command-requires-clause-runnable : goal.load_command-requires-clause-runnable
-load_command-requires-clause-runnable g c = runnable c.args.line.now c.in-Ok.command c.in-Ok.ensures
+pub load_in_batch-loaded-requires-clause-idle : goal.load_in_batch-loaded-requires-clause-idle
+load_in_batch-loaded-requires-clause-idle g c =
+    idle_core c.self.inside.engine c.self.inside.ids.items c.self.inside.sessions.items _ _ c.self.invariant.0
+    (none_open c.self.inside.engine c.self.inside.stopped c.self.inside.sessions.items (c.args.self.now).state (ap (λ (v : Visible). v.state) c.self.view_is) c.requires.none)
 
 pub invariant_of-self : goal.invariant_of-self
 invariant_of-self g c =
-    core_idle c.self.inside.engine c.load_command.new.engine c.self.inside.ids.items c.self.inside.sessions.items _ _ c.self.invariant
-    (none_open c.self.inside.engine c.self.inside.stopped c.self.inside.sessions.items (c.args.self.now).state (ap (λ (v : Visible). v.state) c.self.view_is) c.requires.none)
-    c.load_command.ensures.idle
+    let none = none_open c.self.inside.engine c.self.inside.stopped c.self.inside.sessions.items (c.args.self.now).state (ap (λ (v : Visible). v.state) c.self.view_is) c.requires.none in
+    let loads = c.load_alone-loaded.ensures.loads in (
+      core_idle c.self.inside.engine c.load_alone-loaded.new.engine c.self.inside.ids.items c.self.inside.sessions.items _ _ c.self.invariant.0 none loads.idle,
+      suits_loaded (c.load_alone-loaded.new.engine).store c.load_alone-loaded.result.1 c.self.inside.sessions.items none (loads.suits tt),
+    )
 
-pub returns-in-Ok-clause-loads : goal.returns-in-Ok-clause-loads
-returns-in-Ok-clause-loads g c =
-    subst (λ (st : Store). LoadStep st c.args.line.now c.load_command.result (c.load_command.new.engine).store) (ap (λ (v : Visible). (v.state).store) c.self.view_is)
-    (loads_said (c.self.inside.engine).store (c.load_command.new.engine).store c.args.line.now c.in-Ok.command c.load_command.result c.in-Ok.ensures c.load_command.ensures.loads)
+pub invariant_of-self-in-Some : goal.invariant_of-self-in-Some
+invariant_of-self-in-Some g c =
+    let none = none_open c.self.inside.engine c.self.inside.stopped c.self.inside.sessions.items (c.args.self.now).state (ap (λ (v : Visible). v.state) c.self.view_is) c.requires.none in
+    let loads = c.load_in_batch-loaded.ensures.loads in
+    let suits = subst (BatchSuits (c.self.inside.engine).store) (sym c.take.ensures.value ∙ c.in-Some.is) c.self.invariant.1.0 in (
+      core_idle c.self.inside.engine c.load_in_batch-loaded.new.engine c.self.inside.ids.items c.self.inside.sessions.items _ _ c.self.invariant.0 none loads.idle,
+      suits_loaded (c.load_in_batch-loaded.new.engine).store c.load_in_batch-loaded.result.1 c.self.inside.sessions.items none (loads.suits suits),
+    )
 
-pub returns-in-Err-Syntax-clause-loads : goal.returns-in-Err-Syntax-clause-loads
-returns-in-Err-Syntax-clause-loads g c =
-    loads_unread ((c.args.self.now).state).store c.args.line.now Syntax (subst (λ (r : LineRefusal). Reads c.args.line.now (Err r)) c.in-Err-Syntax.field-0-is c.in-Err-Syntax.ensures)
+pub returns-in-None-clause-loads : goal.returns-in-None-clause-loads
+returns-in-None-clause-loads g c =
+    let batch = sym (sym c.take.ensures.value ∙ c.in-None.is) in
+    subst (λ (old : Loading). LoadStep old c.args.line.now c.load_alone-loaded.result.0 (record { store = (c.load_alone-loaded.new.engine).store; batch = c.load_alone-loaded.result.1 })) (ap loading_in c.self.view_is)
+    (subst (λ (b : Option (List HeldRow)). LoadStep (record { store = (c.self.inside.engine).store; batch = b }) c.args.line.now c.load_alone-loaded.result.0 (record { store = (c.load_alone-loaded.new.engine).store; batch = c.load_alone-loaded.result.1 })) batch
+    (step_loads _ _ c.args.line.now c.load_alone-loaded.result.0 c.load_alone-loaded.ensures.loads.loads))
 
-pub returns-in-Err-Range-clause-loads : goal.returns-in-Err-Range-clause-loads
-returns-in-Err-Range-clause-loads g c =
-    loads_unread ((c.args.self.now).state).store c.args.line.now Range (subst (λ (r : LineRefusal). Reads c.args.line.now (Err r)) c.in-Err-Range.field-0-is c.in-Err-Range.ensures)
-
-pub returns-in-Err-NoMem-clause-loads : goal.returns-in-Err-NoMem-clause-loads
-returns-in-Err-NoMem-clause-loads g c =
-    loads_unread ((c.args.self.now).state).store c.args.line.now NoMem (subst (λ (r : LineRefusal). Reads c.args.line.now (Err r)) c.in-Err-NoMem.field-0-is c.in-Err-NoMem.ensures)
+pub returns-in-Some-clause-loads : goal.returns-in-Some-clause-loads
+returns-in-Some-clause-loads g c =
+    let batch = sym (sym c.take.ensures.value ∙ c.in-Some.is) in
+    subst (λ (old : Loading). LoadStep old c.args.line.now c.load_in_batch-loaded.result.0 (record { store = (c.load_in_batch-loaded.new.engine).store; batch = c.load_in_batch-loaded.result.1 })) (ap loading_in c.self.view_is)
+    (subst (λ (b : Option (List HeldRow)). LoadStep (record { store = (c.self.inside.engine).store; batch = b }) c.args.line.now c.load_in_batch-loaded.result.0 (record { store = (c.load_in_batch-loaded.new.engine).store; batch = c.load_in_batch-loaded.result.1 })) batch
+    (step_loads _ _ c.args.line.now c.load_in_batch-loaded.result.0 c.load_in_batch-loaded.ensures.loads.loads))

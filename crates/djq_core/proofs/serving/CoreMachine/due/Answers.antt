@@ -10,4 +10,4 @@ pub returns : goal.returns
 returns c =
     c.first_due.ensures
     ∙ ap (λ (xs : List OpenSession). option_map (λ (x : OpenSession). x.id) (find (λ (x : OpenSession). nat_le c.args.from x.id && is_due x.session) xs)) c.as_slice.ensures.value
-    ∙ first_is_due c.self.inside.engine c.self.inside.stopped c.self.inside.ids.items c.self.inside.sessions.items _ _ c.args.from (c.args.self.now).state c.self.invariant (ap (λ (v : Visible). v.state) c.self.view_is)
+    ∙ first_is_due c.self.inside.engine c.self.inside.stopped c.self.inside.ids.items c.self.inside.sessions.items _ _ c.args.from (c.args.self.now).state c.self.invariant.0 (ap (λ (v : Visible). v.state) c.self.view_is)

@@ -2,7 +2,7 @@ use Rattle.std.proofs.Common.{◌∙◌, subst, sym}
 use Rattle.djq_model.specs.Data.{Tuple}
 use Rattle.djq_lines.specs.declared.command.Command.{Command}
 use Rattle.djq_machine.specs.Keeping.{is_done, is_removal}
-use Rattle.djq_machine.specs.Loading.{CommandLoads}
+use Rattle.djq_machine.specs.Loading.{StoreLoads}
 use Rattle.djq_machine.specs.Store.{DeletesRow}
 use Rattle.djq_core.proofs.Loading.{comes_by, drops_unused, idle_dropped, idle_enrolled, idle_outdated}
 use Rattle.djq_core.proofs.Replying.{ok_done}
@@ -14,10 +14,10 @@ returns-in-Add-clause-idle g c =
 
 pub returns-in-Del-clause-loads : goal.returns-in-Del-clause-loads
 returns-in-Del-clause-loads g c =
-    subst (λ (k : Command). CommandLoads (c.args.engine.now).store k c.loaded-in-Del.result (c.del-outcome.new.self).store) (sym c.in-Del.is) (
+    subst (λ (k : Command). StoreLoads (c.args.engine.now).store k c.loaded-in-Del.result (c.del-outcome.new.self).store) (sym c.in-Del.is) (
       c.del-outcome.result,
       subst (λ (row : Tuple). DeletesRow (c.args.engine.now).store c.in-Del.name row c.del-outcome.result (c.del-outcome.new.self).store) c.as_slice-in-Del.ensures c.del-outcome.ensures.deletes,
-      comes_by is_removal c.del-outcome.result c.loaded-in-Del.result c.is_kept.result c.is_kept.ensures c.loaded-in-Del.ensures,
+      comes_by is_removal c.del-outcome.result c.loaded-in-Del.result c.is_removal.result c.is_removal.ensures c.loaded-in-Del.ensures,
     )
 
 pub returns-in-Del-clause-idle : goal.returns-in-Del-clause-idle
@@ -30,7 +30,7 @@ returns-in-Query-clause-idle g c =
 
 pub returns-in-Drop-clause-loads : goal.returns-in-Drop-clause-loads
 returns-in-Drop-clause-loads g c =
-    subst (λ (k : Command). CommandLoads (c.args.engine.now).store k c.loaded-in-Drop.result (c.drop_query-outcome.new.self).store) (sym c.in-Drop.is) (
+    subst (λ (k : Command). StoreLoads (c.args.engine.now).store k c.loaded-in-Drop.result (c.drop_query-outcome.new.self).store) (sym c.in-Drop.is) (
       c.drop_query-outcome.result,
       drops_unused c.args.engine.now c.drop_query-outcome.new.self c.in-Drop.query c.drop_query-outcome.result c.requires.idle c.drop_query-outcome.ensures,
       comes_by is_done c.drop_query-outcome.result c.loaded-in-Drop.result c.is_ok-in-Drop.result (c.is_ok-in-Drop.ensures.value ∙ ok_done c.drop_query-outcome.result) c.loaded-in-Drop.ensures,

@@ -1,5 +1,6 @@
-use Rattle.std.proofs.Common.{length, arith}
+use Rattle.std.proofs.Common.{length, arith, subst}
 use Rattle.djq_live.specs.Live.{Live}
+use Rattle.djq_live.specs.Stepping.{HasMore}
 use Rattle.djq_live.proofs.Costing.{counts_all, counts_flat}
 use Rattle.djq_live.proofs.Living.{
   can_delete,
@@ -75,6 +76,11 @@ returns-clause-same g c =
     } in
     same_query l c.args.self.now c.give_from_leaves.new.reducts c.self.view_is
     c.give_from_leaves.ensures.lost.tree
+
+pub returns-clause-fewer : goal.returns-clause-fewer
+returns-clause-fewer g c =
+    subst (λ (x : Live). HasMore c.give_from_leaves.new.reducts x.reducts) c.self.view_is
+    c.give_from_leaves.ensures.fewer
 
 pub returns-clause-counted : goal.returns-clause-counted
 returns-clause-counted g c = c.give_from_leaves.ensures.listing

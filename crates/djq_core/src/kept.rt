@@ -1,0 +1,58 @@
+ghost use Rattle.std.specs.Prelude.{◌≡◌, ◌∷◌, ◌++◌, [], codes, map, slice_get};
+ghost use Rattle.std.specs.Option.{option_copied};
+ghost use Rattle.djq_core.specs.Views.{lines_of};
+
+use djq_lines::HeldRow;
+use djq_model::Sequence;
+
+/// What the last step kept.
+#[derive(Drop)]
+pub(crate) enum KeptLines {
+    /// Nothing.
+    Nothing,
+    /// The line that it ran.
+    Line,
+    /// The batch that this line ended, with the rows that it held: their lines stay where they are.
+    Batch(Sequence<HeldRow>),
+}
+
+impl KeptLines {
+    /// This is kept in place of what was.
+    pub(crate) fn put(&mut self, lines: KeptLines)
+        ensures { self.new ≡ lines }
+    {
+        *self = lines;
+    }
+
+    /// The line with this number, counted from 0, of those that were kept, where this is a copy of the
+    /// line that was run.
+    pub(crate) fn get<'a>(&'a self, i: usize, copied: &'a [u8]) -> Option<&'a [u8]>
+        ensures { option_copied result ≡ slice_get (lines_of self.now copied.now) i }
+    {
+        match self {
+            KeptLines::Nothing => None,
+            KeptLines::Line => { if i == 0 { Some(copied) } else { None } }
+            KeptLines::Batch(rows) => line_of_batch(rows.as_slice(), i),
+        }
+    }
+}
+
+// The line with this number of a batch: `batch`, the lines of its rows, and `done`.
+fn line_of_batch(rows: &[HeldRow], i: usize) -> Option<&[u8]>
+    ensures { option_copied result
+        ≡ slice_get (codes "batch" ∷ map (λ h. h.line) rows.now ++ codes "done" ∷ []) i }
+{
+    if i == 0 {
+        return Some(b"batch");
+    }
+    match rows.get(i - 1) {
+        Some(row) => Some(row.line.as_slice()),
+        None => {
+            if i == rows.len() + 1 {
+                Some(b"done")
+            } else {
+                None
+            }
+        }
+    }
+}

@@ -1,0 +1,89 @@
+use Rattle.std.proofs.Common.{◌∙◌, ℕ, List, refl, sym, ap, subst, length}
+use Rattle.std.specs.Prelude.{Result, Ok, Err, OnOk, OnErr, ⊤}
+use Rattle.djq_live.specs.Live.{IsKept}
+use Rattle.djq_reach.specs.Places.{readers_at, AreOnce}
+use Rattle.djq_reach.specs.Reaching.{AllAt, Reach, Renews}
+use Rattle.djq_reach.specs.Tending.{AreUnwatched, TellsAt, Tends, Empties}
+use Rattle.djq_reach.specs.Grouping.{CanComeBy, CostsBy, Leads, reached}
+use Rattle.djq_engine.proofs.batch.take_groups.Goals as goal
+
+on_ok : {X E : Type 0} {A B C : Type 0} (r : Result X E) → (A → B → C) → OnOk r A → OnOk r B → OnOk r C
+on_ok (Ok x) f a b = f a b
+on_ok (Err x) f a b = tt
+
+on_err : {X E : Type 0} {A B C : Type 0} (r : Result X E) → (A → B → C) → OnErr r A → OnErr r B → OnErr r C
+on_err (Ok x) f a b = tt
+on_err (Err x) f a b = f a b
+
+either : {X E : Type 0} {A B C : Type 0} (r : Result X E) → (A → C) → (B → C) → OnOk r A → OnErr r B → C
+either (Ok x) f g a b = f a
+either (Err x) f g a b = g b
+
+pub take_in_batch-requires-clause-once : goal.take_in_batch-requires-clause-once
+take_in_batch-requires-clause-once g c = subst (λ (rs : List (List ℕ)). (r : ℕ) → AreOnce (readers_at rs r)) (sym c.as_slice-readers.ensures.value) c.requires.once
+
+pub take_in_batch-requires-clause-can : goal.take_in_batch-requires-clause-can
+take_in_batch-requires-clause-can g c =
+    subst (λ (rs : List (List ℕ)). CanComeBy rs c.args.groups.now c.args.parts.now.queries.items) (sym c.as_slice-readers.ensures.value) (record {
+      before = c.requires.can.0;
+      after = c.args.parts.now.catalog;
+      leads = c.requires.can.1.leads;
+      kept = c.requires.can.1.kept;
+    })
+
+pub take_in_batch-requires-clause-watched : goal.take_in_batch-requires-clause-watched
+take_in_batch-requires-clause-watched g c = ap (λ (ws : List ℕ). length ws) c.as_slice-watchers.ensures.value ∙ c.requires.watched
+
+pub returns-clause-taken : goal.returns-clause-taken
+returns-clause-taken g c =
+    on_ok c.take_in_batch.result
+    (λ reach tends. record {
+      reach = λ d here.
+          subst (λ (rs : List (List ℕ)). Reach (reached rs c.args.groups.now) (Renews c.args.parts.now.catalog) c.args.parts.now.queries.items c.take_in_batch.new.queries.items) c.as_slice-readers.ensures.value
+          (reach d c.args.parts.now.catalog
+          (subst (λ (rs : List (List ℕ)). Leads rs c.args.groups.now c.args.parts.now.queries.items d c.args.parts.now.catalog) (sym c.as_slice-readers.ensures.value) here.leads)
+          (subst (λ (rs : List (List ℕ)). AllAt (reached rs c.args.groups.now) c.args.parts.now.queries.items (λ l. IsKept d l)) (sym c.as_slice-readers.ensures.value) here.kept));
+      tends =
+          subst (λ (ws : List ℕ). Tends (reached c.args.parts.now.readers.items c.args.groups.now)
+          (TellsAt ws (λ x y (what : ⊤). Leads c.args.parts.now.readers.items c.args.groups.now c.args.parts.now.queries.items x y))
+          c.args.parts.now.queries.items c.args.parts.now.logs.items c.take_in_batch.new.logs.items) c.as_slice-watchers.ensures.value
+          (subst (λ (rs : List (List ℕ)). Tends (reached rs c.args.groups.now)
+          (TellsAt c.as_slice-watchers.result.now (λ x y (what : ⊤). Leads rs c.args.groups.now c.args.parts.now.queries.items x y))
+          c.args.parts.now.queries.items c.args.parts.now.logs.items c.take_in_batch.new.logs.items) c.as_slice-readers.ensures.value tends);
+    }) c.take_in_batch.ensures.taken c.take_in_batch.ensures.tells
+
+pub returns-clause-given : goal.returns-clause-given
+returns-clause-given g c =
+    on_err c.take_in_batch.result
+    (λ reach empties. record {
+      reach = λ d here.
+          subst (λ (rs : List (List ℕ)). Reach (reached rs c.args.groups.now) (Renews d) c.args.parts.now.queries.items c.take_in_batch.new.queries.items) c.as_slice-readers.ensures.value
+          (reach d c.args.parts.now.catalog
+          (subst (λ (rs : List (List ℕ)). Leads rs c.args.groups.now c.args.parts.now.queries.items d c.args.parts.now.catalog) (sym c.as_slice-readers.ensures.value) here.leads)
+          (subst (λ (rs : List (List ℕ)). AllAt (reached rs c.args.groups.now) c.args.parts.now.queries.items (λ l. IsKept d l)) (sym c.as_slice-readers.ensures.value) here.kept));
+      empties =
+          subst (λ (rs : List (List ℕ)). Empties (reached rs c.args.groups.now) c.args.parts.now.logs.items c.take_in_batch.new.logs.items) c.as_slice-readers.ensures.value empties;
+    }) c.take_in_batch.ensures.given c.take_in_batch.ensures.emptied
+
+pub returns-clause-counted : goal.returns-clause-counted
+returns-clause-counted g c =
+    subst (λ (ws : List ℕ). CostsBy c.args.parts.now.readers.items c.args.groups.now ws c.args.parts.now.queries.items c.args.steps.now.listing c.take_in_batch.new.steps.listing) c.as_slice-watchers.ensures.value
+    (subst (λ (rs : List (List ℕ)). CostsBy rs c.args.groups.now c.as_slice-watchers.result.now c.args.parts.now.queries.items c.args.steps.now.listing c.take_in_batch.new.steps.listing) c.as_slice-readers.ensures.value
+    c.take_in_batch.ensures.counted)
+
+pub returns-clause-unlisted : goal.returns-clause-unlisted
+returns-clause-unlisted g c none =
+    c.take_in_batch.ensures.unlisted
+    (subst (λ (ws : List ℕ). AreUnwatched ws (reached c.as_slice-readers.result.now c.args.groups.now)) (sym c.as_slice-watchers.ensures.value)
+    (subst (λ (rs : List (List ℕ)). AreUnwatched c.args.parts.now.watchers.items (reached rs c.args.groups.now)) (sym c.as_slice-readers.ensures.value) none))
+
+pub returns-clause-rest : goal.returns-clause-rest
+returns-clause-rest g c = record {
+  readers = refl;
+  order = refl;
+  seq = refl;
+  watchers = refl;
+  affected = refl;
+  room = refl;
+  long = either c.take_in_batch.result (λ t. t.long) (λ e. e.long) c.take_in_batch.ensures.tells c.take_in_batch.ensures.emptied;
+}

@@ -1,0 +1,18 @@
+use Rattle.std.proofs.Common.{refl}
+use Rattle.djq_engine.proofs.outdating.give_up.Goals as goal
+
+pub returns : goal.returns
+returns c = record {
+  logs = c.empty_held.ensures.cleared c.args.parts.now.queries.items c.requires.readers;
+  queries = c.outdate_held.ensures;
+  catalog = refl;
+  rest = record {
+    readers = refl;
+    order = refl;
+    seq = refl;
+    watchers = refl;
+    affected = refl;
+    room = refl;
+    long = c.empty_held.ensures.long;
+  };
+}

@@ -1,0 +1,71 @@
+-- Queries whose cursors become stale by the first of several relations that they read.
+use Rattle.std.specs.Prelude.{ℕ, List, ◌≡◌, ◌<◌, Bool, true, false, Option, None, Some, if◌then◌else◌, length}
+use Rattle.std.specs.List.{list_any}
+use Rattle.djq_model.specs.declared.relation.Relation.{Relation}
+use Rattle.djq_model.specs.Data.{Bytes}
+use Rattle.djq_model.specs.Listed.{Listed, a_query}
+use Rattle.djq_lines.specs.declared.held.HeldRow.{HeldRow}
+use Rattle.djq_cursor.specs.Log.{Log}
+use Rattle.djq_machine.specs.Stale.{by_relation}
+use Rattle.djq_machine.specs.Batch.{first_read}
+use Rattle.djq_rows.specs.Catalog.{relation_at}
+use Rattle.djq_live.specs.Live.{Live}
+use Rattle.djq_live.specs.Updating.{IsEmpty}
+use Rattle.djq_reach.specs.declared.group.Group.{Group}
+use Rattle.djq_reach.specs.Grouping.{relations_of}
+use Rattle.djq_reach.specs.Places.{place_at, reads_place, is_reader, readers_at, log_at, AreOnce}
+use Rattle.djq_reach.specs.Reaching.{Ages}
+use Rattle.djq_engine.specs.declared.parts.Parts.{Parts}
+use Rattle.djq_engine.specs.Changing.{KeepsRest}
+
+-- The readers of a relation are the places of the queries that read it, each once.
+pub record AreReaders (relations : List Relation) (readers : List (List ℕ)) (gs : List (Option Live)) :
+    Type 0 where
+  pub long : length readers ≡ length relations
+  pub once : (r : ℕ) → AreOnce (readers_at readers r)
+  pub reading : (r i : ℕ) → r < length relations → is_reader (readers_at readers r) i
+      ≡ reads_place (relation_at relations r).name (place_at gs i)
+
+-- The open cursors of a query become stale by this relation, where there is one.
+abbrev pub AgesBy : Option Bytes → ℕ → Live → Option Live → Type 0
+AgesBy None n l new = new ≡ Some l
+AgesBy (Some relation) n l (Some m) = Ages relation n l m
+AgesBy (Some relation) n l None = ⊥
+
+-- So it is in a place.
+abbrev pub AgesAt : (Listed → Option Bytes) → ℕ → Option Live → Option Live → Type 0
+AgesAt outdater n None new = new ≡ None
+AgesAt outdater n (Some l) new = AgesBy (outdater (a_query l.query)) n l new
+
+-- So it is in all places.
+pub record AgesAll (outdater : Listed → Option Bytes) (n : ℕ) (gs hs : List (Option Live)) : Type 0
+  where
+    pub long : length hs ≡ length gs
+    pub each : (i : ℕ) → AgesAt outdater n (place_at gs i) (place_at hs i)
+
+-- A test passes the relations of these groups, and no others.
+abbrev pub AreTested : List Relation → List Group → (Bytes → Bool) → Type 0
+AreTested relations groups test = (r : ℕ) → r < length relations
+    → test (relation_at relations r).name ≡ is_reader (relations_of groups) r
+
+-- the relation outdates the queries that read it, where it passes the test
+abbrev pub by_tested : (Bytes → Bool) → Bytes → Listed → Option Bytes
+by_tested test relation q = if test relation then by_relation relation q else None
+
+-- whether the query in a place reads the relation of one of these rows
+abbrev pub reads_held : List HeldRow → Option Live → Bool
+reads_held held o = list_any (λ h. reads_place h.relation o) held
+
+-- The logs in the places that pass are emptied, and no other changes.
+pub record ClearsLogs (passes : ℕ → Bool) (old new : List Log) : Type 0 where
+  pub long : length new ≡ length old
+  pub emptied : (i : ℕ) → passes i ≡ true → IsEmpty (log_at new i)
+  pub others : (i : ℕ) → passes i ≡ false → log_at new i ≡ log_at old i
+
+-- Out of memory: the logs of all queries that read the relation of one of these rows are emptied, and
+-- their open cursors become stale by the first of these relations that a query reads.
+pub record GivesUp (held : List HeldRow) (old new : Parts) : Type 0 where
+  pub logs : ClearsLogs (λ i. reads_held held (place_at old.queries.items i)) old.logs.items new.logs.items
+  pub queries : AgesAll (first_read held (λ name. true)) old.seq old.queries.items new.queries.items
+  pub catalog : new.catalog ≡ old.catalog
+  pub rest : KeepsRest old new

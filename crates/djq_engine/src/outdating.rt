@@ -1,0 +1,214 @@
+//! Queries that read relations of held rows: their logs and their cursors, where these rows change
+//! something or memory lacks for them.
+ghost use Rattle.std.specs.Prelude.{◌≡◌, ◌<◌, ◌≤◌, ◌==◌, ℕ, List, Option, Bool, true, All, IsSome, length, filter, vec_capacity};
+ghost use Rattle.std.specs.List.{list_any};
+ghost use Rattle.djq_model.specs.Data.{Bytes, relation_of};
+ghost use Rattle.djq_machine.specs.Stale.{by_relation};
+ghost use Rattle.djq_machine.specs.Batch.{first_read};
+ghost use Rattle.djq_live.specs.Live.{Live};
+ghost use Rattle.djq_reach.specs.Places.{place_at, reads_place, is_reader, readers_at};
+ghost use Rattle.djq_reach.specs.Grouping.{reached};
+ghost use Rattle.djq_engine.specs.Outdating.{AreReaders, AgesAll, ClearsLogs, GivesUp, reads_held};
+ghost use Rattle.djq_engine.specs.Outdating.{AreTested, by_tested};
+
+use crate::parts::Parts;
+use djq_cursor::DeltaLog;
+use djq_lines::HeldRow;
+use djq_live::LiveQuery;
+use djq_model::{Name, Sequence};
+use djq_reach::{Group, age, empty_logs};
+use djq_rows::{Catalog, RelationId};
+
+// The logs of all queries that read a relation are emptied.
+fn empty_readers(
+    logs: &mut Vec<DeltaLog>,
+    readers: &Vec<Sequence<usize>>,
+    catalog: &Catalog,
+    relation: &Name,
+)
+    requires long { length readers.now.items ≡ length catalog.now.relations }
+    requires logged { (r i : ℕ) → is_reader (readers_at readers.now.items r) i ≡ true
+        → i < length logs.old.items }
+    requires found { IsSome (relation_of catalog.now.relations relation.now) }
+    ensures long { length logs.new.items ≡ length logs.old.items }
+    ensures cleared { (gs : List (Option Live))
+        → AreReaders catalog.now.relations readers.now.items gs
+        → ClearsLogs (λ i. reads_place relation.now (place_at gs i)) logs.old.items logs.new.items }
+{
+    match catalog.id(relation) {
+        Some(id) => empty_logs(logs, readers[id.at].as_slice()),
+        None => unreachable!(),
+    }
+}
+
+// The logs of all queries that read a relation of these rows are emptied.
+fn empty_held(
+    logs: &mut Vec<DeltaLog>,
+    readers: &Vec<Sequence<usize>>,
+    catalog: &Catalog,
+    held: &[HeldRow],
+)
+    requires long { length readers.now.items ≡ length catalog.now.relations }
+    requires logged { (r i : ℕ) → is_reader (readers_at readers.now.items r) i ≡ true
+        → i < length logs.old.items }
+    requires found { All (λ h. IsSome (relation_of catalog.now.relations h.relation)) held.now }
+    ensures long { length logs.new.items ≡ length logs.old.items }
+    ensures cleared { (gs : List (Option Live))
+        → AreReaders catalog.now.relations readers.now.items gs
+        → ClearsLogs (λ i. reads_held held.now (place_at gs i)) logs.old.items logs.new.items }
+{
+    for at in 0..held.len() {
+        empty_readers(logs, readers, catalog, &held[at].relation);
+    }
+}
+
+// The open cursors of all queries that read a relation become stale by it.
+fn outdate_readers(
+    queries: &mut Vec<Option<LiveQuery>>,
+    readers: &Vec<Sequence<usize>>,
+    catalog: &Catalog,
+    relation: &Name,
+    seq: u64,
+)
+    requires readers { AreReaders catalog.now.relations readers.now.items queries.old.items }
+    requires found { IsSome (relation_of catalog.now.relations relation.now) }
+    ensures { AgesAll (by_relation relation.now) seq queries.old.items queries.new.items }
+{
+    match catalog.id(relation) {
+        Some(id) => age(queries, readers[id.at].as_slice(), *relation, seq),
+        None => unreachable!(),
+    }
+}
+
+// The open cursors of all queries that read a relation of these rows become stale, by the first of
+// these relations that a query reads.
+fn outdate_held(
+    queries: &mut Vec<Option<LiveQuery>>,
+    readers: &Vec<Sequence<usize>>,
+    catalog: &Catalog,
+    held: &[HeldRow],
+    seq: u64,
+)
+    requires readers { AreReaders catalog.now.relations readers.now.items queries.old.items }
+    requires found { All (λ h. IsSome (relation_of catalog.now.relations h.relation)) held.now }
+    ensures { AgesAll (first_read held.now (λ name. true)) seq
+        queries.old.items queries.new.items }
+{
+    for at in 0..held.len() {
+        outdate_readers(queries, readers, catalog, &held[at].relation, seq);
+    }
+}
+
+// Whether rows of a relation are among these groups.
+fn has_group(groups: &[Group], relation: RelationId) -> bool
+    ensures { result ≡ list_any (λ g. g.relation.at == relation.at) groups.now }
+{
+    groups.iter().any(|group| group.relation.at == relation.at)
+}
+
+// The open cursors of all queries that read a relation of the groups become stale by it; of another
+// relation nothing becomes stale.
+fn outdate_grouped(
+    queries: &mut Vec<Option<LiveQuery>>,
+    readers: &Vec<Sequence<usize>>,
+    catalog: &Catalog,
+    relation: &Name,
+    groups: &[Group],
+    seq: u64,
+)
+    requires readers { AreReaders catalog.now.relations readers.now.items queries.old.items }
+    requires found { IsSome (relation_of catalog.now.relations relation.now) }
+    ensures { (test : Bytes → Bool) → AreTested catalog.now.relations groups.now test
+        → AgesAll (by_tested test relation.now) seq queries.old.items queries.new.items }
+{
+    let Some(id) = catalog.id(relation) else {
+        unreachable!()
+    };
+    if has_group(groups, id) {
+        age(queries, readers[id.at].as_slice(), *relation, seq);
+    }
+}
+
+/// The open cursors of all queries that read a relation of the groups become stale, by the first of
+/// these relations among those of held rows.
+pub fn outdate_came(
+    queries: &mut Vec<Option<LiveQuery>>,
+    readers: &Vec<Sequence<usize>>,
+    catalog: &Catalog,
+    held: &[HeldRow],
+    groups: &[Group],
+    seq: u64,
+)
+    requires readers { AreReaders catalog.now.relations readers.now.items queries.old.items }
+    requires found { All (λ h. IsSome (relation_of catalog.now.relations h.relation)) held.now }
+    requires tested { (test : Bytes → Bool) × AreTested catalog.now.relations groups.now test }
+    ensures { (test : Bytes → Bool) → AreTested catalog.now.relations groups.now test
+        → AgesAll (first_read held.now test) seq queries.old.items queries.new.items }
+{
+    for at in 0..held.len() {
+        outdate_grouped(queries, readers, catalog, &held[at].relation, groups, seq);
+    }
+}
+
+// Whether a place is among these.
+fn has_place(places: &[usize], place: usize) -> bool
+    ensures { result ≡ is_reader places.now place }
+{
+    places.iter().any(|at| *at == place)
+}
+
+// Whether the query in a place reads a relation of the groups.
+fn is_reached(readers: &Vec<Sequence<usize>>, groups: &[Group], place: usize) -> bool
+    requires { All (λ g. g.relation.at < length readers.now.items) groups.now }
+    ensures { result ≡ is_reader (reached readers.now.items groups.now) place }
+{
+    for nth in 0..groups.len() {
+        if has_place(readers[groups[nth].relation.at].as_slice(), place) {
+            return true;
+        }
+    }
+    false
+}
+
+/// The queries that read a relation of the groups are the affected ones from now on, in this order.
+pub fn affect_reached(
+    affected: &mut Vec<usize>,
+    order: &[usize],
+    readers: &Vec<Sequence<usize>>,
+    groups: &[Group],
+)
+    requires within { All (λ g. g.relation.at < length readers.now.items) groups.now }
+    requires room { length order.now ≤ vec_capacity affected.old }
+    ensures items { affected.new.items
+        ≡ filter (is_reader (reached readers.now.items groups.now)) order.now }
+    ensures room { vec_capacity affected.old ≤ vec_capacity affected.new }
+{
+    affected.clear();
+    for nth in 0..order.len() {
+        if is_reached(readers, groups, order[nth]) {
+            affected.push_reserved(order[nth]);
+        }
+    }
+}
+
+/// Memory lacks for these rows: of the queries that read a relation of them nothing is told, and their
+/// open cursors become stale, by a change of the present number.
+pub fn give_up(parts: &mut Parts, held: &[HeldRow])
+    requires readers { AreReaders parts.old.catalog.relations parts.old.readers.items
+        parts.old.queries.items }
+    requires logged { (r i : ℕ) → is_reader (readers_at parts.old.readers.items r) i ≡ true
+        → i < length parts.old.logs.items }
+    requires found { All (λ h. IsSome (relation_of parts.old.catalog.relations h.relation))
+        held.now }
+    ensures { GivesUp held.now parts.old parts.new }
+{
+    empty_held(&mut parts.logs, &parts.readers, &parts.catalog, held);
+    let seq = parts.seq;
+    outdate_held(
+        &mut parts.queries,
+        &parts.readers,
+        &parts.catalog,
+        held,
+        seq,
+    );
+}

@@ -1,0 +1,213 @@
+//! The rows of a batch go into the catalog, one after another, or none does.
+ghost use Rattle.std.specs.Prelude.{◌≡◌, ◌≤◌, ◌++◌, length, List, None, IfOk, IfErr, OnOk, OnErr, position, ◌==◌};
+ghost use Rattle.djq_model.specs.Data.{Bytes};
+ghost use Rattle.djq_lines.specs.declared.limits.TheConstants.{HELD};
+ghost use Rattle.djq_machine.specs.State.{Store};
+ghost use Rattle.djq_machine.specs.Batch.{suit_refusal, SuitAll, StopsAt};
+ghost use Rattle.djq_engine.specs.Judging.{bare};
+ghost use Rattle.djq_engine.specs.Putting.{bare_of, IsStoreOf, PutsRow, PutsOne, JoinsGroup, PutsAll};
+ghost use Rattle.djq_engine.specs.Putting.{RefusesAll, WentIn, WentInAll};
+
+use crate::judge::judge_held;
+use djq_dict::InternRefusal;
+use djq_index::Cells;
+use djq_lines::{AddOutcome, HeldRow, Refusal};
+use djq_model::{NoMem, Sequence};
+use djq_reach::Group;
+use djq_rows::{Catalog, RelationId, RowsRefusal, cells_stay, names_tell, texts_stay};
+use djq_steps::Tally;
+use std::alloc::Global;
+use std::sync::ledger::Ledger;
+
+/// A row that came: its relation, and its cells.
+#[derive(Debug, Drop)]
+pub struct Placed {
+    pub relation: RelationId,
+    pub cells: Cells,
+}
+
+/// What a batch put into a catalog: how many rows came, and these by their relations.
+#[derive(Drop)]
+pub struct Came {
+    pub count: usize,
+    pub groups: Vec<Group>,
+}
+
+// A held row goes in, or a copy of it where it is there.
+//
+// # Errors
+//
+// `Limit` where it has no place, or a text of it finds none; `NoMemory` out of memory.
+fn put_row<L: Ledger>(
+    catalog: &mut Catalog,
+    held: &HeldRow,
+    seq: u64,
+    tally: &mut Tally<L>,
+) -> Result<Option<Placed>, Refusal>
+    requires { suit_refusal (bare catalog.old.relations seq) held.now.relation held.now.row ≡ None }
+    ensures ok { IfOk result (λ o. PutsRow catalog.old held.now seq o catalog.new) }
+    ensures err { IfErr result (λ r.
+        StopsAt (bare_of catalog.old seq) held.now catalog.new.texts r) }
+    ensures stays { OnErr result (catalog.new.relations ≡ catalog.old.relations) }
+{
+    catalog.laws();
+    let id = judge_held(catalog, held, seq, tally)?;
+    let cells = match catalog.intern_row(held.row.as_slice()) {
+        Ok(cells) => cells,
+        Err(InternRefusal::Full) => return Err(Refusal::Limit),
+        Err(InternRefusal::NoMem) => {
+            catalog.laws();
+            return Err(Refusal::NoMemory);
+        }
+    };
+    catalog.laws();
+    match catalog.add_row(id, cells.as_slice(), tally) {
+        Ok(AddOutcome::First) => Ok(Some(Placed {
+            relation: id,
+            cells,
+        })),
+        Ok(AddOutcome::More(_copies)) => Ok(None),
+        Err(RowsRefusal::NoMem) => Err(Refusal::NoMemory),
+        Err(_full) => unreachable!(),
+    }
+}
+
+// Where the group of a relation is.
+fn find_group(groups: &[Group], relation: RelationId) -> Option<usize>
+    ensures { result ≡ position (λ g. g.relation.at == relation.at) groups.now }
+{
+    groups
+        .iter()
+        .position(|group| group.relation.at == relation.at)
+}
+
+// A row that came joins those of its relation.
+//
+// # Errors
+//
+// `NoMem` out of memory.
+fn join_group(alloc: Global, groups: &mut Vec<Group>, placed: Placed) -> Result<(), NoMem>
+    ensures { OnOk result (JoinsGroup placed.relation.at placed.cells
+        groups.old.items groups.new.items) }
+{
+    let Placed { relation, cells } = placed;
+    if let Some(at) = find_group(groups.as_slice(), relation) {
+        return groups[at].rows.push(cells);
+    }
+    let mut rows = Sequence::new(alloc);
+    rows.push(cells)?;
+    match groups.push(Group { relation, rows }) {
+        Ok(()) => Ok(()),
+        Err(_failed) => Err(NoMem),
+    }
+}
+
+// A held row that went in last is taken out again, or its copy.
+fn take_row_back<L: Ledger>(catalog: &mut Catalog, held: &HeldRow, tally: &mut Tally<L>)
+    requires { (st : Store) × WentIn st held.now catalog.old.relations }
+    ensures back { (st : Store) → WentIn st held.now catalog.old.relations
+        → catalog.new.relations ≡ st.relations }
+    ensures texts { catalog.new.texts ≡ catalog.old.texts }
+{
+    names_tell();
+    catalog.laws();
+    let Some(id) = catalog.id(&held.relation) else {
+        unreachable!()
+    };
+    let Some(cells) = catalog.cells(held.row.as_slice()) else {
+        unreachable!()
+    };
+    let _outcome = catalog.delete_row(id, cells.as_slice(), tally);
+}
+
+/// Held rows that went in are taken out again, the last one first. It takes no memory.
+pub fn take_back<L: Ledger>(catalog: &mut Catalog, held: &[HeldRow], tally: &mut Tally<L>)
+    requires { (st : Store) × WentInAll st held.now catalog.old.relations }
+    ensures back { (st : Store) → WentInAll st held.now catalog.old.relations
+        → catalog.new.relations ≡ st.relations }
+    ensures texts { catalog.new.texts ≡ catalog.old.texts }
+{
+    let mut left = held.len();
+    while left > 0 {
+        left -= 1;
+        take_row_back(catalog, &held[left], tally);
+    }
+}
+
+// A held row goes in, and joins those of its relation where it came. How many came is told.
+//
+// # Errors
+//
+// `Limit` where it has no place, or a text of it finds none; `NoMemory` out of memory.
+fn put_one<L: Ledger>(
+    catalog: &mut Catalog,
+    alloc: Global,
+    groups: &mut Vec<Group>,
+    held: &HeldRow,
+    seq: u64,
+    tally: &mut Tally<L>,
+) -> Result<usize, Refusal>
+    requires { suit_refusal (bare catalog.old.relations seq) held.now.relation held.now.row ≡ None }
+    ensures ok { IfOk result (λ n. PutsOne catalog.old groups.old.items held.now seq n
+        catalog.new groups.new.items) }
+    ensures err { IfErr result (λ r.
+        StopsAt (bare_of catalog.old seq) held.now catalog.new.texts r) }
+    ensures stays { OnErr result (catalog.new.relations ≡ catalog.old.relations) }
+{
+    names_tell();
+    texts_stay();
+    catalog.laws();
+    let placed = match put_row(catalog, held, seq, tally) {
+        Ok(Some(placed)) => placed,
+        Ok(None) => return Ok(0),
+        Err(refusal) => return Err(refusal),
+    };
+    match join_group(alloc, groups, placed) {
+        Ok(()) => Ok(1),
+        Err(_error) => {
+            take_row_back(catalog, held, tally);
+            Err(Refusal::NoMemory)
+        }
+    }
+}
+
+/// The rows of a batch go in, and those that came are told by relation; or none does.
+///
+/// # Errors
+///
+/// `Limit` where one has no place over what those before it leave, or a text of it finds none;
+/// `NoMemory` out of memory. No row has changed.
+pub fn put_all<L: Ledger>(
+    catalog: &mut Catalog,
+    alloc: Global,
+    held: &[HeldRow],
+    seq: u64,
+    tally: &mut Tally<L>,
+) -> Result<Came, Refusal>
+    requires suit { SuitAll (bare catalog.old.relations seq) held.now }
+    requires few { length held.now ≤ HELD }
+    ensures put { IfOk result (λ came. (st : Store) → IsStoreOf catalog.old seq st
+        → PutsAll st held.now catalog.new came.count came.groups.items) }
+    ensures refused { IfErr result (λ r. (st : Store) → IsStoreOf catalog.old seq st
+        → RefusesAll st held.now catalog.new.texts r) }
+    ensures stays { OnErr result (catalog.new.relations ≡ catalog.old.relations) }
+    ensures learned { (more : List Bytes) × (catalog.new.texts ≡ catalog.old.texts ++ more) }
+{
+    names_tell();
+    texts_stay();
+    cells_stay();
+    catalog.laws();
+    let mut groups = Vec::new(alloc);
+    let mut count = 0;
+    for at in 0..held.len() {
+        catalog.laws();
+        match put_one(catalog, alloc, &mut groups, &held[at], seq, tally) {
+            Ok(came) => count += came,
+            Err(refusal) => {
+                take_back(catalog, &held[..at], tally);
+                return Err(refusal);
+            }
+        }
+    }
+    Ok(Came { count, groups })
+}

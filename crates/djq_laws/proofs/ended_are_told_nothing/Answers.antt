@@ -1,0 +1,8 @@
+use Rattle.djq_laws.proofs.Silent.{over_is_silent, over_once}
+use Rattle.djq_laws.proofs.ended_are_told_nothing.Goals as goal
+
+pub returns-clause-silent : goal.returns-clause-silent
+returns-clause-silent c = over_is_silent
+
+pub returns-clause-once : goal.returns-clause-once
+returns-clause-once c = over_once

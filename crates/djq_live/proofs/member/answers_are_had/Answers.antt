@@ -1,0 +1,5 @@
+use Rattle.djq_live.proofs.Standing.{are_had}
+use Rattle.djq_live.proofs.member.answers_are_had.Goals as goal
+
+pub returns : goal.returns
+returns c = are_had

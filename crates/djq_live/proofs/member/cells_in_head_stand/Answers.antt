@@ -1,0 +1,5 @@
+use Rattle.djq_live.proofs.Standing.{cells_stand}
+use Rattle.djq_live.proofs.member.cells_in_head_stand.Goals as goal
+
+pub returns : goal.returns
+returns c = cells_stand

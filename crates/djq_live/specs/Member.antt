@@ -1,0 +1,66 @@
+-- A query that is kept, as a member of a union: its answers are cells in the order of its head.
+use Rattle.std.specs.Prelude.{◌≡◌, ◌↔◌, ℕ, Bool, true, List, map}
+use Rattle.djq_model.specs.Data.{Tuple}
+use Rattle.djq_model.specs.Answer.{IsAnswer}
+use Rattle.djq_machine.specs.Store.{answer_types}
+use Rattle.djq_reduct.specs.Reducts.{Reducts}
+use Rattle.djq_reduct.specs.Answers.{IsAnswerOf}
+use Rattle.djq_cursor.specs.declared.cursor.Cursor.{Cursor}
+use Rattle.djq_cursor.specs.Menus.{has}
+use Rattle.djq_cursor.specs.Levels.{group_at}
+use Rattle.djq_cursor.specs.Walk.{all_given}
+use Rattle.djq_cursor.specs.Given.{has_root, given, Fits}
+use Rattle.djq_rows.specs.Cells.{StandFor}
+use Rattle.djq_rows.specs.Catalog.{Catalog}
+use Rattle.djq_live.specs.Live.{Live, IsKept, IsKeptSomewhere, values_of}
+use Rattle.djq_live.specs.Order.{reading}
+
+-- the cells of a tuple of the tree, in the head's order
+abbrev pub in_head : Live → List ℕ → List ℕ
+in_head l u = map (reading (l.reducts).tree.head u) (l.numbered).head
+
+-- all answers of reducts, in the order in which a cursor gives them
+unfoldable pub all_answers : Reducts → List (List ℕ)
+all_answers r = all_given r (group_at r) (has_root r)
+
+-- whether these are the cells of an answer, in the head's order
+abbrev pub has_cells : Live → List ℕ → Bool
+has_cells l t = has (map (in_head l) (all_answers l.reducts)) t
+
+-- the cells of the answers that a cursor has given, in the head's order
+abbrev pub cells_given : Live → Cursor → List (List ℕ)
+cells_given l cursor = map (in_head l) (given l.reducts cursor)
+
+-- a cursor fits a query that is kept over some catalog
+abbrev pub FitsKept : Live → Cursor → Type 0
+FitsKept l cursor = IsKeptSomewhere l × Fits l.reducts cursor
+
+-- The cells of an answer of the tree, in the head's order, stand for the values that it shows.
+abbrev pub CellsInHeadStand : Type 0
+CellsInHeadStand = (c : Catalog) (l : Live) → IsKept c l → (u : List ℕ) → IsAnswerOf l.reducts u
+    → StandFor c.texts (answer_types c.relations l.query) (in_head l u) (values_of c.texts l u)
+
+-- Cells that stand for a tuple are had exactly where the tuple is an answer.
+abbrev pub AnswersAreHad : Type 0
+AnswersAreHad = (c : Catalog) (l : Live) → IsKept c l → (t : List ℕ) (v : Tuple)
+    → StandFor c.texts (answer_types c.relations l.query) t v
+    → (has_cells l t ≡ true) ↔ IsAnswer c.relations l.query v
+
+-- The cells that are had stand for a tuple.
+abbrev pub HadCellsStand : Type 0
+HadCellsStand = (c : Catalog) (l : Live) → IsKept c l → (t : List ℕ) → has_cells l t ≡ true
+    → (v : Tuple) × StandFor c.texts (answer_types c.relations l.query) t v
+
+-- There are cells for each answer.
+abbrev pub AnswersHaveCells : Type 0
+AnswersHaveCells = (c : Catalog) (l : Live) → IsKept c l → (v : Tuple)
+    → IsAnswer c.relations l.query v
+    → (t : List ℕ) × StandFor c.texts (answer_types c.relations l.query) t v
+
+-- Of two queries over one catalog, whose answers have the same types, equal cells stand for equal
+-- values, and different ones for different ones.
+abbrev pub CellsTellValues : Type 0
+CellsTellValues = (c : Catalog) (l m : Live)
+    → answer_types c.relations l.query ≡ answer_types c.relations m.query
+    → (t u : List ℕ) (v w : Tuple) → StandFor c.texts (answer_types c.relations l.query) t v
+    → StandFor c.texts (answer_types c.relations m.query) u w → (t ≡ u) ↔ (v ≡ w)

@@ -1,0 +1,109 @@
+//! A query as a member of a union: what it lists and is asked for are cells in its head's order.
+ghost use Rattle.std.specs.Prelude.{◌≡◌, ◌≤◌, ℕ, true, length, map};
+ghost use Rattle.djq_hyper.specs.Hypergraph.{member};
+ghost use Rattle.djq_live.specs.Order.{reading};
+ghost use Rattle.djq_live.specs.Member.{
+  CellsInHeadStand,
+  AnswersAreHad,
+  HadCellsStand,
+  AnswersHaveCells,
+  CellsTellValues,
+};
+
+use crate::live::LiveQuery;
+use crate::lookup::has_cells;
+use djq_cursor::Cursor;
+use djq_reduct::{Answer, Cells, Reducts};
+use djq_steps::Tally;
+use djq_union::Listing;
+use std::sync::ledger::Ledger;
+
+/// Writes an answer of the tree as cells in a head's order.
+fn put_in_order(reducts: &Reducts, head: &[usize], answer: &Answer, cells: &mut Cells)
+    requires few { length head.now ≤ 16 }
+    requires wide { length answer.now ≡ length reducts.now.tree.head }
+    requires within { (x : ℕ) → member x head.now ≡ true → member x reducts.now.tree.head ≡ true }
+    ensures { cells.new ≡ map (reading reducts.now.tree.head answer.now) head.now }
+{
+    cells.clear();
+    for variable in head {
+        cells.push(answer.as_slice()[reducts.column(*variable)]);
+    }
+}
+
+impl Listing for LiveQuery {
+    ghost use Rattle.std.specs.Prelude.{length};
+    ghost use Rattle.djq_machine.specs.Store.{most_steps};
+    ghost use Rattle.djq_live.specs.Live.{IsKeptSomewhere};
+    ghost use Rattle.djq_live.specs.Member.{has_cells, cells_given, FitsKept};
+
+    type State = Cursor;
+
+    type Answer = Cells;
+
+    ghost has = { λ l t. has_cells l t };
+
+    ghost given = { λ l s. cells_given l s };
+
+    ghost ready = { λ l. IsKeptSomewhere l };
+
+    ghost fits = { λ l s. FitsKept l s };
+
+    ghost most = { λ l. most_steps (length l.query.head) };
+
+    ghost asks = { λ l. length l.query.atoms };
+
+    fn start(&self) -> Cursor {
+        Cursor::start()
+    }
+
+    fn advance<L: Ledger>(
+        &self,
+        state: &mut Cursor,
+        out: &mut Cells,
+        listing: &mut Tally<L>,
+    ) -> bool {
+        self.numbered.within();
+        if !state.step(&self.reducts, listing) {
+            return false;
+        }
+        put_in_order(&self.reducts, self.numbered.head(), &state.answer, out);
+        true
+    }
+
+    fn is_left<L: Ledger>(&self, state: &Cursor, listing: &mut Tally<L>) -> bool {
+        state.is_left(&self.reducts, listing)
+    }
+
+    fn has<L: Ledger>(&self, answer: &Cells, listing: &mut Tally<L>) -> bool {
+        self.reducts.laws();
+        let head = self.numbered.head();
+        answer.len() == head.len() && has_cells(&self.reducts, head, answer, listing)
+    }
+}
+
+/// The cells of an answer of the tree, in the head's order, stand for the values that it shows.
+pub fn cells_in_head_stand()
+    ensures { CellsInHeadStand }
+{}
+
+/// Cells that stand for a tuple are had exactly where the tuple is an answer.
+pub fn answers_are_had()
+    ensures { AnswersAreHad }
+{}
+
+/// The cells that are had stand for a tuple.
+pub fn had_cells_stand()
+    ensures { HadCellsStand }
+{}
+
+/// There are cells for each answer.
+pub fn answers_have_cells()
+    ensures { AnswersHaveCells }
+{}
+
+/// Equal cells of two queries over one catalog, whose answers have the same types, stand for equal
+/// values, and different ones for different ones.
+pub fn cells_tell_values()
+    ensures { CellsTellValues }
+{}

@@ -1,0 +1,14 @@
+pub mod Among
+pub mod Reaching
+pub mod Tending
+pub mod Working
+pub mod Deltas
+pub mod Growing
+pub mod Going
+pub mod Batching
+pub mod Clearing
+pub mod Chaining
+pub mod Summing
+pub mod Telling
+pub mod Costing
+pub mod Refusing

@@ -1,0 +1,39 @@
+use Rattle.std.proofs.Common.{◌∙◌, refl}
+use Rattle.djq_live.specs.Updating.{CanDelete}
+use Rattle.djq_reach.specs.Reaching.{LetsOut}
+use Rattle.djq_reach.proofs.Reaching.{all_go, reach_next, reach_none, still}
+use Rattle.djq_reach.proofs.Working.{works_front, works_next, works_none}
+use Rattle.djq_reach.proofs.reach.give_back.Goals as goal
+
+pub loop-at-init : goal.loop-at-init
+loop-at-init g c = record {
+  reach = reach_none (LetsOut c.args.relation.at c.args.cells.now) c.args.queries.now.items;
+  works = works_none c.args.queries.now.items c.args.relation.at 1 c.args.steps.now.update;
+  counted = refl;
+}
+
+pub returns-clause-updates : goal.returns-clause-updates
+returns-clause-updates g c =
+    works_front c.args.places.now c.loop-at.at c.args.queries.now.items c.args.relation.at 1 c.args.steps.now.update
+    c.loop-at.steps.update c.loop-at.invariant.works
+
+pub give_at-requires : goal.give_at-requires
+give_at-requires g c =
+    still (LetsOut c.args.relation.at c.args.cells.now) c.args.places.now c.loop-at.at 0
+    c.args.queries.now.items c.loop-at.queries.items
+    (λ l. CanDelete l c.args.relation.at c.args.cells.now) c.requires.once c.loop-at-test.true
+    c.loop-at.invariant.reach
+    (all_go c.args.places.now c.args.relation.at c.args.cells.now c.args.queries.now.items
+    c.requires.can)
+
+pub loop-at-preserved : goal.loop-at-preserved
+loop-at-preserved g c = record {
+  reach = reach_next (LetsOut c.args.relation.at c.args.cells.now) c.args.places.now c.loop-at.at 0
+      c.args.queries.now.items c.loop-at.queries.items c.give_at.new.queries.items
+      c.requires.once c.loop-at-test.true c.loop-at.invariant.reach c.give_at.ensures.reach;
+  works = works_next (LetsOut c.args.relation.at c.args.cells.now) c.args.places.now c.loop-at.at 0
+      c.args.queries.now.items c.loop-at.queries.items c.args.relation.at 1 c.args.steps.now.update
+      c.loop-at.steps.update c.give_at.new.steps.update
+      c.requires.once c.loop-at-test.true c.loop-at.invariant.reach c.loop-at.invariant.works c.give_at.ensures.updates;
+  counted = c.give_at.ensures.counted ∙ c.loop-at.invariant.counted;
+}

@@ -1,0 +1,93 @@
+-- What rows that come into a relation at once do to the queries that read it, and to their logs.
+use Rattle.std.specs.Prelude.{ℕ, List, ◌≡◌, ◌≤◌, ◌+◌, Bool, false, Option, length, sum_by}
+use Rattle.djq_model.specs.Data.{Tuple}
+use Rattle.djq_propagate.specs.Updates.{HasAtMost}
+use Rattle.djq_reduct.specs.Reducts.{SameTables}
+use Rattle.djq_cursor.specs.Log.{Log}
+use Rattle.djq_rows.specs.Catalog.{Catalog}
+use Rattle.djq_live.specs.Batching.{GrowsBy}
+use Rattle.djq_live.specs.Changes.{CameAll, IsLater}
+use Rattle.djq_live.specs.Live.{Live, IsKept, SameQuery}
+use Rattle.djq_live.specs.Stepping.{HasMore}
+use Rattle.djq_live.specs.Updating.{Follows, LogsWhere}
+use Rattle.djq_reach.specs.Places.{watched_at, is_reader, log_at}
+use Rattle.djq_reach.specs.Reaching.{AllAt}
+use Rattle.djq_reach.specs.Tending.{work_at}
+
+-- Rows with these cells came into a relation, and neither a text nor a relation came with them: so
+-- they can go again.
+pub record Comes (c d : Catalog) (at : ℕ) (cells : List (List ℕ)) (rows : List Tuple) : Type 0
+  where
+    pub came : CameAll c d at cells rows
+    pub back : IsLater d c
+
+-- The queries in these places are kept, and rows with these cells came and can go again.
+pub record CanComeAll (places : List ℕ) (at : ℕ) (cells : List (List ℕ)) (gs : List (Option Live)) :
+    Type 0 where
+  pub before : Catalog
+  pub after : Catalog
+  pub rows : List Tuple
+  pub comes : Comes before after at cells rows
+  pub kept : AllAt places gs (λ l. IsKept before l)
+
+-- They are kept behind them.
+pub record CanGoAll (places : List ℕ) (at : ℕ) (cells : List (List ℕ)) (gs : List (Option Live)) :
+    Type 0 where
+  pub before : Catalog
+  pub after : Catalog
+  pub rows : List Tuple
+  pub comes : Comes before after at cells rows
+  pub kept : AllAt places gs (λ l. IsKept after l)
+
+-- A query is kept behind rows that came and can go again.
+pub record CanGiveAll (l : Live) (at : ℕ) (cells : List (List ℕ)) : Type 0 where
+  pub before : Catalog
+  pub after : Catalog
+  pub rows : List Tuple
+  pub comes : Comes before after at cells rows
+  pub kept : IsKept after l
+
+-- A query takes in rows that came.
+pub record TakesInAll (at : ℕ) (cells : List (List ℕ)) (l m : Live) : Type 0 where
+  pub follows : Follows (λ c d rows. CameAll c d at cells rows) l m
+  pub same : SameQuery l m
+  pub grows : GrowsBy (length cells) l.reducts m.reducts
+
+-- It is kept over the catalog over which it was, and its tables hold what they held.
+pub record Refuses (l m : Live) : Type 0 where
+  pub kept : (c : Catalog) → IsKept c l → IsKept c m
+  pub same : SameQuery l m
+  pub tables : SameTables l.reducts m.reducts
+
+-- It lets rows out that came: it is kept over the catalog that was before them.
+pub record LetsOutAll (at : ℕ) (cells : List (List ℕ)) (l m : Live) : Type 0 where
+  pub follows : (c d : Catalog) (rows : List Tuple) → Comes c d at cells rows → IsKept d l
+      → IsKept c m
+  pub same : SameQuery l m
+  pub fewer : HasMore m.reducts l.reducts
+
+-- It is kept over a catalog into which rows came that can go again. No leaf has more tuples than it
+-- would have with them.
+pub record GivesAllBack (at : ℕ) (cells : List (List ℕ)) (l m : Live) : Type 0 where
+  pub kept : (c d : Catalog) (rows : List Tuple) → Comes c d at cells rows → IsKept c l
+      → IsKept c m
+  pub same : SameQuery l m
+  pub few : (n : ℕ) → (c d : Catalog) (rows : List Tuple) → Comes c d at cells rows → IsKept c l
+      → HasAtMost l.reducts n → HasAtMost m.reducts (n + length cells)
+
+-- Where a query is watched its log tells of a change behind what it told; else it is as before.
+abbrev pub LogsAt : {R : Type 0} → List ℕ → (Catalog → Catalog → R → Type 0) → ℕ → Live → Log
+    → Log → Type 0
+LogsAt {R} watchers Changed i = LogsWhere (watched_at watchers i) Changed
+
+-- The logs in all other places are as before.
+pub record OthersStay (places : List ℕ) (old new : List Log) : Type 0 where
+  pub long : length new ≡ length old
+  pub others : (i : ℕ) → is_reader places i ≡ false → log_at new i ≡ log_at old i
+
+-- What the queries in these places count at most where so many rows come at once and no leaf has
+-- more than n tuples before: so many times the bound of an update with the rows counted in.
+abbrev pub WorksBatch : List ℕ → List (Option Live) → ℕ → ℕ → ℕ → ℕ → ℕ → Type 0
+WorksBatch places gs at more times before now = (n : ℕ)
+    → AllAt places gs (λ l. HasAtMost l.reducts n)
+    → now ≤ before + sum_by (work_at gs at times (n + more) (λ i. false)) places

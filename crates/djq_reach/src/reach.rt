@@ -1,0 +1,296 @@
+//! What a change does to the queries that read its relation, one after another. No other query is
+//! looked at.
+ghost use Rattle.std.specs.Prelude.{◌≡◌, ◌<◌, [], ◌∷◌, ⊤, false, IsSomeAnd, OnOk, OnErr, length};
+ghost use Rattle.djq_live.specs.Changes.{Came, Went};
+ghost use Rattle.djq_live.specs.Updating.{CanAdd, CanDelete, CountsDelta};
+ghost use Rattle.djq_reach.specs.Places.{place_at, watched_at, AreOnce};
+ghost use Rattle.djq_reach.specs.Tending.{Readies, TellsWhere, Tends, TellsAt, Shows, Costs, AreUnwatched, CountsEither, HaveLogs, Empties, Works};
+ghost use Rattle.djq_reach.specs.Reaching.{Reach, AllAt, CanCome, CanGo, TakesIn, LetsOut, Remains, GivesBack, Ages};
+
+use crate::places::is_watched;
+use djq_cursor::DeltaLog;
+use djq_live::LiveQuery;
+use djq_model::{Name, NoMem};
+use djq_rows::RelationId;
+use djq_steps::{Ledgers, Steps};
+
+/// A log is made ready to tell anew, where that is wanted.
+pub(crate) fn ready(log: &mut DeltaLog, wanted: bool)
+    ensures { Readies wanted log.old log.new }
+{
+    if wanted {
+        log.clear();
+    }
+}
+
+// A query takes in a row that came. Where it is watched, its log tells anew which answers came.
+fn take_one<L: Ledgers>(
+    query: &mut LiveQuery,
+    wanted: bool,
+    log: &mut DeltaLog,
+    relation: RelationId,
+    cells: &[u64],
+    steps: &mut Steps<L>,
+) -> Result<(), NoMem>
+    requires { CanAdd query.old relation.at cells.now }
+    ensures taken { OnOk result (TakesIn relation.at cells.now query.old query.new) }
+    ensures refused { OnErr result (Remains query.old query.new) }
+    ensures tells { OnOk result (TellsWhere wanted (λ c d. Came c d relation.at cells.now)
+        query.old log.old log.new) }
+    ensures none { OnErr result (log.new.lines ≡ []) }
+    ensures counted { CountsDelta wanted (λ c d. Came c d relation.at cells.now)
+        query.old relation.at steps.old.listing steps.new.listing }
+    ensures updates { OnOk result (CountsEither 1 query.old relation.at
+        steps.old.update steps.new.update) }
+    ensures refusal { OnErr result (CountsEither 3 query.old relation.at
+        steps.old.update steps.new.update) }
+{
+    ready(log, wanted);
+    query.add(relation, cells, wanted, log, steps)
+}
+
+// A query lets out a row that went. Where it is watched, its log tells anew which answers went.
+fn let_one<L: Ledgers>(
+    query: &mut LiveQuery,
+    wanted: bool,
+    log: &mut DeltaLog,
+    relation: RelationId,
+    cells: &[u64],
+    steps: &mut Steps<L>,
+)
+    requires { CanDelete query.old relation.at cells.now }
+    ensures lets { LetsOut relation.at cells.now query.old query.new }
+    ensures tells { TellsWhere wanted (λ c d. Went c d relation.at cells.now)
+        query.old log.old log.new }
+    ensures counted { CountsDelta wanted (λ c d. Went c d relation.at cells.now)
+        query.old relation.at steps.old.listing steps.new.listing }
+    ensures updates { CountsEither 1 query.old relation.at steps.old.update steps.new.update }
+{
+    ready(log, wanted);
+    query.delete(relation, cells, wanted, log, steps);
+}
+
+// The query in a place takes in a row that came.
+fn take_at<L: Ledgers>(
+    queries: &mut Vec<Option<LiveQuery>>,
+    watchers: &[u32],
+    logs: &mut Vec<DeltaLog>,
+    at: usize,
+    relation: RelationId,
+    cells: &[u64],
+    steps: &mut Steps<L>,
+) -> Result<(), NoMem>
+    requires can { IsSomeAnd (place_at queries.old.items at) (λ l. CanAdd l relation.at cells.now) }
+    requires watched { at < length watchers.now }
+    requires logged { at < length logs.old.items }
+    ensures ok { OnOk result (Reach (at ∷ []) (TakesIn relation.at cells.now)
+        queries.old.items queries.new.items) }
+    ensures err { OnErr result (Reach (at ∷ []) Remains queries.old.items queries.new.items) }
+    ensures tells { OnOk result (Tends (at ∷ [])
+        (TellsAt watchers.now (λ c d. Came c d relation.at cells.now))
+        queries.old.items logs.old.items logs.new.items) }
+    ensures shows { Tends (at ∷ []) (Shows (λ c d. Came c d relation.at cells.now))
+        queries.old.items logs.old.items logs.new.items }
+    ensures counted { Costs (λ c d. Came c d relation.at cells.now) (at ∷ []) watchers.now
+        queries.old.items relation.at steps.old.listing steps.new.listing }
+    ensures unlisted { watched_at watchers.now at ≡ false
+        → steps.new.listing ≡ steps.old.listing }
+    ensures updates { OnOk result (Works (at ∷ []) queries.old.items relation.at 1
+        steps.old.update steps.new.update) }
+    ensures refusal { OnErr result (Works (at ∷ []) queries.old.items relation.at 3
+        steps.old.update steps.new.update) }
+{
+    let wanted = is_watched(watchers, at);
+    match &mut queries[at] {
+        Some(query) => take_one(query, wanted, &mut logs[at], relation, cells, steps),
+        None => unreachable!(),
+    }
+}
+
+// It lets out a row that went.
+fn let_at<L: Ledgers>(
+    queries: &mut Vec<Option<LiveQuery>>,
+    watchers: &[u32],
+    logs: &mut Vec<DeltaLog>,
+    at: usize,
+    relation: RelationId,
+    cells: &[u64],
+    steps: &mut Steps<L>,
+)
+    requires can { IsSomeAnd (place_at queries.old.items at)
+        (λ l. CanDelete l relation.at cells.now) }
+    requires watched { at < length watchers.now }
+    requires logged { at < length logs.old.items }
+    ensures reach { Reach (at ∷ []) (LetsOut relation.at cells.now)
+        queries.old.items queries.new.items }
+    ensures tells { Tends (at ∷ []) (TellsAt watchers.now (λ c d. Went c d relation.at cells.now))
+        queries.old.items logs.old.items logs.new.items }
+    ensures counted { Costs (λ c d. Went c d relation.at cells.now) (at ∷ []) watchers.now
+        queries.old.items relation.at steps.old.listing steps.new.listing }
+    ensures unlisted { watched_at watchers.now at ≡ false
+        → steps.new.listing ≡ steps.old.listing }
+    ensures updates { Works (at ∷ []) queries.old.items relation.at 1
+        steps.old.update steps.new.update }
+{
+    let wanted = is_watched(watchers, at);
+    match &mut queries[at] {
+        Some(query) => let_one(query, wanted, &mut logs[at], relation, cells, steps),
+        None => unreachable!(),
+    }
+}
+
+// It gives back a row that it took in.
+fn give_at<L: Ledgers>(
+    queries: &mut Vec<Option<LiveQuery>>,
+    at: usize,
+    relation: RelationId,
+    cells: &[u64],
+    steps: &mut Steps<L>,
+)
+    requires { IsSomeAnd (place_at queries.old.items at) (λ l. CanDelete l relation.at cells.now) }
+    ensures reach { Reach (at ∷ []) (LetsOut relation.at cells.now)
+        queries.old.items queries.new.items }
+    ensures counted { steps.new.listing ≡ steps.old.listing }
+    ensures updates { Works (at ∷ []) queries.old.items relation.at 1
+        steps.old.update steps.new.update }
+{
+    match &mut queries[at] {
+        Some(query) => query.give_back(relation, cells, steps),
+        None => unreachable!(),
+    }
+}
+
+// Its open cursors become stale.
+fn age_at(queries: &mut Vec<Option<LiveQuery>>, at: usize, relation: Name, seq: u64)
+    requires { IsSomeAnd (place_at queries.old.items at) (λ l. ⊤) }
+    ensures { Reach (at ∷ []) (Ages relation seq) queries.old.items queries.new.items }
+{
+    match &mut queries[at] {
+        Some(query) => query.outdate(relation, seq),
+        None => unreachable!(),
+    }
+}
+
+/// The queries in these places take in a row that came into a relation, given by its cells, and the
+/// logs of those that are watched tell anew which answers came; or, out of memory, those that had
+/// taken it give it back.
+///
+/// # Errors
+///
+/// `NoMem` out of memory; answers are as before. What was counted is at most three times as much, and
+/// of flat queries twice.
+pub fn take_in<L: Ledgers>(
+    queries: &mut Vec<Option<LiveQuery>>,
+    watchers: &[u32],
+    logs: &mut Vec<DeltaLog>,
+    places: &[usize],
+    relation: RelationId,
+    cells: &[u64],
+    steps: &mut Steps<L>,
+) -> Result<(), NoMem>
+    requires once { AreOnce places.now }
+    requires can { CanCome places.now relation.at cells.now queries.old.items }
+    requires watched { length watchers.now ≡ length queries.old.items }
+    requires logged { length logs.old.items ≡ length queries.old.items }
+    ensures taken { OnOk result (Reach places.now (TakesIn relation.at cells.now)
+        queries.old.items queries.new.items) }
+    ensures given { OnErr result (Reach places.now (GivesBack relation.at cells.now)
+        queries.old.items queries.new.items) }
+    ensures tells { OnOk result (Tends places.now
+        (TellsAt watchers.now (λ c d. Came c d relation.at cells.now))
+        queries.old.items logs.old.items logs.new.items) }
+    ensures shows { Tends places.now (Shows (λ c d. Came c d relation.at cells.now))
+        queries.old.items logs.old.items logs.new.items }
+    ensures counted { Costs (λ c d. Came c d relation.at cells.now) places.now watchers.now
+        queries.old.items relation.at steps.old.listing steps.new.listing }
+    ensures unlisted { AreUnwatched watchers.now places.now
+        → steps.new.listing ≡ steps.old.listing }
+    ensures updates { OnOk result (Works places.now queries.old.items relation.at 1
+        steps.old.update steps.new.update) }
+    ensures refusal { OnErr result (Works places.now queries.old.items relation.at 3
+        steps.old.update steps.new.update) }
+{
+    for at in 0..places.len() {
+        match take_at(queries, watchers, logs, places[at], relation, cells, steps) {
+            Ok(()) => {}
+            Err(error) => {
+                give_back(queries, &places[..at], relation, cells, steps);
+                return Err(error);
+            }
+        }
+    }
+    Ok(())
+}
+
+// The queries in these places give back a row.
+fn give_back<L: Ledgers>(
+    queries: &mut Vec<Option<LiveQuery>>,
+    places: &[usize],
+    relation: RelationId,
+    cells: &[u64],
+    steps: &mut Steps<L>,
+)
+    requires once { AreOnce places.now }
+    requires can { CanGo places.now relation.at cells.now queries.old.items }
+    ensures reach { Reach places.now (LetsOut relation.at cells.now)
+        queries.old.items queries.new.items }
+    ensures counted { steps.new.listing ≡ steps.old.listing }
+    ensures updates { Works places.now queries.old.items relation.at 1
+        steps.old.update steps.new.update }
+{
+    for at in 0..places.len() {
+        give_at(queries, places[at], relation, cells, steps);
+    }
+}
+
+/// The queries in these places let out a row that went out of a relation, and the logs of those
+/// that are watched tell anew which answers went. It takes no memory but the logs'.
+pub fn let_out<L: Ledgers>(
+    queries: &mut Vec<Option<LiveQuery>>,
+    watchers: &[u32],
+    logs: &mut Vec<DeltaLog>,
+    places: &[usize],
+    relation: RelationId,
+    cells: &[u64],
+    steps: &mut Steps<L>,
+)
+    requires once { AreOnce places.now }
+    requires can { CanGo places.now relation.at cells.now queries.old.items }
+    requires watched { length watchers.now ≡ length queries.old.items }
+    requires logged { length logs.old.items ≡ length queries.old.items }
+    ensures reach { Reach places.now (LetsOut relation.at cells.now)
+        queries.old.items queries.new.items }
+    ensures tells { Tends places.now (TellsAt watchers.now (λ c d. Went c d relation.at cells.now))
+        queries.old.items logs.old.items logs.new.items }
+    ensures counted { Costs (λ c d. Went c d relation.at cells.now) places.now watchers.now
+        queries.old.items relation.at steps.old.listing steps.new.listing }
+    ensures unlisted { AreUnwatched watchers.now places.now
+        → steps.new.listing ≡ steps.old.listing }
+    ensures updates { Works places.now queries.old.items relation.at 1
+        steps.old.update steps.new.update }
+{
+    for at in 0..places.len() {
+        let_at(queries, watchers, logs, places[at], relation, cells, steps);
+    }
+}
+
+/// The logs in these places are emptied.
+pub fn empty_logs(logs: &mut Vec<DeltaLog>, places: &[usize])
+    requires { HaveLogs places.now logs.old.items }
+    ensures { Empties places.now logs.old.items logs.new.items }
+{
+    for nth in 0..places.len() {
+        logs[places[nth]].clear();
+    }
+}
+
+/// The open cursors of the queries in these places become stale, by a change of a relation.
+pub fn age(queries: &mut Vec<Option<LiveQuery>>, places: &[usize], relation: Name, seq: u64)
+    requires once { AreOnce places.now }
+    requires there { AllAt places.now queries.old.items (λ l. ⊤) }
+    ensures { Reach places.now (Ages relation seq) queries.old.items queries.new.items }
+{
+    for at in 0..places.len() {
+        age_at(queries, places[at], relation, seq);
+    }
+}

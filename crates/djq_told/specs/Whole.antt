@@ -1,0 +1,41 @@
+-- What a mirror makes of all that a session was ever sent, along a whole run.
+use Rattle.std.specs.Prelude.{ℕ, List, [], ◌∷◌, ◌++◌, ◌≡◌, All}
+use Rattle.djq_model.specs.Listed.{Listed}
+use Rattle.djq_machine.specs.State.{State}
+use Rattle.djq_machine.specs.Step.{Step}
+use Rattle.djq_machine.specs.Run.{Did, Run, out}
+use Rattle.djq_laws.specs.Sound.{IsStart}
+use Rattle.djq_laws.specs.Silent.{OpensNone}
+use Rattle.djq_told.specs.Sayable.{IsSayableStore}
+use Rattle.djq_told.specs.Mirrored.{Reads, EndsNow, IsReadBack}
+
+-- What comes behind a session that reads a query: nothing; or its input ends, or it is closed, and
+-- then whatever comes, but for a session of its id.
+abbrev pub LeavesOff : ℕ → State → List Did → State → Type 0
+LeavesOff s old [] new = new ≡ old
+LeavesOff s old (d ∷ later) new = (mid : State) × Step old d.event d.effect mid × EndsNow s d.event
+    × Run mid later new × All (λ e. OpensNone s e.event) later
+
+-- A whole run of a session: nothing is queued to it, until it waits, begins to watch a query, and reads
+-- it through one cursor at a time. It does so up to a state, the last one, or the one in which its
+-- input ends or it is closed.
+pub record ReadsWhole (q : Listed) (s : ℕ) (start : State) (whole : List Did) (at new : State) : Type 0
+  where
+    pub earlier : List Did
+    pub first : State
+    pub comes : Run start earlier first
+    pub unsaid : out s earlier ≡ []
+    pub fore : List Did
+    pub old : State
+    pub done : List Did
+    pub reads : Reads q s first fore old done at
+    pub later : List Did
+    pub leaves : LeavesOff s at later new
+    pub is : whole ≡ earlier ++ ((fore ++ done) ++ later)
+
+-- The whole of what is queued to such a session comes to what a mirror holds: no byte of it is refused.
+-- And where the mirror is live, it holds the query's answers over the rows of that state: those that are
+-- there now, where the session goes on, and else those that there were as it ended or was closed.
+abbrev pub SessionsAreReadBack : Type 0
+SessionsAreReadBack = (start : State) → IsStart start → IsSayableStore start.store → (q : Listed) (s : ℕ)
+    (whole : List Did) (at new : State) → ReadsWhole q s start whole at new → IsReadBack q s whole at
