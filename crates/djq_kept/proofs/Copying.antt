@@ -37,7 +37,7 @@ use Rattle.djq_model.proofs.Counted.{
 use Rattle.djq_laws.proofs.Apart.{rows_more, rows_less, texts_apart}
 use Rattle.djq_kept.proofs.Respecting.{EndsWell, Respects, none_of, give, late_of, where_memory, by_texts}
 use Rattle.djq_machine.specs.declared.machine.Loaded.{Loaded}
-use Rattle.djq_machine.specs.Loading.{CommandLoads}
+use Rattle.djq_machine.specs.Loading.{StoreLoads}
 use Rattle.djq_kept.specs.Kept.{HasRowsOnce, Follows}
 use Rattle.djq_kept.proofs.Knowing.{among_all, room_too}
 use Rattle.djq_kept.proofs.Sameness.{
@@ -52,8 +52,47 @@ use Rattle.djq_kept.proofs.Sameness.{
   delete_same,
 }
 
+-- another number of changes
+pub follows_at : (a b : Store) (m n : ℕ) → n ≡ m → Follows a b → Follows (record a { seq = m }) (record b { seq = n })
+follows_at a b m n e f = record {
+  same = record { relations = f.same.relations; queries = f.same.queries; seq = e };
+  rows = f.rows;
+  among = f.among;
+  once = f.once;
+}
+
 module _ (a b : Store) (f : Follows a b) where
-  -- a row that comes
+  -- a row that wasn't there, and its texts
+  module _ (name : Bytes) (row : Tuple) (absent : has_row (rows_of a.relations name) row ≡ false) where
+    abbrev came : Store → Store
+    came st = record st {
+      relations = with_rows st.relations name (with_row (counted_of st.relations name) row);
+      texts = all_learned st.texts (texts_in row);
+    }
+
+    came_once : All HasRowsOnce (with_rows b.relations name (with_row (counted_of b.relations name) row))
+    came_once =
+        once_with b.relations name (with_row (counted_of b.relations name) row)
+        (subst AreDifferent (sym (tuples_with_row (counted_of b.relations name) row))
+        (rows_more (rows_of b.relations name) row (rows_once b.relations name f.rows)
+        (same_has a b name row f ∙ absent))) f.rows
+
+    pub came_follows : Follows (came a) (came b)
+    came_follows = record {
+      same = record {
+        relations = same_with a.relations b.relations name
+            (with_row (counted_of a.relations name) row) (with_row (counted_of b.relations name) row)
+            (with_row_moved (counted_of a.relations name) (counted_of b.relations name) row (moved a b name row f))
+            f.same.relations;
+        queries = f.same.queries;
+        seq = f.same.seq;
+      };
+      rows = came_once;
+      among = among_all b.texts a.texts (texts_in row) f.among;
+      once = texts_apart b.texts (texts_in row) f.once;
+    }
+
+  -- a row that comes, as a further change
   module _ (name : Bytes) (row : Tuple) (to : Store) (m : AddsRow a name row (Ok First) to) where
     abbrev LateAdd : Store → Store → Refusal → Type 0
     LateAdd st n r = (has_row (rows_of st.relations name) row ≡ false) × RefusedByTexts st (texts_in row) n r
@@ -78,26 +117,11 @@ module _ (a b : Store) (f : Follows a b) where
     added_absent : has_row (rows_of b.relations name) row ≡ false
     added_absent = same_has a b name row f ∙ added_as.0
 
-    added_once : All HasRowsOnce (with_rows b.relations name (with_row (counted_of b.relations name) row))
-    added_once =
-        once_with b.relations name (with_row (counted_of b.relations name) row)
-        (subst AreDifferent (sym (tuples_with_row (counted_of b.relations name) row))
-        (rows_more (rows_of b.relations name) row (rows_once b.relations name f.rows) added_absent)) f.rows
-
     added_follows : Follows to (added b)
-    added_follows = subst (λ (st : Store). Follows st (added b)) (sym added_as.2) (record {
-      same = record {
-        relations = same_with a.relations b.relations name
-            (with_row (counted_of a.relations name) row) (with_row (counted_of b.relations name) row)
-            (with_row_moved (counted_of a.relations name) (counted_of b.relations name) row (moved a b name row f))
-            f.same.relations;
-        queries = f.same.queries;
-        seq = ap (λ (n : ℕ). n + 1) f.same.seq;
-      };
-      rows = added_once;
-      among = among_all b.texts a.texts (texts_in row) f.among;
-      once = texts_apart b.texts (texts_in row) f.once;
-    })
+    added_follows =
+        subst (λ (st : Store). Follows st (added b)) (sym added_as.2)
+        (follows_at (came name row added_as.0 a) (came name row added_as.0 b) (a.seq + 1) (b.seq + 1)
+        (ap (λ (n : ℕ). n + 1) f.same.seq) (came_follows name row added_as.0))
 
     pub add_respects : Respects b (Add name row) to
     add_respects = record {
@@ -117,7 +141,7 @@ module _ (a b : Store) (f : Follows a b) where
       each = each;
     }
       where
-        each : (how : Loaded) (n : Store) → CommandLoads b (Add name row) how n → EndsWell how to n
+        each : (how : Loaded) (n : Store) → StoreLoads b (Add name row) how n → EndsWell how to n
         each how n (Ok First, k, e) =
             let d = done_of (add_refusal b name row) First (AddsAs b name row n) (LateAdd b n) k.answer in
             inl (e, subst (λ (st : Store). Follows to st) (sym d.2) added_follows)
@@ -157,7 +181,7 @@ module _ (a b : Store) (f : Follows a b) where
     }
 
     -- what is so left, of so many copies, follows what was left
-    recounted_as : (to n : Store) (others : ℕ) → to ≡ recounted a → others ≡ copies
+    pub recounted_as : (to n : Store) (others : ℕ) → to ≡ recounted a → others ≡ copies
         → n ≡ record b { relations = with_copies_of b.relations name row others } → Follows to n
     recounted_as to n others is same after =
         subst (λ (st : Store). Follows st n) (sym is)
@@ -202,7 +226,7 @@ module _ (a b : Store) (f : Follows a b) where
       each = each;
     }
       where
-        each : (how : Loaded) (n : Store) → CommandLoads b (Add name row) how n → EndsWell how to n
+        each : (how : Loaded) (n : Store) → StoreLoads b (Add name row) how n → EndsWell how to n
         each how n (Ok First, k, e) =
             let d = done_of (add_refusal b name row) First (AddsAs b name row n) (LateMore b n) k.answer in
             absurd (false≢true (sym d.0 ∙ more_there))
@@ -274,7 +298,7 @@ module _ (a b : Store) (f : Follows a b) where
       each = each;
     }
       where
-        each : (how : Loaded) (n : Store) → CommandLoads b (Del name row) how n → EndsWell how to n
+        each : (how : Loaded) (n : Store) → StoreLoads b (Del name row) how n → EndsWell how to n
         each how n (Ok Last, k, e) =
             let d = done_of (delete_refusal b name row) Last (DeletesAs b name row n) (OutOfMemoryWhere ⊥) k.answer in
             inl (e, subst (λ (st : Store). Follows to st) (sym d.2) removed_follows)
@@ -326,7 +350,7 @@ module _ (a b : Store) (f : Follows a b) where
       each = each;
     }
       where
-        each : (how : Loaded) (n : Store) → CommandLoads b (Del name row) how n → EndsWell how to n
+        each : (how : Loaded) (n : Store) → StoreLoads b (Del name row) how n → EndsWell how to n
         each how n (Ok Last, k, e) =
             let d = done_of (delete_refusal b name row) Last (DeletesAs b name row n) (OutOfMemoryWhere ⊥) k.answer in
             let one = d.1 in

@@ -1,31 +1,39 @@
--- A line that is kept is no longer than a line may be, and isn't empty.
-use Rattle.std.proofs.Common.{List, [], ◌∷◌, ◌≤◌, length, arith}
-use Rattle.std.specs.Prelude.{All}
-use Rattle.std.proofs.lemmas.List.Elements.{All-nil, All-cons, All-append}
+-- The lines that are kept are no longer than a line may be, and none is empty.
+use Rattle.std.proofs.Common.{[], ◌∷◌, ◌++◌, ◌≡◌, ◌≤◌, length, refl, ap, arith}
+use Rattle.std.specs.Prelude.{codes, All}
+use Rattle.std.proofs.lemmas.List.Elements.{All-nil, All-cons, All-append, All-from_recursion}
 use Rattle.djq_machine.specs.State.{State}
-use Rattle.djq_machine.specs.Keeping.{Keeping, no_line, the_line}
+use Rattle.djq_machine.specs.Keeping.{Keeping, no_line, the_line, the_batch}
 use Rattle.djq_machine.specs.Effect.{Effect}
 use Rattle.djq_machine.specs.LineStep.{run}
 use Rattle.djq_machine.specs.Step.{Event, stepped, Acts}
-use Rattle.djq_machine.specs.Run.{Group, group_of, groups_of}
-use Rattle.djq_laws.proofs.Short.{run_line}
-use Rattle.djq_kept.specs.Kept.{IsLine, KeptAreLines}
+use Rattle.djq_machine.specs.Run.{Group, groups_in, group_of, groups_of}
+use Rattle.djq_laws.specs.Holding.{IsLine, HoldLines}
+use Rattle.djq_laws.proofs.Holding.{step_hold_lines, kept_lines}
+use Rattle.djq_kept.specs.Kept.{KeptAreLines}
 
-abbrev AreGroups : List Group → Type 0
-AreGroups groups = All (λ group. (1 ≤ length group) × All IsLine group) groups
+abbrev IsGroup : Group → Type 0
+IsGroup group = (1 ≤ length group) × All IsLine group
 
-no_groups : AreGroups []
-no_groups = All-nil (λ group. (1 ≤ length group) × All IsLine group)
+step_lines : (old : State) → HoldLines old → (event : Event) (k : Keeping) (e : Effect) → e.kept ≡ k → (mid : State)
+    → Acts old event e mid
+    → All IsGroup (group_of event k)
+step_lines old hold (stepped s (run l)) k e is mid h = by k is
+  where
+    one : (group : Group) → groups_in l e.kept ≡ group ∷ [] → 1 ≤ length group → All IsGroup (group ∷ [])
+    one group same some =
+        All-cons IsGroup group [] (some, All-from_recursion IsLine group (kept_lines old s l e mid h hold group same))
+        (All-nil IsGroup)
 
-step_lines : (old : State) (event : Event) (k : Keeping) (e : Effect) (mid : State) → Acts old event e mid → AreGroups (group_of event k)
-step_lines old (stepped s (run l)) the_line e mid h =
-    All-cons (λ group. (1 ≤ length group) × All IsLine group) (l ∷ []) []
-    (omega arith, All-cons IsLine l [] (run_line old s l e mid h) (All-nil IsLine)) no_groups
-step_lines old (stepped s (run l)) no_line e mid h = no_groups
-step_lines old _ k e mid h = no_groups
+    by : (k : Keeping) → e.kept ≡ k → All IsGroup (groups_in l k)
+    by no_line is = All-nil IsGroup
+    by the_line is = one (l ∷ []) (ap (groups_in l) is) (omega arith)
+    by (the_batch held) is = one (codes "batch" ∷ held ++ codes "done" ∷ []) (ap (groups_in l) is) (omega arith)
+step_lines old hold _ k e is mid h = All-nil IsGroup
 
 pub kept_are_lines : KeptAreLines
-kept_are_lines old [] new w = no_groups
-kept_are_lines old (d ∷ done) new w =
-    All-append (λ group. (1 ≤ length group) × All IsLine group) (group_of d.event d.effect.kept) (groups_of done)
-    (step_lines old d.event d.effect.kept d.effect (w.1).mid (w.1).acts) (kept_are_lines w.0 done new w.2)
+kept_are_lines old [] new w hold = All-nil IsGroup
+kept_are_lines old (d ∷ done) new w hold =
+    All-append IsGroup (group_of d.event d.effect.kept) (groups_of done)
+    (step_lines old hold d.event d.effect.kept d.effect refl (w.1).mid (w.1).acts)
+    (kept_are_lines w.0 done new w.2 (step_hold_lines old d.event d.effect w.0 w.1 hold))

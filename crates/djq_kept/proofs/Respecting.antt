@@ -1,4 +1,4 @@
--- A command that a run did, done to a store that follows the one it was done to.
+-- A command that a run did outside a batch, done to a store that follows the one it was done to.
 use Rattle.std.proofs.Common.{ℕ, List, [], ◌∷◌, ◌++◌, ◌≡◌, ◌≤◌, ◌⊎◌, inl, inr, Bool, true, false, length, refl, sym, ap, ◌∙◌, subst}
 use Rattle.std.specs.Prelude.{Option, None, Some, is_none, is_some, Ok, Err, cond, ⊤}
 use Rattle.std.proofs.lemmas.Bool.{false≢true}
@@ -22,7 +22,7 @@ use Rattle.djq_laws.proofs.Forms.{done_of}
 use Rattle.djq_laws.proofs.Apart.{nothing_apart, texts_apart}
 use Rattle.djq_machine.specs.declared.machine.Loaded.{Loaded}
 use Rattle.djq_machine.specs.declared.machine.Loaded.TheVariants.{Ran as ran, NoMem as no_memory}
-use Rattle.djq_machine.specs.Loading.{refused_by, CommandLoads}
+use Rattle.djq_machine.specs.Loading.{refused_by, StoreLoads}
 use Rattle.djq_kept.specs.Kept.{HasRowsOnce, Follows}
 use Rattle.djq_kept.proofs.Knowing.{among_all, room_too, place_too}
 use Rattle.djq_kept.proofs.Sameness.{same_more, rel_same, query_same}
@@ -33,8 +33,8 @@ EndsWell how to n = ((how ≡ ran) × Follows to n) ⊎ (how ≡ no_memory)
 
 -- It can be done there, and whatever comes of it, it ends well.
 pub record Respects (b : Store) (c : Command) (to : Store) : Type 0 where
-  pub can : (n : Store) × CommandLoads b c ran n × Follows to n
-  pub each : (how : Loaded) (n : Store) → CommandLoads b c how n → EndsWell how to n
+  pub can : (n : Store) × StoreLoads b c ran n × Follows to n
+  pub each : (how : Loaded) (n : Store) → StoreLoads b c how n → EndsWell how to n
 
 -- ---- what answers say
 
@@ -50,7 +50,7 @@ pub late_of : {A : Type 0} (o : Option Refusal) (r : Refusal) (D : A → Type 0)
 late_of None r D L e h = h
 late_of (Some s) r D L e h = absurd (cc (e))
 
-only_memory : (P : Type 0) (r : Refusal) (how : Loaded) → OutOfMemoryWhere P r → how ≡ refused_by r → how ≡ no_memory
+pub only_memory : (P : Type 0) (r : Refusal) (how : Loaded) → OutOfMemoryWhere P r → how ≡ refused_by r → how ≡ no_memory
 only_memory P NoMemory how h e = e
 only_memory P _ how h e = absurd h
 
@@ -96,7 +96,7 @@ module _ (a b : Store) (f : Follows a b) where
       each = each;
     }
       where
-        each : (how : Loaded) (n : Store) → CommandLoads b (Rel name types) how n → EndsWell how to n
+        each : (how : Loaded) (n : Store) → StoreLoads b (Rel name types) how n → EndsWell how to n
         each how n (Ok v, k, e) =
             let is = done_of (rel_refusal b name types) v (λ _. n ≡ made b) (OutOfMemoryWhere ⊤) k.answer in
             inl (e, subst (λ (st : Store). Follows to st) (sym is) made_follows)
@@ -150,7 +150,7 @@ module _ (a b : Store) (f : Follows a b) where
         late how n r e (inl h) = by_texts (texts_in (constants_of q)) n r how listed_room h.1 e
         late how n r e (inr h) = e ∙ ap refused_by h.0
 
-        each : (how : Loaded) (n : Store) → CommandLoads b (Register q) how n → EndsWell how to n
+        each : (how : Loaded) (n : Store) → StoreLoads b (Register q) how n → EndsWell how to n
         each how n (Ok (Registered k), j, e) =
             let d = done_of (query_refusal b q) (Registered k) (RegistersAs b q n) (RefusedLate b q n) j.answer in
             inl (e, subst (λ (st : Store). Follows to st) (sym d.3) listed_follows)
@@ -197,7 +197,7 @@ module _ (a b : Store) (f : Follows a b) where
       each = each;
     }
       where
-        each : (how : Loaded) (n : Store) → CommandLoads b (Drop q) how n → EndsWell how to n
+        each : (how : Loaded) (n : Store) → StoreLoads b (Drop q) how n → EndsWell how to n
         each how n (Ok v, k, e) =
             let is = done_of (drop_refusal b false q) v (λ _. n ≡ dropped b) (OutOfMemoryWhere ⊥) k.answer in
             inl (e, subst (λ (st : Store). Follows to st) (sym is) dropped_follows)

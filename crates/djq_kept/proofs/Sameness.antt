@@ -26,14 +26,16 @@ use Rattle.djq_model.specs.Data.{
 use Rattle.djq_model.specs.Answer.{AreDifferent}
 use Rattle.djq_model.specs.Listed.{Listed, listed_of}
 use Rattle.djq_model.specs.Typed.{fits}
-use Rattle.djq_lines.specs.declared.limits.TheConstants.{COLUMNS, RELATIONS, ROWS, COPIES, LAST_SEQ, QUERIES}
+use Rattle.djq_lines.specs.declared.limits.TheConstants.{COLUMNS, RELATIONS, ROWS, COPIES, LAST_SEQ, QUERIES, HELD}
 use Rattle.djq_lines.specs.declared.answer.Refusal.{Refusal}
 use Rattle.djq_lines.specs.declared.answer.Refusal.TheVariants.{Taken, NoRelation, Arity, WrongType, VariableType, Unbound, HeadRepeated, HeadUnbound, Limit}
+use Rattle.djq_lines.specs.declared.held.HeldRow.{HeldRow}
 use Rattle.djq_lines.specs.Columns.{types_of, columns_of}
 use Rattle.djq_lines.specs.QueryFault.{any_column, any_place, is_misfit, is_clash, is_miscompared, reads_unknown, has_wrong_arity, has_misfit, has_clash, compares_unbound, has_miscompared, repeats_head, has_unbound_head, is_too_large}
 use Rattle.djq_machine.specs.Conditions.{first_of}
 use Rattle.djq_machine.specs.State.{Store}
 use Rattle.djq_machine.specs.Store.{with_rows, copies_of, rel_refusal, add_refusal, delete_refusal, query_refusal}
+use Rattle.djq_machine.specs.Batch.{hold_refusal}
 use Rattle.djq_machine.specs.Step.{SameRelations}
 use Rattle.djq_model.proofs.Counted.{tuples_moved, has_moved, differ_moved, copies_moved}
 use Rattle.djq_laws.proofs.Apart.{nothing_apart}
@@ -206,21 +208,37 @@ add_more copies has long seq =
     ∷ (not has && nat_le LAST_SEQ seq, Limit)
     ∷ []
 
-pub add_same : (a b : Store) (n : Bytes) (row : Tuple) → Follows a b → add_refusal b n row ≡ add_refusal a n row
-add_same a b n row h =
-    let left = relation_of a.relations n in
-    let has = has_row (rows_of b.relations n) row in
-    let long = length (rows_of b.relations n) in
-    let by : List (Bool × Refusal) → Option Refusal = row_by (is_none left) (types_of left) row in
-    row_same a b n row (add_more (copies_of b n row) has long b.seq) h
-    ∙ ap (λ (x : ℕ). by (add_more x has long b.seq)) (same_copies a b n row h)
-    ∙ ap (λ (x : Bool). by (add_more (copies_of a n row) x long b.seq)) (same_has a b n row h)
-    ∙ ap (λ (x : ℕ). by (add_more (copies_of a n row) (has_row (rows_of a.relations n) row) x b.seq))
-    (length_permutation (rows_of a.relations n) (rows_of b.relations n)
-    (reordered_rows a.relations b.relations n h.same.relations))
-    ∙ ap (λ (x : ℕ).
-    by (add_more (copies_of a n row) (has_row (rows_of a.relations n) row) (length (rows_of a.relations n)) x))
-    h.same.seq
+-- what else refuses a copy more
+module _ (a b : Store) (n : Bytes) (row : Tuple) (h : Follows a b) where
+  abbrev more_in : Store → List (Bool × Refusal)
+  more_in st = let rows = rows_of st.relations n in
+      add_more (copies_of st n row) (has_row rows row) (length rows) st.seq
+
+  more_same : more_in b ≡ more_in a
+  more_same =
+      let has = has_row (rows_of b.relations n) row in
+      let long = length (rows_of b.relations n) in
+      ap (λ (x : ℕ). add_more x has long b.seq) (same_copies a b n row h)
+      ∙ ap (λ (x : Bool). add_more (copies_of a n row) x long b.seq) (same_has a b n row h)
+      ∙ ap (λ (x : ℕ). add_more (copies_of a n row) (has_row (rows_of a.relations n) row) x b.seq)
+      (length_permutation (rows_of a.relations n) (rows_of b.relations n)
+      (reordered_rows a.relations b.relations n h.same.relations))
+      ∙ ap (λ (x : ℕ).
+      add_more (copies_of a n row) (has_row (rows_of a.relations n) row) (length (rows_of a.relations n)) x)
+      h.same.seq
+
+  pub add_same : add_refusal b n row ≡ add_refusal a n row
+  add_same =
+      let left = relation_of a.relations n in
+      row_same a b n row (more_in b) h
+      ∙ ap (λ (x : List (Bool × Refusal)). row_by (is_none left) (types_of left) row x) more_same
+
+  -- so of a row that a batch holds
+  pub place_same : first_of (more_in b) ≡ first_of (more_in a)
+  place_same = ap first_of more_same
+
+  pub hold_same : (held : List HeldRow) → hold_refusal b held n row ≡ hold_refusal a held n row
+  hold_same held = row_same a b n row ((nat_le HELD (length held), Limit) ∷ []) h
 
 abbrev delete_more : ℕ → ℕ → List (Bool × Refusal)
 delete_more copies seq = ((copies == 1) && nat_le LAST_SEQ seq, Limit) ∷ []

@@ -1,52 +1,137 @@
 -- What is loaded into a sound store leaves a sound one.
-use Rattle.std.specs.Prelude.{◌≡◌, false}
-use Rattle.std.proofs.Common.{sym, subst, inl, inr}
+use Rattle.std.specs.Prelude.{List, [], ◌∷◌, ◌++◌, ◌≡◌, false, Option, None, Some, IfSome, Ok, Err, ⊤}
+use Rattle.std.proofs.Common.{refl, sym, subst, inl, inr, arith}
+use Rattle.std.proofs.lemmas.List.Elements.{All-nil}
 use Rattle.djq_model.specs.Data.{Bytes}
 use Rattle.djq_lines.specs.declared.command.Command.{Command}
-use Rattle.djq_lines.specs.declared.command.Command.TheVariants.{Rel, Add, Del, Query as Register, Drop}
+use Rattle.djq_lines.specs.declared.command.Command.TheVariants.{Rel, Add, Del, Query as Register, Drop, Batch, Done, Abandon}
+use Rattle.djq_lines.specs.declared.held.HeldRow.{HeldRow}
 use Rattle.djq_lines.specs.Grammar.{Reading, outside, past_limit, says as says_command, reading_of}
+use Rattle.djq_machine.specs.Conditions.{OutOfMemoryWhere}
 use Rattle.djq_machine.specs.State.{Store, opening}
-use Rattle.djq_machine.specs.Stale.{by_relation}
 use Rattle.djq_machine.specs.Changes.{row_in, row_out, add_outcome, delete_outcome}
-use Rattle.djq_machine.proofs.Walks.{walk_keeps}
-use Rattle.djq_laws.specs.Sound.{IsSoundStore}
-use Rattle.djq_laws.proofs.Forms.{rel_stored, query_stored, drop_stored}
-use Rattle.djq_laws.proofs.Rows.{added, deleted}
-use Rattle.djq_laws.proofs.Storing.{stored_sound, made_sound, moved_store}
-use Rattle.djq_laws.proofs.Sounding.{opening_is_start}
+use Rattle.djq_machine.specs.Batch.{hold_refusal, suit_refusal, batch_outcome}
 use Rattle.djq_machine.specs.declared.machine.Loaded.{Loaded}
 use Rattle.djq_machine.specs.declared.machine.Loaded.TheVariants.{Ran as ran}
-use Rattle.djq_machine.specs.Loading.{CommandLoads, ReadingLoads, LoadStep}
+use Rattle.djq_machine.specs.Loading.{Loading, loading, StoreLoads, CommandLoads, ReadingLoads, LoadStep}
+use Rattle.djq_machine.proofs.Walks.{walk_keeps}
+use Rattle.djq_laws.specs.Form.{row_comes, row_goes, rows_come}
+use Rattle.djq_laws.specs.Sound.{IsSoundStore, IsSoundBatch, IsHeldBySaying}
+use Rattle.djq_laws.proofs.Forms.{rel_stored, query_stored, drop_stored}
+use Rattle.djq_laws.proofs.Rows.{added, deleted}
+use Rattle.djq_laws.proofs.Batches.{batched}
+use Rattle.djq_laws.proofs.Suiting.{types_moved, types_suit, batch_still, held_more}
+use Rattle.djq_laws.proofs.Storing.{stored_sound, made_sound, moved_store}
+use Rattle.djq_laws.proofs.Sounding.{opening_is_start}
 use Rattle.djq_kept.specs.Kept.{FoundIsStart}
+use Rattle.djq_kept.proofs.Respecting.{none_of}
+use Rattle.djq_kept.proofs.Following.{holding, of_batch}
+
+-- The store is sound, and so is the batch, where one is open.
+pub record IsSoundLoading (a : Loading) : Type 0 where
+  pub store : IsSoundStore a.store
+  pub batch : IfSome a.batch (IsSoundBatch a.store)
 
 stays_sound : (old new : Store) → new ≡ old → IsSoundStore old → IsSoundStore new
 stays_sound old new same sound = subst IsSoundStore (sym same) sound
 
-command_sound : (old : Store) (c : Command) (how : Loaded) (new : Store) → CommandLoads old c how new → IsSoundStore old → IsSoundStore new
-command_sound old (Rel name types) how new (r, made, e) sound = stored_sound (λ q. false) old new (rel_stored (λ q. false) old new name types r made) sound
-command_sound old (Register q) how new (r, made, e) sound = stored_sound (λ p. false) old new (query_stored (λ p. false) old new q r made) sound
-command_sound old (Drop q) how new (r, made, e) sound = stored_sound (λ p. false) old new (drop_stored (λ p. false) old new q r made) sound
+stays_so : (old new : Loading) → new ≡ old → IsSoundLoading old → IsSoundLoading new
+stays_so old new same sound = subst IsSoundLoading (sym same) sound
+
+closed_sound : (st : Store) → IsSoundStore st → IsSoundLoading (loading st)
+closed_sound st sound = record { store = sound; batch = tt }
+
+-- a command outside a batch
+command_sound : (old : Store) (c : Command) (how : Loaded) (new : Store) → StoreLoads old c how new → IsSoundStore old
+    → IsSoundStore new
+command_sound old (Rel name types) how new (r, made, e) sound =
+    stored_sound (λ q. false) old new (rel_stored (λ q. false) old new name types r made) sound
+command_sound old (Register q) how new (r, made, e) sound =
+    stored_sound (λ p. false) old new (query_stored (λ p. false) old new q r made) sound
+command_sound old (Drop q) how new (r, made, e) sound =
+    stored_sound (λ p. false) old new (drop_stored (λ p. false) old new q r made) sound
 command_sound old (Add name row) how new (r, made, e) sound =
-    made_sound (by_relation name) old (add_outcome (row_in old.relations name row) r) new (added old name row r new made) sound
+    made_sound (row_comes name row) old (add_outcome (row_in old.relations name row) r) new
+    (added old name row r new made) tt sound
 command_sound old (Del name row) how new (r, made, e) sound =
-    made_sound (by_relation name) old (delete_outcome (row_out old.relations name row) r) new (deleted old name row r new made) sound
+    made_sound (row_goes name row) old (delete_outcome (row_out old.relations name row) r) new
+    (deleted old name row r new made) tt sound
 command_sound old c how new h sound = stays_sound old new h.1 sound
 
-reading_sound : (old : Store) (r : Reading) (how : Loaded) (new : Store) → ReadingLoads old r how new → IsSoundStore old → IsSoundStore new
-reading_sound old outside how new h sound = stays_sound old new h.1 sound
-reading_sound old (past_limit c) how new h sound = stays_sound old new h.1 sound
-reading_sound old (says_command c) how new (inl h) sound = command_sound old c how new h sound
-reading_sound old (says_command c) how new (inr h) sound = stays_sound old new h.2 sound
+outside_sound : (old : Store) (l : Bytes) (c : Command) (how : Loaded) (new : Loading)
+    → CommandLoads (loading old) l c how new → IsSoundStore old
+    → IsSoundLoading new
+outside_sound old l Batch how new (inl h) sound =
+    stays_so (holding old []) new h.1 (record {
+      store = sound;
+      batch = record {
+        few = omega arith;
+        suit = All-nil (λ (h : HeldRow). suit_refusal old h.relation h.row ≡ None);
+        lines = All-nil IsHeldBySaying;
+      };
+    })
+outside_sound old l Batch how new (inr h) sound = stays_so (loading old) new h.1 (closed_sound old sound)
+outside_sound old l c how new h sound =
+    of_batch IsSoundLoading new None h.1 (closed_sound new.store (command_sound old c how new.store h.0 sound))
 
-line_sound : (old : Store) (line : Bytes) (new : Store) → LoadStep old line ran new → IsSoundStore old → IsSoundStore new
+-- a command where a batch is open
+within_sound : (old : Store) (held : List HeldRow) (l : Bytes) (c : Command) → reading_of l ≡ says_command c
+    → (how : Loaded) (new : Loading)
+    → CommandLoads (holding old held) l c how new → IsSoundLoading (holding old held) → IsSoundLoading new
+within_sound old held l (Add name row) said how new (Ok u, k, e, same) sound =
+    let more : HeldRow = record { line = l; relation = name; row = row } in
+    stays_so (holding old (held ++ more ∷ [])) new same (record {
+      store = sound.store;
+      batch = held_more old held more (none_of (hold_refusal old held name row) u (λ _. ⊤) (OutOfMemoryWhere ⊤) k)
+          (record { said = said }) sound.batch;
+    })
+within_sound old held l (Add name row) said how new (Err r, k, e, same) sound =
+    stays_so (holding old held) new same sound
+within_sound old held l Done said how new (r, m, e, closed) sound =
+    of_batch IsSoundLoading new None closed
+    (closed_sound new.store
+    (made_sound (rows_come held) old (batch_outcome old held r) new.store
+    (batched old held r new.store m) sound.batch.suit sound.store))
+within_sound old held l Abandon said how new h sound = stays_so (loading old) new h.1 (closed_sound old sound.store)
+within_sound old held l c said how new h sound = stays_so (holding old held) new h.1 sound
+
+reading_sound : (old : Loading) (l : Bytes) (r : Reading) → reading_of l ≡ r → (how : Loaded) (new : Loading)
+    → ReadingLoads old l r how new
+    → IsSoundLoading old → IsSoundLoading new
+reading_sound old l outside is how new h sound = stays_so old new h.1 sound
+reading_sound old l (past_limit c) is how new h sound = stays_so old new h.1 sound
+reading_sound old l (says_command c) is how new (inr h) sound = stays_so old new h.3 sound
+reading_sound old l (says_command c) is how new (inl h) sound = by old.batch refl
+  where
+    at : (o : Option (List HeldRow)) → old.batch ≡ o → IsSoundLoading (record { store = old.store; batch = o })
+    at o e = subst (λ (k : Option (List HeldRow)). IsSoundLoading (record { store = old.store; batch = k })) e sound
+
+    loads : (o : Option (List HeldRow)) → old.batch ≡ o
+        → CommandLoads (record { store = old.store; batch = o }) l c how new
+    loads o e =
+        subst (λ (k : Option (List HeldRow)). CommandLoads (record { store = old.store; batch = k }) l c how new) e h
+
+    by : (o : Option (List HeldRow)) → old.batch ≡ o → IsSoundLoading new
+    by None e = outside_sound old.store l c how new (loads None e) sound.store
+    by (Some held) e = within_sound old.store held l c is how new (loads (Some held) e) (at (Some held) e)
+
+line_sound : (old : Loading) (line : Bytes) (new : Loading) → LoadStep old line ran new → IsSoundLoading old
+    → IsSoundLoading new
 line_sound old line new h sound =
-    stays_sound (record h.mid { relations = h.relations }) new h.after
-    (moved_store h.mid h.relations h.reordered (reading_sound old (reading_of line) ran h.mid h.loads sound))
+    let mid = reading_sound old line (reading_of line) refl ran h.mid h.loads sound in
+    let after : Store = record h.mid.store { relations = h.relations } in
+    stays_so (record h.mid { store = after }) new h.after (record {
+      store = moved_store h.mid.store h.relations h.reordered mid.store;
+      batch = batch_still h.mid.store after
+          (types_suit h.mid.store after
+          (types_moved h.mid.store.relations h.relations h.reordered)) h.mid.batch mid.batch;
+    })
 
 pub found_is_start : FoundIsStart
 found_is_start found st loads none going = record {
-  store = walk_keeps (λ old line new. LoadStep old line ran new) IsSoundStore line_sound opening.store found st.store loads
-      opening_is_start.store;
+  store =
+      (walk_keeps (λ old line new. LoadStep old line ran new) IsSoundLoading line_sound (loading opening.store) found
+      (loading st.store) loads (closed_sound opening.store opening_is_start.store)).store;
   none = none;
   going = going;
 }

@@ -1,17 +1,18 @@
 -- The lines that a run kept, loaded, give what the run left.
-use Rattle.std.specs.Prelude.{List, [], ◌∷◌, ◌++◌, ◌≡◌, ◌≤◌, true, false, length, All}
+use Rattle.std.specs.Prelude.{List, [], ◌∷◌, ◌++◌, ◌≡◌, ◌≤◌, true, false, None, IsSome, codes, length, All}
 use Rattle.djq_model.specs.declared.relation.Relation.{Relation}
 use Rattle.djq_model.specs.Data.{Bytes, Tuple, tuples_in}
 use Rattle.djq_model.specs.Answer.{AreDifferent}
 use Rattle.djq_model.specs.Known.{knows}
-use Rattle.djq_lines.specs.declared.limits.TheConstants.{LINE_BYTES}
 use Rattle.djq_machine.specs.State.{Store, State, opening}
 use Rattle.djq_machine.specs.Store.{copies_of}
 use Rattle.djq_machine.specs.Step.{SameRelations}
 use Rattle.djq_machine.specs.Run.{Did, Run, Group, groups_of, lines_in}
-use Rattle.djq_laws.specs.Sound.{AreApart, IsStart}
-use Rattle.djq_machine.specs.declared.machine.Loaded.TheVariants.{Refused as refused}
-use Rattle.djq_machine.specs.Loading.{LoadStep, Loads}
+use Rattle.djq_laws.specs.Sound.{AreApart, IsSoundState, IsStart}
+use Rattle.djq_laws.specs.Holding.{IsLine, HoldLines}
+use Rattle.djq_machine.specs.declared.machine.Loaded.{Loaded}
+use Rattle.djq_machine.specs.declared.machine.Loaded.TheVariants.{Ran as ran, Refused as refused}
+use Rattle.djq_machine.specs.Loading.{Loading, loading, LoadStep, Loads}
 
 -- Two stores have the same relations, each with its rows and their copies in any order, the same
 -- queries and number of changes.
@@ -41,31 +42,53 @@ abbrev pub FollowersHaveCopies : Type 0
 FollowersHaveCopies = (a b : Store) → Follows a b → (name : Bytes) (row : Tuple)
     → copies_of b name row ≡ copies_of a name row
 
--- Lines can be loaded into a store, and none is refused; and whatever they are loaded to, where
--- memory suffices, follows this store.
-pub record LoadsTo (from : Store) (lines : List Bytes) (to : Store) : Type 0 where
-  pub can : (b : Store) × Loads from lines b × Follows to b
-  pub each : (b : Store) → Loads from lines b → Follows to b
+-- So does a loading: where it has come to, the store follows that one, and the same batch is open, or
+-- none.
+pub record LoadingFollows (a b : Loading) : Type 0 where
+  pub store : Follows a.store b.store
+  pub batch : b.batch ≡ a.batch
+
+-- Lines can be loaded from here, and none is refused; and wherever they are loaded to, where memory
+-- suffices, follows this.
+pub record LoadsOn (from : Loading) (lines : List Bytes) (to : Loading) : Type 0 where
+  pub can : (b : Loading) × Loads from lines b × LoadingFollows to b
+  pub each : (b : Loading) → Loads from lines b → LoadingFollows to b
   pub none_refused : (front : List Bytes) (line : Bytes) (behind : List Bytes)
-      → lines ≡ front ++ line ∷ behind → (mid : Store) → Loads from front mid → (new : Store)
+      → lines ≡ front ++ line ∷ behind → (mid : Loading) → Loads from front mid → (new : Loading)
       → LoadStep mid line refused new → ⊥
 
--- What lines, found at a start, give is a state to start from, where no session is open yet.
+-- So they are from a store to a store: no batch is open before them, and none behind them.
+abbrev pub LoadsTo : Store → List Bytes → Store → Type 0
+LoadsTo from lines to = LoadsOn (loading from) lines (loading to)
+
+-- What lines, found at a start, give is a state to start from, where they leave no batch open and no
+-- session is open yet.
 abbrev pub FoundIsStart : Type 0
-FoundIsStart = (found : List Bytes) (st : State) → Loads opening.store found st.store
+FoundIsStart = (found : List Bytes) (st : State) → Loads (loading opening.store) found (loading st.store)
     → st.sessions ≡ [] → st.stopped ≡ false → IsStart st
+
+-- Where a batch is open, the line `abandon` ends it: it is never refused, and takes no memory.
+abbrev pub AbandonRuns : Type 0
+AbandonRuns = (old : Loading) (how : Loaded) (new : Loading) → LoadStep old (codes "abandon") how new
+    → IsSome old.batch → (how ≡ ran) × (new.batch ≡ None)
+
+-- So lines, found at a start, that leave one open load with it to the same store.
+abbrev pub AbandonedAreLoaded : Type 0
+AbandonedAreLoaded = (found : List Bytes) (left : Loading) → Loads (loading opening.store) found left
+    → IsSome left.batch → LoadsTo opening.store (found ++ codes "abandon" ∷ []) left.store
 
 -- The lines that a run kept, loaded into a store that follows the one it began with, give a store
 -- that follows the one it left: the same rows with the same copies.
 abbrev pub KeptLinesLoad : Type 0
-KeptLinesLoad = (old : State) (done : List Did) (new : State) → Run old done new
+KeptLinesLoad = (old : State) (done : List Did) (new : State) → Run old done new → IsSoundState old
     → (from : Store) → Follows old.store from → LoadsTo from (lines_in (groups_of done)) new.store
 
 -- So it is of a run that began with what lines, found at its start, gave: these lines and those that
 -- it kept give what it left.
 abbrev pub RunsReload : Type 0
-RunsReload = (found : List Bytes) (old : State) → Loads opening.store found old.store
-    → (done : List Did) (new : State) → Run old done new
+RunsReload = (found : List Bytes) (old : State)
+    → Loads (loading opening.store) found (loading old.store)
+    → (done : List Did) (new : State) → Run old done new → IsSoundState old
     → LoadsTo opening.store (found ++ lines_in (groups_of done)) new.store
 
 -- the point of a run at which it had kept just these groups
@@ -81,17 +104,14 @@ pub record StoodAt (old : State) (done : List Did) (new : State) (groups : List 
 -- What a stop leaves: the first groups that a run kept, whole, behind the lines found at its start,
 -- give what it had where it had kept just these.
 abbrev pub StopsReload : Type 0
-StopsReload = (found : List Bytes) (old : State) → Loads opening.store found old.store
-    → (done : List Did) (new : State) → Run old done new
+StopsReload = (found : List Bytes) (old : State)
+    → Loads (loading opening.store) found (loading old.store)
+    → (done : List Did) (new : State) → Run old done new → IsSoundState old
     → (whole later : List Group) → groups_of done ≡ whole ++ later
     → (at : StoodAt old done new whole) × LoadsTo opening.store (found ++ lines_in whole) at.mid.store
-
--- a line as a session may say it
-abbrev pub IsLine : Bytes → Type 0
-IsLine l = (1 ≤ length l) × (length l ≤ LINE_BYTES)
 
 -- A group that a run keeps has a line at least, and each of its lines has a byte at least and no
 -- more than a line may have.
 abbrev pub KeptAreLines : Type 0
-KeptAreLines = (old : State) (done : List Did) (new : State) → Run old done new
+KeptAreLines = (old : State) (done : List Did) (new : State) → Run old done new → HoldLines old
     → All (λ group. (1 ≤ length group) × All IsLine group) (groups_of done)

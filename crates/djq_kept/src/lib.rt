@@ -2,15 +2,19 @@
 //!
 //! Each function here is empty: its contract is the law, and its proof says nothing of code. A run
 //! keeps the lines of `rel`, `add` and `drop` that weren't refused, of `del` where a copy went, and
-//! of `query` where it was registered (djq_machine, `specs/Keeping.antt`).
+//! of `query` where it was registered; and of a batch that was done `batch`, the lines that it held
+//! and `done`, as one group (djq_machine, `specs/Keeping.antt`).
 //!
 //! ```text
-//! rel r int       kept          loaded into an empty store, the five kept lines give
-//! add r 7         kept          r with two copies of the row (8), no query, and 3
-//! add r 8         kept          changes, as the run left it
-//! add r 8         kept
+//! rel r int       kept          loaded into an empty store, the eight kept lines give
+//! add r 7         kept          r with two copies of the row (8) and one of (9), no
+//! add r 8         kept          query, and 4 changes, as the run left it
 //! del r 9
 //! has q 7
+//! batch
+//! add r 8         held
+//! add r 9         held
+//! done            kept: batch, add r 8, add r 9, done
 //! del r 7         kept
 //! ```
 //!
@@ -19,26 +23,36 @@
 //!
 //! What surprises: what is kept is the line as it came, and loading it runs it anew. A store that
 //! is loaded *follows* the one that was left: rows, each with its copies, may stand in another
-//! order, and texts that no row or query of it has may be unknown. Cursors, watches and sessions
-//! aren't kept. No kept line is refused as it is loaded, though memory may be wanting.
+//! order, and texts that no row or query of it has may be unknown. Cursors, watches, sessions and
+//! batches that aren't done aren't kept. No kept line is refused as it is loaded, though memory may be
+//! wanting.
 //!
-//! Inside, djq_machine's `specs/Loading.antt` says what loading a line does to a store, and
-//! `specs/Kept.antt` the laws: [`kept_lines_load`] from any store that follows the first, [`runs_reload`] from lines that
-//! were there before, and [`stops_reload`] where a stop left the first groups of lines, whole.
+//! Inside, djq_machine's `specs/Loading.antt` says what loading a line does to a store and to the batch
+//! of the lines before it, and `specs/Kept.antt` the laws: [`kept_lines_load`] from any store that
+//! follows the first, [`runs_reload`] from lines that were there before, and [`stops_reload`] where a
+//! stop left the first groups of lines, whole.
 #![tactic(auto)]
 
-ghost use Rattle.djq_kept.specs.Kept.{FoundIsStart, KeptLinesLoad, FollowersHaveCopies};
-ghost use Rattle.djq_kept.specs.Kept.{RunsReload, StopsReload, KeptAreLines};
+ghost use Rattle.djq_kept.specs.Kept.{FoundIsStart, AbandonRuns, AbandonedAreLoaded, KeptLinesLoad};
+ghost use Rattle.djq_kept.specs.Kept.{FollowersHaveCopies, RunsReload, StopsReload, KeptAreLines};
 
-/// What lines, found at a start, give is a state to start from: relations, queries and known texts
-/// are without repeats, and so are the rows of a relation; these are of its columns' types, each
-/// with one copy at least and no more than may be; and queries are free-connex.
+/// What lines, found at a start, give is a state to start from, where they leave no batch open:
+/// relations, queries and known texts are without repeats, and so are the rows of a relation; these
+/// are of its columns' types, each with one copy at least and no more than may be; and queries are
+/// free-connex.
 pub fn found_is_start()
     ensures { FoundIsStart }
 {}
 
-/// The lines that a run kept, loaded into a store that follows the one it began with, are refused
-/// nowhere, and give a store that follows the one it left: the same rows with the same copies, in
+/// Lines, found at a start, may leave a batch open. The line `abandon` behind them always runs and ends
+/// it: they load to the same rows with the same copies, the same queries and number of changes.
+pub fn abandoned_are_loaded()
+    ensures runs { AbandonRuns }
+    ensures loads { AbandonedAreLoaded }
+{}
+
+/// The lines that a run kept, from a sound state on, loaded into a store that follows the one it began
+/// with, are refused nowhere, and give a store that follows the one it left: the same rows with the same copies, in
 /// some order, the same queries and number of changes.
 pub fn kept_lines_load()
     ensures { KeptLinesLoad }

@@ -6,8 +6,7 @@ use Rattle.std.proofs.lemmas.Grind.{flat_map-append}
 use Rattle.djq_model.specs.Data.{Bytes, change_first}
 use Rattle.djq_lines.specs.declared.answer.EndCause.{EndCause}
 use Rattle.djq_lines.specs.declared.answer.EndCause.TheVariants.{Memory}
-use Rattle.djq_lines.specs.declared.answer.Refusal.TheVariants.{Syntax, WrongType, NoMemory}
-use Rattle.djq_lines.specs.Grammar.{Reading, outside, past_limit, says as says_command}
+use Rattle.djq_lines.specs.Grammar.{Reading}
 use Rattle.djq_lines.specs.Reply.{refusal_line}
 use Rattle.djq_machine.specs.State.{Store, State, Session, session_of, with_session, ended_by}
 use Rattle.djq_machine.specs.Stale.{outdated_cursor}
@@ -20,8 +19,8 @@ use Rattle.djq_machine.specs.Run.{to_session, pending_in}
 use Rattle.djq_machine.specs.Call.{IsOpen, cause_in, held_in}
 use Rattle.djq_laws.specs.Moved.{EndsByRun}
 use Rattle.djq_laws.specs.Form.{form_of, Form, asking, storing, turning, changing, ending, Turn, SaysAlone, Replied, is_whole, is_cut, DoesTurn, is_turned, is_refused, Does}
-use Rattle.djq_laws.proofs.Forms.{turned_one, command_does}
-use Rattle.djq_laws.proofs.Rows.{rows_do}
+use Rattle.djq_laws.proofs.Forms.{turned_one, command_does, Reads, turned_down, carried_out, line_reads}
+use Rattle.djq_laws.proofs.Doing.{closing, begun, closing_id, closing_pending, closing_held, closing_cause, rows_do}
 use Rattle.djq_laws.proofs.Told.{change_keeps}
 
 -- What is queued to another session is queued to one that is open.
@@ -227,7 +226,14 @@ form_keeps asking old s x e new h = (replied_alike s old new h.1, alone s e h.0)
 form_keeps storing old s x e new h = (replied_alike s (record old { store = h.1.store }) new h.1.replied, alone s e h.0)
 form_keeps (turning t) old s x e new h = (turned_alike old s x t new h.1, alone s e h.0)
 form_keeps (changing c) old s x e new h =
-    let d = rows_do old s c e new h in change_alike old s d.outcome d.store d.reply e new d.change
+    let d = rows_do old s c e new h in
+    let after = change_alike (begun old s c) s d.outcome d.store d.reply e new d.change in (
+      alike_then EndsByRun old.sessions (begun old s c).sessions new.sessions
+          (alike_with EndsByRun old (begun old s c) s (closing c)
+          (keeps_cause EndsByRun (closing c) (closing_id c) (closing_pending c) (closing_held c) (closing_cause c)) refl)
+          after.0,
+      after.1,
+    )
 form_keeps ending old s x e new h = (
   alike_with EndsByRun (record old { stopped = h.1.stopped }) new s (ended_by h.1.cause)
       (keeps_ended EndsByRun h.1.cause h.1.may) h.1.state,
@@ -235,8 +241,8 @@ form_keeps ending old s x e new h = (
 )
 
 pub read_keeps : (old : State) (s : ℕ) (x : Session) (l : Bytes) (r : Reading) (e : Effect) (new : State) → ReadStep old s x l r e new → Runs old s e new
-read_keeps old s x l outside e new h = stays_keeps EndsByRun old s (refusal_line Syntax) e new h.0 h.1
-read_keeps old s x l (past_limit c) e new h = stays_keeps EndsByRun old s (refusal_line WrongType) e new h.0 h.1
-read_keeps old s x l (says_command c) e new (true, h) =
-    form_keeps (form_of c) old s x e new (command_does old s x c e new h)
-read_keeps old s x l (says_command c) e new (false, h) = stays_keeps EndsByRun old s (refusal_line NoMemory) e new h.1.0 h.1.1
+read_keeps old s x l r e new h = by (line_reads old s x l r e new h)
+  where
+    by : Reads old s x l r e new → Runs old s e new
+    by (turned_down why because k) = stays_keeps EndsByRun old s (refusal_line why) e new k.0 k.1
+    by (carried_out c is k) = form_keeps (form_of x.batch l c) old s x e new (command_does old s x l c e new k)

@@ -131,22 +131,24 @@ pub none_pass : {A : Type 0} (p : A → Bool) (xs : List A) → list_any p xs �
 none_pass p [] h = All-nil (λ x. p x ≡ false)
 none_pass p (x ∷ xs) h = let n = none_or (p x) (list_any p xs) h in All-cons (λ y. p y ≡ false) x xs n.0 (none_pass p xs n.1)
 
+-- Where each relation that is read has the rows that it had, answers are the same.
+pub read_same : (rs rs' : List Relation) (q : Listed) → ((n : Bytes) → listed_reads q n ≡ true → rows_of rs' n ≡ rows_of rs n)
+    → SameAnswers rs rs' q
+read_same rs rs' q same = same_within rs rs' q
+    (λ n r row c. subst (λ (ts : List Tuple). Contains ts row) (sym (same n r)) c)
+    (λ n r row c. subst (λ (ts : List Tuple). Contains ts row) (same n r) c)
+
 -- A change of a relation that isn't read.
 unread_same : (rs : List Relation) (name : Bytes) (rows : List CountedRow) (q : Listed) → listed_reads q name ≡ false
     → SameAnswers rs (with_rows rs name rows) q
 unread_same rs name rows q h =
-    same_within rs (with_rows rs name rows) q
-    (λ n r row c. subst (λ (ts : List Tuple). Contains ts row) (sym (rows_apart rs name rows n (apart n r))) c)
-    (λ n r row c. subst (λ (ts : List Tuple). Contains ts row) (rows_apart rs name rows n (apart n r)) c)
+    read_same rs (with_rows rs name rows) q (λ n r. rows_apart rs name rows n (apart n r (bytes_eq n name) refl))
   where
-    apart : (n : Bytes) → listed_reads q n ≡ true → bytes_eq n name ≡ false
-    apart n r = by (bytes_eq n name) refl
-      where
-        by : (b : Bool) → bytes_eq n name ≡ b → b ≡ false
-        by false e = refl
-        by true e =
-            let read : listed_reads q name ≡ true = ap (listed_reads q) (sym ((bytes_eq-decides n name).0 e)) ∙ r in
-            absurd (cc (read, h))
+    apart : (n : Bytes) → listed_reads q n ≡ true → (b : Bool) → bytes_eq n name ≡ b → b ≡ false
+    apart n r false e = refl
+    apart n r true e =
+        let read : listed_reads q name ≡ true = ap (listed_reads q) (sym ((bytes_eq-decides n name).0 e)) ∙ r in
+        absurd (cc (read, h))
 
 -- A change outdates whatever it may change the answers of.
 abbrev pub Spares : List Relation → RowsChange → Type 0

@@ -116,10 +116,10 @@ module _ (rs : List Relation) (name : Bytes) (row : Tuple) (rows : List CountedR
   now : counted_of (with_rows rs name rows) name ≡ rows
   now = let f = found_one (relation_of rs name) found in counted_here rs name rows f.0 f.1
 
-  its_copies : (k : ℕ) → copies_among rows row ≡ k → copies_among (counted_of (with_rows rs name rows) name) row ≡ k
+  pub its_copies : (k : ℕ) → copies_among rows row ≡ k → copies_among (counted_of (with_rows rs name rows) name) row ≡ k
   its_copies k e = ap (λ (cs : List CountedRow). copies_among cs row) now ∙ e
 
-  other_copies : ((t : Tuple) → tuple_eq row t ≡ false → copies_among rows t ≡ copies_among (counted_of rs name) t)
+  pub other_copies : ((t : Tuple) → tuple_eq row t ≡ false → copies_among rows t ≡ copies_among (counted_of rs name) t)
       → (n : Bytes) (t : Tuple) → (bytes_eq n name && tuple_eq row t) ≡ false
       → copies_among (counted_of (with_rows rs name rows) n) t ≡ copies_among (counted_of rs n) t
   other_copies same n t h = by (bytes_eq n name) refl h

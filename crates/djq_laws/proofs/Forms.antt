@@ -8,6 +8,7 @@ use Rattle.std.specs.Prelude.{
   ◌≤◌,
   ◌⊎◌,
   ◌++◌,
+  ◌+◌,
   Bool,
   true,
   false,
@@ -33,7 +34,7 @@ use Rattle.std.specs.Prelude.{
 use Rattle.std.proofs.Common.{refl, sym, ap, ◌∙◌, subst, inl, inr, arith}
 use Rattle.djq_model.specs.declared.relation.ColumnType.{ColumnType}
 use Rattle.djq_model.specs.declared.query.Query.{Query}
-use Rattle.djq_model.specs.Data.{Bytes, bytes_eq, drop_first, relation_of}
+use Rattle.djq_model.specs.Data.{Bytes, Tuple, bytes_eq, drop_first, relation_of}
 use Rattle.djq_model.specs.Listed.{Listed, a_query, listed_name, listed_of}
 use Rattle.djq_model.specs.Known.{texts_in}
 use Rattle.djq_lines.specs.Conditions.{first_of, Answers, OutOfMemoryWhere}
@@ -51,6 +52,8 @@ use Rattle.djq_lines.specs.declared.answer.Refusal.TheVariants.{
   Limit,
   NoMemory,
   InUse,
+  Syntax,
+  Misplaced,
 }
 use Rattle.djq_lines.specs.declared.command.Command.{Command}
 use Rattle.djq_lines.specs.declared.command.Command.TheVariants.{
@@ -67,9 +70,14 @@ use Rattle.djq_lines.specs.declared.command.Command.TheVariants.{
   Unwatch,
   Explain,
   Shape,
+  Batch,
+  Done,
+  Abandon,
   Quit,
   Stop,
 }
+use Rattle.djq_lines.specs.declared.held.HeldRow.{HeldRow}
+use Rattle.djq_lines.specs.Grammar.{Reading, outside, past_limit, says as says_command, takes_memory_to_read}
 use Rattle.djq_lines.specs.Reply.{
   line,
   answer_line,
@@ -79,6 +87,7 @@ use Rattle.djq_lines.specs.Reply.{
   has_reply,
   shape_reply,
   watch_reply,
+  held_reply,
   stale_line,
   text_of,
   listing_lines,
@@ -97,23 +106,36 @@ use Rattle.djq_machine.specs.Command.{
   BecomesWhere,
   with_watch,
   without_watch,
+  with_batch,
+  without_batch,
+  is_misplaced,
+  HoldStep,
   NextStepAt,
   CloseStep,
   CommandStep,
   QueryStep,
   QueryCutStep,
+  AddStep,
+  DoneStep,
   ExplainStepOf,
   TellsLines,
   explain_lines,
 }
+use Rattle.djq_machine.specs.Batch.{hold_refusal}
+use Rattle.djq_machine.specs.LineStep.{ReadStep, past_limit_refusal}
 use Rattle.djq_laws.specs.Form.{
   form_of,
+  add_form,
+  done_form,
   Turn,
   opens_cursor,
   moves_cursor,
   closes_cursor,
   starts_watching,
   stops_watching,
+  opens_batch,
+  holds_row,
+  closes_batch,
   SaysAlone,
   Replied,
   is_whole,
@@ -383,6 +405,40 @@ unwatch_does : (old : State) (s : ℕ) (x : Session) (q : Bytes) (r : Result ⊤
 unwatch_does old s x q (Err r) new after = is_refused (is_whole after)
 unwatch_does old s x q (Ok u) new after = is_turned after
 
+batch_does : (old : State) (s : ℕ) (x : Session) (r : Result ⊤ Refusal) (new : State)
+    → BecomesWhere old s (with_batch []) new r → DoesTurn old s x opens_batch new
+batch_does old s x (Err r) new after = is_refused (is_whole after)
+batch_does old s x (Ok u) new after = is_turned after
+
+hold_does : (old : State) (s : ℕ) (x : Session) (held : List HeldRow) (l name : Bytes) (row : Tuple)
+    (r : Result ⊤ Refusal) (new : State)
+    → x.batch ≡ Some held → Answers (hold_refusal old.store held name row) r (λ _. ⊤) (OutOfMemoryWhere ⊤)
+    → BecomesWhere old s (with_batch (held ++ record { line = l; relation = name; row = row } ∷ [])) new r
+    → DoesTurn old s x (holds_row l name row) new
+hold_does old s x held l name row (Err r) new is answer after = is_refused (is_whole after)
+hold_does old s x held l name row (Ok u) new is answer after = is_turned (record {
+  held = held;
+  is = is;
+  suits = none_holds (hold_refusal old.store held name row) u (λ _. ⊤) (OutOfMemoryWhere ⊤) answer;
+  state = after;
+})
+
+-- `add`, and `done`, by the session's batch
+pub add_does : (old : State) (s : ℕ) (x : Session) (l name : Bytes) (row : Tuple) (e : Effect) (new : State)
+    (batch : Option (List HeldRow)) → x.batch ≡ batch
+    → MatchOption batch (AddStep old s name row e new) (λ held. HoldStep old s held l name row e new)
+    → Does (add_form batch l name row) old s x e new
+add_does old s x l name row e new None is h = h
+add_does old s x l name row e new (Some held) is h = (
+  says_alone s (held_reply h.result (length held + 1)) e h.effect,
+  hold_does old s x held l name row h.result new is h.answer h.state,
+)
+
+pub done_does : (old : State) (s : ℕ) (x : Session) (e : Effect) (new : State) (batch : Option (List HeldRow))
+    → MatchOption batch ⊥ (λ held. DoneStep old s held e new) → Does (done_form batch) old s x e new
+done_does old s x e new None h = absurd h
+done_does old s x e new (Some held) h = h
+
 -- A change of one session, which leaves its bytes and its end.
 pub record OneSession (old : State) (s : ℕ) (new : State) : Type 0 where
   pub change : Session → Session
@@ -434,45 +490,111 @@ turned_one old s x (stops_watching q) new h = record {
   cause = λ x. refl;
   state = h;
 }
+turned_one old s x opens_batch new h = record {
+  change = with_batch [];
+  id = λ x. refl;
+  pending = λ x. refl;
+  held = λ x. refl;
+  cause = λ x. refl;
+  state = h;
+}
+turned_one old s x (holds_row l name row) new h = record {
+  change = with_batch (h.held ++ record { line = l; relation = name; row = row } ∷ []);
+  id = λ x. refl;
+  pending = λ x. refl;
+  held = λ x. refl;
+  cause = λ x. refl;
+  state = h.state;
+}
+turned_one old s x closes_batch new h = record {
+  change = without_batch;
+  id = λ x. refl;
+  pending = λ x. refl;
+  held = λ x. refl;
+  cause = λ x. refl;
+  state = h;
+}
 
 -- ---- all commands
 
-pub command_does : (old : State) (s : ℕ) (x : Session) (c : Command) (e : Effect) (new : State)
-    → CommandStep old s x c e new → Does (form_of c) old s x e new
-command_does old s x (Rel name types) e new h =
+pub command_does : (old : State) (s : ℕ) (x : Session) (l : Bytes) (c : Command) (e : Effect) (new : State)
+    → CommandStep old s x l c e new → Does (form_of x.batch l c) old s x e new
+command_does old s x l (Rel name types) e new h =
     stored_whole old s (ok_reply (codes "ok") h.result) _ h.store e new h.effect
     (rel_stored (in_use old) old.store h.store name types h.result h.done) h.state
-command_does old s x (Register q) e new h = query_does old s q e new h
-command_does old s x (Drop q) e new h =
+command_does old s x l (Register q) e new h = query_does old s q e new h
+command_does old s x l (Drop q) e new h =
     stored_whole old s (ok_reply (codes "ok") h.result) _ h.store e new h.effect
     (drop_stored (in_use old) old.store h.store q h.result h.done) h.state
-command_does old s x (Add name row) e new h = h
-command_does old s x (Del name row) e new h = h
-command_does old s x (Open c q) e new h = (
+command_does old s x l (Add name row) e new h = add_does old s x l name row e new x.batch refl h
+command_does old s x l (Del name row) e new h = h
+command_does old s x l (Open c q) e new h = (
   says_alone s (ok_reply (codes "ok open") h.result) e h.effect,
   open_does old s x c q h.result new h.answer h.state,
 )
-command_does old s x (Next c count) e new h = next_does old s x c count (cursor_of x.cursors c) e new refl h
-command_does old s x (Close c) e new h = close_does old s x c (cursor_of x.cursors c) e new h
-command_does old s x (Watch q) e new h = (
+command_does old s x l (Next c count) e new h = next_does old s x c count (cursor_of x.cursors c) e new refl h
+command_does old s x l (Close c) e new h = close_does old s x c (cursor_of x.cursors c) e new h
+command_does old s x l (Watch q) e new h = (
   says_alone s (watch_reply h.result old.store.seq) e h.effect,
   watch_does old s x q _ h.result new h.answer h.state,
 )
-command_does old s x (Unwatch q) e new h = (
+command_does old s x l (Unwatch q) e new h = (
   says_alone s (ok_reply (codes "ok") h.result) e h.effect,
   unwatch_does old s x q h.result new h.state,
 )
-command_does old s x (Has q row) e new h = (
+command_does old s x l (Has q row) e new h = (
   text_alone s (has_reply h.result) (has_steps (listed_of old.store.queries q)) no_line e h.effect,
   is_whole h.state,
 )
-command_does old s x (Explain q) e new h = explain_does old s (listed_of old.store.queries q) e new h
-command_does old s x (Shape q) e new h = (says_alone s (shape_reply h.result) e h.effect, is_whole h.state)
-command_does old s x Quit e new h = (
+command_does old s x l (Explain q) e new h = explain_does old s (listed_of old.store.queries q) e new h
+command_does old s x l (Shape q) e new h = (says_alone s (shape_reply h.result) e h.effect, is_whole h.state)
+command_does old s x l Batch e new h = (
+  says_alone s (ok_reply (codes "ok batch") h.result) e h.effect,
+  batch_does old s x h.result new h.state,
+)
+command_does old s x l Done e new h = done_does old s x e new x.batch h
+command_does old s x l Abandon e new h = (says_alone s (line (codes "ok")) e h.0, is_turned h.1)
+command_does old s x l Quit e new h = (
   says_alone s bye e h.0,
   record { cause = SaidQuit; may = tt; stopped = old.stopped; state = h.1 },
 )
-command_does old s x Stop e new h = (
+command_does old s x l Stop e new h = (
   says_alone s bye e h.0,
   record { cause = SaidStop; may = tt; stopped = true; state = h.1 },
 )
+
+-- ---- a line that is read
+
+-- It is refused, and nothing changes: a command only where it is misplaced, or where reading it takes
+-- memory. Or its command is done.
+pub data Reads (old : State) (s : ℕ) (x : Session) (l : Bytes) (r : Reading) (e : Effect) (new : State) : Type 0 where
+  turned_down : (why : Refusal)
+      → ((c : Command) → r ≡ says_command c → (why ≡ Misplaced) ⊎ (takes_memory_to_read c ≡ true))
+      → RefusedStep old s why e new → Reads old s x l r e new
+  carried_out : (c : Command) → r ≡ says_command c → CommandStep old s x l c e new → Reads old s x l r e new
+
+-- what a command that isn't misplaced comes to, by whether its line finds memory as it is read
+abbrev ReadAs : State → ℕ → Session → Bytes → Command → Effect → State → Bool → Type 0
+ReadAs old s x l c e new true = CommandStep old s x l c e new
+ReadAs old s x l c e new false = (takes_memory_to_read c ≡ true) × RefusedStep old s NoMemory e new
+
+-- what any command does, by whether it is misplaced
+abbrev CarriedOut : State → ℕ → Session → Bytes → Command → Effect → State → Bool → Type 0
+CarriedOut old s x l c e new true = RefusedStep old s Misplaced e new
+CarriedOut old s x l c e new false = (is_read : Bool) × ReadAs old s x l c e new is_read
+
+pub line_reads : (old : State) (s : ℕ) (x : Session) (l : Bytes) (r : Reading) (e : Effect) (new : State)
+    → ReadStep old s x l r e new → Reads old s x l r e new
+line_reads old s x l outside e new h = turned_down Syntax (λ c is. absurd (cc is)) h
+line_reads old s x l (past_limit c) e new h =
+    turned_down (past_limit_refusal (is_misplaced x.batch c)) (λ d is. absurd (cc is)) h
+line_reads old s x l (says_command c) e new h = by (is_misplaced x.batch c) h
+  where
+    by : (b : Bool) → CarriedOut old s x l c e new b → Reads old s x l (says_command c) e new
+    by true h = turned_down Misplaced (λ d is. inl refl) h
+    by false (true, h) = carried_out c refl h
+    by false (false, h) = turned_down NoMemory (λ d is. inr (reads_so c d is h.0)) h.1
+      where
+        reads_so : (c d : Command) → says_command c ≡ says_command d → takes_memory_to_read c ≡ true
+            → takes_memory_to_read d ≡ true
+        reads_so c d is takes = let same : c ≡ d = cc in ap takes_memory_to_read (sym same) ∙ takes

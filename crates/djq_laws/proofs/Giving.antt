@@ -9,7 +9,7 @@ use Rattle.djq_model.specs.Listed.{Listed, listed_name, AnswersOf, listed_of}
 use Rattle.djq_lines.specs.declared.answer.EndCause.{EndCause}
 use Rattle.djq_lines.specs.declared.answer.EndCause.TheVariants.{Input, Memory}
 use Rattle.djq_lines.specs.declared.limits.TheConstants.{SESSIONS}
-use Rattle.djq_lines.specs.Grammar.{Reading, outside, past_limit, says as says_command, reading_of}
+use Rattle.djq_lines.specs.Grammar.{Reading, reading_of}
 use Rattle.djq_lines.specs.Reply.{end_memory}
 use Rattle.djq_machine.specs.State.{Store, State, Session, Cursor, Position, open_at, stale, fresh, session_of, with_session, cursor_of, with_position, ended_by}
 use Rattle.djq_machine.specs.Store.{TellsAnswers}
@@ -17,7 +17,7 @@ use Rattle.djq_machine.specs.Stale.{outdated, outdater_of, outdated_cursor, outd
 use Rattle.djq_machine.specs.Changes.{RowsOutcome, accepted, out_of_memory, unchanged, tried, changed}
 use Rattle.djq_machine.specs.Watch.{Telling, ChangeStep}
 use Rattle.djq_machine.specs.Effect.{Effect, nothing, EndsWith, queue_all, queue}
-use Rattle.djq_machine.specs.Command.{uses, with_cursor, with_watch, without_watch}
+use Rattle.djq_machine.specs.Command.{uses, with_cursor, with_watch, without_watch, with_batch, without_batch}
 use Rattle.djq_machine.specs.LineStep.{LineOutcome, long, blank, slow, no_room, run, ReadStep, FrontStep, behind_line}
 use Rattle.djq_machine.specs.Step.{Event, opened, fed, stepped, took, ended, closed, FedStep, TookStep, EndedStep, Acts, with_relations, Step}
 use Rattle.djq_machine.specs.Run.{Did}
@@ -27,9 +27,10 @@ use Rattle.djq_laws.proofs.Finding.{some_and, find_dropped}
 use Rattle.djq_laws.proofs.Told.{change_keeps}
 use Rattle.djq_laws.proofs.Queueing.{session_changed}
 use Rattle.djq_laws.specs.Given.{RunsGive}
-use Rattle.djq_laws.specs.Form.{form_of, Form, asking, storing, turning, changing, ending, Turn, opens_cursor, moves_cursor, closes_cursor, starts_watching, stops_watching, Replied, is_whole, is_cut, Stored, learns_texts, makes_relation, registers, drops_query, in_use, MovesCursor, without_cursor, Turned, DoesTurn, is_turned, is_refused, Does}
-use Rattle.djq_laws.proofs.Forms.{command_does}
-use Rattle.djq_laws.proofs.Rows.{RowsMade, outdater_by, rows_do}
+use Rattle.djq_laws.specs.Form.{form_of, Form, asking, storing, turning, changing, ending, Turn, opens_cursor, moves_cursor, closes_cursor, starts_watching, stops_watching, opens_batch, holds_row, closes_batch, RowCommand, Replied, is_whole, is_cut, Stored, learns_texts, makes_relation, registers, drops_query, in_use, MovesCursor, without_cursor, Turned, DoesTurn, is_turned, is_refused, Does}
+use Rattle.djq_laws.proofs.Forms.{command_does, Reads, turned_down, carried_out, line_reads}
+use Rattle.djq_laws.proofs.Rows.{RowsMade}
+use Rattle.djq_laws.proofs.Doing.{closing, begun, closing_cursors, rows_do}
 use Rattle.djq_laws.proofs.Changing.{all_changed, all_found, all_dropped, all_mapped}
 use Rattle.djq_laws.proofs.Answering.{SameAnswers, gives_kept, rows_same, new_relation_same, reordered_same, apart_from, none_or, none_pass}
 
@@ -111,17 +112,17 @@ same_gives old new e h = subst CursorsGive (sym e) h
 
 -- The commands.
 -- What a command of rows makes of it, behind which cursors are stale or not.
-made_gives : (outdater : Listed → Option Bytes) (old : State) (o : RowsOutcome) (store : Store)
-    → RowsMade outdater old.store o store → CursorsGive old → CursorsGive (changed old (tried o) store)
-made_gives outdater old (accepted change) store h g =
+made_gives : (c : RowCommand) (old : State) (o : RowsOutcome) (store : Store)
+    → RowsMade c old.store o store → CursorsGive old → CursorsGive (changed old (tried o) store)
+made_gives c old (accepted change) store h g =
     subst (λ (st : Store). CursorsGive (changed old (Some change) st)) (sym h.store)
     (outdated_give old.store.relations change.after old.store.queries change.outdater (old.store.seq + 1) old.sessions
     h.spares g)
-made_gives outdater old (out_of_memory change) store h g =
+made_gives c old (out_of_memory change) store h g =
     let rs = old.store.relations in
     subst (λ (st : Store). CursorsGive (changed old (Some change) st)) (sym h.store)
     (outdated_give rs rs old.store.queries change.outdater old.store.seq old.sessions (λ q apart. same_itself rs q) g)
-made_gives outdater old unchanged store h g =
+made_gives c old unchanged store h g =
     subst (λ (st : Store). CursorsGive (record old { store = st })) (sym h.store)
     (relations_give old.store.relations h.relations old.store.queries old.sessions
     (λ q. rows_same old.store.relations h.relations q h.same) g)
@@ -241,6 +242,10 @@ turned_gives old s x (closes_cursor c) new at h g =
     (λ y found k. all_dropped (CursorGives old.store.relations old.store.queries) (λ (z : Cursor). bytes_eq z.name c) y.cursors k) g
 turned_gives old s x (starts_watching q) new at h g = cursors_stay old new s (with_watch q) (λ y. refl) h.1 g
 turned_gives old s x (stops_watching q) new at h g = cursors_stay old new s (without_watch q) (λ y. refl) h g
+turned_gives old s x opens_batch new at h g = cursors_stay old new s (with_batch []) (λ y. refl) h g
+turned_gives old s x (holds_row l name row) new at h g =
+    cursors_stay old new s (with_batch (h.held ++ record { line = l; relation = name; row = row } ∷ [])) (λ y. refl) h.state g
+turned_gives old s x closes_batch new at h g = cursors_stay old new s without_batch (λ y. refl) h g
 
 replied_gives : (s : ℕ) (mid new : State) → Replied s mid new → CursorsGive mid → CursorsGive new
 replied_gives s mid new (is_whole after) g = same_gives mid new after g
@@ -267,18 +272,20 @@ form_gives storing old s x e new found h g =
 form_gives (turning t) old s x e new found h g = turn_gives old s x t new found h.1 g
 form_gives (changing c) old s x e new found h g =
     let d = rows_do old s c e new h in
-    change_gives old s d.outcome d.store d.reply e new d.change
-    (made_gives (outdater_by c) old d.outcome d.store d.made g)
+    change_gives (begun old s c) s d.outcome d.store d.reply e new d.change
+    (made_gives c (begun old s c) d.outcome d.store d.made
+    (cursors_stay old (begun old s c) s (closing c) (closing_cursors c) refl g))
 form_gives ending old s x e new found h g =
     ends_gives (record old { stopped = h.1.stopped }) s h.1.cause new h.1.state g
 
 -- The front of a session's bytes.
 read_gives : (old : State) (s : ℕ) (x : Session) (l : Bytes) (r : Reading) (e : Effect) (new : State) → session_of old s ≡ Some x → ReadStep old s x l r e new → CursorsGive old → CursorsGive new
-read_gives old s x l outside e new found h g = same_gives old new h.1 g
-read_gives old s x l (past_limit c) e new found h g = same_gives old new h.1 g
-read_gives old s x l (says_command c) e new found (true, h) g =
-    form_gives (form_of c) old s x e new found (command_does old s x c e new h) g
-read_gives old s x l (says_command c) e new found (false, h) g = same_gives old new h.1.1 g
+read_gives old s x l r e new found h g = by (line_reads old s x l r e new h)
+  where
+    by : Reads old s x l r e new → CursorsGive new
+    by (turned_down why because k) = same_gives old new k.1 g
+    by (carried_out c is k) =
+        form_gives (form_of x.batch l c) old s x e new found (command_does old s x l c e new k) g
 
 without_line_gives : (old : State) (s : ℕ) (rest : Bytes) → CursorsGive old → CursorsGive (with_session old s (behind_line rest))
 without_line_gives old s rest g = cursors_stay old (with_session old s (behind_line rest)) s (behind_line rest) (λ x. refl) refl g

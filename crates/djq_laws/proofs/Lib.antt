@@ -3,8 +3,12 @@ pub mod Queueing
 mod Told
 pub mod Changing
 pub mod Forms
+pub mod Suiting
 pub mod Rows
+pub mod Batches
+pub mod Doing
 pub mod Counting
+pub mod Tallying
 pub mod Alike
 pub mod Touching
 pub mod Moving
@@ -29,3 +33,4 @@ pub mod Storing
 pub mod Sounding
 pub mod Listing
 pub mod Short
+pub mod Holding

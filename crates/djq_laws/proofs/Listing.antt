@@ -63,9 +63,11 @@ use Rattle.djq_lines.specs.declared.answer.Refusal.TheVariants.{
   Limit,
   NoMemory,
   InUse,
+  Misplaced,
 }
+use Rattle.djq_lines.specs.declared.held.HeldRow.{HeldRow}
 use Rattle.djq_lines.specs.declared.command.Command.{Command}
-use Rattle.djq_lines.specs.declared.command.Command.TheVariants.{Open, Next}
+use Rattle.djq_lines.specs.declared.command.Command.TheVariants.{Add, Done, Open, Next}
 use Rattle.djq_lines.specs.Grammar.{Reading, outside, past_limit, says as says_command, reading_of, takes_memory_to_read}
 use Rattle.djq_lines.specs.Reply.{line, refusal_line, ok_reply, text_of, listing_lines, end_memory}
 use Rattle.djq_machine.specs.State.{
@@ -87,7 +89,7 @@ use Rattle.djq_machine.specs.Stale.{outdated, outdater_of, outdated_cursor}
 use Rattle.djq_machine.specs.Changes.{RowsChange, RowsOutcome, tried, changed}
 use Rattle.djq_machine.specs.Watch.{Telling, ChangeStep}
 use Rattle.djq_machine.specs.Effect.{Effect, nothing, says, EndsWith, RefusedStep, queue, queue_all}
-use Rattle.djq_machine.specs.Command.{open_refusal, with_cursor, OpensTo, with_watch, without_watch, NextStepAt, CommandStep}
+use Rattle.djq_machine.specs.Command.{open_refusal, with_cursor, OpensTo, with_watch, without_watch, with_batch, without_batch, NextStepAt, CommandStep}
 use Rattle.djq_machine.specs.LineStep.{LineOutcome, long, blank, slow, no_room, run, ReadStep, FrontStep, behind_line}
 use Rattle.djq_machine.specs.Step.{
   Event,
@@ -110,6 +112,7 @@ use Rattle.djq_laws.specs.Sound.{AreApart, IsSoundSession, IsSoundState, IsStart
 use Rattle.djq_laws.specs.Listed.{
   ListedIsTold,
   is_opened,
+  is_misplacing,
   replies_behind,
   replies_after,
   replies_since,
@@ -122,7 +125,7 @@ use Rattle.djq_laws.specs.Listed.{
   position_of,
   GivenIsTold,
 }
-use Rattle.djq_laws.specs.Form.{form_of, Form, asking, storing, turning, changing, ending, Turn, opens_cursor, moves_cursor, closes_cursor, starts_watching, stops_watching, Replied, is_whole, is_cut, MovesCursor, without_cursor, Turned, DoesTurn, is_turned, is_refused, Does}
+use Rattle.djq_laws.specs.Form.{add_form, done_form, form_of, Form, asking, storing, turning, changing, ending, Turn, opens_cursor, moves_cursor, closes_cursor, starts_watching, stops_watching, opens_batch, holds_row, closes_batch, Replied, is_whole, is_cut, MovesCursor, without_cursor, Turned, DoesTurn, is_turned, is_refused, Does}
 use Rattle.djq_laws.proofs.Finding.{some_and, find_changed, find_other, find_dropped}
 use Rattle.djq_laws.proofs.Told.{change_keeps}
 use Rattle.djq_laws.proofs.Queueing.{session_changed, session_other}
@@ -130,8 +133,8 @@ use Rattle.djq_laws.proofs.Changing.{all_found}
 use Rattle.djq_laws.proofs.Touching.{says_to, said}
 use Rattle.djq_machine.specs.Gives.{PositionGives, CursorsGive}
 use Rattle.djq_laws.proofs.Live.{listed}
-use Rattle.djq_laws.proofs.Forms.{none_holds, none_found, none_first, next_does, command_does}
-use Rattle.djq_laws.proofs.Rows.{rows_do}
+use Rattle.djq_laws.proofs.Forms.{none_holds, none_found, none_first, next_does, command_does, Reads, turned_down, carried_out, line_reads}
+use Rattle.djq_laws.proofs.Doing.{closing, begun, closing_id, closing_cursors, rows_do}
 use Rattle.djq_laws.proofs.Giving.{runs_give}
 use Rattle.djq_laws.proofs.Sounding.{
   states_are_sound,
@@ -262,6 +265,17 @@ not_opened Unbound = refl
 not_opened Limit = refl
 not_opened NoMemory = refl
 not_opened InUse = refl
+not_opened Misplaced = refl
+
+-- a listing isn't the refusal of a misplaced command
+not_misplacing : (told : List Tuple) (end : Bool) → is_misplacing (text_of (listing_lines told end)) ≡ false
+not_misplacing [] true = refl
+not_misplacing [] false = refl
+not_misplacing (t ∷ ts) end = refl
+
+and_none : (a b : Bool) → b ≡ false → (a && b) ≡ false
+and_none true b e = e
+and_none false b e = refl
 
 module _ (s : ℕ) (c : Bytes) where
   -- What is open behind a change was so before it.
@@ -406,11 +420,18 @@ module _ (s : ℕ) (c : Bytes) where
   back_turned old t x (closes_cursor d) new kept apart h =
       back_with old new t (without_cursor d) (λ x. refl) h
       (λ same x is. closed_cursors x.cursors d (bytes_eq d c) refl
-      (all_found (IsSoundSession old.store.queries) (λ (y : Session). y.id == s) old.sessions x kept.1 is).names)
+      (all_found (IsSoundSession old.store) (λ (y : Session). y.id == s) old.sessions x kept.1 is).names)
   back_turned old t x (starts_watching q) new kept apart h =
       back_kept old new t (with_watch q) (λ y. refl) (λ y. refl) h.1
   back_turned old t x (stops_watching q) new kept apart h =
       back_kept old new t (without_watch q) (λ y. refl) (λ y. refl) h
+  back_turned old t x opens_batch new kept apart h =
+      back_kept old new t (with_batch []) (λ y. refl) (λ y. refl) h
+  back_turned old t x (holds_row l name row) new kept apart h =
+      back_kept old new t (with_batch (h.held ++ record { line = l; relation = name; row = row } ∷ [])) (λ y. refl)
+      (λ y. refl) h.state
+  back_turned old t x closes_batch new kept apart h =
+      back_kept old new t without_batch (λ y. refl) (λ y. refl) h
 
   back_replied : (t : ℕ) (mid new : State) → Replied t mid new → Back mid new
   back_replied t mid new (is_whole after) = back_same mid new after
@@ -430,15 +451,29 @@ module _ (s : ℕ) (c : Bytes) where
       (back_replied t (record old { store = h.1.store }) new h.1.replied)
   back_form (turning turn) old t x e new kept apart h = back_turn old t x turn new kept apart h.1
   back_form (changing k) old t x e new kept apart h =
-      let d = rows_do old t k e new h in back_change old t d.outcome d.store d.reply e new d.change
+      let d = rows_do old t k e new h in
+      back_then old (begun old t k) new
+      (back_kept old (begun old t k) t (closing k) (closing_id k) (closing_cursors k) refl)
+      (back_change (begun old t k) t d.outcome d.store d.reply e new d.change)
   back_form ending old t x e new kept apart h =
       let mid : State = record old { stopped = h.1.stopped } in
       back_then old mid new (λ given finished at. at) (back_ends mid new t h.1.cause h.1.state)
 
-  back_command : (old : State) (t : ℕ) (x : Session) (k : Command) (e : Effect) (new : State) → AreKept old
-      → ((t == s) ≡ true → is_of (form_of k) ≡ false) → CommandStep old t x k e new → Back old new
-  back_command old t x k e new kept apart h =
-      back_form (form_of k) old t x e new kept apart (command_does old t x k e new h)
+  back_command : (old : State) (t : ℕ) (x : Session) (l : Bytes) (k : Command) (e : Effect) (new : State)
+      → AreKept old → ((t == s) ≡ true → is_of (form_of x.batch l k) ≡ false) → CommandStep old t x l k e new
+      → Back old new
+  back_command old t x l k e new kept apart h =
+      back_form (form_of x.batch l k) old t x e new kept apart (command_does old t x l k e new h)
+
+  -- rows open and move no cursor, held or not
+  adds_none : (batch : Option (List HeldRow)) (l name : Bytes) (row : Tuple)
+      → is_of (add_form batch l name row) ≡ false
+  adds_none None l name row = refl
+  adds_none (Some held) l name row = refl
+
+  done_none : (batch : Option (List HeldRow)) → is_of (done_form batch) ≡ false
+  done_none None = refl
+  done_none (Some held) = refl
 
   -- ---- what replies tell of the cursor
 
@@ -522,7 +557,7 @@ module _ (s : ℕ) (c : Bytes) where
   next_at_told : (old : State) (x : Session) (d : Bytes) (k : Cursor) (q : Listed) (count : ℕ) (p : Position)
       (e : Effect) (new : State) (replies : List Bytes) → session_of old s ≡ Some x
       → cursor_of x.cursors d ≡ Some k → k.position ≡ p → d ≡ c → NextStepAt old s d q count p e new → Tell old replies
-      → Tell new (replies ++ to_session s e.queued ∷ [])
+      → Tell new (cond (not (is_misplacing (to_session s e.queued))) (replies ++ to_session s e.queued ∷ []) replies)
   next_at_told old x d k q count (stale r n) e new replies found is stands same h tell given finished at =
       let there : cursor_of x.cursors c ≡ Some k = subst (λ m. cursor_of x.cursors m ≡ Some k) same is in
       let before : position_of new s c ≡ Some (stale r n) =
@@ -538,15 +573,18 @@ module _ (s : ℕ) (c : Bytes) where
   next_at_told old x d k q count (open_at g f) e new replies found is stands same (inl h) tell given finished at =
       let text = text_of (listing_lines h.told h.end) in
       let reply : to_session s e.queued ≡ text = ap (λ (w : Effect). to_session s w.queued) h.effect ∙ says_to s text in
-      subst (λ t. TellGiven (replies ++ t ∷ []) given finished) (sym reply)
-      (gave_more old x d k g f h.told h.end new replies found is stands same h.state tell given finished at)
+      subst (λ t. TellGiven (cond (not (is_misplacing t)) (replies ++ t ∷ []) replies) given finished) (sym reply)
+      (subst (λ b. TellGiven (cond (not b) (replies ++ text ∷ []) replies) given finished)
+      (sym (not_misplacing h.told h.end))
+      (gave_more old x d k g f h.told h.end new replies found is stands same h.state tell given finished at))
 
   next_told : (old : State) (x : Session) (d : Bytes) (count : ℕ) (o : Option Cursor) (e : Effect) (new : State)
       (replies : List Bytes) (b : Bool) → bytes_eq d c ≡ b → session_of old s ≡ Some x
       → AreKept old → cursor_of x.cursors d ≡ o
       → MatchOption o (RefusedStep old s NoCursor e new)
       (λ k. IsSomeAnd (listed_of old.store.queries k.query) (λ q. NextStepAt old s d q count k.position e new))
-      → Tell old replies → Tell new (cond b (replies ++ to_session s e.queued ∷ []) replies)
+      → Tell old replies
+      → Tell new (cond (b && not (is_misplacing (to_session s e.queued))) (replies ++ to_session s e.queued ∷ []) replies)
   next_told old x d count o e new replies false same found kept is h tell given finished at = tell_back old new replies
       (back_turn old s x (moves_cursor d) new kept (λ k. same) (next_does old s x d count o e new is h).1) tell given
       finished at
@@ -560,43 +598,62 @@ module _ (s : ℕ) (c : Bytes) where
       next_at_told old x d k f.0 count k.position e new replies found is refl (same_name d c same) f.2 tell given
       finished at
 
-  command_told : (old : State) (x : Session) (k : Command) (e : Effect) (new : State) (replies : List Bytes)
-      → session_of old s ≡ Some x → AreKept old → CommandStep old s x k e new
+  command_told : (old : State) (x : Session) (l : Bytes) (k : Command) (e : Effect) (new : State)
+      (replies : List Bytes) → session_of old s ≡ Some x → AreKept old → CommandStep old s x l k e new
       → Tell old replies → Tell new (replies_behind c replies (says_command k) (to_session s e.queued))
-  command_told old x (Open d q) e new replies found kept h tell = open_told old x d q h.result e new replies
+  command_told old x l (Open d q) e new replies found kept h tell = open_told old x d q h.result e new replies
       (bytes_eq d c) refl found h.answer h.effect h.state tell
-  command_told old x (Next d count) e new replies found kept h tell = next_told old x d count (cursor_of x.cursors d) e
-      new replies (bytes_eq d c) refl found kept refl h tell
-  command_told old x k e new replies found kept h tell = tell_back old new replies
-      (back_command old s x k e new kept (λ same. refl) h) tell
+  command_told old x l (Next d count) e new replies found kept h tell = next_told old x d count (cursor_of x.cursors d)
+      e new replies (bytes_eq d c) refl found kept refl h tell
+  command_told old x l (Add name row) e new replies found kept h tell = tell_back old new replies
+      (back_command old s x l (Add name row) e new kept (λ same. adds_none x.batch l name row) h) tell
+  command_told old x l Done e new replies found kept h tell = tell_back old new replies
+      (back_command old s x l Done e new kept (λ same. done_none x.batch) h) tell
+  command_told old x l k e new replies found kept h tell = tell_back old new replies
+      (back_command old s x l k e new kept (λ same. refl) h) tell
 
-  -- a line that found no memory as it was read
-  unread_told : (k : Command) (replies : List Bytes) (reply : Bytes) → takes_memory_to_read k ≡ true
-      → replies_behind c replies (says_command k) reply ≡ replies
-  unread_told (Open d q) replies reply takes = absurd cc
-  unread_told (Next d count) replies reply takes = absurd cc
-  unread_told k replies reply takes = refl
+  -- a line that is refused as it is read
+  refused_told : (r : Reading) (replies : List Bytes) (why : Refusal)
+      → ((k : Command) → r ≡ says_command k → (why ≡ Misplaced) ⊎ (takes_memory_to_read k ≡ true))
+      → replies_behind c replies r (refusal_line why) ≡ replies
+  refused_told outside replies why because = refl
+  refused_told (past_limit k) replies why because = refl
+  refused_told (says_command (Open d q)) replies why because =
+      ap (λ b. cond b [] replies) (and_none (bytes_eq d c) (is_opened (refusal_line why)) (not_opened why))
+  refused_told (says_command (Next d count)) replies why because = by (because (Next d count) refl)
+    where
+      by : (why ≡ Misplaced) ⊎ (takes_memory_to_read (Next d count) ≡ true)
+          → replies_behind c replies (says_command (Next d count)) (refusal_line why) ≡ replies
+      by (inl e) =
+          let yes : is_misplacing (refusal_line why) ≡ true = ap (λ (w : Refusal). is_misplacing (refusal_line w)) e in
+          ap (λ b. cond b (replies ++ refusal_line why ∷ []) replies)
+          (and_none (bytes_eq d c) (not (is_misplacing (refusal_line why))) (ap not yes))
+      by (inr takes) = absurd cc
+  refused_told (says_command k) replies why because = refl
 
   read_told : (old : State) (x : Session) (l : Bytes) (r : Reading) (e : Effect) (new : State) (replies : List Bytes)
       → session_of old s ≡ Some x → AreKept old → ReadStep old s x l r e new
       → Tell old replies → Tell new (replies_behind c replies r (to_session s e.queued))
-  read_told old x l outside e new replies found kept h tell = tell_back old new replies (back_same old new h.1) tell
-  read_told old x l (past_limit k) e new replies found kept h tell = tell_back old new replies
-      (back_same old new h.1) tell
-  read_told old x l (says_command k) e new replies found kept (true, h) tell = command_told old x k e new replies found
-      kept h tell
-  read_told old x l (says_command k) e new replies found kept (false, h) tell =
-      subst (λ rs. Tell new rs) (sym (unread_told k replies (to_session s e.queued) h.0))
-      (tell_back old new replies (back_same old new h.1.1) tell)
+  read_told old x l r e new replies found kept h tell = by (line_reads old s x l r e new h)
+    where
+      by : Reads old s x l r e new → Tell new (replies_behind c replies r (to_session s e.queued))
+      by (turned_down why because d) =
+          subst (λ rs. Tell new rs)
+          (sym (ap (λ t. replies_behind c replies r t) (said s (refusal_line why) e d.0)
+          ∙ refused_told r replies why because))
+          (tell_back old new replies (back_same old new d.1) tell)
+      by (carried_out k is d) =
+          subst (λ w. Tell new (replies_behind c replies w (to_session s e.queued))) (sym is)
+          (command_told old x l k e new replies found kept d tell)
 
   -- a line of another session
   back_read : (old : State) (t : ℕ) (x : Session) (l : Bytes) (r : Reading) (e : Effect) (new : State)
       → (t == s) ≡ false → AreKept old → ReadStep old t x l r e new → Back old new
-  back_read old t x l outside e new ne kept h = back_same old new h.1
-  back_read old t x l (past_limit k) e new ne kept h = back_same old new h.1
-  back_read old t x l (says_command k) e new ne kept (true, h) = back_command old t x k e new kept
-      (λ same. absurd (cc (same, ne))) h
-  back_read old t x l (says_command k) e new ne kept (false, h) = back_same old new h.1.1
+  back_read old t x l r e new ne kept h = by (line_reads old t x l r e new h)
+    where
+      by : Reads old t x l r e new → Back old new
+      by (turned_down why because d) = back_same old new d.1
+      by (carried_out k is d) = back_command old t x l k e new kept (λ same. absurd (cc (same, ne))) d
 
   back_line : (old : State) (t : ℕ) (rest : Bytes) → Back old (with_session old t (behind_line rest))
   back_line old t rest = back_kept old (with_session old t (behind_line rest)) t (behind_line rest) (λ x. refl)
@@ -820,7 +877,7 @@ nothing_given start h = subst (λ (xs : List Session). CursorsGive (record start
 pub listed_is_told : ListedIsTold
 listed_is_told start begins q s given done new w h =
     let sound = states_are_sound start begins done new w in
-    let session = all_found (IsSoundSession new.store.queries) (λ (x : Session). x.id == s) new.sessions h.session
+    let session = all_found (IsSoundSession new.store) (λ (x : Session). x.id == s) new.sessions h.session
     sound.sessions h.is_session in
     let found = by_its_name (h.session).cursors h.cursor session.names h.is_cursor in
     let at : position_of new s (h.cursor).name ≡ Some (open_at given true) =

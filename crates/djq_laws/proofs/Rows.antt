@@ -1,4 +1,4 @@
--- What a command of rows does, by what came of it.
+-- What a command of rows makes of the store: a change, or none. Of `add` and `del`; batches are in Batches.
 use Rattle.std.specs.Prelude.{ℕ, List, [], ◌∷◌, ◌==◌, ◌&&◌, ◌≡◌, ◌≤◌, ◌+◌, Bool, true, false, cond, not, length, Option, None, Some, is_none, nat_le, map, Result, Ok, Err, All}
 use Rattle.std.proofs.Common.{refl, sym, ap, ◌∙◌, subst, arith}
 use Rattle.std.proofs.lemmas.Bool.{leb-false}
@@ -34,8 +34,7 @@ use Rattle.djq_lines.specs.declared.answer.AddOutcome.{AddOutcome}
 use Rattle.djq_lines.specs.declared.answer.AddOutcome.TheVariants.{First, More}
 use Rattle.djq_lines.specs.declared.answer.DeleteOutcome.{DeleteOutcome}
 use Rattle.djq_lines.specs.declared.answer.DeleteOutcome.TheVariants.{Last, Left, Absent}
-use Rattle.djq_machine.specs.State.{Store, State}
-use Rattle.djq_machine.specs.Effect.{Effect}
+use Rattle.djq_machine.specs.State.{Store}
 use Rattle.djq_machine.specs.Store.{
   RefusedByTexts,
   AddsRow,
@@ -60,9 +59,9 @@ use Rattle.djq_machine.specs.Changes.{
   add_outcome,
   delete_outcome,
 }
-use Rattle.djq_machine.specs.Watch.{ChangeStep}
+use Rattle.djq_machine.specs.Batch.{SuitAll, first_read, has_come}
 use Rattle.djq_laws.specs.Sound.{AreApart, IsCopyCount, IsSoundRelation}
-use Rattle.djq_laws.specs.Form.{RowCommand, row_comes, row_goes, LearnsTexts, Changed}
+use Rattle.djq_laws.specs.Form.{RowCommand, row_comes, row_goes, rows_come, LearnsTexts}
 use Rattle.djq_model.proofs.Counted.{
   tuples_with_row,
   tuples_with_copies,
@@ -73,20 +72,33 @@ use Rattle.djq_model.proofs.Counted.{
   all_without,
 }
 use Rattle.djq_machine.proofs.Copies.{copies_rows}
+use Rattle.djq_laws.proofs.Suiting.{SameTypes, types_with_rows}
 use Rattle.djq_laws.proofs.Changing.{all_changed, all_found, all_dropped}
 use Rattle.djq_laws.proofs.Answering.{SameAnswers, rows_same, Spares, one_spares}
 use Rattle.djq_laws.proofs.Apart.{names_changed, rows_more, rows_less, without_dropped}
 use Rattle.djq_laws.proofs.Forms.{done_of, none_holds, stays_learned, late_learned, refused_learned}
 
--- A change of rows is made of a store, which outdates these queries: it is counted, and texts become
--- known.
-pub record MakesChange (outdater : Listed → Option Bytes) (old : Store) (change : RowsChange)
-    (new : Store) : Type 0 where
-  pub outdates : (q : Listed) → change.outdater q ≡ outdater q
+-- the relation whose change by a command outdates a query
+abbrev pub outdater_by : Store → RowCommand → Listed → Option Bytes
+outdater_by old (row_comes name row) q = by_relation name q
+outdater_by old (row_goes name row) q = by_relation name q
+outdater_by old (rows_come held) q = first_read held (has_come old held) q
+
+-- The rows that a command brings suit their relations: those of a batch do so in a sound state.
+abbrev pub RowsSuit : Store → RowCommand → Type 0
+RowsSuit old (row_comes name row) = Unit {0}
+RowsSuit old (row_goes name row) = Unit {0}
+RowsSuit old (rows_come held) = SuitAll old held
+
+-- A command of rows makes a change of a store, which outdates some queries: it is counted, and texts
+-- become known.
+pub record MakesChange (c : RowCommand) (old : Store) (change : RowsChange) (new : Store) : Type 0 where
+  pub outdates : (q : Listed) → change.outdater q ≡ outdater_by old c q
   pub spares : Spares old.relations change
   pub names : AreApart (map (λ (x : Relation). x.name) old.relations)
       → AreApart (map (λ (x : Relation). x.name) change.after)
-  pub rows : All IsSoundRelation old.relations → All IsSoundRelation change.after
+  pub types : SameTypes old.relations change.after
+  pub rows : RowsSuit old c → All IsSoundRelation old.relations → All IsSoundRelation change.after
   pub texts : List Bytes
   pub few : length old.texts ≤ TEXTS → length new.texts ≤ TEXTS
   pub store : new ≡ record old {
@@ -96,32 +108,34 @@ pub record MakesChange (outdater : Listed → Option Bytes) (old : Store) (chang
   }
 
 -- Each relation has the rows that it had, with other copies at most, and texts become known.
-pub record KeepsRows (old new : Store) : Type 0 where
+pub record KeepsRows (c : RowCommand) (old new : Store) : Type 0 where
   pub relations : List Relation
   pub same : (n : Bytes) → rows_of relations n ≡ rows_of old.relations n
   pub names : AreApart (map (λ (x : Relation). x.name) old.relations)
       → AreApart (map (λ (x : Relation). x.name) relations)
-  pub rows : All IsSoundRelation old.relations → All IsSoundRelation relations
+  pub types : SameTypes old.relations relations
+  pub rows : RowsSuit old c → All IsSoundRelation old.relations → All IsSoundRelation relations
   pub texts : List Bytes
   pub few : length old.texts ≤ TEXTS → length new.texts ≤ TEXTS
   pub store : new ≡ record old { relations = relations; texts = all_learned old.texts texts }
 
-learns_keeps : (old new : Store) → LearnsTexts old new → KeepsRows old new
-learns_keeps old new h = record {
+pub learns_keeps : (c : RowCommand) (old new : Store) → LearnsTexts old new → KeepsRows c old new
+learns_keeps c old new h = record {
   relations = old.relations;
   same = λ n. refl;
   names = λ apart. apart;
-  rows = λ sound. sound;
+  types = λ n. refl;
+  rows = λ suit sound. sound;
   texts = h.texts;
   few = h.few;
   store = h.store;
 }
 
 -- What a command of rows makes of a store.
-abbrev pub RowsMade : (Listed → Option Bytes) → Store → RowsOutcome → Store → Type 0
-RowsMade outdater old (accepted change) new = MakesChange outdater old change new
-RowsMade outdater old (out_of_memory change) new = LearnsTexts old new
-RowsMade outdater old unchanged new = KeepsRows old new
+abbrev pub RowsMade : RowCommand → Store → RowsOutcome → Store → Type 0
+RowsMade c old (accepted change) new = MakesChange c old change new
+RowsMade c old (out_of_memory change) new = LearnsTexts old new
+RowsMade c old unchanged new = KeepsRows c old new
 
 -- other rows in one relation
 rows_there : (rs : List Relation) (name : Bytes) (rows : List CountedRow) → All IsSoundRelation rs
@@ -145,6 +159,10 @@ row_passes false true d e r t u v o h = absurd cc
 row_passes false false false e r t u v o h = absurd cc
 row_passes false false true true r t u v o h = absurd cc
 
+-- a copy more, where there may be one
+pub one_more : (n : ℕ) → nat_le COPIES n ≡ false → IsCopyCount (n + 1)
+one_more n few = let below = leb-false COPIES n few in (omega arith, omega (arith, below))
+
 module _ (old : Store) (name : Bytes) (row : Tuple) (none : add_refusal old name row ≡ None) where
   row_suits : (fits (types_of (relation_of old.relations name)) row ≡ true)
       × (nat_le COPIES (copies_of old name row) ≡ false)
@@ -160,10 +178,8 @@ module _ (old : Store) (name : Bytes) (row : Tuple) (none : add_refusal old name
   row_fits : fits (types_of (relation_of old.relations name)) row ≡ true
   row_fits = row_suits.0
 
-  one_more : IsCopyCount (copies_of old name row + 1)
-  one_more =
-      let below = leb-false COPIES (copies_of old name row) row_suits.1 in
-      (omega arith, omega (arith, below))
+  once_more : IsCopyCount (copies_of old name row + 1)
+  once_more = one_more (copies_of old name row) row_suits.1
 
 -- A row that isn't added changes no more than which texts are known.
 not_added : (old : Store) (name : Bytes) (row : Tuple) (r : Refusal) (new : Store) → AddsRow old name row (Err r) new
@@ -175,16 +191,16 @@ not_added old name row r new h =
 
 -- other rows in one relation, where they suit it as those before did
 module _ (old : Store) (name : Bytes) (rows : List CountedRow) where
-  abbrev Suits : Relation → List CountedRow → Type 0
+  abbrev pub Suits : Relation → List CountedRow → Type 0
   Suits x rows = All (λ t. fits x.types t ≡ true) (tuples_of rows) × AreDifferent (tuples_of rows)
       × All (λ (c : CountedRow). IsCopyCount c.copies) rows
 
-  other_names : AreApart (map (λ (x : Relation). x.name) old.relations)
+  pub other_names : AreApart (map (λ (x : Relation). x.name) old.relations)
       → AreApart (map (λ (x : Relation). x.name) (with_rows old.relations name rows))
   other_names apart = names_changed (λ (x : Relation). x.name) (λ (x : Relation). bytes_eq x.name name)
       (λ (x : Relation). record x { rows = rows }) (λ x. refl) old.relations apart
 
-  other_rows : ((x : Relation) → relation_of old.relations name ≡ Some x → Suits x (counted_of old.relations name)
+  pub other_rows : ((x : Relation) → relation_of old.relations name ≡ Some x → Suits x (counted_of old.relations name)
       → Suits x rows)
       → All IsSoundRelation old.relations → All IsSoundRelation (with_rows old.relations name rows)
   other_rows suits sound = rows_there old.relations name rows sound (λ x found k.
@@ -194,21 +210,21 @@ module _ (old : Store) (name : Bytes) (rows : List CountedRow) where
 
 -- a row that comes, another number of copies of one, and a row that goes
 module _ (old : Store) (name : Bytes) (row : Tuple) where
-  abbrev before : List CountedRow
+  abbrev pub before : List CountedRow
   before = counted_of old.relations name
 
-  suits_more : add_refusal old name row ≡ None → has_row (tuples_of before) row ≡ false
+  pub suits_more : fits (types_of (relation_of old.relations name)) row ≡ true → has_row (tuples_of before) row ≡ false
       → (x : Relation) → relation_of old.relations name ≡ Some x → Suits old name before x before
       → Suits old name before x (with_row before row)
-  suits_more none absent x found k = (
+  suits_more fitting absent x found k = (
     subst (λ ts. All (λ t. fits x.types t ≡ true) ts) (sym (tuples_with_row before row))
         (All-push (λ t. fits x.types t ≡ true) (tuples_of before) row k.0
-        (subst (λ (o : Option Relation). fits (types_of o) row ≡ true) found (row_fits old name row none))),
+        (subst (λ (o : Option Relation). fits (types_of o) row ≡ true) found fitting)),
     subst AreDifferent (sym (tuples_with_row before row)) (rows_more (tuples_of before) row k.1 absent),
     all_with_row (λ (c : CountedRow). IsCopyCount c.copies) before row k.2 (omega arith, omega arith),
   )
 
-  suits_copies : (n : ℕ) → IsCopyCount n → (x : Relation) → relation_of old.relations name ≡ Some x
+  pub suits_copies : (n : ℕ) → IsCopyCount n → (x : Relation) → relation_of old.relations name ≡ Some x
       → Suits old name before x before → Suits old name before x (with_copies before row n)
   suits_copies n may x found k = (
     subst (λ ts. All (λ t. fits x.types t ≡ true) ts) (sym (tuples_with_copies before row n)) k.0,
@@ -229,13 +245,14 @@ module _ (old : Store) (name : Bytes) (row : Tuple) where
       without_is = tuples_without before row ∙ without_dropped (tuples_of before) row
 
   -- Of another number of copies each relation keeps its rows.
-  recounted : (n : ℕ) (new : Store) → (All IsSoundRelation old.relations → IsCopyCount n)
-      → new ≡ record old { relations = with_copies_of old.relations name row n } → KeepsRows old new
-  recounted n new may after = record {
+  recounted : (c : RowCommand) (n : ℕ) (new : Store) → (All IsSoundRelation old.relations → IsCopyCount n)
+      → new ≡ record old { relations = with_copies_of old.relations name row n } → KeepsRows c old new
+  recounted c n new may after = record {
     relations = with_copies_of old.relations name row n;
     same = copies_rows old.relations name row n;
     names = other_names old name (with_copies before row n);
-    rows = λ sound. other_rows old name (with_copies before row n) (suits_copies n (may sound)) sound;
+    types = types_with_rows old.relations name (with_copies before row n);
+    rows = λ suit sound. other_rows old name (with_copies before row n) (suits_copies n (may sound)) sound;
     texts = [];
     few = λ few. subst (λ (st : Store). length st.texts ≤ TEXTS) (sym after) few;
     store = after;
@@ -244,7 +261,7 @@ module _ (old : Store) (name : Bytes) (row : Tuple) where
 -- `add`
 pub added : (old : Store) (name : Bytes) (row : Tuple) (r : Result AddOutcome Refusal) (new : Store)
     → AddsRow old name row r new
-    → RowsMade (by_relation name) old (add_outcome (row_in old.relations name row) r) new
+    → RowsMade (row_comes name row) old (add_outcome (row_in old.relations name row) r) new
 added old name row (Ok First) new h =
     let d = done_of (add_refusal old name row) First (AddsAs old name row new) _ h.answer in
     let none = none_holds (add_refusal old name row) First (AddsAs old name row new) _ h.answer in
@@ -252,7 +269,8 @@ added old name row (Ok First) new h =
       outdates = λ q. refl;
       spares = one_spares old.relations name rows;
       names = other_names old name rows;
-      rows = other_rows old name rows (suits_more old name row none d.0);
+      types = types_with_rows old.relations name rows;
+      rows = λ suit. other_rows old name rows (suits_more old name row (row_fits old name row none) d.0);
       texts = texts_in row;
       few = λ few. d.1;
       store = d.2;
@@ -260,9 +278,10 @@ added old name row (Ok First) new h =
 added old name row (Ok (More copies)) new h =
     let d = done_of (add_refusal old name row) (More copies) (AddsAs old name row new) _ h.answer in
     let none = none_holds (add_refusal old name row) (More copies) (AddsAs old name row new) _ h.answer in
-    recounted old name row copies new (λ sound. subst IsCopyCount (sym d.1) (one_more old name row none)) d.2
+    recounted old name row (row_comes name row) copies new
+    (λ sound. subst IsCopyCount (sym d.1) (once_more old name row none)) d.2
 added old name row (Err NoMemory) new h = not_added old name row NoMemory new h
-added old name row (Err r) new h = learns_keeps old new (not_added old name row r new h)
+added old name row (Err r) new h = learns_keeps (row_comes name row) old new (not_added old name row r new h)
 
 -- how many copies each row of a relation has, where all are sound
 pub counted_sound : (rs : List Relation) (name : Bytes) (o : Option Relation) → relation_of rs name ≡ o
@@ -284,14 +303,15 @@ one_less old name row copies there is some sound =
 -- `del`
 pub deleted : (old : Store) (name : Bytes) (row : Tuple) (r : Result DeleteOutcome Refusal) (new : Store)
     → DeletesRow old name row r new
-    → RowsMade (by_relation name) old (delete_outcome (row_out old.relations name row) r) new
+    → RowsMade (row_goes name row) old (delete_outcome (row_out old.relations name row) r) new
 deleted old name row (Ok Last) new h =
     let d = done_of (delete_refusal old name row) Last (DeletesAs old name row new) (OutOfMemoryWhere ⊥) h.answer in
     let rows = without_copies (counted_of old.relations name) row in record {
       outdates = λ q. refl;
       spares = one_spares old.relations name rows;
       names = other_names old name rows;
-      rows = other_rows old name rows (suits_less old name row);
+      types = types_with_rows old.relations name rows;
+      rows = λ suit. other_rows old name rows (suits_less old name row);
       texts = [];
       few = λ few. subst (λ (st : Store). length st.texts ≤ TEXTS) (sym d.2) few;
       store = d.2;
@@ -299,51 +319,32 @@ deleted old name row (Ok Last) new h =
 deleted old name row (Ok (Left copies)) new h =
     let d = done_of (delete_refusal old name row) (Left copies) (DeletesAs old name row new) (OutOfMemoryWhere ⊥)
     h.answer in
-    recounted old name row copies new (one_less old name row copies d.0 d.1 d.2) d.3
+    recounted old name row (row_goes name row) copies new (one_less old name row copies d.0 d.1 d.2) d.3
 deleted old name row (Ok Absent) new h =
-    learns_keeps old new (stays_learned old new
+    learns_keeps (row_goes name row) old new (stays_learned old new
     (done_of (delete_refusal old name row) Absent (DeletesAs old name row new) (OutOfMemoryWhere ⊥) h.answer).1)
-deleted old name row (Err r) new h = learns_keeps old new (stays_learned old new h.stays)
-
--- A command of rows is done on the store, and its change told.
-pub record DoesRows (old : State) (s : ℕ) (outdater : Listed → Option Bytes) (e : Effect) (new : State) : Type 0 where
-  pub outcome : RowsOutcome
-  pub store : Store
-  pub reply : Bytes
-  pub made : RowsMade outdater old.store outcome store
-  pub change : ChangeStep old s outcome store reply e new
-
--- the relation whose change by such a command outdates a query
-abbrev pub outdater_by : RowCommand → Listed → Option Bytes
-outdater_by (row_comes name row) = by_relation name
-outdater_by (row_goes name row) = by_relation name
-
-pub rows_do : (old : State) (s : ℕ) (c : RowCommand) (e : Effect) (new : State) → Changed old s c e new
-    → DoesRows old s (outdater_by c) e new
-rows_do old s (row_comes name row) e new h = record {
-  outcome = add_outcome (row_in old.store.relations name row) h.result;
-  store = h.store;
-  reply = _;
-  made = added old.store name row h.result h.store h.done;
-  change = h.change;
-}
-rows_do old s (row_goes name row) e new h = record {
-  outcome = delete_outcome (row_out old.store.relations name row) h.result;
-  store = h.store;
-  reply = _;
-  made = deleted old.store name row h.result h.store h.done;
-  change = h.change;
-}
+deleted old name row (Err r) new h = learns_keeps (row_goes name row) old new (stays_learned old new h.stays)
 
 -- Queries stay.
-pub made_queries : (outdater : Listed → Option Bytes) (old : Store) (o : RowsOutcome) (new : Store)
-    → RowsMade outdater old o new → new.queries ≡ old.queries
-made_queries outdater old (accepted change) new h = ap (λ (st : Store). st.queries) h.store
-made_queries outdater old (out_of_memory change) new h = ap (λ (st : Store). st.queries) h.store
-made_queries outdater old unchanged new h = ap (λ (st : Store). st.queries) h.store
+pub made_queries : (c : RowCommand) (old : Store) (o : RowsOutcome) (new : Store) → RowsMade c old o new
+    → new.queries ≡ old.queries
+made_queries c old (accepted change) new h = ap (λ (st : Store). st.queries) h.store
+made_queries c old (out_of_memory change) new h = ap (λ (st : Store). st.queries) h.store
+made_queries c old unchanged new h = ap (λ (st : Store). st.queries) h.store
+
+-- Relations keep their types.
+pub made_types : (c : RowCommand) (old : Store) (o : RowsOutcome) (new : Store) → RowsMade c old o new
+    → SameTypes old.relations new.relations
+made_types c old (accepted change) new h =
+    subst (λ (st : Store). SameTypes old.relations st.relations) (sym h.store) h.types
+made_types c old (out_of_memory change) new h =
+    subst (λ (st : Store). SameTypes old.relations st.relations) (sym h.store) (λ n. refl)
+made_types c old unchanged new h =
+    subst (λ (st : Store). SameTypes old.relations st.relations) (sym h.store) h.types
 
 -- Where relations keep their rows, answers are the same.
-pub kept_answers : (old new : Store) (q : Listed) → KeepsRows old new → SameAnswers old.relations new.relations q
-kept_answers old new q h =
+pub kept_answers : (c : RowCommand) (old new : Store) (q : Listed) → KeepsRows c old new
+    → SameAnswers old.relations new.relations q
+kept_answers c old new q h =
     subst (λ (st : Store). SameAnswers old.relations st.relations q) (sym h.store)
     (rows_same old.relations h.relations q h.same)

@@ -10,15 +10,16 @@ use Rattle.djq_model.specs.Equality.{bytes_eq-decides}
 use Rattle.djq_lines.specs.declared.answer.EndCause.{EndCause}
 use Rattle.djq_lines.specs.declared.answer.EndCause.TheVariants.{Input, Long, Slow, Memory}
 use Rattle.djq_lines.specs.declared.command.Command.{Command}
-use Rattle.djq_lines.specs.declared.command.Command.TheVariants.{Unwatch}
+use Rattle.djq_lines.specs.declared.command.Command.TheVariants.{Add, Done, Unwatch}
+use Rattle.djq_lines.specs.declared.held.HeldRow.{HeldRow}
 use Rattle.djq_lines.specs.declared.limits.TheConstants.{SESSIONS}
-use Rattle.djq_lines.specs.Grammar.{Reading, outside, past_limit, says as says_command, reading_of}
+use Rattle.djq_lines.specs.Grammar.{Reading, says as says_command, reading_of}
 use Rattle.djq_lines.specs.Reply.{end_memory}
 use Rattle.djq_machine.specs.State.{Store, State, Session, Cursor, fresh, session_of, with_session, ended_by}
 use Rattle.djq_machine.specs.Changes.{RowsChange, RowsOutcome, tried, changed}
 use Rattle.djq_machine.specs.Watch.{is_watching, Telling, ChangeStep}
 use Rattle.djq_machine.specs.Effect.{Effect, nothing, EndsWith}
-use Rattle.djq_machine.specs.Command.{uses, with_cursor, with_watch, without_watch, CommandStep}
+use Rattle.djq_machine.specs.Command.{uses, with_cursor, with_watch, without_watch, with_batch, without_batch}
 use Rattle.djq_machine.specs.LineStep.{LineOutcome, long, blank, slow, no_room, run, ReadStep, FrontStep, behind_line}
 use Rattle.djq_machine.specs.Step.{Event, opened, fed, stepped, took, ended, closed, FedStep, TookStep, EndedStep, Acts, with_relations, Step}
 use Rattle.djq_machine.specs.Run.{Did, Run, to_session}
@@ -26,34 +27,25 @@ use Rattle.djq_machine.specs.Call.{IsOpen, cause_of, cause_in}
 use Rattle.djq_laws.specs.Moved.{EndsByRun, Spares, Comes, is_held, out_of_memory, is_dropped, Ends, input_ends, had_ended}
 use Rattle.djq_laws.specs.Watched.{IsWatcher, WatchesAlong}
 use Rattle.djq_laws.specs.Staying.{GoesOn, KeepsWatch, WatchersStay}
-use Rattle.djq_laws.specs.Form.{form_of, Form, asking, storing, turning, changing, ending, Turn, opens_cursor, moves_cursor, closes_cursor, starts_watching, stops_watching, RowCommand, Replied, is_whole, is_cut, Stored, learns_texts, makes_relation, registers, drops_query, in_use, without_cursor, Turned, Changed, DoesStore, DoesTurn, is_turned, is_refused, Does}
+use Rattle.djq_laws.specs.Form.{form_of, Form, asking, storing, turning, changing, ending, Turn, opens_cursor, moves_cursor, closes_cursor, starts_watching, stops_watching, opens_batch, holds_row, closes_batch, RowCommand, Replied, is_whole, is_cut, Stored, learns_texts, makes_relation, registers, drops_query, in_use, without_cursor, Turned, Changed, DoesStore, DoesTurn, is_turned, is_refused, Does}
 use Rattle.djq_laws.proofs.Finding.{some_and, and_some}
-use Rattle.djq_laws.proofs.Forms.{command_does}
-use Rattle.djq_laws.proofs.Rows.{outdater_by, rows_do, made_queries}
+use Rattle.djq_laws.proofs.Forms.{command_does, Reads, turned_down, carried_out, line_reads}
+use Rattle.djq_laws.proofs.Rows.{made_queries}
+use Rattle.djq_laws.proofs.Doing.{begun, rows_do}
 use Rattle.djq_laws.proofs.Told.{change_keeps}
-use Rattle.djq_laws.proofs.Queueing.{gaining, session_changed, session_other, stepped as stepped_session, stepped_cause}
+use Rattle.djq_laws.proofs.Queueing.{gaining, session_changed, stepped as stepped_session, stepped_cause}
 use Rattle.djq_laws.proofs.Giving.{found_in_front, dropped_query}
 use Rattle.djq_laws.proofs.Alike.{CauseKept, alike_cause}
 use Rattle.djq_laws.proofs.Touching.{AnyCause, Touches, is_fed, is_stepped, is_taken, is_ended}
 use Rattle.djq_laws.proofs.Moving.{fed_facts, took_facts, ended_facts}
 use Rattle.djq_laws.proofs.Sending.{step_open, others_stay}
 use Rattle.djq_laws.proofs.Containing.{found_there, any_there}
-use Rattle.djq_laws.proofs.Telling.{Watches, some_of, IsOver, over_stays, watches_still, watches_changed}
+use Rattle.djq_laws.proofs.Telling.{Watches, some_of, IsOver, over_stays, watches_still, watches_changed, watches_with, watches_begun}
 use Rattle.djq_laws.proofs.Watching.{change_store, queued_store}
 
 -- a session that watches a query so far, or is over
 abbrev Goes : Bytes → State → ℕ → Type 0
 Goes q st s = Watches q (session_of st s) ⊎ IsOver st s
-
--- a change of one session that keeps what it watches
-watches_with : (q : Bytes) (old : State) (t : ℕ) (f : Session → Session) (s : ℕ) (b : Bool) → (t == s) ≡ b → ((x : Session) → (f x).id ≡ x.id)
-    → (b ≡ true → (x : Session) → is_watching q x ≡ true → is_watching q (f x) ≡ true) → Watches q (session_of old s) → Watches q (session_of (with_session old t f) s)
-watches_with q old t f s true e id keeps w =
-    let same : t ≡ s = eqb-true t s e in
-    let g = some_and (session_of old s) (λ x. is_watching q x ≡ true) w in
-    subst (λ (i : ℕ). Watches q (session_of (with_session old i f) s)) (sym same)
-    (and_some (session_of (with_session old s f) s) (λ x. is_watching q x ≡ true) (f g.0) (session_changed old s f id ∙ ap (λ o. option_map f o) g.1) (keeps refl g.0 g.2))
-watches_with q old t f s false e id keeps w = subst (λ (o : Option Session). Watches q o) (sym (session_other old t s f id e)) w
 
 -- what is pushed behind, and what is dropped of other names
 any_pushed : (p : Bytes → Bool) (ws : List Bytes) (w : Bytes) → list_any p ws ≡ true → list_any p (ws ++ w ∷ []) ≡ true
@@ -169,6 +161,9 @@ module _ (q : Listed) (s : ℕ) (old : State) (registered : listed_of old.store.
       by_session t (with_watch p) new (λ y. refl) (λ b y k. still_watches (listed_name q) p y k) h.1
   by_turn t x (stops_watching p) new not_it h =
       by_session t (without_watch p) new (λ y. refl) (unwatches_other t p not_it) h
+  by_turn t x opens_batch new not_it h = by_session t (with_batch []) new (λ y. refl) (λ b y k. k) h
+  by_turn t x (holds_row l name row) new not_it h = by_session t _ new (λ y. refl) (λ b y k. k) h.state
+  by_turn t x closes_batch new not_it h = by_session t without_batch new (λ y. refl) (λ b y k. k) h
 
   by_reply : (t : ℕ) (new : State) → IsOpen old t → Replied t old new → Stays q s new
   by_reply t new there (is_whole after) = by_none new after
@@ -179,11 +174,13 @@ module _ (q : Listed) (s : ℕ) (old : State) (registered : listed_of old.store.
   by_turning t x turn new there not_it (is_turned h) = by_turn t x turn new not_it h
   by_turning t x turn new there not_it (is_refused r) = by_reply t new there r
 
-  by_rows : (t : ℕ) (c : RowCommand) (e : Effect) (new : State) → Changed old t c e new → Stays q s new
-  by_rows t c e new h =
-      let d = rows_do old t c e new h in
-      by_change t d.outcome d.store d.reply e new d.change
-      (made_queries (outdater_by c) old.store d.outcome d.store d.made)
+by_rows : (q : Listed) (s : ℕ) (old : State) → listed_of old.store.queries (listed_name q) ≡ Some q
+    → Watches (listed_name q) (session_of old s)
+    → (t : ℕ) (c : RowCommand) (e : Effect) (new : State) → Changed old t c e new → Stays q s new
+by_rows q s old registered watches t c e new h =
+    let d = rows_do old t c e new h in
+    by_change q s (begun old t c) registered (watches_begun (listed_name q) old t c s watches) t d.outcome d.store
+    d.reply e new d.change (made_queries c old.store d.outcome d.store d.made)
 
 by_storing : (q : Listed) (s : ℕ) (old : State) → listed_of old.store.queries (listed_name q) ≡ Some q
     → Watches (listed_name q) (session_of old s)
@@ -207,22 +204,25 @@ module _ (q : Listed) (s : ℕ) (old : State) (registered : listed_of old.store.
       by_end q s (record old { stopped = h.1.stopped }) registered watches t h.1.cause new there h.1.state
 
   -- `unwatch` alone is of its form
-  is_unwatch : (c : Command) (p : Bytes) → form_of c ≡ turning (stops_watching p) → c ≡ Unwatch p
-  is_unwatch (Unwatch n) p e = cc
-  is_unwatch c p e = absurd cc
-
-  by_command : (t : ℕ) (x : Session) (c : Command) (e : Effect) (new : State) → IsOpen old t → ((t == s) ≡ true → says_command c ≡ says_command (Unwatch (listed_name q)) → ⊥)
-      → CommandStep old t x c e new → Stays q s new
-  by_command t x c e new there not_it h =
-      by_form (form_of c) t x e new there
-      (λ here same. not_it here (ap (λ k. says_command k) (is_unwatch c (listed_name q) same))) (command_does old t x c e new h)
+  is_unwatch : (batch : Option (List HeldRow)) (l : Bytes) (c : Command) (p : Bytes)
+      → form_of batch l c ≡ turning (stops_watching p) → c ≡ Unwatch p
+  is_unwatch batch l (Unwatch n) p e = cc
+  is_unwatch None l (Add name row) p e = absurd cc
+  is_unwatch (Some held) l (Add name row) p e = absurd cc
+  is_unwatch None l Done p e = absurd cc
+  is_unwatch (Some held) l Done p e = absurd cc
+  is_unwatch batch l c p e = absurd cc
 
   by_reading : (t : ℕ) (x : Session) (l : Bytes) (r : Reading) (e : Effect) (new : State) → IsOpen old t → ((t == s) ≡ true → r ≡ says_command (Unwatch (listed_name q)) → ⊥)
       → ReadStep old t x l r e new → Stays q s new
-  by_reading t x l outside e new there not_it h = by_none q s old registered watches new h.1
-  by_reading t x l (past_limit c) e new there not_it h = by_none q s old registered watches new h.1
-  by_reading t x l (says_command c) e new there not_it (true, h) = by_command t x c e new there not_it h
-  by_reading t x l (says_command c) e new there not_it (false, h) = by_none q s old registered watches new h.1.1
+  by_reading t x l r e new there not_it h = by (line_reads old t x l r e new h)
+    where
+      by : Reads old t x l r e new → Stays q s new
+      by (turned_down why because k) = by_none q s old registered watches new k.1
+      by (carried_out c is k) =
+          by_form (form_of x.batch l c) t x e new there
+          (λ here same. not_it here (is ∙ ap (λ w. says_command w) (is_unwatch x.batch l c (listed_name q) same)))
+          (command_does old t x l c e new k)
 
 -- The front of a session's bytes.
 open_behind : (old : State) (t : ℕ) (rest : Bytes) (x : Session) → session_of old t ≡ Some x → IsOpen (with_session old t (behind_line rest)) t

@@ -1,28 +1,30 @@
 -- Whether a session said `stop`, behind each event: no event says it but that of a line that isn't kept.
-use Rattle.std.specs.Prelude.{ℕ, List, [], ◌∷◌, ◌≡◌, ◌<◌, ◌++◌, ◌⊎◌, true, false, length}
+use Rattle.std.specs.Prelude.{ℕ, List, [], ◌∷◌, ◌≡◌, ◌≢◌, ◌<◌, ◌++◌, ◌⊎◌, length}
 use Rattle.std.specs.Prelude.{Option, None, Some, MatchOption}
-use Rattle.std.proofs.Common.{refl, sym, ap, ◌∙◌, inl, inr}
-use Rattle.djq_model.specs.Data.{Bytes}
+use Rattle.std.proofs.Common.{refl, ap, ◌∙◌, inl, inr}
+use Rattle.djq_model.specs.Data.{Bytes, Tuple}
 use Rattle.djq_lines.specs.declared.answer.EndCause.{EndCause}
 use Rattle.djq_lines.specs.declared.limits.TheConstants.{SESSIONS}
 use Rattle.djq_lines.specs.declared.answer.EndCause.TheVariants.{Memory}
 use Rattle.djq_lines.specs.declared.command.Command.{Command}
-use Rattle.djq_lines.specs.declared.command.Command.TheVariants.{Quit, Stop}
-use Rattle.djq_lines.specs.Grammar.{Reading, outside, past_limit, says as says_command, reading_of}
+use Rattle.djq_lines.specs.declared.command.Command.TheVariants.{Add, Done, Quit, Stop}
+use Rattle.djq_lines.specs.declared.held.HeldRow.{HeldRow}
+use Rattle.djq_lines.specs.Grammar.{Reading, reading_of}
 use Rattle.djq_lines.specs.Reply.{end_memory}
 use Rattle.djq_machine.specs.State.{Store, State, Session, fresh, session_of, with_session, ended_by}
-use Rattle.djq_machine.specs.Keeping.{no_line, the_line}
+use Rattle.djq_machine.specs.Keeping.{no_line}
 use Rattle.djq_machine.specs.Effect.{Effect, nothing, says, EndsWith, queue, queue_all}
 use Rattle.djq_machine.specs.Changes.{RowsOutcome}
 use Rattle.djq_machine.specs.Watch.{Telling, ChangeStep}
 use Rattle.djq_machine.specs.Command.{CommandStep}
 use Rattle.djq_machine.specs.LineStep.{LineOutcome, long, blank, slow, no_room, run, behind_line, FrontStep, ReadStep}
 use Rattle.djq_machine.specs.Step.{Event, opened, fed, stepped, took, ended, closed, FedStep, TookStep, EndedStep, Acts, Step, with_relations}
-use Rattle.djq_laws.specs.Form.{Form, asking, storing, turning, changing, ending, row_comes, row_goes, form_of}
+use Rattle.djq_laws.specs.Form.{Form, asking, storing, turning, changing, ending, form_of}
 use Rattle.djq_laws.specs.Form.{Turn, Replied, is_whole, is_cut, DoesTurn, is_turned, is_refused, Does}
 use Rattle.djq_laws.specs.Stopping.{KeptSaysNoStop}
 use Rattle.djq_laws.proofs.Finding.{some_and}
-use Rattle.djq_laws.proofs.Forms.{turned_one, command_does}
+use Rattle.djq_laws.proofs.Forms.{turned_one, command_does, Reads, turned_down, carried_out, line_reads}
+use Rattle.djq_laws.proofs.Doing.{begun, rows_do}
 use Rattle.djq_laws.proofs.Told.{change_keeps}
 
 -- an event that isn't of a line
@@ -77,11 +79,8 @@ step_stopped old event e new h other =
 -- ---- a line that is kept
 
 -- what is only said isn't kept
-said_unkept : (s : ℕ) (text : Bytes) (e : Effect) → e ≡ says s text → e.kept ≡ the_line → ⊥
-said_unkept s text e said kept = differ (sym (ap (λ (f : Effect). f.kept) said) ∙ kept)
-  where
-    differ : no_line ≡ the_line → ⊥
-    differ w = cc
+said_unkept : (s : ℕ) (text : Bytes) (e : Effect) → e ≡ says s text → e.kept ≡ no_line
+said_unkept s text e said = ap (λ (f : Effect). f.kept) said
 
 change_stopped : (old : State) (t : ℕ) (outcome : RowsOutcome) (store : Store) (reply : Bytes) (e : Effect)
     (new : State)
@@ -110,28 +109,41 @@ form_stopped asking old s x e new other h = replied_stopped s old new h.1
 form_stopped storing old s x e new other h =
     replied_stopped s (record old { store = (h.1).store }) new (h.1).replied
 form_stopped (turning t) old s x e new other h = turn_stopped old s x t new h.1
-form_stopped (changing (row_comes name row)) old s x e new other h =
-    change_stopped old s _ h.store _ e new h.change
-form_stopped (changing (row_goes name row)) old s x e new other h =
-    change_stopped old s _ h.store _ e new h.change
+form_stopped (changing c) old s x e new other h =
+    let d = rows_do old s c e new h in change_stopped (begun old s c) s d.outcome d.store d.reply e new d.change
 form_stopped ending old s x e new other h = absurd other
 
-command_stopped : (old : State) (s : ℕ) (x : Session) (c : Command) (e : Effect) (new : State)
-    → CommandStep old s x c e new → e.kept ≡ the_line → new.stopped ≡ old.stopped
-command_stopped old s x Quit e new h kept = absurd (said_unkept s _ e h.0 kept)
-command_stopped old s x Stop e new h kept = absurd (said_unkept s _ e h.0 kept)
-command_stopped old s x c e new h kept =
-    form_stopped (form_of c) old s x e new tt (command_does old s x c e new h)
+-- `quit` and `stop` alone are of that form
+no_ending_add : (batch : Option (List HeldRow)) (l name : Bytes) (row : Tuple) → IsNoEnding (form_of batch l (Add name row))
+no_ending_add None l name row = tt
+no_ending_add (Some held) l name row = tt
+
+no_ending_done : (batch : Option (List HeldRow)) (l : Bytes) → IsNoEnding (form_of batch l Done)
+no_ending_done None l = tt
+no_ending_done (Some held) l = tt
+
+command_stopped : (old : State) (s : ℕ) (x : Session) (l : Bytes) (c : Command) (e : Effect) (new : State)
+    → CommandStep old s x l c e new → e.kept ≢ no_line → new.stopped ≡ old.stopped
+command_stopped old s x l Quit e new h kept = absurd (kept (said_unkept s _ e h.0))
+command_stopped old s x l Stop e new h kept = absurd (kept (said_unkept s _ e h.0))
+command_stopped old s x l (Add name row) e new h kept =
+    form_stopped (form_of x.batch l (Add name row)) old s x e new (no_ending_add x.batch l name row)
+    (command_does old s x l (Add name row) e new h)
+command_stopped old s x l Done e new h kept =
+    form_stopped (form_of x.batch l Done) old s x e new (no_ending_done x.batch l) (command_does old s x l Done e new h)
+command_stopped old s x l c e new h kept =
+    form_stopped (form_of x.batch l c) old s x e new tt (command_does old s x l c e new h)
 
 read_stopped : (old : State) (s : ℕ) (x : Session) (l : Bytes) (r : Reading) (e : Effect) (new : State)
-    → ReadStep old s x l r e new → e.kept ≡ the_line → new.stopped ≡ old.stopped
-read_stopped old s x l outside e new h kept = ap (λ (st : State). st.stopped) h.1
-read_stopped old s x l (past_limit c) e new h kept = ap (λ (st : State). st.stopped) h.1
-read_stopped old s x l (says_command c) e new (true, h) kept = command_stopped old s x c e new h kept
-read_stopped old s x l (says_command c) e new (false, h) kept = ap (λ (st : State). st.stopped) h.1.1
+    → ReadStep old s x l r e new → e.kept ≢ no_line → new.stopped ≡ old.stopped
+read_stopped old s x l r e new h kept = by (line_reads old s x l r e new h)
+  where
+    by : Reads old s x l r e new → new.stopped ≡ old.stopped
+    by (turned_down why because k) = ap (λ (st : State). st.stopped) k.1
+    by (carried_out c is k) = command_stopped old s x l c e new k kept
 
 front_stopped : (old : State) (s : ℕ) (x : Session) (outcome : LineOutcome) (e : Effect) (mid : State)
-    → FrontStep old s x outcome e mid → e.kept ≡ the_line → mid.stopped ≡ old.stopped
+    → FrontStep old s x outcome e mid → e.kept ≢ no_line → mid.stopped ≡ old.stopped
 front_stopped old s x long e mid h kept = ap (λ (st : State). st.stopped) h.1.1
 front_stopped old s x (blank l) e mid h kept = ap (λ (st : State). st.stopped) h.1.then.1
 front_stopped old s x (slow l) e mid h kept = ap (λ (st : State). st.stopped) h.2.then.1
@@ -140,7 +152,7 @@ front_stopped old s x (run l) e mid h kept =
     read_stopped (with_session old s (behind_line h.2.rest)) s (behind_line h.2.rest x) l (reading_of l) e mid
     h.2.then kept
 
-kept_stopped : (old : State) (event : Event) (e : Effect) (mid : State) → Acts old event e mid → e.kept ≡ the_line
+kept_stopped : (old : State) (event : Event) (e : Effect) (mid : State) → Acts old event e mid → e.kept ≢ no_line
     → mid.stopped ≡ old.stopped
 kept_stopped old (opened s) e mid h kept = acts_stopped old (opened s) e mid h tt
 kept_stopped old (fed s bytes) e mid h kept = acts_stopped old (fed s bytes) e mid h tt

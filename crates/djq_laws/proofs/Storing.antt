@@ -1,5 +1,5 @@
 -- What the commands do to the store keeps it sound.
-use Rattle.std.specs.Prelude.{List, [], ◌∷◌, ◌≡◌, ◌≤◌, Bool, true, length, Option, map, All}
+use Rattle.std.specs.Prelude.{List, [], ◌∷◌, ◌≡◌, ◌≤◌, Bool, true, length, map, All}
 use Rattle.std.proofs.Common.{refl, sym, ap, ◌∙◌, subst}
 use Rattle.std.proofs.lemmas.List.Sorted.{All-permutation}
 use Rattle.std.proofs.lemmas.List.Elements.{All-nil, All-cons, All-head, All-tail, All-push}
@@ -14,6 +14,7 @@ use Rattle.djq_machine.specs.Changes.{RowsOutcome, accepted, out_of_memory, unch
 use Rattle.djq_machine.specs.Step.{SameRelations}
 use Rattle.djq_laws.specs.Sound.{AreApart, IsCopyCount, IsSoundRelation, IsConnex, IsSoundStore}
 use Rattle.djq_laws.specs.Form.{
+  RowCommand,
   Stored,
   LearnsTexts,
   learns_texts,
@@ -25,7 +26,7 @@ use Rattle.djq_laws.specs.Form.{
 use Rattle.djq_model.proofs.Counted.{tuples_moved, differ_moved}
 use Rattle.djq_laws.proofs.Changing.{all_dropped}
 use Rattle.djq_laws.proofs.Apart.{names_push, names_dropped, texts_apart, nothing_apart}
-use Rattle.djq_laws.proofs.Rows.{RowsMade}
+use Rattle.djq_laws.proofs.Rows.{RowsSuit, RowsMade}
 
 -- Where no more than texts become known.
 learned_sound : (old new : Store) → LearnsTexts old new → IsSoundStore old → IsSoundStore new
@@ -75,20 +76,20 @@ stored_sound used old new (drops_query name unused e) s = subst IsSoundStore (sy
 })
 
 -- What a command of rows makes of it.
-pub made_sound : (outdater : Listed → Option Bytes) (old : Store) (o : RowsOutcome) (new : Store)
-    → RowsMade outdater old o new → IsSoundStore old → IsSoundStore new
-made_sound outdater old (accepted change) new h s = subst IsSoundStore (sym h.store) (record {
+pub made_sound : (c : RowCommand) (old : Store) (o : RowsOutcome) (new : Store) → RowsMade c old o new → RowsSuit old c
+    → IsSoundStore old → IsSoundStore new
+made_sound c old (accepted change) new h suit s = subst IsSoundStore (sym h.store) (record {
   relations = h.names s.relations;
-  rows = h.rows s.rows;
+  rows = h.rows suit s.rows;
   texts = texts_apart old.texts h.texts s.texts;
   few = subst (λ (st : Store). length st.texts ≤ TEXTS) h.store (h.few s.few);
   queries = s.queries;
   connex = s.connex;
 })
-made_sound outdater old (out_of_memory change) new h s = learned_sound old new h s
-made_sound outdater old unchanged new h s = subst IsSoundStore (sym h.store) (record {
+made_sound c old (out_of_memory change) new h suit s = learned_sound old new h s
+made_sound c old unchanged new h suit s = subst IsSoundStore (sym h.store) (record {
   relations = h.names s.relations;
-  rows = h.rows s.rows;
+  rows = h.rows suit s.rows;
   texts = texts_apart old.texts h.texts s.texts;
   few = subst (λ (st : Store). length st.texts ≤ TEXTS) h.store (h.few s.few);
   queries = s.queries;

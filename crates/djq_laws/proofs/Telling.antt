@@ -23,6 +23,8 @@ use Rattle.djq_deltas.proofs.Lists.{nothing_there, first_or_later, first_there, 
 use Rattle.djq_laws.proofs.Finding.{some_and, and_some}
 use Rattle.djq_laws.proofs.Queueing.{gaining, session_changed, session_other, queued_all}
 use Rattle.djq_laws.specs.Moved.{EndsByRun}
+use Rattle.djq_laws.specs.Form.{RowCommand}
+use Rattle.djq_laws.proofs.Doing.{closing, begun, closing_id, closing_watches}
 use Rattle.djq_laws.proofs.Told.{beginning, session_keeps, delta_keeps, last_keeps}
 use Rattle.djq_laws.proofs.Containing.{found_there, found_passes, any_there, mapped_from}
 
@@ -87,6 +89,23 @@ watches_changed q old change store s w =
     let g = some_and (session_of old s) (λ x. is_watching q x ≡ true) w in
     and_some (session_of (changed old (Some change) store) s) (λ x. is_watching q x ≡ true) (f g.0)
     (find_mapped (λ (x : Session). x.id == s) f (λ x. refl) old.sessions ∙ ap (λ o. option_map f o) g.1) g.2
+
+-- a change of one session that keeps what it watches
+pub watches_with : (q : Bytes) (old : State) (t : ℕ) (f : Session → Session) (s : ℕ) (b : Bool) → (t == s) ≡ b → ((x : Session) → (f x).id ≡ x.id)
+    → (b ≡ true → (x : Session) → is_watching q x ≡ true → is_watching q (f x) ≡ true) → Watches q (session_of old s) → Watches q (session_of (with_session old t f) s)
+watches_with q old t f s true e id keeps w =
+    let same : t ≡ s = eqb-true t s e in
+    let g = some_and (session_of old s) (λ x. is_watching q x ≡ true) w in
+    subst (λ (i : ℕ). Watches q (session_of (with_session old i f) s)) (sym same)
+    (and_some (session_of (with_session old s f) s) (λ x. is_watching q x ≡ true) (f g.0) (session_changed old s f id ∙ ap (λ o. option_map f o) g.1) (keeps refl g.0 g.2))
+watches_with q old t f s false e id keeps w = subst (λ (o : Option Session). Watches q o) (sym (session_other old t s f id e)) w
+
+-- a command of rows, before its change is told
+pub watches_begun : (q : Bytes) (old : State) (t : ℕ) (c : RowCommand) (s : ℕ) → Watches q (session_of old s)
+    → Watches q (session_of (begun old t c) s)
+watches_begun q old t c s w =
+    watches_with q old t (closing c) s (t == s) refl (closing_id c)
+    (λ b x k. ap (λ (ws : List Bytes). list_any (λ v. bytes_eq v q) ws) (closing_watches c x) ∙ k) w
 
 module _ (q : Listed) (s : ℕ) (part : Bytes) where
   -- before the delta is told, and behind it

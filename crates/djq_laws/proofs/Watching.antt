@@ -1,7 +1,6 @@
 -- What a step tells a session that watches a query: how its answers changed, where it changes the rows of a relation that the query reads.
-use Rattle.std.specs.Prelude.{ℕ, List, [], ◌∷◌, ◌==◌, ◌≡◌, ◌<◌, ◌+◌, ◌++◌, ◌⊎◌, Bool, true, false, length, Option, None, Some, is_some, MatchOption, option_map}
+use Rattle.std.specs.Prelude.{ℕ, List, [], ◌∷◌, ◌==◌, ◌≡◌, ◌<◌, ◌+◌, ◌++◌, ◌⊎◌, Bool, true, false, length, Option, None, Some, is_some, MatchOption}
 use Rattle.std.proofs.Common.{refl, sym, ap, ◌∙◌, subst, inl, inr}
-use Rattle.std.proofs.lemmas.Bool.{eqb-true}
 use Rattle.std.proofs.lemmas.List.Elements.{All-weaker}
 use Rattle.djq_model.specs.declared.relation.Relation.{Relation}
 use Rattle.djq_model.specs.Data.{Bytes, Tuple}
@@ -12,20 +11,20 @@ use Rattle.djq_lines.specs.declared.answer.EndCause.TheVariants.{Input, Memory}
 use Rattle.djq_lines.specs.declared.answer.Sign.{Sign}
 use Rattle.djq_lines.specs.declared.answer.Sign.TheVariants.{Came, Went}
 use Rattle.djq_lines.specs.declared.command.Command.{Command}
-use Rattle.djq_lines.specs.declared.command.Command.TheVariants.{Add, Del}
+use Rattle.djq_lines.specs.declared.command.Command.TheVariants.{Add, Del, Done}
+use Rattle.djq_lines.specs.declared.held.HeldRow.{HeldRow}
 use Rattle.djq_lines.specs.declared.limits.TheConstants.{SESSIONS}
-use Rattle.djq_lines.specs.Grammar.{Reading, outside, past_limit, says as says_command, reading_of}
+use Rattle.djq_lines.specs.Grammar.{Reading, says as says_command, reading_of}
 use Rattle.djq_lines.specs.Reply.{end_memory}
 use Rattle.djq_machine.specs.State.{Store, State, Session, fresh, session_of, with_session, ended_by}
 use Rattle.djq_machine.specs.Delta.{Change, HasChanged}
 use Rattle.djq_machine.specs.Changes.{RowsChange, RowsOutcome, accepted, out_of_memory, unchanged, is_outdated}
 use Rattle.djq_machine.specs.Watch.{is_watching, Telling, ChangeStep}
 use Rattle.djq_machine.specs.Effect.{Effect, nothing, EndsWith, queue_all, queue}
-use Rattle.djq_machine.specs.Command.{CommandStep}
 use Rattle.djq_machine.specs.LineStep.{LineOutcome, long, blank, slow, no_room, run, ReadStep, FrontStep, behind_line}
 use Rattle.djq_machine.specs.Step.{Event, opened, fed, stepped, took, ended, closed, FedStep, TookStep, EndedStep, Acts, with_relations, Step}
 use Rattle.djq_machine.specs.Call.{cause_of, cause_in}
-use Rattle.djq_laws.specs.Watched.{IsWatcher, line_outdater, event_changes}
+use Rattle.djq_laws.specs.Watched.{IsWatcher, batch_in, line_outdater, event_changes}
 use Rattle.djq_laws.specs.Form.{
   form_of,
   Form,
@@ -35,6 +34,7 @@ use Rattle.djq_laws.specs.Form.{
   changing,
   ending,
   Turn,
+  RowCommand,
   Replied,
   is_whole,
   is_cut,
@@ -45,19 +45,21 @@ use Rattle.djq_laws.specs.Form.{
   registers,
   drops_query,
   in_use,
+  Changed,
   DoesTurn,
   is_turned,
   is_refused,
   Does,
 }
 use Rattle.djq_laws.proofs.Finding.{some_and, and_some}
-use Rattle.djq_laws.proofs.Forms.{turned_one, command_does}
-use Rattle.djq_laws.proofs.Rows.{RowsMade, kept_answers, outdater_by, rows_do}
+use Rattle.djq_laws.proofs.Forms.{turned_one, command_does, Reads, turned_down, carried_out, line_reads}
+use Rattle.djq_laws.proofs.Rows.{RowsMade, kept_answers, outdater_by}
+use Rattle.djq_laws.proofs.Doing.{begun, rows_do}
 use Rattle.djq_laws.proofs.Told.{change_keeps}
-use Rattle.djq_laws.proofs.Queueing.{session_changed, session_other, stepped_cause}
+use Rattle.djq_laws.proofs.Queueing.{stepped_cause}
 use Rattle.djq_laws.proofs.Answering.{SameAnswers, new_relation_same, reordered_same, Spares}
 use Rattle.djq_laws.proofs.Giving.{same_itself}
-use Rattle.djq_laws.proofs.Telling.{Watches, IsTheDelta, change_is_told}
+use Rattle.djq_laws.proofs.Telling.{Watches, watches_with, watches_begun, IsTheDelta, change_is_told}
 
 -- Either the answers stay, and no change was accepted but of other relations; or one was, and its delta is told.
 pub data StepTells (q : Listed) (s : ℕ) (old new : Store) (queued : List (ℕ × Bytes)) (changes : Bool) : Type 0 where
@@ -69,15 +71,18 @@ replied_store s mid new (is_whole after) = ap (λ (st : State). st.store) after
 replied_store s mid new (is_cut after) = ap (λ (st : State). st.store) after
 
 -- the relation whose change by a command of a form outdates a query
-abbrev form_outdater : Form → Listed → Option Bytes
-form_outdater (changing c) q = outdater_by c q
-form_outdater _ q = None
+abbrev form_outdater : Store → Form → Listed → Option Bytes
+form_outdater old (changing c) q = outdater_by old c q
+form_outdater old _ q = None
 
-outdated_alike : (old : State) (t : ℕ) (c : Command) (q : Listed)
-    → form_outdater (form_of c) q ≡ line_outdater old t (says_command c) q
-outdated_alike old t (Add name row) q = refl
-outdated_alike old t (Del name row) q = refl
-outdated_alike old t c q = refl
+outdated_alike : (old : Store) (batch : Option (List HeldRow)) (l : Bytes) (c : Command) (q : Listed)
+    → form_outdater old (form_of batch l c) q ≡ line_outdater old batch (says_command c) q
+outdated_alike old None l (Add name row) q = refl
+outdated_alike old (Some held) l (Add name row) q = refl
+outdated_alike old None l Done q = refl
+outdated_alike old (Some held) l Done q = refl
+outdated_alike old batch l (Del name row) q = refl
+outdated_alike old batch l c q = refl
 
 -- nothing of it changes
 module _ (q : Listed) (s : ℕ) (queued : List (ℕ × Bytes)) (changes : Bool) where
@@ -140,72 +145,62 @@ module _ (q : Listed) (s : ℕ) (old : State) (registered : listed_of old.store.
           is_quiet (subst (λ (rs : List Relation). SameAnswers old.store.relations rs q) (sym relations) (spares q k))
           (inr (ap (λ (st : Store). st.seq) after, refl))
 
-  made_tells : (outdater : Listed → Option Bytes) (t : ℕ) (o : RowsOutcome) (store : Store) (reply : Bytes) (e : Effect)
+  made_tells : (c : RowCommand) (t : ℕ) (o : RowsOutcome) (store : Store) (reply : Bytes) (e : Effect)
       (new : State)
-      → cause_of new s ≡ None → RowsMade outdater old.store o store → ChangeStep old t o store reply e new
-      → StepTells q s old.store store e.queued (is_some (outdater q))
-  made_tells outdater t (accepted change) store reply e new running m h =
+      → cause_of new s ≡ None → RowsMade c old.store o store → ChangeStep old t o store reply e new
+      → StepTells q s old.store store e.queued (is_some (outdater_by old.store c q))
+  made_tells c t (accepted change) store reply e new running m h =
       subst (λ (o : Option Bytes). StepTells q s old.store store e.queued (is_some o)) (m.outdates q)
       (accepted_tells t change (all_learned old.store.texts m.texts) store reply e new running m.spares m.store h)
-  made_tells outdater t (out_of_memory change) store reply e new running m h =
-      learned_stays q s e.queued (is_some (outdater q)) old.store store m
-  made_tells outdater t unchanged store reply e new running m h =
-      is_quiet (kept_answers old.store store q m) (inl (ap (λ (st : Store). st.seq) m.store))
+  made_tells c t (out_of_memory change) store reply e new running m h =
+      learned_stays q s e.queued (is_some (outdater_by old.store c q)) old.store store m
+  made_tells c t unchanged store reply e new running m h =
+      is_quiet (kept_answers c old.store store q m) (inl (ap (λ (st : Store). st.seq) m.store))
+
+module _ (q : Listed) (s : ℕ) (old : State) (registered : listed_of old.store.queries (listed_name q) ≡ Some q) (watches : Watches (listed_name q) (session_of old s)) where
+  rows_tell : (c : RowCommand) (t : ℕ) (e : Effect) (new : State) → cause_of new s ≡ None → Changed old t c e new
+      → StepTells q s old.store new.store e.queued (is_some (outdater_by old.store c q))
+  rows_tell c t e new running h =
+      let d = rows_do old t c e new h in
+      subst (λ (st : Store). StepTells q s old.store st e.queued (is_some (outdater_by old.store c q)))
+      (sym (change_store (begun old t c) t d.outcome d.store d.reply e new d.change))
+      (made_tells q s (begun old t c) registered (watches_begun (listed_name q) old t c s watches) c t d.outcome d.store
+      d.reply e new running d.made d.change)
 
   form_tells : (f : Form) (t : ℕ) (x : Session) (e : Effect) (new : State) → cause_of new s ≡ None
-      → Does f old t x e new → StepTells q s old.store new.store e.queued (is_some (form_outdater f q))
+      → Does f old t x e new → StepTells q s old.store new.store e.queued (is_some (form_outdater old.store f q))
   form_tells asking t x e new running h = same_store q s e.queued false old new (replied_store t old new h.1)
   form_tells storing t x e new running h =
       subst (λ (st : Store). StepTells q s old.store st e.queued false)
       (sym (replied_store t (record old { store = h.1.store }) new h.1.replied))
       (stored_stays q s e.queued false (in_use old) old.store h.1.store h.1.stored)
   form_tells (turning turn) t x e new running h = turn_stays q s e.queued false old t x turn new h.1
-  form_tells (changing c) t x e new running h =
-      let d = rows_do old t c e new h in
-      subst (λ (st : Store). StepTells q s old.store st e.queued (is_some (outdater_by c q)))
-      (sym (change_store old t d.outcome d.store d.reply e new d.change))
-      (made_tells (outdater_by c) t d.outcome d.store d.reply e new running d.made d.change)
+  form_tells (changing c) t x e new running h = rows_tell c t e new running h
   form_tells ending t x e new running h =
       same_store q s e.queued false old new (ap (λ (st : State). st.store) h.1.state)
 
-  command_tells : (t : ℕ) (x : Session) (c : Command) (e : Effect) (new : State) → cause_of new s ≡ None → CommandStep old t x c e new → StepTells q s old.store new.store e.queued (is_some (line_outdater old t (says_command c) q))
-  command_tells t x c e new running h =
-      subst (λ (o : Option Bytes). StepTells q s old.store new.store e.queued (is_some o)) (outdated_alike old t c q)
-      (form_tells (form_of c) t x e new running (command_does old t x c e new h))
-
-  read_tells : (t : ℕ) (x : Session) (l : Bytes) (r : Reading) (e : Effect) (new : State) → cause_of new s ≡ None → ReadStep old t x l r e new → StepTells q s old.store new.store e.queued (is_some (line_outdater old t r q))
-  read_tells t x l outside e new running h = same_state q s e.queued false old new h.1
-  read_tells t x l (past_limit c) e new running h = same_state q s e.queued false old new h.1
-  read_tells t x l (says_command c) e new running (true, h) = command_tells t x c e new running h
-  read_tells t x l (says_command c) e new running (false, h) = same_state q s e.queued (is_some (line_outdater old t (says_command c) q)) old new h.1.1
-
--- a line that is taken changes no watches
-line_watches : (q : Bytes) (old : State) (t : ℕ) (rest : Bytes) (s : ℕ) (b : Bool) → (t == s) ≡ b → Watches q (session_of old s) → Watches q (session_of (with_session old t (behind_line rest)) s)
-line_watches q old t rest s true e w =
-    let same : t ≡ s = eqb-true t s e in
-    let f = some_and (session_of old s) (λ x. is_watching q x ≡ true) w in
-    subst (λ (i : ℕ). Watches q (session_of (with_session old i (behind_line rest)) s)) (sym same)
-    (and_some (session_of (with_session old s (behind_line rest)) s) (λ x. is_watching q x ≡ true) (behind_line rest f.0)
-    (session_changed old s (behind_line rest) (λ x. refl) ∙ ap (λ o. option_map (behind_line rest) o) f.1) f.2)
-line_watches q old t rest s false e w =
-    subst (λ (o : Option Session). Watches q o) (sym (session_other old t s (behind_line rest) (λ x. refl) e)) w
-
--- what a line is to change hangs on the line alone
-line_alike : (q : Listed) (t : ℕ) (a b : State) (r : Reading) → line_outdater a t r q ≡ line_outdater b t r q
-line_alike q t a b (says_command (Add name row)) = refl
-line_alike q t a b (says_command (Del name row)) = refl
-line_alike q t a b _ = refl
+  read_tells : (t : ℕ) (x : Session) (l : Bytes) (r : Reading) (e : Effect) (new : State) → cause_of new s ≡ None → ReadStep old t x l r e new
+      → StepTells q s old.store new.store e.queued (is_some (line_outdater old.store x.batch r q))
+  read_tells t x l r e new running h = by (line_reads old t x l r e new h)
+    where
+      by : Reads old t x l r e new → StepTells q s old.store new.store e.queued (is_some (line_outdater old.store x.batch r q))
+      by (turned_down why because k) = same_state q s e.queued (is_some (line_outdater old.store x.batch r q)) old new k.1
+      by (carried_out c is k) =
+          subst (λ (o : Option Bytes). StepTells q s old.store new.store e.queued (is_some o))
+          (outdated_alike old.store x.batch l c q ∙ ap (λ (w : Reading). line_outdater old.store x.batch w q) (sym is))
+          (form_tells (form_of x.batch l c) t x e new running (command_does old t x l c e new k))
 
 front_tells : (q : Listed) (s : ℕ) (old : State) → listed_of old.store.queries (listed_name q) ≡ Some q → Watches (listed_name q) (session_of old s)
-    → (t : ℕ) (x : Session) (outcome : LineOutcome) (e : Effect) (new : State) → cause_of new s ≡ None → FrontStep old t x outcome e new → StepTells q s old.store new.store e.queued (event_changes q old (stepped t outcome))
-front_tells q s old registered watches t x long e new running h = one_session q s e.queued false old new t _ h.1.1
-front_tells q s old registered watches t x (blank l) e new running h = one_session q s e.queued false old new t _ h.1.then.1
-front_tells q s old registered watches t x (slow l) e new running h = same_store q s e.queued false old new (ap (λ (st : State). st.store) h.2.then.1)
-front_tells q s old registered watches t x (no_room l) e new running h = same_store q s e.queued false old new (ap (λ (st : State). st.store) h.2.then.1)
-front_tells q s old registered watches t x (run l) e new running h =
+    → (t : ℕ) (x : Session) (outcome : LineOutcome) (e : Effect) (new : State) → session_of old t ≡ Some x → cause_of new s ≡ None → FrontStep old t x outcome e new → StepTells q s old.store new.store e.queued (event_changes q old (stepped t outcome))
+front_tells q s old registered watches t x long e new found running h = one_session q s e.queued false old new t _ h.1.1
+front_tells q s old registered watches t x (blank l) e new found running h = one_session q s e.queued false old new t _ h.1.then.1
+front_tells q s old registered watches t x (slow l) e new found running h = same_store q s e.queued false old new (ap (λ (st : State). st.store) h.2.then.1)
+front_tells q s old registered watches t x (no_room l) e new found running h = same_store q s e.queued false old new (ap (λ (st : State). st.store) h.2.then.1)
+front_tells q s old registered watches t x (run l) e new found running h =
     let taken = with_session old t (behind_line h.2.rest) in
-    subst (λ (o : Option Bytes). StepTells q s old.store new.store e.queued (is_some o)) (line_alike q t taken old (reading_of l))
-    (read_tells q s taken registered (line_watches (listed_name q) old t h.2.rest s (t == s) refl watches)
+    subst (λ (o : Option Session). StepTells q s old.store new.store e.queued (is_some (line_outdater old.store (batch_in o) (reading_of l) q))) (sym found)
+    (read_tells q s taken registered
+    (watches_with (listed_name q) old t (behind_line h.2.rest) s (t == s) refl (λ y. refl) (λ b y k. k) watches)
     t (behind_line h.2.rest x) l (reading_of l) e new running h.2.then)
 
 -- the events
@@ -236,7 +231,7 @@ acts_tell q s old registered watches (fed t bytes) e mid running h =
     fed_stays q s old t bytes e mid (f.0).cause f.2
 acts_tell q s old registered watches (stepped t outcome) e mid running h =
     let f = some_and (session_of old t) (λ x. (x.cause ≡ None) × FrontStep old t x outcome e mid) h in
-    front_tells q s old registered watches t f.0 outcome e mid running f.2.1
+    front_tells q s old registered watches t f.0 outcome e mid f.1 running f.2.1
 acts_tell q s old registered watches (took t bytes) e mid running h =
     let f = some_and (session_of old t) (λ x. TookStep old t bytes x e mid) h in
     one_session q s e.queued false old mid t _ f.2.1.2

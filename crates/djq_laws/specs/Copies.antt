@@ -1,12 +1,15 @@
--- What `add` and `del` do to the number of copies of each row.
-use Rattle.std.specs.Prelude.{ℕ, ◌==◌, ◌≡◌, ◌+◌, ◌-◌, ◌&&◌, Bool, false, nat_le, if◌then◌else◌, Ok}
+-- What `add`, `del` and `done` do to the number of copies of each row.
+use Rattle.std.specs.Prelude.{ℕ, List, [], ◌∷◌, ◌==◌, ◌≡◌, ◌+◌, ◌-◌, ◌&&◌, Bool, false, nat_le, if◌then◌else◌, Ok}
+use Rattle.std.specs.List.{list_all}
 use Rattle.djq_model.specs.Data.{Bytes, Tuple, bytes_eq, tuple_eq, rows_of, has_row}
 use Rattle.djq_lines.specs.declared.answer.AddOutcome.{AddOutcome}
 use Rattle.djq_lines.specs.declared.answer.AddOutcome.TheVariants.{First, More}
 use Rattle.djq_lines.specs.declared.answer.DeleteOutcome.{DeleteOutcome}
 use Rattle.djq_lines.specs.declared.answer.DeleteOutcome.TheVariants.{Last, Left, Absent}
+use Rattle.djq_lines.specs.declared.held.HeldRow.{HeldRow}
 use Rattle.djq_machine.specs.State.{Store}
 use Rattle.djq_machine.specs.Store.{copies_of, AddsRow, DeletesRow}
+use Rattle.djq_machine.specs.Batch.{SuitAll, is_there, AddsBatch}
 use Rattle.djq_laws.specs.Sound.{IsSoundStore}
 
 -- A row is there exactly where it has a copy.
@@ -47,3 +50,21 @@ TakesCopy = (old : Store) → IsSoundStore old → (name : Bytes) (row : Tuple) 
     (new : Store) → DeletesRow old name row (Ok outcome) new
     → LeavesCopies old name row (copies_of old name row - 1) (copies_of old name row == 1) new
     × (copies_left outcome ≡ copies_of new name row)
+
+-- how many times a batch holds a row of a relation
+abbrev pub times_held : List HeldRow → Bytes → Tuple → ℕ
+times_held [] name row = 0
+times_held (h ∷ hs) name row =
+    (if bytes_eq name h.relation && tuple_eq h.row row then 1 else 0) + times_held hs name row
+
+-- Each row has as many copies more as a batch holds it; where a row of the batch wasn't there, one
+-- change is counted.
+pub record LeavesHeld (old : Store) (held : List HeldRow) (new : Store) : Type 0 where
+  pub each : (name : Bytes) (row : Tuple)
+      → copies_of new name row ≡ copies_of old name row + times_held held name row
+  pub counted : new.seq ≡ (if list_all (is_there old) held then old.seq else old.seq + 1)
+
+-- So it is where a `done` is done.
+abbrev pub AddsHeld : Type 0
+AddsHeld = (old : Store) (held : List HeldRow) → SuitAll old held → (n : ℕ) (new : Store)
+    → AddsBatch old held (Ok n) new → LeavesHeld old held new

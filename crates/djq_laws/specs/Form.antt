@@ -9,6 +9,7 @@ use Rattle.std.specs.Prelude.{
   ◌++◌,
   Bool,
   false,
+  Option,
   None,
   Some,
   IsSome,
@@ -22,6 +23,7 @@ use Rattle.djq_model.specs.Known.{all_learned, texts_in}
 use Rattle.djq_lines.specs.declared.limits.TheConstants.{TEXTS}
 use Rattle.djq_lines.specs.declared.answer.EndCause.{EndCause}
 use Rattle.djq_lines.specs.declared.answer.EndCause.TheVariants.{Memory}
+use Rattle.djq_lines.specs.declared.held.HeldRow.{HeldRow}
 use Rattle.djq_lines.specs.declared.command.Command.{Command}
 use Rattle.djq_lines.specs.declared.command.Command.TheVariants.{
   Rel,
@@ -37,6 +39,9 @@ use Rattle.djq_lines.specs.declared.command.Command.TheVariants.{
   Unwatch,
   Explain,
   Shape,
+  Batch,
+  Done,
+  Abandon,
   Quit,
   Stop,
 }
@@ -50,9 +55,13 @@ use Rattle.djq_machine.specs.Command.{
   with_cursor,
   with_watch,
   without_watch,
+  with_batch,
+  without_batch,
   AddStep,
   DeleteStep,
+  DoneStep,
 }
+use Rattle.djq_machine.specs.Batch.{hold_refusal}
 use Rattle.djq_laws.specs.Moved.{EndsByRun}
 use Rattle.djq_laws.specs.Sound.{IsConnex}
 
@@ -68,6 +77,12 @@ pub data Turn : Type 0 where
   starts_watching : Bytes → Turn
   -- it is watched no more
   stops_watching : Bytes → Turn
+  -- a batch opens
+  opens_batch : Turn
+  -- it holds a row more, which a line says
+  holds_row : Bytes → Bytes → Tuple → Turn
+  -- it is closed, and its rows are dropped
+  closes_batch : Turn
 
 -- What a command of rows may bring.
 pub data RowCommand : Type 0 where
@@ -75,6 +90,8 @@ pub data RowCommand : Type 0 where
   row_comes : Bytes → Tuple → RowCommand
   -- one goes
   row_goes : Bytes → Tuple → RowCommand
+  -- a copy of each row comes that a batch holds, and the batch is closed
+  rows_come : List HeldRow → RowCommand
 
 -- A command asks; or it is of the store, of the session that says it, or of rows; or it ends the
 -- session.
@@ -85,22 +102,36 @@ pub data Form : Type 0 where
   changing : RowCommand → Form
   ending : Form
 
-abbrev pub form_of : Command → Form
-form_of (Rel name types) = storing
-form_of (Register q) = storing
-form_of (Drop q) = storing
-form_of (Add name row) = changing (row_comes name row)
-form_of (Del name row) = changing (row_goes name row)
-form_of (Open c q) = turning (opens_cursor c q)
-form_of (Next c count) = turning (moves_cursor c)
-form_of (Close c) = turning (closes_cursor c)
-form_of (Watch q) = turning (starts_watching q)
-form_of (Unwatch q) = turning (stops_watching q)
-form_of (Has q row) = asking
-form_of (Explain q) = asking
-form_of (Shape q) = asking
-form_of Quit = ending
-form_of Stop = ending
+-- `add`, where a batch is open or none is
+abbrev pub add_form : Option (List HeldRow) → Bytes → Bytes → Tuple → Form
+add_form None l name row = changing (row_comes name row)
+add_form (Some held) l name row = turning (holds_row l name row)
+
+-- `done`, which is misplaced where none is
+abbrev pub done_form : Option (List HeldRow) → Form
+done_form None = asking
+done_form (Some held) = changing (rows_come held)
+
+-- the form of a command in a session with such a batch, where this line says it
+abbrev pub form_of : Option (List HeldRow) → Bytes → Command → Form
+form_of batch l (Rel name types) = storing
+form_of batch l (Register q) = storing
+form_of batch l (Drop q) = storing
+form_of batch l (Add name row) = add_form batch l name row
+form_of batch l (Del name row) = changing (row_goes name row)
+form_of batch l (Open c q) = turning (opens_cursor c q)
+form_of batch l (Next c count) = turning (moves_cursor c)
+form_of batch l (Close c) = turning (closes_cursor c)
+form_of batch l (Watch q) = turning (starts_watching q)
+form_of batch l (Unwatch q) = turning (stops_watching q)
+form_of batch l (Has q row) = asking
+form_of batch l (Explain q) = asking
+form_of batch l (Shape q) = asking
+form_of batch l Batch = turning opens_batch
+form_of batch l Done = done_form batch
+form_of batch l Abandon = turning closes_batch
+form_of batch l Quit = ending
+form_of batch l Stop = ending
 
 -- One text is queued, to one session.
 pub record SaysAlone (s : ℕ) (e : Effect) : Type 0 where
@@ -169,6 +200,15 @@ pub record MovesCursor (old : State) (s : ℕ) (x : Session) (c : Bytes) (new : 
 abbrev pub without_cursor : Bytes → Session → Session
 without_cursor c x = record x { cursors = drop_first (λ k. bytes_eq k.name c) x.cursors }
 
+-- The batch of a session holds a row more, behind the others.
+pub record HoldsRow (old : State) (s : ℕ) (x : Session) (l name : Bytes) (row : Tuple)
+    (new : State) : Type 0 where
+  pub held : List HeldRow
+  pub is : x.batch ≡ Some held
+  pub suits : hold_refusal old.store held name row ≡ None
+  pub state : new ≡ with_session old s
+      (with_batch (held ++ record { line = l; relation = name; row = row } ∷ []))
+
 -- What a turn makes of a session.
 abbrev pub Turned : State → ℕ → Session → Turn → State → Type 0
 Turned old s x (opens_cursor c q) new = (cursor_of x.cursors c ≡ None)
@@ -178,11 +218,15 @@ Turned old s x (closes_cursor c) new = new ≡ with_session old s (without_curso
 Turned old s x (starts_watching q) new =
     IsSome (listed_of old.store.queries q) × (new ≡ with_session old s (with_watch q))
 Turned old s x (stops_watching q) new = new ≡ with_session old s (without_watch q)
+Turned old s x opens_batch new = new ≡ with_session old s (with_batch [])
+Turned old s x (holds_row l name row) new = HoldsRow old s x l name row new
+Turned old s x closes_batch new = new ≡ with_session old s without_batch
 
 -- What a command of rows makes of a state.
 abbrev pub Changed : State → ℕ → RowCommand → Effect → State → Type 0
 Changed old s (row_comes name row) e new = AddStep old s name row e new
 Changed old s (row_goes name row) e new = DeleteStep old s name row e new
+Changed old s (rows_come held) e new = DoneStep old s held e new
 
 -- A command of the store is told, once it is done.
 pub record DoesStore (old : State) (s : ℕ) (new : State) : Type 0 where

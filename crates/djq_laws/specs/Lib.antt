@@ -13,3 +13,4 @@ pub mod Sound
 pub mod Listed
 pub mod Copies
 pub mod Stopping
+pub mod Holding

@@ -8,6 +8,7 @@ use Rattle.std.specs.Prelude.{
   ◌≡◌,
   ◌++◌,
   ◌&&◌,
+  not,
   Bool,
   true,
   false,
@@ -25,7 +26,8 @@ use Rattle.djq_model.specs.Answer.{IsListing}
 use Rattle.djq_model.specs.Listed.{Listed, AnswersOf}
 use Rattle.djq_lines.specs.declared.command.Command.TheVariants.{Open, Next}
 use Rattle.djq_lines.specs.Grammar.{Reading, says as says_command, reading_of}
-use Rattle.djq_lines.specs.Reply.{line, text_of, listing_lines}
+use Rattle.djq_lines.specs.declared.answer.Refusal.TheVariants.{Misplaced}
+use Rattle.djq_lines.specs.Reply.{line, text_of, listing_lines, refusal_line}
 use Rattle.djq_machine.specs.State.{State, Session, Cursor, Position, open_at, session_of, cursor_of}
 use Rattle.djq_machine.specs.LineStep.{run}
 use Rattle.djq_machine.specs.Step.{Event, stepped}
@@ -37,13 +39,17 @@ use Rattle.djq_laws.specs.Sound.{IsStart}
 abbrev pub is_opened : Bytes → Bool
 is_opened reply = bytes_eq reply (line (codes "ok open"))
 
+-- whether a reply refuses a command that isn't for a session with a batch open
+abbrev pub is_misplacing : Bytes → Bool
+is_misplacing reply = bytes_eq reply (refusal_line Misplaced)
+
 -- The replies to `next` on a cursor of a name, once a line had this reply: there are none behind one
--- that opened it.
+-- that opened it, and none to one that a batch doesn't let through.
 abbrev pub replies_behind : Bytes → List Bytes → Reading → Bytes → List Bytes
 replies_behind c replies (says_command (Open d q)) reply =
     if bytes_eq d c && is_opened reply then [] else replies
 replies_behind c replies (says_command (Next d n)) reply =
-    if bytes_eq d c then replies ++ reply ∷ [] else replies
+    if bytes_eq d c && not (is_misplacing reply) then replies ++ reply ∷ [] else replies
 replies_behind c replies _ reply = replies
 
 -- those to a session's, once an event queued this to it

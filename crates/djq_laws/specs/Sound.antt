@@ -1,12 +1,16 @@
 -- What holds of every state that the machine comes to.
-use Rattle.std.specs.Prelude.{ℕ, List, [], ◌≡◌, ◌≢◌, ◌≤◌, true, false, IsSome, length, map, All, AllPairs}
+use Rattle.std.specs.Prelude.{ℕ, List, [], ◌≡◌, ◌≢◌, ◌≤◌, true, false, None, IsSome, IfSome, length, map, All, AllPairs}
 use Rattle.djq_model.specs.declared.relation.Relation.{Relation}
 use Rattle.djq_model.specs.Data.{Bytes, tuples_in}
 use Rattle.djq_model.specs.Answer.{AreDifferent}
 use Rattle.djq_model.specs.Listed.{Listed, a_query, listed_name, listed_of}
 use Rattle.djq_model.specs.Typed.{fits}
-use Rattle.djq_lines.specs.declared.limits.TheConstants.{SESSIONS, TEXTS, COPIES}
+use Rattle.djq_lines.specs.declared.limits.TheConstants.{SESSIONS, TEXTS, COPIES, HELD}
+use Rattle.djq_lines.specs.declared.held.HeldRow.{HeldRow}
+use Rattle.djq_lines.specs.declared.command.Command.TheVariants.{Add}
+use Rattle.djq_lines.specs.Grammar.{says as says_command, reading_of}
 use Rattle.djq_lines.specs.Hypergraph.{edges_of, head_of}
+use Rattle.djq_machine.specs.Batch.{SuitAll}
 use Rattle.djq_machine.specs.Store.{IsFreeConnex}
 use Rattle.djq_machine.specs.State.{Store, State, Session, Cursor, Position, open_at, stale, opening}
 use Rattle.djq_machine.specs.Run.{Did, Run}
@@ -50,19 +54,30 @@ pub record IsSoundCursor (queries : List Listed) (c : Cursor) : Type 0 where
   pub registered : IsSome (listed_of queries c.query)
   pub once : GaveOnce c.position
 
--- A session's cursors have names of their own, and what it watches are registered queries, each
--- once. A session that has ended has no cursors and no watches.
-pub record IsSoundSession (queries : List Listed) (x : Session) : Type 0 where
-  pub cursors : All (IsSoundCursor queries) x.cursors
+-- A row that is held was said by its line.
+pub record IsHeldBySaying (h : HeldRow) : Type 0 where
+  pub said : reading_of h.line ≡ says_command (Add h.relation h.row)
+
+-- A batch holds no more rows than it may, each suits its relation, and its line says it.
+pub record IsSoundBatch (st : Store) (held : List HeldRow) : Type 0 where
+  pub few : length held ≤ HELD
+  pub suit : SuitAll st held
+  pub lines : All IsHeldBySaying held
+
+-- A session's cursors have names of their own, what it watches are registered queries, each once, and
+-- its batch is sound. A session that has ended has no cursors, no watches and no batch.
+pub record IsSoundSession (st : Store) (x : Session) : Type 0 where
+  pub cursors : All (IsSoundCursor st.queries) x.cursors
   pub names : AreApart (map (λ c. c.name) x.cursors)
-  pub registered : All (λ w. IsSome (listed_of queries w)) x.watches
+  pub registered : All (λ w. IsSome (listed_of st.queries w)) x.watches
   pub once : AreApart x.watches
-  pub ended : IsSome x.cause → (x.cursors ≡ []) × (x.watches ≡ [])
+  pub batch : IfSome x.batch (IsSoundBatch st)
+  pub ended : IsSome x.cause → (x.cursors ≡ []) × (x.watches ≡ []) × (x.batch ≡ None)
 
 -- The store and each session are sound, and no more sessions are open than may be, by rising id.
 pub record IsSoundState (st : State) : Type 0 where
   pub store : IsSoundStore st.store
-  pub sessions : All (IsSoundSession st.store.queries) st.sessions
+  pub sessions : All (IsSoundSession st.store) st.sessions
   pub rising : AreRising st
   pub few : length st.sessions ≤ SESSIONS
 

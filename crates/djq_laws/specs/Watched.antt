@@ -4,11 +4,13 @@ use Rattle.std.specs.List.{flat_map}
 use Rattle.djq_model.specs.Data.{Bytes, Tuple}
 use Rattle.djq_model.specs.Answer.{IsListing}
 use Rattle.djq_model.specs.Listed.{Listed, listed_name, AnswersOf, listed_of}
-use Rattle.djq_lines.specs.declared.command.Command.TheVariants.{Add, Del}
+use Rattle.djq_lines.specs.declared.held.HeldRow.{HeldRow}
+use Rattle.djq_lines.specs.declared.command.Command.TheVariants.{Add, Del, Done}
 use Rattle.djq_lines.specs.Grammar.{Reading, says as says_command, reading_of}
 use Rattle.djq_lines.specs.Reply.{text_of}
-use Rattle.djq_machine.specs.State.{State, session_of}
+use Rattle.djq_machine.specs.State.{Store, State, Session, session_of}
 use Rattle.djq_machine.specs.Stale.{by_relation}
+use Rattle.djq_machine.specs.Batch.{first_read, has_come}
 use Rattle.djq_machine.specs.Delta.{Change, delta_lines}
 use Rattle.djq_machine.specs.Watch.{is_watching}
 use Rattle.djq_machine.specs.LineStep.{run}
@@ -31,15 +33,36 @@ pub record WatchesStep (q : Listed) (s : ℕ) (old : State) (d : Did) (new : Sta
 abbrev pub WatchesAlong : Listed → ℕ → State → List Did → State → Type 0
 WatchesAlong q s = Walk (WatchesStep q s)
 
--- the relation whose change by a line of a session outdates a query, where the line may change one
-abbrev pub line_outdater : State → ℕ → Reading → Listed → Option Bytes
-line_outdater old t (says_command (Add name row)) q = by_relation name q
-line_outdater old t (says_command (Del name row)) q = by_relation name q
-line_outdater old t _ q = None
+abbrev pub batch_in : Option Session → Option (List HeldRow)
+batch_in None = None
+batch_in (Some x) = x.batch
+
+-- the rows that the batch of a session holds, where one is open
+abbrev pub batch_of : State → ℕ → Option (List HeldRow)
+batch_of st s = batch_in (session_of st s)
+
+-- the relation whose change by `add` outdates a query, where no batch is open
+abbrev pub add_outdater : Option (List HeldRow) → Bytes → Listed → Option Bytes
+add_outdater None name q = by_relation name q
+add_outdater (Some held) name q = None
+
+-- the relation whose change by `done` does: the first of the batch of which rows come
+abbrev pub done_outdater : Store → Option (List HeldRow) → Listed → Option Bytes
+done_outdater st None q = None
+done_outdater st (Some held) q = first_read held (has_come st held) q
+
+-- the relation whose change by a line outdates a query, where the line may change one: it is a line of
+-- a session with such a batch
+abbrev pub line_outdater : Store → Option (List HeldRow) → Reading → Listed → Option Bytes
+line_outdater st batch (says_command (Add name row)) q = add_outdater batch name q
+line_outdater st batch (says_command (Del name row)) q = by_relation name q
+line_outdater st batch (says_command Done) q = done_outdater st batch q
+line_outdater st batch _ q = None
 
 -- whether an event runs a line that may change rows of a relation that a query reads
 abbrev pub event_changes : Listed → State → Event → Bool
-event_changes q old (stepped t (run l)) = is_some (line_outdater old t (reading_of l) q)
+event_changes q old (stepped t (run l)) =
+    is_some (line_outdater old.store (batch_of old t) (reading_of l) q)
 event_changes q old _ = false
 
 -- the number of an accepted change by such an event

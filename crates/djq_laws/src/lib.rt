@@ -39,7 +39,7 @@ ghost use Rattle.djq_laws.specs.Staying.{WatchersStay};
 ghost use Rattle.djq_laws.specs.Stopping.{KeptSaysNoStop};
 ghost use Rattle.djq_laws.specs.Live.{ListingsStayLive};
 ghost use Rattle.djq_laws.specs.Sound.{RunsKeepSound, OpeningIsStart, StatesAreSound};
-ghost use Rattle.djq_laws.specs.Copies.{RowsHaveCopies, AddsCopy, TakesCopy};
+ghost use Rattle.djq_laws.specs.Copies.{RowsHaveCopies, AddsCopy, TakesCopy, AddsHeld};
 ghost use Rattle.djq_laws.specs.Listed.{GivenIsTold, ListedIsTold};
 
 /// A session that is open stays so in every step that doesn't close it.
@@ -74,9 +74,10 @@ pub fn line_is_taken()
 /// Each state that a run comes to from a state to start from is sound: relations, queries, known
 /// texts, the rows of a relation and the answers that an open cursor has given are without repeats;
 /// rows are of their columns' types, each with one copy at least, and queries free-connex; cursors
-/// and watches are of registered queries; a session that has ended has none of them; and copies,
-/// texts and sessions are within their limits, sessions by rising id. Every run keeps it so. The
-/// state in which nothing has happened is one to start from.
+/// and watches are of registered queries; the rows that a batch holds suit their relations, each said
+/// by its line; a session that has ended has none of them; and copies, texts, held rows and sessions
+/// are within their limits, sessions by rising id. Every run keeps it so. The state in which nothing
+/// has happened is one to start from.
 pub fn states_are_sound()
     ensures kept { RunsKeepSound }
     ensures opening { OpeningIsStart }
@@ -86,14 +87,16 @@ pub fn states_are_sound()
 /// Relations are bags. A row is there exactly where it has a copy. An `add` that is done makes one
 /// copy of its row more, a `del` one less where there is one, and each tells how many there are
 /// then; every other row has as many as before. A change is counted exactly where a row gets its
-/// first copy or loses its last.
+/// first copy or loses its last. A `done` that is done makes as many copies more of each row as its
+/// batch holds, and counts one change exactly where one of them gets its first.
 pub fn copies_are_counted()
     ensures there { RowsHaveCopies }
     ensures added { AddsCopy }
     ensures taken { TakesCopy }
+    ensures held { AddsHeld }
 {}
 
-/// A step that keeps the line that it runs says no `stop`. So where a line that is to be kept can't be,
+/// A step that keeps a group of lines says no `stop`. So where a group that is to be kept can't be,
 /// no session said it yet.
 pub fn kept_says_no_stop()
     ensures { KeptSaysNoStop }

@@ -11,25 +11,28 @@ use Rattle.djq_model.specs.Listed.{Listed, AnswersOf, listed_of}
 use Rattle.djq_lines.specs.declared.answer.EndCause.{EndCause}
 use Rattle.djq_lines.specs.declared.answer.EndCause.TheVariants.{Memory}
 use Rattle.djq_lines.specs.declared.answer.Refusal.{Refusal}
-use Rattle.djq_lines.specs.declared.answer.Refusal.TheVariants.{Syntax, Taken, NoRelation, NoQuery, NoCursor, Arity, WrongType, HeadUnbound, HeadRepeated, VariableType, Unbound, Limit, NoMemory, InUse}
+use Rattle.djq_lines.specs.declared.answer.Refusal.TheVariants.{Syntax, Taken, NoRelation, NoQuery, NoCursor, Arity, WrongType, HeadUnbound, HeadRepeated, VariableType, Unbound, Limit, NoMemory, InUse, Misplaced}
+use Rattle.djq_lines.specs.declared.held.HeldRow.{HeldRow}
+use Rattle.djq_lines.specs.declared.command.Command.{Command}
 use Rattle.djq_lines.specs.declared.command.Command.TheVariants.{Open, Next}
 use Rattle.djq_lines.specs.Line.{Front, dry, too_long, a_line, front_of, is_blank}
-use Rattle.djq_lines.specs.Grammar.{Reading, says as says_command, reading_of, reading_in, command_of, command_in}
+use Rattle.djq_lines.specs.Grammar.{Reading, says as says_command, reading_of, reading_in, command_of, command_in, takes_memory_to_read}
 use Rattle.djq_lines.specs.Conditions.{Answers}
 use Rattle.djq_lines.specs.Reply.{refusal_line, end_memory, listing_lines, text_of, ok_reply}
 use Rattle.djq_value.specs.Token.{tokens}
 use Rattle.djq_machine.specs.State.{Store, State, Session, Cursor, open_at, session_of, with_session, cursor_of, with_position, ended_by}
 use Rattle.djq_machine.specs.Store.{IsLeft}
 use Rattle.djq_machine.specs.Effect.{Effect, nothing, says, EndsWith, RefusedStep}
-use Rattle.djq_machine.specs.Command.{open_refusal, with_cursor, OpensTo, NextStep, NextCutStep, NextStepAt}
+use Rattle.djq_machine.specs.Command.{open_refusal, with_cursor, OpensTo, NextStep, NextCutStep, NextStepAt, CommandStep, is_misplaced}
 use Rattle.djq_machine.specs.LineStep.{blank, run, FrontStep, ReadStep, behind_line}
 use Rattle.djq_machine.specs.Step.{Event, fed, stepped, took, FedStep, TookStep, Step}
 use Rattle.djq_machine.specs.Run.{to_session, pending_of, pending_in}
 use Rattle.djq_machine.specs.Call.{IsOpen, Makes, RanStep, Counts, cause_of, cause_in, held_of, held_in}
+use Rattle.djq_laws.specs.Watched.{batch_in}
 use Rattle.djq_laws.proofs.Finding.{some_and, find_changed}
 use Rattle.djq_laws.proofs.Queueing.{gaining, session_changed, stepped as session_stepped, stepped_cause, stepped_pending}
 use Rattle.djq_laws.proofs.Touching.{says_to, is_stepped}
-use Rattle.djq_load.specs.Lines.{IsIdle, LineRuns, TakesAll, cursors_in, cursors_of, cursor_at, Stands}
+use Rattle.djq_load.specs.Lines.{IsIdle, LineRuns, TakesAll, cursors_in, cursor_at, Stands}
 use Rattle.djq_load.specs.Totals.{HasLeft, open_line, next_line}
 use Rattle.djq_load.proofs.Idle.{is_fed}
 use Rattle.djq_load.proofs.Left.{step_left, some_told}
@@ -37,20 +40,43 @@ use Rattle.djq_load.proofs.Left.{step_left, some_told}
 none_some : {A : Type 0} (o : Option A) (a : A) → o ≡ None → o ≡ Some a → ⊥
 none_some o a e f = cc
 
-cursors_gained : (bytes : Bytes) (o : Option Session) → cursors_in (option_map (gaining bytes) o) ≡ cursors_in o
-cursors_gained bytes None = refl
-cursors_gained bytes (Some x) = refl
+-- What a session has: its cursors, and its batch.
+abbrev Has : Type 0
+Has = List Cursor × Option (List HeldRow)
 
-cursors_kept : (f : Session → Session) → ((x : Session) → (f x).cursors ≡ x.cursors) → (o : Option Session) → cursors_in (option_map f o) ≡ cursors_in o
-cursors_kept f keeps None = refl
-cursors_kept f keeps (Some x) = keeps x
+abbrev has_in : Option Session → Has
+has_in o = (cursors_in o, batch_in o)
 
--- what is queued leaves the cursors
-stepped_cursors : (old : State) (event : Event) (e : Effect) (new : State) (h : Step old event e new) → cursors_of new ≡ cursors_of h.mid
-stepped_cursors old event e new h = ap cursors_in (session_stepped old event e new h 1) ∙ cursors_gained (to_session 1 e.queued) (session_of h.mid 1)
+abbrev has_of : State → Has
+has_of st = has_in (session_of st 1)
 
-changed_cursors : (old mid : State) (f : Session → Session) → ((x : Session) → (f x).id ≡ x.id) → ((x : Session) → (f x).cursors ≡ x.cursors) → mid ≡ with_session old 1 f → cursors_of mid ≡ cursors_of old
-changed_cursors old mid f same keeps after = ap cursors_of after ∙ ap cursors_in (session_changed old 1 f same) ∙ cursors_kept f keeps (session_of old 1)
+has_gained : (bytes : Bytes) (o : Option Session) → has_in (option_map (gaining bytes) o) ≡ has_in o
+has_gained bytes None = refl
+has_gained bytes (Some x) = refl
+
+has_kept : (f : Session → Session) → ((x : Session) → has_in (Some (f x)) ≡ has_in (Some x))
+    → (o : Option Session) → has_in (option_map f o) ≡ has_in o
+has_kept f keeps None = refl
+has_kept f keeps (Some x) = keeps x
+
+-- what is queued leaves them
+stepped_has : (old : State) (event : Event) (e : Effect) (new : State) (h : Step old event e new)
+    → has_of new ≡ has_of h.mid
+stepped_has old event e new h =
+    ap has_in (session_stepped old event e new h 1) ∙ has_gained (to_session 1 e.queued) (session_of h.mid 1)
+
+changed_has : (old mid : State) (f : Session → Session) → ((x : Session) → (f x).id ≡ x.id)
+    → ((x : Session) → has_in (Some (f x)) ≡ has_in (Some x)) → mid ≡ with_session old 1 f → has_of mid ≡ has_of old
+changed_has old mid f same keeps after =
+    ap has_of after ∙ ap has_in (session_changed old 1 f same) ∙ has_kept f keeps (session_of old 1)
+
+-- the cursor stands where they are the same
+stands_by : (given : List Tuple) (ended : Bool) (old new : State) → has_of new ≡ has_of old
+    → Stands old given ended → Stands new given ended
+stands_by given ended old new same stands = record {
+  cursor = ap (λ (has : Has). cursor_of has.0 (codes "c")) same ∙ stands.cursor;
+  batch = ap (λ (has : Has). has.1) same ∙ stands.batch;
+}
 
 -- a session that ends out of memory has its cause
 ended_cause : (old mid : State) (x : Session) → session_of old 1 ≡ Some x → mid ≡ with_session old 1 (ended_by Memory) → cause_of mid 1 ≡ Some Memory
@@ -85,26 +111,27 @@ fed_by_cause : (old : State) (line : Bytes) (x : Session) (e : Effect) (mid : St
     → MatchOption c
     (((e ≡ nothing) × (mid ≡ with_session old 1 (λ y. record y { held = y.held ++ line }))) ⊎ EndsWith end_memory Memory old 1 e mid)
     (λ _. (e ≡ nothing) × (mid ≡ old))
-    → cursors_of mid ≡ cursors_of old
-fed_by_cause old line x e mid None found running (inl h) = changed_cursors old mid (λ y. record y { held = y.held ++ line }) (λ y. refl) (λ y. refl) h.1
+    → has_of mid ≡ has_of old
+fed_by_cause old line x e mid None found running (inl h) = changed_has old mid (λ y. record y { held = y.held ++ line }) (λ y. refl) (λ y. refl) h.1
 fed_by_cause old line x e mid None found running (inr h) = absurd (none_some (cause_of mid 1) Memory running (ended_cause old mid x found h.1))
-fed_by_cause old line x e mid (Some c) found running h = ap cursors_of h.1
+fed_by_cause old line x e mid (Some c) found running h = ap has_of h.1
 
-fed_cursors : (line : Bytes) (old mid : State) → cause_of mid 1 ≡ None → Makes old (fed 1 line) mid → cursors_of mid ≡ cursors_of old
-fed_cursors line old mid running m =
+fed_has : (line : Bytes) (old mid : State) → cause_of mid 1 ≡ None → Makes old (fed 1 line) mid
+    → has_of mid ≡ has_of old
+fed_has line old mid running m =
     let h = m.step in
     let f = some_and (session_of old 1) (λ x. FedStep old 1 line x m.effect h.mid) h.acts in
-    stepped_cursors old (fed 1 line) m.effect mid h
+    stepped_has old (fed 1 line) m.effect mid h
     ∙ fed_by_cause old line f.0 m.effect h.mid (f.0).cause f.1 (sym (stepped_cause old (fed 1 line) m.effect mid h 1) ∙ running) f.2
 
-took_cursors : (old new : State) → TakesAll old new → cursors_of new ≡ cursors_of old
-took_cursors old new (inl (none, same)) = ap cursors_of same
-took_cursors old new (inr (some, m)) =
+took_has : (old new : State) → TakesAll old new → has_of new ≡ has_of old
+took_has old new (inl (none, same)) = ap has_of same
+took_has old new (inr (some, m)) =
     let h = m.step in
     let bytes = pending_of old 1 in
     let f = some_and (session_of old 1) (λ x. TookStep old 1 bytes x m.effect h.mid) h.acts in
-    stepped_cursors old (took 1 bytes) m.effect new h
-    ∙ changed_cursors old h.mid (λ y. record y { pending = f.2.1.0 }) (λ y. refl) (λ y. refl) f.2.1.2
+    stepped_has old (took 1 bytes) m.effect new h
+    ∙ changed_has old h.mid (λ y. record y { pending = f.2.1.0 }) (λ y. refl) (λ y. refl) f.2.1.2
 
 -- A line that isn't blank was run: as what it is read as.
 record Runs (text : Bytes) (mid new : State) : Type 0 where
@@ -190,6 +217,7 @@ record NextTold (given : List Tuple) (st : State) (y : Session) (e : Effect) (m 
   session : Session
   found : session_of m 1 ≡ Some session
   cursors : session.cursors ≡ with_position y.cursors (codes "c") (open_at (given ++ told) end)
+  batch : session.batch ≡ y.batch
   pending : session.pending ≡ y.pending
 
 next_told : (given : List Tuple) (st : State) (y : Session) (q : Listed) (e : Effect) (m : State) → session_of st 1 ≡ Some y → listed_of st.store.queries (codes "q") ≡ Some q → cause_of m 1 ≡ None
@@ -207,21 +235,40 @@ next_told given st y q e m found registered running (inl h) = record {
   session = record y { cursors = with_position y.cursors (codes "c") (open_at (given ++ h.told) h.end) };
   found = changed_to st m y (λ x. record x { cursors = with_position x.cursors (codes "c") (open_at (given ++ h.told) h.end) }) (λ x. refl) found h.state;
   cursors = refl;
+  batch = refl;
   pending = refl;
 }
 next_told given st y q e m found registered running (inr h) = absurd (none_some (cause_of m 1) Memory running (ended_cause st m y found h.state))
 
-next_at : (given : List Tuple) (ended : Bool) (st : State) (y : Session) (e : Effect) (m : State) → session_of st 1 ≡ Some y → cursor_of y.cursors (codes "c") ≡ Some (cursor_at given ended) → cause_of m 1 ≡ None
-    → ReadStep st 1 y (codes "next c 1000") (says_command (Next (codes "c") 1000)) e m → NextTold given st y e m
-next_at given ended st y e m found stands running (true, h) =
+-- What a line that says a command does, by whether the command is misplaced, and whether memory is there to read it.
+abbrev ReadAs : State → Session → Bytes → Command → Effect → State → Bool → Type 0
+ReadAs st y l c e m true = CommandStep st 1 y l c e m
+ReadAs st y l c e m false = (takes_memory_to_read c ≡ true) × RefusedStep st 1 NoMemory e m
+
+abbrev CarriedOut : State → Session → Bytes → Command → Effect → State → Bool → Type 0
+CarriedOut st y l c e m true = RefusedStep st 1 Misplaced e m
+CarriedOut st y l c e m false = (is_read : Bool) × ReadAs st y l c e m is_read
+
+-- a command that isn't misplaced, and takes no memory to read
+carried_out : (st : State) (y : Session) (l : Bytes) (c : Command) (e : Effect) (m : State) (misplaced : Bool)
+    → misplaced ≡ false → takes_memory_to_read c ≡ false → CarriedOut st y l c e m misplaced
+    → CommandStep st 1 y l c e m
+carried_out st y l c e m true is takes h = absurd cc
+carried_out st y l c e m false is takes (true, h) = h
+carried_out st y l c e m false is takes (false, h) = absurd (not_both (takes_memory_to_read c) h.0 takes)
+
+next_at : (given : List Tuple) (ended : Bool) (st : State) (y : Session) (e : Effect) (m : State)
+    → session_of st 1 ≡ Some y → cursor_of y.cursors (codes "c") ≡ Some (cursor_at given ended) → y.batch ≡ None
+    → cause_of m 1 ≡ None → ReadStep st 1 y (codes "next c 1000") (says_command (Next (codes "c") 1000)) e m → NextTold given st y e m
+next_at given ended st y e m found stands none running h =
+    let next = Next (codes "c") 1000 in
+    let done : CommandStep st 1 y (codes "next c 1000") next e m =
+    carried_out st y (codes "next c 1000") next e m (is_misplaced y.batch next)
+    (ap (λ (batch : Option (List HeldRow)). is_misplaced batch next) none) refl h in
     let at : IsSomeAnd (listed_of st.store.queries (codes "q")) (λ q. NextStepAt st 1 (codes "c") q 1000 (open_at given ended) e m) =
-    subst (λ (o : Option Cursor). MatchOption o (RefusedStep st 1 NoCursor e m) (λ k. IsSomeAnd (listed_of st.store.queries k.query) (λ q. NextStepAt st 1 (codes "c") q 1000 k.position e m))) stands h in
+    subst (λ (o : Option Cursor). MatchOption o (RefusedStep st 1 NoCursor e m) (λ k. IsSomeAnd (listed_of st.store.queries k.query) (λ q. NextStepAt st 1 (codes "c") q 1000 k.position e m))) stands done in
     let q = some_and (listed_of st.store.queries (codes "q")) (λ q. NextStepAt st 1 (codes "c") q 1000 (open_at given ended) e m) at in
     next_told given st y q.0 e m found q.1 running q.2
-next_at given ended st y e m found stands running (false, h) = absurd (not_true h.0)
-  where
-    not_true : false ≡ true → ⊥
-    not_true k = cc
 
 ascii : (bs : Bytes) → list_all (λ b. leb b 127) bs ≡ true → IsAscii bs
 ascii [] h = IsAscii-nil
@@ -248,14 +295,17 @@ next_run given ended mid new stands pending running r =
     let st = with_session mid 1 (behind_line r.rest) in
     let y = behind_line r.rest r.session in
     let here = behind_found mid r.session r.rest r.found in
-    let stays : cursor_of y.cursors (codes "c") ≡ Some (cursor_at given ended) = ap (λ (o : Option Session). cursor_of (cursors_in o) (codes "c")) (sym r.found) ∙ stands in
+    let stays : cursor_of y.cursors (codes "c") ≡ Some (cursor_at given ended) = ap (λ (o : Option Session). cursor_of (cursors_in o) (codes "c")) (sym r.found) ∙ stands.cursor in
+    let none : y.batch ≡ None = ap batch_in (sym r.found) ∙ stands.batch in
     let reads = subst (λ (k : Reading). ReadStep st 1 y (codes "next c 1000") k r.effect (r.step).mid) next_reads r.reads in
-    let t = next_at given ended st y r.effect (r.step).mid here stays (sym (stepped_cause mid r.event r.effect new r.step 1) ∙ running) reads in
+    let t = next_at given ended st y r.effect (r.step).mid here stays none (sym (stepped_cause mid r.event r.effect new r.step 1) ∙ running) reads in
     record {
       told = t.told;
       end = t.end;
-      stands = ap (λ (cs : List Cursor). cursor_of cs (codes "c")) (stepped_cursors mid r.event r.effect new r.step ∙ ap cursors_in t.found ∙ t.cursors)
-          ∙ moved given (given ++ t.told) ended t.end y.cursors stays;
+      stands = stands_by (given ++ t.told) t.end (r.step).mid new (stepped_has mid r.event r.effect new r.step) (record {
+        cursor = ap (λ (cs : List Cursor). cursor_of cs (codes "c")) (ap cursors_in t.found ∙ t.cursors) ∙ moved given (given ++ t.told) ended t.end y.cursors stays;
+        batch = ap batch_in t.found ∙ t.batch ∙ none;
+      });
       pending = pending_behind mid new r.event r.effect r.step t.session (text_of (listing_lines t.told t.end)) t.found (t.pending ∙ sym (ap pending_in r.found) ∙ pending) t.queued;
       few = t.few;
       full = t.full;
@@ -271,7 +321,7 @@ pub next_tells : (given : List Tuple) (ended : Bool) (old : State) (before : Cou
 next_tells given ended old before new now idle stands h =
     let mid = h.mid in
     let here = is_fed next_line old mid idle h.is_held h.comes in
-    let t = next_run given ended mid new (ap (λ (cs : List Cursor). cursor_of cs (codes "c")) (fed_cursors next_line old mid h.is_held h.comes) ∙ stands) here.pending h.running
+    let t = next_run given ended mid new (stands_by given ended old mid (fed_has next_line old mid h.is_held h.comes) stands) here.pending h.running
     (runs next_line (codes "next c 1000") mid new before now here.held next_front refl h.ran) in
     record {
       told = t.told;
@@ -304,6 +354,7 @@ first_letter Unbound = refl
 first_letter Limit = refl
 first_letter NoMemory = refl
 first_letter InUse = refl
+first_letter Misplaced = refl
 
 not_refused : (r : Refusal) → refusal_line r ≡ codes "ok open\n" → ⊥
 not_refused r e = let k = sym (first_letter r) ∙ ap (λ (bs : Bytes). slice_index bs 0) e in absurd (omega (arith, k))
@@ -326,22 +377,45 @@ found_last (c ∷ cursors) h = at_first (bytes_eq c.name (codes "c")) h (λ k. f
     at_first true k rest = absurd cc
     at_first false k rest = rest k
 
-opened_by : (L : Refusal → Type 0) (st : State) (y : Session) (e : Effect) (m : State) (result : Result ⊤ Refusal) → session_of st 1 ≡ Some y → to_session 1 e.queued ≡ codes "ok open\n"
+told_refused : (r : Refusal) (e : Effect) → e ≡ says 1 (refusal_line r) → to_session 1 e.queued ≡ codes "ok open\n"
+    → ⊥
+told_refused r e effect told =
+    not_refused r
+    (sym (says_to 1 (refusal_line r)) ∙ sym (ap (λ (d : Effect). to_session 1 d.queued) effect) ∙ told)
+
+opened_by : (L : Refusal → Type 0) (st : State) (y : Session) (e : Effect) (m : State) (result : Result ⊤ Refusal)
+    → session_of st 1 ≡ Some y → y.batch ≡ None → to_session 1 e.queued ≡ codes "ok open\n"
     → Answers (open_refusal st.store y.cursors (codes "c") (codes "q")) result (λ _. ⊤) L → e ≡ says 1 (ok_reply (codes "ok open") result) → OpensTo st 1 (codes "c") (codes "q") m result
-    → cursor_of (cursors_of m) (codes "c") ≡ Some (cursor_at [] false)
-opened_by L st y e m (Ok u) found told answer effect after =
-    ap (λ (o : Option Session). cursor_of (cursors_in o) (codes "c")) (changed_to st m y (with_cursor (codes "c") (codes "q")) (λ x. refl) found after)
-    ∙ found_last y.cursors (none_found (cursor_of y.cursors (codes "c")) (is_new (is_some (cursor_of y.cursors (codes "c"))) _ _ _ u answer))
-opened_by L st y e m (Err r) found told answer effect after =
-    absurd (not_refused r (sym (says_to 1 (refusal_line r)) ∙ sym (ap (λ (d : Effect). to_session 1 d.queued) effect) ∙ told))
+    → Stands m [] false
+opened_by L st y e m (Ok u) found none told answer effect after =
+    let now = changed_to st m y (with_cursor (codes "c") (codes "q")) (λ x. refl) found after in
+    record {
+      cursor = ap (λ (o : Option Session). cursor_of (cursors_in o) (codes "c")) now
+          ∙ found_last y.cursors (none_found (cursor_of y.cursors (codes "c")) (is_new (is_some (cursor_of y.cursors (codes "c"))) _ _ _ u answer));
+      batch = ap batch_in now ∙ none;
+    }
+opened_by L st y e m (Err r) found none told answer effect after = absurd (told_refused r e effect told)
+
+-- a cursor is opened where no batch is open
+open_placed : (batch : Option (List HeldRow)) → is_misplaced batch (Open (codes "c") (codes "q")) ≡ false
+    → batch ≡ None
+open_placed None e = refl
+open_placed (Some held) e = absurd cc
 
 open_at_once : (st : State) (y : Session) (e : Effect) (m : State) → session_of st 1 ≡ Some y → to_session 1 e.queued ≡ codes "ok open\n"
-    → ReadStep st 1 y (codes "open c q") (says_command (Open (codes "c") (codes "q"))) e m → cursor_of (cursors_of m) (codes "c") ≡ Some (cursor_at [] false)
-open_at_once st y e m found told (true, h) = opened_by _ st y e m h.result found told h.answer h.effect h.state
-open_at_once st y e m found told (false, h) = absurd (not_true h.0)
+    → ReadStep st 1 y (codes "open c q") (says_command (Open (codes "c") (codes "q"))) e m → Stands m [] false
+open_at_once st y e m found told h = by (is_misplaced y.batch opens) refl h
   where
-    not_true : false ≡ true → ⊥
-    not_true k = cc
+    opens : Command
+    opens = Open (codes "c") (codes "q")
+
+    by : (misplaced : Bool) → is_misplaced y.batch opens ≡ misplaced
+        → CarriedOut st y (codes "open c q") opens e m misplaced → Stands m [] false
+    by true is k = absurd (told_refused Misplaced e k.0 told)
+    by false is k =
+        let done : CommandStep st 1 y (codes "open c q") opens e m =
+        carried_out st y (codes "open c q") opens e m false refl refl k in
+        opened_by _ st y e m done.result found (open_placed y.batch is) told done.answer done.effect done.state
 
 open_run : (mid new : State) → pending_of mid 1 ≡ [] → pending_of new 1 ≡ codes "ok open\n" → Runs (codes "open c q") mid new → Stands new [] false
 open_run mid new none told r =
@@ -349,9 +423,9 @@ open_run mid new none told r =
     let y = behind_line r.rest r.session in
     let queued : to_session 1 (r.effect).queued ≡ codes "ok open\n" =
     sym (stepped_pending mid r.event r.effect new r.step 1 r.stays ∙ ap (λ (p : Bytes). p ++ to_session 1 (r.effect).queued) (r.pending ∙ none)) ∙ told in
-    ap (λ (cs : List Cursor). cursor_of cs (codes "c")) (stepped_cursors mid r.event r.effect new r.step)
-    ∙ open_at_once st y r.effect (r.step).mid (behind_found mid r.session r.rest r.found) queued
-    (subst (λ (k : Reading). ReadStep st 1 y (codes "open c q") k r.effect (r.step).mid) open_reads r.reads)
+    stands_by [] false (r.step).mid new (stepped_has mid r.event r.effect new r.step)
+    (open_at_once st y r.effect (r.step).mid (behind_found mid r.session r.rest r.found) queued
+    (subst (λ (k : Reading). ReadStep st 1 y (codes "open c q") k r.effect (r.step).mid) open_reads r.reads))
 
 open_front : front_of open_line ≡ a_line (codes "open c q") []
 open_front = refl
@@ -360,9 +434,9 @@ open_front = refl
 pub open_stands : (old : State) (before : Counts) (mid : State) (now : Counts) (new : State) → IsIdle old → LineRuns open_line old before mid now → pending_of mid 1 ≡ codes "ok open\n" → TakesAll mid new → Stands new [] false
 open_stands old before mid now new idle h told takes =
     let here = is_fed open_line old h.mid idle h.is_held h.comes in
-    ap (λ (cs : List Cursor). cursor_of cs (codes "c")) (took_cursors mid new takes)
-    ∙ open_run h.mid mid here.pending told (runs open_line (codes "open c q") h.mid mid before now here.held open_front refl h.ran)
+    stands_by [] false mid new (took_has mid new takes)
+    (open_run h.mid mid here.pending told (runs open_line (codes "open c q") h.mid mid before now here.held open_front refl h.ran))
 
 -- Taking what is pending leaves the cursor.
 pub stands_on : (given : List Tuple) (ended : Bool) (old new : State) → TakesAll old new → Stands old given ended → Stands new given ended
-stands_on given ended old new takes stands = ap (λ (cs : List Cursor). cursor_of cs (codes "c")) (took_cursors old new takes) ∙ stands
+stands_on given ended old new takes stands = stands_by given ended old new (took_has old new takes) stands

@@ -47,7 +47,7 @@ pub has_given : (st : State) (given : List Tuple) (ended : Bool) → CursorsGive
 has_given st given ended give stands =
     let rs = st.store.relations in
     let qs = st.store.queries in
-    let f = found_in st given ended (session_of st 1) refl stands in
+    let f = found_in st given ended (session_of st 1) refl stands.cursor in
     let of_session : SessionGives rs qs f.session = all_found (SessionGives rs qs) (λ (x : Session). x.id == 1) st.sessions f.session give f.is in
     let of_cursor : PositionGives rs (listed_of qs (codes "q")) (open_at given ended) =
     all_found (CursorGives rs qs) (λ (c : Cursor). bytes_eq c.name (codes "c")) (f.session).cursors (cursor_at given ended) of_session f.cursor in

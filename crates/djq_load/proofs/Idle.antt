@@ -239,20 +239,20 @@ ran_feeds : (line : Bytes) (old : State) (before : Counts) (mid new : State) (no
 ran_feeds line old before mid new now here comes (l, inl m) = front_feeds line old before mid (blank l) new now here comes m
 ran_feeds line old before mid new now here comes (l, inr m) = front_feeds line old before mid (run l) new now here comes m
 
-stepped_by : (line : Bytes) (old : State) (before : Counts) (mid : State) (r : Stepped) (new : State) (now : Counts) → IsFed line mid → cause_of mid 1 ≡ None
-    → Feeds (line ∷ []) old before mid before → StepGives mid 1 r new before now → Feeds (line ∷ []) old before new now
-stepped_by line old before mid (Ran kept) new now here running comes h = ran_feeds line old before mid new now here comes h.0
-stepped_by line old before mid Dry new now here running comes h =
+stepped_by : (line : Bytes) (old : State) (before : Counts) (mid : State) (r : Stepped) (new : State) (now : Counts) (kept : List Bytes) → IsFed line mid → cause_of mid 1 ≡ None
+    → Feeds (line ∷ []) old before mid before → StepGives mid 1 r new before now kept → Feeds (line ∷ []) old before new now
+stepped_by line old before mid (Ran is_kept) new now kept here running comes h = ran_feeds line old before mid new now here comes h.0
+stepped_by line old before mid Dry new now kept here running comes h =
     subst (λ (st : State). Feeds (line ∷ []) old before st now) (sym h.0) (subst (λ (counted : Counts). Feeds (line ∷ []) old before mid counted) (sym h.1) comes)
-stepped_by line old before mid (HadEnded c) new now here running comes h =
+stepped_by line old before mid (HadEnded c) new now kept here running comes h =
     ended_feeds line old before mid c new now here comes
-    (subst (λ (o : Option EndCause). MatchOption o (EndedStepAs c mid 1 new before now) (λ d. (d ≡ c) × (new ≡ mid) × (now ≡ before))) running h)
+    (subst (λ (o : Option EndCause). MatchOption o (EndedStepAs c mid 1 new before now) (λ d. (d ≡ c) × (new ≡ mid) × (now ≡ before))) running h.1)
 
 -- and is run or isn't
-pub stepped_feeds : (line : Bytes) (old : State) (before : Counts) (mid : State) (r : Stepped) (new : State) (now : Counts) → IsIdle old → 0 < length line → length line ≤ READ_BYTES
-    → Makes old (fed 1 line) mid → cause_of mid 1 ≡ None → StepGives mid 1 r new before now → Feeds (line ∷ []) old before new now
-stepped_feeds line old before mid r new now idle some short m running h =
-    stepped_by line old before mid r new now (is_fed line old mid idle running m) running (comes_feeds line old before mid idle some short m) h
+pub stepped_feeds : (line : Bytes) (old : State) (before : Counts) (mid : State) (r : Stepped) (new : State) (now : Counts) (kept : List Bytes) → IsIdle old → 0 < length line → length line ≤ READ_BYTES
+    → Makes old (fed 1 line) mid → cause_of mid 1 ≡ None → StepGives mid 1 r new before now kept → Feeds (line ∷ []) old before new now
+stepped_feeds line old before mid r new now kept idle some short m running h =
+    stepped_by line old before mid r new now kept (is_fed line old mid idle running m) running (comes_feeds line old before mid idle some short m) h
 
 -- and was run
 pub line_feeds : (line : Bytes) (old : State) (before : Counts) (new : State) (now : Counts) → IsIdle old → 0 < length line → length line ≤ READ_BYTES

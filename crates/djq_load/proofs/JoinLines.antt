@@ -1,15 +1,15 @@
--- No line that is fed registers a query but the load's.
+-- No line that is fed registers a query but the load's, or puts in a batch.
 use Rattle.std.specs.Prelude.{ℕ, zero, suc, List, [], ◌∷◌, ◌++◌, ◌≡◌, ◌==◌, ◌+◌, ◌-◌, ◌/◌, ◌%◌, Bool, true, false, cond, Option, None, Some, option_map, All, length, take, slice_index, codes, decimal, replicate}
 use Rattle.std.specs.List.{AllByRecursion}
 use Rattle.std.specs.Str.{is_utf8}
 use Rattle.std.proofs.Common.{refl, sym, ap, ◌∙◌, subst, append-nil, append_assoc, arith}
 use Rattle.std.proofs.lemmas.List.Elements.{All-nil, All-cons}
-use Rattle.djq_model.specs.declared.query.Query.{Query}
+use Rattle.djq_model.specs.declared.relation.ColumnType.TheVariants.{Int as IntColumn}
 use Rattle.djq_model.specs.Data.{Bytes}
 use Rattle.djq_value.specs.Token.{tokens}
 use Rattle.djq_lines.specs.Line.{before_lf, behind_lf, without_cr}
 use Rattle.djq_lines.specs.declared.command.Command.{Command}
-use Rattle.djq_lines.specs.declared.command.Command.TheVariants.{Rel, Add, Del, Query as Register, Drop, Open, Next, Close, Has, Watch, Unwatch, Explain, Shape, Quit, Stop}
+use Rattle.djq_lines.specs.declared.command.Command.TheVariants.{Rel, Add, Del, Query as Register, Open, Next, Close}
 use Rattle.djq_lines.specs.Grammar.{past_limit, says as says_command, reading_in, command_of, command_in, is_in_range, items_in}
 use Rattle.djq_machine.specs.State.{State}
 use Rattle.djq_machine.specs.LineStep.{LineOutcome, long, blank, slow, no_room, run}
@@ -26,62 +26,51 @@ use Rattle.djq_gen.specs.Load.{reading, relation, change, pause, changes, values
 use Rattle.djq_load.specs.Joins.{join, GivesFew}
 use Rattle.djq_load.specs.Lines.{Loads}
 use Rattle.djq_load.specs.Totals.{open_line, next_line}
-use Rattle.djq_load.proofs.Joining.{RegistersJoin, IsFine, step_joins}
+use Rattle.djq_load.proofs.Joining.{IsHarmless, LeavesJoin, IsFine, step_joins}
 use Rattle.djq_load.proofs.LoadLines.{AreOnes}
 
 -- What a line says.
-asked_by : Option Command → Option Query
-asked_by (Some (Register q)) = Some q
-asked_by (Some (Rel n cs)) = None
-asked_by (Some (Add n row)) = None
-asked_by (Some (Del n row)) = None
-asked_by (Some (Drop n)) = None
-asked_by (Some (Open c q)) = None
-asked_by (Some (Next c n)) = None
-asked_by (Some (Close c)) = None
-asked_by (Some (Has q row)) = None
-asked_by (Some (Watch q)) = None
-asked_by (Some (Unwatch q)) = None
-asked_by (Some (Explain q)) = None
-asked_by (Some (Shape q)) = None
-asked_by (Some Quit) = None
-asked_by (Some Stop) = None
-asked_by None = None
-
-asked_so : (o : Option Command) (q : Query) → reading_in o ≡ says_command (Register q) → o ≡ Some (Register q)
-asked_so None q e = absurd cc
-asked_so (Some c) q e = by (is_in_range c) e
+said_so : (o : Option Command) (c : Command) → reading_in o ≡ says_command c → o ≡ Some c
+said_so None c e = absurd cc
+said_so (Some d) c e = by (is_in_range d) e
   where
-    by : (b : Bool) → cond b (says_command c) (past_limit c) ≡ says_command (Register q) → Some c ≡ Some (Register q)
+    by : (b : Bool) → cond b (says_command d) (past_limit d) ≡ says_command c → Some d ≡ Some c
     by true k = cc
     by false k = absurd cc
 
 -- by its tokens
-says_join : (l : Bytes) → ((q : Query) → asked_by (command_in (tokens l)) ≡ Some q → q ≡ join) → RegistersJoin l
-unfolding asked_by command_of
-says_join l fine q e = by (is_utf8 l) (asked_so (cond (is_utf8 l) (command_in (tokens l)) None) q e)
+leaves : (l : Bytes) → ((c : Command) → command_in (tokens l) ≡ Some c → IsHarmless c) → LeavesJoin l
+unfolding command_of
+leaves l fine c e = by (is_utf8 l) (said_so (cond (is_utf8 l) (command_in (tokens l)) None) c e)
   where
-    by : (b : Bool) → cond b (command_in (tokens l)) None ≡ Some (Register q) → q ≡ join
-    by true k = fine q (ap asked_by k)
+    by : (b : Bool) → cond b (command_in (tokens l)) None ≡ Some c → IsHarmless c
+    by true k = fine c k
     by false k = absurd cc
 
--- no query
-says_none : (l : Bytes) → asked_by (command_in (tokens l)) ≡ None → RegistersJoin l
-says_none l none = says_join l (λ q e. absurd (cc (none, e)))
+-- a line of this command
+leaves_by : (l : Bytes) (d : Command) → command_in (tokens l) ≡ Some d → IsHarmless d → LeavesJoin l
+leaves_by l d says harmless = leaves l (λ c e. subst IsHarmless (same c (sym says ∙ e)) harmless)
+  where
+    same : (c : Command) → Some d ≡ Some c → d ≡ c
+    same c e = cc
 
-no_query : {A : Type 0} (f : A → Command) (o : Option A) → ((a : A) → asked_by (Some (f a)) ≡ None) → asked_by (option_map f o) ≡ None
-unfolding asked_by
-no_query f None none = refl
-no_query f (Some a) none = none a
+-- or of one of these commands
+all_harmless : {A : Type 0} (f : A → Command) (o : Option A) (c : Command) → ((a : A) → IsHarmless (f a))
+    → option_map f o ≡ Some c → IsHarmless c
+all_harmless f None c harmless e = absurd cc
+all_harmless f (Some a) c harmless e = subst IsHarmless (same e) (harmless a)
+  where
+    same : Some (f a) ≡ Some c → f a ≡ c
+    same k = cc
 
 -- A change: `add` or `del` in front, whatever is behind it.
-adds : (rest : Bytes) → RegistersJoin (97 ∷ 100 ∷ 100 ∷ 32 ∷ rest)
-unfolding asked_by tokens
-adds rest = says_none (97 ∷ 100 ∷ 100 ∷ 32 ∷ rest) (no_query (λ p. Add p.0 p.1) _ (λ p. refl))
+adds : (rest : Bytes) → LeavesJoin (97 ∷ 100 ∷ 100 ∷ 32 ∷ rest)
+unfolding tokens
+adds rest = leaves (97 ∷ 100 ∷ 100 ∷ 32 ∷ rest) (λ c e. all_harmless (λ p. Add p.0 p.1) _ c (λ p. tt) e)
 
-deletes : (rest : Bytes) → RegistersJoin (100 ∷ 101 ∷ 108 ∷ 32 ∷ rest)
-unfolding asked_by tokens
-deletes rest = says_none (100 ∷ 101 ∷ 108 ∷ 32 ∷ rest) (no_query (λ p. Del p.0 p.1) _ (λ p. refl))
+deletes : (rest : Bytes) → LeavesJoin (100 ∷ 101 ∷ 108 ∷ 32 ∷ rest)
+unfolding tokens
+deletes rest = leaves (100 ∷ 101 ∷ 108 ∷ 32 ∷ rest) (λ c e. all_harmless (λ p. Del p.0 p.1) _ c (λ p. tt) e)
 
 -- which stays so without the CR at its end
 word_stays : (a b c : ℕ) (rest : Bytes) → (more : Bytes) × (without_cr (a ∷ b ∷ c ∷ 32 ∷ rest) ≡ a ∷ b ∷ c ∷ 32 ∷ more)
@@ -99,56 +88,50 @@ word_stays a b c (d ∷ rest) = by (slice_index bs (length bs - 1) == 13)
     by false = (d ∷ rest, refl)
 
 -- The lines that are fed.
-abbrev pub IsHarmless : Bytes → Type 0
-IsHarmless line = RegistersJoin (without_cr (before_lf line))
+abbrev pub IsHarmlessLine : Bytes → Type 0
+IsHarmlessLine line = LeavesJoin (without_cr (before_lf line))
 
 abbrev pub AreHarmless : List Bytes → Type 0
-AreHarmless lines = AllByRecursion IsHarmless lines
+AreHarmless lines = AllByRecursion IsHarmlessLine lines
 
-change_fine : (values a b c : ℕ) → IsHarmless (change values a b c)
+change_fine : (values a b c : ℕ) → IsHarmlessLine (change values a b c)
 change_fine values a b c = by (a / 2 % 4 == 0)
   where
-    by : (is : Bool) → IsHarmless (cond is (codes "del ") (codes "add ") ++ relation a ++ decimal (b % values) ++ codes " " ++ decimal (c % values) ++ codes "\n")
+    by : (is : Bool) → IsHarmlessLine (cond is (codes "del ") (codes "add ") ++ relation a ++ decimal (b % values) ++ codes " " ++ decimal (c % values) ++ codes "\n")
     by true =
         let w = word_stays 100 101 108 (before_lf (relation a ++ decimal (b % values) ++ codes " " ++ decimal (c % values) ++ codes "\n")) in
-        subst RegistersJoin (sym w.1) (deletes w.0)
+        subst LeavesJoin (sym w.1) (deletes w.0)
     by false =
         let w = word_stays 97 100 100 (before_lf (relation a ++ decimal (b % values) ++ codes " " ++ decimal (c % values) ++ codes "\n")) in
-        subst RegistersJoin (sym w.1) (adds w.0)
+        subst LeavesJoin (sym w.1) (adds w.0)
 
-open_fine : IsHarmless open_line
-unfolding asked_by tokens
-open_fine = says_none (codes "open c q") refl
+open_fine : IsHarmlessLine open_line
+unfolding tokens
+open_fine = leaves_by (codes "open c q") (Open (codes "c") (codes "q")) refl tt
 
-ten_fine : IsHarmless (codes "next c 10\n")
-unfolding asked_by tokens
-ten_fine = says_none (codes "next c 10") refl
+ten_fine : IsHarmlessLine (codes "next c 10\n")
+unfolding tokens
+ten_fine = leaves_by (codes "next c 10") (Next (codes "c") 10) refl tt
 
-close_fine : IsHarmless (codes "close c\n")
-unfolding asked_by tokens
-close_fine = says_none (codes "close c") refl
+close_fine : IsHarmlessLine (codes "close c\n")
+unfolding tokens
+close_fine = leaves_by (codes "close c") (Close (codes "c")) refl tt
 
-next_fine : IsHarmless next_line
-unfolding asked_by tokens
-next_fine = says_none (codes "next c 1000") refl
+next_fine : IsHarmlessLine next_line
+unfolding tokens
+next_fine = leaves_by (codes "next c 1000") (Next (codes "c") 1000) refl tt
 
-r_fine : IsHarmless (codes "rel r int int\n")
-unfolding asked_by tokens
-r_fine = says_none (codes "rel r int int") refl
+r_fine : IsHarmlessLine (codes "rel r int int\n")
+unfolding tokens
+r_fine = leaves_by (codes "rel r int int") (Rel (codes "r") (IntColumn ∷ IntColumn ∷ [])) refl tt
 
-s_fine : IsHarmless (codes "rel s int int\n")
-unfolding asked_by tokens
-s_fine = says_none (codes "rel s int int") refl
+s_fine : IsHarmlessLine (codes "rel s int int\n")
+unfolding tokens
+s_fine = leaves_by (codes "rel s int int") (Rel (codes "s") (IntColumn ∷ IntColumn ∷ [])) refl tt
 
-join_asked : asked_by (command_in (tokens (codes "query q(x,y,z) <- r(x,y), s(y,z)"))) ≡ Some join
-unfolding asked_by tokens items_in
-join_asked = refl
-
-query_fine : IsHarmless (codes "query q(x,y,z) <- r(x,y), s(y,z)\n")
-query_fine = says_join (codes "query q(x,y,z) <- r(x,y), s(y,z)") (λ q e. same q (sym e ∙ join_asked))
-  where
-    same : (q : Query) → Some q ≡ Some join → q ≡ join
-    same q e = cc
+query_fine : IsHarmlessLine (codes "query q(x,y,z) <- r(x,y), s(y,z)\n")
+unfolding tokens items_in
+query_fine = leaves_by (codes "query q(x,y,z) <- r(x,y), s(y,z)") (Register join) refl refl
 
 pause_fine : (number : ℕ) (more : List Bytes) → AreHarmless more → AreHarmless (pause number ++ more)
 pause_fine number more h = by (number % 100 == 0)
@@ -200,14 +183,14 @@ before_one (b ∷ line) more h = by (b == 10) h (λ k. before_one line more k)
     by true k rest = (refl, ap (λ (bs : Bytes). Some (bs ++ more)) (inside line k))
     by false k rest = let r = rest k in (ap (λ (bs : Bytes). b ∷ bs) r.0, r.1)
 
-cut_fine : (lines : List Bytes) → AreOnes lines → AreHarmless lines → (ls : List Bytes) (rest : Bytes) → CutsInto (joined lines) ls rest → AllByRecursion RegistersJoin ls
+cut_fine : (lines : List Bytes) → AreOnes lines → AreHarmless lines → (ls : List Bytes) (rest : Bytes) → CutsInto (joined lines) ls rest → AllByRecursion LeavesJoin ls
 unfolding joined
 cut_fine lines ones fine [] rest h = tt
 cut_fine [] ones fine (l ∷ ls) rest h = absurd cc
 cut_fine (line ∷ lines) ones fine (l ∷ ls) rest h =
     let f = line_in_front (line ++ joined lines) l h.0 h.1 in
     let b = before_one line (joined lines) ones.0 in (
-      subst RegistersJoin (sym (f.line ∙ ap without_cr b.0)) fine.0,
+      subst LeavesJoin (sym (f.line ∙ ap without_cr b.0)) fine.0,
       cut_fine lines ones.1 fine.1 ls rest (subst (λ (bs : Bytes). CutsInto bs ls rest) (same (sym f.behind ∙ b.1)) h.2),
     )
   where
@@ -245,22 +228,22 @@ walk_spares old [] new w = All-nil (λ (d : Did). Spares d.event 1)
 walk_spares old (d ∷ done) new w = All-cons (λ (e : Did). Spares e.event 1) d done (next_spares old d.event w.1.0) (walk_spares w.0 done new w.2)
 
 -- Each step, by the lines that were taken.
-step_fine : (st : State) (event : Event) (more : List Bytes) → MayRun st event → AllByRecursion RegistersJoin (line_by 1 event ++ more) → IsFine event × AllByRecursion RegistersJoin more
+step_fine : (st : State) (event : Event) (more : List Bytes) → MayRun st event → AllByRecursion LeavesJoin (line_by 1 event ++ more) → IsFine event × AllByRecursion LeavesJoin more
 step_fine st (opened s) more h k = (tt, k)
 step_fine st (fed s bytes) more h k = (tt, k)
 step_fine st (took s bytes) more h k = (tt, k)
 step_fine st (ended s) more h k = (tt, k)
 step_fine st (closed s bytes) more h k = absurd h
-step_fine st (stepped s outcome) more h k = by outcome (subst (λ (t : ℕ). AllByRecursion RegistersJoin (line_by 1 (stepped t outcome) ++ more)) h.0 k)
+step_fine st (stepped s outcome) more h k = by outcome (subst (λ (t : ℕ). AllByRecursion LeavesJoin (line_by 1 (stepped t outcome) ++ more)) h.0 k)
   where
-    by : (o : LineOutcome) → AllByRecursion RegistersJoin (line_by 1 (stepped 1 o) ++ more) → IsFine (stepped s o) × AllByRecursion RegistersJoin more
+    by : (o : LineOutcome) → AllByRecursion LeavesJoin (line_by 1 (stepped 1 o) ++ more) → IsFine (stepped s o) × AllByRecursion LeavesJoin more
     by long h = (tt, h)
     by (blank l) h = (tt, h.1)
     by (slow l) h = (tt, h.1)
     by (no_room l) h = (tt, h.1)
     by (run l) h = (h.0, h.1)
 
-walk_few : (old : State) (done : List Did) (new : State) → Walk RunNext old done new → AllByRecursion RegistersJoin (lines_of 1 done) → GivesFew old → GivesFew new
+walk_few : (old : State) (done : List Did) (new : State) → Walk RunNext old done new → AllByRecursion LeavesJoin (lines_of 1 done) → GivesFew old → GivesFew new
 walk_few old [] new w k g = subst GivesFew same g
   where
     same : old ≡ new

@@ -25,22 +25,23 @@ use Rattle.djq_lines.specs.declared.rest.QueryOutcome.{QueryOutcome}
 use Rattle.djq_lines.specs.declared.rest.QueryOutcome.TheVariants.{Registered, Cyclic, NotConnex}
 use Rattle.djq_lines.specs.declared.limits.TheConstants.{ROWS, COPIES, LAST_SEQ}
 use Rattle.djq_lines.specs.declared.command.Command.{Command}
-use Rattle.djq_lines.specs.declared.command.Command.TheVariants.{Rel, Add, Del, Query as Register, Drop, Open, Next, Close, Has, Watch, Unwatch, Explain, Shape, Quit, Stop}
+use Rattle.djq_lines.specs.declared.held.HeldRow.{HeldRow}
+use Rattle.djq_lines.specs.declared.command.Command.TheVariants.{Rel, Add, Del, Query as Register, Drop, Open, Next, Close, Has, Watch, Unwatch, Explain, Shape, Batch, Done, Abandon, Quit, Stop}
 use Rattle.djq_lines.specs.Conditions.{first_of, OutOfMemoryWhere}
-use Rattle.djq_lines.specs.Grammar.{Reading, outside, past_limit, says as says_command, reading_of}
+use Rattle.djq_lines.specs.Grammar.{says as says_command, reading_of}
 use Rattle.djq_lines.specs.Reply.{end_memory}
 use Rattle.djq_lines.specs.Variables.{constants_of}
 use Rattle.djq_model.specs.Known.{texts_in}
 use Rattle.djq_machine.specs.State.{Store, State, Session, session_of, with_session}
 use Rattle.djq_machine.specs.Effect.{Effect, nothing, EndsWith}
 use Rattle.djq_machine.specs.Store.{with_rows, copies_of, with_copies_of, MakesRelation, RegistersQuery, DropsQuery, AddsRow, AddsAs, DeletesRow, DeletesAs, RefusedByTexts, RefusedLate, RegistersAs, rel_refusal, add_refusal, delete_refusal, query_refusal, drop_refusal}
-use Rattle.djq_machine.specs.Command.{CommandStep, QueryStep, QueryCutStep}
-use Rattle.djq_machine.specs.LineStep.{LineOutcome, long, blank, slow, no_room, run, FrontStep, ReadStep, behind_line}
+use Rattle.djq_machine.specs.Command.{AddStep, BecomesWhere, CommandStep, HoldStep, QueryStep, QueryCutStep, with_batch}
+use Rattle.djq_machine.specs.LineStep.{LineOutcome, long, blank, slow, no_room, run, FrontStep, behind_line}
 use Rattle.djq_machine.specs.Step.{Event, opened, fed, stepped, took, ended, closed, FedStep, TookStep, EndedStep, Acts, SameRelations, with_relations, Step}
 use Rattle.djq_laws.specs.Form.{Form, asking, storing, turning, changing, ending, form_of, Replied, is_whole, is_cut, LearnsTexts, DoesTurn, is_turned, is_refused, Does, Turn}
 use Rattle.djq_laws.proofs.Changing.{all_changed, all_dropped}
 use Rattle.djq_laws.proofs.Finding.{some_and}
-use Rattle.djq_laws.proofs.Forms.{done_of, none_holds, refused_learned, late_learned, stays_learned, turned_one, command_does}
+use Rattle.djq_laws.proofs.Forms.{done_of, none_holds, refused_learned, late_learned, stays_learned, turned_one, command_does, Reads, turned_down, carried_out, line_reads}
 use Rattle.djq_laws.proofs.Watching.{change_store, queued_store}
 use Rattle.djq_load.specs.Joins.{join, IsWithin, IsJoin, Joins}
 
@@ -206,9 +207,11 @@ form_same (turning t) old s x e new apart h = turn_same old s x t new h.1
 form_same (changing c) old s x e new apart h = absurd cc
 form_same ending old s x e new apart h = ap (λ (st : State). st.store) h.1.state
 
--- Where a command registers a query, it is the load's.
-abbrev SaysJoin : Command → Type 0
-SaysJoin c = (q : Query) → c ≡ Register q → q ≡ join
+-- A command registers no query but the load's, and is no `done`.
+abbrev pub IsHarmless : Command → Type 0
+IsHarmless (Register q) = q ≡ join
+IsHarmless Done = ⊥
+IsHarmless c = Unit {0}
 
 store_joins : (old new : State) (store : Store) → new ≡ record old { store = store } → Joins store → Joins new.store
 store_joins old new store e j = subst (λ (st : State). Joins st.store) (sym e) j
@@ -217,39 +220,68 @@ asked_joins : (old : State) (s : ℕ) (q : Query) (e : Effect) (new : State) →
 asked_joins old s q e new is (inl h) j = store_joins old new h.store h.state (query_joins old.store q h.result h.store is h.done j)
 asked_joins old s q e new is (inr h) j = subst (λ (st : State). Joins st.store) (sym h.ends.1) (query_joins old.store q h.result h.store is h.done j)
 
-command_joins : (old : State) (s : ℕ) (x : Session) (c : Command) (e : Effect) (new : State) → SaysJoin c → CommandStep old s x c e new → Joins old.store → Joins new.store
+-- `add`, where a batch is open or none is
+add_command_joins : (old : State) (s : ℕ) (batch : Option (List HeldRow)) (l name : Bytes) (row : Tuple)
+    (e : Effect) (new : State)
+    → MatchOption batch (AddStep old s name row e new) (λ held. HoldStep old s held l name row e new)
+    → Joins old.store → Joins new.store
+add_command_joins old s None l name row e new h j =
+    same_joins h.store new.store (change_store old s _ h.store _ e new h.change)
+    (add_joins old.store name row h.result h.store h.done j)
+add_command_joins old s (Some held) l name row e new h j =
+    same_joins old.store new.store (held_same h.result h.state) j
+  where
+    more : List HeldRow
+    more = held ++ record { line = l; relation = name; row = row } ∷ []
+
+    held_same : (r : Result ⊤ Refusal) → BecomesWhere old s (with_batch more) new r → new.store ≡ old.store
+    held_same (Ok u) k = ap (λ (st : State). st.store) k
+    held_same (Err r) k = ap (λ (st : State). st.store) k
+
+-- a command that isn't of the store
+apart_joins : (old : State) (s : ℕ) (x : Session) (l : Bytes) (c : Command) (e : Effect) (new : State)
+    → is_apart (form_of x.batch l c) ≡ true → CommandStep old s x l c e new → Joins old.store → Joins new.store
+apart_joins old s x l c e new apart h j =
+    same_joins old.store new.store
+    (form_same (form_of x.batch l c) old s x e new apart (command_does old s x l c e new h)) j
+
+command_joins : (old : State) (s : ℕ) (x : Session) (l : Bytes) (c : Command) (e : Effect) (new : State)
+    → IsHarmless c → CommandStep old s x l c e new → Joins old.store → Joins new.store
 unfolding is_apart
-command_joins old s x (Rel name types) e new fine h j = store_joins old new h.store h.state (rel_joins old.store name types h.result h.store h.done j)
-command_joins old s x (Register q) e new fine h j = asked_joins old s q e new (fine q refl) h j
-command_joins old s x (Drop q) e new fine h j = store_joins old new h.store h.state (drop_joins old.store _ q h.result h.store h.done j)
-command_joins old s x (Add name row) e new fine h j =
-    same_joins h.store new.store (change_store old s _ h.store _ e new h.change) (add_joins old.store name row h.result h.store h.done j)
-command_joins old s x (Del name row) e new fine h j =
+command_joins old s x l (Rel name types) e new fine h j =
+    store_joins old new h.store h.state (rel_joins old.store name types h.result h.store h.done j)
+command_joins old s x l (Register q) e new fine h j = asked_joins old s q e new fine h j
+command_joins old s x l (Drop q) e new fine h j =
+    store_joins old new h.store h.state (drop_joins old.store _ q h.result h.store h.done j)
+command_joins old s x l (Add name row) e new fine h j = add_command_joins old s x.batch l name row e new h j
+command_joins old s x l (Del name row) e new fine h j =
     same_joins h.store new.store (change_store old s _ h.store _ e new h.change) (delete_joins old.store name row h.result h.store h.done j)
-command_joins old s x (Open c q) e new fine h j = same_joins old.store new.store (form_same (form_of (Open c q)) old s x e new refl (command_does old s x (Open c q) e new h)) j
-command_joins old s x (Next c n) e new fine h j = same_joins old.store new.store (form_same (form_of (Next c n)) old s x e new refl (command_does old s x (Next c n) e new h)) j
-command_joins old s x (Close c) e new fine h j = same_joins old.store new.store (form_same (form_of (Close c)) old s x e new refl (command_does old s x (Close c) e new h)) j
-command_joins old s x (Has q row) e new fine h j = same_joins old.store new.store (form_same (form_of (Has q row)) old s x e new refl (command_does old s x (Has q row) e new h)) j
-command_joins old s x (Watch q) e new fine h j = same_joins old.store new.store (form_same (form_of (Watch q)) old s x e new refl (command_does old s x (Watch q) e new h)) j
-command_joins old s x (Unwatch q) e new fine h j = same_joins old.store new.store (form_same (form_of (Unwatch q)) old s x e new refl (command_does old s x (Unwatch q) e new h)) j
-command_joins old s x (Explain q) e new fine h j = same_joins old.store new.store (form_same (form_of (Explain q)) old s x e new refl (command_does old s x (Explain q) e new h)) j
-command_joins old s x (Shape q) e new fine h j = same_joins old.store new.store (form_same (form_of (Shape q)) old s x e new refl (command_does old s x (Shape q) e new h)) j
-command_joins old s x Quit e new fine h j = same_joins old.store new.store (form_same (form_of Quit) old s x e new refl (command_does old s x Quit e new h)) j
-command_joins old s x Stop e new fine h j = same_joins old.store new.store (form_same (form_of Stop) old s x e new refl (command_does old s x Stop e new h)) j
+command_joins old s x l (Open c q) e new fine h j = apart_joins old s x l (Open c q) e new refl h j
+command_joins old s x l (Next c n) e new fine h j = apart_joins old s x l (Next c n) e new refl h j
+command_joins old s x l (Close c) e new fine h j = apart_joins old s x l (Close c) e new refl h j
+command_joins old s x l (Has q row) e new fine h j = apart_joins old s x l (Has q row) e new refl h j
+command_joins old s x l (Watch q) e new fine h j = apart_joins old s x l (Watch q) e new refl h j
+command_joins old s x l (Unwatch q) e new fine h j = apart_joins old s x l (Unwatch q) e new refl h j
+command_joins old s x l (Explain q) e new fine h j = apart_joins old s x l (Explain q) e new refl h j
+command_joins old s x l (Shape q) e new fine h j = apart_joins old s x l (Shape q) e new refl h j
+command_joins old s x l Batch e new fine h j = apart_joins old s x l Batch e new refl h j
+command_joins old s x l Done e new fine h j = absurd fine
+command_joins old s x l Abandon e new fine h j = apart_joins old s x l Abandon e new refl h j
+command_joins old s x l Quit e new fine h j = apart_joins old s x l Quit e new refl h j
+command_joins old s x l Stop e new fine h j = apart_joins old s x l Stop e new refl h j
 
 -- A line.
-abbrev pub RegistersJoin : Bytes → Type 0
-RegistersJoin l = (q : Query) → reading_of l ≡ says_command (Register q) → q ≡ join
+abbrev pub LeavesJoin : Bytes → Type 0
+LeavesJoin l = (c : Command) → reading_of l ≡ says_command c → IsHarmless c
 
-read_joins : (old : State) (s : ℕ) (x : Session) (l : Bytes) (r : Reading) (e : Effect) (new : State) → ((q : Query) → r ≡ says_command (Register q) → q ≡ join)
-    → ReadStep old s x l r e new → Joins old.store → Joins new.store
-read_joins old s x l outside e new fine h j = same_joins old.store new.store (ap (λ (st : State). st.store) h.1) j
-read_joins old s x l (past_limit c) e new fine h j = same_joins old.store new.store (ap (λ (st : State). st.store) h.1) j
-read_joins old s x l (says_command c) e new fine (true, h) j = command_joins old s x c e new (λ q is. fine q (ap (λ (d : Command). says_command d) is)) h j
-read_joins old s x l (says_command c) e new fine (false, h) j = same_joins old.store new.store (ap (λ (st : State). st.store) h.1.1) j
+read_joins : (old : State) (s : ℕ) (x : Session) (l : Bytes) (e : Effect) (new : State) → LeavesJoin l
+    → Reads old s x l (reading_of l) e new → Joins old.store → Joins new.store
+read_joins old s x l e new fine (turned_down why may h) j =
+    same_joins old.store new.store (ap (λ (st : State). st.store) h.1) j
+read_joins old s x l e new fine (carried_out c is h) j = command_joins old s x l c e new (fine c is) h j
 
 abbrev pub IsFine : Event → Type 0
-IsFine (stepped s (run l)) = RegistersJoin l
+IsFine (stepped s (run l)) = LeavesJoin l
 IsFine _ = Unit {0}
 
 front_joins : (old : State) (s : ℕ) (x : Session) (outcome : LineOutcome) (e : Effect) (new : State) → IsFine (stepped s outcome) → FrontStep old s x outcome e new
@@ -259,8 +291,9 @@ front_joins old s x (blank l) e new fine h j = same_joins old.store new.store (a
 front_joins old s x (slow l) e new fine h j = same_joins old.store new.store (ap (λ (st : State). st.store) h.2.then.1) j
 front_joins old s x (no_room l) e new fine h j = same_joins old.store new.store (ap (λ (st : State). st.store) h.2.then.1) j
 front_joins old s x (run l) e new fine h j =
-    let rest = h.2.rest in
-    read_joins (with_session old s (behind_line rest)) s (behind_line rest x) l (reading_of l) e new fine h.2.then j
+    let st = with_session old s (behind_line h.2.rest) in
+    let y = behind_line h.2.rest x in
+    read_joins st s y l e new fine (line_reads st s y l (reading_of l) e new h.2.then) j
 
 -- An event.
 opened_same : (old mid more : State) (P : Type 0) → more.store ≡ old.store → (P × (mid ≡ more)) ⊎ (mid ≡ old) → mid.store ≡ old.store

@@ -8,6 +8,7 @@ use Rattle.djq_machine.specs.Step.{fed, took}
 use Rattle.djq_machine.specs.Run.{Did, Walk, pieces_of, cost_of, pending_of, to_session}
 use Rattle.djq_machine.specs.Call.{IsOpen, Makes, RanStep, Counts, cause_of, held_of}
 use Rattle.djq_laws.specs.Course.{RunNext}
+use Rattle.djq_laws.specs.Watched.{batch_of}
 
 -- What was done didn't tell session 1 that memory is wanting.
 abbrev pub IsServed : Did → Type 0
@@ -80,6 +81,7 @@ cursors_of st = cursors_in (session_of st 1)
 abbrev pub cursor_at : List Tuple → Bool → Cursor
 cursor_at given ended = record { name = codes "c"; query = codes "q"; position = open_at given ended }
 
--- The session has that cursor.
-abbrev pub Stands : State → List Tuple → Bool → Type 0
-Stands st given ended = cursor_of (cursors_of st) (codes "c") ≡ Some (cursor_at given ended)
+-- The session has that cursor, and no batch open.
+pub record Stands (st : State) (given : List Tuple) (ended : Bool) : Type 0 where
+  pub cursor : cursor_of (cursors_of st) (codes "c") ≡ Some (cursor_at given ended)
+  pub batch : batch_of st 1 ≡ None

@@ -7,11 +7,11 @@ use Rattle.djq_model.specs.Data.{Bytes}
 use Rattle.djq_lines.specs.declared.answer.EndLine.{EndLine}
 use Rattle.djq_lines.specs.declared.answer.EndLine.TheVariants.{Long, Slow, Memory, Full}
 use Rattle.djq_lines.specs.declared.answer.Refusal.{Refusal}
-use Rattle.djq_lines.specs.declared.answer.Refusal.TheVariants.{Syntax, Taken, NoRelation, NoQuery, NoCursor, Arity, WrongType, HeadUnbound, HeadRepeated, VariableType, Limit, NoMemory, InUse, Unbound}
+use Rattle.djq_lines.specs.declared.answer.Refusal.TheVariants.{Syntax, Taken, NoRelation, NoQuery, NoCursor, Arity, WrongType, HeadUnbound, HeadRepeated, VariableType, Limit, NoMemory, InUse, Unbound, Misplaced}
 use Rattle.djq_lines.specs.declared.answer.Shape.TheVariants.{Flat, Linear}
 use Rattle.djq_lines.specs.Reply.{line, cells_text, sign_text}
 use Rattle.djq_tree.specs.Explaining.{end_text}
-use Rattle.djq_mirror.specs.Replies.{Node, leaf, trim, meet, Reply, done, opened, added, removed, absent, registered, cyclic, not_connex, answer, more, last, stale, had, shaped, watched, changed, counted, explained, refused, ended, cut, bye, IsPrinted, IsReply, joined, label_text, node_text, reply_text}
+use Rattle.djq_mirror.specs.Replies.{Node, leaf, trim, meet, Reply, done, opened, added, removed, absent, batch_opened, row_held, batch_done, registered, cyclic, not_connex, answer, more, last, stale, had, shaped, watched, changed, counted, explained, refused, ended, cut, bye, IsPrinted, IsReply, joined, label_text, node_text, reply_text}
 use Rattle.djq_mirror.proofs.Parting.{spaced}
 
 abbrev pub refused_words : Refusal → Bytes
@@ -29,6 +29,7 @@ refused_words Limit = codes "err 11 limit"
 refused_words NoMemory = codes "err 12 memory"
 refused_words InUse = codes "err 14 in use"
 refused_words Unbound = codes "err 16 unbound"
+refused_words Misplaced = codes "err 18 batch"
 
 abbrev pub ended_words : EndLine → Bytes
 ended_words Long = codes "end long"
@@ -57,6 +58,9 @@ body opened = codes "ok open"
 body (added n m) = codes "ok" ++ spaced 32 (codes "added" ∷ decimal n ∷ decimal m ∷ [])
 body (removed n m) = codes "ok" ++ spaced 32 (codes "removed" ∷ decimal n ∷ decimal m ∷ [])
 body (absent n) = codes "ok" ++ spaced 32 (codes "absent" ∷ decimal n ∷ [])
+body batch_opened = codes "ok batch"
+body (row_held n) = codes "ok" ++ spaced 32 (codes "held" ∷ decimal n ∷ [])
+body (batch_done n m) = codes "ok" ++ spaced 32 (codes "done" ∷ decimal n ∷ decimal m ∷ [])
 body (registered n) = codes "ok" ++ spaced 32 (codes "query" ∷ decimal n ∷ [])
 body (cyclic es) = codes "no" ++ spaced 32 (codes "cyclic" ∷ edge_words es)
 body (not_connex es) = codes "no" ++ spaced 32 (codes "connex" ∷ edge_words es)
@@ -97,6 +101,7 @@ refused_text Limit = refl
 refused_text NoMemory = refl
 refused_text InUse = refl
 refused_text Unbound = refl
+refused_text Misplaced = refl
 
 ended_text : (e : EndLine) → reply_text (ended e) ≡ line (ended_words e)
 ended_text Long = refl
@@ -159,6 +164,9 @@ text_is opened = refl
 text_is (added n m) = ap line (two_parts (codes "ok added ") (decimal n) (decimal m))
 text_is (removed n m) = ap line (two_parts (codes "ok removed ") (decimal n) (decimal m))
 text_is (absent n) = ap line (one_part (codes "ok absent ") (decimal n))
+text_is batch_opened = refl
+text_is (row_held n) = ap line (one_part (codes "ok held ") (decimal n))
+text_is (batch_done n m) = ap line (two_parts (codes "ok done ") (decimal n) (decimal m))
 text_is (registered n) = ap line (one_part (codes "ok query ") (decimal n))
 text_is (cyclic es) = ap (λ (r : Bytes). line (codes "no cyclic" ++ r)) (edges_spaced es)
 text_is (not_connex es) = ap (λ (r : Bytes). line (codes "no connex" ++ r)) (edges_spaced es)

@@ -9,7 +9,7 @@ use Rattle.djq_value.specs.Literal.{is_name}
 use Rattle.djq_lines.specs.declared.answer.EndLine.{EndLine}
 use Rattle.djq_lines.specs.declared.answer.EndLine.TheVariants.{Long, Slow, Memory, Full}
 use Rattle.djq_lines.specs.declared.answer.Refusal.{Refusal}
-use Rattle.djq_lines.specs.declared.answer.Refusal.TheVariants.{Syntax, Taken, NoRelation, NoQuery, NoCursor, Arity, WrongType, HeadUnbound, HeadRepeated, VariableType, Limit, NoMemory, InUse, Unbound}
+use Rattle.djq_lines.specs.declared.answer.Refusal.TheVariants.{Syntax, Taken, NoRelation, NoQuery, NoCursor, Arity, WrongType, HeadUnbound, HeadRepeated, VariableType, Limit, NoMemory, InUse, Unbound, Misplaced}
 use Rattle.djq_lines.specs.declared.answer.Shape.TheVariants.{Flat, Linear}
 use Rattle.djq_lines.specs.declared.answer.Sign.{Sign}
 use Rattle.djq_lines.specs.declared.answer.Sign.TheVariants.{Came, Went}
@@ -17,7 +17,7 @@ use Rattle.djq_lines.specs.Reply.{cells_text}
 use Rattle.djq_mirror.specs.Cells.{are_cells_in}
 use Rattle.djq_mirror.specs.Parts.{before, parts}
 use Rattle.djq_mirror.specs.Reading.{News, lists, makes_stale, changes, counts, nothing, news_of, change_told, count_told, is_counted, is_edge_word, is_label_end, is_label_word, is_node_kind, is_node_told, is_number, is_rest_told, is_stale_told, is_trim_told, told_if, told_in}
-use Rattle.djq_mirror.specs.Replies.{Node, leaf, trim, meet, Reply, done, opened, added, removed, absent, registered, cyclic, not_connex, answer, more, last, stale, had, shaped, watched, changed, counted, explained, refused, ended, cut, bye, IsNode, IsPrinted, IsReply, are_cells, is_edge, is_label, is_rest, joined, label_text}
+use Rattle.djq_mirror.specs.Replies.{Node, leaf, trim, meet, Reply, done, opened, added, removed, absent, batch_opened, row_held, batch_done, registered, cyclic, not_connex, answer, more, last, stale, had, shaped, watched, changed, counted, explained, refused, ended, cut, bye, IsNode, IsPrinted, IsReply, are_cells, is_edge, is_label, is_rest, joined, label_text}
 use Rattle.djq_mirror.proofs.Bodies.{body, body_of, edge_words, ended_words, node_words, out_words, refused_words}
 use Rattle.djq_mirror.proofs.Celling.{cells_read}
 use Rattle.djq_mirror.proofs.Numerals.{number_printed}
@@ -164,6 +164,7 @@ refused_told Limit = refl
 refused_told NoMemory = refl
 refused_told InUse = refl
 refused_told Unbound = refl
+refused_told Misplaced = refl
 
 ended_told : (e : EndLine) → told_in (ended_words e) ≡ Some nothing
 ended_told Long = refl
@@ -177,6 +178,9 @@ body_told opened h = refl
 body_told (added n m) h = ok_two (codes "added") n m h.0 h.1 refl (both_numbers n m h.0 h.1)
 body_told (removed n m) h = ok_two (codes "removed") n m h.0 h.1 refl (both_numbers n m h.0 h.1)
 body_told (absent n) h = ok_one (codes "absent") n h refl (number_printed n h)
+body_told batch_opened h = refl
+body_told (row_held n) h = ok_one (codes "held") n h refl (number_printed n h)
+body_told (batch_done n m) h = ok_two (codes "done") n m h.0 h.1 refl (both_numbers n m h.0 h.1)
 body_told (registered n) h = ok_one (codes "query") n h refl (number_printed n h)
 body_told (cyclic es) h = rest_told (codes "cyclic") es h refl (λ e rest. refl)
 body_told (not_connex es) h = rest_told (codes "connex") es h refl (λ e rest. refl)

@@ -10,7 +10,7 @@ use Rattle.djq_mirror.specs.declared.mirror.MirrorRefusal.TheVariants.{Outside, 
 use Rattle.djq_mirror.specs.Acting.{LineEnds, Turns}
 use Rattle.djq_mirror.specs.Mirror.{Act, Follows, Held, IsOutside, Seen, Turned, may_turn, turn_of}
 use Rattle.djq_mirror.specs.Reading.{News, news_of, told_in, turn_by}
-use Rattle.djq_mirror.specs.Replies.{Reply, done, opened, added, removed, absent, registered, cyclic, not_connex, answer, more, last, stale, had, shaped, watched, changed, counted, explained, refused, ended, cut, bye}
+use Rattle.djq_mirror.specs.Replies.{Reply, done, opened, added, removed, absent, batch_opened, row_held, batch_done, registered, cyclic, not_connex, answer, more, last, stale, had, shaped, watched, changed, counted, explained, refused, ended, cut, bye}
 use Rattle.djq_mirror.proofs.Finding.{told_found}
 use Rattle.djq_mirror.proofs.Telling.{reply_told}
 
@@ -21,6 +21,9 @@ turn_same name mode opened = refl
 turn_same name mode (added n m) = refl
 turn_same name mode (removed n m) = refl
 turn_same name mode (absent n) = refl
+turn_same name mode batch_opened = refl
+turn_same name mode (row_held n) = refl
+turn_same name mode (batch_done n m) = refl
 turn_same name mode (registered n) = refl
 turn_same name mode (cyclic es) = refl
 turn_same name mode (not_connex es) = refl

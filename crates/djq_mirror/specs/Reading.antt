@@ -98,10 +98,11 @@ is_label_word w = bytes_eq w (codes "-") || is_edge_word w
 -- behind `ok`: a word and a number, or a word and two
 abbrev pub is_counted : List Bytes → Bool
 is_counted (w ∷ n ∷ []) =
-    (bytes_eq w (codes "absent") || bytes_eq w (codes "query") || bytes_eq w (codes "watch"))
-    && is_number n
+    (bytes_eq w (codes "absent") || bytes_eq w (codes "held") || bytes_eq w (codes "query")
+    || bytes_eq w (codes "watch")) && is_number n
 is_counted (w ∷ n ∷ m ∷ []) =
-    (bytes_eq w (codes "added") || bytes_eq w (codes "removed")) && (is_number n && is_number m)
+    (bytes_eq w (codes "added") || bytes_eq w (codes "removed") || bytes_eq w (codes "done"))
+    && (is_number n && is_number m)
 is_counted ws = false
 
 -- behind `no`: a word and edges, of which there is one at least
@@ -154,13 +155,13 @@ count_told ws = None
 -- the lines that are always the same and tell nothing
 abbrev pub fixed_lines : List Bytes
 fixed_lines =
-    codes "ok" ∷ codes "yes" ∷ codes "no" ∷ codes "flat" ∷ codes "linear" ∷ codes "bye"
-    ∷ codes "end long" ∷ codes "end slow" ∷ codes "end memory" ∷ codes "end full"
+    codes "ok" ∷ codes "ok batch" ∷ codes "yes" ∷ codes "no" ∷ codes "flat" ∷ codes "linear"
+    ∷ codes "bye" ∷ codes "end long" ∷ codes "end slow" ∷ codes "end memory" ∷ codes "end full"
     ∷ codes "err 1 syntax" ∷ codes "err 2 taken" ∷ codes "err 3 no relation"
     ∷ codes "err 4 no query" ∷ codes "err 5 no cursor" ∷ codes "err 6 arity" ∷ codes "err 7 type"
     ∷ codes "err 8 head unbound" ∷ codes "err 9 head repeated" ∷ codes "err 10 variable type"
     ∷ codes "err 11 limit" ∷ codes "err 12 memory" ∷ codes "err 13 cut" ∷ codes "err 14 in use"
-    ∷ codes "err 16 unbound" ∷ []
+    ∷ codes "err 16 unbound" ∷ codes "err 18 batch" ∷ []
 
 abbrev pub is_fixed : Bytes → Bool
 is_fixed line = list_any (λ fixed. bytes_eq fixed line) fixed_lines

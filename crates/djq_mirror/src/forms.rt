@@ -16,8 +16,9 @@ use djq_value::{is_name, is_text};
 pub(crate) fn is_fixed(line: &[u8]) -> bool
     ensures { result ≡ is_fixed_of line.now }
 {
-    let lines: [&[u8]; 25] = [
+    let lines: [&[u8]; 27] = [
         b"ok",
+        b"ok batch",
         b"yes",
         b"no",
         b"flat",
@@ -42,6 +43,7 @@ pub(crate) fn is_fixed(line: &[u8]) -> bool
         b"err 13 cut",
         b"err 14 in use",
         b"err 16 unbound",
+        b"err 18 batch",
     ];
     lines.contains(&line)
 }
@@ -82,17 +84,21 @@ fn is_counted(words: &mut Parts<'_>) -> bool
 
 // Whether one number is told behind a word.
 fn has_one(word: &[u8]) -> bool
-    ensures { result ≡ (bytes_eq word.now (codes "absent") || bytes_eq word.now (codes "query")
-        || bytes_eq word.now (codes "watch")) }
+    ensures { result ≡ (bytes_eq word.now (codes "absent") || bytes_eq word.now (codes "held")
+        || bytes_eq word.now (codes "query") || bytes_eq word.now (codes "watch")) }
 {
-    is_text(word, b"absent") || is_text(word, b"query") || is_text(word, b"watch")
+    is_text(word, b"absent")
+        || is_text(word, b"held")
+        || is_text(word, b"query")
+        || is_text(word, b"watch")
 }
 
 // Whether two numbers are.
 fn has_two(word: &[u8]) -> bool
-    ensures { result ≡ (bytes_eq word.now (codes "added") || bytes_eq word.now (codes "removed")) }
+    ensures { result ≡ (bytes_eq word.now (codes "added") || bytes_eq word.now (codes "removed")
+        || bytes_eq word.now (codes "done")) }
 {
-    is_text(word, b"added") || is_text(word, b"removed")
+    is_text(word, b"added") || is_text(word, b"removed") || is_text(word, b"done")
 }
 
 // Whether words are those behind `no` where a rest is told.

@@ -64,7 +64,7 @@ fn refuses_what_may_not_come(rt: HostRuntime) {
 
 #[test]
 fn knows_the_forms(rt: HostRuntime) {
-    let forms: [&[u8]; 12] = [
+    let forms: [&[u8]; 16] = [
         b"=",
         b"= -9223372036854775808 \"\\\"\\n\"",
         b"ok added 7 2",
@@ -77,8 +77,12 @@ fn knows_the_forms(rt: HostRuntime) {
         b"at q 3",
         b"end slow",
         b"err 16 unbound",
+        b"err 18 batch",
+        b"ok batch",
+        b"ok held 1000",
+        b"ok done 7 2",
     ];
-    let others: [&[u8]; 16] = [
+    let others: [&[u8]; 19] = [
         b"",
         b"ok ",
         b"OK",
@@ -95,6 +99,9 @@ fn knows_the_forms(rt: HostRuntime) {
         b"no cyclic x,,y",
         b"n 0 leaf p",
         b"end now",
+        b"ok batch 1",
+        b"ok held",
+        b"ok done 7",
     ];
     let mut mirror = Mirror::new(rt.alloc(), Name::new(b"q"));
     for line in forms {

@@ -9,3 +9,4 @@ pub mod Spelled
 pub mod Making
 pub mod Rows
 pub mod Beginning
+pub mod RowWords

@@ -11,7 +11,7 @@ use Rattle.djq_lines.specs.declared.command.Command.{Command}
 use Rattle.djq_lines.specs.declared.command.Command.TheVariants.{Add as AddRow, Del as DeleteRow}
 use Rattle.djq_lines.specs.Grammar.{command_in, command_of, is_in_range, named_some, takes_memory_to_read}
 use Rattle.djq_proto.specs.Reading.{Gives, Reads, ReadsAs}
-use Rattle.djq_proto.specs.RowReading.{TakesRowWord, begins_row, named_read}
+use Rattle.djq_proto.specs.RowReading.{TakesRowWord, named_read, row_word_in}
 use Rattle.djq_proto.specs.declared.refusal.LineRefusal.{LineRefusal}
 use Rattle.djq_proto.specs.declared.refusal.LineRefusal.TheVariants.{Syntax, Range, NoMem}
 use Rattle.djq_proto.specs.declared.row.RowWord.{RowWord}
@@ -45,8 +45,8 @@ row_refused verb (Some p) Syntax h = absurd h
 row_refused verb (Some p) Range h = (ranged verb p.0 p.1 ∙ h, tt)
 row_refused verb (Some p) NoMem h = (ranged verb p.0 p.1 ∙ h, takes verb p.0 p.1)
 
--- Where such a keyword is taken, tokens begin with one.
-pub begun : (verb : RowWord) (ts rest : List Token) → TakesRowWord ts (Some verb) rest → begins_row ts ≡ true
+-- Where such a keyword is taken, tokens begin with it.
+pub begun : (verb : RowWord) (ts rest : List Token) → TakesRowWord ts (Some verb) rest → row_word_in ts ≡ Some verb
 begun Add ts rest h = h.0
 begun Del ts rest h = h.0
 

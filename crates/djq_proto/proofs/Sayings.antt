@@ -11,9 +11,9 @@ use Rattle.djq_model.specs.declared.query.Operator.{Operator}
 use Rattle.djq_model.specs.declared.query.Comparison.{Comparison}
 use Rattle.djq_model.specs.declared.query.Query.{Query}
 use Rattle.djq_lines.specs.declared.command.Command.{Command}
-use Rattle.djq_lines.specs.declared.command.Command.TheVariants.{Rel, Add, Del, Query as Register, Drop, Open, Next, Close, Has, Watch, Unwatch, Explain, Shape, Quit, Stop}
+use Rattle.djq_lines.specs.declared.command.Command.TheVariants.{Rel, Add, Del, Query as Register, Drop, Open, Next, Close, Has, Watch, Unwatch, Explain, Shape, Batch, Done, Abandon, Quit, Stop}
 use Rattle.djq_lines.specs.declared.keyword.Keyword.{Keyword}
-use Rattle.djq_lines.specs.declared.keyword.Keyword.TheVariants.{Rel as RelWord, Add as AddWord, Del as DelWord, Query as QueryWord, Drop as DropWord, Open as OpenWord, Next as NextWord, Close as CloseWord, Has as HasWord, Watch as WatchWord, Unwatch as UnwatchWord, Explain as ExplainWord, Shape as ShapeWord, Quit as QuitWord, Stop as StopWord}
+use Rattle.djq_lines.specs.declared.keyword.Keyword.TheVariants.{Rel as RelWord, Add as AddWord, Del as DelWord, Query as QueryWord, Drop as DropWord, Open as OpenWord, Next as NextWord, Close as CloseWord, Has as HasWord, Watch as WatchWord, Unwatch as UnwatchWord, Explain as ExplainWord, Shape as ShapeWord, Batch as BatchWord, Done as DoneWord, Abandon as AbandonWord, Quit as QuitWord, Stop as StopWord}
 use Rattle.djq_value.specs.Token.{Token, word, text, open_paren, close_paren, comma, arrow, operator, stray}
 use Rattle.djq_value.specs.Literal.{is_name, literal_of, natural_of}
 use Rattle.djq_lines.specs.Grammar.{all_of, Body, Item, atom, comparison, atom_in, atom_over, behind_item, body_in, command_behind, command_in, command_with, compared, comparison_of, count_of, is_count, item_in, items_in, items_within, past_item, put_item, with_atoms, keyword_of, list_in, name_and_count, name_of, named_any, named_some, nothing, one_name, query_in, query_of, term_of, two_names, type_of}
@@ -371,6 +371,9 @@ keyword_text WatchWord = codes "watch"
 keyword_text UnwatchWord = codes "unwatch"
 keyword_text ExplainWord = codes "explain"
 keyword_text ShapeWord = codes "shape"
+keyword_text BatchWord = codes "batch"
+keyword_text DoneWord = codes "done"
+keyword_text AbandonWord = codes "abandon"
 keyword_text QuitWord = codes "quit"
 keyword_text StopWord = codes "stop"
 
@@ -390,9 +393,12 @@ keyword_said w k e =
     pick (bytes_eq w (codes "unwatch")) (Some UnwatchWord) _ (Some k) e10 (λ is h. text_is w UnwatchWord k is h) (λ _ e11.
     pick (bytes_eq w (codes "explain")) (Some ExplainWord) _ (Some k) e11 (λ is h. text_is w ExplainWord k is h) (λ _ e12.
     pick (bytes_eq w (codes "shape")) (Some ShapeWord) _ (Some k) e12 (λ is h. text_is w ShapeWord k is h) (λ _ e13.
-    pick (bytes_eq w (codes "quit")) (Some QuitWord) _ (Some k) e13 (λ is h. text_is w QuitWord k is h) (λ _ e14.
-    pick (bytes_eq w (codes "stop")) (Some StopWord) None (Some k) e14 (λ is h. text_is w StopWord k is h) (λ _ e15.
-    absurd (cc))))))))))))))))
+    pick (bytes_eq w (codes "batch")) (Some BatchWord) _ (Some k) e13 (λ is h. text_is w BatchWord k is h) (λ _ e14.
+    pick (bytes_eq w (codes "done")) (Some DoneWord) _ (Some k) e14 (λ is h. text_is w DoneWord k is h) (λ _ e15.
+    pick (bytes_eq w (codes "abandon")) (Some AbandonWord) _ (Some k) e15 (λ is h. text_is w AbandonWord k is h) (λ _ e16.
+    pick (bytes_eq w (codes "quit")) (Some QuitWord) _ (Some k) e16 (λ is h. text_is w QuitWord k is h) (λ _ e17.
+    pick (bytes_eq w (codes "stop")) (Some StopWord) None (Some k) e17 (λ is h. text_is w StopWord k is h) (λ _ e18.
+    absurd (cc)))))))))))))))))))
   where
     text_is : (w : Bytes) (here k : Keyword) → bytes_eq w (keyword_text here) ≡ true → Some here ≡ Some k → w ≡ keyword_text k
     text_is w here k is h = let same : here ≡ k = cc in (bytes_eq-decides w (keyword_text here)).0 is ∙ ap keyword_text same
@@ -407,6 +413,12 @@ named_one keyword make ts c says e =
     let found = map_some make (one_name ts) c e in
     let one = one_said ts found.0 found.1 in
     subst (λ (d : Command). Says d (word keyword ∷ ts)) found.2 (says found.0 (word keyword ∷ ts) (one.0, ap (λ us. word keyword ∷ us) one.1))
+
+-- a keyword alone
+alone_said : (keyword : Bytes) (command : Command) (ts : List Token) (c : Command) → ((us : List Token) → us ≡ word keyword ∷ [] → Says command us) → nothing command ts ≡ Some c → Says c (word keyword ∷ ts)
+alone_said keyword command ts c says e =
+    let none = nothing_said command c ts e in
+    subst (λ (d : Command). Says d (word keyword ∷ ts)) none.1 (says (word keyword ∷ ts) (ap (λ us. word keyword ∷ us) none.0))
 
 behind_said : (k : Keyword) (ts : List Token) (c : Command) → command_behind k ts ≡ Some c → Says c (word (keyword_text k) ∷ ts)
 behind_said RelWord ts c e =
@@ -440,10 +452,11 @@ behind_said WatchWord ts c e = named_one (codes "watch") (λ q. Watch q) ts c (�
 behind_said UnwatchWord ts c e = named_one (codes "unwatch") (λ q. Unwatch q) ts c (λ n us s. s) e
 behind_said ExplainWord ts c e = named_one (codes "explain") (λ q. Explain q) ts c (λ n us s. s) e
 behind_said ShapeWord ts c e = named_one (codes "shape") (λ q. Shape q) ts c (λ n us s. s) e
-behind_said QuitWord ts c e =
-    let none = nothing_said Quit c ts e in subst (λ (d : Command). Says d (word (codes "quit") ∷ ts)) none.1 (ap (λ us. word (codes "quit") ∷ us) none.0)
-behind_said StopWord ts c e =
-    let none = nothing_said Stop c ts e in subst (λ (d : Command). Says d (word (codes "stop") ∷ ts)) none.1 (ap (λ us. word (codes "stop") ∷ us) none.0)
+behind_said BatchWord ts c e = alone_said (codes "batch") Batch ts c (λ us s. s) e
+behind_said DoneWord ts c e = alone_said (codes "done") Done ts c (λ us s. s) e
+behind_said AbandonWord ts c e = alone_said (codes "abandon") Abandon ts c (λ us s. s) e
+behind_said QuitWord ts c e = alone_said (codes "quit") Quit ts c (λ us s. s) e
+behind_said StopWord ts c e = alone_said (codes "stop") Stop ts c (λ us s. s) e
 
 with_said : (w : Bytes) (o : Option Keyword) (ts : List Token) (c : Command) → keyword_of w ≡ o → command_with o ts ≡ Some c → Says c (word w ∷ ts)
 with_said w None ts c is e = absurd (cc)
@@ -476,6 +489,9 @@ said_read (Watch q) ts s = ap command_in s.1 ∙ ap (option_map (λ n. Watch n))
 said_read (Unwatch q) ts s = ap command_in s.1 ∙ ap (option_map (λ n. Unwatch n)) (cond-true _ _ _ s.0)
 said_read (Explain q) ts s = ap command_in s.1 ∙ ap (option_map (λ n. Explain n)) (cond-true _ _ _ s.0)
 said_read (Shape q) ts s = ap command_in s.1 ∙ ap (option_map (λ n. Shape n)) (cond-true _ _ _ s.0)
+said_read Batch ts s = ap command_in s
+said_read Done ts s = ap command_in s
+said_read Abandon ts s = ap command_in s
 said_read Quit ts s = ap command_in s
 said_read Stop ts s = ap command_in s
 

@@ -14,7 +14,7 @@ use Rattle.djq_model.specs.declared.query.Comparison.{Comparison}
 use Rattle.djq_model.specs.declared.query.Term.{Term}
 use Rattle.djq_model.specs.declared.query.Term.TheVariants.{Variable, Hole, Constant}
 use Rattle.djq_lines.specs.declared.command.Command.{Command}
-use Rattle.djq_lines.specs.declared.command.Command.TheVariants.{Rel, Add, Del, Query as Register, Drop, Open, Next, Close, Has, Watch, Unwatch, Explain, Shape, Quit, Stop}
+use Rattle.djq_lines.specs.declared.command.Command.TheVariants.{Rel, Add, Del, Query as Register, Drop, Open, Next, Close, Has, Watch, Unwatch, Explain, Shape, Batch, Done, Abandon, Quit, Stop}
 use Rattle.djq_value.specs.Token.{Token, word, text, open_paren, close_paren, comma, arrow, operator, stray, tokens}
 use Rattle.djq_value.specs.Spelling.{HasNoStray}
 use Rattle.djq_value.proofs.Spellings.{tokens_are_spelled}
@@ -118,6 +118,9 @@ says_real (Watch q) ts s = as_real ts _ s.1 tt
 says_real (Unwatch q) ts s = as_real ts _ s.1 tt
 says_real (Explain q) ts s = as_real ts _ s.1 tt
 says_real (Shape q) ts s = as_real ts _ s.1 tt
+says_real Batch ts s = as_real ts _ s tt
+says_real Done ts s = as_real ts _ s tt
+says_real Abandon ts s = as_real ts _ s tt
 says_real Quit ts s = as_real ts _ s tt
 says_real Stop ts s = as_real ts _ s tt
 

@@ -1,5 +1,5 @@
 -- What reading a row's line, or a part of it, answers.
-use Rattle.std.specs.Prelude.{◌≡◌, ◌==◌, ◌||◌, List, [], ◌∷◌, Bool, true, false, Option, None, Some, Result, Ok, Err}
+use Rattle.std.specs.Prelude.{◌≡◌, ◌==◌, ◌||◌, List, [], ◌∷◌, Bool, false, Option, None, Some, is_some, Result, Ok, Err}
 use Rattle.std.specs.Borrow.{Bor}
 use Rattle.djq_model.specs.Data.{Bytes, Tuple}
 use Rattle.djq_lines.specs.declared.command.Command.TheVariants.{Add as AddRow, Del as DeleteRow}
@@ -14,16 +14,20 @@ use Rattle.djq_proto.specs.declared.row.RowLine.TheVariants.{Add, Del, Refused, 
 use Rattle.djq_proto.specs.declared.row.RowWord.{RowWord}
 use Rattle.djq_proto.specs.declared.row.RowWord.TheVariants.{Add as Adds, Del as Deletes}
 
--- whether a keyword is one of a row
-abbrev pub is_row_keyword : Option Keyword → Bool
-is_row_keyword (Some AddWord) = true
-is_row_keyword (Some DelWord) = true
-is_row_keyword _ = false
+-- what a keyword does with a row, where it is one of a row
+abbrev pub row_word_of : Option Keyword → Option RowWord
+row_word_of (Some AddWord) = Some Adds
+row_word_of (Some DelWord) = Some Deletes
+row_word_of _ = None
+
+-- the same of the keyword with which tokens begin
+abbrev pub row_word_in : List Token → Option RowWord
+row_word_in (word w ∷ ts) = row_word_of (keyword_of w)
+row_word_in _ = None
 
 -- whether tokens begin with such a keyword
 abbrev pub begins_row : List Token → Bool
-begins_row (word w ∷ ts) = is_row_keyword (keyword_of w)
-begins_row _ = false
+begins_row ts = is_some (row_word_in ts)
 
 -- whether a line may begin with one, by its first byte
 abbrev pub may_begin : Bytes → Bool
@@ -32,11 +36,11 @@ may_begin (b ∷ bs) = b == 32 || b == 97 || b == 100
 
 -- Such a keyword is taken from those tokens; none is given where they don't begin with one.
 abbrev pub TakesRowWord : List Token → Option RowWord → List Token → Type 0
-TakesRowWord old None new = begins_row old ≡ false
+TakesRowWord old None new = row_word_in old ≡ None
 TakesRowWord old (Some Adds) new =
-    (begins_row old ≡ true) × (command_in old ≡ command_behind AddWord new)
+    (row_word_in old ≡ Some Adds) × (command_in old ≡ command_behind AddWord new)
 TakesRowWord old (Some Deletes) new =
-    (begins_row old ≡ true) × (command_in old ≡ command_behind DelWord new)
+    (row_word_in old ≡ Some Deletes) × (command_in old ≡ command_behind DelWord new)
 
 -- the values that were read, unless they were refused
 abbrev pub values_read : {A : Type 0} → Result A LineRefusal → Tuple → Result Tuple LineRefusal
@@ -48,11 +52,12 @@ abbrev pub named_read : Result (Bor Bytes) LineRefusal → Tuple → Result (Byt
 named_read (Ok name) row = Ok (name.now, row)
 named_read (Err refusal) row = Err refusal
 
--- What reading the line of a row answers, where these values are left: it is read as any line is. A
--- line that begins with another word is told apart, and the values stay.
+-- What reading the line of a row answers, where these values are left: it is read as any line is. Of
+-- a line that is refused it is told with which keyword it begins. A line that begins with another word
+-- is told apart, and the values stay.
 abbrev pub ReadsRow : Bytes → RowLine → Tuple → Tuple → Type 0
 ReadsRow line (Add name) old new = Reads line (Ok (AddRow name.now new))
 ReadsRow line (Del name) old new = Reads line (Ok (DeleteRow name.now new))
-ReadsRow line (Refused refusal) old new =
-    (begins_row (tokens line) ≡ true) × Reads line (Err refusal)
+ReadsRow line (Refused verb refusal) old new =
+    (row_word_in (tokens line) ≡ Some verb) × Reads line (Err refusal)
 ReadsRow line Other old new = (begins_row (tokens line) ≡ false) × (new ≡ old)

@@ -13,7 +13,7 @@ use Rattle.djq_model.specs.declared.query.Comparison.{Comparison}
 use Rattle.djq_model.specs.declared.query.Query.{Query}
 use Rattle.djq_lines.specs.declared.limits.TheConstants.{NEXT_COUNT}
 use Rattle.djq_lines.specs.declared.command.Command.{Command}
-use Rattle.djq_lines.specs.declared.command.Command.TheVariants.{Rel, Add, Del, Query as Register, Drop, Open, Next, Close, Has, Watch, Unwatch, Explain, Shape, Quit, Stop}
+use Rattle.djq_lines.specs.declared.command.Command.TheVariants.{Rel, Add, Del, Query as Register, Drop, Open, Next, Close, Has, Watch, Unwatch, Explain, Shape, Batch, Done, Abandon, Quit, Stop}
 use Rattle.djq_value.specs.Token.{Token, word, text, open_paren, close_paren, comma, arrow, operator}
 use Rattle.djq_value.specs.Literal.{is_digit, is_name}
 use Rattle.djq_lines.specs.Grammar.{Item, atom, comparison, past_item}
@@ -135,5 +135,8 @@ Says (Watch q) ts = SaysOne (codes "watch") q ts
 Says (Unwatch q) ts = SaysOne (codes "unwatch") q ts
 Says (Explain q) ts = SaysOne (codes "explain") q ts
 Says (Shape q) ts = SaysOne (codes "shape") q ts
+Says Batch ts = ts ≡ word (codes "batch") ∷ []
+Says Done ts = ts ≡ word (codes "done") ∷ []
+Says Abandon ts = ts ≡ word (codes "abandon") ∷ []
 Says Quit ts = ts ≡ word (codes "quit") ∷ []
 Says Stop ts = ts ≡ word (codes "stop") ∷ []

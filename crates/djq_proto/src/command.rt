@@ -96,6 +96,9 @@ fn read_behind(
             let (query, row) = read_named_any::<Value>(alloc, lexer)?;
             Ok(Command::Has { query, row })
         }
+        Keyword::Batch => read_nothing(lexer, Command::Batch),
+        Keyword::Done => read_nothing(lexer, Command::Done),
+        Keyword::Abandon => read_nothing(lexer, Command::Abandon),
         Keyword::Quit => read_nothing(lexer, Command::Quit),
         Keyword::Stop => read_nothing(lexer, Command::Stop),
         Keyword::Explain => {

@@ -35,6 +35,12 @@ pub(crate) fn read_keyword(word: &[u8]) -> Option<Keyword>
         Some(Keyword::Explain)
     } else if is_text(word, b"shape") {
         Some(Keyword::Shape)
+    } else if is_text(word, b"batch") {
+        Some(Keyword::Batch)
+    } else if is_text(word, b"done") {
+        Some(Keyword::Done)
+    } else if is_text(word, b"abandon") {
+        Some(Keyword::Abandon)
     } else if is_text(word, b"quit") {
         Some(Keyword::Quit)
     } else if is_text(word, b"stop") {

@@ -30,7 +30,7 @@
 pub use command::read_command;
 pub use laws::{commands_are_said, commands_are_spelled};
 pub use refusal::LineRefusal;
-pub use row::{RowLine, read_row};
+pub use row::{RowLine, RowWord, read_row};
 pub use splitter::{Front, Splitter, is_blank};
 
 mod body;

@@ -24,18 +24,18 @@ pub enum RowLine<'a> {
     Add(&'a [u8]),
     /// A copy of it is to be deleted from that.
     Del(&'a [u8]),
-    /// The line begins as one of a row, and gives none.
-    Refused(LineRefusal),
+    /// The line begins as one that does this with a row, and gives none.
+    Refused(RowWord, LineRefusal),
     /// It doesn't.
     Other,
 }
 
-// What a command does with a row.
+/// What a command does with a row.
 #[derive(Clone, Copy, Debug)]
-pub(crate) enum RowWord {
-    // It adds it.
+pub enum RowWord {
+    /// It adds it.
     Add,
-    // It deletes a copy of it.
+    /// It deletes a copy of it.
     Del,
 }
 
@@ -52,14 +52,14 @@ pub fn read_row<'a>(alloc: Global, line: &'a [u8], row: &mut Vec<Value>) -> RowL
         return RowLine::Other;
     };
     if !is_utf8(line) {
-        return RowLine::Refused(LineRefusal::Syntax);
+        return RowLine::Refused(verb, LineRefusal::Syntax);
     }
     match read_named(alloc, &mut lexer, row) {
         Ok(name) => match verb {
             RowWord::Add => RowLine::Add(name),
             RowWord::Del => RowLine::Del(name),
         },
-        Err(refusal) => RowLine::Refused(refusal),
+        Err(refusal) => RowLine::Refused(verb, refusal),
     }
 }
 

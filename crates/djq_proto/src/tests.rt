@@ -20,6 +20,9 @@ fn letter(alloc: Global, line: &[u8]) -> char {
         Ok(Command::Shape { .. }) => 's',
         Ok(Command::Watch { .. }) => 'w',
         Ok(Command::Unwatch { .. }) => 'u',
+        Ok(Command::Batch) => 'b',
+        Ok(Command::Done) => 'f',
+        Ok(Command::Abandon) => 'z',
         Ok(Command::Quit) => 'x',
         Ok(Command::Stop) => 'y',
         Err(LineRefusal::Syntax) => 'S',
@@ -30,7 +33,7 @@ fn letter(alloc: Global, line: &[u8]) -> char {
 
 // Lines and what they say: a letter for each command, S for none of the grammar, R for a literal
 // past its limit.
-const LINES: [(&[u8], char); 136] = [
+const LINES: [(&[u8], char); 142] = [
     (b"rel r int", 'r'),
     (b"  rel  r_1 int   int ", 'r'),
     (b"rel rel int", 'r'),
@@ -167,6 +170,12 @@ const LINES: [(&[u8], char); 136] = [
     (b"shape q", 's'),
     (b"shape", 'S'),
     (b"shape q q", 'S'),
+    (b"batch", 'b'),
+    (b"batch q", 'S'),
+    (b" done ", 'f'),
+    (b"done 1", 'S'),
+    (b"abandon", 'z'),
+    (b"abandoned", 'S'),
     (b"quit", 'x'),
     (b"quit q", 'S'),
     (b"stop", 'y'),
@@ -180,15 +189,18 @@ fn reads_lines(rt: HostRuntime) {
 }
 
 // Lines, what they are to who reads rows, by a letter, and how many values are in the room then.
-const ROWS: [(&[u8], char, usize); 8] = [
+const ROWS: [(&[u8], char, usize); 11] = [
     (b"add r 1 -2", 'a', 2),
     (b"  del r \"a\"", 'd', 1),
     (b"drop r", '-', 1),
     (b"address r 1", '-', 1),
+    (b"done", '-', 1),
     (b"add r \"\xc3\"", 'S', 1),
     (b"add r 9223372036854775808 x", 'S', 0),
     (b"add r 9223372036854775808 7", 'R', 0),
+    (b"del r 9223372036854775808 7", 'r', 0),
     (b"del r 7 7 7", 'd', 3),
+    (b"del r 7 x", 's', 1),
 ];
 
 #[test]
@@ -198,9 +210,11 @@ fn reads_rows_into_room(rt: HostRuntime) {
         let read = match read_row(rt.alloc(), line, &mut row) {
             RowLine::Add(_) => 'a',
             RowLine::Del(_) => 'd',
-            RowLine::Refused(LineRefusal::Syntax) => 'S',
-            RowLine::Refused(LineRefusal::Range) => 'R',
-            RowLine::Refused(LineRefusal::NoMem) => 'M',
+            RowLine::Refused(RowWord::Add, LineRefusal::Syntax) => 'S',
+            RowLine::Refused(RowWord::Add, LineRefusal::Range) => 'R',
+            RowLine::Refused(RowWord::Del, LineRefusal::Syntax) => 's',
+            RowLine::Refused(RowWord::Del, LineRefusal::Range) => 'r',
+            RowLine::Refused(_, LineRefusal::NoMem) => 'M',
             RowLine::Other => '-',
         };
         assert_eq!(rt; read, want, "{}", line.escape_ascii());

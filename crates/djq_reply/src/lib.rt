@@ -9,6 +9,8 @@
 //! say_added      Ok(More(2)), at 7 changes    ok added 7 2
 //! say_deleted    Ok(Last), at 8 changes       ok removed 8 0
 //! put_registered Registered(5)                ok query 5
+//! say_held       Ok(()), with 3 rows held     ok held 3
+//! say_batch_done Ok(2), at 9 changes          ok done 9 2
 //! put_answer     the answer (1, "a")          = 1 "a"
 //! put_change     Came, q, the same            + q 1 "a"
 //! put_at         q, 7                         at q 7
@@ -32,8 +34,8 @@ pub use ending::{end_bytes, say_cut, say_end};
 pub use growing::{put_answer, put_at, put_change, put_explained, put_last};
 pub use registered::put_registered;
 pub use short::{
-    say_added, say_bye, say_deleted, say_done, say_has, say_opened, say_refused, say_shape,
-    say_stale, say_watched,
+    say_added, say_batch, say_batch_done, say_bye, say_deleted, say_done, say_has, say_held,
+    say_opened, say_refused, say_shape, say_stale, say_watched,
 };
 
 mod ending;

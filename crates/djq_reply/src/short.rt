@@ -1,9 +1,9 @@
 // Replies of at most 256 bytes, in room that was kept.
 ghost use Rattle.std.specs.Prelude.{◌≡◌, ◌+◌, ◌<◌, ◌≤◌, ◌++◌, codes, length};
 ghost use Rattle.std.specs.Fmt.{decimal};
-ghost use Rattle.djq_lines.specs.Reply.{add_reply, bye, delete_reply, has_reply, line, numbered};
-ghost use Rattle.djq_lines.specs.Reply.{numbered_twice, ok_reply, refusal_line, shape_reply};
-ghost use Rattle.djq_lines.specs.Reply.{stale_line, watch_reply};
+ghost use Rattle.djq_lines.specs.Reply.{add_reply, bye, delete_reply, done_reply, has_reply};
+ghost use Rattle.djq_lines.specs.Reply.{held_reply, line, numbered, numbered_twice, ok_reply};
+ghost use Rattle.djq_lines.specs.Reply.{refusal_line, shape_reply, stale_line, watch_reply};
 ghost use Rattle.djq_lines.specs.declared.limits.TheConstants.{LAST_LINE_BYTES, REPLY_BYTES};
 ghost use Rattle.djq_value.specs.Output.{Says};
 
@@ -55,14 +55,14 @@ fn say_with_digit(out: &mut BytesMut, words: &[u8], number: u64, digit: u8)
 
 // A line of words and two numbers, each of 20 digits at most.
 #[tactic(auto, using(crate::proofs::Digits::few_digits))]
-fn say_two_numbers(out: &mut BytesMut, words: &[u8], first: u64, second: u32)
+fn say_two_numbers(out: &mut BytesMut, words: &[u8], first: u64, second: u64)
     requires { length words.now + 42 + LAST_LINE_BYTES ≤ out.old.spare }
     ensures kept { LAST_LINE_BYTES ≤ out.new.spare }
     ensures says { Says out.old out.new (numbered_twice words.now first second) }
 {
     out.extend_reserved(words);
     extend_digits(first, digit_count(first), out);
-    say_number(out, b" ", u64::from(second));
+    say_number(out, b" ", second);
 }
 
 /// Answers a refusal.
@@ -74,7 +74,7 @@ pub fn say_refused(out: &mut BytesMut, refusal: Refusal)
     say(out, refusal_words(refusal));
 }
 
-/// Answers `rel`, `drop`, `close` and `unwatch`.
+/// Answers `rel`, `drop`, `close`, `unwatch` and `abandon`.
 pub fn say_done(out: &mut BytesMut, outcome: Result<(), Refusal>)
     requires room { REPLY_BYTES + LAST_LINE_BYTES ≤ out.old.spare }
     ensures kept { LAST_LINE_BYTES ≤ out.new.spare }
@@ -106,7 +106,7 @@ pub fn say_added(out: &mut BytesMut, outcome: Result<AddOutcome, Refusal>, seq: 
 {
     match outcome {
         Ok(AddOutcome::First) => say_with_digit(out, b"ok added ", seq, 1),
-        Ok(AddOutcome::More(copies)) => say_two_numbers(out, b"ok added ", seq, copies),
+        Ok(AddOutcome::More(copies)) => say_two_numbers(out, b"ok added ", seq, u64::from(copies)),
         Err(refusal) => say_refused(out, refusal),
     }
 }
@@ -119,7 +119,9 @@ pub fn say_deleted(out: &mut BytesMut, outcome: Result<DeleteOutcome, Refusal>, 
 {
     match outcome {
         Ok(DeleteOutcome::Last) => say_with_digit(out, b"ok removed ", seq, 0),
-        Ok(DeleteOutcome::Left(copies)) => say_two_numbers(out, b"ok removed ", seq, copies),
+        Ok(DeleteOutcome::Left(copies)) => {
+            say_two_numbers(out, b"ok removed ", seq, u64::from(copies))
+        }
         Ok(DeleteOutcome::Absent) => say_number(out, b"ok absent ", seq),
         Err(refusal) => say_refused(out, refusal),
     }
@@ -159,6 +161,42 @@ pub fn say_watched(out: &mut BytesMut, outcome: Result<(), Refusal>, seq: u64)
 {
     match outcome {
         Ok(()) => say_number(out, b"ok watch ", seq),
+        Err(refusal) => say_refused(out, refusal),
+    }
+}
+
+/// Answers `batch`.
+pub fn say_batch(out: &mut BytesMut, outcome: Result<(), Refusal>)
+    requires room { REPLY_BYTES + LAST_LINE_BYTES ≤ out.old.spare }
+    ensures kept { LAST_LINE_BYTES ≤ out.new.spare }
+    ensures says { Says out.old out.new (ok_reply (codes "ok batch") outcome) }
+{
+    match outcome {
+        Ok(()) => say(out, b"ok batch"),
+        Err(refusal) => say_refused(out, refusal),
+    }
+}
+
+/// Answers `add` in a batch, at a number of rows that it holds.
+pub fn say_held(out: &mut BytesMut, outcome: Result<(), Refusal>, held: usize)
+    requires room { REPLY_BYTES + LAST_LINE_BYTES ≤ out.old.spare }
+    ensures kept { LAST_LINE_BYTES ≤ out.new.spare }
+    ensures says { Says out.old out.new (held_reply outcome held) }
+{
+    match outcome {
+        Ok(()) => say_number(out, b"ok held ", held as u64),
+        Err(refusal) => say_refused(out, refusal),
+    }
+}
+
+/// Answers `done` with how many rows came, at a number of changes.
+pub fn say_batch_done(out: &mut BytesMut, outcome: Result<usize, Refusal>, seq: u64)
+    requires room { REPLY_BYTES + LAST_LINE_BYTES ≤ out.old.spare }
+    ensures kept { LAST_LINE_BYTES ≤ out.new.spare }
+    ensures says { Says out.old out.new (done_reply outcome seq) }
+{
+    match outcome {
+        Ok(rows) => say_two_numbers(out, b"ok done ", seq, rows as u64),
         Err(refusal) => say_refused(out, refusal),
     }
 }

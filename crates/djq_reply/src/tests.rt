@@ -11,7 +11,7 @@ use std::test::Fail;
 
 #[test]
 fn refusals_have_their_words(rt: HostRuntime) -> Result<(), Fail> {
-    let cases: [(Refusal, &[u8]); 14] = [
+    let cases: [(Refusal, &[u8]); 15] = [
         (Refusal::Syntax, b"err 1 syntax\n"),
         (Refusal::Taken, b"err 2 taken\n"),
         (Refusal::NoRelation, b"err 3 no relation\n"),
@@ -26,6 +26,7 @@ fn refusals_have_their_words(rt: HostRuntime) -> Result<(), Fail> {
         (Refusal::NoMemory, b"err 12 memory\n"),
         (Refusal::InUse, b"err 14 in use\n"),
         (Refusal::Unbound, b"err 16 unbound\n"),
+        (Refusal::Misplaced, b"err 18 batch\n"),
     ];
     for (refusal, want) in cases {
         let mut out = BytesMut::with_capacity(rt.alloc(), REPLY_BYTES + LAST_LINE_BYTES)?;
@@ -68,10 +69,16 @@ fn answers_commands(rt: HostRuntime) -> Result<(), Fail> {
     out.reserve(REPLY_BYTES + LAST_LINE_BYTES)?;
     say_stale(&mut out, &Name::new(b"c"), &Name::new(b"rel"), 5);
     out.reserve(REPLY_BYTES + LAST_LINE_BYTES)?;
+    say_batch(&mut out, Ok(()));
+    out.reserve(REPLY_BYTES + LAST_LINE_BYTES)?;
+    say_held(&mut out, Ok(()), 1000);
+    out.reserve(REPLY_BYTES + LAST_LINE_BYTES)?;
+    say_batch_done(&mut out, Ok(2), most);
+    out.reserve(REPLY_BYTES + LAST_LINE_BYTES)?;
     say_bye(&mut out);
     assert_eq!(rt;
         out.as_slice(),
-        b"ok\nok open\nok added 18446744073709551615 1\nok added 0 4294967295\nok removed 3 0\nok removed 3 12\nok absent 3\nok query 5\nyes\nno\nflat\nlinear\nok watch 33\nstale c rel 5\nbye\n".as_slice()
+        b"ok\nok open\nok added 18446744073709551615 1\nok added 0 4294967295\nok removed 3 0\nok removed 3 12\nok absent 3\nok query 5\nyes\nno\nflat\nlinear\nok watch 33\nstale c rel 5\nok batch\nok held 1000\nok done 18446744073709551615 2\nbye\n".as_slice()
     );
     Ok(())
 }

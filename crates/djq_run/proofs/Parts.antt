@@ -4,6 +4,7 @@ use Rattle.std.proofs.Common.{refl, sym, ap, ◌∙◌, subst, inl, inr, length-
 use Rattle.djq_io.specs.declared.sink.Write.{Write}
 use Rattle.djq_lines.specs.declared.answer.EndCause.{EndCause}
 use Rattle.djq_lines.specs.declared.answer.EndCause.TheVariants.{Input, Quit, Stop, Long, Slow, Memory}
+use Rattle.djq_model.specs.Data.{Bytes}
 use Rattle.djq_machine.specs.declared.machine.Stepped.TheVariants.{Ended}
 use Rattle.djq_machine.specs.State.{State}
 use Rattle.djq_machine.specs.LineStep.{LineOutcome, long, blank, slow, no_room, run}
@@ -105,8 +106,8 @@ ended_before c old new before now (Some d) e there pending h =
       input = λ i. same ∙ ap (λ k. Some k) i;
     }
 
-pub line_ended : (c : EndCause) (old new : State) (before now : Counts) → IsOpen old 1 → pending_of old 1 ≡ [] → StepGives old 1 (Ended c) new before now → LineEnded c old new before now
-line_ended c old new before now there pending h = ended_before c old new before now (cause_of old 1) refl there pending h
+pub line_ended : (c : EndCause) (old new : State) (before now : Counts) (kept : List Bytes) → IsOpen old 1 → pending_of old 1 ≡ [] → StepGives old 1 (Ended c) new before now kept → LineEnded c old new before now
+line_ended c old new before now kept there pending h = ended_before c old new before now (cause_of old 1) refl there pending h.1
 
 -- a session has one end cause
 pub one_cause : (c d : EndCause) (o : Option EndCause) → o ≡ Some c → o ≡ Some d → c ≡ d

@@ -8,22 +8,25 @@ use Rattle.djq_model.specs.Data.{Bytes, Tuple, bytes_eq, drop_first}
 use Rattle.djq_lines.specs.declared.limits.TheConstants.{SESSIONS}
 use Rattle.djq_lines.specs.declared.answer.EndCause.{EndCause}
 use Rattle.djq_lines.specs.declared.answer.EndCause.TheVariants.{Input, Memory}
-use Rattle.djq_lines.specs.Grammar.{Reading, outside, past_limit, says as says_command, reading_of}
+use Rattle.djq_lines.specs.declared.command.Command.{Command}
+use Rattle.djq_lines.specs.declared.command.Command.TheVariants.{Add, Done, Open, Next}
+use Rattle.djq_lines.specs.declared.held.HeldRow.{HeldRow}
+use Rattle.djq_lines.specs.Grammar.{Reading, says as says_command, reading_of}
 use Rattle.djq_lines.specs.Reply.{end_memory}
 use Rattle.djq_machine.specs.State.{Store, State, Session, Cursor, Position, open_at, stale, fresh, session_of, with_session, ended_by}
 use Rattle.djq_machine.specs.Stale.{outdated, outdater_of, outdated_cursor}
 use Rattle.djq_machine.specs.Changes.{RowsChange, RowsOutcome, tried, changed}
 use Rattle.djq_machine.specs.Watch.{Telling, ChangeStep}
 use Rattle.djq_machine.specs.Effect.{Effect, nothing, EndsWith, queue, queue_all}
-use Rattle.djq_machine.specs.Command.{with_watch, without_watch}
+use Rattle.djq_machine.specs.Command.{with_watch, without_watch, with_batch, without_batch}
 use Rattle.djq_machine.specs.LineStep.{LineOutcome, long, blank, slow, no_room, run, ReadStep, FrontStep, behind_line}
 use Rattle.djq_machine.specs.Step.{Event, opened, fed, stepped, took, ended, closed, FedStep, TookStep, EndedStep, Acts, with_relations, Step}
-use Rattle.djq_laws.specs.Form.{form_of, Form, asking, storing, turning, changing, ending, Turn, opens_cursor, moves_cursor, closes_cursor, starts_watching, stops_watching, Replied, is_whole, is_cut, without_cursor, Turned, DoesTurn, is_turned, is_refused, Does}
+use Rattle.djq_laws.specs.Form.{form_of, Form, asking, storing, turning, changing, ending, Turn, opens_cursor, moves_cursor, closes_cursor, starts_watching, stops_watching, opens_batch, holds_row, closes_batch, Replied, is_whole, is_cut, without_cursor, Turned, DoesTurn, is_turned, is_refused, Does}
 use Rattle.djq_laws.proofs.Changing.{all_dropped, all_mapped}
 use Rattle.djq_laws.proofs.Finding.{some_and}
-use Rattle.djq_laws.proofs.Forms.{command_does}
+use Rattle.djq_laws.proofs.Forms.{command_does, Reads, turned_down, carried_out, line_reads}
 use Rattle.djq_laws.proofs.Queueing.{session_changed, session_other}
-use Rattle.djq_laws.proofs.Rows.{rows_do}
+use Rattle.djq_laws.proofs.Doing.{closing, begun, closing_id, closing_cursors, rows_do}
 use Rattle.djq_told.proofs.Keeping.{change_keeps}
 
 abbrev pub OpenHas : (List Tuple → Bool → Type 0) → Position → Type 0
@@ -163,6 +166,11 @@ module _ (s : ℕ) (name : Bytes) (P : List Tuple → Bool → Type 0) where
       (omega (arith, less, most), all_dropped (CursorHas name P) (λ (z : Cursor). bytes_eq z.name c) y.cursors l.1)) h k
   has_turned old t x (starts_watching q) new calm h k = has_kept old new t (with_watch q) (λ y. refl) (λ y. refl) h.1 k
   has_turned old t x (stops_watching q) new calm h k = has_kept old new t (without_watch q) (λ y. refl) (λ y. refl) h k
+  has_turned old t x opens_batch new calm h k = has_kept old new t (with_batch []) (λ y. refl) (λ y. refl) h k
+  has_turned old t x (holds_row l relation row) new calm h k =
+      has_kept old new t (with_batch (h.held ++ record { line = l; relation = relation; row = row } ∷ [])) (λ y. refl)
+      (λ y. refl) h.state k
+  has_turned old t x closes_batch new calm h k = has_kept old new t without_batch (λ y. refl) (λ y. refl) h k
 
   has_turn : (old : State) (t : ℕ) (x : Session) (turn : Turn) (new : State) → ((t == s) ≡ true → IsCalm (turning turn))
       → DoesTurn old t x turn new → Has s name P old → Has s name P new
@@ -176,23 +184,42 @@ module _ (s : ℕ) (name : Bytes) (P : List Tuple → Bool → Type 0) where
       has_replied t (record old { store = h.1.store }) new h.1.replied (record { session = k.session; is = k.is; few = k.few })
   has_form (turning turn) old t x e new calm h k = has_turn old t x turn new calm h.1 k
   has_form (changing c) old t x e new calm h k =
-      let d = rows_do old t c e new h in has_change old t d.outcome d.store d.reply e new d.change k
+      let d = rows_do old t c e new h in
+      has_change (begun old t c) t d.outcome d.store d.reply e new d.change
+      (has_kept old (begun old t c) t (closing c) (closing_id c) (closing_cursors c) refl k)
   has_form ending old t x e new calm h k =
       has_ends (record old { stopped = h.1.stopped }) new t h.1.cause h.1.state
       (record { session = k.session; is = k.is; few = k.few })
 
   -- a line that opens no cursor and reads none
+  abbrev pub CommandCalm : Command → Type 0
+  CommandCalm (Open c q) = ⊥
+  CommandCalm (Next c count) = ⊥
+  CommandCalm c = Unit {0}
+
   abbrev pub ReadsCalm : Reading → Type 0
-  ReadsCalm (says_command c) = IsCalm (form_of c)
+  ReadsCalm (says_command c) = CommandCalm c
   ReadsCalm r = Unit {0}
+
+  calm_form : (batch : Option (List HeldRow)) (l : Bytes) (c : Command) → CommandCalm c → IsCalm (form_of batch l c)
+  calm_form batch l (Open c q) calm = absurd calm
+  calm_form batch l (Next c count) calm = absurd calm
+  calm_form None l (Add relation row) calm = tt
+  calm_form (Some held) l (Add relation row) calm = tt
+  calm_form None l Done calm = tt
+  calm_form (Some held) l Done calm = tt
+  calm_form batch l c calm = tt
 
   pub has_read : (old : State) (t : ℕ) (x : Session) (l : Bytes) (r : Reading) (e : Effect) (new : State)
       → ((t == s) ≡ true → ReadsCalm r) → ReadStep old t x l r e new → Has s name P old → Has s name P new
-  has_read old t x l outside e new calm h k = has_same old new h.1 k
-  has_read old t x l (past_limit c) e new calm h k = has_same old new h.1 k
-  has_read old t x l (says_command c) e new calm (true, h) k =
-      has_form (form_of c) old t x e new calm (command_does old t x c e new h) k
-  has_read old t x l (says_command c) e new calm (false, h) k = has_same old new h.1.1 k
+  has_read old t x l r e new calm h k = by (line_reads old t x l r e new h)
+    where
+      by : Reads old t x l r e new → Has s name P new
+      by (turned_down why because d) = has_same old new d.1 k
+      by (carried_out c is d) =
+          has_form (form_of x.batch l c) old t x e new
+          (λ same. calm_form x.batch l c (subst (λ (w : Reading). ReadsCalm w) is (calm same)))
+          (command_does old t x l c e new d) k
 
   pub has_line : (old : State) (t : ℕ) (rest : Bytes) → Has s name P old → Has s name P (with_session old t (behind_line rest))
   has_line old t rest h = has_kept old (with_session old t (behind_line rest)) t (behind_line rest) (λ x. refl) (λ x. refl) refl h

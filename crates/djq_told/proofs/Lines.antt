@@ -18,11 +18,11 @@ use Rattle.djq_lines.specs.declared.answer.EndLine.TheVariants.{Long, Slow, Memo
 use Rattle.djq_lines.specs.declared.answer.Shape.TheVariants.{Flat, Linear}
 use Rattle.djq_lines.specs.declared.answer.Sign.{Sign}
 use Rattle.djq_lines.specs.declared.answer.Sign.TheVariants.{Came, Went}
-use Rattle.djq_lines.specs.declared.answer.Refusal.TheVariants.{Syntax, Taken, NoRelation, NoQuery, NoCursor, Arity, WrongType, HeadUnbound, HeadRepeated, VariableType, Limit, NoMemory, InUse, Unbound}
+use Rattle.djq_lines.specs.declared.answer.Refusal.TheVariants.{Syntax, Taken, NoRelation, NoQuery, NoCursor, Arity, WrongType, HeadUnbound, HeadRepeated, VariableType, Limit, NoMemory, InUse, Unbound, Misplaced}
 use Rattle.djq_lines.specs.Reply.{line, cells_text, sign_text}
 use Rattle.djq_mirror.specs.declared.mode.TheConstants.{REPLY_LINE_BYTES}
 use Rattle.djq_mirror.specs.Inputs.{HasNoLf}
-use Rattle.djq_mirror.specs.Replies.{Reply, done, opened, added, removed, absent, registered, cyclic, not_connex, answer, more, last, stale, had, shaped, watched, changed, counted, explained, refused, ended, cut, bye, joined, reply_text, IsNumber, is_cell, are_cells, is_variable, is_label, is_edge, is_rest}
+use Rattle.djq_mirror.specs.Replies.{Reply, done, opened, added, removed, absent, batch_opened, row_held, batch_done, registered, cyclic, not_connex, answer, more, last, stale, had, shaped, watched, changed, counted, explained, refused, ended, cut, bye, joined, reply_text, IsNumber, is_cell, are_cells, is_variable, is_label, is_edge, is_rest}
 use Rattle.djq_told.specs.Lines.{IsTheLine, PrintedAreLines}
 
 -- ---- no LF
@@ -212,6 +212,11 @@ printed_are_lines (removed n m) p few =
     words_numbers (removed n m) (codes "ok removed ") n m refl (plain_bytes (codes "ok removed ") refl) (omega arith) p.0 p.1
 printed_are_lines (absent n) p few =
     words_number (absent n) (codes "ok absent ") n refl (plain_bytes (codes "ok absent ") refl) (omega arith) p
+printed_are_lines batch_opened p few = fixed batch_opened (codes "ok batch") refl refl (omega arith)
+printed_are_lines (row_held n) p few =
+    words_number (row_held n) (codes "ok held ") n refl (plain_bytes (codes "ok held ") refl) (omega arith) p
+printed_are_lines (batch_done n rows) p few =
+    words_numbers (batch_done n rows) (codes "ok done ") n rows refl (plain_bytes (codes "ok done ") refl) (omega arith) p.0 p.1
 printed_are_lines (registered n) p few =
     words_number (registered n) (codes "ok query ") n refl (plain_bytes (codes "ok query ") refl) (omega arith) p
 printed_are_lines (cyclic edges) p few =
@@ -276,6 +281,7 @@ printed_are_lines (refused Limit) p few = fixed (refused Limit) (codes "err 11 l
 printed_are_lines (refused NoMemory) p few = fixed (refused NoMemory) (codes "err 12 memory") refl refl (omega arith)
 printed_are_lines (refused InUse) p few = fixed (refused InUse) (codes "err 14 in use") refl refl (omega arith)
 printed_are_lines (refused Unbound) p few = fixed (refused Unbound) (codes "err 16 unbound") refl refl (omega arith)
+printed_are_lines (refused Misplaced) p few = fixed (refused Misplaced) (codes "err 18 batch") refl refl (omega arith)
 printed_are_lines (ended Long) p few = fixed (ended Long) (codes "end long") refl refl (omega arith)
 printed_are_lines (ended Slow) p few = fixed (ended Slow) (codes "end slow") refl refl (omega arith)
 printed_are_lines (ended Memory) p few = fixed (ended Memory) (codes "end memory") refl refl (omega arith)

@@ -12,7 +12,8 @@ use Rattle.djq_lines.specs.Conditions.{first_of, Answers, OutOfMemoryWhere}
 use Rattle.djq_lines.specs.declared.limits.TheConstants.{CURSORS}
 use Rattle.djq_lines.specs.declared.answer.EndCause.TheVariants.{Memory}
 use Rattle.djq_lines.specs.declared.answer.Refusal.{Refusal}
-use Rattle.djq_lines.specs.declared.answer.Refusal.TheVariants.{Taken, NoQuery, NoCursor, Limit, NoMemory}
+use Rattle.djq_lines.specs.declared.answer.Refusal.TheVariants.{Taken, NoQuery, NoCursor, Limit}
+use Rattle.djq_lines.specs.declared.held.HeldRow.{HeldRow}
 use Rattle.djq_lines.specs.declared.command.Command.{Command}
 use Rattle.djq_lines.specs.declared.command.Command.TheVariants.{Open, Next, Explain}
 use Rattle.djq_lines.specs.Grammar.{Reading, outside, past_limit, says as says_command, reading_of}
@@ -24,19 +25,19 @@ use Rattle.djq_machine.specs.State.{State, Session, Cursor, Position, open_at, s
 use Rattle.djq_machine.specs.Effect.{Effect, says, RefusedStep}
 use Rattle.djq_machine.specs.Watch.{is_watching}
 use Rattle.djq_machine.specs.Gives.{Gives, PositionGives, CursorsGive}
-use Rattle.djq_machine.specs.Command.{open_refusal, with_cursor, OpensTo, OpenStep, NextStep, NextStepAt}
+use Rattle.djq_machine.specs.Command.{open_refusal, with_cursor, OpensTo, OpenStep, NextStep, NextStepAt, CommandStep}
 use Rattle.djq_machine.specs.LineStep.{long, blank, slow, no_room, run, ReadStep, FrontStep, behind_line}
 use Rattle.djq_machine.specs.Step.{Event, opened, fed, stepped, took, ended, closed, Acts, Step}
 use Rattle.djq_machine.specs.Run.{Did, to_session, out}
 use Rattle.djq_machine.specs.Call.{cause_of, cause_in}
 use Rattle.djq_deltas.proofs.Deciding.{answers_are_decided}
 use Rattle.djq_laws.specs.Sound.{IsSoundState}
-use Rattle.djq_laws.specs.Watched.{IsWatcher, WatchesAlong, event_changes, line_outdater}
+use Rattle.djq_laws.specs.Watched.{IsWatcher, WatchesAlong, batch_of, event_changes, line_outdater}
 use Rattle.djq_laws.proofs.Answering.{SameAnswers}
 use Rattle.djq_laws.proofs.Changing.{all_found}
 use Rattle.djq_laws.proofs.Containing.{found_passes}
 use Rattle.djq_laws.proofs.Finding.{some_and}
-use Rattle.djq_laws.proofs.Forms.{none_holds, none_found, none_first}
+use Rattle.djq_laws.proofs.Forms.{none_holds, none_found, none_first, Reads, turned_down, carried_out, line_reads}
 use Rattle.djq_laws.proofs.Giving.{step_gives}
 use Rattle.djq_laws.proofs.Queueing.{gaining, session_changed, stepped_cause, stepped as stepped_session}
 use Rattle.djq_laws.proofs.Sounding.{step_sound}
@@ -586,24 +587,24 @@ module _ (q : Listed) (s : ℕ) (old : State) (e : Effect) (new : State) (held :
         (subst (λ (p : Listed). NextStepAt now s c p count k.position e (step.mid)) one f.2)
 
   -- a line that opens or reads a cursor changes no rows
-  talk_changes : (c : Command) → talks c ≡ true → is_some (line_outdater old s (says_command c) q) ≡ false
-  talk_changes (Open c p) k = refl
-  talk_changes (Next c count) k = refl
-  talk_changes (Explain p) k = refl
-  talk_changes c k = absurd cc
+  talk_changes : (batch : Option (List HeldRow)) (c : Command) → talks c ≡ true
+      → is_some (line_outdater old.store batch (says_command c) q) ≡ false
+  talk_changes batch (Open c p) k = refl
+  talk_changes batch (Next c count) k = refl
+  talk_changes batch (Explain p) k = refl
+  talk_changes batch c k = absurd cc
 
-  read_talks : (l : Bytes) (step : Step old (stepped s (run l)) e new) (x : Session) (is : session_of old s ≡ Some x)
+  command_talks : (l : Bytes) (step : Step old (stepped s (run l)) e new) (x : Session) (is : session_of old s ≡ Some x)
       (rest : Bytes) (same : SameAnswers old.store.relations new.store.relations q) (c : Command) → talks c ≡ true
       → MayBeSaid (listed_name q) x c
-      → ReadStep (with_session old s (behind_line rest)) s (behind_line rest x) l (says_command c) e (step.mid) → Says'
-  read_talks l step x is rest same c k may (false, h) = refuses l step x is rest same NoMemory h.1
-  read_talks l step x is rest same (Open c p) k may (true, h) =
+      → CommandStep (with_session old s (behind_line rest)) s (behind_line rest x) l c e (step.mid) → Says'
+  command_talks l step x is rest same (Open c p) k may h =
       open_goes q s old (stepped s (run l)) e new held step x rest is before.registered same
       (good l step x is rest same) gives (runs l step x is rest same) m c p may.0 may.1 h
-  read_talks l step x is rest same (Next c count) k may (true, h) =
+  command_talks l step x is rest same (Next c count) k may h =
       next_goes l step x is rest same c count (cursor_of x.cursors c) refl h
-  read_talks l step x is rest same (Explain p) k may (true, h) = absurd may
-  read_talks l step x is rest same c k may (true, h) = absurd cc
+  command_talks l step x is rest same (Explain p) k may h = absurd may
+  command_talks l step x is rest same c k may h = absurd cc
 
   reading_goes : (l : Bytes) (step : Step old (stepped s (run l)) e new) (x : Session) (is : session_of old s ≡ Some x)
       (rest : Bytes) (r : Reading) → reading_of l ≡ r → reading_talks r ≡ true → MayBeRead (listed_name q) x r
@@ -611,9 +612,20 @@ module _ (q : Listed) (s : ℕ) (old : State) (e : Effect) (new : State) (held :
   reading_goes l step x is rest outside read k may h = absurd cc
   reading_goes l step x is rest (past_limit c) read k may h = absurd cc
   reading_goes l step x is rest (says_command c) read k may h =
-      let none : event_changes q old (stepped s (run l)) ≡ false =
-      ap (λ (r : Reading). is_some (line_outdater old s r q)) read ∙ talk_changes c k in
-      read_talks l step x is rest (quiet_same l step none) c k may h
+      by (line_reads (with_session old s (behind_line rest)) s (behind_line rest x) l (says_command c) e (step.mid) h)
+    where
+      same : SameAnswers old.store.relations new.store.relations q
+      same =
+          quiet_same l step
+          (ap (λ (r : Reading). is_some (line_outdater old.store (batch_of old s) r q)) read ∙ talk_changes (batch_of old s) c k)
+
+      by : Reads (with_session old s (behind_line rest)) s (behind_line rest x) l (says_command c) e (step.mid) → Says'
+      by (turned_down why because d) = refuses l step x is rest same why d
+      by (carried_out d says h) =
+          let one : c ≡ d = cc in
+          command_talks l step x is rest same c k may
+          (subst (λ (w : Command). CommandStep (with_session old s (behind_line rest)) s (behind_line rest x) l w e (step.mid))
+          (sym one) h)
 
   run_goes : (l : Bytes) (step : Step old (stepped s (run l)) e new) → reading_talks (reading_of l) ≡ true
       → IsSomeAnd (session_of old s) (λ x. MayBeRead (listed_name q) x (reading_of l)) → Says'

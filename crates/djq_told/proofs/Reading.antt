@@ -17,7 +17,7 @@ use Rattle.djq_value.specs.Token.{Token, comma, arrow}
 use Rattle.djq_value.specs.Spelling.{IsSpelling}
 use Rattle.djq_lines.specs.declared.limits.TheConstants.{LINE_BYTES}
 use Rattle.djq_lines.specs.declared.command.Command.{Command}
-use Rattle.djq_lines.specs.declared.command.Command.TheVariants.{Rel, Add, Del, Query as Register, Drop, Open, Next, Close, Has, Watch, Unwatch, Explain, Shape, Quit, Stop}
+use Rattle.djq_lines.specs.declared.command.Command.TheVariants.{Rel, Add, Del, Query as Register, Drop, Open, Next, Close, Has, Watch, Unwatch, Explain, Shape, Batch, Done, Abandon, Quit, Stop}
 use Rattle.djq_lines.specs.Grammar.{Item, atom, comparison, past_item, is_small_term, is_small_atom, is_in_range, command_of, past_limit, says as says_command, reading_in, reading_of}
 use Rattle.djq_proto.specs.Saying.{Says, SaysAtom, SaysComparison, SaysItem, SaysItems, SaysName, SaysTerm, SaysValue, list_tokens, more_tokens, atoms_among, comparisons_among}
 use Rattle.djq_proto.proofs.Spelled.{commands_are_spelled}
@@ -40,6 +40,9 @@ IsSayableCommand (Watch q) = IsName q
 IsSayableCommand (Unwatch q) = IsName q
 IsSayableCommand (Explain q) = IsName q
 IsSayableCommand (Shape q) = IsName q
+IsSayableCommand Batch = Unit {0}
+IsSayableCommand Done = Unit {0}
+IsSayableCommand Abandon = Unit {0}
 IsSayableCommand Quit = Unit {0}
 IsSayableCommand Stop = Unit {0}
 
@@ -165,6 +168,9 @@ said_sayable (Watch q) ts s h small = s.0
 said_sayable (Unwatch q) ts s h small = s.0
 said_sayable (Explain q) ts s h small = s.0
 said_sayable (Shape q) ts s h small = s.0
+said_sayable Batch ts s h small = tt
+said_sayable Done ts s h small = tt
+said_sayable Abandon ts s h small = tt
 said_sayable Quit ts s h small = tt
 said_sayable Stop ts s h small = tt
 

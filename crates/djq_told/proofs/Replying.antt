@@ -1,8 +1,9 @@
 -- What each command that changes no rows is answered, by the forms of replies: lines that tell of no delta.
-use Rattle.std.specs.Prelude.{ℕ, List, [], ◌∷◌, ◌++◌, ◌==◌, ◌≡◌, ◌≤◌, Bool, true, false, cond, Option, None, Some, IsSomeAnd, MatchOption, Result, Ok, Err, map, codes, filter, length, All}
+use Rattle.std.specs.Prelude.{ℕ, List, [], ◌∷◌, ◌++◌, ◌==◌, ◌≡◌, ◌≤◌, ◌+◌, nat_le, ⊤, Bool, true, false, cond, Option, None, Some, IsSome, IfSome, IsSomeAnd, MatchOption, Result, Ok, Err, map, codes, filter, length, All}
 use Rattle.std.specs.List.{flat_map}
 use Rattle.std.specs.Fmt.{decimal}
 use Rattle.std.proofs.Common.{refl, sym, ap, ap₂, ◌∙◌, subst, inl, inr, arith, append_assoc, append-nil}
+use Rattle.std.proofs.lemmas.Bool.{leb-false}
 use Rattle.std.proofs.lemmas.List.Elements.{All-nil, All-cons, All-head, All-tail, All-append}
 use Rattle.djq_model.specs.declared.query.Query.{Query}
 use Rattle.djq_model.specs.Data.{Bytes, Tuple, bytes_eq}
@@ -16,7 +17,7 @@ use Rattle.djq_tree.specs.Tree.{Tree, node_at, is_out}
 use Rattle.djq_tree.specs.Explaining.{label_text, node_text, line_text, end_text}
 use Rattle.djq_lines.specs.declared.answer.EndLine.TheVariants.{Memory}
 use Rattle.djq_lines.specs.declared.answer.Refusal.{Refusal}
-use Rattle.djq_lines.specs.declared.answer.Refusal.TheVariants.{NoCursor, NoQuery}
+use Rattle.djq_lines.specs.declared.answer.Refusal.TheVariants.{NoCursor, NoQuery, Limit}
 use Rattle.djq_lines.specs.declared.answer.AddOutcome.{AddOutcome}
 use Rattle.djq_lines.specs.declared.answer.AddOutcome.TheVariants.{First, More}
 use Rattle.djq_lines.specs.declared.answer.DeleteOutcome.{DeleteOutcome}
@@ -26,19 +27,22 @@ use Rattle.djq_lines.specs.declared.rest.NamedRest.{NamedRest}
 use Rattle.djq_lines.specs.declared.rest.QueryOutcome.{QueryOutcome}
 use Rattle.djq_lines.specs.declared.rest.QueryOutcome.TheVariants.{Registered, Cyclic, NotConnex}
 use Rattle.djq_lines.specs.declared.command.Command.{Command}
-use Rattle.djq_lines.specs.declared.command.Command.TheVariants.{Rel, Add, Del, Query as Register, Drop, Open, Next, Close, Has, Watch, Unwatch, Explain, Shape as AskShape, Quit, Stop}
+use Rattle.djq_lines.specs.declared.command.Command.TheVariants.{Rel, Add, Del, Query as Register, Drop, Open, Next, Close, Has, Watch, Unwatch, Explain, Shape as AskShape, Batch, Done, Abandon, Quit, Stop}
+use Rattle.djq_lines.specs.declared.held.HeldRow.{HeldRow}
 use Rattle.djq_lines.specs.Grammar.{Reading, says as says_command}
-use Rattle.djq_lines.specs.declared.limits.TheConstants.{LINE_BYTES}
+use Rattle.djq_lines.specs.declared.limits.TheConstants.{LINE_BYTES, HELD}
+use Rattle.djq_lines.specs.Conditions.{Answers, OutOfMemoryWhere}
 use Rattle.djq_lines.specs.Hypergraph.{edges_of, head_of, variable_names}
-use Rattle.djq_lines.specs.Reply.{cells_text, line, text_of, answer_line, last_line, listing_lines, ok_reply, add_reply, delete_reply, query_reply, has_reply, shape_reply, watch_reply, edges_text, rest_line, end_memory}
-use Rattle.djq_mirror.specs.Replies.{Reply, Node, leaf, trim, meet, done, opened as cursor_opened, added, removed, absent, registered, cyclic, not_connex, answer, more, last, stale as gone_stale, had, shaped, watched, changed, counted, explained, refused, ended as is_ended, bye, joined, edges_line, reply_text, IsNumber, label_text as label_of, node_text as node_of}
+use Rattle.djq_lines.specs.Reply.{cells_text, line, text_of, answer_line, last_line, listing_lines, ok_reply, add_reply, delete_reply, query_reply, has_reply, shape_reply, watch_reply, held_reply, done_reply, edges_text, rest_line, end_memory}
+use Rattle.djq_mirror.specs.Replies.{Reply, Node, leaf, trim, meet, done, opened as cursor_opened, added, removed, absent, batch_opened, row_held, batch_done, registered, cyclic, not_connex, answer, more, last, stale as gone_stale, had, shaped, watched, changed, counted, explained, refused, ended as is_ended, bye, joined, edges_line, reply_text, IsNumber, label_text as label_of, node_text as node_of}
 use Rattle.djq_machine.specs.State.{Store, State, Session, Cursor, Position, open_at, stale, cursor_of}
 use Rattle.djq_machine.specs.Effect.{Effect, RefusedStep}
-use Rattle.djq_machine.specs.Store.{RegistersQuery, RegistersAs, RefusedLate, query_refusal}
-use Rattle.djq_machine.specs.Command.{QueryStep, NextStepAt, CloseStep, ExplainStepOf, TellsLines, explain_lines, CommandStep}
+use Rattle.djq_machine.specs.Batch.{hold_refusal, AddsBatch}
+use Rattle.djq_machine.specs.Store.{row_refusals, RegistersQuery, RegistersAs, RefusedLate, query_refusal}
+use Rattle.djq_machine.specs.Command.{AddStep, HoldStep, QueryStep, NextStepAt, CloseStep, ExplainStepOf, TellsLines, explain_lines, CommandStep}
 use Rattle.djq_laws.specs.Sound.{IsSoundStore}
 use Rattle.djq_laws.proofs.Changing.{all_found}
-use Rattle.djq_laws.proofs.Forms.{done_of}
+use Rattle.djq_laws.proofs.Forms.{done_of, none_holds}
 use Rattle.djq_laws.proofs.Finding.{some_and}
 use Rattle.djq_mirror.specs.declared.mode.Mode.{Mode}
 use Rattle.djq_mirror.specs.declared.mode.Mode.TheVariants.{Idle, Listing, Live}
@@ -50,7 +54,7 @@ use Rattle.djq_told.proofs.Printed.{IsFine, number_small, answers_fine}
 use Rattle.djq_told.proofs.Lengths.{query_weight}
 use Rattle.djq_told.proofs.Reading.{IsSayableCommand, IsShortCommand}
 use Rattle.djq_told.proofs.Resting.{rest_short, cyclic_light, connex_light, cyclic_below, connex_below}
-use Rattle.djq_told.proofs.Storing.{query_few}
+use Rattle.djq_told.proofs.Storing.{all_fail, came_few, query_few}
 
 -- A reply tells of no delta.
 abbrev pub IsPlain : Reply → Type 0
@@ -135,6 +139,36 @@ delete_form (Ok (Left copies)) n small few =
     of_form _ (removed n copies) refl (λ name. refl) (λ u. ((small u, few copies refl u), tt))
 delete_form (Ok Absent) n small few = of_form _ (absent n) refl (λ name. refl) (λ u. (small u, tt))
 delete_form (Err r) n small few = of_form _ (refused r) refl (λ name. refl) (λ u. (tt, tt))
+
+held_form : {A : Type 0} {U : Type 0} (result : Result A Refusal) (n : ℕ) → ((a : A) → result ≡ Ok a → IsNumber n)
+    → OfForm (held_reply result n) false U
+held_form (Ok a) n few = of_form _ (row_held n) refl (λ name. refl) (λ u. (few a refl, tt))
+held_form (Err r) n few = of_form _ (refused r) refl (λ name. refl) (λ u. (tt, tt))
+
+pub done_form : {U : Type 0} (result : Result ℕ Refusal) (n : ℕ) → (U → IsNumber n)
+    → ((rows : ℕ) → result ≡ Ok rows → U → IsNumber rows) → OfForm (done_reply result n) false U
+done_form (Ok rows) n small few =
+    of_form _ (batch_done n rows) refl (λ name. refl) (λ u. ((small u, few rows refl u), tt))
+done_form (Err r) n small few = of_form _ (refused r) refl (λ name. refl) (λ u. (tt, tt))
+
+-- a batch that isn't too long: the rows that come of it, and one more that it holds
+pub rows_small : (old : Store) (held : List HeldRow) (r : Result ℕ Refusal) (new : Store) → AddsBatch old held r new
+    → length held ≤ HELD → (rows : ℕ) → r ≡ Ok rows → IsNumber rows
+rows_small old held r new h few rows e =
+    let k = subst (λ (z : Result ℕ Refusal). AddsBatch old held z new) e h in
+    let is = k.1 in
+    let most = came_few old held in
+    omega (arith, is, most, few)
+
+held_small : (old : Store) (held : List HeldRow) (name : Bytes) (row : Tuple) (r : Result ⊤ Refusal)
+    → Answers (hold_refusal old held name row) r (λ _. ⊤) (OutOfMemoryWhere ⊤) → (a : ⊤) → r ≡ Ok a
+    → IsNumber (length held + 1)
+held_small old held name row r answered a e =
+    let k = subst (λ (z : Result ⊤ Refusal). Answers (hold_refusal old held name row) z (λ _. ⊤) (OutOfMemoryWhere ⊤)) e answered in
+    let none = none_holds (hold_refusal old held name row) a (λ _. ⊤) (OutOfMemoryWhere ⊤) k in
+    let fails = all_fail (row_refusals old name row ++ (nat_le HELD (length held), Limit) ∷ []) none in
+    let below = leb-false HELD (length held) fails.1.1.1.0 in
+    omega (arith, below)
 
 -- edges by the names of their variables
 pub listed_joined : (names : List Bytes) (xs : List ℕ) → listed names xs ≡ flat_map (λ y. 44 ∷ y) (map (name_at names) xs)
@@ -373,11 +407,13 @@ abbrev pub ExplainsNone : Reading → Type 0
 ExplainsNone (says_command (Explain q)) = ⊥
 ExplainsNone r = Unit {0}
 
--- A line of session t is run over such names and values; and it explains no query to session s.
+-- A line of session t is run over such names and values, and its batch isn't too long; and it explains no
+-- query to session s.
 pub record Fits (s t : ℕ) (old : Store) (y : Session) (r : Reading) (e : Effect) (new : Store) : Type 0 where
   pub sound : IsSoundStore old
   pub before : IsSayableStore old
   pub session : IsSayableSession y
+  pub few : IfSome y.batch (λ held. length held ≤ HELD)
   pub behind : IsSayableStore new
   pub said : IsSayableReading r
   pub no_tree : (t == s) ≡ true → ExplainsNone r
@@ -469,11 +505,21 @@ register_replies s old t x q e new h =
     (λ rest k u. connex_fine old.store q h.result h.store h.done u.0.said.0 u.0.said.1 rest k))
     (ap (λ (y : Effect). y.queued) h.effect)
 
--- A command is none of rows.
-abbrev pub IsRowless : Command → Type 0
-IsRowless (Add name row) = ⊥
-IsRowless (Del name row) = ⊥
-IsRowless c = Unit {0}
+-- A command changes no rows: none of rows, but an `add` in a batch.
+abbrev pub IsRowless : Option (List HeldRow) → Command → Type 0
+IsRowless batch (Add name row) = IsSome batch
+IsRowless batch (Del name row) = ⊥
+IsRowless batch Done = ⊥
+IsRowless batch c = Unit {0}
+
+pub held_replies : {U : Type 0} (old : State) (t : ℕ) (batch : Option (List HeldRow)) (l name : Bytes) (row : Tuple)
+    (e : Effect) (new : State) → IsSome batch
+    → MatchOption batch (AddStep old t name row e new) (λ held. HoldStep old t held l name row e new)
+    → Replies t e.queued false U
+held_replies old t None l name row e new some h = absurd cc
+held_replies old t (Some held) l name row e new some h =
+    one_line t _ e.queued _ (held_form h.result (length held + 1) (held_small old.store held name row h.result h.answer))
+    (ap (λ (y : Effect). y.queued) h.effect)
 
 -- whether its replies are of a listing, or end as one
 abbrev pub talks : Command → Bool
@@ -482,36 +528,43 @@ talks (Next c count) = true
 talks (Explain q) = true
 talks c = false
 
-pub command_replies : (s : ℕ) (old : State) (t : ℕ) (x : Session) (c : Command) (e : Effect) (new : State) → IsRowless c
-    → CommandStep old t x c e new → Replies t e.queued (talks c) (Own s t old.store x (says_command c) e new.store)
-command_replies s old t x (Rel name types) e new rowless h =
+pub command_replies : (s : ℕ) (old : State) (t : ℕ) (x : Session) (l : Bytes) (c : Command) (e : Effect) (new : State)
+    → IsRowless x.batch c
+    → CommandStep old t x l c e new → Replies t e.queued (talks c) (Own s t old.store x (says_command c) e new.store)
+command_replies s old t x l (Rel name types) e new rowless h =
     one_line t _ e.queued _ (ok_form (codes "ok") done refl (λ name. refl) (tt, tt) h.result) (ap (λ (y : Effect). y.queued) h.effect)
-command_replies s old t x (Add name row) e new rowless h = absurd rowless
-command_replies s old t x (Del name row) e new rowless h = absurd rowless
-command_replies s old t x (Register q) e new rowless (inl h) = register_replies s old t x q e new h
-command_replies s old t x (Register q) e new rowless (inr h) =
+command_replies s old t x l (Add name row) e new rowless h = held_replies old t x.batch l name row e new rowless h
+command_replies s old t x l (Del name row) e new rowless h = absurd rowless
+command_replies s old t x l (Register q) e new rowless (inl h) = register_replies s old t x q e new h
+command_replies s old t x l (Register q) e new rowless (inr h) =
     one_line t end_memory e.queued _ memory_form (ap (λ (y : Effect). y.queued) h.ends.0)
-command_replies s old t x (Drop q) e new rowless h =
+command_replies s old t x l (Drop q) e new rowless h =
     one_line t _ e.queued _ (ok_form (codes "ok") done refl (λ name. refl) (tt, tt) h.result) (ap (λ (y : Effect). y.queued) h.effect)
-command_replies s old t x (Open c q) e new rowless h =
+command_replies s old t x l (Open c q) e new rowless h =
     one_line t _ e.queued _ (ok_form (codes "ok open") cursor_opened refl (λ name. refl) (tt, tt) h.result)
     (ap (λ (y : Effect). y.queued) h.effect)
-command_replies s old t x (Next c count) e new rowless h = next_replies s old t x c count e new (cursor_of x.cursors c) refl h
-command_replies s old t x (Close c) e new rowless h = close_replies old t c (cursor_of x.cursors c) e new h
-command_replies s old t x (Has q row) e new rowless h =
+command_replies s old t x l (Next c count) e new rowless h = next_replies s old t x c count e new (cursor_of x.cursors c) refl h
+command_replies s old t x l (Close c) e new rowless h = close_replies old t c (cursor_of x.cursors c) e new h
+command_replies s old t x l (Has q row) e new rowless h =
     one_line t _ e.queued _ (has_form h.result) (ap (λ (y : Effect). y.queued) h.effect)
-command_replies s old t x (Watch q) e new rowless h =
+command_replies s old t x l (Watch q) e new rowless h =
     one_line t _ e.queued _ (watch_form h.result old.store.seq (λ u. number_small old.store.seq u.0.before.seq))
     (ap (λ (y : Effect). y.queued) h.effect)
-command_replies s old t x (Unwatch q) e new rowless h =
+command_replies s old t x l (Unwatch q) e new rowless h =
     one_line t _ e.queued _ (ok_form (codes "ok") done refl (λ name. refl) (tt, tt) h.result) (ap (λ (y : Effect). y.queued) h.effect)
-command_replies s old t x (Explain q) e new rowless h =
+command_replies s old t x l (Explain q) e new rowless h =
     explain_replies old t (listed_of old.store.queries q) e new (λ u. u.0.no_tree u.1) h
-command_replies s old t x (AskShape q) e new rowless h =
+command_replies s old t x l (AskShape q) e new rowless h =
     one_line t _ e.queued _ (shape_form h.result) (ap (λ (y : Effect). y.queued) h.effect)
-command_replies s old t x Quit e new rowless h =
+command_replies s old t x l Batch e new rowless h =
+    one_line t _ e.queued _ (ok_form (codes "ok batch") batch_opened refl (λ name. refl) (tt, tt) h.result)
+    (ap (λ (y : Effect). y.queued) h.effect)
+command_replies s old t x l Done e new rowless h = absurd rowless
+command_replies s old t x l Abandon e new rowless h =
+    one_line t _ e.queued _ (of_form _ done refl (λ name. refl) (λ u. (tt, tt))) (ap (λ (y : Effect). y.queued) h.0)
+command_replies s old t x l Quit e new rowless h =
     one_line t _ e.queued _ (of_form _ bye refl (λ name. refl) (λ u. (tt, tt))) (ap (λ (y : Effect). y.queued) h.0)
-command_replies s old t x Stop e new rowless h =
+command_replies s old t x l Stop e new rowless h =
     one_line t _ e.queued _ (of_form _ bye refl (λ name. refl) (λ u. (tt, tt))) (ap (λ (y : Effect). y.queued) h.0)
 
 pub refused_replies : {U : Type 0} (old : State) (s : ℕ) (r : Refusal) (e : Effect) (new : State) → RefusedStep old s r e new

@@ -1,5 +1,5 @@
 -- What commands make of the store has names, and values within their limits.
-use Rattle.std.specs.Prelude.{ℕ, List, [], ◌∷◌, ◌==◌, ◌&&◌, ◌||◌, ◌≡◌, ◌≤◌, ◌++◌, ◌⊎◌, Bool, true, false, not, cond, nat_le, nat_lt, length, Option, None, Some, is_some, Result, Ok, Err, map, All, Contains, ⊤}
+use Rattle.std.specs.Prelude.{ℕ, zero, suc, ◌+◌, ◌<◌, ◌≢◌, List, [], ◌∷◌, ◌==◌, ◌&&◌, ◌||◌, ◌≡◌, ◌≤◌, ◌++◌, ◌⊎◌, Bool, true, false, not, cond, nat_le, nat_lt, length, Option, None, Some, is_some, Result, Ok, Err, map, All, Contains, ⊤}
 use Rattle.std.specs.List.{list_any}
 use Rattle.std.proofs.Common.{refl, sym, ap, ◌∙◌, subst, inl, inr, arith}
 use Rattle.std.proofs.lemmas.Bool.{eq-eqb, leb-false, ltb-false}
@@ -17,7 +17,7 @@ use Rattle.djq_model.specs.Data.{Bytes, Tuple, bytes_eq, tuple_eq, drop_first, r
 use Rattle.djq_model.specs.Equality.{bytes_eq-decides}
 use Rattle.djq_model.specs.Answer.{Assignment, StandsFor, StandForAll, Satisfies}
 use Rattle.djq_model.specs.Listed.{Listed, a_query, listed_name, AnswersOf, listed_of}
-use Rattle.djq_model.specs.Known.{texts_in}
+use Rattle.djq_model.specs.Known.{texts_in, all_learned}
 use Rattle.djq_model.proofs.Counted.{tuples_with_row, tuples_with_copies, tuples_without, tuples_moved}
 use Rattle.djq_lines.specs.Conditions.{first_of, OutOfMemoryWhere}
 use Rattle.djq_lines.specs.QueryFault.{is_too_large, query_faults}
@@ -35,14 +35,17 @@ use Rattle.djq_deltas.specs.Finite.{IsBound}
 use Rattle.djq_deltas.proofs.Lists.{nothing_there, first_or_later, first_there, later_there, hold_each}
 use Rattle.djq_machine.specs.State.{Store}
 use Rattle.djq_machine.specs.Store.{RefusedByTexts, RefusedLate, RegistersAs, MakesRelation, RegistersQuery, DropsQuery, AddsRow, AddsAs, DeletesRow, DeletesAs, with_rows, with_copies_of, copies_of, row_refusals, rel_refusal, query_refusal, drop_refusal, add_refusal, delete_refusal}
+use Rattle.djq_machine.specs.Batch.{is_there, with_held, with_all, count_came, HavePlaces, AddsBatch}
 use Rattle.djq_machine.specs.Step.{SameRelations}
+use Rattle.djq_lines.specs.declared.held.HeldRow.{HeldRow}
 use Rattle.djq_laws.specs.Form.{LearnsTexts}
 use Rattle.djq_laws.proofs.Forms.{done_of, none_holds, stays_learned, late_learned, refused_learned}
+use Rattle.djq_laws.proofs.Batches.{all_gain, is_behind, not_batched}
 use Rattle.djq_laws.proofs.Changing.{all_changed, all_found, all_dropped}
 use Rattle.djq_laws.proofs.Answering.{none_pass}
 use Rattle.djq_laws.proofs.Apart.{without_dropped}
 use Rattle.djq_laws.proofs.Containing.{mapped_from}
-use Rattle.djq_told.specs.Sayable.{IsName, IsSayableValue, IsSayableRow, IsSayableRelation, IsSayableQuery, IsAskable, IsSayableListed, IsSayableStore}
+use Rattle.djq_told.specs.Sayable.{IsName, IsSayableValue, IsSayableRow, IsSayableRelation, IsSayableQuery, IsAskable, IsSayableListed, IsSayableHeld, IsSayableStore}
 
 -- ---- conditions that all fail
 
@@ -216,6 +219,95 @@ del_sayable old name row (Ok Absent) new h s =
     let d = done_of (delete_refusal old name row) Absent (DeletesAs old name row new) (OutOfMemoryWhere ⊥) h.answer in
     subst IsSayableStore (sym d.1) s
 del_sayable old name row (Err r) new h s = subst IsSayableStore (sym h.stays) s
+
+-- ---- batches
+
+-- the store with a held row more, by whether it is there
+abbrev behind_one : Store → HeldRow → Bool → Store
+behind_one st h b = cond b (record st {
+  relations = with_copies_of st.relations h.relation h.row (copies_of st h.relation h.row + 1);
+}) (record st {
+  relations = with_rows st.relations h.relation (with_row (counted_of st.relations h.relation) h.row);
+  texts = all_learned st.texts (texts_in h.row);
+})
+
+held_sayable : (st : Store) (h : HeldRow) → IsSayableHeld h → All IsSayableRelation st.relations
+    → All IsSayableRelation (with_held st h).relations
+held_sayable st h said all = by (is_there st h)
+  where
+    by : (b : Bool) → All IsSayableRelation (behind_one st h b).relations
+    by true = other_copies st.relations h.relation h.row (copies_of st h.relation h.row + 1) all
+    by false =
+        let before = counted_of st.relations h.relation in
+        other_rows st.relations h.relation (with_row before h.row) all
+        (subst (λ (ts : List Tuple). All IsSayableRow ts) (sym (tuples_with_row before h.row))
+        (All-push IsSayableRow (tuples_of before) h.row (rows_sayable st.relations h.relation all) said.row))
+
+all_held_sayable : (st : Store) (held : List HeldRow) → All IsSayableHeld held → All IsSayableRelation st.relations
+    → All IsSayableRelation (with_all st held).relations
+all_held_sayable st [] said all = all
+all_held_sayable st (h ∷ hs) said all =
+    all_held_sayable (with_held st h) hs (All-tail IsSayableHeld h hs said)
+    (held_sayable st h (All-head IsSayableHeld h hs said) all)
+
+held_seq : (st : Store) (h : HeldRow) → (with_held st h).seq ≡ st.seq
+held_seq st h = by (is_there st h)
+  where
+    by : (b : Bool) → (behind_one st h b).seq ≡ st.seq
+    by true = refl
+    by false = refl
+
+-- where a row came, one more change may be counted
+came_below : (st : Store) (held : List HeldRow) → HavePlaces st held → count_came st held ≢ 0 → st.seq < LAST_SEQ
+came_below st [] places some = absurd (some refl)
+came_below st (h ∷ hs) places some =
+    by (is_there st h) refl some (λ k. came_below (with_held st h) hs places.2 k)
+  where
+    absent_below : is_there st h ≡ false → st.seq < LAST_SEQ
+    absent_below absent =
+        let fails = all_fail ((nat_le COPIES (copies_of st h.relation h.row), Limit)
+        ∷ (not (is_there st h) && nat_le ROWS (length (rows_of st.relations h.relation)), Limit)
+        ∷ (not (is_there st h) && nat_le LAST_SEQ st.seq, Limit) ∷ []) places.0 in
+        leb-false LAST_SEQ st.seq
+        (second_fails (not (is_there st h)) (nat_le LAST_SEQ st.seq) (ap not absent) fails.1.1.0)
+
+    by : (b : Bool) → is_there st h ≡ b → cond b 0 1 + count_came (with_held st h) hs ≢ 0
+        → (count_came (with_held st h) hs ≢ 0 → (with_held st h).seq < LAST_SEQ) → st.seq < LAST_SEQ
+    by true there k more =
+        let below = more (λ none. k (omega (arith, none))) in
+        let same = held_seq st h in
+        omega (arith, below, same)
+    by false absent k more = absent_below absent
+
+pub done_sayable : (old : Store) (held : List HeldRow) (r : Result ℕ Refusal) (new : Store) → AddsBatch old held r new
+    → All IsSayableHeld held → IsSayableStore old → IsSayableStore new
+done_sayable old held (Ok zero) new h said s =
+    subst IsSayableStore (sym (h.2 ∙ is_behind old held zero h.1 ∙ (all_gain old held h.0).store)) (record {
+      relations = all_held_sayable old held said s.relations;
+      queries = s.queries;
+      seq = s.seq;
+    })
+done_sayable old held (Ok (suc n)) new h said s =
+    let some : count_came old held ≢ 0 = λ none. let is = h.1 in omega (arith, is, none) in
+    let below = came_below old held h.0 some in
+    subst IsSayableStore
+    (sym (h.2 ∙ is_behind old held (suc n) h.1
+    ∙ ap (λ (st : Store). record st { seq = old.seq + 1 }) (all_gain old held h.0).store)) (record {
+      relations = all_held_sayable old held said s.relations;
+      queries = s.queries;
+      seq = omega (arith, below);
+    })
+done_sayable old held (Err r) new h said s = learned_sayable old new (not_batched old held r new h) s
+
+-- no more rows come than are held
+pub came_few : (st : Store) (held : List HeldRow) → count_came st held ≤ length held
+came_few st [] = omega arith
+came_few st (h ∷ hs) = by (is_there st h) (came_few (with_held st h) hs)
+  where
+    by : (b : Bool) → count_came (with_held st h) hs ≤ length hs
+        → cond b 0 1 + count_came (with_held st h) hs ≤ length (h ∷ hs)
+    by true k = omega (arith, k)
+    by false k = omega (arith, k)
 
 -- each variable of the head of a query that isn't refused stands in its body
 some_pass : {A : Type 0} (p : A → Bool) (xs : List A) → list_any p xs ≡ true → (x : A) × Contains xs x × (p x ≡ true)

@@ -1,5 +1,5 @@
 -- Along a run in which a session watches a query it is told its deltas, and nothing else of it.
-use Rattle.std.specs.Prelude.{ℕ, List, [], ◌∷◌, ◌++◌, ◌==◌, ◌≡◌, ◌≢◌, ◌<◌, ◌≤◌, ◌+◌, ◌⊎◌, ◌&&◌, length, Bool, true, false, not, cond, filter, Option, None, Some, is_some, MatchOption, option_map, map, Result, All, AllPairs}
+use Rattle.std.specs.Prelude.{ℕ, List, [], ◌∷◌, ◌++◌, ◌==◌, ◌≡◌, ◌≢◌, ◌<◌, ◌≤◌, ◌+◌, ◌⊎◌, ◌&&◌, length, Bool, true, false, not, cond, filter, Option, None, Some, is_some, IfSome, MatchOption, option_map, map, Result, All, AllPairs}
 use Rattle.std.specs.List.{list_any, flat_map}
 use Rattle.std.proofs.Common.{refl, sym, ap, ap₂, ◌∙◌, subst, inl, inr, arith, append-nil}
 use Rattle.std.proofs.lemmas.Bool.{eqb-true, eq-eqb, ne_eqb}
@@ -8,7 +8,7 @@ use Rattle.djq_model.specs.declared.relation.Relation.{Relation}
 use Rattle.djq_model.specs.Data.{Bytes, Tuple, bytes_eq}
 use Rattle.djq_model.specs.Answer.{IsListing}
 use Rattle.djq_model.specs.Listed.{Listed, listed_name, AnswersOf, listed_of}
-use Rattle.djq_lines.specs.declared.limits.TheConstants.{LAST_SEQ, LINE_BYTES}
+use Rattle.djq_lines.specs.declared.limits.TheConstants.{LAST_SEQ, LINE_BYTES, HELD}
 use Rattle.djq_lines.specs.declared.answer.AddOutcome.{AddOutcome}
 use Rattle.djq_lines.specs.declared.answer.DeleteOutcome.{DeleteOutcome}
 use Rattle.djq_lines.specs.declared.answer.Refusal.{Refusal}
@@ -17,17 +17,19 @@ use Rattle.djq_lines.specs.declared.answer.EndCause.TheVariants.{Input, Memory}
 use Rattle.djq_lines.specs.declared.answer.EndLine.TheVariants.{Long as long_line, Slow as slow_line, Memory as memory_line}
 use Rattle.djq_lines.specs.declared.answer.Sign.{Sign}
 use Rattle.djq_lines.specs.declared.answer.Sign.TheVariants.{Came, Went}
-use Rattle.djq_lines.specs.declared.answer.Refusal.TheVariants.{Syntax, WrongType, NoMemory}
-use Rattle.djq_lines.specs.declared.command.Command.TheVariants.{Add, Del}
+use Rattle.djq_lines.specs.declared.held.HeldRow.{HeldRow}
+use Rattle.djq_lines.specs.declared.command.Command.{Command}
+use Rattle.djq_lines.specs.declared.command.Command.TheVariants.{Add, Del, Done}
 use Rattle.djq_lines.specs.Grammar.{Reading, outside, past_limit, says as says_command, reading_of}
-use Rattle.djq_lines.specs.Reply.{end_long, end_slow, end_memory, input_cut}
+use Rattle.djq_lines.specs.Reply.{add_reply, delete_reply, done_reply, end_long, end_slow, end_memory, input_cut}
 use Rattle.djq_mirror.specs.Replies.{Reply, changed as changes_answer, counted, ended as is_ended, cut, IsNumber}
 use Rattle.djq_machine.specs.State.{Store, State, Session, session_of, with_session, ended_by}
 use Rattle.djq_machine.specs.Store.{AddsRow, DeletesRow}
 use Rattle.djq_machine.specs.Effect.{Effect, nothing, says, EndsWith}
 use Rattle.djq_machine.specs.Delta.{Change, HasChanged, IsDelta}
 use Rattle.djq_machine.specs.Changes.{RowsOutcome, accepted, out_of_memory, unchanged, is_accepted, is_outdated, row_in, row_out, add_outcome, delete_outcome}
-use Rattle.djq_machine.specs.Stale.{by_relation}
+use Rattle.djq_machine.specs.Batch.{AddsBatch, batch_outcome}
+use Rattle.djq_machine.specs.Command.{without_batch, AddStep, HoldStep, DoneStep, CommandStep}
 use Rattle.djq_machine.specs.LineStep.{LineOutcome, long, blank, slow, no_room, run, ReadStep, FrontStep, behind_line}
 use Rattle.djq_machine.specs.Step.{Event, opened, fed, stepped, took, ended, closed, FedStep, TookStep, EndedStep, Acts, with_relations, Step}
 use Rattle.djq_machine.specs.Run.{Did, to_session, out}
@@ -35,14 +37,17 @@ use Rattle.djq_machine.specs.Call.{cause_of, cause_in}
 use Rattle.djq_machine.specs.Watch.{is_watching, Delta, ChangeStep}
 use Rattle.djq_laws.specs.Added.{added_up}
 use Rattle.djq_laws.specs.Rising.{AreRising}
-use Rattle.djq_laws.specs.Sound.{AreApart, IsSoundState}
-use Rattle.djq_laws.specs.Watched.{IsWatcher, WatchesAlong, line_outdater, event_changes, number_by, numbers_along, Told, all_added_up}
+use Rattle.djq_laws.specs.Form.{RowCommand, row_comes, row_goes, rows_come}
+use Rattle.djq_laws.specs.Sound.{AreApart, IsSoundBatch, IsSoundStore, IsSoundSession, IsSoundState}
+use Rattle.djq_laws.specs.Watched.{IsWatcher, WatchesAlong, batch_in, add_outdater, done_outdater, line_outdater, event_changes, number_by, numbers_along, Told, all_added_up}
 use Rattle.djq_laws.proofs.Adding.{deltas_add_up}
 use Rattle.djq_laws.proofs.Answering.{SameAnswers, reordered_same}
 use Rattle.djq_laws.proofs.Changing.{all_found}
 use Rattle.djq_laws.proofs.Finding.{some_and}
 use Rattle.djq_laws.proofs.Queueing.{session_changed, session_other, stepped_cause}
-use Rattle.djq_laws.proofs.Rows.{RowsMade, added, deleted}
+use Rattle.djq_laws.proofs.Batches.{batched}
+use Rattle.djq_laws.proofs.Forms.{Reads, turned_down, carried_out, line_reads}
+use Rattle.djq_laws.proofs.Rows.{RowsMade, outdater_by, added, deleted}
 use Rattle.djq_laws.proofs.Sounding.{step_sound}
 use Rattle.djq_laws.proofs.Watched.{watchers_have_answers}
 use Rattle.djq_laws.proofs.Watching.{StepTells, is_quiet, is_told, change_store, queued_store, step_tells}
@@ -54,7 +59,7 @@ use Rattle.djq_told.proofs.Reading.{read_sayable, read_short}
 use Rattle.djq_told.proofs.Sayable.{front_kept}
 use Rattle.djq_told.proofs.Exactly.{all_unmapped, pairs_unmapped, told_one, told_none}
 use Rattle.djq_told.proofs.Hearing.{heard, all_heard, own_replies, text_append, changed_ids, change_heard}
-use Rattle.djq_told.proofs.Replying.{IsPlain, IsHarmless, harmless_form, ExplainsNone, IsSayableReading, Fits, Replies, OfForm, of_form, any_talk, add_form, delete_form, one_line, talks, command_replies, refused_replies, none_of}
+use Rattle.djq_told.proofs.Replying.{IsPlain, IsHarmless, harmless_form, ExplainsNone, IsSayableReading, Fits, Replies, OfForm, of_form, any_talk, add_form, delete_form, done_form, rows_small, one_line, talks, held_replies, command_replies, refused_replies, none_of}
 
 -- ---- answers over rows in another order
 
@@ -223,12 +228,12 @@ heard_fine before after b a ws n small (d ∷ ds) said are =
     by false = All-nil IsFine
 
 all_heard_fine : (old : State) (t : ℕ) (outcome : RowsOutcome) (store : Store) (reply : Bytes) (e : Effect) (mid : State)
-    → (outdater : Listed → Option Bytes) → RowsMade outdater old.store outcome store
+    → (c : RowCommand) → RowsMade c old.store outcome store
     → (h : ChangeStep old t outcome store reply e mid) → IsSayableStore old.store → IsSayableStore store → (ws : List Bytes)
     → All IsFine (all_heard ws store.seq (cond (is_accepted outcome) h.deltas []))
-all_heard_fine old t unchanged store reply e mid outdater made h before behind ws = All-nil IsFine
-all_heard_fine old t (out_of_memory change) store reply e mid outdater made h before behind ws = All-nil IsFine
-all_heard_fine old t (accepted change) store reply e mid outdater made h before behind ws =
+all_heard_fine old t unchanged store reply e mid c made h before behind ws = All-nil IsFine
+all_heard_fine old t (out_of_memory change) store reply e mid c made h before behind ws = All-nil IsFine
+all_heard_fine old t (accepted change) store reply e mid c made h before behind ws =
     let after = subst (λ (rs : List Relation). All IsSayableRelation rs) (ap (λ (st : Store). st.relations) made.store)
     behind.relations in
     heard_fine old.store.relations change.after before.relations after ws store.seq (number_small store.seq behind.seq) h.deltas
@@ -258,14 +263,14 @@ module _ (q : Listed) (s : ℕ) (old : State) (x : Session) (is : session_of old
   own_harmless false r h = All-nil IsHarmless
 
   -- the replies, and which of them tell of the query
-  change_says : (t : ℕ) (y : Session) (r : Reading) (outcome : RowsOutcome) (store : Store) (reply : Bytes) (e : Effect)
-      (mid : State) (f : OfForm reply false (Fits s t old.store y r e mid.store)) → mid.store ≡ store → (new : Store) → (outdater : Listed → Option Bytes) → RowsMade outdater old.store outcome store
+  pub change_says : (t : ℕ) (y : Session) (r : Reading) (outcome : RowsOutcome) (store : Store) (reply : Bytes) (e : Effect)
+      (mid : State) (f : OfForm reply false (Fits s t old.store y r e mid.store)) → mid.store ≡ store → (new : Store) → (c : RowCommand) → RowsMade c old.store outcome store
       → SameAnswers store.relations new.relations q → new.seq ≡ store.seq
       → ChangeStep old t outcome store reply e mid → cause_of mid s ≡ None
-      → StepTells q s old.store new e.queued (is_some (outdater q))
+      → StepTells q s old.store new e.queued (is_some (outdater_by old.store c q))
       → (talk : Bool)
-      → StepSays q s old.store new e.queued (is_some (outdater q)) talk (Fits s t old.store y r e mid.store)
-  change_says t y r outcome store reply e mid f left new outdater made same seq h running tells talk =
+      → StepSays q s old.store new e.queued (is_some (outdater_by old.store c q)) talk (Fits s t old.store y r e mid.store)
+  change_says t y r outcome store reply e mid f left new c made same seq h running tells talk =
       record {
         replies = all_heard x.watches store.seq (cond (is_accepted outcome) h.deltas []) ++ own_replies s x.watches (t == s) f.reply;
         text = change_heard s x old is t outcome store reply f.reply e mid rising f.is h running;
@@ -274,9 +279,9 @@ module _ (q : Listed) (s : ℕ) (old : State) (x : Session) (is : session_of old
             (heard_harmless x.watches store.seq (cond (is_accepted outcome) h.deltas [])) (own_harmless (t == s) f.reply (f.harmless refl));
         fine = λ u. All-append IsFine (all_heard x.watches store.seq (cond (is_accepted outcome) h.deltas []))
             (own_replies s x.watches (t == s) f.reply)
-            (all_heard_fine old t outcome store reply e mid outdater made h u.before (subst IsSayableStore left u.behind) x.watches)
+            (all_heard_fine old t outcome store reply e mid c made h u.before (subst IsSayableStore left u.behind) x.watches)
             (own_fine (t == s) f.reply (f.fine u));
-        told = subst (λ (rs : List Reply). StepTold q old.store new (is_some (outdater q)) rs)
+        told = subst (λ (rs : List Reply). StepTold q old.store new (is_some (outdater_by old.store c q)) rs)
             (sym (filter-append (is_told_of (listed_name q))
             (all_heard x.watches store.seq (cond (is_accepted outcome) h.deltas [])) (own_replies s x.watches (t == s) f.reply)
             ∙ ap (λ rs. filter (is_told_of (listed_name q)) (all_heard x.watches store.seq (cond (is_accepted outcome) h.deltas [])) ++ rs)
@@ -285,14 +290,14 @@ module _ (q : Listed) (s : ℕ) (old : State) (x : Session) (is : session_of old
             (by outcome h made tells);
       }
     where
-      stays : (seq' : new.seq ≡ old.store.seq) → StepTells q s old.store new e.queued (is_some (outdater q))
-          → StepTold q old.store new (is_some (outdater q)) []
+      stays : (seq' : new.seq ≡ old.store.seq) → StepTells q s old.store new e.queued (is_some (outdater_by old.store c q))
+          → StepTold q old.store new (is_some (outdater_by old.store c q)) []
       stays seq' (is_quiet answers so) = tells_none refl answers so
       stays seq' (is_told delta so counts) = absurd (omega (arith, so, seq'))
 
-      by : (o : RowsOutcome) (k : ChangeStep old t o store reply e mid) → RowsMade outdater old.store o store
-          → StepTells q s old.store new e.queued (is_some (outdater q))
-          → StepTold q old.store new (is_some (outdater q))
+      by : (o : RowsOutcome) (k : ChangeStep old t o store reply e mid) → RowsMade c old.store o store
+          → StepTells q s old.store new e.queued (is_some (outdater_by old.store c q))
+          → StepTold q old.store new (is_some (outdater_by old.store c q))
           (filter (is_told_of (listed_name q)) (all_heard x.watches store.seq (cond (is_accepted o) k.deltas [])))
       by unchanged k m tells = stays (seq ∙ ap (λ (st : Store). st.seq) m.store) tells
       by (out_of_memory change) k m tells = stays (seq ∙ ap (λ (st : Store). st.seq) m.store) tells
@@ -319,58 +324,128 @@ module _ (q : Listed) (s : ℕ) (old : State) (x : Session) (is : session_of old
               (subst (λ (rs : List Relation). SameAnswers rs new.relations q) (ap (λ (st : Store). st.relations) m.store) same) one.1)
               (one.2 ∙ ap (λ n. delta_replies (listed_name q) (record { number = n; changes = one.0 })) (sym seq)) more (ap is_some does)
 
-  -- what a line that is read tells
-  read_says : (o : State) (t : ℕ) (y : Session) (l : Bytes) (r : Reading) (e : Effect) (mid : State) (new : Store)
-      → SameAnswers mid.store.relations new.relations q → new.seq ≡ mid.store.seq → cause_of mid s ≡ None
-      → ReadStep old t y l r e mid → StepTells q s old.store new e.queued (is_some (line_outdater o t r q))
-      → StepSays q s old.store new e.queued (is_some (line_outdater o t r q)) ((t == s) && reading_talks r)
-      (Fits s t old.store y r e mid.store)
-  read_says o t y l outside e mid new same seq running h tells =
-      quiet_says q s old.store new e.queued false ((t == s) && false) (inr (t, false, refused_replies old t Syntax e mid h, refl)) tells
-      (inl refl)
-  read_says o t y l (past_limit c) e mid new same seq running h tells =
-      quiet_says q s old.store new e.queued false ((t == s) && false) (inr (t, false, refused_replies old t WrongType e mid h, refl)) tells
-      (inl refl)
-  read_says o t y l (says_command c) e mid new same seq running (false, h) tells =
-      quiet_says q s old.store new e.queued (is_some (line_outdater o t (says_command c) q)) ((t == s) && talks c)
-      (inr (t, talks c, any_talk t e.queued (talks c) (refused_replies old t NoMemory e mid h.1), refl)) tells (inr (seq ∙ ap (λ (st : State). st.store.seq) h.1.1))
-  read_says o t y l (says_command (Add name row)) e mid new same seq running (true, h) tells =
-      let left = change_store old t _ h.store _ e mid h.change in
-      change_says t y (says_command (Add name row)) (add_outcome (row_in old.store.relations name row) h.result) h.store _ e mid
-      (add_form h.result h.store.seq (λ u. number_small h.store.seq (subst (λ (st : Store). st.seq ≤ LAST_SEQ) left u.behind.seq))
-      (λ copies k u. added_copies old.store name row copies h.store
-      (subst (λ (r : Result AddOutcome Refusal). AddsRow old.store name row r h.store) k h.done))) left new (by_relation name) (added old.store name row h.result h.store h.done)
-      (subst (λ (st : Store). SameAnswers st.relations new.relations q) left same)
-      (seq ∙ ap (λ (st : Store). st.seq) left) h.change running tells ((t == s) && false)
-  read_says o t y l (says_command (Del name row)) e mid new same seq running (true, h) tells =
-      let left = change_store old t _ h.store _ e mid h.change in
-      change_says t y (says_command (Del name row)) (delete_outcome (row_out old.store.relations name row) h.result) h.store _ e mid
-      (delete_form h.result h.store.seq (λ u. number_small h.store.seq (subst (λ (st : Store). st.seq ≤ LAST_SEQ) left u.behind.seq))
-      (λ copies k u. left_copies old.store u.sound name row copies h.store
-      (subst (λ (r : Result DeleteOutcome Refusal). DeletesRow old.store name row r h.store) k h.done))) left new (by_relation name) (deleted old.store name row h.result h.store h.done)
-      (subst (λ (st : Store). SameAnswers st.relations new.relations q) left same)
-      (seq ∙ ap (λ (st : Store). st.seq) left) h.change running tells ((t == s) && false)
-  read_says o t y l (says_command c) e mid new same seq running (true, h) tells =
-      quiet_says q s old.store new e.queued false ((t == s) && talks c) (inr (t, talks c, command_replies s old t y c e mid tt h, refl)) tells
-      (inl refl)
-
--- ---- the events
-
--- a session stays, but for the line that is taken of it
-pub taken_session : (old : State) (t : ℕ) (rest : Bytes) (s : ℕ) (x : Session) → session_of old s ≡ Some x
-    → (y : Session) × (session_of (with_session old t (behind_line rest)) s ≡ Some y) × (y.watches ≡ x.watches)
-taken_session old t rest s x is = by (t == s) refl
+-- a session stays, but for a change of one that leaves what it watches
+pub changed_session : (old : State) (t : ℕ) (f : Session → Session) → ((y : Session) → (f y).id ≡ y.id)
+    → ((y : Session) → (f y).watches ≡ y.watches) → (s : ℕ) (x : Session) → session_of old s ≡ Some x
+    → (y : Session) × (session_of (with_session old t f) s ≡ Some y) × (y.watches ≡ x.watches)
+changed_session old t f id watches s x is = by (t == s) refl
   where
     by : (b : Bool) → (t == s) ≡ b
-        → (y : Session) × (session_of (with_session old t (behind_line rest)) s ≡ Some y) × (y.watches ≡ x.watches)
+        → (y : Session) × (session_of (with_session old t f) s ≡ Some y) × (y.watches ≡ x.watches)
     by true e = (
-      behind_line rest x,
-      subst (λ i. session_of (with_session old i (behind_line rest)) s ≡ Some (behind_line rest x))
-          (sym (eqb-true t s e))
-          (session_changed old s (behind_line rest) (λ z. refl) ∙ ap (λ o. option_map (behind_line rest) o) is),
-      refl,
+      f x,
+      subst (λ i. session_of (with_session old i f) s ≡ Some (f x)) (sym (eqb-true t s e))
+          (session_changed old s f id ∙ ap (λ o. option_map f o) is),
+      watches x,
     )
-    by false e = (x, session_other old t s (behind_line rest) (λ z. refl) e ∙ is, refl)
+    by false e = (x, session_other old t s f id e ∙ is, refl)
+
+pub changed_rising : (old : State) (t : ℕ) (f : Session → Session) → ((y : Session) → (f y).id ≡ y.id) → AreRising old
+    → AreRising (with_session old t f)
+changed_rising old t f id rising =
+    subst (λ (js : List ℕ). AllPairs (λ i j. i < j) js)
+    (sym (changed_ids (λ (k : Session). k.id == t) f id old.sessions)) rising
+
+-- the rows that came, of a batch that isn't too long
+pub few_held : (o : Option (List HeldRow)) (held : List HeldRow) → o ≡ Some held → IfSome o (λ hs. length hs ≤ HELD)
+    → length held ≤ HELD
+few_held o held e h = subst (λ (p : Option (List HeldRow)). IfSome p (λ hs. length hs ≤ HELD)) e h
+
+-- what each command of rows is answered
+pub added_form : {U : Type 0} (old : Store) (name : Bytes) (row : Tuple) (r : Result AddOutcome Refusal) (store : Store)
+    → AddsRow old name row r store → (U → IsNumber store.seq) → OfForm (add_reply r store.seq) false U
+added_form old name row r store h small =
+    add_form r store.seq small (λ copies k u. added_copies old name row copies store
+    (subst (λ (z : Result AddOutcome Refusal). AddsRow old name row z store) k h))
+
+pub deleted_form : {U : Type 0} (old : Store) (name : Bytes) (row : Tuple) (r : Result DeleteOutcome Refusal) (store : Store)
+    → DeletesRow old name row r store → (U → IsSoundStore old) → (U → IsNumber store.seq)
+    → OfForm (delete_reply r store.seq) false U
+deleted_form old name row r store h sound small =
+    delete_form r store.seq small (λ copies k u. left_copies old (sound u) name row copies store
+    (subst (λ (z : Result DeleteOutcome Refusal). DeletesRow old name row z store) k h))
+
+pub batched_form : {U : Type 0} (old : Store) (held : List HeldRow) (r : Result ℕ Refusal) (store : Store)
+    → AddsBatch old held r store → (U → length held ≤ HELD) → (U → IsNumber store.seq)
+    → OfForm (done_reply r store.seq) false U
+batched_form old held r store h few small =
+    done_form r store.seq small (λ rows k u. rows_small old held r store h (few u) rows k)
+
+-- the number of changes behind one, where the store that it left can be said
+pub seq_small : (store : Store) (mid : State) → mid.store ≡ store → IsSayableStore mid.store → IsNumber store.seq
+seq_small store mid left said = number_small store.seq (subst (λ (st : Store). st.seq ≤ LAST_SEQ) left said.seq)
+
+module _ (q : Listed) (s : ℕ) (old : State) (x : Session) (is : session_of old s ≡ Some x)
+    (names : AreApart (map listed_name old.store.queries)) (rising : AreRising old) (registered : listed_of old.store.queries (listed_name q) ≡ Some q)
+    (watching : is_watching (listed_name q) x ≡ true) (t : ℕ) (y : Session) (l : Bytes) (e : Effect) (mid : State) (new : Store)
+    (same : SameAnswers mid.store.relations new.relations q) (seq : new.seq ≡ mid.store.seq) (running : cause_of mid s ≡ None) where
+  -- what the session is told, by which relation's change outdates the query
+  abbrev Speaks : Option Bytes → Reading → Type 0
+  Speaks o r = StepTells q s old.store new e.queued (is_some o)
+      → StepSays q s old.store new e.queued (is_some o) ((t == s) && reading_talks r) (Fits s t old.store y r e mid.store)
+
+  add_says : (name : Bytes) (row : Tuple) (batch : Option (List HeldRow))
+      → MatchOption batch (AddStep old t name row e mid) (λ held. HoldStep old t held l name row e mid)
+      → Speaks (add_outdater batch name q) (says_command (Add name row))
+  add_says name row None h tells =
+      let left = change_store old t _ h.store _ e mid h.change in
+      change_says q s old x is names rising registered watching t y (says_command (Add name row))
+      (add_outcome (row_in old.store.relations name row) h.result) h.store _ e mid
+      (added_form old.store name row h.result h.store h.done (λ u. seq_small h.store mid left u.behind)) left new
+      (row_comes name row) (added old.store name row h.result h.store h.done)
+      (subst (λ (st : Store). SameAnswers st.relations new.relations q) left same)
+      (seq ∙ ap (λ (st : Store). st.seq) left) h.change running tells ((t == s) && false)
+  add_says name row (Some held) h tells =
+      quiet_says q s old.store new e.queued false ((t == s) && false)
+      (inr (t, false, held_replies old t (Some held) l name row e mid refl h, refl)) tells (inl refl)
+
+  done_says : (batch : Option (List HeldRow)) → y.batch ≡ batch → MatchOption batch ⊥ (λ held. DoneStep old t held e mid)
+      → Speaks (done_outdater old.store batch q) (says_command Done)
+  done_says None at h tells = absurd h
+  done_says (Some held) at h tells =
+      let begun = with_session old t without_batch in
+      let z = changed_session old t without_batch (λ k. refl) (λ k. refl) s x is in
+      let left = change_store begun t _ h.store _ e mid h.change in
+      change_says q s begun z.0 z.1 names (changed_rising old t without_batch (λ k. refl) rising) registered
+      (ap (λ (ws : List Bytes). list_any (λ w. bytes_eq w (listed_name q)) ws) z.2 ∙ watching) t y (says_command Done)
+      (batch_outcome old.store held h.result) h.store _ e mid
+      (batched_form old.store held h.result h.store h.done (λ u. few_held y.batch held at u.few)
+      (λ u. seq_small h.store mid left u.behind)) left new
+      (rows_come held) (batched old.store held h.result h.store h.done)
+      (subst (λ (st : Store). SameAnswers st.relations new.relations q) left same)
+      (seq ∙ ap (λ (st : Store). st.seq) left) h.change running tells ((t == s) && false)
+
+  command_says : (c : Command) → CommandStep old t y l c e mid
+      → Speaks (line_outdater old.store y.batch (says_command c) q) (says_command c)
+  command_says (Add name row) h tells = add_says name row y.batch h tells
+  command_says Done h tells = done_says y.batch refl h tells
+  command_says (Del name row) h tells =
+      let left = change_store old t _ h.store _ e mid h.change in
+      change_says q s old x is names rising registered watching t y (says_command (Del name row))
+      (delete_outcome (row_out old.store.relations name row) h.result) h.store _ e mid
+      (deleted_form old.store name row h.result h.store h.done (λ u. u.sound) (λ u. seq_small h.store mid left u.behind))
+      left new (row_goes name row) (deleted old.store name row h.result h.store h.done)
+      (subst (λ (st : Store). SameAnswers st.relations new.relations q) left same)
+      (seq ∙ ap (λ (st : Store). st.seq) left) h.change running tells ((t == s) && false)
+  command_says c h tells =
+      quiet_says q s old.store new e.queued false ((t == s) && talks c)
+      (inr (t, talks c, command_replies s old t y l c e mid tt h, refl)) tells (inl refl)
+
+  -- what a line that is read tells
+  read_says : (r : Reading) → ReadStep old t y l r e mid → Speaks (line_outdater old.store y.batch r q) r
+  read_says r h tells = by (line_reads old t y l r e mid h)
+    where
+      by : Reads old t y l r e mid
+          → StepSays q s old.store new e.queued (is_some (line_outdater old.store y.batch r q)) ((t == s) && reading_talks r)
+          (Fits s t old.store y r e mid.store)
+      by (turned_down why because d) =
+          quiet_says q s old.store new e.queued (is_some (line_outdater old.store y.batch r q)) ((t == s) && reading_talks r)
+          (inr (t, reading_talks r, any_talk t e.queued (reading_talks r) (refused_replies old t why e mid d), refl)) tells
+          (inr (seq ∙ ap (λ (st : State). st.store.seq) d.1))
+      by (carried_out c says d) =
+          subst (λ (w : Reading). Speaks (line_outdater old.store y.batch w q) w) (sym says) (command_says c d) tells
+
+-- ---- the events
 
 -- a session's last line
 pub ends_quiet : {U : Type 0} (s t : ℕ) (text : Bytes) (cause : EndCause) (old : State) (e : Effect) (mid : State)
@@ -422,6 +497,10 @@ pub record Tame (s : ℕ) (old : State) (event : Event) (e : Effect) : Type 0 wh
   pub fine : IsSayableState old
   pub no_tree : ExplainsNothing s event
 
+batch_few : (st : Store) (o : Option (List HeldRow)) → IfSome o (IsSoundBatch st) → IfSome o (λ held. length held ≤ HELD)
+batch_few st None h = tt
+batch_few st (Some held) h = h.few
+
 reading_said : (l : Bytes) → length l ≤ LINE_BYTES → IsSayableReading (reading_of l)
 reading_said l few = by (reading_of l) refl
   where
@@ -435,10 +514,12 @@ pub tame_fits : (s t : ℕ) (old : State) (z : Session) (l : Bytes) (e : Effect)
     → (h : FrontStep old t z (run l) e mid) → Tame s old (stepped t (run l)) e
     → Fits s t old.store (behind_line h.2.rest z) (reading_of l) e mid.store
 tame_fits s t old z l e mid found h k =
-    let said = all_found IsSayableSession (λ (y : Session). y.id == t) old.sessions z k.fine.sessions found in record {
+    let said = all_found IsSayableSession (λ (y : Session). y.id == t) old.sessions z k.fine.sessions found in
+    let kept = all_found (IsSoundSession old.store) (λ (y : Session). y.id == t) old.sessions z k.sound.sessions found in record {
       sound = k.sound.store;
       before = k.fine.store;
-      session = record { cursors = said.cursors; watches = said.watches };
+      session = record { cursors = said.cursors; watches = said.watches; batch = said.batch };
+      few = batch_few old.store z.batch kept.batch;
       behind = (front_kept old t z (run l) e mid found h k.fine).store;
       said = reading_said l (line_less z.held l h.2.rest h.2.front);
       no_tree = k.no_tree;
@@ -465,15 +546,18 @@ module _ (q : Listed) (s : ℕ) (old : State) (x : Session) (is : session_of old
       (ends_quiet s t end_memory _ _ e mid (of_form end_memory (is_ended memory_line) refl (λ name. refl) (λ u. (tt, tt))) h.2.then) tells (inl refl)
   front_says t z found (run l) e mid new same seq running h tells =
       let rest = h.2.rest in
-      let y = taken_session old t rest s x is in
-      let ids = changed_ids (λ (k : Session). k.id == t) (behind_line rest) (λ k. refl) old.sessions in
+      let taken = with_session old t (behind_line rest) in
+      let y = changed_session old t (behind_line rest) (λ k. refl) (λ k. refl) s x is in
+      let outdates = λ (o : Option Session). is_some (line_outdater old.store (batch_in o) (reading_of l) q) in
       tamed q s old.store new e.queued (event_changes q old (stepped t (run l))) (event_talks s (stepped t (run l)))
       (Fits s t old.store (behind_line rest z) (reading_of l) e mid.store) (Tame s old (stepped t (run l)) e)
       (tame_fits s t old z l e mid found h)
-      (read_says q s (with_session old t (behind_line rest)) y.0 y.1 sound.store.queries
-      (subst (λ (js : List ℕ). AllPairs (λ i j. i < j) js) (sym ids) sound.rising) registered
-      (ap (λ (ws : List Bytes). list_any (λ w. bytes_eq w (listed_name q)) ws) y.2 ∙ watching)
-      old t (behind_line rest z) l (reading_of l) e mid new same seq running h.2.then tells)
+      (subst (λ (o : Option Session). StepSays q s old.store new e.queued (outdates o) (event_talks s (stepped t (run l)))
+      (Fits s t old.store (behind_line rest z) (reading_of l) e mid.store)) (sym found)
+      (read_says q s taken y.0 y.1 sound.store.queries (changed_rising old t (behind_line rest) (λ k. refl) sound.rising)
+      registered (ap (λ (ws : List Bytes). list_any (λ w. bytes_eq w (listed_name q)) ws) y.2 ∙ watching)
+      t (behind_line rest z) l e mid new same seq running (reading_of l) h.2.then
+      (subst (λ (o : Option Session). StepTells q s old.store new e.queued (outdates o)) found tells)))
 
   acts_say : (event : Event) (e : Effect) (mid : State) (new : Store)
       → SameAnswers mid.store.relations new.relations q → new.seq ≡ mid.store.seq → cause_of mid s ≡ None

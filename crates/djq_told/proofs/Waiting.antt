@@ -1,18 +1,14 @@
 -- What a session is sent before it watches a query, and as it ends.
-use Rattle.std.specs.Prelude.{ℕ, List, [], ◌∷◌, ◌++◌, ◌==◌, ◌≡◌, ◌<◌, ◌≤◌, ◌&&◌, Bool, true, false, cond, None, Some, Result, All, AllPairs}
+use Rattle.std.specs.Prelude.{ℕ, List, [], ◌∷◌, ◌++◌, ◌==◌, ◌≡◌, ◌&&◌, Bool, true, false, cond, Option, None, Some, MatchOption, All}
 use Rattle.std.proofs.Common.{refl, sym, ap, ap₂, ◌∙◌, subst, inr, append-nil}
 use Rattle.std.proofs.lemmas.Grind.{flat_map-append}
 use Rattle.std.proofs.lemmas.List.Elements.{All-nil, All-cons, All-append}
-use Rattle.djq_model.specs.Data.{Bytes}
+use Rattle.djq_model.specs.Data.{Bytes, Tuple}
 use Rattle.djq_model.specs.Listed.{Listed, listed_name}
-use Rattle.djq_lines.specs.declared.limits.TheConstants.{LAST_SEQ}
-use Rattle.djq_lines.specs.declared.answer.AddOutcome.{AddOutcome}
-use Rattle.djq_lines.specs.declared.answer.DeleteOutcome.{DeleteOutcome}
-use Rattle.djq_lines.specs.declared.answer.Refusal.{Refusal}
 use Rattle.djq_lines.specs.declared.answer.EndLine.TheVariants.{Long as long_line, Slow as slow_line, Memory as memory_line}
-use Rattle.djq_lines.specs.declared.answer.Refusal.TheVariants.{Syntax, WrongType, NoMemory}
 use Rattle.djq_lines.specs.declared.command.Command.{Command}
-use Rattle.djq_lines.specs.declared.command.Command.TheVariants.{Add, Del, Open, Next, Explain}
+use Rattle.djq_lines.specs.declared.held.HeldRow.{HeldRow}
+use Rattle.djq_lines.specs.declared.command.Command.TheVariants.{Add, Del, Done, Open, Next, Explain}
 use Rattle.djq_lines.specs.Grammar.{Reading, outside, past_limit, says as says_command, reading_of}
 use Rattle.djq_lines.specs.Reply.{end_long, end_slow, end_memory}
 use Rattle.djq_mirror.specs.Replies.{Reply, ended as is_ended}
@@ -22,7 +18,8 @@ use Rattle.djq_machine.specs.Effect.{Effect}
 use Rattle.djq_machine.specs.Changes.{RowsOutcome, is_accepted, row_in, row_out, add_outcome, delete_outcome}
 use Rattle.djq_machine.specs.Watch.{Delta, ChangeStep}
 use Rattle.djq_machine.specs.LineStep.{LineOutcome, long, blank, slow, no_room, run, ReadStep, FrontStep, behind_line}
-use Rattle.djq_machine.specs.Store.{AddsRow, DeletesRow}
+use Rattle.djq_machine.specs.Batch.{batch_outcome}
+use Rattle.djq_machine.specs.Command.{without_batch, AddStep, HoldStep, DoneStep, CommandStep}
 use Rattle.djq_machine.specs.Step.{Event, opened, fed, stepped, took, ended, closed, FedStep, TookStep, EndedStep, Acts, Step}
 use Rattle.djq_machine.specs.Gives.{CursorsGive}
 use Rattle.djq_machine.specs.Run.{Did, Run, to_session, out}
@@ -31,6 +28,7 @@ use Rattle.djq_laws.specs.Rising.{AreRising}
 use Rattle.djq_laws.specs.Sound.{IsSoundState, IsStart}
 use Rattle.djq_laws.proofs.Watching.{change_store}
 use Rattle.djq_laws.proofs.Finding.{some_and}
+use Rattle.djq_laws.proofs.Forms.{Reads as LineReads, turned_down, carried_out, line_reads}
 use Rattle.djq_laws.proofs.Giving.{step_gives, runs_give}
 use Rattle.djq_laws.proofs.Listing.{nothing_given}
 use Rattle.djq_laws.proofs.Queueing.{stepped_cause}
@@ -38,14 +36,14 @@ use Rattle.djq_laws.proofs.Sounding.{step_sound, states_are_sound}
 use Rattle.djq_told.specs.Sayable.{IsSayableStore, IsSayableState}
 use Rattle.djq_told.specs.Told.{replies_text}
 use Rattle.djq_told.specs.Mirrored.{Passes, IsMirrored, Reads, ReadersAreReadBack, AsksNoListing, SaysNoListing, WaitsAlong, ReadersAreMirrored, StartsAreMirrored, EndsNow, EndsAreMirrored}
-use Rattle.djq_told.proofs.Hearing.{all_heard, own_replies, text_append, changed_ids, change_heard}
+use Rattle.djq_told.proofs.Hearing.{all_heard, own_replies, text_append, change_heard}
 use Rattle.djq_told.proofs.Holding.{mirrored_are_held}
 use Rattle.djq_told.proofs.Mirrored.{IsWell, watchers_are_well}
 use Rattle.djq_told.proofs.Mirroring.{passes_then, passes_told}
-use Rattle.djq_told.proofs.Printed.{IsFine, number_small, added_copies, left_copies}
-use Rattle.djq_told.proofs.Replying.{ExplainsNone, IsPlain, IsHarmless, Fits, OfForm, of_form, any_talk, add_form, delete_form, talks, command_replies, refused_replies, none_of}
+use Rattle.djq_told.proofs.Printed.{IsFine}
+use Rattle.djq_told.proofs.Replying.{ExplainsNone, IsPlain, IsHarmless, Fits, OfForm, of_form, any_talk, talks, held_replies, command_replies, refused_replies, none_of}
 use Rattle.djq_told.proofs.Sayable.{step_sayable, states_are_sayable}
-use Rattle.djq_told.proofs.Telling.{ExplainsNothing, own_fine, Tame, tame_fits, reading_talks, event_talks, IsQuiet, Plain, quiet_to, ends_quiet, nothing_quiet, fed_quiet, ended_quiet, taken_session}
+use Rattle.djq_told.proofs.Telling.{ExplainsNothing, own_fine, Tame, tame_fits, reading_talks, event_talks, IsQuiet, Plain, quiet_to, ends_quiet, nothing_quiet, fed_quiet, ended_quiet, changed_session, changed_rising, few_held, added_form, deleted_form, batched_form, seq_small}
 
 nothing_heard : (ws : List Bytes) → ws ≡ [] → (n : ℕ) (ds : List Delta) → all_heard ws n ds ≡ []
 nothing_heard ws e n ds = ap (λ (vs : List Bytes). all_heard vs n ds) e ∙ by ds
@@ -76,33 +74,56 @@ module _ (s : ℕ) (old : State) (x : Session) (is : session_of old s ≡ Some x
       harmless_own true = All-cons IsHarmless f.reply [] (f.harmless refl) (All-nil IsHarmless)
       harmless_own false = All-nil IsHarmless
 
-  read_plain : (t : ℕ) (y : Session) (l : Bytes) (r : Reading) (e : Effect) (mid : State) → cause_of mid s ≡ None
-      → ReadStep old t y l r e mid → Plain s e.queued ((t == s) && reading_talks r) (Fits s t old.store y r e mid.store)
-  read_plain t y l outside e mid running h =
-      quiet_to s e.queued ((t == s) && false) (inr (t, false, refused_replies old t Syntax e mid h, refl))
-  read_plain t y l (past_limit c) e mid running h =
-      quiet_to s e.queued ((t == s) && false) (inr (t, false, refused_replies old t WrongType e mid h, refl))
-  read_plain t y l (says_command c) e mid running (false, h) =
-      quiet_to s e.queued ((t == s) && talks c)
-      (inr (t, talks c, any_talk t e.queued (talks c) (refused_replies old t NoMemory e mid h.1), refl))
-  read_plain t y l (says_command (Add name row)) e mid running (true, h) =
+module _ (s : ℕ) (old : State) (x : Session) (is : session_of old s ≡ Some x) (rising : AreRising old) (none : x.watches ≡ [])
+    (t : ℕ) (y : Session) (l : Bytes) (e : Effect) (mid : State) (running : cause_of mid s ≡ None) where
+  -- what is queued, where this is read
+  abbrev PlainOf : Reading → Type 0
+  PlainOf r = Plain s e.queued ((t == s) && reading_talks r) (Fits s t old.store y r e mid.store)
+
+  add_plain : (name : Bytes) (row : Tuple) (batch : Option (List HeldRow))
+      → MatchOption batch (AddStep old t name row e mid) (λ held. HoldStep old t held l name row e mid)
+      → PlainOf (says_command (Add name row))
+  add_plain name row None h =
       let left = change_store old t _ h.store _ e mid h.change in
-      change_plain t (add_outcome (row_in old.store.relations name row) h.result) h.store _ e mid
+      change_plain s old x is rising none t (add_outcome (row_in old.store.relations name row) h.result) h.store _ e mid
       (Fits s t old.store y (says_command (Add name row)) e mid.store)
-      (add_form h.result h.store.seq (λ u. number_small h.store.seq (subst (λ (st : Store). st.seq ≤ LAST_SEQ) left u.behind.seq))
-      (λ copies k u. added_copies old.store name row copies h.store
-      (subst (λ (r : Result AddOutcome Refusal). AddsRow old.store name row r h.store) k h.done)))
+      (added_form old.store name row h.result h.store h.done (λ u. seq_small h.store mid left u.behind))
       h.change running ((t == s) && false)
-  read_plain t y l (says_command (Del name row)) e mid running (true, h) =
+  add_plain name row (Some held) h =
+      quiet_to s e.queued ((t == s) && false) (inr (t, false, held_replies old t (Some held) l name row e mid refl h, refl))
+
+  done_plain : (batch : Option (List HeldRow)) → y.batch ≡ batch → MatchOption batch ⊥ (λ held. DoneStep old t held e mid)
+      → PlainOf (says_command Done)
+  done_plain None at h = absurd h
+  done_plain (Some held) at h =
+      let begun = with_session old t without_batch in
+      let z = changed_session old t without_batch (λ k. refl) (λ k. refl) s x is in
+      let left = change_store begun t _ h.store _ e mid h.change in
+      change_plain s begun z.0 z.1 (changed_rising old t without_batch (λ k. refl) rising) (z.2 ∙ none) t
+      (batch_outcome old.store held h.result) h.store _ e mid (Fits s t old.store y (says_command Done) e mid.store)
+      (batched_form old.store held h.result h.store h.done (λ u. few_held y.batch held at u.few)
+      (λ u. seq_small h.store mid left u.behind)) h.change running ((t == s) && false)
+
+  command_plain : (c : Command) → CommandStep old t y l c e mid → PlainOf (says_command c)
+  command_plain (Add name row) h = add_plain name row y.batch h
+  command_plain Done h = done_plain y.batch refl h
+  command_plain (Del name row) h =
       let left = change_store old t _ h.store _ e mid h.change in
-      change_plain t (delete_outcome (row_out old.store.relations name row) h.result) h.store _ e mid
+      change_plain s old x is rising none t (delete_outcome (row_out old.store.relations name row) h.result) h.store _ e mid
       (Fits s t old.store y (says_command (Del name row)) e mid.store)
-      (delete_form h.result h.store.seq (λ u. number_small h.store.seq (subst (λ (st : Store). st.seq ≤ LAST_SEQ) left u.behind.seq))
-      (λ copies k u. left_copies old.store u.sound name row copies h.store
-      (subst (λ (r : Result DeleteOutcome Refusal). DeletesRow old.store name row r h.store) k h.done)))
+      (deleted_form old.store name row h.result h.store h.done (λ u. u.sound) (λ u. seq_small h.store mid left u.behind))
       h.change running ((t == s) && false)
-  read_plain t y l (says_command c) e mid running (true, h) =
-      quiet_to s e.queued ((t == s) && talks c) (inr (t, talks c, command_replies s old t y c e mid tt h, refl))
+  command_plain c h =
+      quiet_to s e.queued ((t == s) && talks c) (inr (t, talks c, command_replies s old t y l c e mid tt h, refl))
+
+  read_plain : (r : Reading) → ReadStep old t y l r e mid → PlainOf r
+  read_plain r h = by (line_reads old t y l r e mid h)
+    where
+      by : LineReads old t y l r e mid → PlainOf r
+      by (turned_down why because d) =
+          quiet_to s e.queued ((t == s) && reading_talks r)
+          (inr (t, reading_talks r, any_talk t e.queued (reading_talks r) (refused_replies old t why e mid d), refl))
+      by (carried_out c says d) = subst (λ (w : Reading). PlainOf w) (sym says) (command_plain c d)
 
 tamed_plain : (s : ℕ) (queued : List (ℕ × Bytes)) (talk : Bool) (U V : Type 0) → (V → U) → Plain s queued talk U
     → Plain s queued talk V
@@ -128,13 +149,12 @@ module _ (s : ℕ) (old : State) (x : Session) (is : session_of old s ≡ Some x
       (ends_quiet s t end_memory _ _ e mid (of_form end_memory (is_ended memory_line) refl (λ name. refl) (λ u. (tt, tt))) h.2.then)
   front_plain t z found (run l) e mid running h =
       let rest = h.2.rest in
-      let y = taken_session old t rest s x is in
-      let ids = changed_ids (λ (k : Session). k.id == t) (behind_line rest) (λ k. refl) old.sessions in
+      let y = changed_session old t (behind_line rest) (λ k. refl) (λ k. refl) s x is in
       tamed_plain s e.queued (event_talks s (stepped t (run l))) (Fits s t old.store (behind_line rest z) (reading_of l) e mid.store)
       (Tame s old (stepped t (run l)) e) (tame_fits s t old z l e mid found h)
       (read_plain s (with_session old t (behind_line rest)) y.0 y.1
-      (subst (λ (js : List ℕ). AllPairs (λ i j. i < j) js) (sym ids) rising) (y.2 ∙ none) t (behind_line rest z) l (reading_of l)
-      e mid running h.2.then)
+      (changed_rising old t (behind_line rest) (λ k. refl) rising) (y.2 ∙ none) t (behind_line rest z) l e mid running
+      (reading_of l) h.2.then)
 
   acts_plain : (event : Event) (e : Effect) (mid : State) → cause_of mid s ≡ None → Acts old event e mid
       → Plain s e.queued (event_talks s event) (Tame s old event e)

@@ -4,7 +4,7 @@ use Rattle.djq_model.specs.Data.{Bytes, Tuple}
 use Rattle.djq_model.specs.Listed.{Listed, listed_name, AnswersOf}
 use Rattle.djq_lines.specs.Reply.{cells_text}
 use Rattle.djq_lines.specs.declared.command.Command.{Command}
-use Rattle.djq_lines.specs.declared.command.Command.TheVariants.{Rel, Add, Del, Query as Register, Open, Next, Close, Explain}
+use Rattle.djq_lines.specs.declared.command.Command.TheVariants.{Rel, Add, Del, Query as Register, Open, Next, Close, Explain, Batch, Done, Abandon}
 use Rattle.djq_lines.specs.Grammar.{Reading, says as says_command, reading_of}
 use Rattle.djq_mirror.specs.declared.mode.Mode.TheVariants.{Live}
 use Rattle.djq_mirror.specs.Inputs.{IsHeld}
@@ -36,8 +36,8 @@ pub record Shows (held : Held) (These : Tuple → Type 0) : Type 0 where
   pub texts : (u : Bytes) → has_text held.texts u ≡ true → (t : Tuple) × These t × (cells_text t ≡ u)
   pub tuples : (t : Tuple) → These t → has_text held.texts (cells_text t) ≡ true
 
--- The commands by which a session changes rows, registers, and reads the query of a name through one
--- cursor at a time.
+-- The commands by which a session changes rows, one by one or in batches, registers, and reads the query
+-- of a name through one cursor at a time.
 abbrev pub MayBeSaid : Bytes → Session → Command → Type 0
 MayBeSaid name x (Rel relation types) = Unit {0}
 MayBeSaid name x (Add relation row) = Unit {0}
@@ -46,6 +46,9 @@ MayBeSaid name x (Register q) = Unit {0}
 MayBeSaid name x (Open c q) = (q ≡ name) × All (λ k. k.name ≡ c) x.cursors
 MayBeSaid name x (Next c count) = Unit {0}
 MayBeSaid name x (Close c) = Unit {0}
+MayBeSaid name x Batch = Unit {0}
+MayBeSaid name x Done = Unit {0}
+MayBeSaid name x Abandon = Unit {0}
 MayBeSaid name x _ = ⊥
 
 -- A line is none, or says such a command.

@@ -1,5 +1,5 @@
 -- What lines can say: names, and values within their limits.
-use Rattle.std.specs.Prelude.{List, ◌≡◌, ◌≤◌, true, length, All}
+use Rattle.std.specs.Prelude.{List, ◌≡◌, ◌≤◌, true, IfSome, length, All}
 use Rattle.std.specs.Str.{is_utf8}
 use Rattle.djq_model.specs.declared.value.Value.{Value}
 use Rattle.djq_model.specs.declared.value.Value.TheVariants.{Int, Text}
@@ -13,6 +13,7 @@ use Rattle.djq_model.specs.Data.{Bytes, Tuple, tuples_in}
 use Rattle.djq_model.specs.Listed.{Listed, a_query}
 use Rattle.djq_value.specs.Literal.{is_name, is_small_value}
 use Rattle.djq_lines.specs.declared.limits.TheConstants.{LAST_SEQ, HEAD_VARIABLES}
+use Rattle.djq_lines.specs.declared.held.HeldRow.{HeldRow}
 use Rattle.djq_deltas.specs.Finite.{IsBound}
 use Rattle.djq_machine.specs.State.{Store, State, Session, Cursor, Position, open_at, stale, opening}
 use Rattle.djq_machine.specs.Run.{Did, Run}
@@ -90,10 +91,16 @@ pub record IsSayableCursor (c : Cursor) : Type 0 where
   pub query : IsName c.query
   pub position : IsSayablePosition c.position
 
--- A session's cursors are such, and it watches queries by their names.
+-- A row that is held is of such values, for a relation of a name.
+pub record IsSayableHeld (h : HeldRow) : Type 0 where
+  pub relation : IsName h.relation
+  pub row : IsSayableRow h.row
+
+-- A session's cursors are such, it watches queries by their names, and its batch holds such rows.
 pub record IsSayableSession (x : Session) : Type 0 where
   pub cursors : All IsSayableCursor x.cursors
   pub watches : All IsName x.watches
+  pub batch : IfSome x.batch (λ held. All IsSayableHeld held)
 
 -- The store and each session are such.
 pub record IsSayableState (st : State) : Type 0 where

@@ -36,7 +36,7 @@ ghost use Rattle.djq_told.specs.Mirrored.{StartsAreMirrored, EndsAreMirrored, Mi
 /// Along every run from a state to start from whose names and values lines can say, all names are
 /// names, all values are within their limits and their texts of UTF-8, and each variable of a
 /// registered query's head stands in its body: of relations, queries, cursors and watches, of rows
-/// and constants, and of what cursors have given.
+/// and constants, of what cursors have given, and of what batches hold.
 pub fn states_are_sayable()
     ensures kept { RunsKeepSayable }
     ensures opening { OpeningIsSayable }

@@ -1,4 +1,5 @@
 use Rattle.djq_laws.proofs.Counting.{rows_have_copies, adds_copy, takes_copy}
+use Rattle.djq_laws.proofs.Tallying.{adds_held}
 use Rattle.djq_laws.proofs.copies_are_counted.Goals as goal
 
 pub returns-clause-there : goal.returns-clause-there
@@ -9,3 +10,6 @@ returns-clause-added c = adds_copy
 
 pub returns-clause-taken : goal.returns-clause-taken
 returns-clause-taken c = takes_copy
+
+pub returns-clause-held : goal.returns-clause-held
+returns-clause-held c = adds_held

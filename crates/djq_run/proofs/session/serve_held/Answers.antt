@@ -18,7 +18,7 @@ lines-smaller g c =
     let before = counts c.lines.steps.listing c.lines.steps.update c.lines.steps.rows in
     let now = counts c.step.new.steps.listing c.step.new.steps.update c.step.new.steps.rows in
     let flushed = c.lines-test.ensures in
-    let line = line_ran (state c.flush.new.machine) (state c.step.new.self) before now flushed.is_open flushed.pending c.in-Ran.ensures.gives.0 in
+    let line = line_ran (state c.flush.new.machine) (state c.step.new.self) before now flushed.is_open flushed.pending c.in-Ran.ensures.0 in
     omega (arith, line.fewer, ap length flushed.held)
 
 -- The run so far, a flush, and a line.
@@ -28,7 +28,7 @@ lines-preserved g c =
     let before = counts c.lines.steps.listing c.lines.steps.update c.lines.steps.rows in
     let now = counts c.step.new.steps.listing c.step.new.steps.update c.step.new.steps.rows in
     let flushed = c.lines-test.ensures in
-    let line = line_ran (state c.flush.new.machine) (state c.step.new.self) before now flushed.is_open flushed.pending c.in-Ran.ensures.gives.0 in
+    let line = line_ran (state c.flush.new.machine) (state c.step.new.self) before now flushed.is_open flushed.pending c.in-Ran.ensures.0 in
     record {
       is_open = line.is_open;
       course = λ o. goes_then _ _ _ _ _ _ _ (c.lines.invariant.course o)
@@ -47,7 +47,7 @@ returns-in-Dry-clause-course g c o =
     let entry = with_sink o (told c.args.sink.now) (faults c.args.sink.now)
     (counts c.args.steps.now.listing c.args.steps.now.update c.args.steps.now.rows) in
     let flushed = c.lines-test.ensures in
-    let dry = c.in-Dry.ensures.gives in
+    let dry = c.in-Dry.ensures in
     subst (λ (st : State). GoesTo false (state c.args.machine.now) entry
     (with_sink o (told c.flush.new.sink) (faults c.flush.new.sink)
     (counts c.step.new.steps.listing c.step.new.steps.update c.step.new.steps.rows)) st) (sym dry.0)
@@ -61,7 +61,7 @@ flush-requires-in-Ended g c =
     let before = counts c.lines.steps.listing c.lines.steps.update c.lines.steps.rows in
     let now = counts c.step.new.steps.listing c.step.new.steps.update c.step.new.steps.rows in
     let flushed = c.lines-test.ensures in
-    let line = line_ended c.in-Ended.cause (state c.flush.new.machine) (state c.step.new.self) before now flushed.is_open flushed.pending c.in-Ended.ensures.gives in
+    let line = line_ended c.in-Ended.cause (state c.flush.new.machine) (state c.step.new.self) before now _ flushed.is_open flushed.pending c.in-Ended.ensures in
     line.is_open
 
 -- The run so far, a flush, what ended the session, and a flush.
@@ -71,7 +71,7 @@ returns-then-flush-clause-course g c o =
     let before = counts c.lines.steps.listing c.lines.steps.update c.lines.steps.rows in
     let now = counts c.step.new.steps.listing c.step.new.steps.update c.step.new.steps.rows in
     let flushed = c.lines-test.ensures in
-    let line = line_ended c.in-Ended.cause (state c.flush.new.machine) (state c.step.new.self) before now flushed.is_open flushed.pending c.in-Ended.ensures.gives in
+    let line = line_ended c.in-Ended.cause (state c.flush.new.machine) (state c.step.new.self) before now _ flushed.is_open flushed.pending c.in-Ended.ensures in
     goes_then _ _ _ _ _ _ _ (c.lines.invariant.course o)
     (goes_then _ _ _ _ _ _ _ (flushed.course (record o { counted = before }))
     (goes_then _ _ _ _ _ _ _ (line.course o _ _) (c.if-flush.ensures.course (record o { counted = now }))))
@@ -82,7 +82,7 @@ returns-in-Ended-clause-course g c o =
     let before = counts c.lines.steps.listing c.lines.steps.update c.lines.steps.rows in
     let now = counts c.step.new.steps.listing c.step.new.steps.update c.step.new.steps.rows in
     let flushed = c.lines-test.ensures in
-    let line = line_ended c.in-Ended.cause (state c.flush.new.machine) (state c.step.new.self) before now flushed.is_open flushed.pending c.in-Ended.ensures.gives in
+    let line = line_ended c.in-Ended.cause (state c.flush.new.machine) (state c.step.new.self) before now _ flushed.is_open flushed.pending c.in-Ended.ensures in
     goes_then _ _ _ _ _ _ _ (c.lines.invariant.course o)
     (goes_then _ _ _ _ _ _ _ (flushed.course (record o { counted = before }))
     (goes_then _ _ _ _ _ _ _ (line.course o _ _) (c.if-flush.ensures.course (record o { counted = now }))))
@@ -93,7 +93,7 @@ returns-then-flush-clause-serves g c =
     let before = counts c.lines.steps.listing c.lines.steps.update c.lines.steps.rows in
     let now = counts c.step.new.steps.listing c.step.new.steps.update c.step.new.steps.rows in
     let flushed = c.lines-test.ensures in
-    let line = line_ended c.in-Ended.cause (state c.flush.new.machine) (state c.step.new.self) before now flushed.is_open flushed.pending c.in-Ended.ensures.gives in
+    let line = line_ended c.in-Ended.cause (state c.flush.new.machine) (state c.step.new.self) before now _ flushed.is_open flushed.pending c.in-Ended.ensures in
     (c.if-flush.ensures.cause ∙ line.cause, c.if-flush.ensures.pending, λ e. c.lines.invariant.input (sym flushed.cause ∙ line.input e))
 
 pub returns-in-Ended-clause-serves : goal.returns-in-Ended-clause-serves
@@ -102,7 +102,7 @@ returns-in-Ended-clause-serves g c =
     let before = counts c.lines.steps.listing c.lines.steps.update c.lines.steps.rows in
     let now = counts c.step.new.steps.listing c.step.new.steps.update c.step.new.steps.rows in
     let flushed = c.lines-test.ensures in
-    let line = line_ended c.in-Ended.cause (state c.flush.new.machine) (state c.step.new.self) before now flushed.is_open flushed.pending c.in-Ended.ensures.gives in
+    let line = line_ended c.in-Ended.cause (state c.flush.new.machine) (state c.step.new.self) before now _ flushed.is_open flushed.pending c.in-Ended.ensures in
     let last = c.if-flush.ensures in
     (last.pending, λ e. c.lines.invariant.input (sym flushed.cause ∙ line.input (one_cause c.in-Ended.cause Input _ (last.cause ∙ line.cause) e)))
 
