@@ -63,7 +63,7 @@ front_ids old s x (slow l) e mid h = line_ids old s h.2.rest mid (ended_ids (wit
 front_ids old s x (no_room l) e mid h = line_ids old s h.2.rest mid (ended_ids (with_session old s (behind_line h.2.rest)) mid s _ _ e h.2.then)
 front_ids old s x (run l) e mid h =
     let between = with_session old s (behind_line h.2.rest) in
-    let kept = read_keeps between s (behind_line h.2.rest x) l (reading_of l) e mid h.2.then in
+    let kept = read_keeps between s (behind_line h.2.rest x) l e mid h.2.then in
     line_ids old s h.2.rest mid (alike_ids EndsByRun between.sessions mid.sessions kept.0)
 
 -- a session that opens comes last
