@@ -122,7 +122,8 @@ abbrev MayHaveMembers : Option Command → Type 0
 MayHaveMembers None = ⊤
 MayHaveMembers (Some c) = HasMembers c
 
-mapped_has : {A : Type 0} (f : A → Command) → ((a : A) → HasMembers (f a)) → (o : Option A) → MayHaveMembers (option_map f o)
+mapped_has : {A : Type 0} (f : A → Command) → ((a : A) → HasMembers (f a)) → (o : Option A)
+    → MayHaveMembers (option_map f o)
 mapped_has f has None = tt
 mapped_has f has (Some a) = has a
 
@@ -137,7 +138,8 @@ union_has (n ∷ a ∷ []) = tt
 union_has (word n ∷ a ∷ b ∷ ts) = by (is_name n) (all_of name_of (a ∷ b ∷ ts)) (all_long name_of (a ∷ b ∷ ts))
   where
     by : (named : Bool) (o : Option (List Bytes)) → HasLength (length (a ∷ b ∷ ts)) o
-        → MayHaveMembers (option_map (λ (p : Bytes × List Bytes). Union p.0 p.1) (cond named (option_map (λ (xs : List Bytes). (n, xs)) o) None))
+        → MayHaveMembers (option_map (λ (p : Bytes × List Bytes). Union p.0 p.1)
+        (cond named (option_map (λ (xs : List Bytes). (n, xs)) o) None))
     by false o h = tt
     by true None h = tt
     by true (Some xs) h = omega (arith, h)
@@ -206,13 +208,14 @@ found_name (k ∷ ls) n l e = by (bytes_eq (listed_name k) n) refl e (λ f. foun
 first_and_rest : {A : Type 0} (x y : A) (xs ys : List A) → x ∷ xs ≡ y ∷ ys → (x ≡ y) × (xs ≡ ys)
 first_and_rest x y xs ys e = (cc, cc)
 
-found_first : (ls : List Listed) (n : Bytes) (ns : List Bytes) (q : Query) (qs : List Query) → AreUnder ls (n ∷ ns) (q ∷ qs)
-    → (listed_of ls n ≡ Some (a_query q)) × AreUnder ls ns qs
+found_first : (ls : List Listed) (n : Bytes) (ns : List Bytes) (q : Query) (qs : List Query)
+    → AreUnder ls (n ∷ ns) (q ∷ qs) → (listed_of ls n ≡ Some (a_query q)) × AreUnder ls ns qs
 found_first ls n ns q qs e =
     first_and_rest (listed_of ls n) (Some (a_query q)) (map (λ m. listed_of ls m) ns)
     (map (λ (p : Query). Some (a_query p)) qs) e
 
-pub under_names : (ls : List Listed) (ns : List Bytes) (qs : List Query) → AreUnder ls ns qs → map (λ (q : Query). q.name) qs ≡ ns
+pub under_names : (ls : List Listed) (ns : List Bytes) (qs : List Query) → AreUnder ls ns qs
+    → map (λ (q : Query). q.name) qs ≡ ns
 under_names ls [] [] e = refl
 under_names ls [] (q ∷ qs) e = absurd cc
 under_names ls (n ∷ ns) [] e = absurd cc
