@@ -163,7 +163,7 @@ use Rattle.djq_laws.specs.Form.{
 }
 use Rattle.djq_laws.proofs.Finding.{some_and}
 use Rattle.djq_laws.proofs.Answering.{none_or}
-use Rattle.djq_laws.proofs.Members.{HasMembers, said_members, may_unite}
+use Rattle.djq_laws.proofs.Members.{said_members, may_unite}
 
 -- ---- what the conditions of a command tell, where it is done
 

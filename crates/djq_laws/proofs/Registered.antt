@@ -1,7 +1,7 @@
 -- What is registered stays sound: beside relations that keep their types, and as long as members stay registered.
-use Rattle.std.specs.Prelude.{List, [], ◌∷◌, ◌≡◌, ◌++◌, ◌||◌, Bool, true, false, cond, Option, None, Some, is_none, option_map, unwrap_or, find, map, All, Contains}
+use Rattle.std.specs.Prelude.{List, [], ◌∷◌, ◌≡◌, ◌++◌, ◌||◌, Bool, true, false, Some, is_none, unwrap_or, map, All, Contains}
 use Rattle.std.specs.List.{list_any}
-use Rattle.std.proofs.Common.{refl, sym, ap, ap₂, ◌∙◌, subst}
+use Rattle.std.proofs.Common.{refl, sym, ap₂, ◌∙◌}
 use Rattle.std.proofs.lemmas.List.Elements.{All-contains, All-weaker, All-push}
 use Rattle.djq_model.specs.declared.relation.ColumnType.{ColumnType}
 use Rattle.djq_model.specs.declared.relation.Relation.{Relation}
@@ -13,7 +13,7 @@ use Rattle.djq_lines.specs.QueryFault.{reads_unknown}
 use Rattle.djq_machine.specs.State.{Store}
 use Rattle.djq_machine.specs.Store.{type_among, variable_type, answer_types, listed_types, is_member}
 use Rattle.djq_deltas.proofs.Lists.{first_there, hold_each}
-use Rattle.djq_laws.specs.Sound.{IsConnex, IsSoundUnion, IsSoundListed}
+use Rattle.djq_laws.specs.Sound.{IsConnex, IsSoundListed}
 use Rattle.djq_laws.specs.Form.{MayRegister}
 use Rattle.djq_laws.proofs.Answering.{none_or, none_pass}
 use Rattle.djq_laws.proofs.Changing.{all_found, all_dropped}

@@ -8,7 +8,6 @@ use Rattle.djq_model.specs.Data.{Bytes, change_first}
 use Rattle.djq_lines.specs.declared.answer.EndCause.{EndCause}
 use Rattle.djq_lines.specs.declared.limits.TheConstants.{SESSIONS}
 use Rattle.djq_lines.specs.declared.answer.EndCause.TheVariants.{Memory}
-use Rattle.djq_lines.specs.Grammar.{reading_of}
 use Rattle.djq_lines.specs.Reply.{end_memory}
 use Rattle.djq_machine.specs.State.{State, Session, fresh, session_of, with_session, ended_by}
 use Rattle.djq_machine.specs.Effect.{Effect, nothing, EndsWith, queue, queue_all}

@@ -6,7 +6,6 @@ use Rattle.djq_model.specs.Data.{Bytes}
 use Rattle.djq_lines.specs.declared.answer.EndCause.{EndCause}
 use Rattle.djq_lines.specs.declared.answer.EndCause.TheVariants.{Input, Long, Slow, Memory}
 use Rattle.djq_lines.specs.Line.{a_line}
-use Rattle.djq_lines.specs.Grammar.{reading_of}
 use Rattle.djq_lines.specs.Reply.{end_long, end_slow, end_memory, input_cut}
 use Rattle.djq_machine.specs.State.{State, Session, session_of, with_session, ended_by}
 use Rattle.djq_machine.specs.Keeping.{no_line}
