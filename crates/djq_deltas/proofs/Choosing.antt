@@ -194,18 +194,21 @@ is_there relations q bound t h =
 chosen_answers : List Relation → Query → List Tuple
 chosen_answers relations q = map (answer_of q) (all_choices relations q.atoms)
 
-so_many_answers : (relations : List Relation) (q : Query) → length (chosen_answers relations q) ≡ choices relations q.atoms
+so_many_answers : (relations : List Relation) (q : Query)
+    → length (chosen_answers relations q) ≡ choices relations q.atoms
 unfolding chosen_answers
 so_many_answers relations q = length-map (all_choices relations q.atoms) (answer_of q) ∙ so_many relations q.atoms
 
-so_many_of_all : (relations : List Relation) (qs : List Query) → length (each (chosen_answers relations) qs) ≡ choices_of_all relations qs
+so_many_of_all : (relations : List Relation) (qs : List Query)
+    → length (each (chosen_answers relations) qs) ≡ choices_of_all relations qs
 unfolding each
 so_many_of_all relations [] = refl
 so_many_of_all relations (q ∷ qs) = length-append (chosen_answers relations q) (each (chosen_answers relations) qs)
     ∙ ap₂ (λ (i j : ℕ). i + j) (so_many_answers relations q) (so_many_of_all relations qs)
 
 -- Different answers that are all among so many are no more.
-no_more : (Answer : Tuple → Type 0) (all : List Tuple) (n : ℕ) → length all ≡ n → ((t : Tuple) → Answer t → Contains all t)
+no_more : (Answer : Tuple → Type 0) (all : List Tuple) (n : ℕ) → length all ≡ n
+    → ((t : Tuple) → Answer t → Contains all t)
     → (ts : List Tuple) → AreDifferent ts → All Answer ts → length ts ≤ n
 no_more Answer all n count there ts differ answers =
     subst (λ (m : ℕ). length ts ≤ m) count (fewer ts all differ (All-weaker Answer (Contains all) there ts answers))
@@ -213,8 +216,11 @@ no_more Answer all n count there ts differ answers =
 pub answers_are_bounded : AnswersAreBounded
 unfolding chosen_answers
 answers_are_bounded relations (a_query q) bound =
-    no_more (IsAnswer relations q) (chosen_answers relations q) (choices relations q.atoms) (so_many_answers relations q) (is_there relations q bound)
+    no_more (IsAnswer relations q) (chosen_answers relations q) (choices relations q.atoms) (so_many_answers relations q)
+    (is_there relations q bound)
 answers_are_bounded relations (a_union name qs) bound =
-    no_more (λ t. Any (λ (q : Query). IsAnswer relations q t) qs) (each (chosen_answers relations) qs) (choices_of_all relations qs) (so_many_of_all relations qs)
+    no_more (λ t. Any (λ (q : Query). IsAnswer relations q t) qs) (each (chosen_answers relations) qs)
+    (choices_of_all relations qs) (so_many_of_all relations qs)
     (λ t h. let o = some_one (λ (q : Query). IsAnswer relations q t) qs h in
-    each_there (chosen_answers relations) qs o.0 t o.1 (is_there relations o.0 (All-contains IsBound qs o.0 bound o.1) t o.2))
+    each_there (chosen_answers relations) qs o.0 t o.1
+    (is_there relations o.0 (All-contains IsBound qs o.0 bound o.1) t o.2))

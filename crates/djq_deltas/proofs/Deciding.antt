@@ -1,5 +1,5 @@
--- Whether a tuple is an answer is decided: of a query, one of finitely many choices of rows shows it, or none does; of a
--- union it is decided for each member.
+-- Whether a tuple is an answer is decided: of a query, one of finitely many choices of rows shows it, or none does;
+-- of a union it is decided for each member.
 use Rattle.std.specs.Prelude.{List, [], ◌∷◌, ◌≡◌, ◌⊎◌, Bool, true, false, cond, map, All, Any, Contains}
 use Rattle.std.proofs.Common.{refl, sym, ap, ap₂, ◌∙◌, subst, inl, inr}
 use Rattle.std.proofs.lemmas.List.Elements.{All-nil, All-cons, All-head, All-tail, All-contains}
@@ -208,7 +208,8 @@ any_decided {A = A} P decided (x ∷ xs) = step (decided x) (any_decided P decid
     step : Decided (P x) → Decided (Any P xs) → Decided (Any P (x ∷ xs))
     step (inl h) d = inl (one_there P (x ∷ xs) x (first_there x xs x refl) h)
     step (inr never) (inl k) = let o = some_one P xs k in inl (one_there P (x ∷ xs) o.0 (later_there x xs o.0 o.1) o.2)
-    step (inr never) (inr none) = inr (λ h. let o = some_one P (x ∷ xs) h in either o.0 o.2 (first_or_later x xs o.0 o.1))
+    step (inr never) (inr none) =
+        inr (λ h. let o = some_one P (x ∷ xs) h in either o.0 o.2 (first_or_later x xs o.0 o.1))
       where
         either : (y : A) → P y → (x ≡ y) ⊎ Contains xs y → ⊥
         either y h (inl e) = never (subst P (sym e) h)

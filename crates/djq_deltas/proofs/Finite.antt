@@ -25,15 +25,18 @@ listed_of_all relations (q ∷ qs) = listed relations q ++ listed_of_all relatio
 abbrev IsAnswerOfSome : List Relation → List Query → Tuple → Type 0
 IsAnswerOfSome relations qs t = Any (λ (q : Query). IsAnswer relations q t) qs
 
-all_of_some : (relations : List Relation) (qs : List Query) → All (IsAnswerOfSome relations qs) (listed_of_all relations qs)
+all_of_some : (relations : List Relation) (qs : List Query)
+    → All (IsAnswerOfSome relations qs) (listed_of_all relations qs)
 all_of_some relations [] = All-nil (IsAnswerOfSome relations [])
 all_of_some relations (q ∷ qs) =
     All-append (IsAnswerOfSome relations (q ∷ qs)) (listed relations q) (listed_of_all relations qs)
     (All-weaker (IsAnswer relations q) (IsAnswerOfSome relations (q ∷ qs))
-    (λ t h. one_there (λ (p : Query). IsAnswer relations p t) (q ∷ qs) q (first_there q qs q refl) h) (listed relations q) (all_hold relations q))
+    (λ t h. one_there (λ (p : Query). IsAnswer relations p t) (q ∷ qs) q (first_there q qs q refl) h) (listed relations q)
+    (all_hold relations q))
     (All-weaker (IsAnswerOfSome relations qs) (IsAnswerOfSome relations (q ∷ qs))
     (λ t h. let o = some_one (λ (p : Query). IsAnswer relations p t) qs h in
-    one_there (λ (p : Query). IsAnswer relations p t) (q ∷ qs) o.0 (later_there q qs o.0 o.1) o.2) (listed_of_all relations qs) (all_of_some relations qs))
+    one_there (λ (p : Query). IsAnswer relations p t) (q ∷ qs) o.0 (later_there q qs o.0 o.1) o.2)
+    (listed_of_all relations qs) (all_of_some relations qs))
 
 some_of_all : (relations : List Relation) (qs : List Query) (q : Query) (t : Tuple) → All IsBound qs → Contains qs q
     → IsAnswer relations q t → Contains (listed_of_all relations qs) t
@@ -44,7 +47,8 @@ some_of_all relations (p ∷ qs) q t bound k h =
     step : (p ≡ q) ⊎ Contains qs q → (Contains qs q → Contains (listed_of_all relations qs) t)
         → Contains (listed relations p ++ listed_of_all relations qs) t
     step (inl e) more = Contains-append_left (listed relations p) (listed_of_all relations qs) t
-        (all_there relations p (All-head IsBound p qs bound) t (subst (λ (r : Query). IsAnswer relations r t) (sym e) h))
+        (all_there relations p (All-head IsBound p qs bound) t
+        (subst (λ (r : Query). IsAnswer relations r t) (sym e) h))
     step (inr c) more = Contains-append_right (listed relations p) (listed_of_all relations qs) t (more c)
 
 pub answers_are_finite : AnswersAreFinite

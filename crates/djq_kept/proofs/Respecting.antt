@@ -236,7 +236,8 @@ module _ (a b : Store) (f : Follows a b) where
             d.3 ∙ ap (λ (qs : List Query). record b { queries = b.queries ++ a_union name qs ∷ [] }) same in
             inl (e, subst (λ (st : Store). Follows to st) (sym is) united_follows)
         each how n (Err r, j, e) =
-            let late = late_of (union_refusal b name members) r (United b n) (OutOfMemoryWhere ⊤) united_free j.answer in
+            let late = late_of (union_refusal b name members) r (United b n) (OutOfMemoryWhere ⊤) united_free j.answer
+            in
             inr (only_memory ⊤ r how late e)
 
   -- `drop`
@@ -249,7 +250,8 @@ module _ (a b : Store) (f : Follows a b) where
 
     dropped_free : drop_refusal b false q ≡ None
     dropped_free =
-        ap (λ (qs : List Listed). first_of ((is_none (listed_of qs q), NoQuery) ∷ (is_member qs q, InUse) ∷ [])) f.same.queries
+        ap (λ (qs : List Listed). first_of ((is_none (listed_of qs q), NoQuery) ∷ (is_member qs q, InUse) ∷ []))
+        f.same.queries
         ∙ unused (is_none (listed_of a.queries q)) used (is_member a.queries q)
         (none_of (drop_refusal a used q) u (λ _. to ≡ dropped a) (OutOfMemoryWhere ⊥) m.answer)
       where

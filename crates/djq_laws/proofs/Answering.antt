@@ -33,7 +33,8 @@ apart_from r name n true e ne same =
 abbrev pub RowsWithin : List Relation → List Relation → Listed → Type 0
 RowsWithin rs rs' q = (n : Bytes) → listed_reads q n ≡ true → (row : Tuple) → Contains (rows_of rs n) row → Contains (rows_of rs' n) row
 
-query_within : (rs rs' : List Relation) (q : Query) (t : Tuple) → RowsWithin rs rs' (a_query q) → IsAnswer rs q t → IsAnswer rs' q t
+query_within : (rs rs' : List Relation) (q : Query) (t : Tuple) → RowsWithin rs rs' (a_query q) → IsAnswer rs q t
+    → IsAnswer rs' q t
 query_within rs rs' q t within h = record {
   assignment = h.assignment;
   satisfies = λ k d lt.
@@ -46,17 +47,20 @@ query_within rs rs' q t within h = record {
 }
 
 -- a relation that a member reads, its union reads
-member_reads : (qs : List Query) (q : Query) (n : Bytes) → Contains qs q → reads q n ≡ true → list_any (λ p. reads p n) qs ≡ true
+member_reads : (qs : List Query) (q : Query) (n : Bytes) → Contains qs q → reads q n ≡ true
+    → list_any (λ p. reads p n) qs ≡ true
 member_reads [] q n c h = absurd (nothing_there q c)
 member_reads (p ∷ qs) q n c h = step (reads p n) refl (first_or_later p qs q c) (λ d. member_reads qs q n d h)
   where
     step : (b : Bool) → reads p n ≡ b → (p ≡ q) ⊎ Contains qs q → (Contains qs q → list_any (λ r. reads r n) qs ≡ true)
         → (b || list_any (λ r. reads r n) qs) ≡ true
     step true e o more = refl
-    step false e (inl same) more = let so : reads p n ≡ true = ap (λ (r : Query). reads r n) same ∙ h in absurd (cc (so, e))
+    step false e (inl same) more =
+        let so : reads p n ≡ true = ap (λ (r : Query). reads r n) same ∙ h in absurd (cc (so, e))
     step false e (inr d) more = more d
 
-answer_within : (rs rs' : List Relation) (q : Listed) (t : Tuple) → RowsWithin rs rs' q → AnswersOf rs q t → AnswersOf rs' q t
+answer_within : (rs rs' : List Relation) (q : Listed) (t : Tuple) → RowsWithin rs rs' q → AnswersOf rs q t
+    → AnswersOf rs' q t
 answer_within rs rs' (a_query q) t within h = query_within rs rs' q t within h
 answer_within rs rs' (a_union name qs) t within h =
     let o = some_one (λ (q : Query). IsAnswer rs q t) qs h in

@@ -275,16 +275,18 @@ module _ (used : Bytes → Bool) (old new : Store) where
       registers (a_query q)
       (none_found (listed_of old.queries q.name)
       (none_first (is_some (listed_of old.queries q.name)) Taken
-      (first_of (query_faults old.relations q ++ (nat_le QUERIES (length old.queries), Limit) ∷ [])) none))
-      (d.0, none_second (is_some (listed_of old.queries q.name)) (reads_unknown old.relations q) Taken NoRelation _ none)
+      (first_of (query_faults old.relations q ++ (nat_le QUERIES (length old.queries), Limit) ∷ [])) none)) (
+        d.0,
+        none_second (is_some (listed_of old.queries q.name)) (reads_unknown old.relations q) Taken NoRelation _ none,
+      )
       (λ _. d.2) d.3
 
   pub union_stored : (name : Bytes) (members : List Bytes) (r : Result ℕ Refusal) → 2 ≤ length members
       → RegistersUnion old name members r new → Stored used old new
   union_stored name members (Err r) two h = keeps_store h.stays
   union_stored name members (Ok most) two h =
-      let D = λ (most : ℕ). (qs : List Query) × AreUnder old.queries members qs × (most ≡ answer_steps (a_union name qs))
-      × (new ≡ record old { queries = old.queries ++ a_union name qs ∷ [] }) in
+      let D = λ (most : ℕ). (qs : List Query) × AreUnder old.queries members qs
+      × (most ≡ answer_steps (a_union name qs)) × (new ≡ record old { queries = old.queries ++ a_union name qs ∷ [] }) in
       let none = none_holds (union_refusal old name members) most D (OutOfMemoryWhere ⊤) h.answer in
       let d = done_of (union_refusal old name members) most D (OutOfMemoryWhere ⊤) h.answer in
       registers (a_union name d.0)
@@ -551,8 +553,8 @@ command_does old s x l (Rel name types) e new said h =
 command_does old s x l (Register q) e new said h = query_does old s q e new h
 command_does old s x l (Union name members) e new said h =
     stored_whole old s (union_reply h.result) _ h.store e new h.effect
-    (union_stored (in_use old) old.store h.store name members h.result (said_members l (Union name members) said) h.done)
-    h.state
+    (union_stored (in_use old) old.store h.store name members h.result
+    (said_members l (Union name members) said) h.done) h.state
 command_does old s x l (Drop q) e new said h =
     stored_whole old s (ok_reply (codes "ok") h.result) _ h.store e new h.effect
     (drop_stored (in_use old) old.store h.store q h.result h.done) h.state

@@ -21,7 +21,8 @@ rel_refused (Some p) Range h = absurd (true≢false (sym (all_true p.1) ∙ h))
 rel_refused (Some p) NoMem h = (refl, refl)
 
 -- a union that is refused
-pub union_refused : (o : Option (Bytes × List Bytes)) (e : LineRefusal) → ReadsAs (λ p. list_all (λ _. true) p.1) o (Err e) → Gives (option_map (λ p. Union p.0 p.1) o) (Err e)
+pub union_refused : (o : Option (Bytes × List Bytes)) (e : LineRefusal)
+    → ReadsAs (λ p. list_all (λ _. true) p.1) o (Err e) → Gives (option_map (λ p. Union p.0 p.1) o) (Err e)
 union_refused None e h = (cc, tt)
 union_refused (Some p) Syntax h = absurd h
 union_refused (Some p) Range h = absurd (true≢false (sym (all_true p.1) ∙ h))

@@ -478,7 +478,8 @@ behind_said QueryWord ts c e =
 behind_said UnionWord ts c e =
     let found = map_some (λ (p : Bytes × List Bytes). Union p.0 p.1) (name_and_members ts) c e in
     let some = members_said ts found.0 found.1 in
-    subst (λ (d : Command). Says d (word (codes "union") ∷ ts)) found.2 (some.0.items, some.0.named, some.1, some.0.say, ap (λ us. word (codes "union") ∷ us) some.0.split)
+    subst (λ (d : Command). Says d (word (codes "union") ∷ ts)) found.2
+    (some.0.items, some.0.named, some.1, some.0.say, ap (λ us. word (codes "union") ∷ us) some.0.split)
 behind_said DropWord ts c e = named_one (codes "drop") (λ q. Drop q) ts c (λ n us s. s) e
 behind_said OpenWord ts c e =
     let found = map_some (λ (p : Bytes × Bytes). Open p.0 p.1) (two_names ts) c e in
@@ -521,7 +522,9 @@ said_read (Rel n cs) ts s = ap command_in s.4 ∙ ap (option_map (λ (p : Bytes 
 said_read (Add n vs) ts s = ap command_in s.1.3 ∙ ap (option_map (λ (p : Bytes × Tuple). Add p.0 p.1)) (some_from literal_of SaysValue value_from n vs s.1.0 s.1.1 s.0 s.1.2)
 said_read (Del n vs) ts s = ap command_in s.1.3 ∙ ap (option_map (λ (p : Bytes × Tuple). Del p.0 p.1)) (some_from literal_of SaysValue value_from n vs s.1.0 s.1.1 s.0 s.1.2)
 said_read (Register q) ts s = ap command_in s.2 ∙ ap (option_map (λ p. Register p)) (query_from q s.0 s.1)
-said_read (Union n ms) ts s = ap command_in s.4 ∙ ap (option_map (λ (p : Bytes × List Bytes). Union p.0 p.1)) (members_from n ms s.0 s.1 s.2 s.3)
+said_read (Union n ms) ts s =
+    ap command_in s.4
+    ∙ ap (option_map (λ (p : Bytes × List Bytes). Union p.0 p.1)) (members_from n ms s.0 s.1 s.2 s.3)
 said_read (Drop q) ts s = ap command_in s.1 ∙ ap (option_map (λ n. Drop n)) (cond-true _ _ _ s.0)
 said_read (Open c q) ts s = ap command_in s.2 ∙ ap (option_map (λ (p : Bytes × Bytes). Open p.0 p.1)) (cond-true _ _ _ (and_from (is_name c) (is_name q) s.0 s.1))
 said_read (Next c k) ts s =

@@ -126,7 +126,8 @@ Says (Rel n cs) ts = (us : List Token) × IsName n × (0 < length cs) × AllZip 
 Says (Add n vs) ts = (0 < length vs) × SaysRow (codes "add") n vs ts
 Says (Del n vs) ts = (0 < length vs) × SaysRow (codes "del") n vs ts
 Says (Register q) ts = (us : List Token) × SaysQuery q us × (ts ≡ word (codes "query") ∷ us)
-Says (Union n ms) ts = (us : List Token) × IsName n × (2 ≤ length ms) × AllZip SaysName ms us × (ts ≡ word (codes "union") ∷ word n ∷ us)
+Says (Union n ms) ts = (us : List Token) × IsName n × (2 ≤ length ms) × AllZip SaysName ms us
+    × (ts ≡ word (codes "union") ∷ word n ∷ us)
 Says (Drop q) ts = SaysOne (codes "drop") q ts
 Says (Open c q) ts = IsName c × IsName q × (ts ≡ word (codes "open") ∷ word c ∷ word q ∷ [])
 Says (Next c k) ts = (ds : Bytes) × IsName c × IsNumeral ds k × (1 ≤ k) × (k ≤ NEXT_COUNT) × (ts ≡ word (codes "next") ∷ word c ∷ word ds ∷ [])

@@ -211,7 +211,8 @@ module _ (s : ℕ) (name : Bytes) (P : List Tuple → Bool → Type 0) where
   calm_form batch l c calm = tt
 
   pub has_read : (old : State) (t : ℕ) (x : Session) (l : Bytes) (e : Effect) (new : State)
-      → ((t == s) ≡ true → ReadsCalm (reading_of l)) → ReadStep old t x l (reading_of l) e new → Has s name P old → Has s name P new
+      → ((t == s) ≡ true → ReadsCalm (reading_of l)) → ReadStep old t x l (reading_of l) e new → Has s name P old
+      → Has s name P new
   has_read old t x l e new calm h k = by (line_reads old t x l (reading_of l) e new h)
     where
       by : Reads old t x l (reading_of l) e new → Has s name P new

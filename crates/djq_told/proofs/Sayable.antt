@@ -306,7 +306,8 @@ done_kept old s x e new (Some held) is h k found =
     (λ y g. record { cursors = g.cursors; watches = g.watches; batch = tt }) k))
 
 command_kept : (old : State) (s : ℕ) (x : Session) (l : Bytes) (c : Command) (e : Effect) (new : State)
-    → reading_of l ≡ says_command c → CommandStep old s x l c e new → IsSayableCommand c → IsSayableState old → session_of old s ≡ Some x
+    → reading_of l ≡ says_command c → CommandStep old s x l c e new → IsSayableCommand c → IsSayableState old
+    → session_of old s ≡ Some x
     → IsSayableState new
 command_kept old s x l (Rel name types) e new is h said k found =
     store_kept old h.store new h.state (rel_sayable old.store name types h.result h.store h.done said k.store) k

@@ -340,7 +340,8 @@ members_sayable : (old : Store) (members : List Bytes) (qs : List Query) → IsS
 members_sayable old members qs s under =
     All-weaker (λ (q : Query). listed_of old.queries q.name ≡ Some (a_query q))
     (λ (q : Query). IsSayableListed (a_query q))
-    (λ q is. all_found IsSayableListed (λ (l : Listed). bytes_eq (listed_name l) q.name) old.queries (a_query q) s.queries is)
+    (λ q is. all_found IsSayableListed (λ (l : Listed). bytes_eq (listed_name l) q.name) old.queries (a_query q)
+    s.queries is)
     qs (under_registered old.queries members qs under)
 
 width_small : (qs : List Query) → All (λ (q : Query). IsSayableListed (a_query q)) qs → width_of qs ≤ HEAD_VARIABLES
