@@ -37,7 +37,7 @@ pub fn answers_are_decided()
 {}
 
 /// What is registered has finitely many answers: a query, where each variable of its head stands in
-/// its body.
+/// its body, and a union where that holds of its members.
 pub fn answers_are_finite()
     ensures { AnswersAreFinite }
 {}
@@ -47,7 +47,8 @@ pub fn deltas_exist()
     ensures { DeltasExist }
 {}
 
-/// It has no more answers than there are choices of a row for each of its atoms.
+/// It has no more answers than there are choices of a row for each of its atoms; a union no more than
+/// its members together.
 pub fn answers_are_bounded()
     ensures { AnswersAreBounded }
 {}

@@ -6,7 +6,7 @@ use Rattle.std.proofs.lemmas.Grind.{flat_map-append}
 use Rattle.djq_model.specs.Data.{Bytes, change_first}
 use Rattle.djq_lines.specs.declared.answer.EndCause.{EndCause}
 use Rattle.djq_lines.specs.declared.answer.EndCause.TheVariants.{Memory}
-use Rattle.djq_lines.specs.Grammar.{Reading}
+use Rattle.djq_lines.specs.Grammar.{reading_of}
 use Rattle.djq_lines.specs.Reply.{refusal_line}
 use Rattle.djq_machine.specs.State.{Store, State, Session, session_of, with_session, ended_by}
 use Rattle.djq_machine.specs.Stale.{outdated_cursor}
@@ -240,9 +240,9 @@ form_keeps ending old s x e new h = (
   alone s e h.0,
 )
 
-pub read_keeps : (old : State) (s : ℕ) (x : Session) (l : Bytes) (r : Reading) (e : Effect) (new : State) → ReadStep old s x l r e new → Runs old s e new
-read_keeps old s x l r e new h = by (line_reads old s x l r e new h)
+pub read_keeps : (old : State) (s : ℕ) (x : Session) (l : Bytes) (e : Effect) (new : State) → ReadStep old s x l (reading_of l) e new → Runs old s e new
+read_keeps old s x l e new h = by (line_reads old s x l (reading_of l) e new h)
   where
-    by : Reads old s x l r e new → Runs old s e new
+    by : Reads old s x l (reading_of l) e new → Runs old s e new
     by (turned_down why because k) = stays_keeps EndsByRun old s (refusal_line why) e new k.0 k.1
-    by (carried_out c is k) = form_keeps (form_of x.batch l c) old s x e new (command_does old s x l c e new k)
+    by (carried_out c is k) = form_keeps (form_of x.batch l c) old s x e new (command_does old s x l c e new is k)

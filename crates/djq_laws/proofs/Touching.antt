@@ -6,7 +6,6 @@ use Rattle.djq_model.specs.Data.{Bytes}
 use Rattle.djq_lines.specs.declared.answer.EndCause.{EndCause}
 use Rattle.djq_lines.specs.declared.answer.EndCause.TheVariants.{Input, Long, Slow, Memory}
 use Rattle.djq_lines.specs.Line.{a_line}
-use Rattle.djq_lines.specs.Grammar.{reading_of}
 use Rattle.djq_lines.specs.Reply.{end_long, end_slow, end_memory, input_cut}
 use Rattle.djq_machine.specs.State.{State, Session, session_of, with_session, ended_by}
 use Rattle.djq_machine.specs.Keeping.{no_line}
@@ -275,7 +274,7 @@ is_stepped old s x (slow l) e mid found running h = ends_behind old s x (slow l)
 is_stepped old s x (no_room l) e mid found running h = ends_behind old s x (no_room l) h.2.rest end_memory Memory e mid found h.2.then h.2.front refl
 is_stepped old s x (run l) e mid found running h =
     let rest = h.2.rest in
-    let b = behind EndsByRun old s x (behind_line rest) e mid found (λ y. refl) (read_keeps (with_session old s (behind_line rest)) s (behind_line rest x) l (reading_of l) e mid h.2.then) in
+    let b = behind EndsByRun old s x (behind_line rest) e mid found (λ y. refl) (read_keeps (with_session old s (behind_line rest)) s (behind_line rest x) l e mid h.2.then) in
     record {
       session = b.session;
       touches = b.touches;

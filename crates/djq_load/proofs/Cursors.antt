@@ -11,7 +11,7 @@ use Rattle.djq_model.specs.Listed.{Listed, AnswersOf, listed_of}
 use Rattle.djq_lines.specs.declared.answer.EndCause.{EndCause}
 use Rattle.djq_lines.specs.declared.answer.EndCause.TheVariants.{Memory}
 use Rattle.djq_lines.specs.declared.answer.Refusal.{Refusal}
-use Rattle.djq_lines.specs.declared.answer.Refusal.TheVariants.{Syntax, Taken, NoRelation, NoQuery, NoCursor, Arity, WrongType, HeadUnbound, HeadRepeated, VariableType, Unbound, Limit, NoMemory, InUse, Misplaced}
+use Rattle.djq_lines.specs.declared.answer.Refusal.TheVariants.{Syntax, Taken, NoRelation, NoQuery, NoCursor, Arity, WrongType, HeadUnbound, HeadRepeated, VariableType, Unbound, Limit, NoMemory, InUse, Member, Misplaced}
 use Rattle.djq_lines.specs.declared.held.HeldRow.{HeldRow}
 use Rattle.djq_lines.specs.declared.command.Command.{Command}
 use Rattle.djq_lines.specs.declared.command.Command.TheVariants.{Open, Next}
@@ -354,6 +354,7 @@ first_letter Unbound = refl
 first_letter Limit = refl
 first_letter NoMemory = refl
 first_letter InUse = refl
+first_letter Member = refl
 first_letter Misplaced = refl
 
 not_refused : (r : Refusal) → refusal_line r ≡ codes "ok open\n" → ⊥

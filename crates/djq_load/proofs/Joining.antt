@@ -26,7 +26,7 @@ use Rattle.djq_lines.specs.declared.rest.QueryOutcome.TheVariants.{Registered, C
 use Rattle.djq_lines.specs.declared.limits.TheConstants.{ROWS, COPIES, LAST_SEQ}
 use Rattle.djq_lines.specs.declared.command.Command.{Command}
 use Rattle.djq_lines.specs.declared.held.HeldRow.{HeldRow}
-use Rattle.djq_lines.specs.declared.command.Command.TheVariants.{Rel, Add, Del, Query as Register, Drop, Open, Next, Close, Has, Watch, Unwatch, Explain, Shape, Batch, Done, Abandon, Quit, Stop}
+use Rattle.djq_lines.specs.declared.command.Command.TheVariants.{Rel, Add, Del, Query as Register, Union, Drop, Open, Next, Close, Has, Watch, Unwatch, Explain, Shape, Batch, Done, Abandon, Quit, Stop}
 use Rattle.djq_lines.specs.Conditions.{first_of, OutOfMemoryWhere}
 use Rattle.djq_lines.specs.Grammar.{says as says_command, reading_of}
 use Rattle.djq_lines.specs.Reply.{end_memory}
@@ -207,9 +207,10 @@ form_same (turning t) old s x e new apart h = turn_same old s x t new h.1
 form_same (changing c) old s x e new apart h = absurd cc
 form_same ending old s x e new apart h = ap (λ (st : State). st.store) h.1.state
 
--- A command registers no query but the load's, and is no `done`.
+-- A command registers no query but the load's and no union, and is no `done`.
 abbrev pub IsHarmless : Command → Type 0
 IsHarmless (Register q) = q ≡ join
+IsHarmless (Union name members) = ⊥
 IsHarmless Done = ⊥
 IsHarmless c = Unit {0}
 
@@ -240,35 +241,37 @@ add_command_joins old s (Some held) l name row e new h j =
 
 -- a command that isn't of the store
 apart_joins : (old : State) (s : ℕ) (x : Session) (l : Bytes) (c : Command) (e : Effect) (new : State)
-    → is_apart (form_of x.batch l c) ≡ true → CommandStep old s x l c e new → Joins old.store → Joins new.store
-apart_joins old s x l c e new apart h j =
+    → reading_of l ≡ says_command c → is_apart (form_of x.batch l c) ≡ true → CommandStep old s x l c e new
+    → Joins old.store → Joins new.store
+apart_joins old s x l c e new says apart h j =
     same_joins old.store new.store
-    (form_same (form_of x.batch l c) old s x e new apart (command_does old s x l c e new h)) j
+    (form_same (form_of x.batch l c) old s x e new apart (command_does old s x l c e new says h)) j
 
 command_joins : (old : State) (s : ℕ) (x : Session) (l : Bytes) (c : Command) (e : Effect) (new : State)
-    → IsHarmless c → CommandStep old s x l c e new → Joins old.store → Joins new.store
+    → reading_of l ≡ says_command c → IsHarmless c → CommandStep old s x l c e new → Joins old.store → Joins new.store
 unfolding is_apart
-command_joins old s x l (Rel name types) e new fine h j =
+command_joins old s x l (Rel name types) e new says fine h j =
     store_joins old new h.store h.state (rel_joins old.store name types h.result h.store h.done j)
-command_joins old s x l (Register q) e new fine h j = asked_joins old s q e new fine h j
-command_joins old s x l (Drop q) e new fine h j =
+command_joins old s x l (Register q) e new says fine h j = asked_joins old s q e new fine h j
+command_joins old s x l (Union name members) e new says fine h j = absurd fine
+command_joins old s x l (Drop q) e new says fine h j =
     store_joins old new h.store h.state (drop_joins old.store _ q h.result h.store h.done j)
-command_joins old s x l (Add name row) e new fine h j = add_command_joins old s x.batch l name row e new h j
-command_joins old s x l (Del name row) e new fine h j =
+command_joins old s x l (Add name row) e new says fine h j = add_command_joins old s x.batch l name row e new h j
+command_joins old s x l (Del name row) e new says fine h j =
     same_joins h.store new.store (change_store old s _ h.store _ e new h.change) (delete_joins old.store name row h.result h.store h.done j)
-command_joins old s x l (Open c q) e new fine h j = apart_joins old s x l (Open c q) e new refl h j
-command_joins old s x l (Next c n) e new fine h j = apart_joins old s x l (Next c n) e new refl h j
-command_joins old s x l (Close c) e new fine h j = apart_joins old s x l (Close c) e new refl h j
-command_joins old s x l (Has q row) e new fine h j = apart_joins old s x l (Has q row) e new refl h j
-command_joins old s x l (Watch q) e new fine h j = apart_joins old s x l (Watch q) e new refl h j
-command_joins old s x l (Unwatch q) e new fine h j = apart_joins old s x l (Unwatch q) e new refl h j
-command_joins old s x l (Explain q) e new fine h j = apart_joins old s x l (Explain q) e new refl h j
-command_joins old s x l (Shape q) e new fine h j = apart_joins old s x l (Shape q) e new refl h j
-command_joins old s x l Batch e new fine h j = apart_joins old s x l Batch e new refl h j
-command_joins old s x l Done e new fine h j = absurd fine
-command_joins old s x l Abandon e new fine h j = apart_joins old s x l Abandon e new refl h j
-command_joins old s x l Quit e new fine h j = apart_joins old s x l Quit e new refl h j
-command_joins old s x l Stop e new fine h j = apart_joins old s x l Stop e new refl h j
+command_joins old s x l (Open c q) e new says fine h j = apart_joins old s x l (Open c q) e new says refl h j
+command_joins old s x l (Next c n) e new says fine h j = apart_joins old s x l (Next c n) e new says refl h j
+command_joins old s x l (Close c) e new says fine h j = apart_joins old s x l (Close c) e new says refl h j
+command_joins old s x l (Has q row) e new says fine h j = apart_joins old s x l (Has q row) e new says refl h j
+command_joins old s x l (Watch q) e new says fine h j = apart_joins old s x l (Watch q) e new says refl h j
+command_joins old s x l (Unwatch q) e new says fine h j = apart_joins old s x l (Unwatch q) e new says refl h j
+command_joins old s x l (Explain q) e new says fine h j = apart_joins old s x l (Explain q) e new says refl h j
+command_joins old s x l (Shape q) e new says fine h j = apart_joins old s x l (Shape q) e new says refl h j
+command_joins old s x l Batch e new says fine h j = apart_joins old s x l Batch e new says refl h j
+command_joins old s x l Done e new says fine h j = absurd fine
+command_joins old s x l Abandon e new says fine h j = apart_joins old s x l Abandon e new says refl h j
+command_joins old s x l Quit e new says fine h j = apart_joins old s x l Quit e new says refl h j
+command_joins old s x l Stop e new says fine h j = apart_joins old s x l Stop e new says refl h j
 
 -- A line.
 abbrev pub LeavesJoin : Bytes → Type 0
@@ -278,7 +281,7 @@ read_joins : (old : State) (s : ℕ) (x : Session) (l : Bytes) (e : Effect) (new
     → Reads old s x l (reading_of l) e new → Joins old.store → Joins new.store
 read_joins old s x l e new fine (turned_down why may h) j =
     same_joins old.store new.store (ap (λ (st : State). st.store) h.1) j
-read_joins old s x l e new fine (carried_out c is h) j = command_joins old s x l c e new (fine c is) h j
+read_joins old s x l e new fine (carried_out c is h) j = command_joins old s x l c e new is (fine c is) h j
 
 abbrev pub IsFine : Event → Type 0
 IsFine (stepped s (run l)) = LeavesJoin l

@@ -17,26 +17,7 @@ use Rattle.djq_value.specs.Token.{Token, comma, arrow}
 use Rattle.djq_value.specs.Spelling.{IsSpelling}
 use Rattle.djq_lines.specs.declared.limits.TheConstants.{LINE_BYTES}
 use Rattle.djq_lines.specs.declared.command.Command.{Command}
-use Rattle.djq_lines.specs.declared.command.Command.TheVariants.{
-  Rel,
-  Add,
-  Del,
-  Query as Register,
-  Drop,
-  Open,
-  Next,
-  Close,
-  Has,
-  Watch,
-  Unwatch,
-  Explain,
-  Shape,
-  Batch,
-  Done,
-  Abandon,
-  Quit,
-  Stop,
-}
+use Rattle.djq_lines.specs.declared.command.Command.TheVariants.{Rel, Add, Del, Query as Register, Union, Drop, Open, Next, Close, Has, Watch, Unwatch, Explain, Shape, Batch, Done, Abandon, Quit, Stop}
 use Rattle.djq_lines.specs.Grammar.{Item, atom, comparison, past_item, is_small_term, is_small_atom, is_in_range, command_of, past_limit, says as says_command, reading_in, reading_of}
 use Rattle.djq_proto.specs.Saying.{Says, SaysAtom, SaysComparison, SaysItem, SaysItems, SaysName, SaysTerm, SaysValue, list_tokens, more_tokens, atoms_among, comparisons_among}
 use Rattle.djq_proto.proofs.Spelled.{commands_are_spelled}
@@ -50,6 +31,7 @@ IsSayableCommand (Rel name types) = IsName name
 IsSayableCommand (Add name row) = IsName name × IsSayableRow row
 IsSayableCommand (Del name row) = IsName name × IsSayableRow row
 IsSayableCommand (Register q) = IsSayableQuery q
+IsSayableCommand (Union name members) = IsName name × All IsName members
 IsSayableCommand (Drop q) = IsName q
 IsSayableCommand (Open c q) = IsName c × IsName q
 IsSayableCommand (Next c count) = IsName c
@@ -178,6 +160,7 @@ said_sayable (Rel name types) ts s h small = s.1
 said_sayable (Add name row) ts s h small = (s.1.1, row_said row s.1.0 s.1.2 (subst HaveUtf8 s.1.3 h).1.1 small)
 said_sayable (Del name row) ts s h small = (s.1.1, row_said row s.1.0 s.1.2 (subst HaveUtf8 s.1.3 h).1.1 small)
 said_sayable (Register q) ts s h small = query_said q ts s h small
+said_sayable (Union name members) ts s h small = (s.1, names_said members s.0 s.3)
 said_sayable (Drop q) ts s h small = s.0
 said_sayable (Open c q) ts s h small = (s.0, s.1)
 said_sayable (Next c count) ts s h small = s.1

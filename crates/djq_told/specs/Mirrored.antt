@@ -4,19 +4,7 @@ use Rattle.djq_model.specs.Data.{Bytes, Tuple}
 use Rattle.djq_model.specs.Listed.{Listed, listed_name, AnswersOf}
 use Rattle.djq_lines.specs.Reply.{cells_text}
 use Rattle.djq_lines.specs.declared.command.Command.{Command}
-use Rattle.djq_lines.specs.declared.command.Command.TheVariants.{
-  Rel,
-  Add,
-  Del,
-  Query as Register,
-  Open,
-  Next,
-  Close,
-  Explain,
-  Batch,
-  Done,
-  Abandon,
-}
+use Rattle.djq_lines.specs.declared.command.Command.TheVariants.{Rel, Add, Del, Query as Register, Union, Open, Next, Close, Explain, Batch, Done, Abandon}
 use Rattle.djq_lines.specs.Grammar.{Reading, says as says_command, reading_of}
 use Rattle.djq_mirror.specs.declared.mode.Mode.TheVariants.{Live}
 use Rattle.djq_mirror.specs.Inputs.{IsHeld}
@@ -55,6 +43,7 @@ MayBeSaid name x (Rel relation types) = Unit {0}
 MayBeSaid name x (Add relation row) = Unit {0}
 MayBeSaid name x (Del relation row) = Unit {0}
 MayBeSaid name x (Register q) = Unit {0}
+MayBeSaid name x (Union u members) = Unit {0}
 MayBeSaid name x (Open c q) = (q ≡ name) × All (λ k. k.name ≡ c) x.cursors
 MayBeSaid name x (Next c count) = Unit {0}
 MayBeSaid name x (Close c) = Unit {0}
