@@ -52,3 +52,4 @@ pub mod Batches
 pub mod Crowding
 pub mod InHead
 pub mod Standing
+pub mod AtPlaces

@@ -1,5 +1,27 @@
 -- A query that is kept, as a member of a union: its answers are cells in the order of its head.
-use Rattle.std.specs.Prelude.{◌≡◌, ◌↔◌, ℕ, Bool, true, List, map}
+use Rattle.std.specs.Prelude.{
+  ◌≡◌,
+  ◌↔◌,
+  ⊤,
+  ℕ,
+  ◌≤◌,
+  Bool,
+  true,
+  List,
+  [],
+  ◌∷◌,
+  ◌++◌,
+  length,
+  map,
+  All,
+  Option,
+  None,
+  Some,
+  IsSomeAnd,
+  option_to_list,
+  slice_index_or,
+}
+use Rattle.std.specs.List.{AllByRecursion}
 use Rattle.djq_model.specs.Data.{Tuple}
 use Rattle.djq_model.specs.Answer.{IsAnswer}
 use Rattle.djq_machine.specs.Store.{answer_types}
@@ -64,3 +86,23 @@ CellsTellValues = (c : Catalog) (l m : Live)
     → answer_types c.relations l.query ≡ answer_types c.relations m.query
     → (t u : List ℕ) (v w : Tuple) → StandFor c.texts (answer_types c.relations l.query) t v
     → StandFor c.texts (answer_types c.relations m.query) u w → (t ≡ u) ↔ (v ≡ w)
+
+-- the query in a place, where there is one
+abbrev pub query_at : List (Option Live) → ℕ → Option Live
+query_at qs k = slice_index_or qs k None
+
+-- the queries in these places, in this order
+abbrev pub queries_at : List (Option Live) → List ℕ → List Live
+queries_at qs [] = []
+queries_at qs (k ∷ ks) = option_to_list (query_at qs k) ++ queries_at qs ks
+
+-- Each of these places has a query, and there are at most eight.
+pub record HaveQueries (qs : List (Option Live)) (ks : List ℕ) : Type 0 where
+  pub few : length ks ≤ 8
+  pub each : AllByRecursion (λ k. IsSomeAnd (query_at qs k) (λ l. ⊤)) ks
+
+-- Where the queries in places are kept over some catalog, these are.
+abbrev pub QueriesAreKept : Type 0
+QueriesAreKept = (qs : List (Option Live))
+    → ((k : ℕ) (l : Live) → query_at qs k ≡ Some l → IsKeptSomewhere l)
+    → (ks : List ℕ) → All IsKeptSomewhere (queries_at qs ks)

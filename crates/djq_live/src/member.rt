@@ -1,5 +1,5 @@
 //! A query as a member of a union: what it lists and is asked for are cells in its head's order.
-ghost use Rattle.std.specs.Prelude.{◌≡◌, ◌≤◌, ℕ, true, length, map};
+ghost use Rattle.std.specs.Prelude.{◌≡◌, ◌≤◌, ⊤, ℕ, true, length, map, Some, IsSomeAnd};
 ghost use Rattle.djq_hyper.specs.Hypergraph.{member};
 ghost use Rattle.djq_live.specs.Order.{reading};
 ghost use Rattle.djq_live.specs.Member.{
@@ -8,6 +8,8 @@ ghost use Rattle.djq_live.specs.Member.{
   HadCellsStand,
   AnswersHaveCells,
   CellsTellValues,
+  QueriesAreKept,
+  query_at,
 };
 
 use crate::live::LiveQuery;
@@ -15,7 +17,7 @@ use crate::lookup::has_cells;
 use djq_cursor::Cursor;
 use djq_reduct::{Answer, Cells, Reducts};
 use djq_steps::Tally;
-use djq_union::Listing;
+use djq_union::{Listing, Members};
 use std::sync::ledger::Ledger;
 
 /// Writes an answer of the tree as cells in a head's order.
@@ -82,6 +84,44 @@ impl Listing for LiveQuery {
     }
 }
 
+/// The queries in some places, at most eight, as the members of a union, in this order.
+#[derive(Clone, Copy)]
+pub struct QueriesAt<'a> {
+    /// What is in each place.
+    pub queries: &'a [Option<LiveQuery>],
+    /// Places that have a query.
+    pub places: &'a [usize],
+}
+
+/// The query in a place.
+fn lent(queries: &[Option<LiveQuery>], place: usize) -> &LiveQuery
+    requires { IsSomeAnd (query_at queries.now place) (λ l. ⊤) }
+    ensures { query_at queries.now place ≡ Some result.now }
+{
+    match &queries[place] {
+        Some(query) => query,
+        None => unreachable!(),
+    }
+}
+
+impl<'a> Members for QueriesAt<'a> {
+    ghost use Rattle.djq_live.specs.Member.{queries_at, HaveQueries};
+
+    type Member = LiveQuery;
+
+    ghost members = { λ g. queries_at g.queries.now g.places.now };
+
+    ghost sound = { λ g. HaveQueries g.queries.now g.places.now };
+
+    fn count(&self) -> usize {
+        self.places.len()
+    }
+
+    fn member(&self, i: usize) -> &LiveQuery {
+        lent(self.queries, self.places[i])
+    }
+}
+
 /// The cells of an answer of the tree, in the head's order, stand for the values that it shows.
 pub fn cells_in_head_stand()
     ensures { CellsInHeadStand }
@@ -106,4 +146,9 @@ pub fn answers_have_cells()
 /// values, and different ones for different ones.
 pub fn cells_tell_values()
     ensures { CellsTellValues }
+{}
+
+/// Where the queries in places are kept over some catalog, so are those of a union.
+pub fn queries_are_kept()
+    ensures { QueriesAreKept }
 {}
