@@ -38,4 +38,5 @@ pub mod Filled
 pub mod Rested
 pub mod Accepted
 pub mod Settled
+pub mod Worked
 pub mod Joined

@@ -12,10 +12,12 @@ use Rattle.djq_lines.specs.declared.answer.DeleteOutcome.TheVariants.{Last, Left
 use Rattle.djq_lines.specs.declared.answer.Refusal.{Refusal}
 use Rattle.djq_lines.specs.declared.answer.Refusal.TheVariants.{NoMemory}
 use Rattle.djq_lines.specs.declared.answer.Shape.TheVariants.{Flat}
+use Rattle.djq_lines.specs.declared.held.HeldRow.{HeldRow}
 use Rattle.djq_lines.specs.declared.rest.QueryOutcome.{QueryOutcome}
 use Rattle.djq_lines.specs.declared.rest.QueryOutcome.TheVariants.{Registered as HasRegistered}
 use Rattle.djq_machine.specs.Stale.{listed_reads}
 use Rattle.djq_machine.specs.Changes.{RowsChange, RowsOutcome, accepted, out_of_memory, unchanged, tried, is_outdated}
+use Rattle.djq_machine.specs.Batch.{rows_in}
 use Rattle.djq_machine.specs.Store.{IsShapeOf}
 use Rattle.djq_machine.specs.Watch.{Delta, ListsDeltas, deltas_steps}
 use Rattle.djq_engine.specs.declared.cursor.QueryId.{QueryId}
@@ -128,6 +130,20 @@ pub record CountsUpdates (times : ℕ) (old : Kept) (change : RowsChange) (befor
     pub counted : (n : ℕ) (as_flat : Listed → Bool) → AreBounded old change n as_flat → now ≤ before
         + sum_by (λ r. bounded_steps change times n (as_flat r.query) r.query)
         (readers_of old.registered change)
+
+-- how often, of a batch: where memory is refused, rows that were taken in are given back one by one
+abbrev pub batch_times : List HeldRow → Result ℕ Refusal → ℕ
+batch_times held (Ok n) = 1
+batch_times held (Err NoMemory) = length held + 2
+batch_times held (Err _) = 0
+
+-- A batch counts so many times at most what the updates of the queries do that read a relation of which
+-- a row comes, each of them bounded by its rows and by as many more as the batch has.
+pub record CountsBatch (times : ℕ) (old : Kept) (held : List HeldRow) (before now : ℕ) : Type 0
+  where
+    pub counted : (n : ℕ) → AreBounded old (rows_in old.store held) n (λ q. false) → now ≤ before
+        + sum_by (λ r. times * update_steps (rows_in old.store held) (n + length held) r.query)
+        (readers_of old.registered (rows_in old.store held))
 
 -- how often: a further copy of a row reaches no query; where memory is refused, rows that were taken
 -- in are given back

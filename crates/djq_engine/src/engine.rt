@@ -14,7 +14,8 @@ ghost use Rattle.djq_engine.specs.Kept.{registered_of, registered_at, same_query
 ghost use Rattle.djq_engine.specs.Kept.{with_watchers, told_at};
 ghost use Rattle.djq_engine.specs.Lending.{LendsQuery};
 ghost use Rattle.djq_engine.specs.Watching.{TellsChange, Enrols, EnrolsTelling};
-ghost use Rattle.djq_engine.specs.Watching.{CountsUpdates, add_times, delete_times};
+ghost use Rattle.djq_engine.specs.Watching.{CountsUpdates, CountsBatch};
+ghost use Rattle.djq_engine.specs.Watching.{add_times, batch_times, delete_times};
 
 use crate::asking::{answer_in, explain_in, has_in, live_in, shape_in};
 use crate::batch::{done_in, held_ok_in};
@@ -304,14 +305,17 @@ impl Engine {
     /// Adds all rows that a batch held, at once, and tells how many of them weren't there. A row that
     /// was, or that came before it in the batch, has a further copy. Where rows came, that is one
     /// change: cursors over a query become stale by the first relation of the batch that the query
-    /// reads and of which a row came, and each watched query tells one delta.
+    /// reads and of which a row came, and each watched query tells one delta. What updates count is
+    /// bounded for each of these queries as for one row, with the rows of the batch among those of its
+    /// relations.
     ///
     /// # Errors
     ///
     /// `Limit` where a row finds no place over what the rows before it leave: its copies, its relation,
     /// the number of changes or that of known texts are at their limit. `NoMemory` out of memory, and
     /// cursors over a query are stale by the first relation of the batch that the query reads, and
-    /// nothing is told of it. Texts that became known stay so, and no row has changed.
+    /// nothing is told of it. Texts that became known stay so, and no row has changed. What the queries
+    /// took in goes out row by row then, which may count once more for each row.
     pub fn done<L: Ledgers>(
         &mut self,
         held: &[HeldRow],
@@ -326,6 +330,8 @@ impl Engine {
         ensures tells { TellsChange self.old (batch_outcome self.old.store held.now result) self.new
             steps.old.listing steps.new.listing }
         ensures unlisted { IsUnwatched self.old → steps.new.listing ≡ steps.old.listing }
+        ensures updates { CountsBatch (batch_times held.now result) self.old held.now
+            steps.old.update steps.new.update }
     {
         done_in(&mut self.parts, held, steps)
     }

@@ -1,4 +1,4 @@
-use Rattle.std.proofs.Common.{◌≡◌, ◌∙◌, ◌+◌, ◌⊎◌, inl, inr, ℕ, List, [], refl, sym, ap, subst, arith, length}
+use Rattle.std.proofs.Common.{◌≤◌, ◌≡◌, ◌∙◌, ◌+◌, ◌⊎◌, inl, inr, ℕ, List, [], refl, sym, ap, subst, arith, length}
 use Rattle.std.specs.Prelude.{Some, filter}
 use Rattle.djq_model.specs.declared.relation.Relation.{Relation}
 use Rattle.djq_model.specs.Data.{Bytes}
@@ -16,7 +16,7 @@ use Rattle.djq_live.specs.Body.{HeadsAreBound}
 use Rattle.djq_live.specs.Live.{Live}
 use Rattle.djq_reach.specs.declared.group.Group.{Group}
 use Rattle.djq_reach.specs.Places.{place_at, is_reader}
-use Rattle.djq_reach.specs.Grouping.{reached}
+use Rattle.djq_reach.specs.Grouping.{reached, rows_in, times_back}
 use Rattle.djq_engine.specs.declared.parts.Parts.{Parts}
 use Rattle.djq_engine.specs.Places.{queries_in}
 use Rattle.djq_engine.specs.Putting.{IsStoreOf, PutsAll, RefusesAll, WentInAll}
@@ -29,6 +29,7 @@ use Rattle.djq_engine.proofs.Rested.{rests_whole, rests_tended, rests_cursors, r
 use Rattle.djq_engine.proofs.Settled.{start_here, begun, leads_here, came_within, came_here, came_tested, came_found, came_seq, filled_mid, came_takes, came_readers, unwatched_reached, lacks_rows, lacks_groups, lacks_readers, lacks_logged, lacks_found, lacks_whole, lacks_tended, lacks_cursors, lacks_registered, lacks_refuses, lacks_tells, lacks_last, lacks_counts}
 use Rattle.djq_engine.proofs.Storing.{same_rows}
 use Rattle.djq_engine.proofs.TakenBack.{catalog_counted}
+use Rattle.djq_engine.proofs.Worked.{came_few, counts_all, rows_each}
 use Rattle.djq_engine.proofs.batch.done_in.Goals as goal
 
 -- the store of the engine is that of its catalog
@@ -153,6 +154,7 @@ returns-in_default g c =
       watches = refl;
       tells = rests_tells old c.requires.whole c.requires.tended d same long names c.live_stays.ensures c.showable_stays.ensures c.args.steps.now.listing c.args.steps.now.listing (omega arith);
       unlisted = λ none. refl;
+      updates = record { counted = λ n few. omega arith };
     }
 
 pub returns-then-count-eq0-clause-whole : goal.returns-then-count-eq0-clause-whole
@@ -731,3 +733,41 @@ returns-clause-unlisted g c none =
     let count = c.in-Ok.came.count in
     let p = as_slice (kept_in old).store held d count c.in-Ok.came.groups.items groups c.as_slice-came.ensures.value (c.in-Ok.ensures.put (kept_in old).store (agrees old)) in
     c.take_groups.ensures.unlisted (unwatched_reached old c.requires.whole none groups (came_within old c.requires.whole held d groups count c.cells_stay.ensures c.laws.ensures c.laws-2.ensures c.requires.suit p learned.0 learned.1))
+
+pub returns-in-Err-take_groups-clause-updates : goal.returns-in-Err-take_groups-clause-updates
+returns-in-Err-take_groups-clause-updates g c =
+    let old = c.args.parts.now in
+    let held = c.args.held.now in
+    let d = c.put_all-put.new.catalog in
+    let learned = c.put_all-put.ensures.learned in
+    let groups = c.as_slice-came.result.now in
+    let count = c.in-Ok.came.count in
+    let p = as_slice (kept_in old).store held d count c.in-Ok.came.groups.items groups c.as_slice-came.ensures.value (c.in-Ok.ensures.put (kept_in old).store (agrees old)) in
+    let few = came_few (kept_in old).store held in
+    let fits : rows_in groups ≤ length held = omega (arith, few, p.size, p.count) in
+    record {
+      counted = counts_all old c.requires.whole held (start_here old c.requires.whole held d groups count c.cells_stay.ensures c.laws.ensures c.laws-2.ensures c.requires.suit p learned.0 learned.1) d groups count (begun old c.requires.whole held d groups count c.cells_stay.ensures c.laws.ensures c.laws-2.ensures c.requires.suit p learned.0 learned.1 (λ e. omega (arith, e, c.if-count-eq0.false))) c.leaves_are_small.ensures fits
+          (length held + 2) times_back (rows_each groups (length held) fits) c.args.steps.now.update c.take_groups.new.steps.update c.in-Err-take_groups.ensures.refusal;
+    }
+
+pub returns-clause-updates : goal.returns-clause-updates
+returns-clause-updates g c =
+    let old = c.args.parts.now in
+    let held = c.args.held.now in
+    let d = c.put_all-put.new.catalog in
+    let learned = c.put_all-put.ensures.learned in
+    let groups = c.as_slice-came.result.now in
+    let count = c.in-Ok.came.count in
+    let p = as_slice (kept_in old).store held d count c.in-Ok.came.groups.items groups c.as_slice-came.ensures.value (c.in-Ok.ensures.put (kept_in old).store (agrees old)) in
+    let few = came_few (kept_in old).store held in
+    let fits : rows_in groups ≤ length held = omega (arith, few, p.size, p.count) in
+    record {
+      counted = counts_all old c.requires.whole held (start_here old c.requires.whole held d groups count c.cells_stay.ensures c.laws.ensures c.laws-2.ensures c.requires.suit p learned.0 learned.1) c.take_groups.new.parts.catalog groups count (filled_mid old c.requires.whole held d groups count c.cells_stay.ensures c.laws.ensures c.laws-2.ensures c.requires.suit p learned.0 learned.1 c.live_stays.ensures (λ e. omega (arith, e, c.if-count-eq0.false)) c.take_groups.new.parts c.in-Ok-take_groups.ensures.taken c.take_groups.ensures.catalog) c.leaves_are_small.ensures fits
+          1 (λ x. 1) (λ k e low. omega arith) c.args.steps.now.update c.take_groups.new.steps.update c.in-Ok-take_groups.ensures.updates;
+    }
+
+pub returns-in-NoMemory-clause-updates : goal.returns-in-NoMemory-clause-updates
+returns-in-NoMemory-clause-updates g c = record { counted = λ n few. omega arith }
+
+pub returns-then-count-eq0-clause-updates : goal.returns-then-count-eq0-clause-updates
+returns-then-count-eq0-clause-updates g c = record { counted = λ n few. omega arith }
