@@ -1263,12 +1263,13 @@ def answers_of_several_members_are_listed_once():
     lines = [b"rel r int", b"rel s int", b"query a(x) <- r(x)", b"query b(x) <- s(x)", b"union u a b", b"union w b a"]
     lines += [b"add r %d" % at for at in range(2000)] + [b"add s %d" % at for at in range(1000, 3000)]
     fill = len(lines)
-    lines += [b"open c u"] + [b"next c 1000"] * 4 + [b"open d w", b"next d 999", b"next d 1000", b"next d 1000", b"next d 2"]
+    lines += [b"open c u"] + [b"next c 1000"] * 4
+    lines += [b"open d w", b"next d 999", b"next d 1000", b"next d 1000", b"next d 2"]
     output, status = run(texts_of_lines(lines))
     replies = output.splitlines()[fill:]
     ends = [at for at, reply in enumerate(replies) if not reply.startswith(b"= ")]
-    expect(([replies[at] for at in ends], status), ([b"ok open", b"more", b"more", b"end", b"end", b"ok open", b"more", b"more",
-                                                     b"more", b"end"], 0))
+    want = [b"ok open", b"more", b"more", b"end", b"end", b"ok open", b"more", b"more", b"more", b"end"]
+    expect(([replies[at] for at in ends], status), (want, 0))
     expect([ends[at + 1] - ends[at] - 1 for at in range(9)], [1000, 1000, 1000, 0, 0, 999, 1000, 1000, 1])
     for told in (replies[:ends[4]], replies[ends[5]:]):
         expect(sorted(int(reply[2:]) for reply in told if reply.startswith(b"= ")), list(range(3000)))
@@ -1280,9 +1281,10 @@ def a_union_is_refused_in_its_order():
     session += [(b"query q%d(x) <- r(x), x > %d" % (at, at), [b"ok query 3"]) for at in range(9)]
     session += [(b"query p(x,y) <- s(x,y)", [b"ok query 5"]), (b"query t(x) <- t(x)", [b"ok query 3"]),
                 (b"query n() <- r(_)", [b"ok query 1"]), (b"query m() <- s(_,_), t(_)", [b"ok query 1"])]
-    for line in [b"union", b"union v", b"union v q0", b"union v q0 1", b"union v q0,q1", b"union v(q0,q1)", b"union 1 q0 q1",
-                 b"union V q0 q1", b"union v q0 Q1", b'union v q0 "q1"', b"union v q0 _", b"union v q0 q1 <- q2",
-                 b"union " + b"v" * 33 + b" q0 q1", b"union v q0 " + b"q" * 33, b"union\tv q0 q1"]:
+    for line in [b"union", b"union v", b"union v q0", b"union v q0 1", b"union v q0,q1", b"union v(q0,q1)",
+                 b"union 1 q0 q1", b"union V q0 q1", b"union v q0 Q1", b'union v q0 "q1"', b"union v q0 _",
+                 b"union v q0 q1 <- q2", b"union " + b"v" * 33 + b" q0 q1", b"union v q0 " + b"q" * 33,
+                 b"union\tv q0 q1"]:
         session.append((line, [b"err 1 syntax"]))
     eight = b" ".join(b"q%d" % at for at in range(8))
     session += [
@@ -1330,7 +1332,8 @@ def a_union_is_refused_in_its_order():
 def unions_and_queries_are_256_together():
     lines = [b"rel r int"] + [b"query q%d(x) <- r(x)" % at for at in range(250)]
     replies = [b"ok"] + [b"ok query 3"] * 250
-    lines += [b"union u%d q%d q%d" % (at, at, at + 1) for at in range(8)] + [b"query q250(x) <- r(x)", b"query q0(x) <- r(x)"]
+    lines += [b"union u%d q%d q%d" % (at, at, at + 1) for at in range(8)]
+    lines += [b"query q250(x) <- r(x)", b"query q0(x) <- r(x)"]
     replies += [b"ok union 8"] * 6 + [b"err 11 limit"] * 3 + [b"err 2 taken"]
     lines += [b"union u6 q1 q1", b"drop u0", b"query q250(x) <- r(x)", b"union u0 q0 q1", b"drop q0", b"union u6 q1 q2"]
     replies += [b"err 17 member", b"ok", b"ok query 3", b"err 11 limit", b"ok", b"ok union 8"]
@@ -1341,14 +1344,15 @@ def unions_and_queries_are_256_together():
 def a_member_stays_as_long_as_a_union_has_it():
     schedule = (b"open 1\nopen 2\nopen 3\nsay 1 rel r int\nsay 1 query a(x) <- r(x)\nsay 1 query b(x) <- r(x), x > 5\n"
                 b"say 1 query c(x) <- r(x), x < 9\nsay 1 union u a b\nsay 1 union v b c a\nsay 2 drop a\nsay 2 drop c\n"
-                b"say 2 watch u\nsay 3 open k v\nsay 1 drop u\nsay 1 drop v\nsay 2 unwatch u\nsay 1 drop u\nsay 1 drop a\n"
-                b"say 1 add r 7\nsay 3 next k 1\nsay 1 drop v\nend 3\nsay 1 drop v\nsay 1 drop b\nsay 1 drop a\n"
+                b"say 2 watch u\nsay 3 open k v\nsay 1 drop u\nsay 1 drop v\nsay 2 unwatch u\nsay 1 drop u\n"
+                b"say 1 drop a\nsay 1 add r 7\nsay 3 next k 1\nsay 1 drop v\nend 3\n"
+                b"say 1 drop v\nsay 1 drop b\nsay 1 drop a\n"
                 b"say 2 unwatch u\nsay 1 union u a c\nsay 1 query a(x) <- r(x)\nsay 1 union u a c\nsay 2 open k u\n"
                 b"say 2 next k 9\n")
     told = (b"1< ok\n1< ok query 3\n1< ok query 3\n1< ok query 3\n1< ok union 8\n1< ok union 15\n2< err 14 in use\n"
-            b"2< err 14 in use\n2< ok watch 0\n3< ok open\n1< err 14 in use\n1< err 14 in use\n2< ok\n1< ok\n1< err 14 in use\n"
-            b"1< ok added 1 1\n3< stale k r 1\n1< err 14 in use\n1< ok\n1< ok\n1< ok\n2< err 4 no query\n1< err 4 no query\n"
-            b"1< ok query 3\n1< ok union 8\n2< ok open\n2< = 7\n2< end\n")
+            b"2< err 14 in use\n2< ok watch 0\n3< ok open\n1< err 14 in use\n1< err 14 in use\n2< ok\n1< ok\n"
+            b"1< err 14 in use\n1< ok added 1 1\n3< stale k r 1\n1< err 14 in use\n1< ok\n1< ok\n1< ok\n"
+            b"2< err 4 no query\n1< err 4 no query\n1< ok query 3\n1< ok union 8\n2< ok open\n2< = 7\n2< end\n")
     expect(run(schedule, ("replay",)), (told, 0))
 
 
@@ -1425,16 +1429,19 @@ def a_batch_below_members_is_one_delta_of_their_union():
 
 @test
 def deltas_go_by_registration_of_queries_and_unions():
-    schedule = (b"open 1\nopen 2\nsay 1 rel r int\nsay 1 query z(x) <- r(x)\nsay 1 query y(x) <- r(x), x > 0\nsay 1 union m z y\n"
-                b"say 1 query b(x) <- r(x), x < 9\nsay 1 union a y b\nsay 2 watch a\nsay 2 watch b\nsay 2 watch z\nsay 2 watch m\n"
-                b"say 1 watch a\nsay 1 add r 5\nsay 1 del r 5\nsay 2 unwatch m\nsay 1 drop m\nsay 1 union m y z\nsay 2 watch m\n"
-                b"say 1 add r 9\n")
-    told = (b"1< ok\n1< ok query 3\n1< ok query 3\n1< ok union 8\n1< ok query 3\n1< ok union 8\n2< ok watch 0\n2< ok watch 0\n"
-            b"2< ok watch 0\n2< ok watch 0\n1< ok watch 0\n"
-            b"1< + a 5\n1< at a 1\n1< ok added 1 1\n2< + z 5\n2< at z 1\n2< + m 5\n2< at m 1\n2< + b 5\n2< at b 1\n2< + a 5\n2< at a 1\n"
-            b"1< - a 5\n1< at a 2\n1< ok removed 2 0\n2< - z 5\n2< at z 2\n2< - m 5\n2< at m 2\n2< - b 5\n2< at b 2\n2< - a 5\n"
-            b"2< at a 2\n2< ok\n1< ok\n1< ok union 8\n2< ok watch 2\n"
-            b"1< + a 9\n1< at a 3\n1< ok added 3 1\n2< + z 9\n2< at z 3\n2< at b 3\n2< + a 9\n2< at a 3\n2< + m 9\n2< at m 3\n")
+    schedule = (b"open 1\nopen 2\nsay 1 rel r int\nsay 1 query z(x) <- r(x)\nsay 1 query y(x) <- r(x), x > 0\n"
+                b"say 1 union m z y\nsay 1 query b(x) <- r(x), x < 9\nsay 1 union a y b\nsay 2 watch a\nsay 2 watch b\n"
+                b"say 2 watch z\nsay 2 watch m\nsay 1 watch a\nsay 1 add r 5\nsay 1 del r 5\nsay 2 unwatch m\n"
+                b"say 1 drop m\nsay 1 union m y z\nsay 2 watch m\nsay 1 add r 9\n")
+    told = (b"1< ok\n1< ok query 3\n1< ok query 3\n1< ok union 8\n1< ok query 3\n1< ok union 8\n2< ok watch 0\n"
+            b"2< ok watch 0\n2< ok watch 0\n2< ok watch 0\n1< ok watch 0\n"
+            b"1< + a 5\n1< at a 1\n1< ok added 1 1\n"
+            b"2< + z 5\n2< at z 1\n2< + m 5\n2< at m 1\n2< + b 5\n2< at b 1\n2< + a 5\n2< at a 1\n"
+            b"1< - a 5\n1< at a 2\n1< ok removed 2 0\n"
+            b"2< - z 5\n2< at z 2\n2< - m 5\n2< at m 2\n2< - b 5\n2< at b 2\n2< - a 5\n2< at a 2\n"
+            b"2< ok\n1< ok\n1< ok union 8\n2< ok watch 2\n"
+            b"1< + a 9\n1< at a 3\n1< ok added 3 1\n"
+            b"2< + z 9\n2< at z 3\n2< at b 3\n2< + a 9\n2< at a 3\n2< + m 9\n2< at m 3\n")
     expect(run(schedule, ("replay",)), (told, 0))
 
 
@@ -1469,7 +1476,8 @@ def unions_are_listed_told_and_asked_as_by_brute_force():
         for text, _, _ in MEMBERS:
             changer.ask(b"query " + text, b"ok query 5")
         for name, members, most in UNIONS:
-            changer.ask(b"union %s %s" % (name, b" ".join(bytes([member]) for member in members)), b"ok union %d" % most)
+            said = b" ".join(bytes([member]) for member in members)
+            changer.ask(b"union %s %s" % (name, said), b"ok union %d" % most)
         for name in reads:
             following.client.ask(b"watch " + name, b"ok watch 0")
             following.answers[name] = set()

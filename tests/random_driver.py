@@ -252,7 +252,8 @@ class Author:
         if self.chance.random() < 0.03:
             return self.large_union()
         name, first = self.free(self.heads, QUERIES), self.one(self.heads, QUERIES)
-        alike = [query for query, types in self.heads.items() if types == self.heads.get(first) and query not in self.unions]
+        alike = [query for query, types in self.heads.items()
+                 if types == self.heads.get(first) and query not in self.unions]
         self.chance.shuffle(alike)
         members = alike[:self.chance.choice([2, 2, 2, 3, 3, 4, 8])]
         # of a member that doesn't suit the others, stands twice or is a union there are less
@@ -274,8 +275,8 @@ class Author:
         members = [b"l%d" % at for at in range(model.MOST_MEMBERS + self.chance.choice([0, 0, 1]))]
         queries = [self.said_query(member, [b"x"], [atom], self.comparisons({b"x": kinds[0]})) for member in members]
         self.chance.shuffle(members)
-        listing = [b"drop lu", b"close c", b"next c 1000", b"open c lu"]
-        self.planned = [b"drop " + member for member in members] + listing + [b" ".join([b"union lu", *members])] + queries
+        union = [b"drop lu", b"close c", b"next c 1000", b"open c lu", b" ".join([b"union lu", *members])]
+        self.planned = [b"drop " + member for member in members] + union + queries
         return self.planned.pop()
 
     def said_union(self, name, members):
@@ -458,8 +459,8 @@ def flood_stream(chance):
         number = chance.randrange(1, 4)
         said = [chance.choice([b"add r %d", b"add r %d", b"add r %d", b"del r %d", b"has p %d"]) % chance.randrange(10)]
         if chance.random() < 0.3:
-            said = [chance.choice([b"watch f", b"watch g", b"watch p", b"unwatch f", b"open c f", b"open c g", b"close c"]
-                                  + [b"next c 1000"] * 2)]
+            words = [b"watch f", b"watch g", b"watch p", b"unwatch f", b"open c f", b"open c g", b"close c"]
+            said = [chance.choice(words + [b"next c 1000"] * 2)]
         elif chance.random() < 0.1:
             held = [b"add r %d" % chance.randrange(10) for _ in range(chance.randrange(6))]
             said = [b"batch", *held, b"done"]
