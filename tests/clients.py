@@ -918,6 +918,29 @@ def test_alarm(program):
             assert process.wait(SECONDS) == 0
 
 
+def test_rules(program):
+    with Server(program) as server, server.connect() as client:
+        assert output(server, "rules.py", "--once") == ""
+        client.add("levels", 12, 5)
+        stands = "stands 7: pump 2 has to stop, it is dry\n"
+        assert output(server, "rules.py", "--once") == stands
+        with example(server, "rules.py", "--lines", "5") as process:
+            hear(process, stands)
+            client.add("levels", 11, 5)
+            hear(process, "raised 8: pump 1 has to stop, it is dry")
+            # the other rule holds beside it, and then this one no more: nothing is told
+            client.add("bearings", 1, 85)
+            client.delete("levels", 11, 5)
+            client.delete("bearings", 1, 85)
+            hear(process, "cleared 11: pump 1 may run")
+            batch_of(client, ("bearings", 1, 85), ("levels", 11, 5))
+            hear(process, "raised 12: pump 1 has to stop, it is dry and hot")
+            client.delete("pumps", 2, 12, "running")
+            hear(process, "cleared 13: pump 2 may run")
+            assert process.wait(SECONDS) == 0
+        raises(djq.InUse, lambda: client.drop("hot"))
+
+
 def test_cache(program):
     with Server(program) as server, server.connect() as client:
         told = output(server, "cache.py", "--size", "2", given="1 1 2\n1 3 2\n")
@@ -1000,7 +1023,7 @@ SERVED = [
 ]  # fmt: skip
 # each with a server of its own
 APART = [
-    test_explain, test_stop, test_dashboard, test_alarm, test_cache, test_a_reply_that_doesnt_come,
+    test_explain, test_stop, test_dashboard, test_alarm, test_rules, test_cache, test_a_reply_that_doesnt_come,
     test_a_server_that_is_started_again_with_its_log, test_a_batch_that_is_interrupted,
     *pages.TESTS, *busy.TESTS,
 ]  # fmt: skip
