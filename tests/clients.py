@@ -591,13 +591,15 @@ def test_live_begins_while_rows_change(server):
     with server.connect() as client, contextlib.ExitStack() as open_ones:
         client.relation("lb", int, int)
         client.query("lo(x,y,z) <- lb(x,y), lb(y,z)")
+        client.query("back(x,y,z) <- lb(z,y), lb(y,x)")
+        client.union("ways", "lo", "back")
         client.add("lb", 1, 1)
         other = threading.Thread(target=churn)
         other.start()
         lives = []
         try:
-            for _ in range(25):
-                lives.append(open_ones.enter_context(client.live("lo")))
+            for number in range(25):
+                lives.append(open_ones.enter_context(client.live(("lo", "ways")[number % 2])))
                 next(lives[-1].changes(SECONDS))
         finally:
             stop.set()
@@ -606,7 +608,7 @@ def test_live_begins_while_rows_change(server):
         for live in lives:
             while live.seq < last[0]:
                 next(live.changes(SECONDS))
-            assert live.answers == set(client.answers("lo"))
+            assert live.answers == set(client.answers(live.query)), live.query
 
 
 def test_a_stalled_reader_comes_back(server):

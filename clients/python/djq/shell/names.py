@@ -36,6 +36,7 @@ class Names:
             query = read_query(line.strip()[len("query") :])
             if query is not None:
                 self.queries[query.name] = query
+                self.unions.pop(query.name, None)  # which another session has dropped
                 self.relations.update(atom.relation for atom in query.atoms)
         elif command in ("add", "del"):
             self.relations.add(name)
