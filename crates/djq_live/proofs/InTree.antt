@@ -20,7 +20,7 @@ use Rattle.std.proofs.Common.{
   inr,
   arith,
 }
-use Rattle.std.specs.Prelude.{◌==◌, ◌||◌, Option, Some, not, drop, slice_get, slice_index}
+use Rattle.std.specs.Prelude.{◌==◌, Option, Some, not, drop, slice_get, slice_index}
 use Rattle.std.proofs.lemmas.Bool.{cases_Bool, eqb-true, false≢true, or_cases, or_left, or_right}
 use Rattle.std.proofs.lemmas.List.{length-map}
 use Rattle.std.proofs.lemmas.Option.{same_Some}
@@ -37,7 +37,7 @@ use Rattle.djq_reduct.specs.Columns.{column}
 use Rattle.djq_reduct.proofs.Readings.{IsSimple, cell_there, row_same, reading_row}
 use Rattle.djq_query.specs.declared.numbered.Variable.{Variable}
 use Rattle.djq_query.specs.Numbered.{labels}
-use Rattle.djq_query.proofs.Numbered.{not_false}
+use Rattle.djq_query.proofs.Numbers.{not_false}
 use Rattle.djq_rows.specs.Cells.{cell_of, cells_of, HaveCells, StandsFor}
 use Rattle.djq_rows.specs.Parts.{value_of}
 use Rattle.djq_rows.specs.Catalog.{Catalog}
