@@ -61,7 +61,7 @@ kept_by Does at c logs gs hs v f =
     record {
       long = ap (λ (xs : List (Option Live)). length xs) v.is ∙ length-set gs at (Some v.new);
       shown = shown_alike c.texts gs hs logs (moved_alike at gs hs v.old v.new v.there v.is same);
-      places = keeps_moved (λ q. false) at gs hs v.old v.new v.there v.is same;
+      places = keeps_moved at gs hs v.old v.new v.there v.is same (λ q. false);
     }
 
 module _ (c : Catalog) (gs hs : List (Option Live)) (order : List ℕ) (readers : List (List ℕ)) (s : IsSound c gs order readers) (logs : List Log) (at k : ℕ) where

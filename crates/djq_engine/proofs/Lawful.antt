@@ -59,18 +59,18 @@ module _ (p : Parts) (s : IsWhole p) where
   are_listed i l e = registered_gives p.catalog p.queries.items p.order p.readers.items p.watchers.items s (id_at i)
       (λ r. r.query ≡ a_query l.query) (record { query = l; is = e }) (ap query_in e)
 
+  abbrev IsHeldAt : CursorId → Held → Type 0
+  IsHeldAt id h = (h.id ≡ id) × IsSomeAnd (registered_at (kept_in p).registered id.query) (λ r. h.query ≡ listed_name r.query)
+
   pub are_held : AreHeld (kept_in p)
   are_held id h held = by_place (place_at p.queries.items id.query.at) refl
       (sym (held_is (p.catalog).texts p.queries.items id) ∙ held)
     where
-      abbrev Found : Type 0
-      Found = (h.id ≡ id) × IsSomeAnd (registered_at (kept_in p).registered id.query) (λ r. h.query ≡ listed_name r.query)
-
       same_held : (x y : Held) → Some x ≡ Some y → x ≡ y
       same_held x y e = cc
 
       by_slot : (l : Live) → place_at p.queries.items id.query.at ≡ Some l → (o : Option Progress)
-          → option_map (held_as (p.catalog).texts l id) o ≡ Some h → Found
+          → option_map (held_as (p.catalog).texts l id) o ≡ Some h → IsHeldAt id h
       by_slot l e None f = absurd cc
       by_slot l e (Some q) f =
           let same = same_held (held_as (p.catalog).texts l id q) h f in (
@@ -81,22 +81,22 @@ module _ (p : Parts) (s : IsWhole p) where
           )
 
       by_place : (o : Option Live) → place_at p.queries.items id.query.at ≡ o
-          → held_of (p.catalog).texts id o ≡ Some h → Found
+          → held_of (p.catalog).texts id o ≡ Some h → IsHeldAt id h
       by_place None e f = absurd cc
       by_place (Some l) e f = by_slot l e (slot_at l.cursors id.cursor) f
+
+  abbrev HaveCells : List Change → Live → Type 0
+  HaveCells changes l = All (λ c. (cells : List ℕ) × CellsAre (kept_in p) l cells c) changes
 
   pub are_told : IsTended p → ShowableCellsStand → AreTold (kept_in p)
   are_told t law id changes told = by_place (place_at p.queries.items id.at) refl
       (sym (told_is (p.catalog).texts p.queries.items p.logs.items id.at) ∙ told)
     where
-      abbrev Have : Live → Type 0
-      Have l = All (λ c. (cells : List ℕ) × CellsAre (kept_in p) l cells c) changes
-
       same_changes : (x y : List Change) → Some x ≡ Some y → x ≡ y
       same_changes x y e = cc
 
       by_lost : (l : Live) → place_at p.queries.items id.at ≡ Some l → (b : Bool) → (log_at p.logs.items id.at).lost ≡ b
-          → cond b None (Some (map (change_of (p.catalog).texts l) (log_at p.logs.items id.at).lines)) ≡ Some changes → Have l
+          → cond b None (Some (map (change_of (p.catalog).texts l) (log_at p.logs.items id.at).lines)) ≡ Some changes → HaveCells changes l
       by_lost l e true f g = absurd cc
       by_lost l e false f g =
           subst (λ (cs : List Change). All (λ c. (cells : List ℕ) × CellsAre (kept_in p) l cells c) cs)
@@ -104,6 +104,6 @@ module _ (p : Parts) (s : IsWhole p) where
           (lines_have p l law (log_at p.logs.items id.at).lines (t.shown id.at l e f))
 
       by_place : (o : Option Live) → place_at p.queries.items id.at ≡ o
-          → told_of (p.catalog).texts o (log_at p.logs.items id.at) ≡ Some changes → IsSomeAnd o Have
+          → told_of (p.catalog).texts o (log_at p.logs.items id.at) ≡ Some changes → IsSomeAnd o (HaveCells changes)
       by_place None e f = absurd cc
       by_place (Some l) e f = by_lost l e (log_at p.logs.items id.at).lost refl f

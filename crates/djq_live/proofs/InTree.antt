@@ -26,25 +26,21 @@ use Rattle.std.proofs.lemmas.List.{length-map}
 use Rattle.std.proofs.lemmas.Option.{same_Some}
 use Rattle.djq_hyper.specs.Hypergraph.{member}
 use Rattle.djq_model.specs.declared.value.Value.{Value}
-use Rattle.djq_model.specs.declared.relation.ColumnType.{ColumnType}
 use Rattle.djq_model.specs.Data.{Bytes, Tuple, bytes_eq}
 use Rattle.djq_model.specs.Equality.{bytes_eq-decides}
 use Rattle.djq_model.specs.Typed.{is_of, fits}
 use Rattle.djq_value.specs.Literal.{has_name, are_different}
 use Rattle.djq_lines.specs.Variables.{Label}
-use Rattle.djq_lines.specs.QueryFault.{repeats_head}
-use Rattle.djq_reduct.specs.Columns.{column}
 use Rattle.djq_reduct.proofs.Readings.{IsSimple, cell_there, row_same, reading_row}
 use Rattle.djq_query.specs.declared.numbered.Variable.{Variable}
 use Rattle.djq_query.specs.Numbered.{labels}
 use Rattle.djq_query.proofs.Numbers.{not_false}
-use Rattle.djq_rows.specs.Cells.{cell_of, cells_of, HaveCells, StandsFor}
+use Rattle.djq_rows.specs.Cells.{cell_of, cells_of, HaveCells}
 use Rattle.djq_rows.specs.Parts.{value_of}
-use Rattle.djq_rows.specs.Catalog.{Catalog}
 use Rattle.djq_rows.proofs.Encoding.{value_back}
 use Rattle.djq_live.specs.Asked.{column_of}
-use Rattle.djq_live.specs.Live.{Live, IsKept, values_of}
-use Rattle.djq_live.specs.Member.{in_tree, head_types, CellsInTreeStand}
+use Rattle.djq_live.specs.Live.{values_of}
+use Rattle.djq_live.specs.Member.{in_tree, CellsInTreeStand}
 use Rattle.djq_live.specs.Order.{reading}
 use Rattle.djq_live.specs.Shown.{value_at, AreShownAs}
 use Rattle.djq_live.proofs.Terms.{both}
