@@ -38,9 +38,11 @@ lines_have : (p : Parts) (l : Live) (law : ShowableCellsStand) (lines : List Lin
 lines_have p l law [] h = All-nil (λ c. (cells : List ℕ) × CellsAre (kept_in p) l cells c)
 lines_have p l law (k ∷ lines) h =
     All-cons (λ c. (cells : List ℕ) × CellsAre (kept_in p) l cells c) (change_of (p.catalog).texts l k)
-    (map (change_of (p.catalog).texts l) lines)
-    (in_head l k.answer, law (p.catalog).texts l k.answer
-    (All-head (λ k. IsShowable (p.catalog).texts l k.answer) k lines h))
+    (map (change_of (p.catalog).texts l) lines) (
+      in_head l k.answer,
+      law (p.catalog).texts l k.answer
+          (All-head (λ k. IsShowable (p.catalog).texts l k.answer) k lines h),
+    )
     (lines_have p l law lines (All-tail (λ k. IsShowable (p.catalog).texts l k.answer) k lines h))
 
 module _ (p : Parts) (s : IsWhole p) where
