@@ -16,12 +16,12 @@ use Rattle.djq_engine.proofs.Reporting.{filter_few}
 -- a list with a place is longer than without it
 left_fewer : (i : ℕ) (xs : List ℕ) → is_reader xs i ≡ true → length (left i xs) < length xs
 left_fewer i [] e = absurd (false≢true e)
-left_fewer i (x ∷ xs) e = step (x == i) refl e
+left_fewer i (x ∷ xs) e = step (x == i) (left_fewer i xs) e
   where
-    step : (b : Bool) → (x == i) ≡ b → (b || is_reader xs i) ≡ true
+    step : (b : Bool) → (is_reader xs i ≡ true → length (left i xs) < length xs) → (b || is_reader xs i) ≡ true
         → length (cond (not b) (x ∷ left i xs) (left i xs)) < length (x ∷ xs)
-    step true f h = let few = filter_few (λ j. not (j == i)) xs in omega arith
-    step false f h = let few = left_fewer i xs h in omega arith
+    step true more h = let few = filter_few (λ j. not (j == i)) xs in omega arith
+    step false more h = let few = more h in omega arith
 
 -- a list that has all places below a number is as long
 pub all_below : (n : ℕ) (xs : List ℕ) → ((i : ℕ) → i < n → is_reader xs i ≡ true) → n ≤ length xs

@@ -1,5 +1,5 @@
 -- The queries in their places, behind a call.
-use Rattle.std.proofs.Common.{ℕ, List, ◌≡◌, ◌≢◌, Bool, true, false, refl, sym, ap, ◌∙◌, subst, set}
+use Rattle.std.proofs.Common.{ℕ, List, ◌≡◌, ◌≢◌, ◌<◌, Bool, true, false, refl, sym, ap, ◌∙◌, subst, length, set}
 use Rattle.std.specs.Prelude.{Option, None, Some, IsSomeAnd, is_some}
 use Rattle.std.proofs.lemmas.Bool.{false≢true}
 use Rattle.std.proofs.lemmas.List.{get_or-set_same, get_or-set_other}
