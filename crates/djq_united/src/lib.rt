@@ -29,6 +29,9 @@ mod cursors;
 mod laws;
 mod union;
 
+#[cfg(test)]
+mod tests;
+
 pub use alike::heads_differ;
 pub use cursors::Progress;
 pub use laws::{members_stay, stale_stand, unions_stay};
