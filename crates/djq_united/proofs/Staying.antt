@@ -100,12 +100,6 @@ same_shape l m s = record {
   tree = ap (λ (r : Reducts). r.tree) s.reducts;
 }
 
-same_shapes : (ls ms : List Live) → AllZip HasSameTables ls ms → AllZip HasSameShape ls ms
-same_shapes [] [] zip = tt
-same_shapes [] (m ∷ ms) zip = absurd zip
-same_shapes (l ∷ ls) [] zip = absurd zip
-same_shapes (l ∷ ls) (m ∷ ms) zip = (same_shape l m zip.0, same_shapes ls ms zip.1)
-
 -- the tests of a member, and of some
 abbrev has_of : Live → List ℕ → Bool
 has_of l t = has_cells l t

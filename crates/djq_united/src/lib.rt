@@ -27,10 +27,9 @@
 mod alike;
 mod cursors;
 mod laws;
-mod union;
-
 #[cfg(test)]
 mod tests;
+mod union;
 
 pub use alike::heads_differ;
 pub use cursors::Progress;

@@ -147,6 +147,22 @@ fn listed<L: Ledgers>(
     Ok(given)
 }
 
+/// What the union of two queries gives.
+fn list_both<L: Ledgers>(
+    alloc: Global,
+    catalog: &Catalog,
+    forth: LiveQuery,
+    back: LiveQuery,
+    listing: &mut Tally<Listing<L>>,
+) -> Result<Vec<(u64, u64)>, Fail>
+    requires forth { IsLive catalog.now forth }
+    requires back { IsLive catalog.now back }
+{
+    let queries = [Some(forth), Some(back)];
+    let mut union = joined(alloc, &queries)?;
+    Ok(listed(alloc, &mut union, catalog, &queries, listing)?)
+}
+
 /// What the union of `a(x,y) <- e(x,y)` and `b(x,y) <- e(y,x)` gives over some rows.
 fn both_ways<L: Ledgers>(
     rt: &HostRuntime,
@@ -160,14 +176,11 @@ fn both_ways<L: Ledgers>(
     let mut steps = Steps::<L>::new(rt, blanks);
     let mut catalog = Catalog::new(rt.alloc())?;
     fill(rt.alloc(), &mut catalog, rows, &mut steps)?;
-    let forth = over_edges(rt.alloc(), b'x', b'y')?;
-    let back = over_edges(rt.alloc(), b'y', b'x')?;
-    let queries = [
-        Some(build(rt.alloc(), &catalog, forth, &mut steps)?),
-        Some(build(rt.alloc(), &catalog, back, &mut steps)?),
-    ];
-    let mut union = joined(rt.alloc(), &queries)?;
-    Ok(listed(rt.alloc(), &mut union, &catalog, &queries, &mut steps.listing)?)
+    let query = over_edges(rt.alloc(), b'x', b'y')?;
+    let forth = build(rt.alloc(), &catalog, query, &mut steps)?;
+    let query = over_edges(rt.alloc(), b'y', b'x')?;
+    let back = build(rt.alloc(), &catalog, query, &mut steps)?;
+    list_both(rt.alloc(), &catalog, forth, back, &mut steps.listing)
 }
 
 // The members have other numbers for their variables, and share two answers.

@@ -53,3 +53,22 @@ stays : (c : Catalog) (qs : List (Option Live)) (old new : United) (k : ℕ) (o 
     → Stays qs k new
 stays c qs old new k None n t united e h = absurd h
 stays c qs old new k (Some p) n t united e h = stays_at c qs old new k p n t united e h
+
+pub returns-in-Given-clause-united : goal.returns-in-Given-clause-united
+returns-in-Given-clause-united g c =
+    (stays c.args.catalog.now c.args.queries.now c.args.union.now c.next.new.self c.args.slot _
+    c.next.result c.next.new.answer c.requires.united refl
+    (c.next.ensures.gives c.args.catalog.now c.requires.kept)).united
+
+pub returns-in-Given-clause-there : goal.returns-in-Given-clause-there
+returns-in-Given-clause-there g c =
+    (stays c.args.catalog.now c.args.queries.now c.args.union.now c.next.new.self c.args.slot _
+    c.next.result c.next.new.answer c.requires.united refl
+    (c.next.ensures.gives c.args.catalog.now c.requires.kept)).there
+
+pub returns-in_default : goal.returns-in_default
+returns-in_default g c =
+    let s = stays c.args.catalog.now c.args.queries.now c.args.union.now c.next.new.self
+    c.args.slot _ c.next.result c.next.new.answer c.requires.united refl
+    (c.next.ensures.gives c.args.catalog.now c.requires.kept) in
+    record { united = s.united; there = s.there }
