@@ -1,6 +1,41 @@
 -- Reads of a union's cursor, from cells to values.
-use Rattle.std.proofs.Common.{◌≡◌, ℕ, Bool, true, false, ◌⊎◌, List, [], ◌∷◌, ◌++◌, map, inl, inr, refl, ap, ap₂, sym, subst, ◌∙◌, arith}
-use Rattle.std.specs.Prelude.{◌↔◌, Contains, not, Option, Some, IsSomeAnd, Result, Ok, Err, IfOk, OnErr, slice_get, slice_set}
+use Rattle.std.proofs.Common.{
+  ◌≡◌,
+  ℕ,
+  Bool,
+  true,
+  false,
+  ◌⊎◌,
+  List,
+  [],
+  ◌∷◌,
+  ◌++◌,
+  map,
+  inl,
+  inr,
+  refl,
+  ap,
+  ap₂,
+  sym,
+  subst,
+  ◌∙◌,
+  arith,
+}
+use Rattle.std.specs.Prelude.{
+  ◌↔◌,
+  Contains,
+  not,
+  Option,
+  Some,
+  IsSomeAnd,
+  Result,
+  Ok,
+  Err,
+  IfOk,
+  OnErr,
+  slice_get,
+  slice_set,
+}
 use Rattle.std.specs.Bool.{OnTrue}
 use Rattle.std.proofs.lemmas.Bool.{false≢true, or_cases, or_left, or_right}
 use Rattle.std.proofs.lemmas.List.{map-append}
@@ -34,7 +69,20 @@ use Rattle.djq_live.proofs.AtPlaces.{as_many}
 use Rattle.djq_united.specs.declared.cursors.Progress.{Progress}
 use Rattle.djq_united.specs.declared.cursors.Progress.TheVariants.{Open, Stale}
 use Rattle.djq_united.specs.Slots.{slot_at}
-use Rattle.djq_united.specs.United.{United, members_in, union_of, AtFirst, FitsMembers, FitsOver, AreMembers, IsUnited, AreKept, shown_cells, given_by, position_of}
+use Rattle.djq_united.specs.United.{
+  United,
+  members_in,
+  union_of,
+  AtFirst,
+  FitsMembers,
+  FitsOver,
+  AreMembers,
+  IsUnited,
+  AreKept,
+  shown_cells,
+  given_by,
+  position_of,
+}
 use Rattle.djq_united.specs.Advancing.{union_cells, Reads, Looks, InSlot, OpensSlot}
 use Rattle.djq_united.specs.Reading.{MovesTo, NextGives, NextGivesAt, MoreGives, MoreGivesAt}
 use Rattle.djq_united.proofs.Lists.{IsMissing, missing}

@@ -1,5 +1,23 @@
 -- Unions as the queries in their places change.
-use Rattle.std.proofs.Common.{◌≡◌, ℕ, Bool, true, List, [], ◌∷◌, ◌++◌, map, refl, ap, ap₂, sym, subst, ◌∙◌, inl, inr}
+use Rattle.std.proofs.Common.{
+  ◌≡◌,
+  ℕ,
+  Bool,
+  true,
+  List,
+  [],
+  ◌∷◌,
+  ◌++◌,
+  map,
+  refl,
+  ap,
+  ap₂,
+  sym,
+  subst,
+  ◌∙◌,
+  inl,
+  inr,
+}
 use Rattle.std.specs.Prelude.{◌||◌, Contains, Option, None, Some, IfSome, IsSomeAnd}
 use Rattle.std.specs.List.{AllZip}
 use Rattle.djq_model.specs.declared.query.Query.{Query}
@@ -21,9 +39,27 @@ use Rattle.djq_live.proofs.Showable.{stays_showable}
 use Rattle.djq_united.specs.declared.cursors.Progress.{Progress}
 use Rattle.djq_united.specs.declared.cursors.Progress.TheVariants.{Open, Stale}
 use Rattle.djq_united.specs.Slots.{outdated_slots}
-use Rattle.djq_united.specs.United.{United, members_in, AreAlike, FitsMembers, FitsOver, FitAll, IsUnited, shown_cells, given_by, position_of}
+use Rattle.djq_united.specs.United.{
+  United,
+  members_in,
+  AreAlike,
+  FitsMembers,
+  FitsOver,
+  FitAll,
+  IsUnited,
+  shown_cells,
+  given_by,
+  position_of,
+}
 use Rattle.djq_united.specs.Advancing.{union_cells}
-use Rattle.djq_united.specs.Staying.{HasSameTables, HasSameShape, KeepMembers, MembersStay, UnionsStay, StaleStand}
+use Rattle.djq_united.specs.Staying.{
+  HasSameTables,
+  HasSameShape,
+  KeepMembers,
+  MembersStay,
+  UnionsStay,
+  StaleStand,
+}
 use Rattle.djq_united.proofs.Lists.{same_images}
 use Rattle.djq_united.proofs.Placed.{member_kept, members_zip, still_have}
 use Rattle.djq_united.proofs.Slots.{stale_fits}

@@ -163,8 +163,33 @@ fn list_both<L: Ledgers>(
     Ok(listed(alloc, &mut union, catalog, &queries, listing)?)
 }
 
-/// What the union of `a(x,y) <- e(x,y)` and `b(x,y) <- e(y,x)` gives over some rows.
+/// Registers `q(x,y)` over `e` of these two variables.
+fn register<L: Ledgers>(
+    alloc: Global,
+    catalog: &Catalog,
+    first: u8,
+    second: u8,
+    steps: &mut Steps<L>,
+) -> Result<LiveQuery, Fail>
+    ensures { IfOk result (λ l. IsLive catalog.now l) }
+{
+    let query = over_edges(alloc, first, second)?;
+    build(alloc, catalog, query, steps)
+}
+
+/// What the union of `a(x,y) <- e(x,y)` and `b(x,y) <- e(y,x)` gives.
 fn both_ways<L: Ledgers>(
+    alloc: Global,
+    catalog: &Catalog,
+    steps: &mut Steps<L>,
+) -> Result<Vec<(u64, u64)>, Fail> {
+    let forth = register(alloc, catalog, b'x', b'y', steps)?;
+    let back = register(alloc, catalog, b'y', b'x', steps)?;
+    list_both(alloc, catalog, forth, back, &mut steps.listing)
+}
+
+/// What it gives over some rows.
+fn given<L: Ledgers>(
     rt: &HostRuntime,
     blanks: Blanks,
     rows: &[[i64; 2]],
@@ -176,20 +201,16 @@ fn both_ways<L: Ledgers>(
     let mut steps = Steps::<L>::new(rt, blanks);
     let mut catalog = Catalog::new(rt.alloc())?;
     fill(rt.alloc(), &mut catalog, rows, &mut steps)?;
-    let query = over_edges(rt.alloc(), b'x', b'y')?;
-    let forth = build(rt.alloc(), &catalog, query, &mut steps)?;
-    let query = over_edges(rt.alloc(), b'y', b'x')?;
-    let back = build(rt.alloc(), &catalog, query, &mut steps)?;
-    list_both(rt.alloc(), &catalog, forth, back, &mut steps.listing)
+    both_ways(rt.alloc(), &catalog, &mut steps)
 }
 
 // The members have other numbers for their variables, and share two answers.
 #[test]
 fn gives_each_answer_once(rt: HostRuntime) -> Result<(), Fail> {
-    let given = both_ways::<Brand>(&rt, Blanks::new(&rt), &[[1, 2], [2, 1], [3, 4]])?;
-    assert_eq!(rt; given.len(), 4);
+    let pairs = given::<Brand>(&rt, Blanks::new(&rt), &[[1, 2], [2, 1], [3, 4]])?;
+    assert_eq!(rt; pairs.len(), 4);
     for pair in [(1, 2), (2, 1), (3, 4), (4, 3)] {
-        assert!(rt; given.contains(&pair));
+        assert!(rt; pairs.contains(&pair));
     }
     Ok(())
 }
