@@ -4,6 +4,8 @@ use Rattle.std.proofs.Common.{
   ℕ,
   zero,
   suc,
+  ◌+◌,
+  ◌≤◌,
   Bool,
   true,
   false,
@@ -11,16 +13,22 @@ use Rattle.std.proofs.Common.{
   [],
   ◌∷◌,
   map,
+  take,
+  sum_by,
   refl,
   sym,
   ap,
   ◌∙◌,
+  subst,
   inl,
   inr,
+  arith,
 }
 use Rattle.std.specs.Prelude.{◌⊎◌, ◌&&◌, ◌||◌, not, cond, None, Some, slice_get, slice_index_or}
 use Rattle.std.proofs.lemmas.Bool.{cases_Bool, false≢true}
 use Rattle.std.proofs.lemmas.Option.{same_Some, none-some}
+use Rattle.std.proofs.lemmas.List.{take-take}
+use Rattle.std.proofs.lemmas.List.Sums.{sum_by-take-le}
 use Rattle.djq_cursor.specs.declared.log.Line.{Line}
 use Rattle.djq_live.specs.Live.{Live}
 use Rattle.djq_live.specs.Member.{has_cells}
@@ -89,3 +97,10 @@ pub told_no : (came : Bool) (ls : List Live) (first : Live) (g : Gain) → is_to
     → lines_of came ls first (g ∷ []) ≡ []
 told_no came ls first g told =
     ap (λ (b : Bool). map (line_of came first) (cond b (g ∷ []) [])) told
+
+-- a sum over one more is no less
+pub take_more_le : {A : Type 0} (f : A → ℕ) (xs : List A) (n : ℕ)
+    → sum_by f (take n xs) ≤ sum_by f (take (n + 1) xs)
+take_more_le {A = A} f xs n =
+    subst (λ (ys : List A). sum_by f ys ≤ sum_by f (take (n + 1) xs))
+    (take-take n (n + 1) xs (omega arith)) (sum_by-take-le f (take (n + 1) xs) n)

@@ -88,7 +88,7 @@ place_is members n m place low same is =
     same_Some (slice_index_or members n 0) place
     (sym (slice_get-get_or members n 0 low) ∙ ap (slice_get members) (sym same) ∙ is)
 
-last_or_less : (m n : ℕ) → m < n + 1 → (m < n) ⊎ (m ≡ n)
+pub last_or_less : (m n : ℕ) → m < n + 1 → (m < n) ⊎ (m ≡ n)
 last_or_less m n low = elim (cases_lt m n) [
   | inl less ↦ inl less
   | inr more ↦ inr (omega arith)

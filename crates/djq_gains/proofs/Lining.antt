@@ -41,9 +41,9 @@ use Rattle.djq_gains.specs.Gathered.{Gain, IsIn, AtSlot, slots_in}
 use Rattle.djq_gains.specs.Gathering.{is_told, line_of, lines_of, IsFirst}
 
 -- the first j tuples are told; the next lies in this slot
-pub record Telling (came : Bool) (ls : List Live) (gains : List Gain) (at : Option ℕ) (j : ℕ)
+pub record Telling (came : Bool) (ls : List Live) (gains : List Gain) (next : Option ℕ) (j : ℕ)
     (lines : List Line) (lost : Bool) : Type 0 where
-  pub at : at ≡ first_of (slots_in (drop j gains))
+  pub at : next ≡ first_of (slots_in (drop j gains))
   pub room : j ≤ length gains
   pub told : lost ≡ false → IsFirst ls (λ l. lines ≡ lines_of came ls l (take j gains))
 
@@ -124,3 +124,9 @@ pub tells_all : (came : Bool) (ls : List Live) (gains : List Gain) (at : Option 
     → lost ≡ false → IsFirst ls (λ l. lines ≡ lines_of came ls l gains)
 tells_all came ls gains at j lines lost all last kept l first =
     all.told kept l first ∙ ap (lines_of came ls l) (take_all j gains last)
+
+-- the tuples are told as far as the next, which isn't there
+pub tells_none : (came : Bool) (ls : List Live) (gains : List Gain) (at : Option ℕ) (j : ℕ)
+    (lines : List Line) (lost : Bool) → Telling came ls gains at j lines lost → at ≡ None
+    → length gains ≤ j
+tells_none came ls gains at j lines lost all none = none_left gains j all.room (sym all.at ∙ none)

@@ -14,7 +14,7 @@ use Rattle.std.proofs.Common.{
   arith,
 }
 use Rattle.std.specs.Prelude.{Option, Some, IsSomeAnd, All, Contains, slice_get, slice_index_or}
-use Rattle.std.proofs.lemmas.Option.{slice_get_within, get_or_from_slice_get}
+use Rattle.std.proofs.lemmas.Option.{slice_get_within, get_or_from_slice_get, same_Some}
 use Rattle.std.proofs.lemmas.List.{length-map}
 use Rattle.djq_machine.specs.Store.{answer_types, variable_type}
 use Rattle.djq_rows.specs.Catalog.{Catalog}
@@ -76,3 +76,9 @@ wide_member k members n width types over have alike wide low =
     (got (queries_at k.places members) 0 f first.nth))
     ∙ head_long over.catalog f types (over.live (slice_index_or members 0 0) f first.at).kept
     ∙ sym is)
+
+-- two that stand at the same number are one
+pub same_at : {A : Type 0} (xs : List A) (m n : ℕ) (x y : A) → m ≡ n → slice_get xs m ≡ Some x
+    → slice_get xs n ≡ Some y → x ≡ y
+same_at xs m n x y same at_m at_n =
+    same_Some x y (sym at_m ∙ ap (slice_get xs) same ∙ at_n)

@@ -144,7 +144,10 @@ pub fn tell_gains<L: Ledger>(
         places: members,
     };
     match gather(alloc, engine, members, touched) {
-        Ok(gains) => tell(&group, &gains, came, log, listing),
+        Ok(gains) => {
+            gains.laws();
+            tell(&group, &gains, came, log, listing);
+        }
         Err(_) => log.lose(),
     }
 }
