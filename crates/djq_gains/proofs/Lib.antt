@@ -1,3 +1,4 @@
+pub mod Union
 pub mod Lists
 pub mod Noting
 pub mod Taking
@@ -5,3 +6,4 @@ pub mod Collecting
 pub mod Members
 pub mod Alone
 pub mod Lining
+pub mod Meaning
