@@ -7,3 +7,4 @@ pub mod Members
 pub mod Alone
 pub mod Lining
 pub mod Meaning
+pub mod Delta

@@ -114,7 +114,7 @@ pub nth_of : (members : List ℕ) (place : ℕ) (n : ℕ) → n < length members
 nth_of members place n low is = slice_get-get_or members n place low ∙ ap Some is
 
 
-kept_at : (k : Kept) (over : IsOver k) (i : ℕ) (l : Live) → query_at k.places i ≡ Some l
+pub kept_at : (k : Kept) (over : IsOver k) (i : ℕ) (l : Live) → query_at k.places i ≡ Some l
     → IsKept over.catalog l
 kept_at k over i l is = (over.live i l is).kept
 
@@ -167,13 +167,14 @@ one_value k over l tell types kept u v w a b =
     (tell c l l refl u u v w (moved v a) (moved w b)).0 refl
 
 -- a tuple that is gathered, as one of a member's delta
-pub record IsFor (k : Kept) (members touched : List ℕ) (first : Live) (m : ℕ) (u : List ℕ) : Type 0 where
-  place : ℕ
-  member : slice_get members m ≡ Some place
-  among : is_among touched place ≡ true
-  change : Change
-  there : Contains (changes_in k place) change
-  stand : StandFor (k.store).texts (head_types first) u change.answer
+pub record IsFor (k : Kept) (members touched : List ℕ) (first : Live) (m : ℕ) (u : List ℕ) : Type 0
+  where
+  pub place : ℕ
+  pub member : slice_get members m ≡ Some place
+  pub among : is_among touched place ≡ true
+  pub change : Change
+  pub there : Contains (changes_in k place) change
+  pub stand : StandFor (k.store).texts (head_types first) u change.answer
 
 alike_stand : (k : Kept) (members touched : List ℕ) (gains : List Gain) (first : Live)
     → Setting k members touched gains first → (m place : ℕ) → slice_get members m ≡ Some place
@@ -186,7 +187,7 @@ alike_stand k members touched gains first s m place is c there =
     (s.alike a.live first (got ls m a.live a.nth) (got ls 0 first s.is_first))
     (told_stands k place a.live c s.shown a.at there)
 
-is_for : (k : Kept) (members touched : List ℕ) (gains : List Gain) (first : Live)
+pub is_for : (k : Kept) (members touched : List ℕ) (gains : List Gain) (first : Live)
     → Setting k members touched gains first → (m : ℕ) (u : List ℕ) → Stand gains m u
     → IsFor k members touched first m u
 is_for k members touched gains first s m u stand =
@@ -215,7 +216,7 @@ pub delta_no : (k : Kept) (touched : List ℕ) (i : ℕ) → is_among touched i 
     → delta_at k touched i ≡ []
 delta_no k touched i among = ap (λ (b : Bool). cond b (changes_in k i) []) among
 
-stands_for : (k : Kept) (touched : List ℕ) (i : ℕ) (c : Change) → is_among touched i ≡ true
+pub stands_for : (k : Kept) (touched : List ℕ) (i : ℕ) (c : Change) → is_among touched i ≡ true
     → Contains (changes_in k i) c → StandsIn (delta_at k touched i) c.answer
 stands_for k touched i c among there =
     subst (λ (cs : List Change). StandsIn cs c.answer) (sym (delta_yes k touched i among))
@@ -223,8 +224,8 @@ stands_for k touched i c among there =
 
 -- what stands in a member's delta is gathered
 pub record IsGathered (k : Kept) (gains : List Gain) (first : Live) (m : ℕ) (t : Tuple) : Type 0 where
-  stand : Stand gains m (cells_of (k.store).texts t)
-  cells : StandFor (k.store).texts (head_types first) (cells_of (k.store).texts t) t
+  pub stand : Stand gains m (cells_of (k.store).texts t)
+  pub cells : StandFor (k.store).texts (head_types first) (cells_of (k.store).texts t) t
 
 nothing_in : (t : Tuple) → StandsIn [] t → ⊥
 nothing_in t h = let low = h.1 in omega arith
@@ -294,13 +295,13 @@ value k first g = values_of (k.store).texts first (in_tree first g.cells)
 
 -- what is known of a tuple that is gathered
 pub record IsKnown (k : Kept) (members touched : List ℕ) (first : Live) (g : Gain) : Type 0 where
-  m : ℕ
-  of_member : IsFor k members touched first m g.cells
-  shows : IsShownInTree (k.store).texts first g.cells (of_member.change).answer
-  is : value k first g ≡ (of_member.change).answer
-  cells : StandFor (k.store).texts (head_types first) g.cells (value k first g)
+  pub m : ℕ
+  pub of_member : IsFor k members touched first m g.cells
+  pub shows : IsShownInTree (k.store).texts first g.cells (of_member.change).answer
+  pub is : value k first g ≡ (of_member.change).answer
+  pub cells : StandFor (k.store).texts (head_types first) g.cells (value k first g)
 
-first_kept : (k : Kept) (members touched : List ℕ) (gains : List Gain) (first : Live)
+pub first_kept : (k : Kept) (members touched : List ℕ) (gains : List Gain) (first : Live)
     → (s : Setting k members touched gains first) → IsKept (s.over).catalog first
 first_kept k members touched gains first s =
     let ls = queries_at k.places members in
