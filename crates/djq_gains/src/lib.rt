@@ -35,5 +35,5 @@ mod telling;
 
 pub use telling::tell_gains;
 
-
-
+#[cfg(test)]
+mod tests;
