@@ -8,12 +8,10 @@ use Rattle.std.specs.Prelude.{
   ℕ,
   Bool,
   true,
-  false,
   not,
   List,
   [],
   ◌∷◌,
-  Option,
   None,
   Some,
   length,
@@ -28,7 +26,7 @@ use Rattle.djq_live.specs.Live.{Live}
 use Rattle.djq_live.specs.Member.{has_cells, in_tree}
 use Rattle.djq_engine.specs.Kept.{Kept}
 use Rattle.djq_gains.specs.Gains.{told_in, changes_in, is_among, count_of}
-use Rattle.djq_gains.specs.Gathered.{Gain, Gathered, Stand}
+use Rattle.djq_gains.specs.Gathered.{Gain, Stand}
 
 -- the cells of the answers that are told of the query in a place
 abbrev pub cells_told : Kept → ℕ → List (List ℕ)

@@ -1,4 +1,21 @@
-ghost use Rattle.std.specs.Prelude.{◌≡◌, ◌+◌, ◌*◌, ◌<◌, ◌≤◌, ◌++◌, ◌∷◌, [], ℕ, true, false, None, All, Contains, length, sum_by};
+ghost use Rattle.std.specs.Prelude.{
+  ◌≡◌,
+  ◌+◌,
+  ◌*◌,
+  ◌<◌,
+  ◌≤◌,
+  ◌++◌,
+  ◌∷◌,
+  [],
+  ℕ,
+  true,
+  false,
+  None,
+  All,
+  Contains,
+  length,
+  sum_by,
+};
 ghost use Rattle.djq_machine.specs.Store.{atoms_of};
 ghost use Rattle.djq_live.specs.Live.{IsKeptSomewhere};
 ghost use Rattle.djq_live.specs.Member.{queries_at, HaveQueries};
@@ -10,7 +27,9 @@ use crate::gains::Gains;
 use crate::gather::gather;
 use djq_cursor::DeltaLog;
 use djq_engine::{Answer, Cells, Engine};
-use djq_live::{LiveQuery, QueriesAt, answers_are_had, cells_in_tree_stand, cells_tell_values, head_types_are};
+use djq_live::{
+    QueriesAt, answers_are_had, cells_in_tree_stand, cells_tell_values, head_types_are,
+};
 use djq_steps::Tally;
 use djq_union::{Listing, Members};
 use std::alloc::Global;

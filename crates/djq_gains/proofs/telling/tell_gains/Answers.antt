@@ -1,10 +1,10 @@
-use Rattle.std.proofs.Common.{◌≡◌, ℕ, List, Option, Some, All, length, sum_by, sym, ap, ◌∙◌, subst, arith}
-use Rattle.std.specs.Prelude.{IsSomeAnd, slice_get}
+use Rattle.std.proofs.Common.{◌≡◌, List, Option, All, length, sum_by, sym, ap, ◌∙◌, subst}
+use Rattle.std.specs.Prelude.{slice_get}
 use Rattle.djq_machine.specs.Store.{atoms_of}
 use Rattle.djq_cursor.specs.declared.log.Line.{Line}
 use Rattle.djq_live.specs.Live.{Live, IsKeptSomewhere}
 use Rattle.djq_live.specs.Member.{queries_at}
-use Rattle.djq_gains.specs.Gains.{AtFirst, TellUnion, members_at, count_of}
+use Rattle.djq_gains.specs.Gains.{TellUnion, members_at, count_of}
 use Rattle.djq_gains.specs.Gathering.{asks_of, lines_of, IsFirst}
 use Rattle.djq_gains.proofs.Members.{all_kept, member_at, and_so}
 use Rattle.djq_gains.proofs.Delta.{tells_union, atoms_are, counts_at_most}
@@ -21,8 +21,8 @@ returns-in-Ok-clause-tells g c kept =
     let members = c.args.members.now in
     let first = member_at k members 0 c.requires.queries c.requires.some in
     let told = subst (λ (qs : List (Option Live)). IsFirst (queries_at qs members)
-        (λ l. c.tell.new.log.lines ≡ lines_of c.args.came (queries_at qs members) l c.in-Ok.gains.gains))
-        c.places.ensures (c.tell.ensures.told kept) in
+    (λ l. c.tell.new.log.lines ≡ lines_of c.args.came (queries_at qs members) l c.in-Ok.gains.gains))
+    c.places.ensures (c.tell.ensures.told kept) in
     and_so (slice_get (queries_at k.places members) 0)
     (TellUnion k members c.args.touched.now c.args.came c.tell.new.log.lines) first.live first.nth
     (subst (λ (lines : List Line). TellUnion k members c.args.touched.now c.args.came lines first.live)
