@@ -32,9 +32,9 @@ use Rattle.std.proofs.lemmas.List.{append-nil, take_more, take_all}
 use Rattle.std.proofs.lemmas.List.Elements.{Contains-push_cases, filter_more}
 use Rattle.std.proofs.lemmas.List.Sums.{sum_by_push}
 use Rattle.djq_engine.specs.Kept.{Kept}
-use Rattle.djq_gains.specs.Gains.{told_in, count_in, is_among}
+use Rattle.djq_gains.specs.Gains.{told_in, count_in}
 use Rattle.djq_gains.specs.Gathered.{Gain, Stand}
-use Rattle.djq_gains.specs.Gathering.{cells_told, IsOfMember, Gathers}
+use Rattle.djq_gains.specs.Gathering.{is_among, cells_told, IsOfMember, Gathers}
 use Rattle.djq_gains.proofs.Taking.{TakesIn}
 
 -- what is told of the first n members is gathered

@@ -65,10 +65,11 @@ use Rattle.djq_live.proofs.AtPlaces.{as_many}
 use Rattle.djq_engine.specs.Lending.{sign_of}
 use Rattle.djq_engine.specs.Kept.{Kept}
 use Rattle.djq_gains.specs.Told.{GoOneWay, StandsIn, IsTold, AreTold}
-use Rattle.djq_gains.specs.Gains.{HaveChanged, TellUnion, members_at, told_in, is_among}
+use Rattle.djq_gains.specs.Gains.{HaveChanged, TellUnion, members_at, told_in}
 use Rattle.djq_gains.specs.Gathered.{Gain, Stand, AreApart, is_by}
-use Rattle.djq_gains.specs.Gathering.{is_told, line_of, lines_of, asks_of}
-use Rattle.djq_gains.proofs.Lists.{image_of, mapped, hold_each, first_or_later}
+use Rattle.djq_gains.specs.Gathering.{is_among, is_told, line_of, lines_of, asks_of}
+use Rattle.djq_gains.proofs.Lists.{image_of, mapped, hold_each, first_or_later, kept_from}
+use Rattle.djq_gains.proofs.Among.{among_there, there_among}
 use Rattle.djq_gains.proofs.Taking.{some_at}
 use Rattle.djq_gains.proofs.Members.{got, and_so}
 use Rattle.djq_gains.proofs.Alone.{alone_true, alone_back}
@@ -85,7 +86,6 @@ use Rattle.djq_gains.proofs.Meaning.{
   is_for,
   is_gathered,
   same_gain,
-  kept_from,
   known,
   first_kept,
   kept_at,
@@ -377,13 +377,14 @@ turns k members touched gains first came before s changed i there =
     told : (o : Option (List Change)) → told_in k i ≡ o → is_among touched i ≡ true
         → Delta (unwrap_or o [])
     told None eq among = absurd (s.gathers.told i there among eq)
-    told (Some cs) eq among = changed.told i a.live cs there among a.at eq
+    told (Some cs) eq among = changed.told i a.live cs (among_there touched i among) a.at eq
 
     delta : (b : Bool) → is_among touched i ≡ b → Delta (delta_at k touched i)
     delta true among = subst Delta (sym (delta_yes k touched i among)) (told (told_in k i) refl among)
     delta false out = subst Delta (sym (delta_no k touched i out))
         (none_changed (IsAnswer before (a.live).query) (IsAnswer now (a.live).query)
-        (changed.others i a.live there out a.at))
+        (changed.others i a.live there
+        (λ h. false≢true (sym out ∙ there_among touched i h)) a.at))
 
 -- the answers of some member are those of the union
 of_some : (k : Kept) (members touched : List ℕ) (gains : List Gain) (first : Live)

@@ -23,7 +23,7 @@ use Rattle.std.specs.Prelude.{◌↔◌, cond, Option, None, Some, unwrap_or, Al
 use Rattle.std.proofs.lemmas.Bool.{cases_order}
 use Rattle.std.proofs.lemmas.Option.{slice_get-get_or, slice_get_within, same_Some}
 use Rattle.std.proofs.lemmas.List.{length-map, get_or-map}
-use Rattle.std.proofs.lemmas.List.Elements.{All-contains, All-contains_itself, All-filter, filter_passes}
+use Rattle.std.proofs.lemmas.List.Elements.{All-contains}
 use Rattle.djq_model.specs.declared.relation.Relation.{Relation}
 use Rattle.djq_model.specs.declared.relation.ColumnType.{ColumnType}
 use Rattle.djq_model.specs.Data.{Bytes, Tuple}
@@ -48,9 +48,9 @@ use Rattle.djq_live.proofs.AtPlaces.{as_many}
 use Rattle.djq_engine.specs.Kept.{Kept, IsOver, CellsAre}
 use Rattle.djq_engine.specs.Kept.{AreTold as AreShown}
 use Rattle.djq_gains.specs.Told.{StandsIn}
-use Rattle.djq_gains.specs.Gains.{AreAlike, told_in, changes_in, is_among}
+use Rattle.djq_gains.specs.Gains.{AreAlike, told_in, changes_in}
 use Rattle.djq_gains.specs.Gathered.{Gain, Stand, AreApart, StandSomewhere, cells_in}
-use Rattle.djq_gains.specs.Gathering.{cells_told, Gathers}
+use Rattle.djq_gains.specs.Gathering.{is_among, cells_told, Gathers}
 use Rattle.djq_gains.proofs.Lists.{image_of, mapped}
 use Rattle.djq_gains.proofs.Taking.{some_at}
 use Rattle.djq_gains.proofs.Members.{member_at, got}
@@ -262,14 +262,6 @@ same_gain gains apart g h at_g at_h same = elim (cases_order at_g.0 at_h.0) [
         same_Some (slice_index_or gains m g) (slice_index_or gains n h)
         (sym (slice_get-get_or gains m g low) ∙ ap (slice_get gains) e
         ∙ slice_get-get_or gains n h (omega (arith, e, low)))
-
--- what a filter keeps
-pub kept_from : {A : Type 0} (p : A → Bool) (xs : List A) (x : A) → Contains (filter p xs) x
-    → (p x ≡ true) × Contains xs x
-kept_from p xs x there = (
-  All-contains (λ y. p y ≡ true) (filter p xs) x (filter_passes p xs) there,
-  All-contains (Contains xs) (filter p xs) x (All-filter p (Contains xs) xs (All-contains_itself xs)) there,
-)
 
 -- the value that a tuple shows by the first member
 abbrev pub value : Kept → Live → Gain → Tuple
