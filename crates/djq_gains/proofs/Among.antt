@@ -3,7 +3,6 @@ use Rattle.std.proofs.Common.{
   ◌≡◌,
   ℕ,
   suc,
-  ◌+◌,
   ◌≤◌,
   ◌==◌,
   Bool,
@@ -25,10 +24,10 @@ use Rattle.std.proofs.Common.{
   arith,
   eq-eqb,
 }
-use Rattle.std.specs.Prelude.{◌⊎◌, ◌||◌, All, AllPairs, Contains}
+use Rattle.std.specs.Prelude.{◌⊎◌, ◌||◌, AllPairs, Contains}
 use Rattle.std.specs.List.{list_any}
 use Rattle.std.proofs.lemmas.Bool.{eqb-true, false≢true}
-use Rattle.std.proofs.lemmas.List.Elements.{All-contains, Contains-append_left, Contains-append_right, Contains-append_cases}
+use Rattle.std.proofs.lemmas.List.Elements.{Contains-append_left, Contains-append_right, Contains-append_cases}
 use Rattle.std.proofs.lemmas.List.Sums.{sum_by-cons, sum_by-append}
 use Rattle.std.proofs.lemmas.List.Kept.{AllPairs-filter}
 use Rattle.djq_engine.specs.Kept.{Kept}

@@ -5,7 +5,7 @@ use Rattle.djq_machine.specs.Store.{atoms_of}
 use Rattle.djq_cursor.specs.declared.log.Line.{Line}
 use Rattle.djq_live.specs.Live.{Live, IsKeptSomewhere}
 use Rattle.djq_live.specs.Member.{queries_at}
-use Rattle.djq_gains.specs.Gains.{TellUnion, members_at, told_in, count_in}
+use Rattle.djq_gains.specs.Gains.{TellUnion, members_at, count_in}
 use Rattle.djq_gains.specs.Gathering.{asks_of, lines_of, IsFirst}
 use Rattle.djq_gains.proofs.Among.{there_among, count_within}
 use Rattle.djq_gains.proofs.Members.{all_kept, member_at, and_so}
