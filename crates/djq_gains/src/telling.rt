@@ -55,7 +55,7 @@ fn is_alone<L: Ledger>(
         + sum_by asks_of (queries_at group.now.queries.now group.now.places.now) }
 {
     for nth in 0..group.count() {
-        if !gains.stands_in(slot, nth) && group.member(nth).has(cells, listing) {
+        if !gains.stands_in(slot, nth) && Listing::has(group.member(nth), cells, listing) {
             return false;
         }
     }
