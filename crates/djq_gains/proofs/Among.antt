@@ -57,6 +57,7 @@ there_among (j ∷ places) i there =
     either true r h = refl
     either false r (inl h) = absurd (false≢true h)
     either false r (inr h) = h
+
     step : (j ≡ i) ⊎ Contains places i → (Contains places i → list_any (λ n. n == i) places ≡ true)
         → ((j == i) || list_any (λ n. n == i) places) ≡ true
     step (inl same) more = either (j == i) (list_any (λ n. n == i) places) (inl (eq-eqb j i same))
@@ -96,12 +97,12 @@ sum_within f [] ys different within = omega arith
 sum_within f (x ∷ xs) ys different within =
     let s = split ys x (within x (0, omega arith, refl)) in
     let rest = sum_within f xs (s.front ++ s.back)
-        (λ i j d less low. different (suc i) (suc j) d (omega (arith, less)) (omega (arith, low)))
-        (λ i there. beside s.front x s.back i
-        (subst (λ (zs : List ℕ). Contains zs i) s.is
-        (within i (let low = there.1 in (suc there.0, omega arith, there.2))))
-        (λ same. let low = there.1 in
-        different 0 (suc there.0) i (omega arith) (omega arith) (same ∙ sym there.2))) in
+    (λ i j d less low. different (suc i) (suc j) d (omega (arith, less)) (omega (arith, low)))
+    (λ i there. beside s.front x s.back i
+    (subst (λ (zs : List ℕ). Contains zs i) s.is
+    (within i (let low = there.1 in (suc there.0, omega arith, there.2))))
+    (λ same. let low = there.1 in
+    different 0 (suc there.0) i (omega arith) (omega arith) (same ∙ sym there.2))) in
     let first = sum_by-cons f x xs in
     let whole = ap (sum_by f) s.is ∙ sum_by-append f s.front (x ∷ s.back) in
     let parts = sum_by-append f s.front s.back in
