@@ -1,7 +1,12 @@
 pub mod Seats
 pub mod Found
+pub mod Slots
 pub mod Ordered
 pub mod Held
 pub mod Members
+pub mod Alike
 pub mod Staying
-pub mod Reading
+pub mod Given
+pub mod Named
+pub mod Moved
+pub mod Unions

@@ -7,3 +7,5 @@ pub mod Explaining
 pub mod Registering
 pub mod Lending
 pub mod Watching
+pub mod Counting
+pub mod Moving
