@@ -10,3 +10,4 @@ pub mod Given
 pub mod Named
 pub mod Moved
 pub mod Unions
+pub mod Standing
