@@ -11,3 +11,4 @@ pub mod Named
 pub mod Moved
 pub mod Unions
 pub mod Standing
+pub mod Answering
