@@ -1,14 +1,15 @@
 -- What is asked of a store, by name and by id.
 use Rattle.std.proofs.Common.{ℕ, zero, suc, List, [], ◌∷◌, ◌++◌, ◌+◌, ◌-◌, ◌≡◌, ◌<◌, ◌≤◌, ◌⊎◌, inl, inr, Bool, true, false, refl, sym, ap, ap₂, ◌∙◌, subst, length, get_or, arith}
-use Rattle.std.specs.Prelude.{◌==◌, ◌&&◌, Option, None, Some, IsSome, IsSomeAnd, is_some, is_none, nat_lt, option_map, cond, map, All, AllPairs, Result, Ok, Err, option_to_list, ⊤}
-use Rattle.std.proofs.lemmas.Bool.{eqb-true, eq-eqb, lt-ltb, false≢true}
+use Rattle.std.specs.Prelude.{◌==◌, ◌&&◌, Option, None, Some, IsSome, IsSomeAnd, is_some, is_none, nat_lt, option_map, cond, map, All, AllPairs, Result, Ok, Err, option_to_list, slice_get, ⊤}
+use Rattle.std.proofs.lemmas.Bool.{cases_lt, eqb-true, eq-eqb, lt-ltb, false≢true}
 use Rattle.std.proofs.lemmas.List.Kept.{AllPairs-cons}
-use Rattle.std.proofs.lemmas.List.{get_or-map}
+use Rattle.std.proofs.lemmas.List.{get_or-map, get_or_past, length-map}
+use Rattle.std.proofs.lemmas.List.Elements.{All-from_recursion}
 use Rattle.std.proofs.Math.Nat.{add-sub_of_le}
 use Rattle.djq_model.specs.declared.query.Query.{Query}
 use Rattle.djq_model.specs.Data.{Bytes, Tuple, bytes_eq}
 use Rattle.djq_model.specs.Equality.{bytes_eq-decides}
-use Rattle.djq_model.specs.Listed.{Listed, a_query, listed_name, listed_of}
+use Rattle.djq_model.specs.Listed.{Listed, a_query, listed_name, listed_of, members_of}
 use Rattle.djq_lines.specs.declared.answer.Refusal.{Refusal}
 use Rattle.djq_lines.specs.declared.answer.Refusal.TheVariants.{NoQuery, NoMemory}
 use Rattle.djq_lines.specs.declared.answer.Shape.{Shape}
@@ -32,14 +33,15 @@ use Rattle.djq_store.specs.declared.explained.Explained.{Explained}
 use Rattle.djq_store.specs.declared.explained.Explained.TheVariants.{Tree, Members}
 use Rattle.djq_store.specs.declared.joined.Joined.{Joined}
 use Rattle.djq_store.specs.Below.{IsEngine}
-use Rattle.djq_store.specs.Explaining.{ExplainGives, Explains, TakesMemory}
+use Rattle.djq_store.specs.Explaining.{ExplainGives, Explains, TakesMemory, HasMember}
 use Rattle.djq_store.specs.Lending.{LendsEngine}
 use Rattle.djq_store.specs.Places.{joined_at, listed_at, union_watchers, sessions_at, registered_as, lender_in, seen}
 use Rattle.djq_store.specs.Whole.{IsListed}
 use Rattle.djq_store.proofs.Found.{map_mapped, found_passes, found_all, find_mapped}
 use Rattle.djq_store.proofs.Held.{held_low}
+use Rattle.djq_store.proofs.Members.{first_there}
 use Rattle.djq_store.proofs.Named.{Called}
-use Rattle.djq_store.proofs.Ordered.{Seat, Joint, NoUnion, place_named, listed_low, listed_joint, listed_seat, order_seat, seat_order, seat_of, order_joint, registered_is, registered_has, registered_gives, registered_there, registered_by_name, named_joint, engine_named, engine_listed}
+use Rattle.djq_store.proofs.Ordered.{Seat, Joint, NoUnion, place_named, listed_low, listed_joint, listed_seat, order_seat, seat_order, seat_of, seat_here, order_joint, registered_is, registered_has, registered_gives, registered_there, registered_by_name, named_joint, engine_named, engine_listed}
 use Rattle.djq_store.proofs.Seats.{low_place, high_place, places_low, places_high}
 use Rattle.djq_store.proofs.Slots.{slot_below}
 use Rattle.djq_store.proofs.Unions.{union_listed}
@@ -59,6 +61,13 @@ pairs_of R f (x ∷ xs) once h =
     each [] h k d low = absurd (omega arith)
     each (y ∷ ys) h zero d low = h y (here y ys)
     each (y ∷ ys) h (suc k) d low = each ys (λ i there. h i (behind y ys i there)) k d (omega arith)
+
+-- a slot has one union
+pub same_slot : (us : List (Option Joined)) (k : ℕ) (j x : Joined) → joined_at us k ≡ Some j → joined_at us k ≡ Some x → j ≡ x
+same_slot us k j x e f = same (sym e ∙ f)
+  where
+    same : {x y : Joined} → Some x ≡ Some y → x ≡ y
+    same e = cc
 
 -- as many members as places
 pub count_members : (gs : List (Option Live)) (ks : List ℕ) → AllByRecursion (λ k. IsSomeAnd (query_at gs k) (λ l. ⊤)) ks → length (map (λ l. l.query) (queries_at gs ks)) ≡ length ks
@@ -263,3 +272,83 @@ module _ (e : Kept) (b : IsEngine e) (us : List (Option Joined)) (order sessions
 
   pub answer_low : (id : CursorId) (answer : List ℕ) (t : Tuple) → id.query.at < QUERIES → AnswerIs e id answer t → AnswerIs old id answer t
   answer_low id answer t low h = subst (λ (o : Option Live). IsSomeAnd o (λ l. t ≡ values_of (e.store).texts l answer)) (sym (places_low e.places (map (lender_in e.places) us) id.query.at b.few low)) h
+
+  module _ (id : CursorId) (high : QUERIES ≤ id.query.at) where
+    lender_at : (k : ℕ) → get_or (map (lender_in e.places) us) k None ≡ lender_in e.places (joined_at us k)
+    lender_at k = by_order (cases_lt k (length us))
+      where
+        by_order : (k < length us) ⊎ (length us ≤ k) → get_or (map (lender_in e.places) us) k None ≡ lender_in e.places (joined_at us k)
+        by_order (inl low) = get_or-map (lender_in e.places) us k None None low
+        by_order (inr past) = get_or_past (map (lender_in e.places) us) k None (omega (arith, past, length-map us (lender_in e.places))) ∙ sym (ap (lender_in e.places) (get_or_past us k None past))
+
+    lends_at : get_or old.places id.query.at None ≡ lender_in e.places (joined_at us (id.query.at - QUERIES))
+    lends_at = sym (ap (λ n. get_or old.places n None) (add-sub_of_le high)) ∙ places_high e.places (map (lender_in e.places) us) (id.query.at - QUERIES) b.few ∙ lender_at (id.query.at - QUERIES)
+
+    pub lender_there : (answer : List ℕ) → IsShown old id answer → IsSomeAnd (joined_at us (id.query.at - QUERIES)) (λ j. ⊤)
+    lender_there answer h = by_slot (joined_at us (id.query.at - QUERIES)) (subst (λ (o : Option Live). IsSomeAnd o (λ l. IsShowable (e.store).texts l answer)) lends_at h)
+      where
+        by_slot : (o : Option Joined) → IsSomeAnd (lender_in e.places o) (λ l. IsShowable (e.store).texts l answer) → IsSomeAnd o (λ j. ⊤)
+        by_slot None h = absurd h
+        by_slot (Some j) h = tt
+
+    module _ (j : Joined) (found : joined_at us (id.query.at - QUERIES) ≡ Some j) where
+      first_lends : get_or old.places id.query.at None ≡ query_at e.places (get_or j.union.members 0 0)
+      first_lends =
+          let m = (w.united (id.query.at - QUERIES) j found).members in
+          let f = first_there e.places j.union.members m.have m.several in
+          lends_at ∙ ap (lender_in e.places) found ∙ f.first ∙ sym f.there ∙ ap (λ (ks : List ℕ). query_at e.places (get_or ks 0 0)) (sym f.is)
+
+      pub shown_high : (answer : List ℕ) → IsShown old id answer → AtPlace e (id_at (get_or j.union.members 0 0)) (λ l. IsShowable (e.store).texts l answer)
+      shown_high answer h = subst (λ (o : Option Live). IsSomeAnd o (λ l. IsShowable (e.store).texts l answer)) first_lends h
+
+      pub answer_high : (answer : List ℕ) (t : Tuple) → AtPlace e (id_at (get_or j.union.members 0 0)) (λ l. t ≡ values_of (e.store).texts l answer) → AnswerIs old id answer t
+      answer_high answer t h = subst (λ (o : Option Live). IsSomeAnd o (λ l. t ≡ values_of (e.store).texts l answer)) (sym first_lends) h
+
+  -- ---- names of members
+
+  pub no_member : (name : Bytes) (nth : ℕ) → NoUnion us name → HasMember old.store name nth → ⊥
+  no_member name nth none h = by_listed (listed_of (e.store).queries name) refl (subst (λ (o : Option Listed). IsSomeAnd o (λ q. nth < length (members_of q))) (engine_listed e b us order w name none) h)
+    where
+      by_listed : (o : Option Listed) → listed_of (e.store).queries name ≡ o → IsSomeAnd o (λ q. nth < length (members_of q)) → ⊥
+      by_listed None f x = x
+      by_listed (Some q) f x =
+          let is = engine_has name q f in
+          let low = subst (λ (q : Listed). nth < length (members_of q)) is.1 x in absurd (omega (arith, low))
+
+  module _ (name : Bytes) (nth : ℕ) (k : ℕ) (f : Called us name k) where
+    pub member_below : HasMember old.store name nth → nth < length f.union.union.members
+    member_below h =
+        let low = subst (λ (o : Option Listed). IsSomeAnd o (λ q. nth < length (members_of q))) (called_listed name k f) h in
+        let same = count_members e.places f.union.union.members (w.united k f.union f.there).members.have.each in omega (arith, low, same)
+
+    member_there : nth < length f.union.union.members → IsSomeAnd (query_at e.places (get_or f.union.union.members nth 0)) (λ l. ⊤)
+    member_there low = All-from_recursion (λ k. IsSomeAnd (query_at e.places k) (λ l. ⊤)) f.union.union.members (w.united k f.union f.there).members.have.each nth 0 low
+
+    pub member_seat : nth < length f.union.union.members → Seat e (get_or f.union.union.members nth 0)
+    member_seat low = there (query_at e.places (get_or f.union.union.members nth 0)) refl (member_there low)
+      where
+        there : (o : Option Live) → query_at e.places (get_or f.union.union.members nth 0) ≡ o → IsSomeAnd o (λ l. ⊤) → Seat e (get_or f.union.union.members nth 0)
+        there None g h = absurd h
+        there (Some l) g h = seat_here e b (get_or f.union.union.members nth 0) l g
+
+    pub member_registered : nth < length f.union.union.members → IsRegistered e (id_at (get_or f.union.union.members nth 0))
+    member_registered low = ap is_some (member_seat low).found
+
+    names_at : (gs : List (Option Live)) (ks : List ℕ) (nth : ℕ) (l : Live) → AllByRecursion (λ k. IsSomeAnd (query_at gs k) (λ l. ⊤)) ks → nth < length ks → query_at gs (get_or ks nth 0) ≡ Some l
+        → slice_get (map (λ m. m.name) (map (λ l. l.query) (queries_at gs ks))) nth ≡ Some l.query.name
+    names_at gs [] nth l h low there = absurd (omega arith)
+    names_at gs (x ∷ ks) zero l h low there = ap (λ (o : Option Live). slice_get (map (λ (m : Query). m.name) (map (λ (l : Live). l.query) (option_to_list o ++ queries_at gs ks))) 0) there
+    names_at gs (x ∷ ks) (suc nth) l h low there = behind_one (query_at gs x) h.0 (names_at gs ks nth l h.1 (omega arith) there)
+      where
+        behind_one : (o : Option Live) → IsSomeAnd o (λ l. ⊤) → slice_get (map (λ (m : Query). m.name) (map (λ (l : Live). l.query) (queries_at gs ks))) nth ≡ Some l.query.name
+            → slice_get (map (λ (m : Query). m.name) (map (λ (l : Live). l.query) (option_to_list o ++ queries_at gs ks))) (suc nth) ≡ Some l.query.name
+        behind_one None x more = absurd x
+        behind_one (Some y) x more = more
+
+    pub member_named : (n : Bytes) → nth < length f.union.union.members → IsSomeAnd (registered_at e.registered (id_at (get_or f.union.union.members nth 0))) (λ r. n ≡ listed_name r.query)
+        → IsSomeAnd (listed_of old.store.queries name) (λ q. slice_get (map (λ m. m.name) (members_of q)) nth ≡ Some n)
+    member_named n low h =
+        let s = member_seat low in
+        let called : n ≡ s.query.query.name = subst (λ (o : Option Registered). IsSomeAnd o (λ r. n ≡ listed_name r.query)) s.found h ∙ ap listed_name s.is in
+        subst (λ (o : Option Listed). IsSomeAnd o (λ q. slice_get (map (λ m. m.name) (members_of q)) nth ≡ Some n)) (sym (called_listed name k f))
+        (names_at e.places f.union.union.members nth s.query (w.united k f.union f.there).members.have.each low s.there ∙ ap (λ (x : Bytes). Some x) (sym called))
