@@ -12,3 +12,5 @@ pub mod Moved
 pub mod Unions
 pub mod Standing
 pub mod Answering
+pub mod Counted
+pub mod Together
