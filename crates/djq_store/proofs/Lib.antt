@@ -14,3 +14,4 @@ pub mod Standing
 pub mod Answering
 pub mod Counted
 pub mod Together
+pub mod Joint

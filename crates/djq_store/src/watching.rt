@@ -3,12 +3,13 @@ ghost use Rattle.std.specs.Prelude.{◌≡◌, ◌<◌, ◌≤◌, ◌+◌, ◌-
 ghost use Rattle.djq_lines.specs.declared.limits.TheConstants.{QUERIES, SESSIONS};
 ghost use Rattle.djq_engine.specs.Kept.{registered_at, IsRegistered, with_watchers};
 ghost use Rattle.djq_engine.specs.Places.{id_at};
-ghost use Rattle.djq_store.specs.Counting.{with_all};
+ghost use Rattle.djq_store.specs.Counting.{HasWatchers, with_all};
 ghost use Rattle.djq_store.specs.Places.{joined_at, kept_in};
 ghost use Rattle.djq_store.specs.Whole.{IsWhole};
 
 use crate::below::engine_laws;
 use crate::finding::joined_in;
+use crate::joined::Joined;
 use crate::parts::Parts;
 use crate::store::Store;
 use djq_engine::{Engine, QueryId};
@@ -41,6 +42,28 @@ fn unwatch_members(engine: &mut Engine, members: &[usize])
     }
 }
 
+// One more watches the union in a slot.
+fn listen(unions: &mut Vec<Option<Joined>>, slot: usize)
+    requires { IsSomeAnd (joined_at unions.old.items slot) (λ j. j.watchers < 4294967295) }
+    ensures { HasWatchers (λ n. n + 1) slot unions.old.items unions.new.items }
+{
+    match &mut unions[slot] {
+        Some(joined) => joined.watchers += 1,
+        None => unreachable!(),
+    }
+}
+
+// One less watches it.
+fn ignore(unions: &mut Vec<Option<Joined>>, slot: usize)
+    requires { IsSomeAnd (joined_at unions.old.items slot) (λ j. 0 < j.watchers) }
+    ensures { HasWatchers (λ n. n - 1) slot unions.old.items unions.new.items }
+{
+    match &mut unions[slot] {
+        Some(joined) => joined.watchers -= 1,
+        None => unreachable!(),
+    }
+}
+
 // A session more watches the union in a slot. The first one watches its members through it.
 fn watch_union(parts: &mut Parts, slot: usize)
     requires whole { IsWhole parts.old }
@@ -50,13 +73,14 @@ fn watch_union(parts: &mut Parts, slot: usize)
       registered = with_watchers (id_at (QUERIES + slot)) (λ n. n + 1) (kept_in parts.old).registered;
     } }
 {
-    let Some(joined) = &mut parts.unions[slot] else {
-        unreachable!()
-    };
-    if joined.watchers == 0 {
-        watch_members(&mut parts.engine, joined.union.members());
+    engine_laws(&parts.engine);
+    let joined = joined_in(parts.unions.as_slice(), slot);
+    if joined.watchers > 0 {
+        listen(&mut parts.unions, slot);
+        return;
     }
-    joined.watchers += 1;
+    watch_members(&mut parts.engine, joined.union.members());
+    listen(&mut parts.unions, slot);
 }
 
 // A session that watched the union in a slot does so no more. The last one leaves its members.
@@ -68,13 +92,14 @@ fn unwatch_union(parts: &mut Parts, slot: usize)
       registered = with_watchers (id_at (QUERIES + slot)) (λ n. n - 1) (kept_in parts.old).registered;
     } }
 {
-    let Some(joined) = &mut parts.unions[slot] else {
-        unreachable!()
-    };
-    joined.watchers -= 1;
-    if joined.watchers == 0 {
-        unwatch_members(&mut parts.engine, joined.union.members());
+    engine_laws(&parts.engine);
+    let joined = joined_in(parts.unions.as_slice(), slot);
+    if joined.watchers > 1 {
+        ignore(&mut parts.unions, slot);
+        return;
     }
+    unwatch_members(&mut parts.engine, joined.union.members());
+    ignore(&mut parts.unions, slot);
 }
 
 impl Store {
