@@ -5,6 +5,7 @@ use Rattle.std.proofs.lemmas.Bool.{cases_order, eqb-true, eq-eqb, false≢true, 
 use Rattle.std.proofs.lemmas.List.{get_or-set_other}
 use Rattle.std.proofs.lemmas.List.Elements.{All-from_recursion}
 use Rattle.std.proofs.lemmas.List.Sums.{count_by-le-length}
+use Rattle.std.proofs.Math.Nat.{add-sub_of_le}
 use Rattle.djq_lines.specs.declared.limits.TheConstants.{QUERIES, SESSIONS}
 use Rattle.djq_model.specs.Listed.{Listed, listed_name}
 use Rattle.djq_live.specs.Live.{Live}
@@ -24,9 +25,9 @@ use Rattle.djq_store.specs.Whole.{IsListed, IsCounted, IsShownByFirst, wants}
 use Rattle.djq_store.proofs.Alike.{set_all}
 use Rattle.djq_store.proofs.Answering.{same_slot}
 use Rattle.djq_store.proofs.Counted.{ids_with, length_with, changed, at_with}
-use Rattle.djq_store.proofs.Ordered.{Seat, seat_here}
+use Rattle.djq_store.proofs.Ordered.{Seat, order_joint, seat_here}
 use Rattle.djq_store.proofs.Seats.{Slot, cases_place, low_place, high_place}
-use Rattle.djq_store.proofs.Slots.{set_here, slot_below, map_each, count_each, count_more, count_positive}
+use Rattle.djq_store.proofs.Slots.{set_here, slot_below, map_each, count_each, count_less, count_more, count_positive}
 
 -- a function that reads the same of two unions reads the same of all slots, where one is in the other's place
 pub set_reads : {B : Type 0} (f : Option Joined → B) (us : List (Option Joined)) (k : ℕ) (j x : Joined) → joined_at us k ≡ Some j → f (Some x) ≡ f (Some j)
@@ -242,6 +243,38 @@ module _ (e : Kept) (us : List (Option Joined)) (order sessions affected : List 
           (v.counted o.old o.found) (counts o.old.id.at (is_reader j.union.members o.old.id.at) refl)
           ∙ sym (ap (λ m. get_or sessions m 0 + count_by (wants m) heard_in) o.at)
 
+  -- one less for each member, as the last leaves
+  pub counted_last : 0 < j.watchers → n ≡ 0 → AreOnce j.union.members
+      → IsCounted (record e { registered = with_all (λ n. n - 1) j.union.members e.registered }) heard_in sessions
+  counted_last was none once = record {
+    counted = λ r found. by_old r (was_all (λ n. n - 1) j.union.members e.registered once r found);
+    few = heard_few (omega (arith, none));
+    long = v.long;
+  }
+    where
+      unwanted : (at : ℕ) → wants at (Some heard) ≡ false
+      unwanted at = ap (λ m. nat_lt 0 m && is_reader j.union.members at) none
+
+      counts : (at : ℕ) (b : Bool) → is_reader j.union.members at ≡ b → count_by (wants at) us ≡ cond b (count_by (wants at) heard_in + 1) (count_by (wants at) heard_in)
+      counts at true g = count_less (wants at) us k (Some heard) (slot_below us k j there)
+          (ap (wants at) there ∙ ap (λ b. b && is_reader j.union.members at) (lt-ltb 0 j.watchers was) ∙ g) (unwanted at)
+      counts at false g = sym (count_each (wants at) (wants at) us heard_in (length-set us k (Some heard))
+          (set_reads (wants at) us k j heard there (unwanted at ∙ sym (ap (λ b. b && is_reader j.union.members at) (lt-ltb 0 j.watchers was) ∙ g))))
+
+      sums : (b : Bool) (o s c d : ℕ) → o ≡ s + c → c ≡ cond b (d + 1) d → cond b (o - 1) o ≡ s + d
+      sums true o s c d x y = omega (arith, x, y)
+      sums false o s c d x y = omega (arith, x, y)
+
+      by_old : (r : Registered) → WasAll j.union.members (λ n. n - 1) e.registered r → r.watchers ≡ get_or sessions r.id.at 0 + count_by (wants r.id.at) heard_in
+      by_old r o =
+          o.watchers
+          ∙ sums (is_reader j.union.members o.old.id.at) o.old.watchers (get_or sessions o.old.id.at 0) (count_by (wants o.old.id.at) us) (count_by (wants o.old.id.at) heard_in)
+          (v.counted o.old o.found) (counts o.old.id.at (is_reader j.union.members o.old.id.at) refl)
+          ∙ sym (ap (λ m. get_or sessions m 0 + count_by (wants m) heard_in) o.at)
+
+  pub watchers_few : j.watchers ≤ SESSIONS
+  watchers_few = let few = v.few (QUERIES + k) in let is = sessions_there sessions in omega (arith, few, is)
+
   pub heard_seen : (f g : ℕ → ℕ) (xs : List ℕ) → n ≡ f j.watchers → is_reader order (QUERIES + k) ≡ true
       → (seen (record e { registered = with_all g xs e.registered }) heard_in order sessions affected).registered ≡ with_watchers (id_at (QUERIES + k)) f (seen e us order sessions affected).registered
   heard_seen f g xs is there = registered_with f is order w.once there
@@ -370,3 +403,20 @@ module _ (e : Kept) (us : List (Option Joined)) (order sessions affected : List 
     first_counted none now few members are = subst (λ (us' : List (Option Joined)). IsCounted (record e { registered = with_all (λ n. n + 1) members e.registered }) us' sessions) (sym m.is)
         (subst (λ (ks : List ℕ). IsCounted (record e { registered = with_all (λ n. n + 1) ks e.registered }) (heard_in e us order sessions affected w v k m.old m.there (f m.old.watchers)) sessions) (sym are)
         (counted_first e us order sessions affected w v k m.old m.there (f m.old.watchers) none now few (once_of m.old.union.members (w.united k m.old m.there).members.differ)))
+
+    pub last_counted : 0 < m.old.watchers → f m.old.watchers ≡ 0 → (members : List ℕ) → members ≡ m.old.union.members
+        → IsCounted (record e { registered = with_all (λ n. n - 1) members e.registered }) vs sessions
+    last_counted was none members are = subst (λ (us' : List (Option Joined)). IsCounted (record e { registered = with_all (λ n. n - 1) members e.registered }) us' sessions) (sym m.is)
+        (subst (λ (ks : List ℕ). IsCounted (record e { registered = with_all (λ n. n - 1) ks e.registered }) (heard_in e us order sessions affected w v k m.old m.there (f m.old.watchers)) sessions) (sym are)
+        (counted_last e us order sessions affected w v k m.old m.there (f m.old.watchers) was none (once_of m.old.union.members (w.united k m.old m.there).members.differ)))
+
+    pub old_few : m.old.watchers ≤ SESSIONS
+    old_few = watchers_few e us order sessions affected w v k m.old m.there 0
+
+-- how many watch the union of an id
+pub union_has : (e : Kept) (b : IsEngine e) (us : List (Option Joined)) (order sessions : List ℕ) (w : IsListed e us order) (id : QueryId) → QUERIES ≤ id.at → is_reader order id.at ≡ true
+    → (P : ℕ → Type 0) → P (sessions_at us sessions id.at) → IsSomeAnd (joined_at us (id.at - QUERIES)) (λ j. P j.watchers)
+union_has e b us order sessions w id high there P h =
+    let j = order_joint e b us order w (id.at - QUERIES) (ap (is_reader order) (add-sub_of_le high) ∙ there) in
+    subst (λ (o : Option Joined). IsSomeAnd o (λ j. P j.watchers)) (sym j.there)
+    (subst P (sym (ap (sessions_at us sessions) (add-sub_of_le high)) ∙ high_place (id.at - QUERIES) (λ i. get_or sessions i 0) (λ k. union_watchers (joined_at us k)) ∙ ap union_watchers j.there) h)
