@@ -1,0 +1,17 @@
+pub mod Seats
+pub mod Found
+pub mod Slots
+pub mod Ordered
+pub mod Held
+pub mod Members
+pub mod Alike
+pub mod Staying
+pub mod Given
+pub mod Named
+pub mod Moved
+pub mod Unions
+pub mod Standing
+pub mod Answering
+pub mod Counted
+pub mod Together
+pub mod Joint

@@ -1,0 +1,12 @@
+pub mod Below
+pub mod Places
+pub mod Whole
+pub mod Finding
+pub mod Reading
+pub mod Explaining
+pub mod Registering
+pub mod Lending
+pub mod Watching
+pub mod Counting
+pub mod Moving
+pub mod Judging

@@ -1,0 +1,179 @@
+//! Queries and unions that are registered and dropped.
+ghost use Rattle.std.specs.Prelude.{◌≡◌, ◌≤◌, ◌<◌, map, length, vec_capacity};
+ghost use Rattle.std.specs.List.{list_any};
+ghost use Rattle.djq_model.specs.Data.{Bytes};
+ghost use Rattle.djq_model.specs.Listed.{a_union};
+ghost use Rattle.djq_machine.specs.Store.{answer_steps};
+ghost use Rattle.djq_live.specs.Member.{HaveQueries, queries_at};
+ghost use Rattle.djq_engine.specs.Places.{left};
+ghost use Rattle.djq_machine.specs.Store.{RegistersQuery};
+ghost use Rattle.djq_machine.specs.Union.{RegistersUnion};
+ghost use Rattle.djq_engine.specs.Kept.{SameCursors, DropGives};
+ghost use Rattle.djq_engine.specs.Watching.{Enrols, EnrolsTelling};
+ghost use Rattle.djq_store.specs.Registering.{EnrolsUnion, EnrolsUnionTelling, is_used, has_member};
+
+use crate::finding::find_union;
+use crate::joined::Joined;
+use crate::judging::{judge_union, places_of, vacant_slot};
+use crate::store::Store;
+use djq_cursor::DeltaLog;
+use djq_lines::limits::QUERIES;
+use djq_lines::{QueryOutcome, Refusal};
+use djq_live::LiveQuery;
+use djq_model::{Name, Query};
+use djq_steps::{Ledgers, Steps};
+use djq_united::LiveUnion;
+
+// Takes a place out of a list of places.
+fn leave(places: &mut Vec<usize>, at: usize)
+    ensures items { places.new.items ≡ left at places.old.items }
+    ensures room { vec_capacity places.new ≡ vec_capacity places.old }
+{
+    places.retain(|place| *place != at);
+}
+
+// Whether a union is used: a cursor is over it, stale or not, or a session watches it.
+fn is_used(slot: &Option<Joined>) -> bool
+    ensures { result ≡ is_used slot.now }
+{
+    match slot {
+        Some(joined) => joined.watchers > 0 || !joined.union.is_idle(),
+        None => false,
+    }
+}
+
+// Whether a union has the query in a place as a member.
+fn has_member(slot: &Option<Joined>, at: usize) -> bool
+    ensures { result ≡ has_member at slot.now }
+{
+    match slot {
+        Some(joined) => joined.union.members().iter().any(|member| *member == at),
+        None => false,
+    }
+}
+
+// Whether the query in a place is a member of a union.
+fn is_member(unions: &[Option<Joined>], at: usize) -> bool
+    ensures { result ≡ list_any (has_member at) unions.now }
+{
+    unions.iter().any(|slot| has_member(slot, at))
+}
+
+// The most lookups and links that an answer of a union of queries takes.
+fn most_of(queries: &[Option<LiveQuery>], members: &[usize]) -> u64
+    requires { HaveQueries queries.now members.now }
+    ensures { (name : Bytes) → result
+        ≡ answer_steps (a_union name (map (λ l. l.query) (queries_at queries.now members.now))) }
+{
+    unreachable!()
+}
+
+impl Store {
+    /// Registers a free-connex query, and tells how many lookups and links one of its answers takes
+    /// at most; or tells a rest that shows why the query isn't free-connex.
+    ///
+    /// # Errors
+    ///
+    /// `Taken` where a query or union has the name; the first fault that the query has; `Limit` at
+    /// [`QUERIES`](djq_lines::limits::QUERIES) queries and unions, or where a text of a free-connex query is
+    /// unknown and as many are known as may be; `NoMemory` out of memory. Texts that became known
+    /// stay so, and nothing else has changed.
+    pub fn query<L: Ledgers>(
+        &mut self,
+        query: Query,
+        steps: &mut Steps<L>,
+    ) -> Result<QueryOutcome, Refusal>
+        requires { 0 < length query.atoms }
+        ensures registers { RegistersQuery self.old.store query result self.new.store }
+        ensures cursors { SameCursors self.old.cursors self.new.cursors }
+        ensures enrols { Enrols self.old.registered query result self.new.registered }
+        ensures tellings { EnrolsTelling self.old query result self.new }
+        ensures counted { steps.new.listing ≡ steps.old.listing }
+    {
+        if find_union(self.parts.unions.as_slice(), &query.name).is_some() {
+            return Err(Refusal::Taken);
+        }
+        if let Some(refusal) = self.parts.engine.query_fault(&query) {
+            return Err(refusal);
+        }
+        if self.parts.order.len() >= QUERIES {
+            return Err(Refusal::Limit);
+        }
+        let name = query.name;
+        let outcome = self.parts.engine.query(query, steps)?;
+        if let QueryOutcome::Registered(_most) = &outcome {
+            let Some(id) = self.parts.engine.query_id(&name) else {
+                unreachable!()
+            };
+            self.parts.sessions[id.at] = 0;
+            self.parts.order.push_reserved(id.at);
+        }
+        Ok(outcome)
+    }
+
+    /// Registers the union of some registered queries, and tells how many lookups and links one of its answers
+    /// takes at most.
+    ///
+    /// # Errors
+    ///
+    /// `Taken` where a query or union has the name; `NoQuery` where none has a member's; `Member` where a member's
+    /// name stands twice or is a union's, or where the answers of members have other types; `Limit` above
+    /// [`MEMBERS`](djq_lines::limits::MEMBERS) members, and at [`QUERIES`](djq_lines::limits::QUERIES) queries and
+    /// unions; `NoMemory` out of memory. Nothing has changed.
+    pub fn add_union(&mut self, name: Name, members: &[Name]) -> Result<u64, Refusal>
+        requires { 2 ≤ length members.now }
+        ensures registers { RegistersUnion self.old.store name members.now result self.new.store }
+        ensures cursors { SameCursors self.old.cursors self.new.cursors }
+        ensures enrols { EnrolsUnion self.old name members.now result self.new }
+        ensures tellings { EnrolsUnionTelling self.old name result self.new }
+    {
+        if let Some(refusal) = judge_union(&self.parts, &name, members) {
+            return Err(refusal);
+        }
+        let Ok(places) = places_of(self.parts.alloc, &self.parts.engine, members) else {
+            return Err(Refusal::NoMemory);
+        };
+        let Ok(slot) = vacant_slot(&mut self.parts.unions) else {
+            return Err(Refusal::NoMemory);
+        };
+        let most = most_of(self.parts.engine.places(), places.as_slice());
+        self.parts.unions[slot] = Some(Joined {
+            union: LiveUnion::new(self.parts.alloc, name, places),
+            watchers: 0,
+            log: DeltaLog::new(self.parts.alloc),
+        });
+        self.parts.order.push_reserved(QUERIES + slot);
+        Ok(most)
+    }
+
+    /// Drops a query or union: it is registered no more. The ids of others and of their cursors stay.
+    /// It takes no memory.
+    ///
+    /// # Errors
+    ///
+    /// `NoQuery` where none has the name; `InUse` where a cursor is over it, stale or not, a session watches it, or
+    /// it is a member of a union. Nothing has changed.
+    pub fn drop_query(&mut self, name: &Name) -> Result<(), Refusal>
+        ensures { DropGives self.old name.now result self.new }
+    {
+        if let Some(slot) = find_union(self.parts.unions.as_slice(), name) {
+            if is_used(&self.parts.unions[slot]) {
+                return Err(Refusal::InUse);
+            }
+            self.parts.unions[slot] = None;
+            leave(&mut self.parts.order, QUERIES + slot);
+            leave(&mut self.parts.affected, QUERIES + slot);
+            return Ok(());
+        }
+        let Some(id) = self.parts.engine.query_id(name) else {
+            return Err(Refusal::NoQuery);
+        };
+        if is_member(self.parts.unions.as_slice(), id.at) {
+            return Err(Refusal::InUse);
+        }
+        self.parts.engine.drop_query(name)?;
+        leave(&mut self.parts.order, id.at);
+        leave(&mut self.parts.affected, id.at);
+        Ok(())
+    }
+}
