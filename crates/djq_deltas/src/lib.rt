@@ -30,6 +30,7 @@
 ghost use Rattle.djq_deltas.specs.Decided.{AnswersAreDecided};
 ghost use Rattle.djq_deltas.specs.Finite.{AnswersAreFinite, DeltasExist};
 ghost use Rattle.djq_deltas.specs.Bounded.{AnswersAreBounded};
+ghost use Rattle.djq_deltas.specs.Growing.{AnswersCome, AnswersGo, RowComes, RowsCome, RowGoes};
 
 /// A tuple is an answer of what is registered over some relations, or it isn't.
 pub fn answers_are_decided()
@@ -51,4 +52,14 @@ pub fn deltas_exist()
 /// its members together.
 pub fn answers_are_bounded()
     ensures { AnswersAreBounded }
+{}
+
+/// Where rows only come, as by a row that is added and by a batch, answers only come; where they only go,
+/// as by a row that is deleted, answers only go.
+pub fn answers_follow_rows()
+    ensures come { AnswersCome }
+    ensures go { AnswersGo }
+    ensures added { RowComes }
+    ensures batched { RowsCome }
+    ensures deleted { RowGoes }
 {}
