@@ -1,12 +1,12 @@
 -- Where rows only come, each answer stays one; where they only go, none comes.
-use Rattle.std.specs.Prelude.{List, [], ◌∷◌, ◌≡◌, ◌+◌, ◌++◌, ◌⊎◌, Bool, true, false, cond, Option, None, Some, option_map, All, Contains}
+use Rattle.std.specs.Prelude.{List, [], ◌∷◌, ◌≡◌, ◌+◌, ◌⊎◌, Bool, true, false, cond, Option, None, Some, option_map, Contains}
 use Rattle.std.specs.List.{slice_index_or}
-use Rattle.std.proofs.Common.{refl, sym, ap, ◌∙◌, subst, inl, inr}
+use Rattle.std.proofs.Common.{refl, sym, subst, inl, inr}
 use Rattle.std.proofs.lemmas.List.Elements.{All-weaker, Contains-append_left}
 use Rattle.djq_model.specs.declared.relation.Relation.{Relation}
 use Rattle.djq_model.specs.declared.relation.CountedRow.{CountedRow}
 use Rattle.djq_model.specs.declared.query.Query.{Query}
-use Rattle.djq_model.specs.Data.{Bytes, Tuple, bytes_eq, tuple_eq, drop_first, relation_of, tuples_of, counted_in, counted_of, rows_of, without_row, with_row, with_copies, without_copies}
+use Rattle.djq_model.specs.Data.{Bytes, Tuple, bytes_eq, tuple_eq, relation_of, tuples_of, counted_in, counted_of, rows_of, without_row, with_row, without_copies}
 use Rattle.djq_model.specs.Answer.{IsAnswer}
 use Rattle.djq_model.specs.Equality.{bytes_eq-decides}
 use Rattle.djq_model.specs.Listed.{Listed, a_query, a_union, AnswersOf}
@@ -17,7 +17,7 @@ use Rattle.djq_lines.specs.declared.held.HeldRow.{HeldRow}
 use Rattle.djq_machine.specs.State.{Store}
 use Rattle.djq_machine.specs.Store.{with_rows, with_copies_of, copies_of}
 use Rattle.djq_machine.specs.Batch.{is_there, with_held, with_all}
-use Rattle.djq_machine.specs.Delta.{Change, HasChanged, IsDelta}
+use Rattle.djq_machine.specs.Delta.{HasChanged}
 use Rattle.djq_machine.proofs.Copies.{relation_here, rows_apart, copies_rows}
 use Rattle.djq_model.specs.Known.{texts_in, all_learned}
 use Rattle.djq_deltas.specs.Growing.{HaveRows, AnswersCome, AnswersGo, RowComes, RowsCome, RowGoes}
