@@ -3,6 +3,7 @@ use Rattle.std.specs.Prelude.{ℕ, List, [], ◌∷◌, ◌==◌, ◌≡◌, ◌
 use Rattle.std.proofs.Common.{refl, sym, ap, ap₂, ◌∙◌, subst, inl, inr, arith}
 use Rattle.std.proofs.lemmas.Bool.{eq-eqb}
 use Rattle.std.proofs.lemmas.List.Elements.{All-nil, All-cons, All-head, All-tail, All-contains, All-map}
+use Rattle.std.proofs.lemmas.List.Kept.{AllPairs-filter}
 use Rattle.std.proofs.lemmas.List.Sums.{sum_by-cons}
 use Rattle.djq_model.specs.declared.relation.Relation.{Relation}
 use Rattle.djq_model.specs.declared.query.Query.{Query}
@@ -16,7 +17,7 @@ use Rattle.djq_machine.specs.Watch.{Part, Delta, is_touched, ArePartsOf, AreDelt
 use Rattle.djq_engine.specs.Kept.{Kept, Registered, same_query, told_at}
 use Rattle.djq_engine.specs.Watching.{LogTells, LogsTell}
 use Rattle.djq_deltas.proofs.Lists.{nothing_there, first_or_later, first_there, later_there, pairs_head, pairs_tail, hold_each}
-use Rattle.djq_store.proofs.Summing.{sum_same, sum_covered, sum_plus, sum_fewer, sum_mapped, all_of, sum_all_of, in_all_of}
+use Rattle.djq_store.proofs.Summing.{sum_same, sum_covered, sum_kept, kept_was, sum_plus, all_of, sum_all_of, in_all_of}
 
 -- ---- what the engine lists, by place
 
@@ -326,13 +327,17 @@ module _ (before : List Relation) (change : RowsChange) (h : ℕ → Query) (f :
           ≤ sum_by (delta_steps change) list
 
     pub lists : (rs : List Registered) → AllPairs (λ i j. i ≡ j → ⊥) places
-        → ((m : ℕ) → Contains places m → (r : Registered) × Contains rs r × Contains (asked r) m)
+        → ((m : ℕ) → Contains places m → touched m ≡ false → steps_at m ≡ 0)
+        → ((m : ℕ) → Contains places m → touched m ≡ true → (r : Registered) × Contains rs r × Contains (asked r) m)
         → ((r : Registered) → Contains rs r → HasDelta r) → Lists rs
-    lists rs once wanted has =
+    lists rs once idle wanted has =
         let ds = all_deltas rs has in
         let all = for_deltas rs ds.0 ds.1 in
-        let covered = sum_covered steps_at places (all_of asked rs) once
-        (λ m c. let w = wanted m c in in_all_of asked rs w.0 m w.1 w.2) in
+        let left = sum_kept steps_at touched places idle in
+        let covered = sum_covered steps_at (filter touched places) (all_of asked rs)
+        (AllPairs-filter (λ i j. i ≡ j → ⊥) touched places once)
+        (λ m c. let k = kept_was touched places m c in
+        let w = wanted m k.0 k.1 in in_all_of asked rs w.0 m w.1 w.2) in
         let flat = sum_all_of steps_at asked rs in
         let both = sum_plus (λ r. sum_by steps_at (asked r)) (λ r. asking (members r.id.at)) rs in
         let within = for_steps rs ds.0 ds.1 in
@@ -340,7 +345,7 @@ module _ (before : List Relation) (change : RowsChange) (h : ℕ → Query) (f :
           list = ds.0;
           are = record { of_queries = for_queries rs ds.0 ds.1; are_deltas = all.0; have_parts = all.1 };
           each = ds.1;
-          steps = omega (arith, covered, flat, both, within);
+          steps = omega (arith, left, covered, flat, both, within);
         }
 
 -- what the logs tell of them

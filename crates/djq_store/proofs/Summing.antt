@@ -1,8 +1,9 @@
 -- Sums over places: each of these places is among those.
-use Rattle.std.specs.Prelude.{ℕ, List, [], ◌∷◌, ◌≡◌, ◌+◌, ◌≤◌, ◌++◌, ◌⊎◌, All, AllPairs, Contains, sum_by, map}
+use Rattle.std.specs.Prelude.{ℕ, List, [], ◌∷◌, ◌≡◌, ◌+◌, ◌*◌, ◌≤◌, ◌++◌, ◌⊎◌, Bool, true, false, cond, filter, All, AllPairs, Contains, sum_by, map}
 use Rattle.std.proofs.Common.{refl, sym, ap, ap₂, ◌∙◌, subst, inl, inr, arith}
 use Rattle.std.proofs.lemmas.List.Elements.{All-head, All-tail, All-contains, Contains-append_left, Contains-append_right, Contains-append_cases}
 use Rattle.std.proofs.lemmas.List.Sums.{sum_by-cons, sum_by-append}
+use Rattle.std.proofs.Math.Nat.{add-mul}
 use Rattle.djq_deltas.proofs.Lists.{nothing_there, first_or_later, first_there, later_there, pairs_head, pairs_tail}
 
 -- where something stands in a list
@@ -101,3 +102,41 @@ in_all_of f (z ∷ xs) x y h k = by (first_or_later z xs x h) (λ c. in_all_of f
     by : (z ≡ x) ⊎ Contains xs x → (Contains xs x → Contains (all_of f xs) y) → Contains (f z ++ all_of f xs) y
     by (inl e) more = Contains-append_left (f z) (all_of f xs) y (subst (λ w. Contains (f w) y) (sym e) k)
     by (inr c) more = Contains-append_right (f z) (all_of f xs) y (more c)
+
+-- what a test keeps passes it, and was there
+pub kept_was : {A : Type 0} (p : A → Bool) (xs : List A) (x : A) → Contains (filter p xs) x
+    → Contains xs x × (p x ≡ true)
+kept_was p [] x h = absurd (nothing_there x h)
+kept_was p (y ∷ xs) x h = by (p y) refl h (λ k. kept_was p xs x k)
+  where
+    later : Contains xs x × (p x ≡ true) → Contains (y ∷ xs) x × (p x ≡ true)
+    later k = (later_there y xs x k.0, k.1)
+
+    first : (y ≡ x) ⊎ Contains (filter p xs) x → p y ≡ true
+        → (Contains (filter p xs) x → Contains xs x × (p x ≡ true)) → Contains (y ∷ xs) x × (p x ≡ true)
+    first (inl e) f more = (first_there y xs x e, ap p (sym e) ∙ f)
+    first (inr c) f more = later (more c)
+
+    by : (b : Bool) → p y ≡ b → Contains (cond b (y ∷ filter p xs) (filter p xs)) x
+        → (Contains (filter p xs) x → Contains xs x × (p x ≡ true)) → Contains (y ∷ xs) x × (p x ≡ true)
+    by true f k more = first (first_or_later y (filter p xs) x k) f more
+    by false f k more = later (more k)
+
+-- what doesn't pass and counts nothing may be left out
+pub sum_kept : {A : Type 0} (c : A → ℕ) (p : A → Bool) (xs : List A)
+    → ((x : A) → Contains xs x → p x ≡ false → c x ≡ 0) → sum_by c xs ≡ sum_by c (filter p xs)
+sum_kept c p [] none = refl
+sum_kept c p (x ∷ xs) none =
+    sum_by-cons c x xs ∙ by (p x) refl (sum_kept c p xs (λ y k e. none y (later_there x xs y k) e))
+  where
+    by : (b : Bool) → p x ≡ b → sum_by c xs ≡ sum_by c (filter p xs)
+        → c x + sum_by c xs ≡ sum_by c (cond b (x ∷ filter p xs) (filter p xs))
+    by true f more = ap (λ n. c x + n) more ∙ sym (sum_by-cons c x (filter p xs))
+    by false f more = let zero_here = none x (first_there x xs x refl) f in omega (arith, more, zero_here)
+
+-- a product with each
+pub sum_times : {A : Type 0} (c : A → ℕ) (n : ℕ) (xs : List A) → sum_by c xs * n ≡ sum_by (λ x. c x * n) xs
+sum_times c n [] = omega arith
+sum_times c n (x ∷ xs) =
+    ap (λ m. m * n) (sum_by-cons c x xs) ∙ add-mul (c x) (sum_by c xs) n
+    ∙ ap (λ m. c x * n + m) (sum_times c n xs) ∙ sym (sum_by-cons (λ y. c y * n) x xs)

@@ -1,4 +1,4 @@
-use Rattle.djq_deltas.proofs.Growing.{answers_come, answers_go, row_comes, rows_come, row_goes}
+use Rattle.djq_deltas.proofs.Growing.{answer_stays, answers_come, answers_go, row_comes, rows_come, row_goes}
 use Rattle.djq_deltas.proofs.answers_follow_rows.Goals as goal
 
 pub returns-clause-come : goal.returns-clause-come
@@ -15,3 +15,6 @@ returns-clause-batched c = rows_come
 
 pub returns-clause-deleted : goal.returns-clause-deleted
 returns-clause-deleted c = row_goes
+
+pub returns-clause-stay : goal.returns-clause-stay
+returns-clause-stay c = answer_stays
