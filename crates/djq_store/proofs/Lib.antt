@@ -5,3 +5,16 @@ pub mod Held
 pub mod Members
 pub mod Staying
 pub mod Reading
+pub mod Slots
+pub mod Alike
+pub mod Lifting
+pub mod Summing
+pub mod Deltas
+pub mod Settled
+pub mod ReadBy
+pub mod Walking
+pub mod Behind
+pub mod Counting
+pub mod Telling
+pub mod Affected
+pub mod Cursors

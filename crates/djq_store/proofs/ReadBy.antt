@@ -61,14 +61,14 @@ found_any p (x ∷ xs) = by (p x) (found_any p xs)
     by false e = e
 
 pub find_same : {A : Type 0} (p q : A → Bool) (xs : List A) → ((x : A) → p x ≡ q x) → find p xs ≡ find q xs
-find_same p q [] h = refl
-find_same p q (x ∷ xs) h =
+find_same {A = A} p q [] h = refl
+find_same {A = A} p q (x ∷ xs) h =
     ap₂ (λ (b : Bool) (o : Option A). cond b (Some x) o) (h x) (find_same p q xs h)
 
 pub filter_same : {A : Type 0} (p q : A → Bool) (xs : List A) → ((x : A) → Contains xs x → p x ≡ q x)
     → filter p xs ≡ filter q xs
-filter_same p q [] h = refl
-filter_same p q (x ∷ xs) h =
+filter_same {A = A} p q [] h = refl
+filter_same {A = A} p q (x ∷ xs) h =
     ap₂ (λ (b : Bool) (ys : List A). cond b (x ∷ ys) ys) (h x (first_there x xs x refl))
     (filter_same p q xs (λ y c. h y (later_there x xs y c)))
 

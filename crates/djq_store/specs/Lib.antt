@@ -7,3 +7,6 @@ pub mod Explaining
 pub mod Registering
 pub mod Lending
 pub mod Watching
+pub mod Settling
+pub mod Affecting
+pub mod Following

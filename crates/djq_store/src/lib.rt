@@ -26,15 +26,18 @@ pub use djq_engine::{Answer, CursorId, Engine, LentAnswer, Next, QueryId};
 pub use explained::Explained;
 pub use store::Store;
 
+mod affecting;
 mod asking;
 mod below;
 mod change;
 mod explained;
 mod finding;
+mod following;
 mod joined;
 mod parts;
 mod reading;
 mod registering;
+mod settling;
 mod store;
 mod telling;
 mod watching;

@@ -5,7 +5,7 @@ use Rattle.djq_store.specs.Settling.{SettlesAt, is_settled, settling_steps, AreU
 use Rattle.djq_store.proofs.settling.settle_all.Given as goal
 
 abbrev pub invariant-loop-slot : goal.invariant-loop-slot
-invariant-loop-slot l = record {
+invariant-loop-slot g l = record {
   long : length l.unions.items ≡ length l.fn.unions.items;
   done : (k : ℕ) → k < l.slot → SettlesAt l.engine l.relations l.seq l.turn (joined_at l.fn.unions.items k)
       (joined_at l.unions.items k);
