@@ -30,7 +30,7 @@ use Rattle.djq_store.proofs.Ordered.{Seat, seat_here, order_seat, order_joint, l
 use Rattle.djq_store.proofs.ReadBy.{the_query, any_same, filter_same, any_there, passing}
 use Rattle.djq_store.proofs.Seats.{Slot, cases_place, low_place, high_place}
 use Rattle.djq_store.proofs.Summing.{kept_was}
-use Rattle.djq_store.proofs.Telling.{found_itself, found_there}
+use Rattle.djq_store.proofs.Wanted.{found_itself, found_there}
 
 -- what a filter keeps of what is made of places
 pub filter_mapped : {A B : Type 0} (p : B → Bool) (f : A → B) (xs : List A)

@@ -50,7 +50,7 @@ same_before us us' s i j' there = by_slot (joined_at us i) refl (subst (λ (o : 
   where
     by_slot : (o : Option Joined) → joined_at us i ≡ o → SameIn o (Some j') → (j : Joined) × (joined_at us i ≡ Some j) × SameUnion j j'
     by_slot None e h = absurd h
-    by_slot (Some j) e h = (j, (e, h))
+    by_slot (Some j) e h = (j, e, h)
 
 module _ (us us' : List (Option Joined)) (s : SameUnions us us') where
   pub listed_alike : (gs : List (Option Live)) (at : ℕ) → listed_at gs us' at ≡ listed_at gs us at

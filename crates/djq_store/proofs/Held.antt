@@ -5,6 +5,7 @@ use Rattle.std.specs.Option.{option_or}
 use Rattle.std.proofs.lemmas.Bool.{eq-eqb}
 use Rattle.std.proofs.lemmas.List.Folds.{find-append}
 use Rattle.djq_model.specs.Data.{Bytes}
+use Rattle.djq_model.specs.Listed.{listed_name}
 use Rattle.djq_lines.specs.declared.limits.TheConstants.{QUERIES}
 use Rattle.djq_live.specs.Live.{Live}
 use Rattle.djq_reach.proofs.Among.{apart}
@@ -106,11 +107,11 @@ module _ (e : Kept) (us : List (Option Joined)) (id : CursorId) where
       find-append (λ h. same_id h.id id) e.cursors (held_from (e.store).texts e.places QUERIES us)
       ∙ ap₂ option_or (none (held_at e.cursors id) refl) (unions_here (e.store).texts e.places QUERIES k us id (sym is))
     where
-      registered : {P : Registered → Type 0} (o : Option Registered) → IsSomeAnd o P → is_some o ≡ true
-      registered None h = absurd h
-      registered (Some r) h = refl
+      registered : (P : Registered → Type 0) (o : Option Registered) → IsSomeAnd o P → is_some o ≡ true
+      registered P None h = absurd h
+      registered P (Some r) h = refl
 
       none : (o : Option Held) → held_at e.cursors id ≡ o → held_at e.cursors id ≡ None
       none None f = f
       none (Some h) f =
-          let low = (seat e b id.query.at (registered (registered_at e.registered id.query) (b.held id h f).1)).low in absurd (omega arith)
+          let low = (seat e b id.query.at (registered (λ r. h.query ≡ listed_name r.query) (registered_at e.registered id.query) (b.held id h f).1)).low in absurd (omega arith)

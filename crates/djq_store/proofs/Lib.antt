@@ -1,12 +1,15 @@
 pub mod Seats
 pub mod Found
+pub mod Slots
 pub mod Ordered
 pub mod Held
 pub mod Members
-pub mod Staying
-pub mod Reading
-pub mod Slots
 pub mod Alike
+pub mod Staying
+pub mod Given
+pub mod Named
+pub mod Moved
+pub mod Unions
 pub mod Lifting
 pub mod Summing
 pub mod Deltas
@@ -15,6 +18,6 @@ pub mod ReadBy
 pub mod Walking
 pub mod Behind
 pub mod Counting
-pub mod Telling
+pub mod Wanted
 pub mod Affected
 pub mod Cursors

@@ -1,9 +1,10 @@
 -- Steps of the loops over relations, over the affected, and over unions.
-use Rattle.std.specs.Prelude.{ℕ, zero, suc, List, [], ◌∷◌, ◌++◌, ◌≡◌, ◌==◌, ◌+◌, ◌-◌, ◌<◌, ◌≤◌, ◌||◌, nat_lt, Bool, true, false, cond, Option, None, Some, find, filter, map, length, slice_get, All, Contains}
+use Rattle.std.specs.Prelude.{ℕ, zero, suc, List, [], ◌∷◌, ◌++◌, ◌≡◌, ◌==◌, ◌+◌, ◌-◌, ◌<◌, ◌≤◌, ◌||◌, ◌⊎◌, nat_lt, sum_by, Bool, true, false, cond, Option, None, Some, find, filter, map, length, slice_get, All, Contains}
 use Rattle.std.specs.List.{list_any}
-use Rattle.std.proofs.Common.{refl, sym, ap, ap₂, ◌∙◌, subst, arith, get_or, set, take, replicate, append-nil}
-use Rattle.std.proofs.lemmas.Bool.{eqb-true, eq-eqb, false≢true}
-use Rattle.std.proofs.lemmas.List.{take_more, map-append, get_or-set_same, get_or-set_other}
+use Rattle.std.proofs.Common.{refl, sym, ap, ap₂, ◌∙◌, subst, arith, get_or, set, take, replicate, append-nil, length-set, inl, inr}
+use Rattle.std.proofs.lemmas.Bool.{eqb-true, eq-eqb, false≢true, cases_order}
+use Rattle.std.proofs.lemmas.List.{take_more, map-append, get_or-set_same, get_or-set_other, get_or_default}
+use Rattle.std.proofs.lemmas.List.Sums.{sum_by_more}
 use Rattle.std.specs.Option.{option_or}
 use Rattle.std.proofs.lemmas.List.Folds.{list_any_more, find-append}
 use Rattle.std.proofs.lemmas.List.Elements.{filter_more}
@@ -13,10 +14,13 @@ use Rattle.djq_lines.specs.declared.limits.TheConstants.{QUERIES}
 use Rattle.djq_live.specs.Live.{Live}
 use Rattle.djq_live.specs.Member.{query_at}
 use Rattle.djq_engine.specs.declared.cursor.QueryId.{QueryId}
+use Rattle.djq_engine.specs.Kept.{Kept}
+use Rattle.djq_united.specs.United.{AreMembers}
 use Rattle.djq_store.specs.declared.joined.Joined.{Joined}
 use Rattle.djq_store.specs.Affecting.{is_reached, is_member_reached, is_affected}
-use Rattle.djq_store.specs.Places.{joined_at}
-use Rattle.djq_store.specs.Settling.{reads_some, touched_in}
+use Rattle.djq_store.specs.declared.settling.Turn.{Turn}
+use Rattle.djq_store.specs.Places.{joined_at, union_watchers}
+use Rattle.djq_store.specs.Settling.{reads_some, touched_in, SettlesAt, is_settled, settling_steps, AreUnionsUnwatched}
 use Rattle.djq_store.proofs.ReadBy.{any_same}
 use Rattle.djq_store.proofs.Summing.{kept_was}
 
@@ -143,3 +147,62 @@ filter_few p (x ∷ xs) = by (p x) (filter_few p xs)
     by : (b : Bool) → length (filter p xs) ≤ length xs → length (cond b (x ∷ filter p xs) (filter p xs)) ≤ length (x ∷ xs)
     by true k = omega (arith, k)
     by false k = omega (arith, k)
+
+-- ---- unions in their slots
+
+-- one more of them is settled
+module _ (e : Kept) (relations : List Bytes) (n : ℕ) (turn : Turn) (old now : List (Option Joined)) (k : ℕ)
+    (x y : Option Joined) (low : k < length now) (long : length now ≡ length old)
+    (is : x ≡ get_or now k x)
+    (done : (i : ℕ) → i < k → SettlesAt e relations n turn (joined_at old i) (joined_at now i))
+    (rest : (i : ℕ) → k ≤ i → joined_at now i ≡ joined_at old i)
+    (settles : SettlesAt e relations n turn x y) where
+  pub slot_old : joined_at old k ≡ x
+  slot_old = sym (rest k (omega arith)) ∙ get_or_default now k None x low ∙ sym is
+
+  pub done_more : (i : ℕ) → i < k + 1 → SettlesAt e relations n turn (joined_at old i) (joined_at (set now k y) i)
+  done_more i below = by (cases_order i k)
+    where
+      by : (i ≡ k) ⊎ ((i < k) ⊎ (k < i)) → SettlesAt e relations n turn (joined_at old i) (joined_at (set now k y) i)
+      by (inl same) =
+          subst (λ (j : ℕ). SettlesAt e relations n turn (joined_at old j) (joined_at (set now k y) j)) (sym same)
+          (subst (λ (o : Option Joined). SettlesAt e relations n turn o (joined_at (set now k y) k)) (sym slot_old)
+          (subst (λ (o : Option Joined). SettlesAt e relations n turn x o) (sym (get_or-set_same now k y None low)) settles))
+      by (inr (inl less)) =
+          subst (λ (o : Option Joined). SettlesAt e relations n turn (joined_at old i) o)
+          (sym (get_or-set_other now k i y None (λ (same : i ≡ k). omega (arith, same, less)))) (done i less)
+      by (inr (inr more)) = absurd (omega (arith, more, below))
+
+  pub rest_more : (i : ℕ) → k + 1 ≤ i → joined_at (set now k y) i ≡ joined_at old i
+  rest_more i above =
+      get_or-set_other now k i y None (λ (same : i ≡ k). omega (arith, same, above)) ∙ rest i (omega (arith, above))
+
+  pub long_more : length (set now k y) ≡ length old
+  long_more = length-set now k y ∙ long
+
+  pub read_more : (before settled : Bool) → before ≡ list_any (is_settled e relations) (take k old)
+      → settled ≡ is_settled e relations x
+      → (before || settled) ≡ list_any (is_settled e relations) (take (k + 1) old)
+  read_more before settled so this =
+      ap₂ (λ (a b : Bool). a || b) so (this ∙ ap (is_settled e relations) (sym slot_old))
+      ∙ sym (list_any_more (is_settled e relations) old k None (omega (arith, low, long)))
+
+  pub count_more : (a b c : ℕ) → b ≤ a + sum_by (settling_steps e relations turn) (take k old)
+      → c ≤ b + settling_steps e relations turn x
+      → c ≤ a + sum_by (settling_steps e relations turn) (take (k + 1) old)
+  count_more a b c first next =
+      let more = sum_by_more (settling_steps e relations turn) old k None (omega (arith, low, long)) in
+      let here = ap (settling_steps e relations turn) slot_old in
+      omega (arith, first, next, more, here)
+
+  pub unwatched_slot : AreUnionsUnwatched old → union_watchers x ≡ 0
+  unwatched_slot none = by x slot_old
+    where
+      by : (o : Option Joined) → joined_at old k ≡ o → union_watchers o ≡ 0
+      by None f = refl
+      by (Some j) f = none k j f
+
+  pub members_there : (places : List (Option Live))
+      → ((i : ℕ) (j : Joined) → joined_at old i ≡ Some j → AreMembers places j.union.members)
+      → (j : Joined) → x ≡ Some j → AreMembers places j.union.members
+  members_there places all j f = all k j (slot_old ∙ f)

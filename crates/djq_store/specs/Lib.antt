@@ -7,6 +7,8 @@ pub mod Explaining
 pub mod Registering
 pub mod Lending
 pub mod Watching
+pub mod Counting
+pub mod Moving
 pub mod Settling
 pub mod Affecting
 pub mod Following

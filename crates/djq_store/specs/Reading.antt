@@ -1,5 +1,5 @@
 -- What a read of a cursor over a query or a union gives.
-use Rattle.std.specs.Prelude.{ℕ, List, [], ◌∷◌, ◌++◌, ◌≡◌, ◌≤◌, ◌+◌, false, true, IsSomeAnd, ⊥}
+use Rattle.std.specs.Prelude.{ℕ, List, [], ◌∷◌, ◌++◌, ◌≡◌, ◌≤◌, ◌+◌, false, true, IsSomeAnd}
 use Rattle.djq_model.specs.Data.{Tuple}
 use Rattle.djq_model.specs.Listed.{Listed, AnswersOf, listed_of}
 use Rattle.djq_machine.specs.State.{Position, open_at, stale}

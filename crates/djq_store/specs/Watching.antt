@@ -1,5 +1,5 @@
 -- What a store says of the queries and unions that sessions watch.
-use Rattle.std.specs.Prelude.{ℕ, List, ◌≡◌, ◌≤◌, ◌+◌, Bool, true, false, Option, None, Some, IsSomeAnd}
+use Rattle.std.specs.Prelude.{ℕ, List, [], ◌≡◌, ◌≤◌, ◌+◌, Bool, true, false, Option, None, Some, IsSomeAnd}
 use Rattle.djq_machine.specs.Changes.{RowsChange, RowsOutcome, tried, is_outdated}
 use Rattle.djq_machine.specs.Watch.{Delta, ListsDeltas, deltas_steps}
 use Rattle.djq_engine.specs.declared.cursor.QueryId.{QueryId}

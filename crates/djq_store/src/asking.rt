@@ -13,6 +13,17 @@ use djq_lines::{Refusal, Shape};
 use djq_model::{Name, Value};
 use djq_steps::{Ledgers, Listing, Tally};
 
+// Whether a tuple is an answer of one of these queries, whose answers have the same types.
+fn some_has<L: Ledgers>(
+    engine: &Engine,
+    members: &[usize],
+    tuple: &[Value],
+    listing: &mut Tally<Listing<L>>,
+) -> Result<bool, Refusal>
+{
+    unreachable!()
+}
+
 impl Store {
     /// Whether a tuple is an answer of a query or union. It takes no memory, and counts at most one lookup
     /// for each atom.

@@ -34,6 +34,7 @@ mod explained;
 mod finding;
 mod following;
 mod joined;
+mod judging;
 mod parts;
 mod reading;
 mod registering;

@@ -7,7 +7,7 @@ ghost use Rattle.djq_live.specs.Member.{query_at};
 ghost use Rattle.djq_reach.specs.Places.{reads_place};
 ghost use Rattle.djq_united.specs.United.{AreMembers};
 ghost use Rattle.djq_store.specs.declared.joined.Joined.{Joined as JoinedModel};
-ghost use Rattle.djq_store.specs.Places.{joined_at};
+ghost use Rattle.djq_store.specs.Places.{joined_at, union_watchers};
 ghost use Rattle.djq_store.specs.Settling.{reads_some, some_read, first_read, touched_in, SettlesLog, Settles};
 ghost use Rattle.djq_store.specs.Settling.{SettlesAt, telling_steps, settling_steps, is_settled};
 ghost use Rattle.djq_store.specs.Settling.{AreUnionsUnwatched};
@@ -180,6 +180,29 @@ fn settle<L: Ledger>(
     }
 }
 
+// Settles the union in a slot, if there is one.
+fn settle_slot<L: Ledger>(
+    alloc: Global,
+    engine: &Engine,
+    slot: &mut Option<Joined>,
+    relations: &[Name],
+    seq: u64,
+    turn: Turn,
+    listing: &mut Tally<L>,
+) -> bool
+    requires { (j : JoinedModel) → slot.old ≡ Some j → AreMembers engine.now.places j.union.members }
+    ensures settles { SettlesAt engine.now relations.now seq turn slot.old slot.new }
+    ensures read { result ≡ is_settled engine.now relations.now slot.old }
+    ensures counted { listing.new ≤ listing.old
+        + settling_steps engine.now relations.now turn slot.old }
+    ensures unlisted { union_watchers slot.old ≡ 0 → listing.new ≡ listing.old }
+{
+    match slot {
+        Some(joined) => settle(alloc, engine, joined, relations, seq, turn, listing),
+        None => false,
+    }
+}
+
 /// Settles all unions behind a change of these relations, of this number. Whether it outdates one is told.
 pub fn settle_all<L: Ledger>(
     alloc: Global,
@@ -202,11 +225,16 @@ pub fn settle_all<L: Ledger>(
 {
     let mut read = false;
     for slot in 0..unions.len() {
-        if let Some(joined) = &mut unions[slot] {
-            if settle(alloc, engine, joined, relations, seq, turn, listing) {
-                read = true;
-            }
-        }
+        let settled = settle_slot(
+            alloc,
+            engine,
+            &mut unions[slot],
+            relations,
+            seq,
+            turn,
+            listing,
+        );
+        read = read || settled;
     }
     read
 }

@@ -1,11 +1,40 @@
 //! Sessions that watch queries and unions.
-ghost use Rattle.std.specs.Prelude.{◌≡◌, ◌<◌, ◌+◌, ◌-◌, IsSomeAnd};
+ghost use Rattle.std.specs.Prelude.{◌≡◌, ◌<◌, ◌≤◌, ◌+◌, ◌-◌, length, All, AllPairs, IsSomeAnd};
 ghost use Rattle.djq_lines.specs.declared.limits.TheConstants.{SESSIONS};
 ghost use Rattle.djq_engine.specs.Kept.{registered_at, IsRegistered, with_watchers};
+ghost use Rattle.djq_engine.specs.Places.{id_at};
+ghost use Rattle.djq_store.specs.Counting.{with_all};
 
 use crate::store::Store;
 use djq_engine::{Engine, QueryId};
 use djq_lines::limits::QUERIES;
+
+// Each of these queries is watched by one more.
+fn watch_members(engine: &mut Engine, members: &[usize])
+    requires { All (λ at. IsSomeAnd (registered_at engine.old.registered (id_at at))
+        (λ r. r.watchers + length members.now ≤ 4294967295)) members.now }
+    ensures { engine.new ≡ record engine.old {
+      registered = with_all (λ n. n + 1) members.now engine.old.registered;
+    } }
+{
+    for nth in 0..members.len() {
+        engine.watch(QueryId { at: members[nth] });
+    }
+}
+
+// Each of these queries is watched by one less.
+fn unwatch_members(engine: &mut Engine, members: &[usize])
+    requires apart { AllPairs (λ j k. j ≡ k → ⊥) members.now }
+    requires watched { All (λ at. IsSomeAnd (registered_at engine.old.registered (id_at at))
+        (λ r. 0 < r.watchers)) members.now }
+    ensures { engine.new ≡ record engine.old {
+      registered = with_all (λ n. n - 1) members.now engine.old.registered;
+    } }
+{
+    for nth in 0..members.len() {
+        engine.unwatch(QueryId { at: members[nth] });
+    }
+}
 
 impl Store {
     /// A session more watches a query or union. Its changes are told from now on. It takes no memory.

@@ -6,7 +6,7 @@ use Rattle.djq_model.specs.Listed.{Listed, a_query, listed_name, listed_of}
 use Rattle.djq_lines.specs.declared.answer.Refusal.{Refusal}
 use Rattle.djq_lines.specs.declared.answer.Refusal.TheVariants.{NoQuery}
 use Rattle.djq_lines.specs.declared.limits.TheConstants.{QUERIES}
-use Rattle.djq_machine.specs.Conditions.{first_of}
+use Rattle.djq_machine.specs.Conditions.{first_of, OutOfMemoryWhere}
 use Rattle.djq_machine.specs.State.{Store, Position, open_at, stale}
 use Rattle.djq_machine.specs.Store.{answer_steps}
 use Rattle.djq_reduct.specs.Answers.{IsAnswerOf}
@@ -18,17 +18,18 @@ use Rattle.djq_engine.specs.declared.cursor.CursorId.{CursorId}
 use Rattle.djq_engine.specs.declared.cursor.QueryId.{QueryId}
 use Rattle.djq_engine.specs.Kept as kept
 use Rattle.djq_engine.specs.Kept.{Kept, Held, Registered, registered_at, held_at, KeepsTables, MovesCursor, IsHeld, IsFresh, IsShown, AnswerIs, read_steps}
-use Rattle.djq_engine.proofs.Conditions.{answers_as}
+use Rattle.djq_engine.proofs.Conditions.{answers_as, done_of}
 use Rattle.djq_united.specs.Staying.{MembersStay, UnionsStay}
 use Rattle.djq_store.specs.declared.joined.Joined.{Joined}
-use Rattle.djq_store.specs.Below.{IsEngine}
+use Rattle.djq_store.specs.declared.parts.Parts.{Parts}
+use Rattle.djq_store.specs.Below.{IsEngine, StayingLaws}
 use Rattle.djq_store.specs.Places.{in_places, listed_at, lender_in, seen}
 use Rattle.djq_store.specs.Reading as store
-use Rattle.djq_store.specs.Whole.{IsListed}
+use Rattle.djq_store.specs.Whole.{IsListed, IsWhole}
 use Rattle.djq_store.proofs.Held.{held_low}
 use Rattle.djq_store.proofs.Ordered.{NoUnion, Seat, engine_listed, seat, seat_no_union, seat_order, joint_order, listed_seat, listed_joint}
 use Rattle.djq_store.proofs.Seats.{places_low}
-use Rattle.djq_store.proofs.Staying.{Rests, cursor_over, registered_over, store_over, tellings_over}
+use Rattle.djq_store.proofs.Staying.{Rests, rests_with, listed_over, counts_stay, cursor_over, registered_over, store_over, tellings_over}
 
 some_there : {A : Type 0} (o : Option A) (P : A → Type 0) → IsSomeAnd o P → (x : A) × (o ≡ Some x) × P x
 some_there None P h = absurd h
@@ -99,10 +100,10 @@ module _ (e e' : Kept) (r : Rests e e') (us : List (Option Joined)) (order sessi
 
   gives_at : (h : Held) (q : Listed) (position : Position) (result : Next) (answer : List ℕ) → h.id.query.at < QUERIES
       → kept.NextGivesAt e h q position result answer e' → store.NextGivesAt old h q position result answer new
-  gives_at h q (open_at given ended) Given answer low g = (g.0, (g.1, (shown h.id answer low g.2, (at_query h.id (λ l. g.0 ≡ values_of (e'.store).texts l answer) low g.3, moves h (open_at (given ++ g.0 ∷ []) false) low g.4))))
+  gives_at h q (open_at given ended) Given answer low g = (g.0, g.1, shown h.id answer low g.2, at_query h.id (λ l. g.0 ≡ values_of (e'.store).texts l answer) low g.3, moves h (open_at (given ++ g.0 ∷ []) false) low g.4)
   gives_at h q (open_at given ended) End answer low g = (g.0, moves h (open_at given true) low g.1)
   gives_at h q (open_at given ended) (Stale relation n) answer low g = g
-  gives_at h q (stale s m) (Stale relation n) answer low g = (g.0, (g.1, ap (λ (x : Kept). seen x us order sessions affected) g.2))
+  gives_at h q (stale s m) (Stale relation n) answer low g = (g.0, g.1, ap (λ (x : Kept). seen x us order sessions affected) g.2)
   gives_at h q (stale s m) Given answer low g = g
   gives_at h q (stale s m) End answer low g = g
 
@@ -114,25 +115,17 @@ module _ (e e' : Kept) (r : Rests e e') (us : List (Option Joined)) (order sessi
 
   module _ (id : CursorId) (low : id.query.at < QUERIES) where
     -- the cursor and its query are those of the engine
-    pub record SameCursor : Type 0 where
-      pub held : Held
-      pub there : held_at e.cursors id ≡ Some held
-      pub id_is : held.id ≡ id
-      pub listed : Listed
-      pub found : listed_of (e.store).queries held.query ≡ Some listed
-      pub same : listed_of old.store.queries held.query ≡ Some listed
+    pub record SameCursor (h : Held) (q : Listed) : Type 0 where
+      pub id_is : h.id ≡ id
+      pub same : listed_of old.store.queries h.query ≡ Some q
 
-    pub same_cursor : (h : Held) (q : Listed) → held_at e.cursors id ≡ Some h → listed_of (e.store).queries h.query ≡ Some q → SameCursor
+    pub same_cursor : (h : Held) (q : Listed) → held_at e.cursors id ≡ Some h → listed_of (e.store).queries h.query ≡ Some q → SameCursor h q
     same_cursor h q there found =
         let s = held_seat e r.before id h there in
         let over = (r.before.held id h there).1 in
         let called : h.query ≡ s.query.query.name = over_name (registered_at e.registered id.query) h s.registered s.found over ∙ ap listed_name s.is in
         record {
-          held = h;
-          there = there;
           id_is = (r.before.held id h there).0;
-          listed = q;
-          found = found;
           same = subst (λ (name : Bytes). listed_of old.store.queries name ≡ listed_of (e.store).queries name) (sym called)
               (engine_listed e r.before us order w s.query.query.name (seat_no_union e r.before us order w id.query.at s)) ∙ found;
         }
@@ -174,3 +167,27 @@ module _ (e e' : Kept) (r : Rests e e') (us : List (Option Joined)) (order sessi
       registered = registered_over e e' r us order sessions affected w;
       tellings = tellings_over e e' r us order sessions affected w c.tellings;
     }
+
+-- the store stays whole
+pub whole_over : (p : Parts) (e' : Kept) → Rests p.engine e' → e'.registered ≡ p.engine.registered → IsWhole p → IsWhole (record p { engine = e' })
+whole_over p e' r same w = record {
+  listed = listed_over p.engine e' r p.unions.items p.order.items p.sessions.items p.affected.items w.listed same;
+  counted = counts_stay p.engine e' p.unions.items p.sessions.items same w.counted;
+  roomy = record { order = w.roomy.order; affected = w.roomy.affected };
+}
+
+-- ---- the engine's cursors
+
+module _ (e e' : Kept) (b : IsEngine e) (b' : IsEngine e') (laws : StayingLaws) (k : KeepsTables e e') where
+  -- a call that opens a cursor, or finds no memory for it
+  opened_same : (name : Bytes) (result : Result CursorId Refusal) → kept.OpenGives e name result e' → (e'.store ≡ e.store) × (e'.registered ≡ e.registered)
+  opened_same name (Ok id) o = let d = (done_of (first_of ((is_none (listed_of (e.store).queries name), NoQuery) ∷ [])) id (λ id. kept.OpensCursor e name id e') (OutOfMemoryWhere ⊤) o.answer).1 in (d.store, d.registered)
+  opened_same name (Err x) o = (ap (λ (k : Kept). k.store) (o.stays x refl), ap (λ (k : Kept). k.registered) (o.stays x refl))
+
+  pub opened_rests : (name : Bytes) (result : Result CursorId Refusal) → kept.OpenGives e name result e' → Rests e e'
+  opened_rests name result o = rests_with e e' b b' laws k (opened_same name result o).0
+
+pub whole_opened : (p : Parts) (e' : Kept) → IsEngine p.engine → IsEngine e' → StayingLaws → KeepsTables p.engine e' → (name : Bytes) (result : Result CursorId Refusal)
+    → kept.OpenGives p.engine name result e' → IsWhole p → IsWhole (record p { engine = e' })
+whole_opened p e' b b' laws k name result o w =
+    whole_over p e' (opened_rests p.engine e' b b' laws k name result o) (opened_same p.engine e' b b' laws k name result o).1 w

@@ -1,0 +1,1 @@
+//! Whether a union may be registered, and what it is made of.
