@@ -85,10 +85,11 @@ counted_slot p (o ∷ us) low = by (p o) refl (λ l. counted_slot p us l)
 
     by : (b : Bool) → p o ≡ b → (0 < count_by p us → (k : ℕ) × (p (get_or us k None) ≡ true))
         → (k : ℕ) × (p (get_or (o ∷ us) k None) ≡ true)
-    by true e more = (0, e)
+    by true e more = (zero, e)
     by false e more =
-        let none : cond (p o) 1 0 ≡ 0 = ap (λ (c : Bool). cond c 1 0) e in
-        let m = more (omega (arith, low, sum, none)) in (suc m.0, m.1)
+        let here : count_by p (o ∷ us) ≡ 0 + count_by p us =
+            sum ∙ ap (λ (c : Bool). cond c 1 0 + count_by p us) e in
+        let m = more (omega (arith, low, here)) in (suc m.0, m.1)
 
 and_true : (b c : Bool) → (b && c) ≡ true → (b ≡ true) × (c ≡ true)
 and_true true c e = (refl, e)
