@@ -191,3 +191,40 @@ pub whole_opened : (p : Parts) (e' : Kept) → IsEngine p.engine → IsEngine e'
     → kept.OpenGives p.engine name result e' → IsWhole p → IsWhole (record p { engine = e' })
 whole_opened p e' b b' laws k name result o w =
     whole_over p e' (opened_rests p.engine e' b b' laws k name result o) (opened_same p.engine e' b b' laws k name result o).1 w
+
+-- what is registered stays, and so does the store, where a cursor is closed or read
+
+module _ (e e' : Kept) (id : CursorId) where
+  pub closed_same : kept.ClosesCursor e id e' → (e'.store ≡ e.store) × (e'.registered ≡ e.registered)
+  closed_same c = (c.store, c.registered)
+
+  moved_same : (h : Held) (position : Position) → MovesCursor e h position e' → (e'.store ≡ e.store) × (e'.registered ≡ e.registered)
+  moved_same h position m = (m.store, m.registered)
+
+  itself : e' ≡ e → (e'.store ≡ e.store) × (e'.registered ≡ e.registered)
+  itself same = (ap (λ (k : Kept). k.store) same, ap (λ (k : Kept). k.registered) same)
+
+  next_at_same : (h : Held) (q : Listed) (position : Position) (result : Next) (answer : List ℕ) → kept.NextGivesAt e h q position result answer e' → (e'.store ≡ e.store) × (e'.registered ≡ e.registered)
+  next_at_same h q (open_at given ended) Given answer g = moved_same h (open_at (given ++ g.0 ∷ []) false) g.4
+  next_at_same h q (open_at given ended) End answer g = moved_same h (open_at given true) g.1
+  next_at_same h q (open_at given ended) (Stale relation n) answer g = absurd g
+  next_at_same h q (stale s m) (Stale relation n) answer g = itself g.2
+  next_at_same h q (stale s m) Given answer g = absurd g
+  next_at_same h q (stale s m) End answer g = absurd g
+
+  more_at_same : (h : Held) (q : Listed) (position : Position) (result : Bool) → kept.MoreGivesAt e h q position result e' → (e'.store ≡ e.store) × (e'.registered ≡ e.registered)
+  more_at_same h q (open_at given ended) true g = moved_same h (open_at given false) g.1
+  more_at_same h q (open_at given ended) false g = moved_same h (open_at given true) g.1
+  more_at_same h q (stale s m) more g = absurd g
+
+  pub next_same : (result : Next) (answer : List ℕ) (before now : ℕ) → kept.NextGives e id result answer e' before now → (e'.store ≡ e.store) × (e'.registered ≡ e.registered)
+  next_same result answer before now g =
+      let t = some_there (held_at e.cursors id) (λ h. IsSomeAnd (listed_of (e.store).queries h.query) (λ q. kept.NextGivesAt e h q h.position result answer e' × (now ≤ before + read_steps result q))) g.gives in
+      let u = some_there (listed_of (e.store).queries t.0.query) (λ q. kept.NextGivesAt e t.0 q t.0.position result answer e' × (now ≤ before + read_steps result q)) t.2 in
+      next_at_same t.0 u.0 t.0.position result answer u.2.0
+
+  pub more_same : (result : Bool) (before now : ℕ) → kept.MoreGives e id result e' before now → (e'.store ≡ e.store) × (e'.registered ≡ e.registered)
+  more_same result before now g =
+      let t = some_there (held_at e.cursors id) (λ h. IsSomeAnd (listed_of (e.store).queries h.query) (λ q. kept.MoreGivesAt e h q h.position result e' × (now ≤ before + answer_steps q))) g.gives in
+      let u = some_there (listed_of (e.store).queries t.0.query) (λ q. kept.MoreGivesAt e t.0 q t.0.position result e' × (now ≤ before + answer_steps q)) t.2 in
+      more_at_same t.0 u.0 t.0.position result u.2.0

@@ -21,3 +21,4 @@ pub mod Counting
 pub mod Wanted
 pub mod Affected
 pub mod Cursors
+pub mod Standing

@@ -91,12 +91,12 @@ affected_same f g us at same =
     member (Some j) = any_same f g j.union.members (λ i c. same i)
 
 pub affected_more : (f g : ℕ → Bool) (us : List (Option Joined)) (order items : List ℕ) (n at : ℕ) (b : Bool)
-    → n < length order → at ≡ get_or order n at → ((i : ℕ) → f i ≡ g i) → b ≡ is_affected f us at
+    → n < length order → at ≡ get_or order n 0 → ((i : ℕ) → f i ≡ g i) → b ≡ is_affected f us at
     → items ≡ cond b (filter (is_affected g us) (take n order) ++ at ∷ []) (filter (is_affected g us) (take n order))
     → items ≡ filter (is_affected g us) (take (n + 1) order)
 affected_more f g us order items n at b low is same test so =
     so ∙ by b refl
-    ∙ sym (filter_more (is_affected g us) order n at low
+    ∙ sym (filter_more (is_affected g us) order n 0 low
     ∙ ap (λ (x : ℕ). filter (is_affected g us) (take n order) ++ cond (is_affected g us x) (x ∷ []) []) (sym is)
     ∙ ap (λ (c : Bool). filter (is_affected g us) (take n order) ++ cond c (at ∷ []) [])
     (sym (affected_same f g us at same) ∙ sym test))
@@ -150,23 +150,37 @@ filter_few p (x ∷ xs) = by (p x) (filter_few p xs)
 
 -- ---- unions in their slots
 
--- one more of them is settled
-module _ (e : Kept) (relations : List Bytes) (n : ℕ) (turn : Turn) (old now : List (Option Joined)) (k : ℕ)
-    (x y : Option Joined) (low : k < length now) (long : length now ≡ length old)
-    (is : x ≡ get_or now k x)
-    (done : (i : ℕ) → i < k → SettlesAt e relations n turn (joined_at old i) (joined_at now i))
-    (rest : (i : ℕ) → k ≤ i → joined_at now i ≡ joined_at old i)
-    (settles : SettlesAt e relations n turn x y) where
+-- the one that comes next is as it was
+module _ (old now : List (Option Joined)) (k : ℕ) (x : Option Joined) (low : k < length now) (is : x ≡ get_or now k x)
+    (rest : (i : ℕ) → k ≤ i → joined_at now i ≡ joined_at old i) where
   pub slot_old : joined_at old k ≡ x
   slot_old = sym (rest k (omega arith)) ∙ get_or_default now k None x low ∙ sym is
 
+  pub unwatched_slot : AreUnionsUnwatched old → union_watchers x ≡ 0
+  unwatched_slot none = subst (λ (o : Option Joined). union_watchers o ≡ 0) slot_old (by (joined_at old k) refl)
+    where
+      by : (o : Option Joined) → joined_at old k ≡ o → union_watchers o ≡ 0
+      by None f = refl
+      by (Some j) f = none k j f
+
+  pub members_there : (places : List (Option Live))
+      → ((i : ℕ) (j : Joined) → joined_at old i ≡ Some j → AreMembers places j.union.members)
+      → (j : Joined) → x ≡ Some j → AreMembers places j.union.members
+  members_there places all j f = all k j (slot_old ∙ f)
+
+-- one more of them is settled
+module _ (e : Kept) (relations : List Bytes) (n : ℕ) (turn : Turn) (old now : List (Option Joined)) (k : ℕ)
+    (x y : Option Joined) (low : k < length now) (long : length now ≡ length old) (was : joined_at old k ≡ x)
+    (done : (i : ℕ) → i < k → SettlesAt e relations n turn (joined_at old i) (joined_at now i))
+    (rest : (i : ℕ) → k ≤ i → joined_at now i ≡ joined_at old i)
+    (settles : SettlesAt e relations n turn x y) where
   pub done_more : (i : ℕ) → i < k + 1 → SettlesAt e relations n turn (joined_at old i) (joined_at (set now k y) i)
   done_more i below = by (cases_order i k)
     where
       by : (i ≡ k) ⊎ ((i < k) ⊎ (k < i)) → SettlesAt e relations n turn (joined_at old i) (joined_at (set now k y) i)
       by (inl same) =
           subst (λ (j : ℕ). SettlesAt e relations n turn (joined_at old j) (joined_at (set now k y) j)) (sym same)
-          (subst (λ (o : Option Joined). SettlesAt e relations n turn o (joined_at (set now k y) k)) (sym slot_old)
+          (subst (λ (o : Option Joined). SettlesAt e relations n turn o (joined_at (set now k y) k)) (sym was)
           (subst (λ (o : Option Joined). SettlesAt e relations n turn x o) (sym (get_or-set_same now k y None low)) settles))
       by (inr (inl less)) =
           subst (λ (o : Option Joined). SettlesAt e relations n turn (joined_at old i) o)
@@ -184,7 +198,7 @@ module _ (e : Kept) (relations : List Bytes) (n : ℕ) (turn : Turn) (old now : 
       → settled ≡ is_settled e relations x
       → (before || settled) ≡ list_any (is_settled e relations) (take (k + 1) old)
   read_more before settled so this =
-      ap₂ (λ (a b : Bool). a || b) so (this ∙ ap (is_settled e relations) (sym slot_old))
+      ap₂ (λ (a b : Bool). a || b) so (this ∙ ap (is_settled e relations) (sym was))
       ∙ sym (list_any_more (is_settled e relations) old k None (omega (arith, low, long)))
 
   pub count_more : (a b c : ℕ) → b ≤ a + sum_by (settling_steps e relations turn) (take k old)
@@ -192,17 +206,5 @@ module _ (e : Kept) (relations : List Bytes) (n : ℕ) (turn : Turn) (old now : 
       → c ≤ a + sum_by (settling_steps e relations turn) (take (k + 1) old)
   count_more a b c first next =
       let more = sum_by_more (settling_steps e relations turn) old k None (omega (arith, low, long)) in
-      let here = ap (settling_steps e relations turn) slot_old in
+      let here = ap (settling_steps e relations turn) was in
       omega (arith, first, next, more, here)
-
-  pub unwatched_slot : AreUnionsUnwatched old → union_watchers x ≡ 0
-  unwatched_slot none = by x slot_old
-    where
-      by : (o : Option Joined) → joined_at old k ≡ o → union_watchers o ≡ 0
-      by None f = refl
-      by (Some j) f = none k j f
-
-  pub members_there : (places : List (Option Live))
-      → ((i : ℕ) (j : Joined) → joined_at old i ≡ Some j → AreMembers places j.union.members)
-      → (j : Joined) → x ≡ Some j → AreMembers places j.union.members
-  members_there places all j f = all k j (slot_old ∙ f)

@@ -1,13 +1,21 @@
 -- What the unions of a store, and the affected, are behind a change of rows.
-use Rattle.std.specs.Prelude.{ℕ, List, ◌≡◌, ◌≤◌, ◌⊎◌, false, filter, length, map, vec_capacity}
+use Rattle.std.specs.Prelude.{ℕ, zero, suc, List, ◌≡◌, ◌≤◌, ◌⊎◌, false, Option, None, Some, Result, Ok, Err, filter, length, map, sum_by, vec_capacity}
 use Rattle.std.specs.List.{list_any}
 use Rattle.djq_model.specs.Data.{Bytes}
+use Rattle.djq_lines.specs.declared.answer.AddOutcome.{AddOutcome}
+use Rattle.djq_lines.specs.declared.answer.AddOutcome.TheVariants.{First, More}
+use Rattle.djq_lines.specs.declared.answer.DeleteOutcome.{DeleteOutcome}
+use Rattle.djq_lines.specs.declared.answer.DeleteOutcome.TheVariants.{Last, Left, Absent}
+use Rattle.djq_lines.specs.declared.answer.Refusal.{Refusal}
+use Rattle.djq_lines.specs.declared.answer.Refusal.TheVariants.{NoMemory}
+use Rattle.djq_engine.specs.Kept.{Kept}
+use Rattle.djq_store.specs.declared.joined.Joined.{Joined}
 use Rattle.djq_store.specs.declared.parts.Parts.{Parts}
 use Rattle.djq_store.specs.declared.settling.Turn.{Turn}
 use Rattle.djq_store.specs.declared.settling.Turn.TheVariants.{Came, Went, Lacked}
 use Rattle.djq_store.specs.Affecting.{is_reached, is_affected}
 use Rattle.djq_store.specs.Places.{joined_at}
-use Rattle.djq_store.specs.Settling.{SettlesAt, is_settled}
+use Rattle.djq_store.specs.Settling.{SettlesAt, is_settled, settling_steps}
 
 -- The affected are those of the order that the engine's change affects, or unions of them. Where no union
 -- reads a relation that changed, they are the engine's, which are in that order.
@@ -32,3 +40,32 @@ pub record Follows (relations : List Bytes) (turn : Turn) (old new : Parts) : Ty
   pub sessions : new.sessions ≡ old.sessions
   pub affected : FollowsAffected turn relations old new
   pub room : vec_capacity old.affected ≤ vec_capacity new.affected
+
+-- Where there was no change, nothing does.
+abbrev pub FollowsBy : Option Turn → List Bytes → Parts → Parts → Type 0
+FollowsBy None relations old new = new ≡ old
+FollowsBy (Some turn) relations old new = Follows relations turn old new
+
+-- what it counts at most
+abbrev pub following_steps : Option Turn → Kept → List Bytes → List (Option Joined) → ℕ
+following_steps None e relations us = 0
+following_steps (Some turn) e relations us = sum_by (settling_steps e relations turn) us
+
+-- how rows changed, by what came of a command
+abbrev pub add_turn : Result AddOutcome Refusal → Option Turn
+add_turn (Ok First) = Some Came
+add_turn (Ok (More copies)) = None
+add_turn (Err NoMemory) = Some Lacked
+add_turn (Err _) = None
+
+abbrev pub delete_turn : Result DeleteOutcome Refusal → Option Turn
+delete_turn (Ok Last) = Some Went
+delete_turn (Ok (Left copies)) = None
+delete_turn (Ok Absent) = None
+delete_turn (Err _) = None
+
+abbrev pub batch_turn : Result ℕ Refusal → Option Turn
+batch_turn (Ok zero) = None
+batch_turn (Ok (suc n)) = Some Came
+batch_turn (Err NoMemory) = Some Lacked
+batch_turn (Err _) = None

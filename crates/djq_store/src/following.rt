@@ -1,11 +1,11 @@
 //! What the unions of a store, and the affected, are behind a change of rows.
-ghost use Rattle.std.specs.Prelude.{◌≡◌, ◌+◌, ◌≤◌, ◌<◌, ℕ, Some, All, length, sum_by, vec_capacity};
+ghost use Rattle.std.specs.Prelude.{◌≡◌, ◌+◌, ◌≤◌, ◌<◌, ℕ, Some, All, length, vec_capacity};
 ghost use Rattle.djq_lines.specs.declared.limits.TheConstants.{QUERIES};
 ghost use Rattle.djq_united.specs.United.{AreMembers};
 ghost use Rattle.djq_store.specs.declared.joined.Joined.{Joined as JoinedModel};
 ghost use Rattle.djq_store.specs.Places.{joined_at};
-ghost use Rattle.djq_store.specs.Following.{Follows};
-ghost use Rattle.djq_store.specs.Settling.{settling_steps, AreUnionsUnwatched};
+ghost use Rattle.djq_store.specs.Following.{FollowsBy, following_steps};
+ghost use Rattle.djq_store.specs.Settling.{AreUnionsUnwatched};
 
 use crate::affecting::{affect, affect_queries};
 use crate::parts::Parts;
@@ -14,12 +14,12 @@ use djq_model::Name;
 use djq_steps::Tally;
 use std::sync::ledger::Ledger;
 
-/// Behind a change of these relations, made or tried: the unions that read one are settled, and where
-/// it was made, what it affects is known.
+/// Behind a change of these relations, made or tried, if there was one: the unions that read one are
+/// settled, and where it was made, what it affects is known.
 pub fn follow<L: Ledger>(
     parts: &mut Parts,
     relations: &[Name],
-    turn: Turn,
+    turn: Option<Turn>,
     listing: &mut Tally<L>,
 )
     requires members { (k : ℕ) (j : JoinedModel) → joined_at parts.old.unions.items k ≡ Some j
@@ -27,11 +27,14 @@ pub fn follow<L: Ledger>(
     requires low { All (λ id. id.at < QUERIES) parts.old.engine.affected }
     requires few { length parts.old.engine.affected ≤ vec_capacity parts.old.affected }
     requires room { length parts.old.order.items ≤ vec_capacity parts.old.affected }
-    ensures follows { Follows relations.now turn parts.old parts.new }
+    ensures follows { FollowsBy turn relations.now parts.old parts.new }
     ensures counted { listing.new ≤ listing.old
-        + sum_by (settling_steps parts.old.engine relations.now turn) parts.old.unions.items }
+        + following_steps turn parts.old.engine relations.now parts.old.unions.items }
     ensures unlisted { AreUnionsUnwatched parts.old.unions.items → listing.new ≡ listing.old }
 {
+    let Some(turn) = turn else {
+        return;
+    };
     let seq = parts.engine.seq();
     let read = settle_all(
         parts.alloc,

@@ -234,7 +234,7 @@ pub fn settle_all<L: Ledger>(
             turn,
             listing,
         );
-        read = read || settled;
+        read |= settled;
     }
     read
 }
