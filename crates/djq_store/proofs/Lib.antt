@@ -22,3 +22,7 @@ pub mod Wanted
 pub mod Affected
 pub mod Cursors
 pub mod Standing
+pub mod Asked
+pub mod Accepted
+pub mod Commanded
+pub mod Told

@@ -209,7 +209,7 @@ module _ (change : RowsChange) (relations : List Bytes) (turn : Turn) (e e' : Ke
       → r.watchers ≡ slice_index_or sessions r.id.at 0 + count_by (wants r.id.at) us
   watched_by r k = c.counted r (found_itself e.registered r b.did.before.apart k)
 
-  low_of : (r : Registered) → Contains e.registered r → r.id.at < QUERIES
+  pub low_of : (r : Registered) → Contains e.registered r → r.id.at < QUERIES
   low_of r k =
       let t = some_there (query_at e.places r.id.at) (λ l. r.query ≡ a_query l.query)
           (All-contains (λ (s : Registered). AtPlace e s.id (λ l. s.query ≡ a_query l.query)) e.registered r
@@ -306,6 +306,40 @@ module _ (change : RowsChange) (relations : List Bytes) (turn : Turn) (e e' : Ke
           let slot = counted_slot (wants r.id.at) us (omega (arith, sum, some, none)) in
           wanted_member r c outdated hit slot.0 slot.1
 
+  -- an engine's query that is outdated and watched is among those listed
+  listed_place : (m : ℕ) (s : Seat e m) → is_outdated change s.registered.query ≡ true → 0 < s.registered.watchers
+      → Contains places m
+  listed_place m s outdated some =
+      subst (λ (i : ℕ). Contains places i) (ap (λ (id : QueryId). id.at) s.id)
+      (mapped_there (λ (r : Registered). r.id.at) ers s.registered
+      (kept_there IsAffected e.registered s.registered
+      (both_true (is_outdated change s.registered.query) (is_watched s.registered) outdated
+      (lt-ltb 0 s.registered.watchers some))
+      (found_there e.registered (id_at m) s.registered s.found)))
+
+  seat_watchers : (m : ℕ) (s : Seat e m)
+      → s.registered.watchers ≡ slice_index_or sessions m 0 + count_by (wants m) us
+  seat_watchers m s =
+      watched_by s.registered (found_there e.registered (id_at m) s.registered s.found)
+      ∙ ap (λ (id : QueryId). slice_index_or sessions id.at 0 + count_by (wants id.at) us) s.id
+
+  -- a member of a union that one watches is listed
+  pub member_listed : (k : ℕ) (j : Joined) → joined_at us k ≡ Some j → 0 < j.watchers → (m : ℕ)
+      → Contains (filter (λ i. is_touched change (q_at i)) j.union.members) m → Contains places m
+  member_listed k j there some m c =
+      let was = kept_was (λ i. is_touched change (q_at i)) j.union.members m c in
+      let l = member_there (Some change) relations turn e e' us us' b j.union (w.united k j there) m was.0 in
+      let s = seat_here e b.did.before m l.0 l.1 in
+      let hit : is_outdated change (a_query (q_at m)) ≡ true = out (q_at m) was.1 in
+      let is : s.registered.query ≡ a_query (q_at m) = s.is ∙ ap a_query (sym (ap the_query s.there)) in
+      let want : wants m (joined_at us k) ≡ true =
+          ap (wants m) there
+          ∙ both_true (nat_lt 0 j.watchers) (is_reader j.union.members m) (lt-ltb 0 j.watchers some)
+          (order_has j.union.members m was.0) in
+      let many = count_positive (wants m) us k (slot_below us k j there) want in
+      let sum = seat_watchers m s in
+      listed_place m s (ap (is_outdated change) is ∙ hit) (omega (arith, many, sum))
+
   -- ---- each has its delta
 
   module _ (LogAt : ℕ → List Change → Type 0)
@@ -316,23 +350,6 @@ module _ (change : RowsChange) (relations : List Bytes) (turn : Turn) (e e' : Ke
       (AnswersOf change.after (union_of e.places j.union)) changes × LogAt (QUERIES + k) changes) where
     abbrev pub Log : Registered → List Change → Type 0
     Log r changes = LogAt r.id.at changes
-
-    -- an engine's query that is outdated and watched is among those listed
-    listed_place : (m : ℕ) (s : Seat e m) → is_outdated change s.registered.query ≡ true → 0 < s.registered.watchers
-        → Contains places m
-    listed_place m s outdated some =
-        subst (λ (i : ℕ). Contains places i) (ap (λ (id : QueryId). id.at) s.id)
-        (mapped_there (λ (r : Registered). r.id.at) ers s.registered
-        (kept_there IsAffected e.registered s.registered
-        (both_true (is_outdated change s.registered.query) (is_watched s.registered) outdated
-        (lt-ltb 0 s.registered.watchers some))
-        (found_there e.registered (id_at m) s.registered s.found)))
-
-    seat_watchers : (m : ℕ) (s : Seat e m)
-        → s.registered.watchers ≡ slice_index_or sessions m 0 + count_by (wants m) us
-    seat_watchers m s =
-        watched_by s.registered (found_there e.registered (id_at m) s.registered s.found)
-        ∙ ap (λ (id : QueryId). slice_index_or sessions id.at 0 + count_by (wants id.at) us) s.id
 
     abbrev Has : Registered → Type 0
     Has r = HasDelta (e.store).relations change q_at f (members_at us) places Log deltas r
@@ -396,22 +413,6 @@ module _ (change : RowsChange) (relations : List Bytes) (turn : Turn) (e e' : Ke
       where
         some_none : {xs : List ℕ} → Some xs ≡ None → ⊥
         some_none e = cc
-
-        member_listed : (k : ℕ) (j : Joined) → joined_at us k ≡ Some j → 0 < j.watchers → (m : ℕ)
-            → Contains (filter (λ i. is_touched change (q_at i)) j.union.members) m → Contains places m
-        member_listed k j there some m c =
-            let was = kept_was (λ i. is_touched change (q_at i)) j.union.members m c in
-            let l = member_there (Some change) relations turn e e' us us' b j.union (w.united k j there) m was.0 in
-            let s = seat_here e b.did.before m l.0 l.1 in
-            let hit : is_outdated change (a_query (q_at m)) ≡ true = out (q_at m) was.1 in
-            let is : s.registered.query ≡ a_query (q_at m) = s.is ∙ ap a_query (sym (ap the_query s.there)) in
-            let want : wants m (joined_at us k) ≡ true =
-                ap (wants m) there
-                ∙ both_true (nat_lt 0 j.watchers) (is_reader j.union.members m) (lt-ltb 0 j.watchers some)
-                (order_has j.union.members m was.0) in
-            let many = count_positive (wants m) us k (slot_below us k j there) want in
-            let sum = seat_watchers m s in
-            listed_place m s (ap (is_outdated change) is ∙ hit) (omega (arith, many, sum))
 
     has : (r : Registered) → Contains rs r → Has r
     has r c =

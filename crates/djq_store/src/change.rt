@@ -9,6 +9,8 @@ ghost use Rattle.djq_engine.specs.Watching.{CountsUpdates, CountsBatch};
 ghost use Rattle.djq_engine.specs.Watching.{add_times, batch_times, delete_times};
 ghost use Rattle.djq_store.specs.Watching.{TellsChange};
 
+use crate::below::engine_laws;
+use crate::following::{add_turn, delete_turn, follow};
 use crate::store::Store;
 use djq_lines::{AddOutcome, DeleteOutcome, HeldRow, Refusal};
 use djq_model::{Name, Types, Value};
@@ -29,7 +31,10 @@ impl Store {
         ensures registered { self.new.registered ≡ self.old.registered }
         ensures tellings { SameTellings self.old self.new }
     {
-        self.parts.engine.rel(name, types)
+        engine_laws(&self.parts.engine);
+        let made = self.parts.engine.rel(name, types);
+        engine_laws(&self.parts.engine);
+        made
     }
 
     /// Adds a row to a relation, and tells how many copies of it are there. Where it wasn't there, its
@@ -67,7 +72,12 @@ impl Store {
             (row_in self.old.store.relations name.now row.now)
             steps.old.update steps.new.update }
     {
-        unreachable!()
+        engine_laws(&self.parts.engine);
+        let outcome = self.parts.engine.add(name, row, steps);
+        engine_laws(&self.parts.engine);
+        let turn = add_turn(&outcome);
+        follow(&mut self.parts, &[*name], turn, &mut steps.listing);
+        outcome
     }
 
     /// Deletes a copy of a row from a relation, and tells how many are left. Where it isn't there,
@@ -98,7 +108,12 @@ impl Store {
             (row_out self.old.store.relations name.now row.now)
             steps.old.update steps.new.update }
     {
-        unreachable!()
+        engine_laws(&self.parts.engine);
+        let outcome = self.parts.engine.del(name, row, steps);
+        engine_laws(&self.parts.engine);
+        let turn = delete_turn(&outcome);
+        follow(&mut self.parts, &[*name], turn, &mut steps.listing);
+        outcome
     }
 
     /// Adds all rows that a batch held, at once, and tells how many of them weren't there. A row that

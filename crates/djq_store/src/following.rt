@@ -4,12 +4,13 @@ ghost use Rattle.djq_lines.specs.declared.limits.TheConstants.{QUERIES};
 ghost use Rattle.djq_united.specs.United.{AreMembers};
 ghost use Rattle.djq_store.specs.declared.joined.Joined.{Joined as JoinedModel};
 ghost use Rattle.djq_store.specs.Places.{joined_at};
-ghost use Rattle.djq_store.specs.Following.{FollowsBy, following_steps};
+ghost use Rattle.djq_store.specs.Following.{FollowsBy, following_steps, add_turn, delete_turn, batch_turn};
 ghost use Rattle.djq_store.specs.Settling.{AreUnionsUnwatched};
 
 use crate::affecting::{affect, affect_queries};
 use crate::parts::Parts;
 use crate::settling::{Turn, settle_all};
+use djq_lines::{AddOutcome, DeleteOutcome, Refusal};
 use djq_model::Name;
 use djq_steps::Tally;
 use std::sync::ledger::Ledger;
@@ -58,5 +59,38 @@ pub fn follow<L: Ledger>(
         );
     } else {
         affect_queries(&mut parts.affected, &parts.engine);
+    }
+}
+
+/// How rows changed, by what came of `add`.
+pub fn add_turn(outcome: &Result<AddOutcome, Refusal>) -> Option<Turn>
+    ensures { result ≡ add_turn outcome.now }
+{
+    match outcome {
+        Ok(AddOutcome::First) => Some(Turn::Came),
+        Err(Refusal::NoMemory) => Some(Turn::Lacked),
+        _ => None,
+    }
+}
+
+/// By what came of `del`.
+pub fn delete_turn(outcome: &Result<DeleteOutcome, Refusal>) -> Option<Turn>
+    ensures { result ≡ delete_turn outcome.now }
+{
+    match outcome {
+        Ok(DeleteOutcome::Last) => Some(Turn::Went),
+        _ => None,
+    }
+}
+
+/// By what came of `done`.
+pub fn batch_turn(outcome: &Result<usize, Refusal>) -> Option<Turn>
+    ensures { result ≡ batch_turn outcome.now }
+{
+    match outcome {
+        Ok(0) => None,
+        Ok(_) => Some(Turn::Came),
+        Err(Refusal::NoMemory) => Some(Turn::Lacked),
+        _ => None,
     }
 }
