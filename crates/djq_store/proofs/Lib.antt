@@ -26,3 +26,6 @@ pub mod Asked
 pub mod Accepted
 pub mod Commanded
 pub mod Told
+pub mod Doing
+pub mod Rowing
+pub mod Rowed

@@ -100,13 +100,13 @@ settling_lacked e' relations (o ∷ us) =
     sum_by-cons (settling_steps e' relations Lacked) o us
     ∙ ap₂ (λ (m n : ℕ). m + n) (by o) (settling_lacked e' relations us)
   where
-    none : (a : Bool) → cond a 0 0 ≡ 0
-    none true = refl
-    none false = refl
+    none : (a : Bool) (n : ℕ) → cond a n n ≡ n
+    none true n = refl
+    none false n = refl
 
     by : (x : Option Joined) → settling_steps e' relations Lacked x ≡ 0
     by None = refl
-    by (Some j) = none (is_settled e' relations (Some j))
+    by (Some j) = none (is_settled e' relations (Some j)) 0
 
 some_as : {A : Type 0} (o : Option A) (Q R : A → Type 0) → ((x : A) → Q x → R x) → IsSomeAnd o Q → IsSomeAnd o R
 some_as None Q R g h = h

@@ -1,5 +1,5 @@
 -- What the unions of a store, and the affected, are behind a change of rows.
-use Rattle.std.specs.Prelude.{ℕ, zero, suc, List, ◌≡◌, ◌≤◌, ◌⊎◌, false, Option, None, Some, Result, Ok, Err, filter, length, map, sum_by, vec_capacity}
+use Rattle.std.specs.Prelude.{ℕ, zero, suc, List, ◌≡◌, ◌≤◌, ◌⊎◌, false, Option, None, Some, Result, Ok, Err, filter, length, map, sum_by, vec_capacity, ⊤}
 use Rattle.std.specs.List.{list_any}
 use Rattle.djq_model.specs.Data.{Bytes}
 use Rattle.djq_lines.specs.declared.answer.AddOutcome.{AddOutcome}
@@ -16,6 +16,12 @@ use Rattle.djq_store.specs.declared.settling.Turn.TheVariants.{Came, Went, Lacke
 use Rattle.djq_store.specs.Affecting.{is_reached, is_affected}
 use Rattle.djq_store.specs.Places.{joined_at}
 use Rattle.djq_store.specs.Settling.{SettlesAt, is_settled, settling_steps}
+
+-- what holds where rows changed
+abbrev pub IfMade : Option Turn → Type 0 → Type 0
+IfMade None Holds = ⊤
+IfMade (Some Lacked) Holds = ⊤
+IfMade (Some turn) Holds = Holds
 
 -- The affected are those of the order that the engine's change affects, or unions of them. Where no union
 -- reads a relation that changed, they are the engine's, which are in that order.

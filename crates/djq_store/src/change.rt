@@ -14,6 +14,7 @@ use crate::following::{add_turn, delete_turn, follow};
 use crate::store::Store;
 use djq_lines::{AddOutcome, DeleteOutcome, HeldRow, Refusal};
 use djq_model::{Name, Types, Value};
+use djq_rows::texts_stay;
 use djq_steps::{Ledgers, Steps};
 
 impl Store {
@@ -72,6 +73,7 @@ impl Store {
             (row_in self.old.store.relations name.now row.now)
             steps.old.update steps.new.update }
     {
+        texts_stay();
         engine_laws(&self.parts.engine);
         let outcome = self.parts.engine.add(name, row, steps);
         engine_laws(&self.parts.engine);
@@ -108,6 +110,7 @@ impl Store {
             (row_out self.old.store.relations name.now row.now)
             steps.old.update steps.new.update }
     {
+        texts_stay();
         engine_laws(&self.parts.engine);
         let outcome = self.parts.engine.del(name, row, steps);
         engine_laws(&self.parts.engine);

@@ -1,10 +1,11 @@
 //! What the unions of a store, and the affected, are behind a change of rows.
-ghost use Rattle.std.specs.Prelude.{◌≡◌, ◌+◌, ◌≤◌, ◌<◌, ℕ, Some, All, length, vec_capacity};
+ghost use Rattle.std.specs.Prelude.{◌≡◌, ◌+◌, ◌≤◌, ◌<◌, ℕ, Some, true, false, All, filter, map, length, vec_capacity};
 ghost use Rattle.djq_lines.specs.declared.limits.TheConstants.{QUERIES};
 ghost use Rattle.djq_united.specs.United.{AreMembers};
 ghost use Rattle.djq_store.specs.declared.joined.Joined.{Joined as JoinedModel};
 ghost use Rattle.djq_store.specs.Places.{joined_at};
-ghost use Rattle.djq_store.specs.Following.{FollowsBy, following_steps, add_turn, delete_turn, batch_turn};
+ghost use Rattle.djq_store.specs.Following.{IfMade, FollowsBy, following_steps, add_turn, delete_turn, batch_turn};
+ghost use Rattle.djq_store.specs.Affecting.{is_reached, is_affected};
 ghost use Rattle.djq_store.specs.Settling.{AreUnionsUnwatched};
 
 use crate::affecting::{affect, affect_queries};
@@ -25,8 +26,8 @@ pub fn follow<L: Ledger>(
 )
     requires members { (k : ℕ) (j : JoinedModel) → joined_at parts.old.unions.items k ≡ Some j
         → AreMembers parts.old.engine.places j.union.members }
-    requires low { All (λ id. id.at < QUERIES) parts.old.engine.affected }
-    requires few { length parts.old.engine.affected ≤ vec_capacity parts.old.affected }
+    requires low { IfMade turn (All (λ id. id.at < QUERIES) parts.old.engine.affected) }
+    requires few { IfMade turn (length parts.old.engine.affected ≤ vec_capacity parts.old.affected) }
     requires room { length parts.old.order.items ≤ vec_capacity parts.old.affected }
     ensures follows { FollowsBy turn relations.now parts.old parts.new }
     ensures counted { listing.new ≤ listing.old
@@ -47,9 +48,26 @@ pub fn follow<L: Ledger>(
         listing,
     );
     match turn {
-        Turn::Lacked => return,
-        _ => {}
+        Turn::Lacked => {}
+        _ => know_affected(parts, read),
     }
+}
+
+// What a change that was made affects is known: by the whole order where a union reads its relations.
+fn know_affected(parts: &mut Parts, read: bool)
+    requires low { All (λ id. id.at < QUERIES) parts.old.engine.affected }
+    requires few { length parts.old.engine.affected ≤ vec_capacity parts.old.affected }
+    requires room { length parts.old.order.items ≤ vec_capacity parts.old.affected }
+    ensures all { read ≡ true → parts.new.affected.items ≡ filter (is_affected
+        (is_reached parts.old.engine.affected) parts.old.unions.items) parts.old.order.items }
+    ensures queries { read ≡ false
+        → parts.new.affected.items ≡ map (λ id. id.at) parts.old.engine.affected }
+    ensures engine { parts.new.engine ≡ parts.old.engine }
+    ensures unions { parts.new.unions ≡ parts.old.unions }
+    ensures order { parts.new.order ≡ parts.old.order }
+    ensures sessions { parts.new.sessions ≡ parts.old.sessions }
+    ensures room { vec_capacity parts.old.affected ≤ vec_capacity parts.new.affected }
+{
     if read {
         affect(
             &mut parts.affected,
