@@ -29,3 +29,4 @@ pub mod Told
 pub mod Doing
 pub mod Rowing
 pub mod Rowed
+pub mod Answering

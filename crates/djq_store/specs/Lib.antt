@@ -12,3 +12,4 @@ pub mod Moving
 pub mod Settling
 pub mod Affecting
 pub mod Following
+pub mod Judging

@@ -5,8 +5,9 @@ ghost use Rattle.djq_machine.specs.Store.{TellsShape, TellsWhether, has_steps};
 ghost use Rattle.djq_machine.specs.Batch.{TellsSuits};
 ghost use Rattle.djq_store.specs.Explaining.{ExplainGives, HasMember};
 
+use crate::below::engine_laws;
 use crate::explained::Explained;
-use crate::finding::find_union;
+use crate::finding::{find_union, joined_in};
 use crate::store::Store;
 use djq_engine::{Engine, QueryId};
 use djq_lines::{Refusal, Shape};
@@ -42,13 +43,12 @@ impl Store {
         ensures counted { listing.new ≤ listing.old
             + has_steps (listed_of self.now.store.queries name.now) }
     {
+        engine_laws(&self.parts.engine);
         let Some(slot) = find_union(self.parts.unions.as_slice(), name) else {
             return self.parts.engine.has(name, tuple, listing);
         };
-        match &self.parts.unions[slot] {
-            Some(joined) => some_has(&self.parts.engine, joined.union.members(), tuple, listing),
-            None => unreachable!(),
-        }
+        let joined = joined_in(self.parts.unions.as_slice(), slot);
+        some_has(&self.parts.engine, joined.union.members(), tuple, listing)
     }
 
     /// What explains a query or union: the tree of the one, the members of the other.
@@ -59,11 +59,10 @@ impl Store {
     pub fn explain(&self, name: &Name) -> Result<Explained, Refusal>
         ensures { ExplainGives self.now.store name.now result }
     {
+        engine_laws(&self.parts.engine);
         if let Some(slot) = find_union(self.parts.unions.as_slice(), name) {
-            return match &self.parts.unions[slot] {
-                Some(joined) => Ok(Explained::Members(joined.union.members().len())),
-                None => unreachable!(),
-            };
+            let joined = joined_in(self.parts.unions.as_slice(), slot);
+            return Ok(Explained::Members(joined.union.members().len()));
         }
         match self.parts.engine.explain(name) {
             Ok(lines) => Ok(Explained::Tree(lines)),
@@ -77,15 +76,14 @@ impl Store {
         ensures { IsSomeAnd (listed_of self.now.store.queries union.now)
             (λ q. slice_get (map (λ m. m.name) (members_of q)) nth ≡ Some result) }
     {
+        engine_laws(&self.parts.engine);
         let Some(slot) = find_union(self.parts.unions.as_slice(), union) else {
             unreachable!()
         };
-        match &self.parts.unions[slot] {
-            Some(joined) => self.parts.engine.query_name(QueryId {
-                at: joined.union.members()[nth],
-            }),
-            None => unreachable!(),
-        }
+        let joined = joined_in(self.parts.unions.as_slice(), slot);
+        self.parts.engine.query_name(QueryId {
+            at: joined.union.members()[nth],
+        })
     }
 
     /// What bounds an update of a query: `Flat` exactly where the query is flat, and then it is the
@@ -97,7 +95,8 @@ impl Store {
     pub fn shape(&self, name: &Name) -> Result<Shape, Refusal>
         ensures { TellsShape self.now.store name.now result }
     {
-        if find_union(self.parts.unions.as_slice(), name).is_some() {
+        engine_laws(&self.parts.engine);
+        if let Some(_slot) = find_union(self.parts.unions.as_slice(), name) {
             return Ok(Shape::Union);
         }
         self.parts.engine.shape(name)

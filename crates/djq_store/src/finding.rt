@@ -1,6 +1,7 @@
 //! Unions in their slots, found by name.
-ghost use Rattle.std.specs.Prelude.{◌≡◌, position};
+ghost use Rattle.std.specs.Prelude.{◌≡◌, ⊤, Some, IsSomeAnd, position};
 ghost use Rattle.djq_store.specs.Finding.{is_named};
+ghost use Rattle.djq_store.specs.Places.{joined_at};
 
 use crate::joined::Joined;
 use djq_model::Name;
@@ -20,4 +21,15 @@ pub fn find_union(unions: &[Option<Joined>], name: &Name) -> Option<usize>
     ensures { result ≡ position (is_named name.now) unions.now }
 {
     unions.iter().position(|slot| is_named(slot, name))
+}
+
+/// The union in a slot.
+pub fn joined_in(unions: &[Option<Joined>], slot: usize) -> &Joined
+    requires { IsSomeAnd (joined_at unions.now slot) (λ j. ⊤) }
+    ensures { joined_at unions.now slot ≡ Some result.now }
+{
+    match &unions[slot] {
+        Some(joined) => joined,
+        None => unreachable!(),
+    }
 }

@@ -1,1 +1,136 @@
 //! Whether a union may be registered, and what it is made of.
+ghost use Rattle.std.specs.Prelude.{◌≡◌, ◌<◌, ◌≤◌, ℕ, ⊤, false, not, All, IfOk, IsSome, IsSomeAnd, OnErr, Some, None, is_none, is_some, length, map};
+ghost use Rattle.std.specs.List.{list_any};
+ghost use Rattle.djq_model.specs.Listed.{listed_of};
+ghost use Rattle.djq_machine.specs.Store.{answer_steps};
+ghost use Rattle.djq_machine.specs.Union.{union_refusal, stands_twice, types_differ, is_union};
+ghost use Rattle.djq_engine.specs.Kept.{registered_of};
+ghost use Rattle.djq_store.specs.Places.{kept_in, joined_at};
+ghost use Rattle.djq_store.specs.Judging.{AreQueries, ArePlacesOf, TakesSlot};
+ghost use Rattle.djq_store.specs.Whole.{IsWhole};
+
+use crate::finding::find_union;
+use crate::joined::Joined;
+use crate::parts::Parts;
+use djq_engine::{Engine, QueryId};
+use djq_lines::Refusal;
+use djq_lines::limits::{MEMBERS, QUERIES};
+use djq_live::LiveQuery;
+use djq_model::{Name, NoMem, Sequence};
+use std::alloc::Global;
+
+// Whether nothing is registered under a name.
+fn is_unknown(parts: &Parts, name: &Name) -> bool
+    requires { IsWhole parts.now }
+    ensures { result ≡ is_none (listed_of (kept_in parts.now).store.queries name.now) }
+{
+    find_union(parts.unions.as_slice(), name).is_none() && parts.engine.query_id(name).is_none()
+}
+
+// Whether a name stands among these twice.
+fn stands_twice(names: &[Name]) -> bool
+    ensures { result ≡ stands_twice names.now }
+{
+    for nth in 0..names.len() {
+        let name = names[nth];
+        if names[nth + 1..].iter().any(|other| *other == name) {
+            return true;
+        }
+    }
+    false
+}
+
+// The query of a name.
+fn query_of<'a>(parts: &'a Parts, name: &Name) -> &'a LiveQuery
+    requires whole { IsWhole parts.now }
+    requires found { IsSome (registered_of parts.now.engine.registered name.now) }
+{
+    match parts.engine.query_id(name) {
+        Some(id) => parts.engine.live(id),
+        None => unreachable!(),
+    }
+}
+
+// Whether the answers of some of these queries have other types than those of the first.
+fn types_differ(parts: &Parts, names: &[Name]) -> bool
+    requires whole { IsWhole parts.now }
+    requires queries { AreQueries (kept_in parts.now).store names.now }
+    ensures { result ≡ types_differ (kept_in parts.now).store names.now }
+{
+    for nth in 1..names.len() {
+        if !query_of(parts, &names[0]).is_alike(query_of(parts, &names[nth])) {
+            return true;
+        }
+    }
+    false
+}
+
+// Whether the members of a union stand there twice, are unions, or have answers of different types.
+fn are_misfit(parts: &Parts, members: &[Name]) -> bool
+    requires whole { IsWhole parts.now }
+    requires known { list_any (λ n. is_none (listed_of (kept_in parts.now).store.queries n)) members.now ≡ false }
+{
+    if stands_twice(members) {
+        return true;
+    }
+    if members.iter().any(|name| find_union(parts.unions.as_slice(), name).is_some()) {
+        return true;
+    }
+    types_differ(parts, members)
+}
+
+/// Why a union isn't registered.
+pub fn judge_union(parts: &Parts, name: &Name, members: &[Name]) -> Option<Refusal>
+    requires { IsWhole parts.now }
+    ensures { result ≡ union_refusal (kept_in parts.now).store name.now members.now }
+{
+    if !is_unknown(parts, name) {
+        return Some(Refusal::Taken);
+    }
+    if members.iter().any(|member| is_unknown(parts, member)) {
+        return Some(Refusal::NoQuery);
+    }
+    if are_misfit(parts, members) {
+        return Some(Refusal::Member);
+    }
+    if members.len() > MEMBERS || parts.order.len() >= QUERIES {
+        return Some(Refusal::Limit);
+    }
+    None
+}
+
+/// The places of the queries of these names.
+///
+/// # Errors
+///
+/// `NoMem` out of memory.
+pub fn places_of(alloc: Global, engine: &Engine, names: &[Name]) -> Result<Sequence<usize>, NoMem>
+    requires { All (λ n. IsSome (registered_of engine.now.registered n)) names.now }
+    ensures { IfOk result (ArePlacesOf engine.now names.now) }
+{
+    let mut places = Sequence::new(alloc);
+    for nth in 0..names.len() {
+        let Some(id) = engine.query_id(&names[nth]) else {
+            unreachable!()
+        };
+        places.push(id.at)?;
+    }
+    Ok(places)
+}
+
+/// A slot where no union stands, which is made where there is none.
+///
+/// # Errors
+///
+/// `NoMem` out of memory. Nothing has changed.
+pub fn vacant_slot(unions: &mut Vec<Option<Joined>>) -> Result<usize, NoMem>
+    ensures slot { IfOk result (λ slot. TakesSlot slot unions.old.items unions.new.items) }
+    ensures err { OnErr result (unions.new.items ≡ unions.old.items) }
+{
+    if let Some(slot) = unions.iter().position(|union| union.is_none()) {
+        return Ok(slot);
+    }
+    let slot = unions.len();
+    unions.push(None)?;
+    Ok(slot)
+}

@@ -10,7 +10,7 @@ ghost use Rattle.djq_engine.specs.Kept.{OpenGives, MoreGives, ClosesCursor, IsHe
 ghost use Rattle.djq_store.specs.Reading.{NextGives};
 
 use crate::below::engine_laws;
-use crate::finding::find_union;
+use crate::finding::{find_union, joined_in};
 use crate::joined::Joined;
 use crate::store::Store;
 use djq_engine::{Answer, CursorId, LentAnswer, Next, QueryId};
@@ -169,18 +169,13 @@ impl Store {
         if id.query.at < QUERIES {
             return self.parts.engine.answer(id, answer);
         }
-        match &self.parts.unions[id.query.at - QUERIES] {
-            Some(joined) => {
-                let first = QueryId {
-                    at: joined.union.members()[0],
-                };
-                let id = CursorId {
-                    query: first,
-                    cursor: id.cursor,
-                };
-                self.parts.engine.answer(id, answer)
-            }
-            None => unreachable!(),
-        }
+        let joined = joined_in(self.parts.unions.as_slice(), id.query.at - QUERIES);
+        let first = CursorId {
+            query: QueryId {
+                at: joined.union.members()[0],
+            },
+            cursor: id.cursor,
+        };
+        self.parts.engine.answer(first, answer)
     }
 }

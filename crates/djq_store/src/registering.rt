@@ -1,15 +1,72 @@
 //! Queries and unions that are registered and dropped.
-ghost use Rattle.std.specs.Prelude.{◌≡◌, ◌≤◌, ◌<◌, map, length};
+ghost use Rattle.std.specs.Prelude.{◌≡◌, ◌≤◌, ◌<◌, map, length, vec_capacity};
+ghost use Rattle.std.specs.List.{list_any};
+ghost use Rattle.djq_model.specs.Data.{Bytes};
+ghost use Rattle.djq_model.specs.Listed.{a_union};
+ghost use Rattle.djq_machine.specs.Store.{answer_steps};
+ghost use Rattle.djq_live.specs.Member.{HaveQueries, queries_at};
+ghost use Rattle.djq_engine.specs.Places.{left};
 ghost use Rattle.djq_machine.specs.Store.{RegistersQuery};
 ghost use Rattle.djq_machine.specs.Union.{RegistersUnion};
 ghost use Rattle.djq_engine.specs.Kept.{SameCursors, DropGives};
 ghost use Rattle.djq_engine.specs.Watching.{Enrols, EnrolsTelling};
-ghost use Rattle.djq_store.specs.Registering.{EnrolsUnion, EnrolsUnionTelling};
+ghost use Rattle.djq_store.specs.Registering.{EnrolsUnion, EnrolsUnionTelling, is_used, has_member};
 
+use crate::finding::find_union;
+use crate::joined::Joined;
+use crate::judging::{judge_union, places_of, vacant_slot};
 use crate::store::Store;
+use djq_cursor::DeltaLog;
+use djq_lines::limits::QUERIES;
 use djq_lines::{QueryOutcome, Refusal};
+use djq_live::LiveQuery;
 use djq_model::{Name, Query};
 use djq_steps::{Ledgers, Steps};
+use djq_united::LiveUnion;
+
+// Takes a place out of a list of places.
+fn leave(places: &mut Vec<usize>, at: usize)
+    ensures items { places.new.items ≡ left at places.old.items }
+    ensures room { vec_capacity places.new ≡ vec_capacity places.old }
+{
+    places.retain(|place| *place != at);
+}
+
+// Whether a union is used: a cursor is over it, stale or not, or a session watches it.
+fn is_used(slot: &Option<Joined>) -> bool
+    ensures { result ≡ is_used slot.now }
+{
+    match slot {
+        Some(joined) => joined.watchers > 0 || !joined.union.is_idle(),
+        None => false,
+    }
+}
+
+// Whether a union has the query in a place as a member.
+fn has_member(slot: &Option<Joined>, at: usize) -> bool
+    ensures { result ≡ has_member at slot.now }
+{
+    match slot {
+        Some(joined) => joined.union.members().iter().any(|member| *member == at),
+        None => false,
+    }
+}
+
+// Whether the query in a place is a member of a union.
+fn is_member(unions: &[Option<Joined>], at: usize) -> bool
+    ensures { result ≡ list_any (has_member at) unions.now }
+{
+    unions.iter().any(|slot| has_member(slot, at))
+}
+
+// The most lookups and links that an answer of a union of queries takes.
+fn most_of(queries: &[Option<LiveQuery>], members: &[usize]) -> u64
+    requires { HaveQueries queries.now members.now }
+    ensures { (name : Bytes) → result
+        ≡ answer_steps (a_union name (map (λ l. l.query) (queries_at queries.now members.now))) }
+{
+    unreachable!()
+}
 
 impl Store {
     /// Registers a free-connex query, and tells how many lookups and links one of its answers takes
@@ -33,7 +90,25 @@ impl Store {
         ensures tellings { EnrolsTelling self.old query result self.new }
         ensures counted { steps.new.listing ≡ steps.old.listing }
     {
-        unreachable!()
+        if find_union(self.parts.unions.as_slice(), &query.name).is_some() {
+            return Err(Refusal::Taken);
+        }
+        if let Some(refusal) = self.parts.engine.query_fault(&query) {
+            return Err(refusal);
+        }
+        if self.parts.order.len() >= QUERIES {
+            return Err(Refusal::Limit);
+        }
+        let name = query.name;
+        let outcome = self.parts.engine.query(query, steps)?;
+        if let QueryOutcome::Registered(_most) = &outcome {
+            let Some(id) = self.parts.engine.query_id(&name) else {
+                unreachable!()
+            };
+            self.parts.sessions[id.at] = 0;
+            self.parts.order.push_reserved(id.at);
+        }
+        Ok(outcome)
     }
 
     /// Registers the union of some registered queries, and tells how many lookups and links one of its answers
@@ -52,7 +127,23 @@ impl Store {
         ensures enrols { EnrolsUnion self.old name members.now result self.new }
         ensures tellings { EnrolsUnionTelling self.old name result self.new }
     {
-        unreachable!()
+        if let Some(refusal) = judge_union(&self.parts, &name, members) {
+            return Err(refusal);
+        }
+        let Ok(places) = places_of(self.parts.alloc, &self.parts.engine, members) else {
+            return Err(Refusal::NoMemory);
+        };
+        let Ok(slot) = vacant_slot(&mut self.parts.unions) else {
+            return Err(Refusal::NoMemory);
+        };
+        let most = most_of(self.parts.engine.places(), places.as_slice());
+        self.parts.unions[slot] = Some(Joined {
+            union: LiveUnion::new(&self.parts.engine, self.parts.alloc, name, places),
+            watchers: 0,
+            log: DeltaLog::new(self.parts.alloc),
+        });
+        self.parts.order.push_reserved(QUERIES + slot);
+        Ok(most)
     }
 
     /// Drops a query or union: it is registered no more. The ids of others and of their cursors stay.
@@ -65,6 +156,24 @@ impl Store {
     pub fn drop_query(&mut self, name: &Name) -> Result<(), Refusal>
         ensures { DropGives self.old name.now result self.new }
     {
-        unreachable!()
+        if let Some(slot) = find_union(self.parts.unions.as_slice(), name) {
+            if is_used(&self.parts.unions[slot]) {
+                return Err(Refusal::InUse);
+            }
+            self.parts.unions[slot] = None;
+            leave(&mut self.parts.order, QUERIES + slot);
+            leave(&mut self.parts.affected, QUERIES + slot);
+            return Ok(());
+        }
+        let Some(id) = self.parts.engine.query_id(name) else {
+            return Err(Refusal::NoQuery);
+        };
+        if is_member(self.parts.unions.as_slice(), id.at) {
+            return Err(Refusal::InUse);
+        }
+        self.parts.engine.drop_query(name)?;
+        leave(&mut self.parts.order, id.at);
+        leave(&mut self.parts.affected, id.at);
+        Ok(())
     }
 }

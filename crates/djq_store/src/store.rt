@@ -5,7 +5,8 @@ ghost use Rattle.djq_machine.specs.State.{opening};
 ghost use Rattle.djq_engine.specs.Kept.{registered_of, registered_at, same_query, IsRegistered};
 ghost use Rattle.djq_store.specs.Lending.{LendsEngine};
 
-use crate::finding::find_union;
+use crate::below::engine_laws;
+use crate::finding::{find_union, joined_in};
 use crate::parts::Parts;
 use djq_engine::{Engine, QueryId};
 use djq_lines::limits::QUERIES;
@@ -75,6 +76,7 @@ impl Store {
     pub fn engine(&self) -> &Engine
         ensures { LendsEngine self.now result.now }
     {
+        engine_laws(&self.parts.engine);
         &self.parts.engine
     }
 
@@ -82,13 +84,11 @@ impl Store {
     pub fn query_id(&self, name: &Name) -> Option<QueryId>
         ensures { result ≡ option_map (λ r. r.id) (registered_of self.now.registered name.now) }
     {
-        if let Some(id) = self.parts.engine.query_id(name) {
-            return Some(id);
+        engine_laws(&self.parts.engine);
+        if let Some(slot) = find_union(self.parts.unions.as_slice(), name) {
+            return Some(QueryId { at: QUERIES + slot });
         }
-        match find_union(self.parts.unions.as_slice(), name) {
-            Some(slot) => Some(QueryId { at: QUERIES + slot }),
-            None => None,
-        }
+        self.parts.engine.query_id(name)
     }
 
     /// The name of a registered query or union.
@@ -96,13 +96,13 @@ impl Store {
         requires { IsRegistered self.now id }
         ensures { IsSomeAnd (registered_at self.now.registered id) (λ r. result ≡ listed_name r.query) }
     {
+        engine_laws(&self.parts.engine);
         if id.at < QUERIES {
             return self.parts.engine.query_name(id);
         }
-        match &self.parts.unions[id.at - QUERIES] {
-            Some(joined) => joined.union.name(),
-            None => unreachable!(),
-        }
+        joined_in(self.parts.unions.as_slice(), id.at - QUERIES)
+            .union
+            .name()
     }
 
     /// What holds of a store between any two calls. It does nothing.
@@ -111,5 +111,7 @@ impl Store {
         ensures apart { AllPairs (λ r s. same_query r.id s.id ≡ false) self.now.registered }
         ensures named { AllPairs (λ r s. bytes_eq (listed_name r.query) (listed_name s.query) ≡ false)
             self.now.registered }
-    {}
+    {
+        engine_laws(&self.parts.engine);
+    }
 }

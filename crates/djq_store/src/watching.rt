@@ -5,6 +5,8 @@ ghost use Rattle.djq_engine.specs.Kept.{registered_at, IsRegistered, with_watche
 ghost use Rattle.djq_engine.specs.Places.{id_at};
 ghost use Rattle.djq_store.specs.Counting.{with_all};
 
+use crate::below::engine_laws;
+use crate::finding::joined_in;
 use crate::store::Store;
 use djq_engine::{Engine, QueryId};
 use djq_lines::limits::QUERIES;
@@ -86,12 +88,10 @@ impl Store {
         requires { IsRegistered self.now id }
         ensures { IsSomeAnd (registered_at self.now.registered id) (λ r. result ≡ r.watchers) }
     {
+        engine_laws(&self.parts.engine);
         if id.at < QUERIES {
             return self.parts.sessions[id.at];
         }
-        match &self.parts.unions[id.at - QUERIES] {
-            Some(joined) => joined.watchers,
-            None => unreachable!(),
-        }
+        joined_in(self.parts.unions.as_slice(), id.at - QUERIES).watchers
     }
 }
