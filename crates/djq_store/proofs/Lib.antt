@@ -30,3 +30,6 @@ pub mod Doing
 pub mod Rowing
 pub mod Rowed
 pub mod Answering
+pub mod Related
+pub mod Grown
+pub mod Batched

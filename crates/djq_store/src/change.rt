@@ -9,9 +9,11 @@ ghost use Rattle.djq_engine.specs.Watching.{CountsUpdates, CountsBatch};
 ghost use Rattle.djq_engine.specs.Watching.{add_times, batch_times, delete_times};
 ghost use Rattle.djq_store.specs.Watching.{TellsChange};
 
+use crate::batches::{changed_names, count_rows, is_lacked};
 use crate::below::engine_laws;
-use crate::following::{add_turn, delete_turn, follow};
+use crate::following::{add_turn, batch_turn, delete_turn, follow};
 use crate::store::Store;
+use djq_lines::limits::HELD;
 use djq_lines::{AddOutcome, DeleteOutcome, HeldRow, Refusal};
 use djq_model::{Name, Types, Value};
 use djq_rows::texts_stay;
@@ -150,6 +152,26 @@ impl Store {
         ensures updates { CountsBatch (batch_times held.now result) self.old held.now
             steps.old.update steps.new.update }
     {
-        unreachable!()
+        texts_stay();
+        engine_laws(&self.parts.engine);
+        let counts = count_rows(&self.parts.engine, held);
+        let outcome = self.parts.engine.done(held, steps);
+        engine_laws(&self.parts.engine);
+        let turn = batch_turn(&outcome);
+        let mut names = [Name::new(&[]); HELD];
+        let count = changed_names(
+            &self.parts.engine,
+            held,
+            &counts,
+            is_lacked(turn),
+            &mut names,
+        );
+        follow(
+            &mut self.parts,
+            &names[..count],
+            turn,
+            &mut steps.listing,
+        );
+        outcome
     }
 }

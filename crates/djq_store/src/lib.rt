@@ -28,6 +28,7 @@ pub use store::Store;
 
 mod affecting;
 mod asking;
+mod batches;
 mod below;
 mod change;
 mod explained;
