@@ -57,7 +57,7 @@ all_kept (x ∷ xs) = ap (λ ys. x ∷ ys) (all_kept xs)
 
 -- ---- relations of which rows come
 
-abbrev names_of : List HeldRow → List Bytes
+abbrev pub names_of : List HeldRow → List Bytes
 names_of held = map (λ (h : HeldRow). h.relation) held
 
 come_among : (st : Store) (held : List HeldRow) (n : Bytes) → has_come st held n ≡ true → Contains (names_of held) n

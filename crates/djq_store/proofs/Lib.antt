@@ -33,3 +33,4 @@ pub mod Answering
 pub mod Related
 pub mod Grown
 pub mod Batched
+pub mod Lined
