@@ -9,4 +9,8 @@ pub mod Lending
 pub mod Watching
 pub mod Counting
 pub mod Moving
+pub mod Settling
+pub mod Affecting
+pub mod Following
 pub mod Judging
+pub mod Batches

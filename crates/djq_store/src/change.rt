@@ -9,9 +9,14 @@ ghost use Rattle.djq_engine.specs.Watching.{CountsUpdates, CountsBatch};
 ghost use Rattle.djq_engine.specs.Watching.{add_times, batch_times, delete_times};
 ghost use Rattle.djq_store.specs.Watching.{TellsChange};
 
+use crate::batches::{changed_names, count_rows, is_lacked};
+use crate::below::engine_laws;
+use crate::following::{add_turn, batch_turn, delete_turn, follow};
 use crate::store::Store;
+use djq_lines::limits::HELD;
 use djq_lines::{AddOutcome, DeleteOutcome, HeldRow, Refusal};
 use djq_model::{Name, Types, Value};
+use djq_rows::texts_stay;
 use djq_steps::{Ledgers, Steps};
 
 impl Store {
@@ -29,7 +34,10 @@ impl Store {
         ensures registered { self.new.registered ≡ self.old.registered }
         ensures tellings { SameTellings self.old self.new }
     {
-        self.parts.engine.rel(name, types)
+        engine_laws(&self.parts.engine);
+        let made = self.parts.engine.rel(name, types);
+        engine_laws(&self.parts.engine);
+        made
     }
 
     /// Adds a row to a relation, and tells how many copies of it are there. Where it wasn't there, its
@@ -67,7 +75,13 @@ impl Store {
             (row_in self.old.store.relations name.now row.now)
             steps.old.update steps.new.update }
     {
-        unreachable!()
+        texts_stay();
+        engine_laws(&self.parts.engine);
+        let outcome = self.parts.engine.add(name, row, steps);
+        engine_laws(&self.parts.engine);
+        let turn = add_turn(&outcome);
+        follow(&mut self.parts, &[*name], turn, &mut steps.listing);
+        outcome
     }
 
     /// Deletes a copy of a row from a relation, and tells how many are left. Where it isn't there,
@@ -98,7 +112,13 @@ impl Store {
             (row_out self.old.store.relations name.now row.now)
             steps.old.update steps.new.update }
     {
-        unreachable!()
+        texts_stay();
+        engine_laws(&self.parts.engine);
+        let outcome = self.parts.engine.del(name, row, steps);
+        engine_laws(&self.parts.engine);
+        let turn = delete_turn(&outcome);
+        follow(&mut self.parts, &[*name], turn, &mut steps.listing);
+        outcome
     }
 
     /// Adds all rows that a batch held, at once, and tells how many of them weren't there. A row that
@@ -132,6 +152,26 @@ impl Store {
         ensures updates { CountsBatch (batch_times held.now result) self.old held.now
             steps.old.update steps.new.update }
     {
-        unreachable!()
+        texts_stay();
+        engine_laws(&self.parts.engine);
+        let counts = count_rows(&self.parts.engine, held);
+        let outcome = self.parts.engine.done(held, steps);
+        engine_laws(&self.parts.engine);
+        let turn = batch_turn(&outcome);
+        let mut names = [Name::new(&[]); HELD];
+        let count = changed_names(
+            &self.parts.engine,
+            held,
+            &counts,
+            is_lacked(turn),
+            &mut names,
+        );
+        follow(
+            &mut self.parts,
+            &names[..count],
+            turn,
+            &mut steps.listing,
+        );
+        outcome
     }
 }

@@ -1,10 +1,41 @@
 //! What the last change affected, and how the answers of queries and unions changed.
-ghost use Rattle.std.specs.Prelude.{◌≡◌, ◌<◌, Some, IsSomeAnd, option_map, length, slice_get};
+ghost use Rattle.std.specs.Prelude.{◌≡◌, ◌<◌, None, Some, IsSomeAnd, if◌then◌else◌, option_map, length, slice_get};
 ghost use Rattle.djq_engine.specs.Kept.{IsRegistered, told_at};
+ghost use Rattle.djq_engine.specs.Lending.{sign_of};
 
+use crate::below::engine_laws;
+use crate::finding::joined_in;
+use crate::joined::Joined;
 use crate::store::Store;
-use djq_engine::{LentAnswer, QueryId};
+use djq_cursor::Line;
+use djq_engine::{CursorId, LentAnswer, QueryId};
 use djq_lines::Sign;
+use djq_lines::limits::QUERIES;
+
+// How many lines the log of a union has. `None` where it was lost.
+fn told_len(joined: &Joined) -> Option<usize>
+    ensures { result ≡ (if joined.now.log.lost then None else Some (length joined.now.log.lines)) }
+{
+    if joined.log.lost() {
+        return None;
+    }
+    Some(joined.log.lines().len())
+}
+
+// One of them.
+fn told_line(joined: &Joined, nth: usize) -> &Line
+    requires { nth < length joined.now.log.lines }
+    ensures { slice_get joined.now.log.lines nth ≡ Some result.now }
+{
+    &joined.log.lines()[nth]
+}
+
+// Whether an answer came or went.
+fn sign_of(came: bool) -> Sign
+    ensures { result ≡ sign_of came }
+{
+    if came { Sign::Came } else { Sign::Went }
+}
 
 impl Store {
     /// How many queries and unions read a relation that the last accepted change changed.
@@ -31,7 +62,11 @@ impl Store {
         requires { IsRegistered self.now id }
         ensures { result ≡ option_map (λ changes. length changes) (told_at self.now id) }
     {
-        unreachable!()
+        engine_laws(&self.parts.engine);
+        if id.at < QUERIES {
+            return self.parts.engine.delta_len(id);
+        }
+        told_len(joined_in(self.parts.unions.as_slice(), id.at - QUERIES))
     }
 
     /// One of them: whether it came or went, and the answer, lent.
@@ -41,6 +76,22 @@ impl Store {
         ensures { IsSomeAnd (told_at self.now id) (λ changes. IsSomeAnd (slice_get changes nth)
             (λ c. (result.0 ≡ c.sign) × (result.1 ≡ c.answer))) }
     {
-        unreachable!()
+        engine_laws(&self.parts.engine);
+        if id.at < QUERIES {
+            return self.parts.engine.delta_line(id, nth);
+        }
+        let joined = joined_in(self.parts.unions.as_slice(), id.at - QUERIES);
+        let line = told_line(joined, nth);
+        let first = QueryId {
+            at: joined.union.members()[0],
+        };
+        let shown = CursorId {
+            query: first,
+            cursor: 0,
+        };
+        (
+            sign_of(line.came),
+            self.parts.engine.answer(shown, &line.answer),
+        )
     }
 }
