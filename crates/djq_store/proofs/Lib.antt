@@ -34,3 +34,6 @@ pub mod Related
 pub mod Grown
 pub mod Batched
 pub mod Lined
+pub mod Counted
+pub mod Together
+pub mod Joint

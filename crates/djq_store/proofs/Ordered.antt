@@ -228,5 +228,5 @@ module _ (e : Kept) (b : IsEngine e) where
               let called = (bytes_eq-decides j.union.name s.query.query.name).0 f in
               let x : Joint us k = record { union = j; there = there } in
               let same : QUERIES + k ≡ at = w.named (QUERIES + k) at (joint_order k x) (seat_order at s)
-                  (ap listed_name (listed_joint e.places us k x) ∙ called ∙ sym (ap listed_name (listed_seat at s))) in
+              (ap listed_name (listed_joint e.places us k x) ∙ called ∙ sym (ap listed_name (listed_seat at s))) in
               let low = s.low in absurd (omega arith)

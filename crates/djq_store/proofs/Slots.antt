@@ -72,3 +72,20 @@ count_none p [] h = refl
 count_none p (x ∷ xs) h =
     sum_by-cons (λ o. cond (p o) 1 0) x xs
     ∙ ap₂ (λ (b : Bool) (n : ℕ). cond b 1 0 + n) (h zero (omega arith)) (count_none p xs (λ i low. h (suc i) (omega arith)))
+
+pub count_less : {A : Type 0} (p : Option A → Bool) (xs : List (Option A)) (i : ℕ) (y : Option A) → i < length xs
+    → p (get_or xs i None) ≡ true → p y ≡ false → count_by p xs ≡ count_by p (set xs i y) + 1
+count_less p [] i y low old new = absurd (omega arith)
+count_less p (x ∷ xs) zero y low old new =
+    let here : count_by p (y ∷ xs) ≡ cond (p y) 1 0 + count_by p xs = sum_by-cons (λ o. cond (p o) 1 0) y xs in
+    let was : count_by p (x ∷ xs) ≡ cond (p x) 1 0 + count_by p xs = sum_by-cons (λ o. cond (p o) 1 0) x xs in
+    was ∙ ap (λ (b : Bool). cond b 1 0 + count_by p xs) old ∙ more (count_by p xs) ∙ ap (λ n. n + 1) (sym (here ∙ ap (λ (b : Bool). cond b 1 0 + count_by p xs) new))
+  where
+    more : (n : ℕ) → 1 + n ≡ 0 + n + 1
+    more n = omega arith
+count_less p (x ∷ xs) (suc i) y low old new =
+    sum_by-cons (λ o. cond (p o) 1 0) x xs ∙ ap (λ n. cond (p x) 1 0 + n) (count_less p xs i y (omega arith) old new)
+    ∙ last (cond (p x) 1 0) (count_by p (set xs i y)) ∙ ap (λ n. n + 1) (sym (sum_by-cons (λ o. cond (p o) 1 0) x (set xs i y)))
+  where
+    last : (m n : ℕ) → m + (n + 1) ≡ m + n + 1
+    last m n = omega arith

@@ -212,8 +212,7 @@ module _ (e : Kept) (b : IsEngine e) (us : List (Option Joined)) (order sessions
           → store.NextGivesAt old (held_as (e.store).texts e.places o.union (cursor_of k cursor) p) (union_of e.places o.union) position result answer (new after)
       gives_at (open_at given ended) Given answer g =
           let s = shown_first answer g.0 (first_of (members_in e.places o.union)) g.2 in
-          let ms = members_moved c (open_at (given ++ g.0 ∷ []) false) g.3 in
-          (
+          let ms = members_moved c (open_at (given ++ g.0 ∷ []) false) g.3 in (
             g.0,
             subst (λ (rs : List Relation). IsLeft (AnswersOf rs (union_of e.places o.union)) given g.0) relations g.1,
             at_first ms (λ l. IsShowable (e.store).texts l answer) s.0,

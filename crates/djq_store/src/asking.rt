@@ -20,8 +20,7 @@ fn some_has<L: Ledgers>(
     members: &[usize],
     tuple: &[Value],
     listing: &mut Tally<Listing<L>>,
-) -> Result<bool, Refusal>
-{
+) -> Result<bool, Refusal> {
     unreachable!()
 }
 

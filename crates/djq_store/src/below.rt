@@ -2,6 +2,7 @@
 ghost use Rattle.djq_store.specs.Below.{IsEngine, StayingLaws};
 
 use djq_engine::Engine;
+use djq_live::{answers_are_showable, showable_stays};
 use djq_united::{members_stay, unions_stay};
 
 /// What holds of an engine between any two calls, and what stays as it changes. It does nothing.
@@ -10,8 +11,8 @@ pub fn engine_laws(engine: &Engine)
     ensures staying { StayingLaws }
 {
     engine.laws();
-    members_stay(engine);
-    unions_stay(engine);
-    engine.showable_stays();
-    engine.answers_are_showable();
+    members_stay();
+    unions_stay();
+    showable_stays();
+    answers_are_showable();
 }

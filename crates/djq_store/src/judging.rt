@@ -73,7 +73,10 @@ fn are_misfit(parts: &Parts, members: &[Name]) -> bool
     if stands_twice(members) {
         return true;
     }
-    if members.iter().any(|name| find_union(parts.unions.as_slice(), name).is_some()) {
+    if members
+        .iter()
+        .any(|name| find_union(parts.unions.as_slice(), name).is_some())
+    {
         return true;
     }
     types_differ(parts, members)

@@ -126,7 +126,14 @@ impl Store {
         }
         let slot = id.query.at - QUERIES;
         let queries = self.parts.engine.places();
-        next_at(&mut self.parts.unions, slot, id.cursor, queries, answer, listing)
+        next_at(
+            &mut self.parts.unions,
+            slot,
+            id.cursor,
+            queries,
+            answer,
+            listing,
+        )
     }
 
     /// Whether a further answer is left for a cursor that isn't stale; where none is, it stands at

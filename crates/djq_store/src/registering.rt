@@ -138,7 +138,7 @@ impl Store {
         };
         let most = most_of(self.parts.engine.places(), places.as_slice());
         self.parts.unions[slot] = Some(Joined {
-            union: LiveUnion::new(&self.parts.engine, self.parts.alloc, name, places),
+            union: LiveUnion::new(self.parts.alloc, name, places),
             watchers: 0,
             log: DeltaLog::new(self.parts.alloc),
         });

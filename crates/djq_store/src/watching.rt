@@ -1,12 +1,16 @@
 //! Sessions that watch queries and unions.
 ghost use Rattle.std.specs.Prelude.{◌≡◌, ◌<◌, ◌≤◌, ◌+◌, ◌-◌, length, All, AllPairs, IsSomeAnd};
-ghost use Rattle.djq_lines.specs.declared.limits.TheConstants.{SESSIONS};
+ghost use Rattle.djq_lines.specs.declared.limits.TheConstants.{QUERIES, SESSIONS};
 ghost use Rattle.djq_engine.specs.Kept.{registered_at, IsRegistered, with_watchers};
 ghost use Rattle.djq_engine.specs.Places.{id_at};
-ghost use Rattle.djq_store.specs.Counting.{with_all};
+ghost use Rattle.djq_store.specs.Counting.{HasWatchers, with_all};
+ghost use Rattle.djq_store.specs.Places.{joined_at, kept_in};
+ghost use Rattle.djq_store.specs.Whole.{IsWhole};
 
 use crate::below::engine_laws;
 use crate::finding::joined_in;
+use crate::joined::Joined;
+use crate::parts::Parts;
 use crate::store::Store;
 use djq_engine::{Engine, QueryId};
 use djq_lines::limits::QUERIES;
@@ -38,6 +42,66 @@ fn unwatch_members(engine: &mut Engine, members: &[usize])
     }
 }
 
+// One more watches the union in a slot.
+fn listen(unions: &mut Vec<Option<Joined>>, slot: usize)
+    requires { IsSomeAnd (joined_at unions.old.items slot) (λ j. j.watchers < 4294967295) }
+    ensures { HasWatchers (λ n. n + 1) slot unions.old.items unions.new.items }
+{
+    match &mut unions[slot] {
+        Some(joined) => joined.watchers += 1,
+        None => unreachable!(),
+    }
+}
+
+// One less watches it.
+fn ignore(unions: &mut Vec<Option<Joined>>, slot: usize)
+    requires { IsSomeAnd (joined_at unions.old.items slot) (λ j. 0 < j.watchers) }
+    ensures { HasWatchers (λ n. n - 1) slot unions.old.items unions.new.items }
+{
+    match &mut unions[slot] {
+        Some(joined) => joined.watchers -= 1,
+        None => unreachable!(),
+    }
+}
+
+// A session more watches the union in a slot. The first one watches its members through it.
+fn watch_union(parts: &mut Parts, slot: usize)
+    requires whole { IsWhole parts.old }
+    requires few { IsSomeAnd (joined_at parts.old.unions.items slot) (λ j. j.watchers < SESSIONS) }
+    ensures whole { IsWhole parts.new }
+    ensures watches { kept_in parts.new ≡ record (kept_in parts.old) {
+      registered = with_watchers (id_at (QUERIES + slot)) (λ n. n + 1) (kept_in parts.old).registered;
+    } }
+{
+    engine_laws(&parts.engine);
+    let joined = joined_in(parts.unions.as_slice(), slot);
+    if joined.watchers > 0 {
+        listen(&mut parts.unions, slot);
+        return;
+    }
+    watch_members(&mut parts.engine, joined.union.members());
+    listen(&mut parts.unions, slot);
+}
+
+// A session that watched the union in a slot does so no more. The last one leaves its members.
+fn unwatch_union(parts: &mut Parts, slot: usize)
+    requires whole { IsWhole parts.old }
+    requires some { IsSomeAnd (joined_at parts.old.unions.items slot) (λ j. 0 < j.watchers) }
+    ensures whole { IsWhole parts.new }
+    ensures watches { kept_in parts.new ≡ record (kept_in parts.old) {
+      registered = with_watchers (id_at (QUERIES + slot)) (λ n. n - 1) (kept_in parts.old).registered;
+    } }
+{
+    engine_laws(&parts.engine);
+    let joined = joined_in(parts.unions.as_slice(), slot);
+    if joined.watchers > 1 {
+        ignore(&mut parts.unions, slot);
+        return;
+    }
+    unwatch_members(&mut parts.engine, joined.union.members());
+    ignore(&mut parts.unions, slot);
+}
+
 impl Store {
     /// A session more watches a query or union. Its changes are told from now on. It takes no memory.
     pub fn watch(&mut self, id: QueryId)
@@ -48,18 +112,13 @@ impl Store {
           registered = with_watchers id (λ n. n + 1) self.old.registered;
         } }
     {
+        engine_laws(&self.parts.engine);
         if id.at < QUERIES {
             self.parts.engine.watch(id);
             self.parts.sessions[id.at] += 1;
             return;
         }
-        let Some(joined) = &mut self.parts.unions[id.at - QUERIES] else {
-            unreachable!()
-        };
-        if joined.watchers == 0 {
-            watch_members(&mut self.parts.engine, joined.union.members());
-        }
-        joined.watchers += 1;
+        watch_union(&mut self.parts, id.at - QUERIES);
     }
 
     /// A session that watched a query or union does so no more. It takes no memory.
@@ -69,18 +128,13 @@ impl Store {
           registered = with_watchers id (λ n. n - 1) self.old.registered;
         } }
     {
+        engine_laws(&self.parts.engine);
         if id.at < QUERIES {
             self.parts.engine.unwatch(id);
             self.parts.sessions[id.at] -= 1;
             return;
         }
-        let Some(joined) = &mut self.parts.unions[id.at - QUERIES] else {
-            unreachable!()
-        };
-        joined.watchers -= 1;
-        if joined.watchers == 0 {
-            unwatch_members(&mut self.parts.engine, joined.union.members());
-        }
+        unwatch_union(&mut self.parts, id.at - QUERIES);
     }
 
     /// How many sessions watch a query or union.

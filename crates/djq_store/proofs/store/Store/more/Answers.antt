@@ -40,7 +40,6 @@ more_at-requires-clause-fresh g c =
     subst (λ (qs : List (Option Live)). IsSomeAnd (joined_at old.unions.items (c.args.id.query.at - 256)) (IsFreshly qs c.args.id.cursor)) (sym c.places-queries.ensures)
     (freshly old.engine c.engine_laws.ensures.engine old.unions.items old.order.items old.sessions.items old.affected.items c.self.invariant.listed c.args.id c.if-id-lt-QUERIES.false (subst (λ (k : Kept). IsFresh k c.args.id) (sym c.self.view_is) c.requires))
 
-
 pub more_at-requires-clause-kept : goal.more_at-requires-clause-kept
 more_at-requires-clause-kept g c = (c.engine_laws.ensures.engine.over.catalog, subst (λ (qs : List (Option Live)). AreKept c.engine_laws.ensures.engine.over.catalog qs) (sym c.places-queries.ensures) (kept_over c.self.inside.parts.engine c.engine_laws.ensures.engine.over))
 

@@ -41,7 +41,6 @@ next_at-requires-clause-readable g c =
     subst (λ (qs : List (Option Live)). IsSomeAnd (joined_at old.unions.items (c.args.id.query.at - 256)) (IsReadable qs c.args.id.cursor)) (sym c.places-queries.ensures)
     (readable old.engine c.engine_laws.ensures.engine old.unions.items old.order.items old.sessions.items old.affected.items c.self.invariant.listed c.args.id c.if-id-lt-QUERIES.false (subst (λ (k : Kept). IsHeld k c.args.id) (sym c.self.view_is) c.requires))
 
-
 pub next_at-requires-clause-kept : goal.next_at-requires-clause-kept
 next_at-requires-clause-kept g c = (c.engine_laws.ensures.engine.over.catalog, subst (λ (qs : List (Option Live)). AreKept c.engine_laws.ensures.engine.over.catalog qs) (sym c.places-queries.ensures) (kept_over c.self.inside.parts.engine c.engine_laws.ensures.engine.over))
 

@@ -20,7 +20,7 @@ returns-in_default c =
     let old = c.self.inside.parts in
     let e' = c.open-opened.new.self in
     let rests = opened_rests old.engine e' c.engine_laws.ensures.engine c.engine_laws-in_default.ensures.engine c.engine_laws.ensures.staying
-        c.open-opened.ensures.places c.args.name.now c.open-opened.result c.open-opened.ensures.gives in
+    c.open-opened.ensures.places c.args.name.now c.open-opened.result c.open-opened.ensures.gives in
     subst (λ (k : Kept). OpenGives k c.args.name.now c.open-opened.result (kept_in (record old { engine = e' }))) c.self.view_is
     (open_over old.engine e' rests old.unions.items old.order.items old.sessions.items old.affected.items c.self.invariant.listed c.args.name.now c.open-opened.result
     (no_union old.unions.items c.as_slice.result.now c.args.name.now c.as_slice.ensures.value c.in_default.ensures) c.open-opened.ensures.gives)
