@@ -115,7 +115,7 @@ module _ (change : RowsChange) (relations : List Bytes) (turn : Turn) (e e' : Ke
         one m d rest more =
             let l = member_there (Some change) relations turn e e' us us' b j.union united m d in
             let n = some_there (query_at e'.places m) (SameShape l.0)
-                ((grows (Some change) relations turn e e' us us' b).shapes m l.0 l.1) in
+            ((grows (Some change) relations turn e e' us us' b).shapes m l.0 l.1) in
             ap (λ (o : Option Live). map (λ (l : Live). l.query) (option_to_list o ++ queries_at e'.places rest)) n.1
             ∙ ap₂ (λ (q : Query) (more : List Query). q ∷ more) (n.2.query ∙ sym (ap the_query l.1)) more
 
@@ -131,7 +131,7 @@ module _ (change : RowsChange) (relations : List Bytes) (turn : Turn) (e e' : Ke
       one_way = λ i l d at. way_of came way l.query;
       told = λ i l changes d at says.
           let mine : Contains (filter (λ m. is_touched change (qs m)) ms) i =
-              subst (λ (xs : List ℕ). Contains xs i) touched_now d in
+          subst (λ (xs : List ℕ). Contains xs i) touched_now d in
           let within = (kept_was (λ m. is_touched change (qs m)) ms i mine).0 in
           let query : qs i ≡ l.query = sym (same_query i within) ∙ ap the_query at in
           let fs = f change relations turn e e' us us' b order w sessions c eds are spares out in
@@ -175,8 +175,8 @@ module _ (change : RowsChange) (relations : List Bytes) (turn : Turn) (e e' : Ke
     union_delta lines l tells =
         let d = tells.delta (e.store).relations changed j.union.name in
         let is : a_union j.union.name (members_at e' ms) ≡ union_of e.places j.union =
-            ap (a_union j.union.name) members_now
-            ∙ sym (union_is (Some change) relations turn e e' us us' b j.union united) in
+        ap (a_union j.union.name) members_now
+        ∙ sym (union_is (Some change) relations turn e e' us us' b j.union united) in
         subst (λ (rs : List Relation). IsDelta (AnswersOf (e.store).relations (union_of e.places j.union))
         (AnswersOf rs (union_of e.places j.union)) (map (change_of (e'.store).texts l) lines)) after
         (subst (λ (q : Listed). IsDelta (AnswersOf (e.store).relations q) (AnswersOf (e'.store).relations q)
@@ -191,11 +191,11 @@ module _ (change : RowsChange) (relations : List Bytes) (turn : Turn) (e e' : Ke
         let hit = filter (λ m. is_touched change (qs m)) ms in
         let fs = f change relations turn e e' us us' b order w sessions c eds are spares out in
         let is : asking_steps e' relations ms ≡ sum_by (count_in e') hit * n =
-            ap₂ (λ (xs : List ℕ) (qs : List Query). sum_by (count_in e') xs * atoms_of qs) touched_now members_now in
+        ap₂ (λ (xs : List ℕ) (qs : List Query). sum_by (count_in e') xs * atoms_of qs) touched_now members_now in
         let each = sum_times (count_in e') n hit in
         let fewer = sum_fewer (λ m. count_in e' m * n) (λ m. length (fs m) * n) hit
-            (hold_each (λ m. count_in e' m * n ≤ length (fs m) * n) hit
-            (λ m d. mul-le (count_in e' m) n (length (fs m)) n (count_few m (told_place m (listed m d))) (omega arith))) in
+        (hold_each (λ m. count_in e' m * n ≤ length (fs m) * n) hit
+        (λ m d. mul-le (count_in e' m) n (length (fs m)) n (count_few m (told_place m (listed m d))) (omega arith))) in
         omega (arith, is, each, fewer)
       where
         count_few : (m : ℕ) → (told_at e' (record { at = m }) ≡ None)

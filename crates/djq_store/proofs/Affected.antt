@@ -88,9 +88,9 @@ reached_is p rs r apart c = by (p r) refl
         let s = mapped_was (λ (s : Registered). s.id) (filter p rs) one.one one.there in
         let was = kept_was p rs s.0 s.1 in
         let same_id : s.0.id.at ≡ r.id.at =
-            ap (λ (id : QueryId). id.at) s.2 ∙ eqb-true one.one.at r.id.at one.passes in
+        ap (λ (id : QueryId). id.at) s.2 ∙ eqb-true one.one.at r.id.at one.passes in
         let same : s.0 ≡ r = only (sym (found_itself rs s.0 apart was.0)
-            ∙ ap (λ (i : ℕ). registered_at rs (id_at i)) same_id ∙ found_itself rs r apart c) in
+        ∙ ap (λ (i : ℕ). registered_at rs (id_at i)) same_id ∙ found_itself rs r apart c) in
         ap p (sym same) ∙ was.1
 
     by : (b : Bool) → p r ≡ b → is_reached ids r.id.at ≡ b

@@ -93,7 +93,7 @@ slots_few g us rs c none among fewer =
     found : (i : ℕ) → Slot i → 0 < weight g us i → Contains (map (λ (r : Registered). r.id.at) rs) i
     found i s some =
         let here : 0 < g (joined_at us s.slot) =
-            subst (λ (n : ℕ). 0 < n) (ap (weight g us) s.is ∙ high_place s.slot (λ j. 0) (λ k. g (joined_at us k))) some in
+        subst (λ (n : ℕ). 0 < n) (ap (weight g us) s.is ∙ high_place s.slot (λ j. 0) (λ k. g (joined_at us k))) some in
         let r = among s.slot here in
         subst (λ (j : ℕ). Contains (map (λ (x : Registered). x.id.at) rs) j) (r.2 ∙ sym s.is)
         (mapped_there (λ (x : Registered). x.id.at) rs r.0 r.1)

@@ -146,7 +146,7 @@ batch_known e e' held (Ok zero) names suit h is = tt
 batch_known e e' held (Ok (suc n)) names suit h is =
     let st = e.store in
     let after : (e'.store).relations ≡ (with_all st held).relations =
-        ap (λ (s : Store). s.relations) h.2 ∙ batch_after st held in
+    ap (λ (s : Store). s.relations) h.2 ∙ batch_after st held in
     let come : names ≡ filter (has_come st held) (names_of held) = is ∙ names_come st held (e'.store).relations suit after in
     record {
       outdater = λ q. sym (ap (find (listed_reads q)) come ∙ find_kept (has_come st held) (listed_reads q) (names_of held));
@@ -198,11 +198,11 @@ held_grows : TextsStay → (st : Store) (h : HeldRow) → Grown st (with_held st
 held_grows law st h = by (is_there st h)
   where
     by : (b : Bool) → Grown st (cond b (record st {
-          relations = with_copies_of st.relations h.relation h.row (copies_of st h.relation h.row + 1);
-        }) (record st {
-          relations = with_rows st.relations h.relation (with_row (counted_of st.relations h.relation) h.row);
-          texts = all_learned st.texts (texts_in h.row);
-        }))
+      relations = with_copies_of st.relations h.relation h.row (copies_of st h.relation h.row + 1);
+    }) (record st {
+      relations = with_rows st.relations h.relation (with_row (counted_of st.relations h.relation) h.row);
+      texts = all_learned st.texts (texts_in h.row);
+    }))
     by true = ([], sym (append-nil st.texts))
     by false = law st.texts (texts_in h.row)
 

@@ -118,11 +118,11 @@ module _ (o : Option RowsChange) (relations : List Bytes) (turn : Turn) (e e' : 
       → told_in (e'.store).texts e'.places (joined_at us' k) ≡ told_in (e.store).texts e.places (joined_at us k)
   told_stays none =
       let miss : first_read e'.places relations j.union.members ≡ None =
-          first_outdates o relations turn e e' us us' b j.union united ∙ none in
+      first_outdates o relations turn e e' us us' b j.union united ∙ none in
       let union : (now.after).union ≡ j.union =
-          (now.settles).union ∙ ap (λ (r : Option Bytes). outdated_union r (e'.store).seq j.union) miss in
+      (now.settles).union ∙ ap (λ (r : Option Bytes). outdated_union r (e'.store).seq j.union) miss in
       let log : (now.after).log ≡ j.log =
-          subst (λ (r : Option Bytes). SettlesLogBy r e' relations turn j (now.after).log) miss (now.settles).log in
+      subst (λ (r : Option Bytes). SettlesLogBy r e' relations turn j (now.after).log) miss (now.settles).log in
       ap (told_in (e'.store).texts e'.places) now.there
       ∙ ap₂ (λ (u : United) (l : Log). told_of (e'.store).texts (first_member e'.places u) l) union log
       ∙ log_tells e e' (grows o relations turn e e' us us' b) b.laws.members b.laws.showable j united (w.shown k j there)
@@ -133,7 +133,7 @@ module _ (o : Option RowsChange) (relations : List Bytes) (turn : Turn) (e e' : 
       → told_in (e'.store).texts e'.places (joined_at us' k) ≡ Some []
   told_nothing lacks hit =
       let reached : is_some (first_read e'.places relations j.union.members) ≡ true =
-          ap is_some (first_outdates o relations turn e e' us us' b j.union united) ∙ hit in
+      ap is_some (first_outdates o relations turn e e' us us' b j.union united) ∙ hit in
       let log = by (first_read e'.places relations j.union.members) reached (now.settles).log in
       told_now ∙ ap₂ (λ (c : Bool) (ns : List Line). cond c None (Some (map (change_of (e'.store).texts first.new) ns))) log.1 log.0
     where
@@ -146,9 +146,11 @@ module _ (o : Option RowsChange) (relations : List Bytes) (turn : Turn) (e e' : 
   pub some_delta : (before after : List Relation) → (changes : List Change)
       × IsDelta (AnswersOf before (union_of e.places j.union)) (AnswersOf after (union_of e.places j.union)) changes
   some_delta before after =
-      let d = deltas_exist before after (a_union j.union.name (map (query_in e.places) j.union.members)) all_bound in
-      (d.0, subst (λ (q : Listed). IsDelta (AnswersOf before q) (AnswersOf after q) d.0)
-      (sym (union_is o relations turn e e' us us' b j.union united)) d.1)
+      let d = deltas_exist before after (a_union j.union.name (map (query_in e.places) j.union.members)) all_bound in (
+        d.0,
+        subst (λ (q : Listed). IsDelta (AnswersOf before q) (AnswersOf after q) d.0)
+            (sym (union_is o relations turn e e' us us' b j.union united)) d.1,
+      )
     where
       all_bound : All IsBound (map (query_in e.places) j.union.members)
       all_bound = All-map IsBound (query_in e.places) j.union.members
@@ -198,7 +200,7 @@ module _ (o : Option RowsChange) (relations : List Bytes) (turn : Turn) (e e' : 
           let joint = order_joint e b.did.before us order w s.slot (subst (λ (i : ℕ). is_reader order i ≡ true) s.is there) in
           let none = out_of o (registered_as e.places us sessions id.at) miss in
           let out : outdater_by o (union_of e.places joint.union.union) ≡ None =
-              ap (outdater_by o) (sym (ap (listed_at e.places us) s.is ∙ listed_joint e.places us s.slot joint)) ∙ none in
+          ap (outdater_by o) (sym (ap (listed_at e.places us) s.is ∙ listed_joint e.places us s.slot joint)) ∙ none in
           ap (λ (i : ℕ). told_at (seen e' us' order sessions affected') (id_at i)) s.is
           ∙ told_high e' b.did.after us' order sessions affected' s.slot
           ∙ told_stays o relations turn e e' us us' b order w s.slot joint.union joint.there out

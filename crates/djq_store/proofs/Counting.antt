@@ -124,13 +124,13 @@ module _ (e : Kept) (b : IsEngine e) (us : List (Option Joined)) (order : List �
       let at = λ (r : Registered). r.id.at in
       let here = λ (i : ℕ). g (listed_at e.places us i) in
       let left : sum_by (λ (r : Registered). g r.query) (readers_of e.registered change)
-          ≡ sum_by here (map at (readers_of e.registered change)) =
+      ≡ sum_by here (map at (readers_of e.registered change)) =
       sum_same (λ (r : Registered). g r.query) (λ (r : Registered). here r.id.at) (readers_of e.registered change)
       (hold_each (λ (r : Registered). g r.query ≡ here r.id.at) (readers_of e.registered change)
       (λ r c. ap g (sym (engine_listed r (kept_was (λ (s : Registered). is_outdated change s.query) e.registered r c).0))))
       ∙ sym (sum_mapped here at (readers_of e.registered change)) in
       let right : sum_by here (map at (readers_of all change))
-          ≡ sum_by (λ (r : Registered). g r.query) (readers_of all change) =
+      ≡ sum_by (λ (r : Registered). g r.query) (readers_of all change) =
       sum_mapped here at (readers_of all change)
       ∙ sum_same (λ (r : Registered). here r.id.at) (λ (r : Registered). g r.query) (readers_of all change)
       (hold_each (λ (r : Registered). here r.id.at ≡ g r.query) (readers_of all change)
@@ -158,11 +158,11 @@ module _ (e : Kept) (b : IsEngine e) (us : List (Option Joined)) (order : List �
       let s = seat_of e b id.at r found in
       let mine : s.registered ≡ r = only (sym s.found ∙ found) in
       let query : (as_seen id.at).query ≡ r.query =
-          listed_seat e b us id.at s ∙ sym s.is ∙ ap (λ (x : Registered). x.query) mine in
+      listed_seat e b us id.at s ∙ sym s.is ∙ ap (λ (x : Registered). x.query) mine in
       let there : registered_at seen.registered id ≡ Some (as_seen id.at) =
-          ap (λ (rs : List Registered). registered_at rs id) is
-          ∙ registered_is e b us order w sessions id
-          ∙ ap (λ c. cond c (Some (as_seen id.at)) None) (seat_order e b us order w id.at s) in
+      ap (λ (rs : List Registered). registered_at rs id) is
+      ∙ registered_is e b us order w sessions id
+      ∙ ap (λ c. cond c (Some (as_seen id.at)) None) (seat_order e b us order w id.at s) in
       subst (λ (q : Listed). IsBoundedBy (e.store).relations n (as_flat q) q) query
       (subst (λ (rs : List Relation). IsBoundedBy rs n (as_flat (as_seen id.at).query) (as_seen id.at).query) relations
       (bounded id (as_seen id.at) there (ap (is_outdated change) query ∙ out)))

@@ -83,11 +83,11 @@ module _ (o : Option RowsChange) (relations : List Bytes) (turn : Turn) (e e' : 
       by None f = refl
       by (Some x) f =
           let r = some_there (registered_at e.registered id.query) (λ (s : Registered). x.query ≡ listed_name s.query)
-              (b.did.before.held id x f).1 in
+          (b.did.before.held id x f).1 in
           let s = seat_of e b.did.before id.query.at r.0 r.1 in
           let mine : s.registered ≡ r.0 = only (sym s.found ∙ r.1) in
           let named : s.query.query.name ≡ x.query =
-              sym (ap listed_name s.is) ∙ ap (λ (y : Registered). listed_name y.query) mine ∙ sym r.2 in
+          sym (ap listed_name s.is) ∙ ap (λ (y : Registered). listed_name y.query) mine ∙ sym r.2 in
           ap (λ (y : Held). Some y) (aged_by (e.store).queries qs o n x
           (subst (λ (name : Bytes). listed_of (e.store).queries name ≡ listed_of qs name) named
           (sym (engine_listed e b.did.before us order w s.query.query.name

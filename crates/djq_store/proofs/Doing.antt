@@ -252,17 +252,17 @@ module _ (p : Parts) (b : IsEngine p.engine) (w : IsWhole p) (none : IsUnwatched
       let sum = w.counted.counted r (found_itself p.engine.registered r b.apart c) in
       let low = low_at r c in
       let mine = sym (low_place r.id.at (λ i. slice_index_or p.sessions.items i 0)
-          (λ i. union_watchers (joined_at p.unions.items i)) low)
-          ∙ idle r.id.at (engine_ordered p.engine b p.unions.items p.order.items w.listed p.sessions.items r c) in
+      (λ i. union_watchers (joined_at p.unions.items i)) low)
+      ∙ idle r.id.at (engine_ordered p.engine b p.unions.items p.order.items w.listed p.sessions.items r c) in
       let unions = count_none (wants r.id.at) p.unions.items (λ i d. unwanted r.id.at (joined_at p.unions.items i)
-          (λ j there. unions_unwatched i j there) refl) in
+      (λ j there. unions_unwatched i j there) refl) in
       le-ltb 0 r.watchers (omega (arith, sum, mine, unions)))
     where
       low_at : (r : Registered) → Contains p.engine.registered r → r.id.at < QUERIES
       low_at r c =
           let t = some_there (query_at p.engine.places r.id.at) (λ l. r.query ≡ a_query l.query)
-              (All-contains (λ (s : Registered). AtPlace p.engine s.id (λ l. s.query ≡ a_query l.query)) p.engine.registered r
-              b.placed c) in
+          (All-contains (λ (s : Registered). AtPlace p.engine s.id (λ l. s.query ≡ a_query l.query)) p.engine.registered r
+          b.placed c) in
           omega (arith, place_below p.engine.places r.id.at t.0 t.1, b.few)
 
       unwanted : (m : ℕ) (o : Option Joined) → ((j : Joined) → o ≡ Some j → j.watchers ≡ 0) → o ≡ o → wants m o ≡ false
@@ -282,8 +282,8 @@ affected_low e e' b change is =
     let r = mapped_was (λ (s : Registered). s.id) (readers_of e.registered change) id c in
     let was = kept_was (λ (s : Registered). is_outdated change s.query) e.registered r.0 r.1 in
     let t = some_there (query_at e.places r.0.id.at) (λ l. r.0.query ≡ a_query l.query)
-        (All-contains (λ (s : Registered). AtPlace e s.id (λ l. s.query ≡ a_query l.query)) e.registered r.0
-        b.placed was.0) in
+    (All-contains (λ (s : Registered). AtPlace e s.id (λ l. s.query ≡ a_query l.query)) e.registered r.0
+    b.placed was.0) in
     subst (λ (i : QueryId). i.at < QUERIES) r.2 (omega (arith, place_below e.places r.0.id.at t.0 t.1, b.few))))
 
 pub affected_few : (p : Parts) (e' : Kept) → IsWhole p → (change : RowsChange)

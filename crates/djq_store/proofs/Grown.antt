@@ -76,11 +76,11 @@ there_held : (st : Store) (h : HeldRow) (n : Bytes) → is_some (relation_of st.
 there_held st h n there = by (is_there st h)
   where
     by : (b : Bool) → is_some (relation_of (cond b (record st {
-          relations = with_copies_of st.relations h.relation h.row (copies_of st h.relation h.row + 1);
-        }) (record st {
-          relations = with_rows st.relations h.relation (with_row (counted_of st.relations h.relation) h.row);
-          texts = all_learned st.texts (texts_in h.row);
-        })).relations n) ≡ true
+      relations = with_copies_of st.relations h.relation h.row (copies_of st h.relation h.row + 1);
+    }) (record st {
+      relations = with_rows st.relations h.relation (with_row (counted_of st.relations h.relation) h.row);
+      texts = all_learned st.texts (texts_in h.row);
+    })).relations n) ≡ true
     by true = there_with st.relations h.relation
         (with_copies (counted_of st.relations h.relation) h.row (copies_of st h.relation h.row + 1)) n there
     by false = there_with st.relations h.relation (with_row (counted_of st.relations h.relation) h.row) n there
@@ -149,7 +149,7 @@ all_grow st [] n there = omega arith
 all_grow st (h ∷ hs) n there =
     let one = one_grows st h n (All-head (HasRelation st) h hs there) in
     let rest = all_grow (with_held st h) hs n
-        (still hs (All-tail (HasRelation st) h hs there)) in
+    (still hs (All-tail (HasRelation st) h hs there)) in
     omega (arith, one, rest)
   where
     still : (ks : List HeldRow) → All (HasRelation st) ks → All (HasRelation (with_held st h)) ks

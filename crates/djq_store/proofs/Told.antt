@@ -168,7 +168,7 @@ module _ (change : RowsChange) (relations : List Bytes) (came : Bool) (e e' : Ke
       let r = mapped_was (λ (s : Registered). s.id.at) (affected_of e.registered change) at k in
       let was = kept_was (λ (s : Registered). is_outdated change s.query && is_watched s) e.registered r.0 r.1 in
       let low : at < QUERIES = subst (λ (i : ℕ). i < QUERIES) r.2
-          (low_of change relations (turn_for came) e e' us us' b order w sessions c eds t.listed spares out r.0 was.0) in
+      (low_of change relations (turn_for came) e e' us us' b order w sessions c eds t.listed spares out r.0 was.0) in
       let same = told_low e' b.did.after us' order sessions affected' at low in
       by same (told_place change relations (turn_for came) e e' us us' b order w sessions c eds t.listed spares out hits
       after came way t.logs at k)
@@ -186,17 +186,18 @@ module _ (change : RowsChange) (relations : List Bytes) (came : Bool) (e e' : Ke
       (AnswersOf change.after (union_of e.places j.union)) changes × LogAt (QUERIES + k) changes
   union_by k j there some log l says at tells true h =
       let d = some_delta (Some change) relations (turn_for came) e e' us us' b order w k j there (e.store).relations
-          change.after in
+      change.after in
       (d.0, d.1, inl (says ∙ ap (λ (x : Bool). cond x None (Some (map (change_of (e'.store).texts l) log.lines))) h))
   union_by k j there some log l says at tells false h =
       let tell : TellUnion e' j.union.members (touched_in e'.places relations j.union.members) came log.lines l =
-          subst (λ (o : Option Live). IsSomeAnd o
-          (TellUnion e' j.union.members (touched_in e'.places relations j.union.members) came log.lines))
-          (first_get (queries_at e'.places j.union.members) ∙ at) (tells h) in
-      (map (change_of (e'.store).texts l) log.lines,
-      union_delta change relations (turn_for came) e e' us us' b order w sessions c eds t.listed spares out hits after came
-      way t.logs k j there some log.lines l tell,
-      inr (says ∙ ap (λ (x : Bool). cond x None (Some (map (change_of (e'.store).texts l) log.lines))) h))
+      subst (λ (o : Option Live). IsSomeAnd o
+      (TellUnion e' j.union.members (touched_in e'.places relations j.union.members) came log.lines))
+      (first_get (queries_at e'.places j.union.members) ∙ at) (tells h) in (
+        map (change_of (e'.store).texts l) log.lines,
+        union_delta change relations (turn_for came) e e' us us' b order w sessions c eds t.listed spares out hits after came
+            way t.logs k j there some log.lines l tell,
+        inr (says ∙ ap (λ (x : Bool). cond x None (Some (map (change_of (e'.store).texts l) log.lines))) h),
+      )
 
   tells_union : (k : ℕ) (j : Joined) → joined_at us k ≡ Some j
       → is_outdated change (union_of e.places j.union) ≡ true → 0 < j.watchers
@@ -206,7 +207,7 @@ module _ (change : RowsChange) (relations : List Bytes) (came : Bool) (e e' : Ke
       let x = now (Some change) relations (turn_for came) e e' us us' b order w k j there in
       let l = first (Some change) relations (turn_for came) e e' us us' b order w k j there in
       let reached : is_some (first_read e'.places relations j.union.members) ≡ true =
-          ap is_some (first_outdates (Some change) relations (turn_for came) e e' us us' b j.union (w.united k j there)) ∙ hit in
+      ap is_some (first_outdates (Some change) relations (turn_for came) e e' us us' b j.union (w.united k j there)) ∙ hit in
       union_by k j there some (x.after).log l.new
       (told_high e' b.did.after us' order sessions affected' k
       ∙ told_now (Some change) relations (turn_for came) e e' us us' b order w k j there)
@@ -241,17 +242,18 @@ module _ (change : RowsChange) (relations : List Bytes) (came : Bool) (e e' : Ke
       let joint : Joint us k = record { union = j; there = there } in
       let r = registered_as e.places us sessions (QUERIES + k) in
       let reached : is_outdated change r.query ≡ true =
-          ap (is_outdated change) (listed_joint e.places us k joint)
-          ∙ sym (ap is_some (first_outdates (Some change) relations (turn_for came) e e' us us' b j.union (w.united k j there)))
-          ∙ hits_both.0 in
+      ap (is_outdated change) (listed_joint e.places us k joint)
+      ∙ sym (ap is_some (first_outdates (Some change) relations (turn_for came) e e' us us' b j.union (w.united k j there)))
+      ∙ hits_both.0 in
       let watched : is_watched r ≡ true =
-          ap (λ n. nat_lt 0 n) (high_place k (λ i. slice_index_or sessions i 0) (λ i. union_watchers (joined_at us i))
-          ∙ ap union_watchers there) ∙ hits_both.1 in
-      (r,
-      kept_there (λ (s : Registered). is_outdated change s.query && is_watched s)
-      (map (registered_as e.places us sessions) order) r (both (is_outdated change r.query) (is_watched r) reached watched)
-      (seen_there e b.did.before us order w sessions (QUERIES + k) (joint_order e b.did.before us order w k joint)),
-      refl)
+      ap (λ n. nat_lt 0 n) (high_place k (λ i. slice_index_or sessions i 0) (λ i. union_watchers (joined_at us i))
+      ∙ ap union_watchers there) ∙ hits_both.1 in (
+        r,
+        kept_there (λ (s : Registered). is_outdated change s.query && is_watched s)
+            (map (registered_as e.places us sessions) order) r (both (is_outdated change r.query) (is_watched r) reached watched)
+            (seen_there e b.did.before us order w sessions (QUERIES + k) (joint_order e b.did.before us order w k joint)),
+        refl,
+      )
 
   fewer : sum_by (settling_steps e' relations (turn_for came)) us ≤ sum_by asks all
   fewer = slots_few (settling_steps e' relations (turn_for came)) us all asks refl
@@ -266,10 +268,10 @@ module _ (change : RowsChange) (relations : List Bytes) (came : Bool) (e e' : Ke
   pub tells_accepted : TellsChange old (accepted change) new before last
   tells_accepted =
       let engine_steps : sum_by (delta_steps change) eds
-          ≡ sum_by (steps_at (e.store).relations change qs fs (members_at us) ps) ps =
-          (by_places change relations (turn_for came) e e' us us' b order w sessions c eds t.listed spares out).steps
-          ∙ sym (sum_mapped (steps_at (e.store).relations change qs fs (members_at us) ps) (λ (r : Registered). r.id.at)
-          (affected_of e.registered change)) in
+      ≡ sum_by (steps_at (e.store).relations change qs fs (members_at us) ps) ps =
+      (by_places change relations (turn_for came) e e' us us' b order w sessions c eds t.listed spares out).steps
+      ∙ sym (sum_mapped (steps_at (e.store).relations change qs fs (members_at us) ps) (λ (r : Registered). r.id.at)
+      (affected_of e.registered change)) in
       let first = t.counted in
       let steps = list.steps in
       let less = fewer in
@@ -338,10 +340,10 @@ module _ (change : RowsChange) (relations : List Bytes) (e e' : Kept) (us us' : 
       let qs = q_at change relations Lacked e e' us us' b order w sessions c t.deltas t.listed spares out in
       let fs = f change relations Lacked e e' us us' b order w sessions c t.deltas t.listed spares out in
       let engine_steps : sum_by (delta_steps change) t.deltas
-          ≡ sum_by (steps_at (e.store).relations change qs fs (members_at us) ps) ps =
-          (by_places change relations Lacked e e' us us' b order w sessions c t.deltas t.listed spares out).steps
-          ∙ sym (sum_mapped (steps_at (e.store).relations change qs fs (members_at us) ps) (λ (r : Registered). r.id.at)
-          (affected_of e.registered change)) in
+      ≡ sum_by (steps_at (e.store).relations change qs fs (members_at us) ps) ps =
+      (by_places change relations Lacked e e' us us' b order w sessions c t.deltas t.listed spares out).steps
+      ∙ sym (sum_mapped (steps_at (e.store).relations change qs fs (members_at us) ps) (λ (r : Registered). r.id.at)
+      (affected_of e.registered change)) in
       let first = t.counted in
       let steps = refused_list.steps in
       let none = settling_lacked e' relations us in

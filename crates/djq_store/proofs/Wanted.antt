@@ -88,7 +88,7 @@ counted_slot p (o ∷ us) low = by (p o) refl (λ l. counted_slot p us l)
     by true e more = (zero, e)
     by false e more =
         let here : count_by p (o ∷ us) ≡ 0 + count_by p us =
-            sum ∙ ap (λ (c : Bool). cond c 1 0 + count_by p us) e in
+        sum ∙ ap (λ (c : Bool). cond c 1 0 + count_by p us) e in
         let m = more (omega (arith, low, here)) in (suc m.0, m.1)
 
 and_true : (b c : Bool) → (b && c) ≡ true → (b ≡ true) × (c ≡ true)
@@ -165,8 +165,8 @@ module _ (change : RowsChange) (relations : List Bytes) (turn : Turn) (e e' : Ke
   engine_query : (r : Registered) → Contains e.registered r → r.query ≡ a_query (q_at r.id.at)
   engine_query r k =
       let t = some_there (query_at e.places r.id.at) (λ l. r.query ≡ a_query l.query)
-          (All-contains (λ (s : Registered). AtPlace e s.id (λ l. s.query ≡ a_query l.query)) e.registered r
-          b.did.before.placed k) in
+      (All-contains (λ (s : Registered). AtPlace e s.id (λ l. s.query ≡ a_query l.query)) e.registered r
+      b.did.before.placed k) in
       t.2 ∙ ap a_query (sym (ap the_query t.1))
 
   pub by_places : ByPlace (e.store).relations change q_at e' ers eds f
@@ -195,9 +195,9 @@ module _ (change : RowsChange) (relations : List Bytes) (turn : Turn) (e e' : Ke
   idle m k none =
       let same = answers_rest (e.store).relations change (q_at m) spares none in
       let empty : f m ≡ [] = none_changed (IsAnswer (e.store).relations (q_at m)) (IsAnswer change.after (q_at m)) (f m)
-          (deltas m k) same in
+      (deltas m k) same in
       let atoms : filter (λ (a : Atom). change.touches a.relation) (q_at m).atoms ≡ [] =
-          none_kept (λ (a : Atom). change.touches a.relation) (q_at m).atoms none in
+      none_kept (λ (a : Atom). change.touches a.relation) (q_at m).atoms none in
       ap₂ (λ (cs : List Change) (atoms : List Atom). (length cs + length atoms) * (2 * length (q_at m).head + 1)) empty atoms
       ∙ zero_times (2 * length (q_at m).head + 1)
     where
@@ -212,8 +212,8 @@ module _ (change : RowsChange) (relations : List Bytes) (turn : Turn) (e e' : Ke
   pub low_of : (r : Registered) → Contains e.registered r → r.id.at < QUERIES
   low_of r k =
       let t = some_there (query_at e.places r.id.at) (λ l. r.query ≡ a_query l.query)
-          (All-contains (λ (s : Registered). AtPlace e s.id (λ l. s.query ≡ a_query l.query)) e.registered r
-          b.did.before.placed k) in
+      (All-contains (λ (s : Registered). AtPlace e s.id (λ l. s.query ≡ a_query l.query)) e.registered r
+      b.did.before.placed k) in
       omega (arith, place_below e.places r.id.at t.0 t.1, b.did.before.few)
 
   sessions_low : (at : ℕ) → at < QUERIES → sessions_at us sessions at ≡ slice_index_or sessions at 0
@@ -242,15 +242,16 @@ module _ (change : RowsChange) (relations : List Bytes) (turn : Turn) (e e' : Ke
       let at = r.id.at in
       let low = low_of r k in
       let listed = engine_listed e b.did.before us order w sessions r k in
-      let there = seen_there e b.did.before us order w sessions at (engine_ordered e b.did.before us order w sessions r k) in
-      (seen_as at,
-      kept_there IsAffected (map seen_as order) (seen_as at)
-      (both_true (is_outdated change (seen_as at).query) (is_watched (seen_as at))
-      (ap (is_outdated change) listed ∙ outdated)
-      (ap (λ n. nat_lt 0 n) (sessions_low at low) ∙ lt-ltb 0 (slice_index_or sessions at 0) some))
-      there,
-      subst (λ (o : Option (List ℕ)). Contains (asked_of (e.store).relations change q_at f (members_at us) places o at) at)
-      (sym (members_low at low)) (first_there at [] at refl))
+      let there = seen_there e b.did.before us order w sessions at (engine_ordered e b.did.before us order w sessions r k) in (
+        seen_as at,
+        kept_there IsAffected (map seen_as order) (seen_as at)
+            (both_true (is_outdated change (seen_as at).query) (is_watched (seen_as at))
+            (ap (is_outdated change) listed ∙ outdated)
+            (ap (λ n. nat_lt 0 n) (sessions_low at low) ∙ lt-ltb 0 (slice_index_or sessions at 0) some))
+            there,
+        subst (λ (o : Option (List ℕ)). Contains (asked_of (e.store).relations change q_at f (members_at us) places o at) at)
+            (sym (members_low at low)) (first_there at [] at refl),
+      )
 
   -- of a member of a union that one watches
   wanted_member : (r : Registered) → Contains e.registered r → is_outdated change r.query ≡ true
@@ -271,19 +272,20 @@ module _ (change : RowsChange) (relations : List Bytes) (turn : Turn) (e e' : Ke
           let at = QUERIES + k in
           let mine : Contains j.union.members m = in_order j.union.members m both.1 in
           let one : is_some (change.outdater (a_query (q_at m))) ≡ true =
-              ap (is_outdated change) (sym (engine_query r c)) ∙ outdated in
+          ap (is_outdated change) (sym (engine_query r c)) ∙ outdated in
           let reached : is_outdated change (union_of e.places j.union) ≡ true =
-              outdated_member (Some change) relations turn e e' us us' b j.union united
-              ∙ any_there (λ i. is_some (change.outdater (a_query (q_at i)))) j.union.members m mine one in
-          (seen_as at,
-          kept_there IsAffected (map seen_as order) (seen_as at)
-          (both_true (is_outdated change (seen_as at).query) (is_watched (seen_as at))
-          (ap (is_outdated change) (listed_joint e.places us k joint) ∙ reached)
-          (ap (λ n. nat_lt 0 n) (sessions_high k ∙ ap union_watchers there) ∙ both.0))
-          (seen_there e b.did.before us order w sessions at (joint_order e b.did.before us order w k joint)),
-          subst (λ (o : Option (List ℕ)). Contains (asked_of (e.store).relations change q_at f (members_at us) places o at) m)
-          (sym (members_high k j there))
-          (kept_there (λ i. is_touched change (q_at i)) j.union.members m hit mine))
+          outdated_member (Some change) relations turn e e' us us' b j.union united
+          ∙ any_there (λ i. is_some (change.outdater (a_query (q_at i)))) j.union.members m mine one in (
+            seen_as at,
+            kept_there IsAffected (map seen_as order) (seen_as at)
+                (both_true (is_outdated change (seen_as at).query) (is_watched (seen_as at))
+                (ap (is_outdated change) (listed_joint e.places us k joint) ∙ reached)
+                (ap (λ n. nat_lt 0 n) (sessions_high k ∙ ap union_watchers there) ∙ both.0))
+                (seen_there e b.did.before us order w sessions at (joint_order e b.did.before us order w k joint)),
+            subst (λ (o : Option (List ℕ)). Contains (asked_of (e.store).relations change q_at f (members_at us) places o at) m)
+                (sym (members_high k j there))
+                (kept_there (λ i. is_touched change (q_at i)) j.union.members m hit mine),
+          )
 
   wanted : (m : ℕ) → Contains places m → is_touched change (q_at m) ≡ true
       → (x : Registered) × Contains rs x × Contains (asked_r x) m
@@ -333,9 +335,9 @@ module _ (change : RowsChange) (relations : List Bytes) (turn : Turn) (e e' : Ke
       let hit : is_outdated change (a_query (q_at m)) ≡ true = out (q_at m) was.1 in
       let is : s.registered.query ≡ a_query (q_at m) = s.is ∙ ap a_query (sym (ap the_query s.there)) in
       let want : wants m (joined_at us k) ≡ true =
-          ap (wants m) there
-          ∙ both_true (nat_lt 0 j.watchers) (is_reader j.union.members m) (lt-ltb 0 j.watchers some)
-          (order_has j.union.members m was.0) in
+      ap (wants m) there
+      ∙ both_true (nat_lt 0 j.watchers) (is_reader j.union.members m) (lt-ltb 0 j.watchers some)
+      (order_has j.union.members m was.0) in
       let many = count_positive (wants m) us k (slot_below us k j there) want in
       let sum = seat_watchers m s in
       listed_place m s (ap (is_outdated change) is ∙ hit) (omega (arith, many, sum))
@@ -359,11 +361,11 @@ module _ (change : RowsChange) (relations : List Bytes) (turn : Turn) (e e' : Ke
     has_query at there low outdated watched =
         let s = order_seat e b.did.before us order w at there low in
         let is : (seen_as at).query ≡ a_query (q_at at) =
-            listed_seat e b.did.before us at s ∙ ap a_query (sym (ap the_query s.there)) in
+        listed_seat e b.did.before us at s ∙ ap a_query (sym (ap the_query s.there)) in
         let out_here : is_outdated change s.registered.query ≡ true =
-            ap (is_outdated change) (s.is ∙ sym (listed_seat e b.did.before us at s)) ∙ outdated in
+        ap (is_outdated change) (s.is ∙ sym (listed_seat e b.did.before us at s)) ∙ outdated in
         let some : 0 < slice_index_or sessions at 0 =
-            ltb-true 0 (slice_index_or sessions at 0) (ap (λ n. nat_lt 0 n) (sym (sessions_low at low)) ∙ watched) in
+        ltb-true 0 (slice_index_or sessions at 0) (ap (λ n. nat_lt 0 n) (sym (sessions_low at low)) ∙ watched) in
         let sum = seat_watchers at s in
         let among : Contains places at = listed_place at s out_here (omega (arith, sum, some)) in
         record {
@@ -395,7 +397,7 @@ module _ (change : RowsChange) (relations : List Bytes) (turn : Turn) (e e' : Ke
         let united = w.united k j joint.there in
         let named : (seen_as at).query ≡ union_of e.places j.union = listed_joint e.places us k joint in
         let some : 0 < j.watchers = ltb-true 0 j.watchers
-            (ap (λ n. nat_lt 0 n) (sym (sessions_high k ∙ ap union_watchers joint.there)) ∙ watched) in
+        (ap (λ n. nat_lt 0 n) (sym (sessions_high k ∙ ap union_watchers joint.there)) ∙ watched) in
         let t = tells_union k j joint.there (ap (is_outdated change) (sym named) ∙ outdated) some in
         record {
           is = subst (λ (o : Option (List ℕ)). IsListedAs (e.store).relations change q_at f (members_at us) places o (seen_as at))

@@ -34,9 +34,7 @@ fn is_reached(reached: &[bool; QUERIES], place: usize) -> bool
 fn some_reached(reached: &[bool; QUERIES], places: &[usize]) -> bool
     ensures { result ≡ list_any (λ i. slice_index_or reached.now i false) places.now }
 {
-    places
-        .iter()
-        .any(|place| is_reached(reached, *place))
+    places.iter().any(|place| is_reached(reached, *place))
 }
 
 // Whether it affects what is registered in a place: a query, or a union of which it affects a member.

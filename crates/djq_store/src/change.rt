@@ -166,12 +166,7 @@ impl Store {
             is_lacked(turn),
             &mut names,
         );
-        follow(
-            &mut self.parts,
-            &names[..count],
-            turn,
-            &mut steps.listing,
-        );
+        follow(&mut self.parts, &names[..count], turn, &mut steps.listing);
         outcome
     }
 }

@@ -72,11 +72,7 @@ fn some_read(queries: &[Option<LiveQuery>], members: &[usize], relation: &Name) 
 }
 
 // The first of these relations that a member reads.
-fn first_read(
-    queries: &[Option<LiveQuery>],
-    members: &[usize],
-    relations: &[Name],
-) -> Option<Name>
+fn first_read(queries: &[Option<LiveQuery>], members: &[usize], relations: &[Name]) -> Option<Name>
     ensures { result ≡ first_read queries.now relations.now members.now }
 {
     for relation in relations {

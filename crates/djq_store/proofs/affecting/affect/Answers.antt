@@ -19,9 +19,9 @@ loop-nth-preserved c =
     let at = get_or c.args.order.now c.loop-nth.nth 0 in
     let before = filter (is_affected ids c.args.unions.now) (take c.loop-nth.nth c.args.order.now) in
     let more = affected_more reached ids c.args.unions.now c.args.order.now c.if-is_affected.affected.items c.loop-nth.nth
-        at c.is_affected.result c.loop-nth-test.true refl c.reached_places-reached.ensures c.is_affected.ensures in
+    at c.is_affected.result c.loop-nth-test.true refl c.reached_places-reached.ensures c.is_affected.ensures in
     elim c.if-is_affected.branch [
-      then-is_affected w ↦ record {
+      | then-is_affected w ↦ record {
         items = more (ap (λ v. v.items) w.affected-is ∙ w.push_reserved.ensures.items
             ∙ ap (λ (xs : List ℕ). xs ++ at ∷ []) c.loop-nth.invariant.items
             ∙ sym (ap (λ (b : Bool). cond b (before ++ at ∷ []) before) w.if-is_affected.true));
