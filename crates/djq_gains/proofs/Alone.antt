@@ -24,12 +24,11 @@ use Rattle.std.proofs.Common.{
   inr,
   arith,
 }
-use Rattle.std.specs.Prelude.{◌⊎◌, ◌&&◌, ◌||◌, not, cond, None, Some, slice_get, slice_index_or}
+use Rattle.std.specs.Prelude.{◌&&◌, ◌||◌, not, cond, Some, slice_get, slice_index_or}
 use Rattle.std.proofs.lemmas.Bool.{cases_Bool, false≢true}
 use Rattle.std.proofs.lemmas.Option.{same_Some, none-some}
 use Rattle.std.proofs.lemmas.List.{take-take}
 use Rattle.std.proofs.lemmas.List.Sums.{sum_by-take-le}
-use Rattle.djq_cursor.specs.declared.log.Line.{Line}
 use Rattle.djq_live.specs.Live.{Live}
 use Rattle.djq_live.specs.Member.{has_cells}
 use Rattle.djq_gains.specs.Gathered.{Gain}

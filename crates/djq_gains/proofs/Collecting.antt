@@ -17,7 +17,6 @@ use Rattle.std.proofs.Common.{
   take,
   filter,
   sum_by,
-  refl,
   sym,
   ap,
   ◌∙◌,
@@ -26,16 +25,16 @@ use Rattle.std.proofs.Common.{
   inr,
   arith,
 }
-use Rattle.std.specs.Prelude.{◌↔◌, ◌⊎◌, Some, None, IsSomeAnd, Contains, slice_index_or, slice_get, All}
+use Rattle.std.specs.Prelude.{◌↔◌, ◌⊎◌, Some, None, Contains, slice_index_or, slice_get}
 use Rattle.std.proofs.lemmas.Bool.{cases_lt, false≢true}
 use Rattle.std.proofs.lemmas.Option.{slice_get-get_or, slice_get_within, same_Some}
 use Rattle.std.proofs.lemmas.List.{append-nil, take_more, take_all}
 use Rattle.std.proofs.lemmas.List.Elements.{Contains-push_cases, filter_more}
 use Rattle.std.proofs.lemmas.List.Sums.{sum_by_push}
 use Rattle.djq_engine.specs.Kept.{Kept}
-use Rattle.djq_gains.specs.Gains.{told_in, count_in, is_among}
+use Rattle.djq_gains.specs.Gains.{told_in, count_in}
 use Rattle.djq_gains.specs.Gathered.{Gain, Stand}
-use Rattle.djq_gains.specs.Gathering.{cells_told, IsOfMember, Gathers}
+use Rattle.djq_gains.specs.Gathering.{is_among, cells_told, IsOfMember, Gathers}
 use Rattle.djq_gains.proofs.Taking.{TakesIn}
 
 -- what is told of the first n members is gathered
@@ -65,9 +64,9 @@ more_kept members touched n k low true is =
     ∙ sum_by_push (count_in k) (filter (is_among touched) (take n members)) (slice_index_or members n 0)
 more_kept members touched n k low false is =
     let same = ap (sum_by (count_in k)) (filter_more (is_among touched) members n 0 low
-        ∙ ap (λ (b : Bool). filter (is_among touched) (take n members)
-        ++ cond b (slice_index_or members n 0 ∷ []) []) is
-        ∙ append-nil (filter (is_among touched) (take n members))) in
+    ∙ ap (λ (b : Bool). filter (is_among touched) (take n members)
+    ++ cond b (slice_index_or members n 0 ∷ []) []) is
+    ∙ append-nil (filter (is_among touched) (take n members))) in
     omega (arith, same)
 
 told_more : (k : Kept) (members touched : List ℕ) (n : ℕ) → n < length members
@@ -112,28 +111,33 @@ collects_touched k members touched n old new before low among takes told few = r
   where
     place : ℕ
     place = slice_index_or members n 0
+
     to : (m : ℕ) (t : List ℕ) → Stand new m t → (m < n + 1) × IsOfMember k members touched m t
     to m t s = by ((takes m t).0 s)
       where
         by : Stand old m t ⊎ ((m ≡ n) × Contains (cells_told k place) t)
             → (m < n + 1) × IsOfMember k members touched m t
         by (inl o) = let h = (before.stand m t).0 o in (let less = h.0 in omega arith, h.1)
-        by (inr both) =
-            (let same = both.0 in omega arith,
-            record {
-              place = place;
-              member = ap (slice_get members) both.0 ∙ slice_get-get_or members n 0 low;
-              touched_it = among;
-              told = both.1;
-            })
+        by (inr both) = (
+          let same = both.0 in omega arith,
+          record {
+            place = place;
+            member = ap (slice_get members) both.0 ∙ slice_get-get_or members n 0 low;
+            touched_it = among;
+            told = both.1;
+          },
+        )
+
     from : (m : ℕ) (t : List ℕ) → (m < n + 1) × IsOfMember k members touched m t → Stand new m t
     from m t h = by (last_or_less m n h.0)
       where
         by : (m < n) ⊎ (m ≡ n) → Stand new m t
         by (inl less) = (takes m t).1 (inl ((before.stand m t).1 (less, h.1)))
-        by (inr same) = (takes m t).1 (inr (same,
-            subst (λ (i : ℕ). Contains (cells_told k i) t)
-            (sym (place_is members n m h.1.place low same h.1.member)) h.1.told))
+        by (inr same) = (takes m t).1 (inr (
+          same,
+          subst (λ (i : ℕ). Contains (cells_told k i) t)
+              (sym (place_is members n m h.1.place low same h.1.member)) h.1.told,
+        ))
 
 pub collects_other : (k : Kept) (members touched : List ℕ) (n : ℕ) (gains : List Gain)
     → Collects k members touched n gains → n < length members
@@ -150,6 +154,7 @@ collects_other k members touched n gains before low other = record {
   where
     to : (m : ℕ) (t : List ℕ) → Stand gains m t → (m < n + 1) × IsOfMember k members touched m t
     to m t s = let h = (before.stand m t).0 s in (let less = h.0 in omega arith, h.1)
+
     from : (m : ℕ) (t : List ℕ) → (m < n + 1) × IsOfMember k members touched m t → Stand gains m t
     from m t h = by (last_or_less m n h.0)
       where
@@ -163,9 +168,11 @@ pub collects_all : (k : Kept) (members touched : List ℕ) (n : ℕ) (gains : Li
 collects_all k members touched n gains all last =
     let whole = take_all n members last in
     record {
-      stand = λ m t. (λ s. ((all.stand m t).0 s).1,
-          λ h. let low = slice_get_within members m h.place h.member in
-              (all.stand m t).1 (omega arith, h));
+      stand = λ m t. (
+        λ s. ((all.stand m t).0 s).1,
+        λ h. let low = slice_get_within members m h.place h.member in
+            (all.stand m t).1 (omega arith, h),
+      );
       told = λ i there. all.told i (subst (λ (xs : List ℕ). Contains xs i) (sym whole) there);
       few = subst (λ (xs : List ℕ). length gains ≤ sum_by (count_in k) (filter (is_among touched) xs))
           whole all.few;

@@ -20,7 +20,6 @@ use Rattle.std.proofs.Common.{
   refl,
   sym,
   ap,
-  ap₂,
   ◌∙◌,
   subst,
   inl,
@@ -36,14 +35,13 @@ use Rattle.std.specs.Prelude.{
   Some,
   IsSomeAnd,
   unwrap_or,
-  All,
   AllPairs,
   Any,
   Contains,
   slice_get,
   slice_index_or,
 }
-use Rattle.std.proofs.lemmas.Bool.{cases_Bool, false≢true}
+use Rattle.std.proofs.lemmas.Bool.{false≢true}
 use Rattle.std.proofs.lemmas.Option.{slice_get_within, slice_get-get_or, same_Some}
 use Rattle.std.proofs.lemmas.List.{length-map, get_or-map}
 use Rattle.std.proofs.lemmas.List.Elements.{All-contains, All-weaker, All-map, Contains-get_or}
@@ -59,35 +57,26 @@ use Rattle.djq_lines.specs.declared.answer.Sign.{Sign}
 use Rattle.djq_lines.specs.declared.answer.Sign.TheVariants.{Came, Went}
 use Rattle.djq_machine.specs.Delta.{Change, HasChanged, IsDelta}
 use Rattle.djq_machine.specs.Store.{atoms_of}
-use Rattle.djq_cursor.specs.declared.log.Line.{Line}
 use Rattle.djq_rows.specs.Cells.{cells_of, StandFor}
 use Rattle.djq_live.specs.Live.{Live, IsShowable}
 use Rattle.djq_live.specs.Member.{has_cells, head_types, in_tree, query_at, queries_at}
 use Rattle.djq_live.specs.Updating.{change_of}
 use Rattle.djq_live.proofs.AtPlaces.{as_many}
 use Rattle.djq_engine.specs.Lending.{sign_of}
-use Rattle.djq_engine.specs.Kept.{Kept, IsOver}
+use Rattle.djq_engine.specs.Kept.{Kept}
 use Rattle.djq_gains.specs.Told.{GoOneWay, StandsIn, IsTold, AreTold}
-use Rattle.djq_gains.specs.Gains.{
-  HaveChanged,
-  IsUnionDelta,
-  TellUnion,
-  members_at,
-  told_in,
-  changes_in,
-  is_among,
-}
-use Rattle.djq_gains.specs.Gathered.{Gain, Stand, AreApart, cells_in, is_by}
-use Rattle.djq_gains.specs.Gathering.{Gathers, is_told, line_of, lines_of, asks_of}
-use Rattle.djq_gains.proofs.Lists.{image_of, mapped, hold_each, first_or_later}
+use Rattle.djq_gains.specs.Gains.{HaveChanged, TellUnion, members_at, told_in}
+use Rattle.djq_gains.specs.Gathered.{Gain, Stand, AreApart, is_by}
+use Rattle.djq_gains.specs.Gathering.{is_among, is_told, line_of, lines_of, asks_of}
+use Rattle.djq_gains.proofs.Lists.{image_of, mapped, hold_each, first_or_later, kept_from}
+use Rattle.djq_gains.proofs.Among.{among_there, there_among}
 use Rattle.djq_gains.proofs.Taking.{some_at}
-use Rattle.djq_gains.proofs.Members.{member_at, got, and_so}
+use Rattle.djq_gains.proofs.Members.{got, and_so}
 use Rattle.djq_gains.proofs.Alone.{alone_true, alone_back}
 use Rattle.djq_gains.proofs.Union.{Turns, some, union_delta}
 use Rattle.djq_gains.proofs.Meaning.{
   Setting,
   IsAt,
-  IsFor,
   IsKnown,
   IsGathered,
   at_place,
@@ -97,7 +86,6 @@ use Rattle.djq_gains.proofs.Meaning.{
   is_for,
   is_gathered,
   same_gain,
-  kept_from,
   known,
   first_kept,
   kept_at,
@@ -145,15 +133,15 @@ values_differ k members touched gains first s i j d less low same =
     let under : i < length told = omega (arith, less, low, long) in
     let below : j < length told = omega (arith, low, long) in
     let pairs = AllPairs-filter (λ (g h : Gain). g.cells ≡ h.cells → ⊥) test gains
-        (apart_gains gains s.apart) in
+    (apart_gains gains s.apart) in
     let g = slice_index_or told i none in
     let h = slice_index_or told j none in
     let there = λ (n : ℕ) (in' : n < length told).
-        (kept_from test gains (slice_index_or told n none) (Contains-get_or told n none in')).1 in
+    (kept_from test gains (slice_index_or told n none) (Contains-get_or told n none in')).1 in
     let kg = known k members touched gains first s g (there i under) in
     let kh = known k members touched gains first s h (there j below) in
     let equal = sym (get_or-map (value k first) told i none d under) ∙ same
-        ∙ get_or-map (value k first) told j none d below in
+    ∙ get_or-map (value k first) told j none d below in
     pairs i j none less below
     ((kg.cells).are ∙ ap (cells_of (k.store).texts) equal ∙ sym (kh.cells).are)
 
@@ -174,28 +162,35 @@ is_what_is_told k members touched gains first s g there told = record {
   where
     ls : List Live
     ls = queries_at k.places members
+
     now : List Relation
     now = (k.store).relations
+
     v : Tuple
     v = value k first g
+
     each : (i : ℕ) → Contains members i → (StandsIn (delta_at k touched i) v → ⊥) → AnswerAt k now i v → ⊥
     each i at out has = by (is_by g at.0) refl
       where
         nth : slice_get members at.0 ≡ Some i
         nth = nth_of members i at.0 at.1 at.2
+
         w : IsKnown k members touched first g
         w = known k members touched gains first s g there
+
         a : IsAt k members at.0 i
         a = at_place k members at.0 i s.have nth
+
         stand : StandFor (k.store).texts (head_types a.live) g.cells v
         stand = subst (λ ts. StandFor (k.store).texts ts g.cells v)
             (s.alike first a.live (got ls 0 first s.is_first) (got ls at.0 a.live a.nth)) w.cells
+
         by : (b : Bool) → is_by g at.0 ≡ b → ⊥
         by true marked =
             let f = is_for k members touched gains first s at.0 g.cells
-                (record { gain = g; there = there; is = refl; marked = marked }) in
+            (record { gain = g; there = there; is = refl; marked = marked }) in
             let same = one_value k s.over first s.tell s.types (first_kept k members touched gains first s)
-                g.cells (f.change).answer v f.stand w.cells in
+            g.cells (f.change).answer v f.stand w.cells in
             let place = same_Some f.place i (sym f.member ∙ nth) in
             out (subst (λ (n : ℕ). StandsIn (delta_at k touched n) v) place
             (subst (StandsIn (delta_at k touched f.place)) same
@@ -204,7 +199,7 @@ is_what_is_told k members touched gains first s g there told = record {
             let hasnt = alone_back ls g.by g.cells told at.0 a.live a.nth unmarked in
             let answer = some_at (query_at k.places i) (λ l. IsAnswer now l.query v) a.live a.at has in
             let had = (has_is k s.over a.live s.had s.types (kept_at k s.over i a.live a.at) g.cells v stand).1
-                answer in
+            answer in
             false≢true (sym hasnt ∙ had)
 
 -- what is to be told is gathered, and is told
@@ -244,26 +239,37 @@ is_listed k members touched gains first s t told = record {
   where
     ls : List Live
     ls = queries_at k.places members
+
     now : List Relation
     now = (k.store).relations
+
     texts : List Bytes
     texts = (k.store).texts
+
     m : ℕ
     m = told.gained.0
+
     i : ℕ
     i = told.gained.1
+
     nth : slice_get members m ≡ Some i
     nth = nth_of members i m told.gained.2 told.gained.3
+
     gathered : IsGathered k gains first m t
     gathered = is_gathered k members touched gains first s m i t nth told.gained.4
+
     st : Stand gains m (cells_of texts t)
     st = gathered.stand
+
     g : Gain
     g = st.gain
+
     w : IsKnown k members touched first g
     w = known k members touched gains first s g st.there
+
     stand : StandFor texts (head_types first) g.cells t
     stand = subst (λ (u : List ℕ). StandFor texts (head_types first) u t) (sym st.is) gathered.cells
+
     pass : (n : ℕ) (p : Live) → slice_get ls n ≡ Some p → slice_index_or g.by n false ≡ false
         → has_cells p g.cells ≡ false
     pass n p at out = by (has_cells p g.cells) refl
@@ -271,17 +277,23 @@ is_listed k members touched gains first s t told = record {
         low : n < length members
         low = let many = as_many k.places members s.have.each in
             let under = slice_get_within ls n p at in omega arith
+
         place : ℕ
         place = slice_index_or members n 0
+
         member : slice_get members n ≡ Some place
         member = slice_get-get_or members n 0 low
+
         a : IsAt k members n place
         a = at_place k members n place s.have member
+
         is_p : query_at k.places place ≡ Some p
         is_p = a.at ∙ sym a.nth ∙ at
+
         stands : StandFor texts (head_types p) g.cells t
         stands = subst (λ ts. StandFor texts ts g.cells t)
             (s.alike first p (got ls 0 first s.is_first) (got ls n p at)) stand
+
         by : (b : Bool) → has_cells p g.cells ≡ b → has_cells p g.cells ≡ false
         by false e = e
         by true e =
@@ -292,7 +304,7 @@ is_listed k members touched gains first s t told = record {
             (λ h.
             let other = is_gathered k members touched gains first s n place t member h in
             let same = same_gain gains s.apart g (other.stand).gain st.there (other.stand).there
-                (st.is ∙ sym (other.stand).is) in
+            (st.is ∙ sym (other.stand).is) in
             false≢true (sym out ∙ ap (λ (x : Gain). is_by x n) same ∙ (other.stand).marked)) has)
 
 -- What the lines tell is what is to be told.
@@ -319,8 +331,10 @@ are_told k members touched gains first came s = record {
   where
     ls : List Live
     ls = queries_at k.places members
+
     told : List Gain
     told = told_of k members gains
+
     After : ℕ → Tuple → Type 0
     After = AnswerAt k (k.store).relations
 
@@ -353,19 +367,24 @@ turns k members touched gains first came before s changed i there =
   where
     now : List Relation
     now = (k.store).relations
+
     a : IsAt k members there.0 i
     a = at_place k members there.0 i s.have (nth_of members i there.0 there.1 there.2)
+
     Delta : List Change → Type 0
     Delta = IsDelta (IsAnswer before (a.live).query) (IsAnswer now (a.live).query)
+
     told : (o : Option (List Change)) → told_in k i ≡ o → is_among touched i ≡ true
         → Delta (unwrap_or o [])
     told None eq among = absurd (s.gathers.told i there among eq)
-    told (Some cs) eq among = changed.told i a.live cs there among a.at eq
+    told (Some cs) eq among = changed.told i a.live cs (among_there touched i among) a.at eq
+
     delta : (b : Bool) → is_among touched i ≡ b → Delta (delta_at k touched i)
     delta true among = subst Delta (sym (delta_yes k touched i among)) (told (told_in k i) refl among)
     delta false out = subst Delta (sym (delta_no k touched i out))
         (none_changed (IsAnswer before (a.live).query) (IsAnswer now (a.live).query)
-        (changed.others i a.live there out a.at))
+        (changed.others i a.live there
+        (λ h. false≢true (sym out ∙ there_among touched i h)) a.at))
 
 -- the answers of some member are those of the union
 of_some : (k : Kept) (members touched : List ℕ) (gains : List Gain) (first : Live)
@@ -376,12 +395,14 @@ of_some k members touched gains first s relations t = (to, from)
   where
     ls : List Live
     ls = queries_at k.places members
+
     to : Any (λ i. AnswerAt k relations i t) members → Any (λ q. IsAnswer relations q t) (members_at k members)
     to h =
         let a = at_place k members h.0 h.1 s.have (nth_of members h.1 h.0 h.2 h.3) in
         let is = some_at (query_at k.places h.1) (λ l. IsAnswer relations l.query t) a.live a.at h.4 in
         some (λ q. IsAnswer relations q t) (members_at k members) (a.live).query
         (mapped (λ (l : Live). l.query) ls a.live (got ls h.0 a.live a.nth)) is
+
     from : Any (λ q. IsAnswer relations q t) (members_at k members) → Any (λ i. AnswerAt k relations i t) members
     from h =
         let image = image_of (λ (l : Live). l.query) ls h.1 (h.0, h.2, h.3) in
@@ -416,6 +437,7 @@ same_delta Before After Old New cs old new delta = record {
     to : (sign : Sign) (t : Tuple) → HasChanged Before After sign t → HasChanged Old New sign t
     to Came t h = ((new t).0 h.0, λ o. h.1 ((old t).1 o))
     to Went t h = ((old t).0 h.0, λ n. h.1 ((new t).1 n))
+
     from : (sign : Sign) (t : Tuple) → HasChanged Old New sign t → HasChanged Before After sign t
     from Came t h = ((new t).1 h.0, λ o. h.1 ((old t).0 o))
     from Went t h = ((old t).1 h.0, λ n. h.1 ((new t).0 n))
@@ -448,6 +470,7 @@ tells_union k members touched gains first came s = record {
   where
     ls : List Live
     ls = queries_at k.places members
+
     now : List Relation
     now = (k.store).relations
 

@@ -7,4 +7,5 @@ pub mod Members
 pub mod Alone
 pub mod Lining
 pub mod Meaning
+pub mod Among
 pub mod Delta

@@ -22,16 +22,12 @@ use Rattle.std.proofs.Common.{
   refl,
   sym,
   ap,
-  ap₂,
   ◌∙◌,
-  subst,
-  inl,
-  inr,
   arith,
   add-one,
 }
-use Rattle.std.specs.Prelude.{◌⊎◌, Option, None, Some, slice_get}
-use Rattle.std.proofs.lemmas.Bool.{cases_Bool, false≢true}
+use Rattle.std.specs.Prelude.{Option, None, Some}
+use Rattle.std.proofs.lemmas.Bool.{false≢true}
 use Rattle.std.proofs.lemmas.List.{map-append, take_all}
 use Rattle.std.proofs.lemmas.List.Elements.{filter-append}
 use Rattle.djq_cursor.specs.declared.log.Line.{Line}
@@ -74,7 +70,8 @@ cut_suc (f ∷ gains) (suc j) slot is =
     let low = c.4 in
     (c.0, c.1, ap (λ (gs : List Gain). f ∷ gs) c.2, ap (λ (gs : List Gain). f ∷ gs) c.3, omega arith)
 
-pub cut_at : (gains : List Gain) (j slot : ℕ) → first_of (slots_in (drop j gains)) ≡ Some slot → Cut gains j slot
+pub cut_at : (gains : List Gain) (j slot : ℕ) → first_of (slots_in (drop j gains)) ≡ Some slot
+    → Cut gains j slot
 cut_at gains j slot is =
     let c = cut_suc gains j slot is in
     record { gain = c.0; slot_is = c.1; is = rw add-one c.2; takes = rw add-one c.3; within = c.4 }

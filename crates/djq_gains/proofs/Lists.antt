@@ -5,14 +5,16 @@ use Rattle.std.proofs.Common.{
   zero,
   suc,
   ◌<◌,
+  Bool,
+  true,
   List,
   [],
   ◌∷◌,
   ◌++◌,
   length,
   map,
+  filter,
   refl,
-  sym,
   ap,
   ◌∙◌,
   inl,
@@ -21,7 +23,14 @@ use Rattle.std.proofs.Common.{
 }
 use Rattle.std.specs.Prelude.{◌⊎◌, All, Contains, slice_index_or}
 use Rattle.std.proofs.lemmas.List.{length-map, get_or-map}
-use Rattle.std.proofs.lemmas.List.Elements.{All-weaker, All-contains_itself, Contains-append_right}
+use Rattle.std.proofs.lemmas.List.Elements.{
+  All-weaker,
+  All-contains,
+  All-contains_itself,
+  All-filter,
+  filter_passes,
+  Contains-append_right,
+}
 
 -- where what a list is mapped to comes from
 pub record HasImage {A B : Type 0} (f : A → B) (xs : List A) (y : B) : Type 0 where
@@ -63,3 +72,11 @@ first_or_later x xs y h = step h.0 h.1 h.2
 
 pub middle : {A : Type 0} (xs : List A) (x : A) (ys : List A) → Contains (xs ++ x ∷ ys) x
 middle xs x ys = Contains-append_right xs (x ∷ ys) x (0, omega arith, refl)
+
+-- what a filter keeps
+pub kept_from : {A : Type 0} (p : A → Bool) (xs : List A) (x : A) → Contains (filter p xs) x
+    → (p x ≡ true) × Contains xs x
+kept_from p xs x there = (
+  All-contains (λ y. p y ≡ true) (filter p xs) x (filter_passes p xs) there,
+  All-contains (Contains xs) (filter p xs) x (All-filter p (Contains xs) xs (All-contains_itself xs)) there,
+)

@@ -8,10 +8,7 @@ use Rattle.std.proofs.Common.{
   false,
   List,
   [],
-  ◌∷◌,
   length,
-  map,
-  filter,
   refl,
   sym,
   ap,
@@ -21,36 +18,18 @@ use Rattle.std.proofs.Common.{
   inr,
   arith,
 }
-use Rattle.std.specs.Prelude.{
-  ◌↔◌,
-  ◌⊎◌,
-  cond,
-  Option,
-  None,
-  Some,
-  IsSomeAnd,
-  unwrap_or,
-  All,
-  AllPairs,
-  Any,
-  Contains,
-  slice_get,
-  slice_index_or,
-}
-use Rattle.std.proofs.lemmas.Bool.{cases_Bool, cases_order, false≢true}
-use Rattle.std.proofs.lemmas.Option.{slice_get-get_or, slice_get_within, same_Some, none-some}
+use Rattle.std.specs.Prelude.{◌↔◌, cond, Option, None, Some, unwrap_or, All, Contains, slice_get, slice_index_or}
+use Rattle.std.proofs.lemmas.Bool.{cases_order}
+use Rattle.std.proofs.lemmas.Option.{slice_get-get_or, slice_get_within, same_Some}
 use Rattle.std.proofs.lemmas.List.{length-map, get_or-map}
-use Rattle.std.proofs.lemmas.List.Elements.{All-nil, All-contains, All-contains_itself, All-filter, All-map, filter_passes}
-use Rattle.std.proofs.lemmas.List.Kept.{AllPairs-filter}
+use Rattle.std.proofs.lemmas.List.Elements.{All-contains}
 use Rattle.djq_model.specs.declared.relation.Relation.{Relation}
 use Rattle.djq_model.specs.declared.relation.ColumnType.{ColumnType}
-use Rattle.djq_model.specs.declared.query.Query.{Query}
 use Rattle.djq_model.specs.Data.{Bytes, Tuple}
-use Rattle.djq_model.specs.Answer.{IsAnswer, AreDifferent}
-use Rattle.djq_machine.specs.Delta.{Change, IsDelta}
+use Rattle.djq_model.specs.Answer.{IsAnswer}
+use Rattle.djq_machine.specs.Delta.{Change}
 use Rattle.djq_rows.specs.Cells.{cells_of, StandFor}
-use Rattle.djq_rows.specs.Catalog.{Catalog}
-use Rattle.djq_live.specs.Live.{Live, IsKept, IsShowable, values_of}
+use Rattle.djq_live.specs.Live.{Live, IsKept, values_of}
 use Rattle.djq_live.specs.Member.{
   head_types,
   has_cells,
@@ -64,19 +43,16 @@ use Rattle.djq_live.specs.Member.{
   CellsTellValues,
   IsShownInTree,
 }
-use Rattle.djq_live.specs.Updating.{change_of}
 use Rattle.djq_live.proofs.AtPlaces.{as_many}
 use Rattle.djq_engine.specs.Kept.{Kept, IsOver, CellsAre}
 use Rattle.djq_engine.specs.Kept.{AreTold as AreShown}
-use Rattle.djq_gains.specs.Told.{GoOneWay, StandsIn, IsTold, AreTold}
-use Rattle.djq_gains.specs.Gains.{AreAlike, AtFirst, told_in, changes_in, is_among}
-use Rattle.djq_gains.specs.Gathered.{Gain, Stand, AreApart, StandSomewhere, cells_in, is_by}
-use Rattle.djq_gains.specs.Gathering.{cells_told, IsOfMember, Gathers, is_told, line_of}
-use Rattle.djq_gains.proofs.Lists.{image_of, mapped, hold_each}
+use Rattle.djq_gains.specs.Told.{StandsIn}
+use Rattle.djq_gains.specs.Gains.{AreAlike, told_in, changes_in}
+use Rattle.djq_gains.specs.Gathered.{Gain, Stand, AreApart, StandSomewhere, cells_in}
+use Rattle.djq_gains.specs.Gathering.{is_among, cells_told, Gathers}
+use Rattle.djq_gains.proofs.Lists.{image_of, mapped}
 use Rattle.djq_gains.proofs.Taking.{some_at}
-use Rattle.djq_gains.proofs.Members.{IsMember, member_at, got, and_so}
-use Rattle.djq_gains.proofs.Alone.{alone_true, alone_back}
-use Rattle.djq_gains.proofs.Union.{some}
+use Rattle.djq_gains.proofs.Members.{member_at, got}
 
 -- What is gathered of the members, and the laws of those that keep them.
 pub record Setting (k : Kept) (members touched : List ℕ) (gains : List Gain) (first : Live) : Type 0
@@ -106,13 +82,12 @@ at_place k members n place have is =
     let low = slice_get_within members n place is in
     let m = member_at k members n have low in
     let same = same_Some (slice_index_or members n 0) place
-        (sym (slice_get-get_or members n 0 low) ∙ is) in
+    (sym (slice_get-get_or members n 0 low) ∙ is) in
     record { live = m.live; at = ap (query_at k.places) (sym same) ∙ m.at; nth = m.nth }
 
 pub nth_of : (members : List ℕ) (place : ℕ) (n : ℕ) → n < length members
     → slice_index_or members n place ≡ place → slice_get members n ≡ Some place
 nth_of members place n low is = slice_get-get_or members n place low ∙ ap Some is
-
 
 pub kept_at : (k : Kept) (over : IsOver k) (i : ℕ) (l : Live) → query_at k.places i ≡ Some l
     → IsKept over.catalog l
@@ -126,13 +101,14 @@ told_stands k i l c shown is there = by (told_in k i) refl there
   where
     texts : List Bytes
     texts = (k.store).texts
+
     by : (o : Option (List Change)) → told_in k i ≡ o → Contains (unwrap_or o []) c
         → StandFor texts (head_types l) (cells_of texts c.answer) c.answer
     by None eq h = absurd (let low = h.1 in omega arith)
     by (Some cs) eq h =
         let each = some_at (query_at k.places i)
-            (λ m. All (λ d. (cells : List ℕ) × CellsAre k m cells d) cs) l is
-            (shown (record { at = i }) cs eq) in
+        (λ m. All (λ d. (cells : List ℕ) × CellsAre k m cells d) cs) l is
+        (shown (record { at = i }) cs eq) in
         let s = All-contains (λ d. (cells : List ℕ) × CellsAre k l cells d) cs c each h in
         subst (λ (u : List ℕ). StandFor texts (head_types l) u c.answer) (s.1).are s.1
 
@@ -162,19 +138,19 @@ pub one_value : (k : Kept) (over : IsOver k) (l : Live) → CellsTellValues → 
 one_value k over l tell types kept u v w a b =
     let c = over.catalog in
     let moved = λ (t : Tuple) (s : StandFor (k.store).texts (head_types l) u t).
-        subst (λ (ts : List ColumnType). StandFor c.texts ts u t) (types c l kept)
-        (subst (λ (ts : List Bytes). StandFor ts (head_types l) u t) (sym over.texts) s) in
+    subst (λ (ts : List ColumnType). StandFor c.texts ts u t) (types c l kept)
+    (subst (λ (ts : List Bytes). StandFor ts (head_types l) u t) (sym over.texts) s) in
     (tell c l l refl u u v w (moved v a) (moved w b)).0 refl
 
 -- a tuple that is gathered, as one of a member's delta
 pub record IsFor (k : Kept) (members touched : List ℕ) (first : Live) (m : ℕ) (u : List ℕ) : Type 0
   where
-  pub place : ℕ
-  pub member : slice_get members m ≡ Some place
-  pub among : is_among touched place ≡ true
-  pub change : Change
-  pub there : Contains (changes_in k place) change
-  pub stand : StandFor (k.store).texts (head_types first) u change.answer
+    pub place : ℕ
+    pub member : slice_get members m ≡ Some place
+    pub among : is_among touched place ≡ true
+    pub change : Change
+    pub there : Contains (changes_in k place) change
+    pub stand : StandFor (k.store).texts (head_types first) u change.answer
 
 alike_stand : (k : Kept) (members touched : List ℕ) (gains : List Gain) (first : Live)
     → Setting k members touched gains first → (m place : ℕ) → slice_get members m ≡ Some place
@@ -237,12 +213,13 @@ is_gathered k members touched gains first s m i t is stands = by (is_among touch
   where
     texts : List Bytes
     texts = (k.store).texts
+
     by : (b : Bool) → is_among touched i ≡ b → IsGathered k gains first m t
     by false out = absurd (nothing_in t
         (subst (λ (cs : List Change). StandsIn cs t) (delta_no k touched i out) stands))
     by true among =
         let image = image_of (λ (d : Change). d.answer) (changes_in k i) t
-            (subst (λ (cs : List Change). StandsIn cs t) (delta_yes k touched i among) stands) in
+        (subst (λ (cs : List Change). StandsIn cs t) (delta_yes k touched i among) stands) in
         record {
           stand = (s.gathers.stand m (cells_of texts t)).1 (record {
             place = i;
@@ -268,26 +245,22 @@ same_gain gains apart g h at_g at_h same = elim (cases_order at_g.0 at_h.0) [
   where
     long : length (cells_in gains) ≡ length gains
     long = length-map gains (λ (x : Gain). x.cells)
+
     cells_at : (n : ℕ) (x : Gain) → n < length gains → slice_index_or gains n x ≡ x
         → slice_index_or (cells_in gains) n [] ≡ x.cells
     cells_at n x low is = get_or-map (λ (y : Gain). y.cells) gains n x [] low ∙ ap (λ (y : Gain). y.cells) is
+
     unlike : (m n : ℕ) (x y : Gain) → m < n → n < length gains → slice_index_or gains m x ≡ x
         → slice_index_or gains n y ≡ y → x.cells ≡ y.cells → ⊥
     unlike m n x y less low is_x is_y e =
         apart m n [] less (omega (arith, long, low))
         (cells_at m x (omega (arith, less, low)) is_x ∙ e ∙ sym (cells_at n y low is_y))
+
     index : (m n : ℕ) → m ≡ n → m < length gains → slice_index_or gains m g ≡ slice_index_or gains n h
     index m n e low =
         same_Some (slice_index_or gains m g) (slice_index_or gains n h)
         (sym (slice_get-get_or gains m g low) ∙ ap (slice_get gains) e
         ∙ slice_get-get_or gains n h (omega (arith, e, low)))
-
--- what a filter keeps
-pub kept_from : {A : Type 0} (p : A → Bool) (xs : List A) (x : A) → Contains (filter p xs) x
-    → (p x ≡ true) × Contains xs x
-kept_from p xs x there = (
-  All-contains (λ y. p y ≡ true) (filter p xs) x (filter_passes p xs) there,
-  All-contains (Contains xs) (filter p xs) x (All-filter p (Contains xs) xs (All-contains_itself xs)) there)
 
 -- the value that a tuple shows by the first member
 abbrev pub value : Kept → Live → Gain → Tuple
@@ -317,9 +290,9 @@ pub known : (k : Kept) (members touched : List ℕ) (gains : List Gain) (first :
 known k members touched gains first s g there =
     let by = s.somewhere g there in
     let f = is_for k members touched gains first s by.0 g.cells
-        (record { gain = g; there = there; is = refl; marked = by.1 }) in
+    (record { gain = g; there = there; is = refl; marked = by.1 }) in
     let shows = shows_it k s.over first s.shows (first_kept k members touched gains first s) g.cells
-        (f.change).answer f.stand in
+    (f.change).answer f.stand in
     record {
       m = by.0;
       of_member = f;

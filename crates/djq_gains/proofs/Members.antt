@@ -1,29 +1,16 @@
 -- The members of a union in their places.
-use Rattle.std.proofs.Common.{
-  ◌≡◌,
-  ℕ,
-  ◌<◌,
-  ◌≤◌,
-  List,
-  length,
-  refl,
-  sym,
-  ap,
-  ◌∙◌,
-  subst,
-  arith,
-}
+use Rattle.std.proofs.Common.{◌≡◌, ℕ, ◌<◌, List, length, sym, ap, ◌∙◌, subst, arith}
 use Rattle.std.specs.Prelude.{Option, Some, IsSomeAnd, All, Contains, slice_get, slice_index_or}
 use Rattle.std.proofs.lemmas.Option.{slice_get_within, get_or_from_slice_get, same_Some}
 use Rattle.std.proofs.lemmas.List.{length-map}
-use Rattle.djq_machine.specs.Store.{answer_types, variable_type}
+use Rattle.djq_machine.specs.Store.{variable_type}
 use Rattle.djq_rows.specs.Catalog.{Catalog}
 use Rattle.djq_live.specs.Live.{Live, IsKept, IsKeptSomewhere}
 use Rattle.djq_live.specs.Member.{head_types, query_at, queries_at, HaveQueries, HeadTypesAre}
-use Rattle.djq_live.proofs.AtPlaces.{as_many, nth_is, nth_has, are_kept}
+use Rattle.djq_live.proofs.AtPlaces.{nth_is, nth_has, are_kept}
 use Rattle.djq_engine.specs.Kept.{Kept, IsOver}
 use Rattle.djq_gains.specs.Gains.{AreAlike, AtFirst}
-use Rattle.djq_gains.proofs.Taking.{SomeWith, some_with}
+use Rattle.djq_gains.proofs.Taking.{some_with}
 
 pub and_so : {A : Type 0} (o : Option A) (P : A → Type 0) (a : A) → o ≡ Some a → P a → IsSomeAnd o P
 and_so {A = A} o P a is h = subst (λ (p : Option A). IsSomeAnd p P) (sym is) h
@@ -57,7 +44,7 @@ pub member_at : (k : Kept) (members : List ℕ) (n : ℕ) → HaveQueries k.plac
     → IsMember k members n
 member_at k members n have low =
     let q = some_with (query_at k.places (slice_index_or members n 0)) _
-        (nth_has k.places members n have.each low) in
+    (nth_has k.places members n have.each low) in
     record { live = q.value; at = q.is; nth = nth_is k.places members n have.each low ∙ q.is }
 
 -- each has heads as wide as the first

@@ -1,13 +1,10 @@
 -- A tuple of a delta is taken in.
 use Rattle.std.proofs.Common.{
   ◌≡◌,
-  ◌≢◌,
   ℕ,
   zero,
   suc,
-  ◌+◌,
   ◌<◌,
-  ◌≤◌,
   ◌==◌,
   Bool,
   true,
@@ -18,8 +15,6 @@ use Rattle.std.proofs.Common.{
   ◌∷◌,
   ◌++◌,
   length,
-  map,
-  replicate,
   slice_set,
   slice_index_or,
   refl,
@@ -31,12 +26,11 @@ use Rattle.std.proofs.Common.{
   inl,
   inr,
   arith,
-  rules,
   eq-eqb,
   get_or-set_same,
   get_or-set_other,
 }
-use Rattle.std.specs.Prelude.{◌↔◌, ◌⊎◌, AllPairs, All, Contains}
+use Rattle.std.specs.Prelude.{◌↔◌, ◌⊎◌, AllPairs, Contains}
 use Rattle.std.proofs.lemmas.Bool.{cases_eq, cases_lt, ne_eqb, false≢true}
 use Rattle.std.proofs.lemmas.List.{map-append, get_or-replicate, get_or_past}
 use Rattle.std.proofs.lemmas.List.Elements.{Contains-append_left, Contains-append_cases, Contains-push_cases}
@@ -152,7 +146,7 @@ only_row : (front : List Row) (r : Row) (back : List Row) → AreDifferent (slot
     → (q : Row) → Contains (front ++ r ∷ back) q → q.slot ≡ r.slot → q.cells ≡ r.cells
 only_row front r back different q there at =
     let out = different_here (slots front) r.slot (slots back)
-        (subst AreDifferent (slots_middle front r back) different) in
+    (subst AreDifferent (slots_middle front r back) different) in
     elim (Contains-append_cases front (r ∷ back) q there) [
       | inl before ↦ absurd (out_of r.slot front q
           (out_front r.slot (slots front) (slots back) out) before at)
@@ -259,11 +253,12 @@ marked_stand gains slot nth cells by only lies low k t = (to, from)
     to s =
         let i = image_of (with_mark slot nth) gains s.gain s.there in
         let cells_are = sym (mark_keeps_cells slot nth i.from)
-            ∙ ap (λ (g : Gain). g.cells) i.is ∙ s.is in
+        ∙ ap (λ (g : Gain). g.cells) i.is ∙ s.is in
         elim (mark_back slot nth i.from k (ap (λ (g : Gain). is_by g k) i.is ∙ s.marked)) [
           | inl had ↦ inl (record { gain = i.from; there = i.there; is = cells_are; marked = had })
           | inr new ↦ inr (new.0, sym cells_are ∙ only i.from i.there new.1)
         ]
+
     at : Stand gains k t → Stand (marked_in slot nth gains) k t
     at s = record {
       gain = with_mark slot nth s.gain;
@@ -271,6 +266,7 @@ marked_stand gains slot nth cells by only lies low k t = (to, from)
       is = mark_keeps_cells slot nth s.gain ∙ s.is;
       marked = mark_keeps slot nth s.gain k s.marked;
     }
+
     new : k ≡ nth → t ≡ cells → Stand (marked_in slot nth gains) k t
     new same is =
         let g : Gain = record { slot = slot; cells = cells; by = by } in
@@ -280,6 +276,7 @@ marked_stand gains slot nth cells by only lies low k t = (to, from)
           is = mark_keeps_cells slot nth g ∙ sym is;
           marked = ap (λ (j : ℕ). is_by (with_mark slot nth g) j) same ∙ mark_gives slot nth g refl low;
         }
+
     from : Stand gains k t ⊎ ((k ≡ nth) × (t ≡ cells)) → Stand (marked_in slot nth gains) k t
     from (inl s) = at s
     from (inr both) = new both.0 both.1
@@ -329,7 +326,8 @@ fresh_stand gains slot cells k t = (
     there = Contains-append_left gains (fresh slot cells ∷ []) s.gain s.there;
     is = s.is;
     marked = s.marked;
-  })
+  },
+)
 
 absent_at : (marks : List (List Bool)) (rows : List Row) (u : List ℕ) → IsAbsent rows u → (k : ℕ)
     (d : List ℕ) → k < length (cells_in (gains_in marks rows))
@@ -376,24 +374,27 @@ noted before now old rows slot nth cells different row low apart some (inr laid)
   some = marked_some slot nth (gains_in now rows) each;
   stand = λ k t.
       let marks = marked_stand (gains_in now rows) slot nth cells (marks_at now slot)
-          (only_gain now rows slot cells different row) (lies_there now rows slot cells row) low k t in
+      (only_gain now rows slot cells different row) (lies_there now rows slot cells row) low k t in
       let stays = fresh_stand (gains_in before old) slot cells k t in
       let here = λ (s : Stand (gains_in now rows) k t). stays.0
-          (subst (λ (gs : List Gain). Stand gs k t) laid.1 s) in
+      (subst (λ (gs : List Gain). Stand gs k t) laid.1 s) in
       let back = λ (s : Stand (gains_in before old) k t).
-          subst (λ (gs : List Gain). Stand gs k t) (sym laid.1) (stays.1 s) in
-      (λ s. elim (marks.0 s) [ inl had ↦ inl (here had) | inr new ↦ inr new ],
-      λ o. elim o [ inl had ↦ marks.1 (inl (back had)) | inr new ↦ marks.1 (inr new) ]);
+      subst (λ (gs : List Gain). Stand gs k t) (sym laid.1) (stays.1 s) in (
+        λ s. elim (marks.0 s) [ inl had ↦ inl (here had) | inr new ↦ inr new ],
+        λ o. elim o [ inl had ↦ marks.1 (inl (back had)) | inr new ↦ marks.1 (inr new) ],
+      );
 }
   where
     each : (g : Gain) → Contains (gains_in now rows) g → ((k : ℕ) × (is_by g k ≡ true))
         ⊎ ((g.slot ≡ slot) × (nth < length g.by))
     each g there = elim (Contains-push_cases (gains_in before old) (fresh slot cells) g
         (subst (λ (gs : List Gain). Contains gs g) laid.1 there)) [
-      | inl had ↦ inl (some g had)
-      | inr new ↦ inr (sym (ap (λ (x : Gain). x.slot) new),
-          subst (λ (by : List Bool). nth < length by) (marks_are g there (sym (ap (λ (x : Gain). x.slot) new))) low)
-    ]
+          | inl had ↦ inl (some g had)
+          | inr new ↦ inr (
+            sym (ap (λ (x : Gain). x.slot) new),
+            subst (λ (by : List Bool). nth < length by) (marks_are g there (sym (ap (λ (x : Gain). x.slot) new))) low,
+          )
+        ]
       where
         marks_are : (h : Gain) → Contains (gains_in now rows) h → h.slot ≡ slot → marks_at now slot ≡ h.by
         marks_are h at is =

@@ -4,7 +4,6 @@ use Rattle.std.proofs.Common.{
   ℕ,
   ◌+◌,
   ◌<◌,
-  ◌≤◌,
   Bool,
   true,
   false,
@@ -51,7 +50,6 @@ use Rattle.djq_lines.specs.declared.answer.Sign.{Sign}
 use Rattle.djq_lines.specs.declared.answer.Sign.TheVariants.{Came}
 use Rattle.djq_machine.specs.Delta.{Change}
 use Rattle.djq_rows.specs.Cells.{cell_of, cells_of, StandFor}
-use Rattle.djq_live.specs.Live.{Live}
 use Rattle.djq_live.specs.Member.{head_types, query_at}
 use Rattle.djq_engine.specs.Kept.{Kept, TellsCells, CellsAre}
 use Rattle.djq_gains.specs.Gains.{told_in, changes_in, count_in}
@@ -117,12 +115,12 @@ told_line k place n width sign cells changes query told low tells =
     let l = q.value in
     let line = slice_index_or changes n none in
     let of_changes = λ (cs : List Change). IsSomeAnd (slice_get cs n)
-        (λ c. (sign ≡ c.sign) × CellsAre k l cells c) in
+    (λ c. (sign ≡ c.sign) × CellsAre k l cells c) in
     let at_place = some_at (query_at k.places place) (λ m. IsSomeAnd (told_in k place)
-        (λ cs. IsSomeAnd (slice_get cs n) (λ c. (sign ≡ c.sign) × CellsAre k m cells c))) l q.is tells in
+    (λ cs. IsSomeAnd (slice_get cs n) (λ c. (sign ≡ c.sign) × CellsAre k m cells c))) l q.is tells in
     let here = some_at (told_in k place) of_changes changes told at_place in
     let stand = some_at (slice_get changes n) (λ c. (sign ≡ c.sign) × CellsAre k l cells c) line
-        (slice_get-get_or changes n none low) here in
+    (slice_get-get_or changes n none low) here in
     let texts = (k.store).texts in
     record {
       is = ap (λ (o : Option (List Change)).
@@ -155,12 +153,15 @@ takes_more old mid new nth tuples n cells before one low is k t = (to, from)
   where
     more : take (n + 1) tuples ≡ take n tuples ++ cells ∷ []
     more = take_more tuples n [] low ∙ ap (λ (c : List ℕ). take n tuples ++ c ∷ []) is
+
     earlier : Contains (take n tuples) t → Contains (take (n + 1) tuples) t
     earlier h = subst (λ (ts : List (List ℕ)). Contains ts t) (sym more)
         (Contains-append_left (take n tuples) (cells ∷ []) t h)
+
     last : t ≡ cells → Contains (take (n + 1) tuples) t
     last e = subst (λ (ts : List (List ℕ)). Contains ts t) (sym more)
         (subst (λ (c : List ℕ). Contains (take n tuples ++ c ∷ []) t) e (Contains-push (take n tuples) t))
+
     to_mid : Stand mid k t → Stand old k t ⊎ ((k ≡ nth) × Contains (take (n + 1) tuples) t)
     to_mid s = by ((before k t).0 s)
       where
@@ -168,6 +169,7 @@ takes_more old mid new nth tuples n cells before one low is k t = (to, from)
             → Stand old k t ⊎ ((k ≡ nth) × Contains (take (n + 1) tuples) t)
         by (inl o) = inl o
         by (inr both) = inr (both.0, earlier both.1)
+
     to : Stand new k t → Stand old k t ⊎ ((k ≡ nth) × Contains (take (n + 1) tuples) t)
     to s = by ((one k t).0 s)
       where
@@ -175,9 +177,11 @@ takes_more old mid new nth tuples n cells before one low is k t = (to, from)
             → Stand old k t ⊎ ((k ≡ nth) × Contains (take (n + 1) tuples) t)
         by (inl m) = to_mid m
         by (inr both) = inr (both.0, last both.1)
+
     there : (k ≡ nth) → Contains (take n tuples) t ⊎ (cells ≡ t) → Stand new k t
     there same (inl h) = (one k t).1 (inl ((before k t).1 (inr (same, h))))
     there same (inr e) = (one k t).1 (inr (same, sym e))
+
     from : Stand old k t ⊎ ((k ≡ nth) × Contains (take (n + 1) tuples) t) → Stand new k t
     from (inl o) = (one k t).1 (inl ((before k t).1 (inl o)))
     from (inr both) = there both.0 (Contains-push_cases (take n tuples) cells t

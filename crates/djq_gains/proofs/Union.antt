@@ -1,21 +1,5 @@
 -- What is told of a union is its delta.
-use Rattle.std.proofs.Common.{
-  ◌≡◌,
-  ◌<◌,
-  Bool,
-  true,
-  false,
-  List,
-  length,
-  map,
-  sym,
-  ap,
-  ap₂,
-  ◌∙◌,
-  subst,
-  rules,
-  arith,
-}
+use Rattle.std.proofs.Common.{◌≡◌, ◌<◌, Bool, true, false, List, length, map, sym, ap, ap₂, ◌∙◌, subst, arith}
 use Rattle.std.specs.Prelude.{Any, All, Contains, slice_index_or}
 use Rattle.std.proofs.lemmas.List.{length-map, get_or-map}
 use Rattle.std.proofs.lemmas.List.Elements.{All-contains, All-weaker, All-map, Contains-get_or}
@@ -42,9 +26,9 @@ moved : (Before After : Tuple → Type 0) (cs : List Change) (t : Tuple) → IsD
     → StandsIn cs t → HasMoved Before After t
 moved Before After cs t delta stands =
     let each : All (λ c. HasMoved Before After c.answer) cs = All-weaker
-        (λ (c : Change). HasChanged Before After c.sign c.answer)
-        (λ (c : Change). HasMoved Before After c.answer)
-        (λ c h. record { sign = c.sign; changed = h }) cs delta.changed in
+    (λ (c : Change). HasChanged Before After c.sign c.answer)
+    (λ (c : Change). HasMoved Before After c.answer)
+    (λ c h. record { sign = c.sign; changed = h }) cs delta.changed in
     All-contains (HasMoved Before After) (map (λ (c : Change). c.answer) cs) t
     (All-map (HasMoved Before After) (λ (c : Change). c.answer) cs each) stands
 
@@ -64,10 +48,12 @@ stands_by : (cs : List Change) (sign : Sign) (t : Tuple)
     → Contains cs (record { sign = sign; answer = t }) → StandsIn cs t
 stands_by cs sign t there =
     let low = there.1 in
-    let long = length-map cs (λ (c : Change). c.answer) in
-    (there.0, omega arith,
-    get_or-map (λ (c : Change). c.answer) cs there.0 (record { sign = sign; answer = t }) t low
-    ∙ ap (λ (c : Change). c.answer) there.2)
+    let long = length-map cs (λ (c : Change). c.answer) in (
+      there.0,
+      omega arith,
+      get_or-map (λ (c : Change). c.answer) cs there.0 (record { sign = sign; answer = t }) t low
+          ∙ ap (λ (c : Change). c.answer) there.2,
+    )
 
 -- where all have a sign, what stands there is there with it
 signed_by : (cs : List Change) (sign : Sign) (t : Tuple) → All (λ c. c.sign ≡ sign) cs
@@ -77,10 +63,12 @@ signed_by cs sign t signed stands =
     let long = length-map cs (λ (c : Change). c.answer) in
     let below : stands.0 < length cs = omega arith in
     let d : Change = record { sign = sign; answer = t } in
-    let answer = sym (get_or-map (λ (c : Change). c.answer) cs stands.0 d t below) ∙ stands.2 in
-    (stands.0, below,
-    ap₂ (λ (s : Sign) (a : Tuple). let c : Change = record { sign = s; answer = a } in c)
-    (signed stands.0 d below) answer)
+    let answer = sym (get_or-map (λ (c : Change). c.answer) cs stands.0 d t below) ∙ stands.2 in (
+      stands.0,
+      below,
+      ap₂ (λ (s : Sign) (a : Tuple). let c : Change = record { sign = s; answer = a } in c)
+          (signed stands.0 d below) answer,
+    )
 
 -- a member changes one way, and this is its delta
 abbrev pub Turns : {M : Type 0} → (M → Tuple → Type 0) → (M → Tuple → Type 0) → (M → List Change)
@@ -109,16 +97,19 @@ of_came {M} Before After delta ms changes turns told = record {
         let turn = turns m there in
         let h = moved (Before m) (After m) (delta m) t turn.1 stands in
         came_by (Before m) (After m) t h.sign turn.0 h.changed
+
     has_come : (t : Tuple) → IsTold After delta ms t
         → Any (λ m. After m t) ms × (Any (λ m. Before m t) ms → ⊥)
     has_come t is =
         let g = is.gained in
-        let there : Contains ms g.1 = (g.0, g.2, g.3) in
-        (some (λ m. After m t) ms g.1 there (gained t g.1 there g.4).0,
-        λ had.
-            let at : Contains ms had.1 = (had.0, had.2, had.3) in
-            All-contains (λ m. (StandsIn (delta m) t → ⊥) → After m t → ⊥) ms had.1 is.alone at
-            (λ stands. (gained t had.1 at stands).1 had.4) ((turns had.1 at).0 t had.4))
+        let there : Contains ms g.1 = (g.0, g.2, g.3) in (
+          some (λ m. After m t) ms g.1 there (gained t g.1 there g.4).0,
+          λ had.
+              let at : Contains ms had.1 = (had.0, had.2, had.3) in
+              All-contains (λ m. (StandsIn (delta m) t → ⊥) → After m t → ⊥) ms had.1 is.alone at
+              (λ stands. (gained t had.1 at stands).1 had.4) ((turns had.1 at).0 t had.4),
+        )
+
     is_told : (t : Tuple) → Any (λ m. After m t) ms → (Any (λ m. Before m t) ms → ⊥)
         → IsTold After delta ms t
     is_told t has new =
@@ -134,6 +125,7 @@ of_came {M} Before After delta ms changes turns told = record {
         stands m there after = stands_by (delta m) Came t
             ((turns m there).1.complete Came t
             (after, none (λ n. Before n t) ms m new there))
+
     by_sign : (sign : Sign) (t : Tuple)
         → HasChanged (λ t. Any (λ m. Before m t) ms) (λ t. Any (λ m. After m t) ms) sign t
         → Contains changes (record { sign = sign; answer = t })
@@ -164,16 +156,19 @@ of_went {M} Before After delta ms changes turns told = record {
         let turn = turns m there in
         let h = moved (Before m) (After m) (delta m) t turn.1 stands in
         went_by (Before m) (After m) t h.sign turn.0 h.changed
+
     has_gone : (t : Tuple) → IsTold After delta ms t
         → Any (λ m. Before m t) ms × (Any (λ m. After m t) ms → ⊥)
     has_gone t is =
         let g = is.gained in
-        let there : Contains ms g.1 = (g.0, g.2, g.3) in
-        (some (λ m. Before m t) ms g.1 there (lost t g.1 there g.4).0,
-        λ has.
-            let at : Contains ms has.1 = (has.0, has.2, has.3) in
-            All-contains (λ m. (StandsIn (delta m) t → ⊥) → After m t → ⊥) ms has.1 is.alone at
-            (λ stands. (lost t has.1 at stands).1 has.4) has.4)
+        let there : Contains ms g.1 = (g.0, g.2, g.3) in (
+          some (λ m. Before m t) ms g.1 there (lost t g.1 there g.4).0,
+          λ has.
+              let at : Contains ms has.1 = (has.0, has.2, has.3) in
+              All-contains (λ m. (StandsIn (delta m) t → ⊥) → After m t → ⊥) ms has.1 is.alone at
+              (λ stands. (lost t has.1 at stands).1 has.4) has.4,
+        )
+
     is_told : (t : Tuple) → Any (λ m. Before m t) ms → (Any (λ m. After m t) ms → ⊥)
         → IsTold After delta ms t
     is_told t had gone =
@@ -185,6 +180,7 @@ of_went {M} Before After delta ms changes turns told = record {
           alone = λ k d low not after.
               none (λ n. After n t) ms (slice_index_or ms k d) gone (Contains-get_or ms k d low) after;
         }
+
     by_sign : (sign : Sign) (t : Tuple)
         → HasChanged (λ t. Any (λ m. Before m t) ms) (λ t. Any (λ m. After m t) ms) sign t
         → Contains changes (record { sign = sign; answer = t })

@@ -5,30 +5,39 @@ use Rattle.std.specs.Prelude.{
   ◌≤◌,
   ◌||◌,
   ◌&&◌,
+  ◌==◌,
   ℕ,
   Bool,
   true,
-  false,
   not,
   List,
   [],
   ◌∷◌,
-  Option,
   None,
   Some,
   length,
   map,
   filter,
+  sum_by,
   Contains,
   slice_get,
 }
+use Rattle.std.specs.List.{list_any}
 use Rattle.djq_cursor.specs.declared.log.Line.{Line}
 use Rattle.djq_rows.specs.Cells.{cells_of}
 use Rattle.djq_live.specs.Live.{Live}
 use Rattle.djq_live.specs.Member.{has_cells, in_tree}
 use Rattle.djq_engine.specs.Kept.{Kept}
-use Rattle.djq_gains.specs.Gains.{told_in, changes_in, is_among, count_of}
-use Rattle.djq_gains.specs.Gathered.{Gain, Gathered, Stand}
+use Rattle.djq_gains.specs.Gains.{told_in, changes_in, count_in}
+use Rattle.djq_gains.specs.Gathered.{Gain, Stand}
+
+-- whether a place is among these
+abbrev pub is_among : List ℕ → ℕ → Bool
+is_among places i = list_any (λ j. j == i) places
+
+-- how many answers are told of those members that were touched
+abbrev pub count_of : Kept → List ℕ → List ℕ → ℕ
+count_of k members touched = sum_by (count_in k) (filter (is_among touched) members)
 
 -- the cells of the answers that are told of the query in a place
 abbrev pub cells_told : Kept → ℕ → List (List ℕ)

@@ -1,6 +1,6 @@
 -- What is told of a union, whose members' answers changed. Members are of any type, `After` says which
 -- answers a member has now, and `delta` how they changed.
-use Rattle.std.specs.Prelude.{◌≡◌, ℕ, Bool, true, false, List, map, Any, All, Contains}
+use Rattle.std.specs.Prelude.{◌≡◌, Bool, true, false, List, map, Any, All, Contains}
 use Rattle.djq_model.specs.Data.{Tuple}
 use Rattle.djq_model.specs.Answer.{AreDifferent}
 use Rattle.djq_machine.specs.Delta.{Change}

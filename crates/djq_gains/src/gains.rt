@@ -1,7 +1,41 @@
-ghost use Rattle.std.specs.Prelude.{◌≡◌, ◌↔◌, ◌⊎◌, ℕ, ◌+◌, ◌<◌, ◌≤◌, List, [], ◌∷◌, ◌++◌, length, map, slice_set, vec_len, vec_capacity, IfOk, OnErr, Contains};
+ghost use Rattle.std.specs.Prelude.{
+  ◌≡◌,
+  ◌↔◌,
+  ◌⊎◌,
+  ℕ,
+  ◌+◌,
+  ◌<◌,
+  ◌≤◌,
+  List,
+  [],
+  ◌∷◌,
+  ◌++◌,
+  length,
+  map,
+  slice_set,
+  vec_len,
+  vec_capacity,
+  IfOk,
+  OnErr,
+  Contains,
+};
 ghost use Rattle.djq_arena.specs.Chains.{first_of};
 ghost use Rattle.djq_arena.specs.Rows.{Row, AreRows, IsAbsent, IsRow, slots};
-ghost use Rattle.djq_gains.specs.Gathered.{Gain, Stand, AreApart, StandSomewhere, marks_at, unmarked, gains_in, slots_in, is_by, marked_in, IsIn, AtSlot, Seats};
+ghost use Rattle.djq_gains.specs.Gathered.{
+  Gain,
+  Stand,
+  AreApart,
+  StandSomewhere,
+  marks_at,
+  unmarked,
+  gains_in,
+  slots_in,
+  is_by,
+  marked_in,
+  IsIn,
+  AtSlot,
+  Seats,
+};
 
 use djq_arena::Arena;
 use djq_reduct::Cells;
@@ -48,19 +82,18 @@ fn unmark(marks: &mut Vec<[bool; 8]>, slot: u32)
 }
 
 // Lays a tuple into a slot, which has no mark. Where there is no memory, all stays as it was.
-fn lay(
-    tuples: &mut Arena,
-    marks: &mut Vec<[bool; 8]>,
-    cells: &[u64],
-) -> Result<u32, AllocError>
+fn lay(tuples: &mut Arena, marks: &mut Vec<[bool; 8]>, cells: &[u64]) -> Result<u32, AllocError>
     requires wide { length cells.now ≡ tuples.old.width }
     requires room { tuples.old.room ≤ length marks.old.items }
     ensures width { tuples.new.width ≡ tuples.old.width }
     ensures room { tuples.new.room ≤ length marks.new.items }
-    ensures laid { IfOk result (λ slot. tuples.new.rows ≡ tuples.old.rows ++ record { slot = slot; cells = cells.now } ∷ []) }
+    ensures laid { IfOk result (λ slot. tuples.new.rows
+        ≡ tuples.old.rows ++ record { slot = slot; cells = cells.now } ∷ []) }
     ensures gained { IfOk result (λ slot. gains_in marks.new.items tuples.new.rows
-        ≡ gains_in marks.old.items tuples.old.rows ++ record { slot = slot; cells = cells.now; by = unmarked } ∷ []) }
-    ensures refused { OnErr result (gains_in marks.new.items tuples.new.rows ≡ gains_in marks.old.items tuples.old.rows) }
+        ≡ gains_in marks.old.items tuples.old.rows
+        ++ record { slot = slot; cells = cells.now; by = unmarked } ∷ []) }
+    ensures refused { OnErr result (gains_in marks.new.items tuples.new.rows
+        ≡ gains_in marks.old.items tuples.old.rows) }
 {
     if tuples.len() >= 4294967295 {
         return Err(AllocError);
@@ -73,19 +106,17 @@ fn lay(
 }
 
 // The slot where a tuple lies; it is laid where there is none.
-fn seat(
-    tuples: &mut Arena,
-    marks: &mut Vec<[bool; 8]>,
-    cells: &[u64],
-) -> Result<u32, AllocError>
+fn seat(tuples: &mut Arena, marks: &mut Vec<[bool; 8]>, cells: &[u64]) -> Result<u32, AllocError>
     requires wide { length cells.now ≡ tuples.old.width }
     requires room { tuples.old.room ≤ length marks.old.items }
     ensures width { tuples.new.width ≡ tuples.old.width }
     ensures room { tuples.new.room ≤ length marks.new.items }
     ensures rows { IfOk result (λ slot. IsRow tuples.new.rows slot cells.now) }
-    ensures seated { IfOk result (λ slot. Seats tuples.old.rows (gains_in marks.old.items tuples.old.rows) slot cells.now
+    ensures seated { IfOk result (λ slot. Seats tuples.old.rows
+        (gains_in marks.old.items tuples.old.rows) slot cells.now
         (gains_in marks.new.items tuples.new.rows)) }
-    ensures refused { OnErr result (gains_in marks.new.items tuples.new.rows ≡ gains_in marks.old.items tuples.old.rows) }
+    ensures refused { OnErr result (gains_in marks.new.items tuples.new.rows
+        ≡ gains_in marks.old.items tuples.old.rows) }
 {
     match tuples.find(cells) {
         Some(slot) => Ok(slot),
@@ -97,7 +128,8 @@ fn seat(
 fn mark(marks: &mut Vec<[bool; 8]>, slot: u32, nth: usize)
     requires slot { slot < length marks.old.items }
     requires nth { nth < 8 }
-    ensures marked { (rows : List Row) → gains_in marks.new.items rows ≡ marked_in slot nth (gains_in marks.old.items rows) }
+    ensures marked { (rows : List Row) → gains_in marks.new.items rows
+        ≡ marked_in slot nth (gains_in marks.old.items rows) }
     ensures eight { length (marks_at marks.old.items slot) ≡ 8 }
     ensures long { length marks.new.items ≡ length marks.old.items }
 {

@@ -1,8 +1,23 @@
-ghost use Rattle.std.specs.Prelude.{◌≡◌, ◌↔◌, ◌⊎◌, ◌+◌, ◌<◌, ◌≤◌, ℕ, List, None, IfOk, IsSomeAnd, Contains, length, slice_get};
+ghost use Rattle.std.specs.Prelude.{
+  ◌≡◌,
+  ◌↔◌,
+  ◌⊎◌,
+  ◌+◌,
+  ◌<◌,
+  ◌≤◌,
+  ℕ,
+  List,
+  None,
+  IfOk,
+  IsSomeAnd,
+  Contains,
+  length,
+  slice_get,
+};
 ghost use Rattle.djq_live.specs.Member.{head_types, query_at, queries_at, HaveQueries};
-ghost use Rattle.djq_gains.specs.Gains.{AreAlike, AtFirst, is_among, told_in, count_in};
+ghost use Rattle.djq_gains.specs.Gains.{AreAlike, AtFirst, told_in, count_in};
 ghost use Rattle.djq_gains.specs.Gathered.{Stand};
-ghost use Rattle.djq_gains.specs.Gathering.{cells_told, Gathers};
+ghost use Rattle.djq_gains.specs.Gathering.{cells_told, is_among, Gathers};
 
 use crate::gains::Gains;
 use djq_engine::{Cells, Engine, QueryId};

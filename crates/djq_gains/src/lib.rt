@@ -5,8 +5,8 @@
 //! answer is told where it stands in some member's delta, and no member in whose delta it doesn't stand
 //! has it now. Of answers that came, such a member had it before; and what a member still has didn't go.
 //!
-//! It keeps nothing between two calls, and knows no session and no name. It offers no order of the lines
-//! but that they came in from the members.
+//! It keeps nothing between two calls, and knows no session and no name. It promises no order of the
+//! lines.
 //!
 //! What surprises: nothing is asked of the members as they were before the change. A member that has an
 //! answer which isn't in its delta had it before, too, so the tables as they are suffice; and the rule
@@ -25,7 +25,7 @@
 //! changes it is the delta.
 //!
 //! Inside, the different answers of the members' deltas are gathered in an arena, each with the members
-//! in whose deltas it stands ([`gains`]): one insertion a line. Then each is tested with the other members,
+//! in whose deltas it stands (`gains`): one insertion a line. Then each is tested with the other members,
 //! as far as one that has it.
 #![tactic(auto)]
 

@@ -1,8 +1,26 @@
-ghost use Rattle.std.specs.Prelude.{◌≡◌, ◌+◌, ◌*◌, ◌<◌, ◌≤◌, ◌++◌, ◌∷◌, [], ℕ, true, false, None, All, Contains, length, sum_by};
+ghost use Rattle.std.specs.Prelude.{
+  ◌≡◌,
+  ◌+◌,
+  ◌*◌,
+  ◌<◌,
+  ◌≤◌,
+  ◌++◌,
+  ◌∷◌,
+  [],
+  ℕ,
+  true,
+  false,
+  None,
+  All,
+  AllPairs,
+  Contains,
+  length,
+  sum_by,
+};
 ghost use Rattle.djq_machine.specs.Store.{atoms_of};
 ghost use Rattle.djq_live.specs.Live.{IsKeptSomewhere};
 ghost use Rattle.djq_live.specs.Member.{queries_at, HaveQueries};
-ghost use Rattle.djq_gains.specs.Gains.{AreAlike, AtFirst, TellUnion, members_at, told_in, is_among, count_of};
+ghost use Rattle.djq_gains.specs.Gains.{AreAlike, AtFirst, TellUnion, members_at, told_in, count_in};
 ghost use Rattle.djq_gains.specs.Gathered.{IsIn, AtSlot};
 ghost use Rattle.djq_gains.specs.Gathering.{is_told, lines_of, asks_of, IsFirst};
 
@@ -10,7 +28,9 @@ use crate::gains::Gains;
 use crate::gather::gather;
 use djq_cursor::DeltaLog;
 use djq_engine::{Answer, Cells, Engine};
-use djq_live::{LiveQuery, QueriesAt, answers_are_had, cells_in_tree_stand, cells_tell_values, head_types_are};
+use djq_live::{
+    QueriesAt, answers_are_had, cells_in_tree_stand, cells_tell_values, head_types_are,
+};
 use djq_steps::Tally;
 use djq_union::{Listing, Members};
 use std::alloc::Global;
@@ -35,7 +55,7 @@ fn is_alone<L: Ledger>(
         + sum_by asks_of (queries_at group.now.queries.now group.now.places.now) }
 {
     for nth in 0..group.count() {
-        if !gains.stands_in(slot, nth) && group.member(nth).has(cells, listing) {
+        if !gains.stands_in(slot, nth) && Listing::has(group.member(nth), cells, listing) {
             return false;
         }
     }
@@ -110,9 +130,9 @@ fn tell<L: Ledger>(
 
 /// Tells how a union's answers changed, from how its members' did: lists into the log, which is cleared
 /// first, the answers of the union that came, or those that went. The members are named by their
-/// places, and so are the queries, members or not, that read a relation that changed.
+/// places, and so are those of them that were touched, as they read a relation that changed.
 ///
-/// Where the log of such a member is lost, or memory is refused, the union's log is lost. It counts at
+/// Where the log of one of these is lost, or memory is refused, the union's log is lost. It counts at
 /// most one test with all members for each answer that came to one of them, or went.
 pub fn tell_gains<L: Ledger>(
     alloc: Global,
@@ -125,12 +145,14 @@ pub fn tell_gains<L: Ledger>(
 )
     requires queries { HaveQueries engine.now.places members.now }
     requires some { 0 < length members.now }
+    requires differ { AllPairs (λ j k. j ≡ k → ⊥) members.now }
     requires alike { AreAlike (queries_at engine.now.places members.now) }
+    requires among { All (Contains members.now) touched.now }
     ensures tells { log.new.lost ≡ false → AtFirst engine.now members.now
         (TellUnion engine.now members.now touched.now came log.new.lines) }
-    ensures lost { (i : ℕ) → Contains members.now i → is_among touched.now i ≡ true
-        → told_in engine.now i ≡ None → log.new.lost ≡ true }
-    ensures counted { listing.new ≤ listing.old + count_of engine.now members.now touched.now
+    ensures lost { (i : ℕ) → Contains touched.now i → told_in engine.now i ≡ None
+        → log.new.lost ≡ true }
+    ensures counted { listing.new ≤ listing.old + sum_by (count_in engine.now) touched.now
         * atoms_of (members_at engine.now members.now) }
 {
     head_types_are();

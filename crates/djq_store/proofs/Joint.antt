@@ -365,7 +365,7 @@ module _ (e : Kept) (b : IsEngine e) (us : List (Option Joined)) (order sessions
       let s = seat_there in
       let is = member_counted s in
       let some = count_positive (wants (get_or j.union.members i 0)) us k (slot_below us k j there)
-          (ap (wants (get_or j.union.members i 0)) there ∙ ap (λ b. b && is_reader j.union.members (get_or j.union.members i 0)) (lt-ltb 0 j.watchers was) ∙ reads j.union.members i low) in
+      (ap (wants (get_or j.union.members i 0)) there ∙ ap (λ b. b && is_reader j.union.members (get_or j.union.members i 0)) (lt-ltb 0 j.watchers was) ∙ reads j.union.members i low) in
       subst (λ (o : Option Registered). IsSomeAnd o (λ r. 0 < r.watchers)) (sym s.found) (omega (arith, is, some))
     where
       reads : (xs : List ℕ) (i : ℕ) → i < length xs → is_reader xs (get_or xs i 0) ≡ true

@@ -30,10 +30,10 @@ pub mod Doing
 pub mod Rowing
 pub mod Rowed
 pub mod Answering
+pub mod Counted
+pub mod Together
+pub mod Joint
 pub mod Related
 pub mod Grown
 pub mod Batched
 pub mod Lined
-pub mod Counted
-pub mod Together
-pub mod Joint

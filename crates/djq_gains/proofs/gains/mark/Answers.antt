@@ -8,7 +8,7 @@ pub returns-clause-marked : goal.returns-clause-marked
 returns-clause-marked c =
     let marks = c.args.marks.now.items in
     let is : c.index_mut.result.now ≡ marks_at marks c.args.slot =
-        get_or_read marks _ _ c.requires.slot c.index_mut.ensures.value [] in
+    get_or_read marks _ _ c.requires.slot c.index_mut.ensures.value [] in
     λ rows. ap (λ (by : List Bool).
     gains_in (slice_set marks c.args.slot (slice_set by c.args.nth true)) rows) is
     ∙ marked_rows marks c.args.slot c.args.nth rows c.requires.slot

@@ -1,10 +1,10 @@
-use Rattle.std.proofs.Common.{◌≡◌, ℕ, ◌+◌, ◌<◌, ◌≤◌, true, false, Option, Some, List, length, refl, sym, ap, ◌∙◌, subst, arith}
-use Rattle.std.specs.Prelude.{IsSomeAnd, slice_get, slice_index_or}
+use Rattle.std.proofs.Common.{◌≡◌, ℕ, ◌+◌, ◌<◌, ◌≤◌, Option, Some, List, length, sym, ap, ◌∙◌, subst, arith}
+use Rattle.std.specs.Prelude.{slice_get}
 use Rattle.djq_live.specs.Live.{Live, IsKeptSomewhere}
 use Rattle.djq_live.specs.Member.{queries_at}
 use Rattle.djq_live.proofs.AtPlaces.{as_many}
 use Rattle.djq_gains.specs.Gains.{AtFirst}
-use Rattle.djq_gains.specs.Gathered.{Gain, Gathered}
+use Rattle.djq_gains.specs.Gathered.{Gathered}
 use Rattle.djq_gains.proofs.Collecting.{Collects, collects_none, collects_touched, collects_other, collects_all}
 use Rattle.djq_gains.proofs.Members.{and_so, all_got, all_kept, wide_member}
 use Rattle.djq_gains.proofs.gather.gather.Goals as goal
@@ -22,9 +22,9 @@ pub loop-nth-init : goal.loop-nth-init
 loop-nth-init c =
     let is = sym c.in_ok-gains.ensures in
     let first = subst (λ (qs : List (Option Live)). slice_get (queries_at qs c.args.members.now) 0
-        ≡ Some c.member.result.now) c.places.ensures c.member.ensures in
+    ≡ Some c.member.result.now) c.places.ensures c.member.ensures in
     let kept = all_got IsKeptSomewhere (queries_at c.args.engine.now.places c.args.members.now) 0 c.member.result.now
-        (all_kept c.args.engine.now c.laws.ensures.over c.args.members.now) first in
+    (all_kept c.args.engine.now c.laws.ensures.over c.args.members.now) first in
     record {
       collects = subst (λ (g : Gathered). Collects c.args.engine.now c.args.members.now
           c.args.touched.now 0 g.gains) is

@@ -1,12 +1,11 @@
-use Rattle.std.proofs.Common.{◌≡◌, ℕ, ◌<◌, ◌≤◌, List, [], length, take, refl, sym, ◌∙◌, subst, arith}
+use Rattle.std.proofs.Common.{◌≡◌, ℕ, List, length, refl, sym, ◌∙◌, subst, arith}
 use Rattle.std.specs.Prelude.{IsSome, IsSomeAnd}
 use Rattle.std.proofs.lemmas.List.{take_all}
 use Rattle.djq_live.specs.Live.{Live}
 use Rattle.djq_live.specs.Member.{head_types, query_at}
 use Rattle.djq_engine.specs.Kept.{Kept, AreListed, registered_at}
 use Rattle.djq_engine.specs.Lending.{sign_of}
-use Rattle.djq_gains.specs.Gains.{told_in, changes_in}
-use Rattle.djq_gains.specs.Gathered.{Gain}
+use Rattle.djq_gains.specs.Gains.{told_in}
 use Rattle.djq_gains.specs.Gathering.{cells_told}
 use Rattle.djq_gains.proofs.Taking.{
   some_with,
@@ -63,7 +62,7 @@ returns-in_err-note-clause-width c = c.note.ensures.width ∙ c.loop-line.invari
 pub loop-line-preserved : goal.loop-line-preserved
 loop-line-preserved c =
     let told = counted (told_in c.args.engine.now c.args.place) c.in-Some.len
-        (sym c.in-Some.is ∙ c.delta_len.ensures) in
+    (sym c.in-Some.is ∙ c.delta_len.ensures) in
     let long = told_long c.args.engine.now c.args.place told.changes told.is in
     let as_long = told.long in
     let low = c.loop-line-test.true in

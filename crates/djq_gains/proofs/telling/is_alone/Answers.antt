@@ -1,17 +1,19 @@
-use Rattle.std.proofs.Common.{◌≡◌, ℕ, ◌+◌, ◌<◌, ◌≤◌, true, false, List, length, take, sum_by, slice_index_or, sym, ap, ◌∙◌, subst, inl, inr, arith}
-use Rattle.std.specs.Prelude.{Some, slice_get}
+use Rattle.std.proofs.Common.{sym, ap, ◌∙◌, inl, inr, arith}
 use Rattle.std.proofs.lemmas.Bool.{false≢true}
 use Rattle.std.proofs.lemmas.Option.{slice_get_within, get_or_from_slice_get}
-use Rattle.std.proofs.lemmas.List.Sums.{sum_by_more, sum_by_more_le, sum_by-take-le}
+use Rattle.std.proofs.lemmas.List.Sums.{sum_by_more, sum_by_more_le}
 use Rattle.djq_live.specs.Live.{Live, IsKeptSomewhere}
 use Rattle.djq_live.specs.Member.{has_cells, queries_at}
-use Rattle.djq_gains.specs.Gathered.{Gain, is_by}
+use Rattle.djq_gains.specs.Gathered.{is_by}
 use Rattle.djq_gains.specs.Gathering.{asks_of}
 use Rattle.djq_gains.proofs.Alone.{alone_true, alone_false, take_more_le}
 use Rattle.djq_gains.proofs.Collecting.{last_or_less}
 use Rattle.djq_gains.proofs.Members.{all_got, same_at}
 use Rattle.djq_gains.proofs.telling.is_alone.Goals as goal
-use Rattle.djq_gains.proofs.telling.is_alone.Goals.{else-not-stands_in-via-then-not-stands_in+else-has, else-not-stands_in-via-else-not-stands_in}
+use Rattle.djq_gains.proofs.telling.is_alone.Goals.{
+  else-not-stands_in-via-then-not-stands_in+else-has,
+  else-not-stands_in-via-else-not-stands_in,
+}
 
 pub loop-nth-init : goal.loop-nth-init
 loop-nth-init g c = record {

@@ -1,9 +1,8 @@
-use Rattle.std.proofs.Common.{◌≡◌, ℕ, ◌+◌, ◌*◌, ◌≤◌, List, Option, Some, length, sum_by, sym, ap, ◌∙◌, subst, arith}
+use Rattle.std.proofs.Common.{ℕ, ◌+◌, ◌*◌, ◌≤◌, Option, sum_by, sym, ◌∙◌, subst, arith}
 use Rattle.std.proofs.Math.Nat.{add-mul, one-mul}
-use Rattle.djq_live.specs.Live.{Live}
 use Rattle.djq_live.specs.Member.{queries_at}
 use Rattle.djq_gains.specs.Gathering.{asks_of}
-use Rattle.djq_gains.proofs.Lining.{Telling, cut_at, lies_at, tells_more, tells_none, tells_all}
+use Rattle.djq_gains.proofs.Lining.{Telling, cut_at, lies_at, tells_more, tells_all}
 use Rattle.djq_gains.proofs.telling.tell.Goals as goal
 
 pub tell_one-requires-clause-lies : goal.tell_one-requires-clause-lies

@@ -1,10 +1,9 @@
-use Rattle.std.proofs.Common.{◌≡◌, ℕ, ◌<◌, ◌≤◌, ◌++◌, ◌∷◌, [], true, false, List, length, refl, sym, ap, ◌∙◌, subst, arith}
+use Rattle.std.proofs.Common.{◌≡◌, ℕ, ◌++◌, ◌∷◌, List, length, sym, ap, ◌∙◌, subst, arith}
 use Rattle.std.specs.Prelude.{Contains}
-use Rattle.djq_live.specs.Live.{Live, IsKeptSomewhere}
+use Rattle.djq_live.specs.Live.{IsKeptSomewhere}
 use Rattle.djq_live.specs.Member.{queries_at}
 use Rattle.djq_live.proofs.AtPlaces.{as_many}
 use Rattle.djq_gains.specs.Gathered.{Gain}
-use Rattle.djq_gains.specs.Gathering.{lines_of}
 use Rattle.djq_gains.proofs.Lists.{middle}
 use Rattle.djq_gains.proofs.Members.{all_got}
 use Rattle.djq_gains.proofs.telling.tell_one.Goals as goal
@@ -21,7 +20,7 @@ from_slice-cells-requires g c =
     let lies = c.requires.lies in
     let narrow = c.requires.narrow in
     let wide = wide_by c.args.gains.now.gains c.args.gains.now.width lies.front lies.gain lies.back
-        (λ q there. c.laws.ensures.wide q there) lies.is in
+    (λ q there. c.laws.ensures.wide q there) lies.is in
     let is = ap (λ (u : List ℕ). length u) (c.cells.ensures lies.front lies.gain lies.back lies.is lies.at) in
     omega arith
 

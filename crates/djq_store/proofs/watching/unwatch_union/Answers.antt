@@ -97,5 +97,5 @@ returns-clause-watches c =
     let is = old_is old.engine old.unions.items old.order.items old.sessions.items old.affected.items c.requires.whole.listed c.requires.whole.counted c.args.slot (λ n. n - 1) c.ignore-2.new.unions.items m j found in
     let same : m.old.watchers ≡ j.watchers = ap (λ (x : Joined). x.watchers) is in
     subst (λ (x : Kept). seen x c.ignore-2.new.unions.items old.order.items old.sessions.items old.affected.items
-        ≡ record (kept_in old) { registered = with_watchers (id_at (256 + c.args.slot)) (λ n. n - 1) (kept_in old).registered }) (sym c.unwatch_members.ensures)
+    ≡ record (kept_in old) { registered = with_watchers (id_at (256 + c.args.slot)) (λ n. n - 1) (kept_in old).registered }) (sym c.unwatch_members.ensures)
     (on_seen old.engine old.unions.items old.order.items old.sessions.items old.affected.items c.requires.whole.listed c.requires.whole.counted c.args.slot (λ n. n - 1) c.ignore-2.new.unions.items m (with_all (λ n. n - 1) c.members.result.now old.engine.registered))

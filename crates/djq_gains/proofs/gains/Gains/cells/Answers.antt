@@ -1,4 +1,4 @@
-use Rattle.std.proofs.Common.{ℕ, List, ap, sym, subst, ◌∙◌}
+use Rattle.std.proofs.Common.{ap, sym, subst, ◌∙◌}
 use Rattle.djq_gains.specs.Gathered.{Gain, Gathered, IsIn}
 use Rattle.djq_gains.proofs.Noting.{cut_rows, held_by}
 use Rattle.djq_gains.proofs.gains.Gains.cells.Goals as goal
@@ -11,6 +11,6 @@ cells-requires c =
 pub returns : goal.returns
 returns c xs g ys is at =
     let cut = cut_rows c.self.inside.marks.items c.self.inside.tuples.rows xs g ys
-        (ap (λ (a : Gathered). a.gains) c.self.view_is ∙ is) in
+    (ap (λ (a : Gathered). a.gains) c.self.view_is ∙ is) in
     c.cells.ensures cut.before cut.row cut.behind cut.is (ap (λ (a : Gain). a.slot) cut.gain ∙ at)
     ∙ ap (λ (a : Gain). a.cells) cut.gain

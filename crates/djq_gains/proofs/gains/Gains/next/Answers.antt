@@ -13,7 +13,7 @@ pub returns : goal.returns
 returns c xs g ys is at =
     let marks = c.self.inside.marks.items in
     let cut = cut_rows marks c.self.inside.tuples.rows xs g ys
-        (ap (λ (a : Gathered). a.gains) c.self.view_is ∙ is) in
+    (ap (λ (a : Gathered). a.gains) c.self.view_is ∙ is) in
     c.next.ensures cut.before cut.row cut.behind cut.is (ap (λ (a : Gain). a.slot) cut.gain ∙ at)
     ∙ ap (λ (ns : List ℕ). first_of ns) (sym (slots_are marks cut.behind))
     ∙ ap (λ (gs : List Gain). first_of (slots_in gs)) cut.rest

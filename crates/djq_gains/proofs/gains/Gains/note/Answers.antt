@@ -15,7 +15,7 @@ is_noted : (c : goal.After-mark) → IsNoted (gains_in c.self.inside.marks.items
     (marked_in c.in_ok-slot.slot c.args.nth (gains_in c.seat.new.marks.items c.seat.new.tuples.rows))
 is_noted c =
     let low : c.args.nth < length (marks_at c.seat.new.marks.items c.in_ok-slot.slot) =
-        omega (arith, c.mark.ensures.eight, c.requires.nth) in
+    omega (arith, c.mark.ensures.eight, c.requires.nth) in
     noted c.self.inside.marks.items c.seat.new.marks.items c.self.inside.tuples.rows
     c.seat.new.tuples.rows c.in_ok-slot.slot c.args.nth c.as_slice.result.now
     c.laws.ensures.different c.in_ok-slot.ensures.rows low
@@ -24,9 +24,11 @@ is_noted c =
 pub invariant_of-self-2 : goal.invariant_of-self-2
 invariant_of-self-2 c =
     let n = is_noted c in
-    let is = sym (c.mark.ensures.marked c.seat.new.tuples.rows) in
-    (omega (arith, c.seat.ensures.room, c.mark.ensures.long),
-    subst AreApart is n.apart, subst StandSomewhere is n.some)
+    let is = sym (c.mark.ensures.marked c.seat.new.tuples.rows) in (
+      omega (arith, c.seat.ensures.room, c.mark.ensures.long),
+      subst AreApart is n.apart,
+      subst StandSomewhere is n.some,
+    )
 
 pub returns-clause-stand : goal.returns-clause-stand
 returns-clause-stand c k t =

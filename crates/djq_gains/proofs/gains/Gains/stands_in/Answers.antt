@@ -15,7 +15,7 @@ below marks a slot are lies =
 pub index-requires : goal.index-requires
 index-requires c =
     let low = below c.self.inside.marks.items c.self.inside.tuples c.args.slot c.laws.ensures.below
-        (subst (λ (a : Gathered). IsIn a.gains c.args.slot) (sym c.self.view_is) c.requires.slot) in
+    (subst (λ (a : Gathered). IsIn a.gains c.args.slot) (sym c.self.view_is) c.requires.slot) in
     let room = c.self.invariant.0 in
     omega (arith, low)
 
@@ -23,11 +23,11 @@ pub returns : goal.returns
 returns c xs g ys is at =
     let marks = c.self.inside.marks.items in
     let cut = cut_rows marks c.self.inside.tuples.rows xs g ys
-        (ap (λ (a : Gathered). a.gains) c.self.view_is ∙ is) in
+    (ap (λ (a : Gathered). a.gains) c.self.view_is ∙ is) in
     let low = below c.self.inside.marks.items c.self.inside.tuples c.args.slot c.laws.ensures.below
-        (subst (λ (a : Gathered). IsIn a.gains c.args.slot) (sym c.self.view_is) c.requires.slot) in
+    (subst (λ (a : Gathered). IsIn a.gains c.args.slot) (sym c.self.view_is) c.requires.slot) in
     let room = c.self.invariant.0 in
     let by : c.index.result.now ≡ marks_at marks c.args.slot =
-        get_or_read marks _ _ (omega (arith, low)) c.index.ensures [] in
+    get_or_read marks _ _ (omega (arith, low)) c.index.ensures [] in
     ap (λ (b : List Bool). slice_index_or b c.args.nth false)
     (by ∙ ap (marks_at marks) (sym (ap (λ (a : Gain). a.slot) cut.gain ∙ at)) ∙ ap (λ (a : Gain). a.by) cut.gain)
