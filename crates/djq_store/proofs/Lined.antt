@@ -38,7 +38,7 @@ module _ (e : Kept) (b : IsEngine e) (us : List (Option Joined)) (order sessions
     lent : first_member e.places j.union ≡ Some first.query
     lent = first.first
 
-    changes : List Change
+    abbrev changes : List Change
     changes = map (change_of (e.store).texts first.query) j.log.lines
 
     told_union : told_at now id ≡ cond j.log.lost None (Some changes)
@@ -55,7 +55,7 @@ module _ (e : Kept) (b : IsEngine e) (us : List (Option Joined)) (order sessions
         by : (lost : Bool) → cond lost None (Some (length j.log.lines))
             ≡ option_map (λ (cs : List Change). length cs) (cond lost None (Some changes))
         by true = refl
-        by false = ap (λ (n : ℕ). Some n) (sym (length-map (change_of (e.store).texts first.query) j.log.lines))
+        by false = ap (λ (n : ℕ). Some n) (sym (length-map j.log.lines (change_of (e.store).texts first.query)))
 
     module _ (nth : ℕ) (within : IsSomeAnd (told_at now id) (λ cs. nth < length cs)) where
       kept_log : (lost : Bool) → IsSomeAnd (cond lost None (Some changes)) (λ cs. nth < length cs) → lost ≡ false
@@ -70,7 +70,7 @@ module _ (e : Kept) (b : IsEngine e) (us : List (Option Joined)) (order sessions
 
       pub line_there : nth < length j.log.lines
       line_there =
-          subst (λ (n : ℕ). nth < n) (length-map (change_of (e.store).texts first.query) j.log.lines)
+          subst (λ (n : ℕ). nth < n) (length-map j.log.lines (change_of (e.store).texts first.query))
           (subst (λ (o : Option (List Change)). IsSomeAnd o (λ cs. nth < length cs)) told_all within)
 
       at_first : (P : Live → Type 0) → P first.query → AtPlace e (id_at (get_or j.union.members 0 0)) P
