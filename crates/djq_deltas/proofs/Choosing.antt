@@ -1,8 +1,37 @@
 -- The answers of a query, each from a choice of a row for each atom.
-use Rattle.std.specs.Prelude.{ℕ, suc, List, [], ◌∷◌, ◌≡◌, ◌+◌, ◌*◌, ◌≤◌, ◌++◌, ◌⊎◌, Bool, true, false, cond, pos, length, map, All, Any, Contains}
+use Rattle.std.specs.Prelude.{
+  ℕ,
+  suc,
+  List,
+  [],
+  ◌∷◌,
+  ◌≡◌,
+  ◌+◌,
+  ◌*◌,
+  ◌≤◌,
+  ◌++◌,
+  ◌⊎◌,
+  Bool,
+  true,
+  false,
+  cond,
+  pos,
+  length,
+  map,
+  All,
+  Any,
+  Contains,
+}
 use Rattle.std.proofs.Common.{refl, sym, ap, ap₂, ◌∙◌, subst, inl, inr, length-append, arith}
 use Rattle.std.proofs.lemmas.List.{length-map}
-use Rattle.std.proofs.lemmas.List.Elements.{All-head, All-tail, All-weaker, All-contains, Contains-append_left, Contains-append_right}
+use Rattle.std.proofs.lemmas.List.Elements.{
+  All-head,
+  All-tail,
+  All-weaker,
+  All-contains,
+  Contains-append_left,
+  Contains-append_right,
+}
 use Rattle.djq_model.specs.declared.value.Value.{Value}
 use Rattle.djq_model.specs.declared.value.Value.TheVariants.{Int}
 use Rattle.djq_model.specs.declared.relation.Relation.{Relation}
@@ -16,7 +45,17 @@ use Rattle.djq_model.specs.Listed.{a_query, a_union}
 use Rattle.djq_model.specs.Equality.{bytes_eq-decides, tuple_eq-decides}
 use Rattle.djq_deltas.specs.Bounded.{choices, all_choices as choices_of_all, AnswersAreBounded}
 use Rattle.djq_deltas.specs.Finite.{IsBound}
-use Rattle.djq_deltas.proofs.Lists.{nothing_there, first_or_later, first_there, later_there, mapped_there, pairs_head, pairs_tail, hold_each, some_one}
+use Rattle.djq_deltas.proofs.Lists.{
+  nothing_there,
+  first_or_later,
+  first_there,
+  later_there,
+  mapped_there,
+  pairs_head,
+  pairs_tail,
+  hold_each,
+  some_one,
+}
 
 -- A list of different tuples that another contains is no longer.
 without : List Tuple → Tuple → List Tuple
@@ -216,8 +255,8 @@ no_more Answer all n count there ts differ answers =
 pub answers_are_bounded : AnswersAreBounded
 unfolding chosen_answers
 answers_are_bounded relations (a_query q) bound =
-    no_more (IsAnswer relations q) (chosen_answers relations q) (choices relations q.atoms) (so_many_answers relations q)
-    (is_there relations q bound)
+    no_more (IsAnswer relations q) (chosen_answers relations q) (choices relations q.atoms)
+    (so_many_answers relations q) (is_there relations q bound)
 answers_are_bounded relations (a_union name qs) bound =
     no_more (λ t. Any (λ (q : Query). IsAnswer relations q t) qs) (each (chosen_answers relations) qs)
     (choices_of_all relations qs) (so_many_of_all relations qs)

@@ -15,7 +15,15 @@ use Rattle.djq_model.specs.Answer.{Assignment, StandForAll, Satisfies, compares,
 use Rattle.djq_model.specs.Listed.{a_query, a_union}
 use Rattle.djq_model.specs.Equality.{bytes_eq-decides, value_eq-decides}
 use Rattle.djq_deltas.specs.Decided.{Decided, AnswersAreDecided}
-use Rattle.djq_deltas.proofs.Lists.{nothing_there, first_or_later, first_there, later_there, hold_each, some_one, one_there}
+use Rattle.djq_deltas.proofs.Lists.{
+  nothing_there,
+  first_or_later,
+  first_there,
+  later_there,
+  hold_each,
+  some_one,
+  one_there,
+}
 use Rattle.djq_deltas.proofs.Comparing.{pick, picked_holds}
 
 decided_as : {A B : Type 0} → (A → B) → (B → A) → Decided A → Decided B

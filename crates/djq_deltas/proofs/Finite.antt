@@ -2,7 +2,17 @@
 use Rattle.std.specs.Prelude.{List, [], ◌∷◌, ◌≡◌, ◌++◌, ◌⊎◌, Bool, true, false, not, filter, map, All, Any, Contains}
 use Rattle.std.proofs.Common.{refl, sym, ap, ◌∙◌, subst, inl, inr}
 use Rattle.std.proofs.lemmas.List.{map-append}
-use Rattle.std.proofs.lemmas.List.Elements.{All-nil, All-cons, All-head, All-tail, All-append, All-weaker, All-contains, Contains-append_left, Contains-append_right}
+use Rattle.std.proofs.lemmas.List.Elements.{
+  All-nil,
+  All-cons,
+  All-head,
+  All-tail,
+  All-append,
+  All-weaker,
+  All-contains,
+  Contains-append_left,
+  Contains-append_right,
+}
 use Rattle.std.proofs.lemmas.List.Kept.{AllPairs-filter}
 use Rattle.djq_model.specs.declared.relation.Relation.{Relation}
 use Rattle.djq_model.specs.declared.query.Query.{Query}
@@ -13,7 +23,24 @@ use Rattle.djq_lines.specs.declared.answer.Sign.{Sign}
 use Rattle.djq_lines.specs.declared.answer.Sign.TheVariants.{Came, Went}
 use Rattle.djq_machine.specs.Delta.{Change, HasChanged, IsDelta}
 use Rattle.djq_deltas.specs.Finite.{IsBound, AnswersAreFinite, DeltasExist}
-use Rattle.djq_deltas.proofs.Lists.{nothing_there, first_or_later, first_there, later_there, row_found, row_there, kept_hold, kept_there, pairs_join, hold_each, some_one, one_there, once, once_hold, once_there, once_differ}
+use Rattle.djq_deltas.proofs.Lists.{
+  nothing_there,
+  first_or_later,
+  first_there,
+  later_there,
+  row_found,
+  row_there,
+  kept_hold,
+  kept_there,
+  pairs_join,
+  hold_each,
+  some_one,
+  one_there,
+  once,
+  once_hold,
+  once_there,
+  once_differ,
+}
 use Rattle.djq_deltas.proofs.Naive.{listed, all_hold, all_there}
 
 -- the answers of queries, one query behind another
@@ -31,8 +58,8 @@ all_of_some relations [] = All-nil (IsAnswerOfSome relations [])
 all_of_some relations (q ∷ qs) =
     All-append (IsAnswerOfSome relations (q ∷ qs)) (listed relations q) (listed_of_all relations qs)
     (All-weaker (IsAnswer relations q) (IsAnswerOfSome relations (q ∷ qs))
-    (λ t h. one_there (λ (p : Query). IsAnswer relations p t) (q ∷ qs) q (first_there q qs q refl) h) (listed relations q)
-    (all_hold relations q))
+    (λ t h. one_there (λ (p : Query). IsAnswer relations p t) (q ∷ qs) q (first_there q qs q refl) h)
+    (listed relations q) (all_hold relations q))
     (All-weaker (IsAnswerOfSome relations qs) (IsAnswerOfSome relations (q ∷ qs))
     (λ t h. let o = some_one (λ (p : Query). IsAnswer relations p t) qs h in
     one_there (λ (p : Query). IsAnswer relations p t) (q ∷ qs) o.0 (later_there q qs o.0 o.1) o.2)

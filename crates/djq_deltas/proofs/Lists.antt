@@ -1,7 +1,36 @@
 -- What lists contain, and lists without repeats.
-use Rattle.std.specs.Prelude.{zero, suc, List, [], ◌∷◌, ◌≡◌, ◌++◌, ◌⊎◌, Bool, true, false, cond, filter, map, All, AllPairs, Any, Contains}
+use Rattle.std.specs.Prelude.{
+  zero,
+  suc,
+  List,
+  [],
+  ◌∷◌,
+  ◌≡◌,
+  ◌++◌,
+  ◌⊎◌,
+  Bool,
+  true,
+  false,
+  cond,
+  filter,
+  map,
+  All,
+  AllPairs,
+  Any,
+  Contains,
+}
 use Rattle.std.proofs.Common.{refl, sym, ap, ◌∙◌, subst, inl, inr, arith}
-use Rattle.std.proofs.lemmas.List.Elements.{All-nil, All-cons, All-head, All-tail, All-append, All-weaker, All-contains_itself, Contains-append_right, Contains-append_cases}
+use Rattle.std.proofs.lemmas.List.Elements.{
+  All-nil,
+  All-cons,
+  All-head,
+  All-tail,
+  All-append,
+  All-weaker,
+  All-contains_itself,
+  Contains-append_right,
+  Contains-append_cases,
+}
 use Rattle.std.proofs.lemmas.List.Kept.{AllPairs-cons}
 use Rattle.djq_model.specs.Data.{Tuple, tuple_eq, has_row}
 use Rattle.djq_model.specs.Answer.{AreDifferent}

@@ -15,17 +15,84 @@ use Rattle.djq_lines.specs.declared.answer.DeleteOutcome.TheVariants.{Last, Left
 use Rattle.djq_lines.specs.declared.rest.QueryOutcome.{QueryOutcome}
 use Rattle.djq_lines.specs.declared.rest.QueryOutcome.TheVariants.{Registered, Cyclic, NotConnex}
 use Rattle.djq_lines.specs.declared.command.Command.{Command}
-use Rattle.djq_lines.specs.declared.command.Command.TheVariants.{Rel, Add, Del, Query as Register, Union, Drop, Open, Next, Close, Has, Watch, Unwatch, Explain, Shape, Batch, Done, Abandon, Quit, Stop}
+use Rattle.djq_lines.specs.declared.command.Command.TheVariants.{
+  Rel,
+  Add,
+  Del,
+  Query as Register,
+  Union,
+  Drop,
+  Open,
+  Next,
+  Close,
+  Has,
+  Watch,
+  Unwatch,
+  Explain,
+  Shape,
+  Batch,
+  Done,
+  Abandon,
+  Quit,
+  Stop,
+}
 use Rattle.djq_lines.specs.declared.held.HeldRow.{HeldRow}
 use Rattle.djq_lines.specs.Variables.{constants_of}
 use Rattle.djq_machine.specs.Conditions.{Answers, OutOfMemoryWhere}
 use Rattle.djq_machine.specs.State.{Store, State, Session, Cursor, Position, open_at, stale, with_session, cursor_of}
-use Rattle.djq_machine.specs.Store.{RefusedByTexts, MakesRelation, add_refusal, AddsAs, AddsRow, delete_refusal, DeletesAs, DeletesRow, query_refusal, RegistersAs, RefusedLate, RegistersQuery, DropsQuery}
+use Rattle.djq_machine.specs.Store.{
+  RefusedByTexts,
+  MakesRelation,
+  add_refusal,
+  AddsAs,
+  AddsRow,
+  delete_refusal,
+  DeletesAs,
+  DeletesRow,
+  query_refusal,
+  RegistersAs,
+  RefusedLate,
+  RegistersQuery,
+  DropsQuery,
+}
 use Rattle.djq_machine.specs.Union.{RegistersUnion}
-use Rattle.djq_machine.specs.Batch.{is_there, with_held, with_all, store_behind, HavePlaces, StopsAt, RefusesBatch, AddsBatch}
-use Rattle.djq_machine.specs.Keeping.{Keeping, no_line, the_line, the_batch, kept_where, kept_batch, is_done, is_removal, is_registration}
+use Rattle.djq_machine.specs.Batch.{
+  is_there,
+  with_held,
+  with_all,
+  store_behind,
+  HavePlaces,
+  StopsAt,
+  RefusesBatch,
+  AddsBatch,
+}
+use Rattle.djq_machine.specs.Keeping.{
+  Keeping,
+  no_line,
+  the_line,
+  the_batch,
+  kept_where,
+  kept_batch,
+  is_done,
+  is_removal,
+  is_registration,
+}
 use Rattle.djq_machine.specs.Effect.{Effect, RefusedStep}
-use Rattle.djq_machine.specs.Command.{AddStep, HoldStep, DoneStep, OpensTo, BecomesWhere, NextStepAt, CloseStep, ExplainStepOf, TellsLines, explain_lines, union_lines, without_batch, CommandStep}
+use Rattle.djq_machine.specs.Command.{
+  AddStep,
+  HoldStep,
+  DoneStep,
+  OpensTo,
+  BecomesWhere,
+  NextStepAt,
+  CloseStep,
+  ExplainStepOf,
+  TellsLines,
+  explain_lines,
+  union_lines,
+  without_batch,
+  CommandStep,
+}
 use Rattle.djq_laws.proofs.Finding.{some_and}
 use Rattle.djq_laws.proofs.Forms.{done_of}
 use Rattle.djq_laws.proofs.Watching.{change_store}

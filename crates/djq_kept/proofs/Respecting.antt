@@ -1,5 +1,27 @@
 -- A command that a run did outside a batch, done to a store that follows the one it was done to.
-use Rattle.std.proofs.Common.{ℕ, List, [], ◌∷◌, ◌++◌, ◌≡◌, ◌≤◌, ◌⊎◌, ◌||◌, inl, inr, Bool, true, false, length, refl, sym, ap, ap₂, ◌∙◌, subst}
+use Rattle.std.proofs.Common.{
+  ℕ,
+  List,
+  [],
+  ◌∷◌,
+  ◌++◌,
+  ◌≡◌,
+  ◌≤◌,
+  ◌⊎◌,
+  ◌||◌,
+  inl,
+  inr,
+  Bool,
+  true,
+  false,
+  length,
+  refl,
+  sym,
+  ap,
+  ap₂,
+  ◌∙◌,
+  subst,
+}
 use Rattle.std.specs.Prelude.{Option, None, Some, is_none, is_some, Ok, Err, cond, map, ⊤}
 use Rattle.std.proofs.lemmas.Bool.{false≢true}
 use Rattle.std.proofs.lemmas.List.Elements.{All-push}
@@ -17,7 +39,19 @@ use Rattle.djq_lines.specs.declared.command.Command.TheVariants.{Rel, Query as R
 use Rattle.djq_lines.specs.Variables.{constants_of}
 use Rattle.djq_machine.specs.Conditions.{first_of, Answers, OutOfMemoryWhere}
 use Rattle.djq_machine.specs.State.{Store}
-use Rattle.djq_machine.specs.Store.{RefusedByTexts, rel_refusal, MakesRelation, query_refusal, RegistersAs, RefusedLate, RegistersQuery, is_member, drop_refusal, DropsQuery, answer_steps}
+use Rattle.djq_machine.specs.Store.{
+  RefusedByTexts,
+  rel_refusal,
+  MakesRelation,
+  query_refusal,
+  RegistersAs,
+  RefusedLate,
+  RegistersQuery,
+  is_member,
+  drop_refusal,
+  DropsQuery,
+  answer_steps,
+}
 use Rattle.djq_machine.specs.Union.{union_refusal, AreUnder, RegistersUnion}
 use Rattle.djq_laws.proofs.Forms.{done_of}
 use Rattle.djq_laws.proofs.Apart.{nothing_apart, texts_apart}

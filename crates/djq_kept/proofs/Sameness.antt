@@ -1,9 +1,49 @@
 -- Stores with the same data.
-use Rattle.std.proofs.Common.{ℕ, List, [], ◌∷◌, ◌++◌, ◌≡◌, ◌||◌, Bool, true, false, cond, length, map, refl, sym, ap, ap₂, ◌∙◌, subst, arith}
-use Rattle.std.specs.Prelude.{◌==◌, ◌&&◌, not, nat_le, nat_lt, Option, None, Some, is_some, is_none, unwrap_or, IsPermutation, All}
+use Rattle.std.proofs.Common.{
+  ℕ,
+  List,
+  [],
+  ◌∷◌,
+  ◌++◌,
+  ◌≡◌,
+  ◌||◌,
+  Bool,
+  true,
+  false,
+  cond,
+  length,
+  map,
+  refl,
+  sym,
+  ap,
+  ap₂,
+  ◌∙◌,
+  subst,
+  arith,
+}
+use Rattle.std.specs.Prelude.{
+  ◌==◌,
+  ◌&&◌,
+  not,
+  nat_le,
+  nat_lt,
+  Option,
+  None,
+  Some,
+  is_some,
+  is_none,
+  unwrap_or,
+  IsPermutation,
+  All,
+}
 use Rattle.std.specs.List.{list_any}
 use Rattle.std.proofs.lemmas.List.Elements.{All-cons, All-head, All-tail}
-use Rattle.std.proofs.lemmas.List.Sorted.{IsPermutation-refl, IsPermutation-sym, IsPermutation-trans, length_permutation}
+use Rattle.std.proofs.lemmas.List.Sorted.{
+  IsPermutation-refl,
+  IsPermutation-sym,
+  IsPermutation-trans,
+  length_permutation,
+}
 use Rattle.djq_model.specs.declared.relation.Relation.{Relation}
 use Rattle.djq_model.specs.declared.relation.ColumnType.{ColumnType}
 use Rattle.djq_model.specs.declared.query.Query.{Query}
@@ -26,15 +66,62 @@ use Rattle.djq_model.specs.Data.{
 use Rattle.djq_model.specs.Answer.{AreDifferent}
 use Rattle.djq_model.specs.Listed.{Listed, a_query, a_union, listed_of}
 use Rattle.djq_model.specs.Typed.{fits}
-use Rattle.djq_lines.specs.declared.limits.TheConstants.{COLUMNS, RELATIONS, ROWS, COPIES, LAST_SEQ, QUERIES, MEMBERS, HELD}
+use Rattle.djq_lines.specs.declared.limits.TheConstants.{
+  COLUMNS,
+  RELATIONS,
+  ROWS,
+  COPIES,
+  LAST_SEQ,
+  QUERIES,
+  MEMBERS,
+  HELD,
+}
 use Rattle.djq_lines.specs.declared.answer.Refusal.{Refusal}
-use Rattle.djq_lines.specs.declared.answer.Refusal.TheVariants.{Taken, NoRelation, NoQuery, Arity, WrongType, VariableType, Unbound, HeadRepeated, HeadUnbound, Member, Limit}
+use Rattle.djq_lines.specs.declared.answer.Refusal.TheVariants.{
+  Taken,
+  NoRelation,
+  NoQuery,
+  Arity,
+  WrongType,
+  VariableType,
+  Unbound,
+  HeadRepeated,
+  HeadUnbound,
+  Member,
+  Limit,
+}
 use Rattle.djq_lines.specs.declared.held.HeldRow.{HeldRow}
 use Rattle.djq_lines.specs.Columns.{types_of, columns_of}
-use Rattle.djq_lines.specs.QueryFault.{any_column, any_place, is_misfit, is_clash, is_miscompared, reads_unknown, has_wrong_arity, has_misfit, has_clash, compares_unbound, has_miscompared, repeats_head, has_unbound_head, is_too_large}
+use Rattle.djq_lines.specs.QueryFault.{
+  any_column,
+  any_place,
+  is_misfit,
+  is_clash,
+  is_miscompared,
+  reads_unknown,
+  has_wrong_arity,
+  has_misfit,
+  has_clash,
+  compares_unbound,
+  has_miscompared,
+  repeats_head,
+  has_unbound_head,
+  is_too_large,
+}
 use Rattle.djq_machine.specs.Conditions.{first_of}
 use Rattle.djq_machine.specs.State.{Store}
-use Rattle.djq_machine.specs.Store.{with_rows, copies_of, rel_refusal, add_refusal, delete_refusal, query_refusal, type_among, variable_type, answer_types, listed_types}
+use Rattle.djq_machine.specs.Store.{
+  with_rows,
+  copies_of,
+  rel_refusal,
+  add_refusal,
+  delete_refusal,
+  query_refusal,
+  type_among,
+  variable_type,
+  answer_types,
+  listed_types,
+}
 use Rattle.djq_machine.specs.Union.{stands_twice, is_union, same_types, types_under, types_differ, union_refusal}
 use Rattle.djq_machine.specs.Batch.{hold_refusal}
 use Rattle.djq_machine.specs.Step.{SameRelations}

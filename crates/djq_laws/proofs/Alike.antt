@@ -1,5 +1,25 @@
 -- What a line does to the sessions: each keeps its id, its bytes, and its end cause unless the line ends it.
-use Rattle.std.specs.Prelude.{ℕ, List, [], ◌∷◌, ◌==◌, ◌≡◌, ◌++◌, ◌⊎◌, Bool, true, false, cond, Option, None, Some, IsSome, IsSomeAnd, find, map}
+use Rattle.std.specs.Prelude.{
+  ℕ,
+  List,
+  [],
+  ◌∷◌,
+  ◌==◌,
+  ◌≡◌,
+  ◌++◌,
+  ◌⊎◌,
+  Bool,
+  true,
+  false,
+  cond,
+  Option,
+  None,
+  Some,
+  IsSome,
+  IsSomeAnd,
+  find,
+  map,
+}
 use Rattle.std.proofs.Common.{refl, sym, ap, ap₂, ◌∙◌, subst, inl, inr}
 use Rattle.std.proofs.lemmas.Bool.{eqb-true}
 use Rattle.std.proofs.lemmas.Grind.{flat_map-append}
@@ -18,7 +38,24 @@ use Rattle.djq_machine.specs.LineStep.{ReadStep}
 use Rattle.djq_machine.specs.Run.{to_session, pending_in}
 use Rattle.djq_machine.specs.Call.{IsOpen, cause_in, held_in}
 use Rattle.djq_laws.specs.Moved.{EndsByRun}
-use Rattle.djq_laws.specs.Form.{form_of, Form, asking, storing, turning, changing, ending, Turn, SaysAlone, Replied, is_whole, is_cut, DoesTurn, is_turned, is_refused, Does}
+use Rattle.djq_laws.specs.Form.{
+  form_of,
+  Form,
+  asking,
+  storing,
+  turning,
+  changing,
+  ending,
+  Turn,
+  SaysAlone,
+  Replied,
+  is_whole,
+  is_cut,
+  DoesTurn,
+  is_turned,
+  is_refused,
+  Does,
+}
 use Rattle.djq_laws.proofs.Forms.{turned_one, command_does, Reads, turned_down, carried_out, line_reads}
 use Rattle.djq_laws.proofs.Doing.{closing, begun, closing_id, closing_pending, closing_held, closing_cause, rows_do}
 use Rattle.djq_laws.proofs.Told.{change_keeps}
@@ -240,7 +277,8 @@ form_keeps ending old s x e new h = (
   alone s e h.0,
 )
 
-pub read_keeps : (old : State) (s : ℕ) (x : Session) (l : Bytes) (e : Effect) (new : State) → ReadStep old s x l (reading_of l) e new → Runs old s e new
+pub read_keeps : (old : State) (s : ℕ) (x : Session) (l : Bytes) (e : Effect) (new : State)
+    → ReadStep old s x l (reading_of l) e new → Runs old s e new
 read_keeps old s x l e new h = by (line_reads old s x l (reading_of l) e new h)
   where
     by : Reads old s x l (reading_of l) e new → Runs old s e new

@@ -80,7 +80,14 @@ use Rattle.djq_lines.specs.declared.command.Command.TheVariants.{
   Stop,
 }
 use Rattle.djq_lines.specs.declared.held.HeldRow.{HeldRow}
-use Rattle.djq_lines.specs.Grammar.{Reading, outside, past_limit, says as says_command, reading_of, takes_memory_to_read}
+use Rattle.djq_lines.specs.Grammar.{
+  Reading,
+  outside,
+  past_limit,
+  says as says_command,
+  reading_of,
+  takes_memory_to_read,
+}
 use Rattle.djq_lines.specs.Reply.{
   line,
   answer_line,
@@ -98,10 +105,34 @@ use Rattle.djq_lines.specs.Reply.{
   bye,
   end_memory,
 }
-use Rattle.djq_machine.specs.State.{Store, State, Session, Cursor, Position, open_at, stale, with_session, cursor_of, with_position}
+use Rattle.djq_machine.specs.State.{
+  Store,
+  State,
+  Session,
+  Cursor,
+  Position,
+  open_at,
+  stale,
+  with_session,
+  cursor_of,
+  with_position,
+}
 use Rattle.djq_machine.specs.Keeping.{Keeping, no_line, kept_where, is_registration}
 use Rattle.djq_machine.specs.Effect.{Effect, says, answers, RefusedStep}
-use Rattle.djq_machine.specs.Store.{RefusedByTexts, RefusedLate, RegistersAs, MakesRelation, RegistersQuery, DropsQuery, rel_refusal, query_refusal, drop_refusal, is_member, has_steps, answer_steps}
+use Rattle.djq_machine.specs.Store.{
+  RefusedByTexts,
+  RefusedLate,
+  RegistersAs,
+  MakesRelation,
+  RegistersQuery,
+  DropsQuery,
+  rel_refusal,
+  query_refusal,
+  drop_refusal,
+  is_member,
+  has_steps,
+  answer_steps,
+}
 use Rattle.djq_machine.specs.Union.{union_refusal, AreUnder, RegistersUnion}
 use Rattle.djq_machine.specs.Command.{
   open_refusal,
@@ -286,7 +317,8 @@ module _ (used : Bytes → Bool) (old new : Store) where
   union_stored name members (Err r) two h = keeps_store h.stays
   union_stored name members (Ok most) two h =
       let D = λ (most : ℕ). (qs : List Query) × AreUnder old.queries members qs
-      × (most ≡ answer_steps (a_union name qs)) × (new ≡ record old { queries = old.queries ++ a_union name qs ∷ [] }) in
+      × (most ≡ answer_steps (a_union name qs))
+      × (new ≡ record old { queries = old.queries ++ a_union name qs ∷ [] }) in
       let none = none_holds (union_refusal old name members) most D (OutOfMemoryWhere ⊤) h.answer in
       let d = done_of (union_refusal old name members) most D (OutOfMemoryWhere ⊤) h.answer in
       registers (a_union name d.0)

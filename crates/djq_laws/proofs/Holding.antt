@@ -41,7 +41,27 @@ use Rattle.djq_lines.specs.declared.answer.EndCause.TheVariants.{Input, Memory}
 use Rattle.djq_lines.specs.declared.answer.Refusal.{Refusal}
 use Rattle.djq_lines.specs.declared.answer.Refusal.TheVariants.{NoCursor, NoQuery}
 use Rattle.djq_lines.specs.declared.command.Command.{Command}
-use Rattle.djq_lines.specs.declared.command.Command.TheVariants.{Rel, Add, Del, Query as Register, Union, Drop, Open, Next, Close, Has, Watch, Unwatch, Explain, Shape, Batch, Done, Abandon, Quit, Stop}
+use Rattle.djq_lines.specs.declared.command.Command.TheVariants.{
+  Rel,
+  Add,
+  Del,
+  Query as Register,
+  Union,
+  Drop,
+  Open,
+  Next,
+  Close,
+  Has,
+  Watch,
+  Unwatch,
+  Explain,
+  Shape,
+  Batch,
+  Done,
+  Abandon,
+  Quit,
+  Stop,
+}
 use Rattle.djq_lines.specs.Grammar.{Reading, reading_of}
 use Rattle.djq_lines.specs.Reply.{end_memory}
 use Rattle.djq_machine.specs.State.{
@@ -63,7 +83,19 @@ use Rattle.djq_machine.specs.Changes.{RowsChange, RowsOutcome, tried, changed}
 use Rattle.djq_machine.specs.Watch.{Telling, ChangeStep}
 use Rattle.djq_machine.specs.Keeping.{Keeping, no_line, the_line, the_batch, kept_where, kept_batch}
 use Rattle.djq_machine.specs.Effect.{Effect, nothing, answers, EndsWith, RefusedStep, queue, queue_all}
-use Rattle.djq_machine.specs.Command.{AddStep, HoldStep, DoneStep, NextStepAt, CloseStep, ExplainStepOf, TellsLines, explain_lines, union_lines, without_batch, CommandStep}
+use Rattle.djq_machine.specs.Command.{
+  AddStep,
+  HoldStep,
+  DoneStep,
+  NextStepAt,
+  CloseStep,
+  ExplainStepOf,
+  TellsLines,
+  explain_lines,
+  union_lines,
+  without_batch,
+  CommandStep,
+}
 use Rattle.djq_machine.specs.LineStep.{LineOutcome, long, blank, slow, no_room, run, FrontStep, behind_line}
 use Rattle.djq_machine.specs.Step.{
   Event,
@@ -225,7 +257,8 @@ held_read : (old : State) (s : ℕ) (x : Session) (l : Bytes) (e : Effect) (new 
     → HoldLines old → HoldLines new
 held_read old s x l e new found is (turned_down why because h) k = held_same old new h.1 k
 held_read old s x l e new found is (carried_out c says h) k =
-    held_form (form_of x.batch l c) old s x e new found (form_says x.batch l c is) (command_does old s x l c e new says h) k
+    held_form (form_of x.batch l c) old s x e new found (form_says x.batch l c is)
+    (command_does old s x l c e new says h) k
 
 held_behind : (old : State) (s : ℕ) (rest : Bytes) → HoldLines old → HoldLines (with_session old s (behind_line rest))
 held_behind old s rest k =

@@ -69,7 +69,14 @@ use Rattle.djq_lines.specs.declared.answer.Refusal.TheVariants.{
 use Rattle.djq_lines.specs.declared.held.HeldRow.{HeldRow}
 use Rattle.djq_lines.specs.declared.command.Command.{Command}
 use Rattle.djq_lines.specs.declared.command.Command.TheVariants.{Add, Done, Open, Next}
-use Rattle.djq_lines.specs.Grammar.{Reading, outside, past_limit, says as says_command, reading_of, takes_memory_to_read}
+use Rattle.djq_lines.specs.Grammar.{
+  Reading,
+  outside,
+  past_limit,
+  says as says_command,
+  reading_of,
+  takes_memory_to_read,
+}
 use Rattle.djq_lines.specs.Reply.{line, refusal_line, ok_reply, text_of, listing_lines, end_memory}
 use Rattle.djq_machine.specs.State.{
   Store,
@@ -656,8 +663,8 @@ module _ (s : ℕ) (c : Bytes) where
       → Tell old replies → Tell new (replies_behind c replies (says_command k) (to_session s e.queued))
   command_told old x l (Open d q) e new replies found kept is h tell = open_told old x d q h.result e new replies
       (bytes_eq d c) refl found h.answer h.effect h.state tell
-  command_told old x l (Next d count) e new replies found kept is h tell = next_told old x d count (cursor_of x.cursors d)
-      e new replies (bytes_eq d c) refl found kept refl h tell
+  command_told old x l (Next d count) e new replies found kept is h tell =
+      next_told old x d count (cursor_of x.cursors d) e new replies (bytes_eq d c) refl found kept refl h tell
   command_told old x l (Add name row) e new replies found kept is h tell = tell_back old new replies
       (back_command old s x l (Add name row) e new kept (λ same. adds_none x.batch l name row) is h) tell
   command_told old x l Done e new replies found kept is h tell = tell_back old new replies

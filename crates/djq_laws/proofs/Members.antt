@@ -1,5 +1,32 @@
 -- A union that is registered is sound: its line says two members at least, and its conditions the rest.
-use Rattle.std.specs.Prelude.{ℕ, List, [], ◌∷◌, ◌≡◌, ◌≢◌, ◌≤◌, ◌&&◌, ◌||◌, Bool, true, false, cond, not, length, nat_le, nat_lt, Option, None, Some, is_some, is_none, option_map, map, All, ⊤}
+use Rattle.std.specs.Prelude.{
+  ℕ,
+  List,
+  [],
+  ◌∷◌,
+  ◌≡◌,
+  ◌≢◌,
+  ◌≤◌,
+  ◌&&◌,
+  ◌||◌,
+  Bool,
+  true,
+  false,
+  cond,
+  not,
+  length,
+  nat_le,
+  nat_lt,
+  Option,
+  None,
+  Some,
+  is_some,
+  is_none,
+  option_map,
+  map,
+  All,
+  ⊤,
+}
 use Rattle.std.specs.List.{list_any}
 use Rattle.std.specs.Str.{is_utf8}
 use Rattle.std.proofs.Common.{refl, sym, ap, ap₂, ◌∙◌, subst, arith}
@@ -63,11 +90,42 @@ use Rattle.djq_lines.specs.declared.answer.Refusal.{Refusal}
 use Rattle.djq_lines.specs.declared.answer.Refusal.TheVariants.{Taken, NoQuery, Member, Limit}
 use Rattle.djq_lines.specs.declared.limits.TheConstants.{MEMBERS, QUERIES}
 use Rattle.djq_lines.specs.Conditions.{first_of}
-use Rattle.djq_lines.specs.Grammar.{name_of, type_of, in_front, all_of, named_any, named_some, one_name, two_names, name_and_count, query_in, nothing, keyword_of, command_behind, command_with, command_in, command_of, is_in_range, past_limit, says as says_command, reading_in, reading_of}
+use Rattle.djq_lines.specs.Grammar.{
+  name_of,
+  type_of,
+  in_front,
+  all_of,
+  named_any,
+  named_some,
+  one_name,
+  two_names,
+  name_and_count,
+  query_in,
+  nothing,
+  keyword_of,
+  command_behind,
+  command_with,
+  command_in,
+  command_of,
+  is_in_range,
+  past_limit,
+  says as says_command,
+  reading_in,
+  reading_of,
+}
 use Rattle.djq_value.specs.Literal.{literal_of}
 use Rattle.djq_machine.specs.State.{Store}
 use Rattle.djq_machine.specs.Store.{answer_types, listed_types}
-use Rattle.djq_machine.specs.Union.{stands_twice, is_union, same_type, same_types, types_under, types_differ, union_refusal, AreUnder}
+use Rattle.djq_machine.specs.Union.{
+  stands_twice,
+  is_union,
+  same_type,
+  same_types,
+  types_under,
+  types_differ,
+  union_refusal,
+  AreUnder,
+}
 use Rattle.djq_laws.specs.Sound.{AreApart, IsSoundUnion}
 use Rattle.djq_laws.proofs.Answering.{none_or, none_pass}
 use Rattle.djq_laws.proofs.Apart.{nothing_apart, other_name}

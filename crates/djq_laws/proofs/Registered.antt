@@ -1,5 +1,21 @@
 -- What is registered stays sound: beside relations that keep their types, and as long as members stay registered.
-use Rattle.std.specs.Prelude.{List, [], ◌∷◌, ◌≡◌, ◌++◌, ◌||◌, Bool, true, false, Some, is_none, unwrap_or, map, All, Contains}
+use Rattle.std.specs.Prelude.{
+  List,
+  [],
+  ◌∷◌,
+  ◌≡◌,
+  ◌++◌,
+  ◌||◌,
+  Bool,
+  true,
+  false,
+  Some,
+  is_none,
+  unwrap_or,
+  map,
+  All,
+  Contains,
+}
 use Rattle.std.specs.List.{list_any}
 use Rattle.std.proofs.Common.{refl, sym, ap₂, ◌∙◌}
 use Rattle.std.proofs.lemmas.List.Elements.{All-contains, All-weaker, All-push}

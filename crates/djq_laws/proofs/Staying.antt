@@ -1,5 +1,28 @@
 -- A session that watches a registered query does so as long as it goes on and doesn't unwatch it.
-use Rattle.std.specs.Prelude.{ℕ, List, [], ◌∷◌, ◌==◌, ◌≡◌, ◌<◌, ◌++◌, ◌⊎◌, ◌||◌, Bool, true, false, cond, length, Option, None, Some, MatchOption, option_map, find, All}
+use Rattle.std.specs.Prelude.{
+  ℕ,
+  List,
+  [],
+  ◌∷◌,
+  ◌==◌,
+  ◌≡◌,
+  ◌<◌,
+  ◌++◌,
+  ◌⊎◌,
+  ◌||◌,
+  Bool,
+  true,
+  false,
+  cond,
+  length,
+  Option,
+  None,
+  Some,
+  MatchOption,
+  option_map,
+  find,
+  All,
+}
 use Rattle.std.specs.List.{list_any}
 use Rattle.std.proofs.Common.{refl, sym, ap, ◌∙◌, subst, inl, inr}
 use Rattle.std.proofs.lemmas.Bool.{eqb-true}
@@ -21,10 +44,34 @@ use Rattle.djq_machine.specs.Watch.{is_watching, Telling, ChangeStep}
 use Rattle.djq_machine.specs.Effect.{Effect, nothing, EndsWith}
 use Rattle.djq_machine.specs.Command.{uses, with_cursor, with_watch, without_watch, with_batch, without_batch}
 use Rattle.djq_machine.specs.LineStep.{LineOutcome, long, blank, slow, no_room, run, ReadStep, FrontStep, behind_line}
-use Rattle.djq_machine.specs.Step.{Event, opened, fed, stepped, took, ended, closed, FedStep, TookStep, EndedStep, Acts, with_relations, Step}
+use Rattle.djq_machine.specs.Step.{
+  Event,
+  opened,
+  fed,
+  stepped,
+  took,
+  ended,
+  closed,
+  FedStep,
+  TookStep,
+  EndedStep,
+  Acts,
+  with_relations,
+  Step,
+}
 use Rattle.djq_machine.specs.Run.{Did, Run, to_session}
 use Rattle.djq_machine.specs.Call.{IsOpen, cause_of, cause_in}
-use Rattle.djq_laws.specs.Moved.{EndsByRun, Spares, Comes, is_held, out_of_memory, is_dropped, Ends, input_ends, had_ended}
+use Rattle.djq_laws.specs.Moved.{
+  EndsByRun,
+  Spares,
+  Comes,
+  is_held,
+  out_of_memory,
+  is_dropped,
+  Ends,
+  input_ends,
+  had_ended,
+}
 use Rattle.djq_laws.specs.Watched.{IsWatcher, WatchesAlong}
 use Rattle.djq_laws.specs.Staying.{GoesOn, KeepsWatch, WatchersStay}
 use Rattle.djq_laws.specs.Form.{
@@ -257,7 +304,8 @@ module _ (q : Listed) (s : ℕ) (old : State) (registered : listed_of old.store.
   is_unwatch (Some held) l Done p e = absurd cc
   is_unwatch batch l c p e = absurd cc
 
-  by_reading : (t : ℕ) (x : Session) (l : Bytes) (e : Effect) (new : State) → IsOpen old t → ((t == s) ≡ true → reading_of l ≡ says_command (Unwatch (listed_name q)) → ⊥)
+  by_reading : (t : ℕ) (x : Session) (l : Bytes) (e : Effect) (new : State) → IsOpen old t
+      → ((t == s) ≡ true → reading_of l ≡ says_command (Unwatch (listed_name q)) → ⊥)
       → ReadStep old t x l (reading_of l) e new → Stays q s new
   by_reading t x l e new there not_it h = by (line_reads old t x l (reading_of l) e new h)
     where

@@ -18,7 +18,21 @@ use Rattle.djq_machine.specs.Changes.{RowsOutcome}
 use Rattle.djq_machine.specs.Watch.{Telling, ChangeStep}
 use Rattle.djq_machine.specs.Command.{CommandStep}
 use Rattle.djq_machine.specs.LineStep.{LineOutcome, long, blank, slow, no_room, run, behind_line, FrontStep, ReadStep}
-use Rattle.djq_machine.specs.Step.{Event, opened, fed, stepped, took, ended, closed, FedStep, TookStep, EndedStep, Acts, Step, with_relations}
+use Rattle.djq_machine.specs.Step.{
+  Event,
+  opened,
+  fed,
+  stepped,
+  took,
+  ended,
+  closed,
+  FedStep,
+  TookStep,
+  EndedStep,
+  Acts,
+  Step,
+  with_relations,
+}
 use Rattle.djq_laws.specs.Form.{Form, asking, storing, turning, changing, ending, form_of}
 use Rattle.djq_laws.specs.Form.{Turn, Replied, is_whole, is_cut, DoesTurn, is_turned, is_refused, Does}
 use Rattle.djq_laws.specs.Stopping.{KeptSaysNoStop}
@@ -131,7 +145,8 @@ command_stopped old s x l (Add name row) e new said h kept =
     form_stopped (form_of x.batch l (Add name row)) old s x e new (no_ending_add x.batch l name row)
     (command_does old s x l (Add name row) e new said h)
 command_stopped old s x l Done e new said h kept =
-    form_stopped (form_of x.batch l Done) old s x e new (no_ending_done x.batch l) (command_does old s x l Done e new said h)
+    form_stopped (form_of x.batch l Done) old s x e new (no_ending_done x.batch l)
+    (command_does old s x l Done e new said h)
 command_stopped old s x l c e new said h kept =
     form_stopped (form_of x.batch l c) old s x e new tt (command_does old s x l c e new said h)
 

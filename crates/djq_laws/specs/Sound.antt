@@ -1,5 +1,22 @@
 -- What holds of every state that the machine comes to.
-use Rattle.std.specs.Prelude.{ℕ, List, [], ◌≡◌, ◌≢◌, ◌≤◌, true, false, None, Some, IsSome, IfSome, length, map, All, AllPairs}
+use Rattle.std.specs.Prelude.{
+  ℕ,
+  List,
+  [],
+  ◌≡◌,
+  ◌≢◌,
+  ◌≤◌,
+  true,
+  false,
+  None,
+  Some,
+  IsSome,
+  IfSome,
+  length,
+  map,
+  All,
+  AllPairs,
+}
 use Rattle.djq_model.specs.declared.relation.Relation.{Relation}
 use Rattle.djq_model.specs.declared.query.Query.{Query}
 use Rattle.djq_model.specs.Data.{Bytes, tuples_in}

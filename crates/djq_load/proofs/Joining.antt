@@ -1,5 +1,35 @@
 -- What a step leaves of it that no query but the load's is registered.
-use Rattle.std.specs.Prelude.{ℕ, suc, List, [], ◌∷◌, ◌++◌, ◌≡◌, ◌==◌, ◌≤◌, ◌<◌, ◌⊎◌, ◌&&◌, Bool, true, false, cond, not, nat_le, Option, None, Some, is_none, MatchOption, Result, Ok, Err, All, length, ⊤}
+use Rattle.std.specs.Prelude.{
+  ℕ,
+  suc,
+  List,
+  [],
+  ◌∷◌,
+  ◌++◌,
+  ◌≡◌,
+  ◌==◌,
+  ◌≤◌,
+  ◌<◌,
+  ◌⊎◌,
+  ◌&&◌,
+  Bool,
+  true,
+  false,
+  cond,
+  not,
+  nat_le,
+  Option,
+  None,
+  Some,
+  is_none,
+  MatchOption,
+  Result,
+  Ok,
+  Err,
+  All,
+  length,
+  ⊤,
+}
 use Rattle.std.proofs.Common.{refl, sym, ap, ◌∙◌, subst, inl, inr, length-append, arith}
 use Rattle.std.proofs.lemmas.Bool.{leb-false}
 use Rattle.std.proofs.lemmas.List.{length-map}
@@ -9,7 +39,22 @@ use Rattle.djq_model.specs.declared.relation.ColumnType.{ColumnType}
 use Rattle.djq_model.specs.declared.relation.Relation.{Relation}
 use Rattle.djq_model.specs.declared.relation.CountedRow.{CountedRow}
 use Rattle.djq_model.specs.declared.query.Query.{Query}
-use Rattle.djq_model.specs.Data.{Bytes, Tuple, bytes_eq, tuple_eq, relation_of, rows_of, counted_in, counted_of, has_row, change_first, drop_first, with_row, with_copies, without_copies}
+use Rattle.djq_model.specs.Data.{
+  Bytes,
+  Tuple,
+  bytes_eq,
+  tuple_eq,
+  relation_of,
+  rows_of,
+  counted_in,
+  counted_of,
+  has_row,
+  change_first,
+  drop_first,
+  with_row,
+  with_copies,
+  without_copies,
+}
 use Rattle.djq_model.specs.Listed.{Listed, a_query, listed_name}
 use Rattle.djq_model.specs.Typed.{fits}
 use Rattle.djq_lines.specs.Columns.{types_of}
@@ -26,7 +71,27 @@ use Rattle.djq_lines.specs.declared.rest.QueryOutcome.TheVariants.{Registered, C
 use Rattle.djq_lines.specs.declared.limits.TheConstants.{ROWS, COPIES, LAST_SEQ}
 use Rattle.djq_lines.specs.declared.command.Command.{Command}
 use Rattle.djq_lines.specs.declared.held.HeldRow.{HeldRow}
-use Rattle.djq_lines.specs.declared.command.Command.TheVariants.{Rel, Add, Del, Query as Register, Union, Drop, Open, Next, Close, Has, Watch, Unwatch, Explain, Shape, Batch, Done, Abandon, Quit, Stop}
+use Rattle.djq_lines.specs.declared.command.Command.TheVariants.{
+  Rel,
+  Add,
+  Del,
+  Query as Register,
+  Union,
+  Drop,
+  Open,
+  Next,
+  Close,
+  Has,
+  Watch,
+  Unwatch,
+  Explain,
+  Shape,
+  Batch,
+  Done,
+  Abandon,
+  Quit,
+  Stop,
+}
 use Rattle.djq_lines.specs.Conditions.{first_of, OutOfMemoryWhere}
 use Rattle.djq_lines.specs.Grammar.{says as says_command, reading_of}
 use Rattle.djq_lines.specs.Reply.{end_memory}
@@ -34,14 +99,77 @@ use Rattle.djq_lines.specs.Variables.{constants_of}
 use Rattle.djq_model.specs.Known.{texts_in}
 use Rattle.djq_machine.specs.State.{Store, State, Session, session_of, with_session}
 use Rattle.djq_machine.specs.Effect.{Effect, nothing, EndsWith}
-use Rattle.djq_machine.specs.Store.{with_rows, copies_of, with_copies_of, MakesRelation, RegistersQuery, DropsQuery, AddsRow, AddsAs, DeletesRow, DeletesAs, RefusedByTexts, RefusedLate, RegistersAs, rel_refusal, add_refusal, delete_refusal, query_refusal, drop_refusal}
+use Rattle.djq_machine.specs.Store.{
+  with_rows,
+  copies_of,
+  with_copies_of,
+  MakesRelation,
+  RegistersQuery,
+  DropsQuery,
+  AddsRow,
+  AddsAs,
+  DeletesRow,
+  DeletesAs,
+  RefusedByTexts,
+  RefusedLate,
+  RegistersAs,
+  rel_refusal,
+  add_refusal,
+  delete_refusal,
+  query_refusal,
+  drop_refusal,
+}
 use Rattle.djq_machine.specs.Command.{AddStep, BecomesWhere, CommandStep, HoldStep, QueryStep, QueryCutStep, with_batch}
 use Rattle.djq_machine.specs.LineStep.{LineOutcome, long, blank, slow, no_room, run, FrontStep, behind_line}
-use Rattle.djq_machine.specs.Step.{Event, opened, fed, stepped, took, ended, closed, FedStep, TookStep, EndedStep, Acts, SameRelations, with_relations, Step}
-use Rattle.djq_laws.specs.Form.{Form, asking, storing, turning, changing, ending, form_of, Replied, is_whole, is_cut, LearnsTexts, DoesTurn, is_turned, is_refused, Does, Turn}
+use Rattle.djq_machine.specs.Step.{
+  Event,
+  opened,
+  fed,
+  stepped,
+  took,
+  ended,
+  closed,
+  FedStep,
+  TookStep,
+  EndedStep,
+  Acts,
+  SameRelations,
+  with_relations,
+  Step,
+}
+use Rattle.djq_laws.specs.Form.{
+  Form,
+  asking,
+  storing,
+  turning,
+  changing,
+  ending,
+  form_of,
+  Replied,
+  is_whole,
+  is_cut,
+  LearnsTexts,
+  DoesTurn,
+  is_turned,
+  is_refused,
+  Does,
+  Turn,
+}
 use Rattle.djq_laws.proofs.Changing.{all_changed, all_dropped}
 use Rattle.djq_laws.proofs.Finding.{some_and}
-use Rattle.djq_laws.proofs.Forms.{done_of, none_holds, refused_learned, late_learned, stays_learned, turned_one, command_does, Reads, turned_down, carried_out, line_reads}
+use Rattle.djq_laws.proofs.Forms.{
+  done_of,
+  none_holds,
+  refused_learned,
+  late_learned,
+  stays_learned,
+  turned_one,
+  command_does,
+  Reads,
+  turned_down,
+  carried_out,
+  line_reads,
+}
 use Rattle.djq_laws.proofs.Watching.{change_store, queued_store}
 use Rattle.djq_load.specs.Joins.{join, IsWithin, IsJoin, Joins}
 

@@ -1,5 +1,32 @@
 -- What a change of rows tells the sessions that watch queries.
-use Rattle.std.specs.Prelude.{ℕ, List, [], ◌∷◌, ◌==◌, ◌≡◌, ◌+◌, ◌*◌, ◌++◌, ◌<◌, ◌≤◌, ◌⊎◌, ◌&&◌, Bool, true, Option, None, Some, IsSomeAnd, MatchOption, if◌then◌else◌, length, map, filter, sum_by, All}
+use Rattle.std.specs.Prelude.{
+  ℕ,
+  List,
+  [],
+  ◌∷◌,
+  ◌==◌,
+  ◌≡◌,
+  ◌+◌,
+  ◌*◌,
+  ◌++◌,
+  ◌<◌,
+  ◌≤◌,
+  ◌⊎◌,
+  ◌&&◌,
+  Bool,
+  true,
+  Option,
+  None,
+  Some,
+  IsSomeAnd,
+  MatchOption,
+  if◌then◌else◌,
+  length,
+  map,
+  filter,
+  sum_by,
+  All,
+}
 use Rattle.std.specs.List.{list_any}
 use Rattle.djq_model.specs.declared.relation.Relation.{Relation}
 use Rattle.djq_model.specs.Data.{Bytes, bytes_eq}
@@ -48,7 +75,8 @@ pub record ArePartsOf (before : List Relation) (change : RowsChange) (d : Delta)
       d.parts
 
 -- The deltas of these, in order, as a change makes other relations of some.
-pub record AreDeltas (before : List Relation) (change : RowsChange) (queries : List Listed) (deltas : List Delta) : Type 0 where
+pub record AreDeltas (before : List Relation) (change : RowsChange) (queries : List Listed)
+    (deltas : List Delta) : Type 0 where
   pub of_queries : map (λ d. d.query) deltas ≡ queries
   pub are_deltas : All (λ d. IsDelta (AnswersOf before d.query) (AnswersOf change.after d.query) d.changes)
       deltas

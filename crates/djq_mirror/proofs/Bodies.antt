@@ -7,11 +7,67 @@ use Rattle.djq_model.specs.Data.{Bytes}
 use Rattle.djq_lines.specs.declared.answer.EndLine.{EndLine}
 use Rattle.djq_lines.specs.declared.answer.EndLine.TheVariants.{Long, Slow, Memory, Full}
 use Rattle.djq_lines.specs.declared.answer.Refusal.{Refusal}
-use Rattle.djq_lines.specs.declared.answer.Refusal.TheVariants.{Syntax, Taken, NoRelation, NoQuery, NoCursor, Arity, WrongType, HeadUnbound, HeadRepeated, VariableType, Limit, NoMemory, InUse, Unbound, Member, Misplaced}
+use Rattle.djq_lines.specs.declared.answer.Refusal.TheVariants.{
+  Syntax,
+  Taken,
+  NoRelation,
+  NoQuery,
+  NoCursor,
+  Arity,
+  WrongType,
+  HeadUnbound,
+  HeadRepeated,
+  VariableType,
+  Limit,
+  NoMemory,
+  InUse,
+  Unbound,
+  Member,
+  Misplaced,
+}
 use Rattle.djq_lines.specs.declared.answer.Shape.TheVariants.{Flat, Linear, Union}
 use Rattle.djq_lines.specs.Reply.{line, cells_text, sign_text}
 use Rattle.djq_tree.specs.Explaining.{end_text}
-use Rattle.djq_mirror.specs.Replies.{Node, leaf, trim, meet, Reply, done, opened, added, removed, absent, batch_opened, row_held, batch_done, registered, cyclic, not_connex, answer, more, last, stale, united, member, had, shaped, watched, changed, counted, explained, refused, ended, cut, bye, IsPrinted, IsReply, joined, label_text, node_text, reply_text}
+use Rattle.djq_mirror.specs.Replies.{
+  Node,
+  leaf,
+  trim,
+  meet,
+  Reply,
+  done,
+  opened,
+  added,
+  removed,
+  absent,
+  batch_opened,
+  row_held,
+  batch_done,
+  registered,
+  cyclic,
+  not_connex,
+  answer,
+  more,
+  last,
+  stale,
+  united,
+  member,
+  had,
+  shaped,
+  watched,
+  changed,
+  counted,
+  explained,
+  refused,
+  ended,
+  cut,
+  bye,
+  IsPrinted,
+  IsReply,
+  joined,
+  label_text,
+  node_text,
+  reply_text,
+}
 use Rattle.djq_mirror.proofs.Parting.{spaced}
 
 abbrev pub refused_words : Refusal → Bytes

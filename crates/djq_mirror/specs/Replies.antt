@@ -12,7 +12,23 @@ use Rattle.djq_lines.specs.declared.answer.EndLine.{EndLine}
 use Rattle.djq_lines.specs.declared.answer.Refusal.{Refusal}
 use Rattle.djq_lines.specs.declared.answer.Shape.{Shape}
 use Rattle.djq_lines.specs.declared.answer.Sign.{Sign}
-use Rattle.djq_lines.specs.Reply.{line, numbered, numbered_twice, answer_line, last_line, stale_line, member_line, has_reply, shape_reply, change_line, at_line, refusal_line, end_line, input_cut, bye as bye_line}
+use Rattle.djq_lines.specs.Reply.{
+  line,
+  numbered,
+  numbered_twice,
+  answer_line,
+  last_line,
+  stale_line,
+  member_line,
+  has_reply,
+  shape_reply,
+  change_line,
+  at_line,
+  refusal_line,
+  end_line,
+  input_cut,
+  bye as bye_line,
+}
 use Rattle.djq_tree.specs.Explaining.{end_text}
 
 -- what an explained node is: a leaf over a relation, a trim of a node, or a meet of two nodes

@@ -1,9 +1,41 @@
 -- By its first byte, a line may begin with no row's keyword.
-use Rattle.std.proofs.Common.{◌≡◌, ◌||◌, ℕ, Bool, true, false, [], ◌∷◌, Option, None, Some, is_some, refl, ap, ◌∙◌, codes, eqb}
+use Rattle.std.proofs.Common.{
+  ◌≡◌,
+  ◌||◌,
+  ℕ,
+  Bool,
+  true,
+  false,
+  [],
+  ◌∷◌,
+  Option,
+  None,
+  Some,
+  is_some,
+  refl,
+  ap,
+  ◌∙◌,
+  codes,
+  eqb,
+}
 use Rattle.std.proofs.lemmas.Bool.{both_ways, cond-false, cond_both, eq-eqb, false_from_ne_true}
 use Rattle.djq_model.specs.Data.{Bytes, bytes_eq}
 use Rattle.djq_model.specs.Equality.{bytes_eq-decides}
-use Rattle.djq_value.specs.Token.{Token, text, stray, and_then, greater_front, less_front, may_end, not_front, text_front, text_in, token_front, tokens, word_front}
+use Rattle.djq_value.specs.Token.{
+  Token,
+  text,
+  stray,
+  and_then,
+  greater_front,
+  less_front,
+  may_end,
+  not_front,
+  text_front,
+  text_in,
+  token_front,
+  tokens,
+  word_front,
+}
 use Rattle.djq_value.proofs.Lexes.{tokens-none, tokens-step}
 use Rattle.djq_lines.specs.Grammar.{keyword_of}
 use Rattle.djq_lines.specs.declared.keyword.Keyword.{Keyword}

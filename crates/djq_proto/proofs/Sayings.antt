@@ -1,5 +1,34 @@
 -- Tokens are read as a command exactly where they say it.
-use Rattle.std.proofs.Common.{◌≡◌, ℕ, zero, suc, ◌<◌, ◌≤◌, true, ◌&&◌, List, [], ◌∷◌, ◌++◌, length, Option, Some, None, option_map, refl, sym, ap, ap₂, subst, ◌∙◌, arith, leb, ◌↔◌, codes, append-nil}
+use Rattle.std.proofs.Common.{
+  ◌≡◌,
+  ℕ,
+  zero,
+  suc,
+  ◌<◌,
+  ◌≤◌,
+  true,
+  ◌&&◌,
+  List,
+  [],
+  ◌∷◌,
+  ◌++◌,
+  length,
+  Option,
+  Some,
+  None,
+  option_map,
+  refl,
+  sym,
+  ap,
+  ap₂,
+  subst,
+  ◌∙◌,
+  arith,
+  leb,
+  ◌↔◌,
+  codes,
+  append-nil,
+}
 use Rattle.std.specs.List.{AllZip}
 use Rattle.std.proofs.lemmas.Bool.{cond-true, and_parts, and_from, leb-true, le-leb}
 use Rattle.djq_model.specs.Data.{Bytes, Tuple, bytes_eq}
@@ -11,16 +40,124 @@ use Rattle.djq_model.specs.declared.query.Operator.{Operator}
 use Rattle.djq_model.specs.declared.query.Comparison.{Comparison}
 use Rattle.djq_model.specs.declared.query.Query.{Query}
 use Rattle.djq_lines.specs.declared.command.Command.{Command}
-use Rattle.djq_lines.specs.declared.command.Command.TheVariants.{Rel, Add, Del, Query as Register, Union, Drop, Open, Next, Close, Has, Watch, Unwatch, Explain, Shape, Batch, Done, Abandon, Quit, Stop}
+use Rattle.djq_lines.specs.declared.command.Command.TheVariants.{
+  Rel,
+  Add,
+  Del,
+  Query as Register,
+  Union,
+  Drop,
+  Open,
+  Next,
+  Close,
+  Has,
+  Watch,
+  Unwatch,
+  Explain,
+  Shape,
+  Batch,
+  Done,
+  Abandon,
+  Quit,
+  Stop,
+}
 use Rattle.djq_lines.specs.declared.keyword.Keyword.{Keyword}
-use Rattle.djq_lines.specs.declared.keyword.Keyword.TheVariants.{Rel as RelWord, Add as AddWord, Del as DelWord, Query as QueryWord, Union as UnionWord, Drop as DropWord, Open as OpenWord, Next as NextWord, Close as CloseWord, Has as HasWord, Watch as WatchWord, Unwatch as UnwatchWord, Explain as ExplainWord, Shape as ShapeWord, Batch as BatchWord, Done as DoneWord, Abandon as AbandonWord, Quit as QuitWord, Stop as StopWord}
+use Rattle.djq_lines.specs.declared.keyword.Keyword.TheVariants.{
+  Rel as RelWord,
+  Add as AddWord,
+  Del as DelWord,
+  Query as QueryWord,
+  Union as UnionWord,
+  Drop as DropWord,
+  Open as OpenWord,
+  Next as NextWord,
+  Close as CloseWord,
+  Has as HasWord,
+  Watch as WatchWord,
+  Unwatch as UnwatchWord,
+  Explain as ExplainWord,
+  Shape as ShapeWord,
+  Batch as BatchWord,
+  Done as DoneWord,
+  Abandon as AbandonWord,
+  Quit as QuitWord,
+  Stop as StopWord,
+}
 use Rattle.djq_value.specs.Token.{Token, word, text, open_paren, close_paren, comma, arrow, operator, stray}
 use Rattle.djq_value.specs.Literal.{is_name, literal_of, natural_of}
-use Rattle.djq_lines.specs.Grammar.{all_of, Body, Item, atom, comparison, atom_in, atom_over, behind_item, body_in, command_behind, command_in, command_with, compared, comparison_of, count_of, is_count, item_in, items_in, items_within, past_item, put_item, with_atoms, keyword_of, list_in, name_and_count, name_and_members, name_of, named_any, named_some, nothing, one_name, query_in, query_of, term_of, two_names, type_of}
-use Rattle.djq_proto.specs.Saying.{IsName, Says, SaysAtom, SaysBody, SaysItem, SaysItems, SaysName, SaysOne, SaysQuery, SaysRow, SaysTerm, SaysType, SaysValue, atoms_among, comparisons_among, list_tokens}
+use Rattle.djq_lines.specs.Grammar.{
+  all_of,
+  Body,
+  Item,
+  atom,
+  comparison,
+  atom_in,
+  atom_over,
+  behind_item,
+  body_in,
+  command_behind,
+  command_in,
+  command_with,
+  compared,
+  comparison_of,
+  count_of,
+  is_count,
+  item_in,
+  items_in,
+  items_within,
+  past_item,
+  put_item,
+  with_atoms,
+  keyword_of,
+  list_in,
+  name_and_count,
+  name_and_members,
+  name_of,
+  named_any,
+  named_some,
+  nothing,
+  one_name,
+  query_in,
+  query_of,
+  term_of,
+  two_names,
+  type_of,
+}
+use Rattle.djq_proto.specs.Saying.{
+  IsName,
+  Says,
+  SaysAtom,
+  SaysBody,
+  SaysItem,
+  SaysItems,
+  SaysName,
+  SaysOne,
+  SaysQuery,
+  SaysRow,
+  SaysTerm,
+  SaysType,
+  SaysValue,
+  atoms_among,
+  comparisons_among,
+  list_tokens,
+}
 use Rattle.djq_proto.proofs.Bodies.{items_in-step}
 use Rattle.djq_proto.proofs.Numerals.{guard_some, map_some, numeral_from, numeral_said}
-use Rattle.djq_proto.proofs.Lists.{all_from, all_said, list_from, list_said, name_from, name_said, pick, term_from, term_said, type_from, type_said, value_from, value_said}
+use Rattle.djq_proto.proofs.Lists.{
+  all_from,
+  all_said,
+  list_from,
+  list_said,
+  name_from,
+  name_said,
+  pick,
+  term_from,
+  term_said,
+  type_from,
+  type_said,
+  value_from,
+  value_said,
+}
 
 pair_same : {A B : Type 0} (x y : A × B) → Some x ≡ Some y → (x.0 ≡ y.0) × (x.1 ≡ y.1)
 pair_same {A} {B} x y e =

@@ -14,13 +14,45 @@ use Rattle.djq_model.specs.declared.query.Comparison.{Comparison}
 use Rattle.djq_model.specs.declared.query.Term.{Term}
 use Rattle.djq_model.specs.declared.query.Term.TheVariants.{Variable, Hole, Constant}
 use Rattle.djq_lines.specs.declared.command.Command.{Command}
-use Rattle.djq_lines.specs.declared.command.Command.TheVariants.{Rel, Add, Del, Query as Register, Union, Drop, Open, Next, Close, Has, Watch, Unwatch, Explain, Shape, Batch, Done, Abandon, Quit, Stop}
+use Rattle.djq_lines.specs.declared.command.Command.TheVariants.{
+  Rel,
+  Add,
+  Del,
+  Query as Register,
+  Union,
+  Drop,
+  Open,
+  Next,
+  Close,
+  Has,
+  Watch,
+  Unwatch,
+  Explain,
+  Shape,
+  Batch,
+  Done,
+  Abandon,
+  Quit,
+  Stop,
+}
 use Rattle.djq_value.specs.Token.{Token, word, text, open_paren, close_paren, comma, arrow, operator, stray, tokens}
 use Rattle.djq_value.specs.Spelling.{HasNoStray}
 use Rattle.djq_value.proofs.Spellings.{tokens_are_spelled}
 use Rattle.djq_lines.specs.Grammar.{Item, atom, comparison, command_in, command_of, past_item}
 use Rattle.djq_proto.specs.Laws.{Spells}
-use Rattle.djq_proto.specs.Saying.{Says, SaysAtom, SaysComparison, SaysItem, SaysItems, SaysName, SaysTerm, SaysType, SaysValue, list_tokens, more_tokens}
+use Rattle.djq_proto.specs.Saying.{
+  Says,
+  SaysAtom,
+  SaysComparison,
+  SaysItem,
+  SaysItems,
+  SaysName,
+  SaysTerm,
+  SaysType,
+  SaysValue,
+  list_tokens,
+  more_tokens,
+}
 use Rattle.djq_proto.proofs.Numerals.{guard_some}
 use Rattle.djq_proto.proofs.Sayings.{commands_are_said}
 use Rattle.djq_proto.proofs.Utf8.{utf8_yes}

@@ -1,5 +1,25 @@
 -- What tokens say a command: the grammar as a relation, told without reading.
-use Rattle.std.specs.Prelude.{◌≡◌, ℕ, ℤ, pos, ◌-◌, ◌+◌, ◌*◌, ◌^◌, ◌<◌, ◌≤◌, ◌⊎◌, neg_ℤ, List, [], ◌∷◌, ◌++◌, true, codes, length}
+use Rattle.std.specs.Prelude.{
+  ◌≡◌,
+  ℕ,
+  ℤ,
+  pos,
+  ◌-◌,
+  ◌+◌,
+  ◌*◌,
+  ◌^◌,
+  ◌<◌,
+  ◌≤◌,
+  ◌⊎◌,
+  neg_ℤ,
+  List,
+  [],
+  ◌∷◌,
+  ◌++◌,
+  true,
+  codes,
+  length,
+}
 use Rattle.std.specs.List.{AllZip, list_all}
 use Rattle.djq_model.specs.Data.{Bytes, Tuple}
 use Rattle.djq_model.specs.declared.value.Value.{Value}
@@ -13,7 +33,27 @@ use Rattle.djq_model.specs.declared.query.Comparison.{Comparison}
 use Rattle.djq_model.specs.declared.query.Query.{Query}
 use Rattle.djq_lines.specs.declared.limits.TheConstants.{NEXT_COUNT}
 use Rattle.djq_lines.specs.declared.command.Command.{Command}
-use Rattle.djq_lines.specs.declared.command.Command.TheVariants.{Rel, Add, Del, Query as Register, Union, Drop, Open, Next, Close, Has, Watch, Unwatch, Explain, Shape, Batch, Done, Abandon, Quit, Stop}
+use Rattle.djq_lines.specs.declared.command.Command.TheVariants.{
+  Rel,
+  Add,
+  Del,
+  Query as Register,
+  Union,
+  Drop,
+  Open,
+  Next,
+  Close,
+  Has,
+  Watch,
+  Unwatch,
+  Explain,
+  Shape,
+  Batch,
+  Done,
+  Abandon,
+  Quit,
+  Stop,
+}
 use Rattle.djq_value.specs.Token.{Token, word, text, open_paren, close_paren, comma, arrow, operator}
 use Rattle.djq_value.specs.Literal.{is_digit, is_name}
 use Rattle.djq_lines.specs.Grammar.{Item, atom, comparison, past_item}

@@ -1,8 +1,37 @@
 -- A session that watches a query is told its deltas, and no other line of these forms.
-use Rattle.std.specs.Prelude.{ℕ, List, [], ◌∷◌, ◌++◌, ◌==◌, ◌≡◌, ◌≢◌, ◌⊎◌, ◌&&◌, Bool, true, false, cond, filter, Some, map, All, AllPairs, Contains}
+use Rattle.std.specs.Prelude.{
+  ℕ,
+  List,
+  [],
+  ◌∷◌,
+  ◌++◌,
+  ◌==◌,
+  ◌≡◌,
+  ◌≢◌,
+  ◌⊎◌,
+  ◌&&◌,
+  Bool,
+  true,
+  false,
+  cond,
+  filter,
+  Some,
+  map,
+  All,
+  AllPairs,
+  Contains,
+}
 use Rattle.std.specs.List.{list_any}
 use Rattle.std.proofs.Common.{refl, sym, ap, ap₂, ◌∙◌, subst, inl, inr, arith, append-nil}
-use Rattle.std.proofs.lemmas.List.Elements.{All-nil, All-cons, All-head, All-tail, All-contains, All-weaker, filter-append}
+use Rattle.std.proofs.lemmas.List.Elements.{
+  All-nil,
+  All-cons,
+  All-head,
+  All-tail,
+  All-contains,
+  All-weaker,
+  filter-append,
+}
 use Rattle.std.proofs.lemmas.List.Kept.{AllPairs-cons, AllPairs-filter}
 use Rattle.djq_model.specs.Data.{Bytes, bytes_eq}
 use Rattle.djq_model.specs.Equality.{bytes_eq-decides}
@@ -12,7 +41,17 @@ use Rattle.djq_machine.specs.State.{State, Session, session_of}
 use Rattle.djq_machine.specs.Delta.{Change, IsDelta}
 use Rattle.djq_machine.specs.Changes.{RowsChange, is_outdated}
 use Rattle.djq_machine.specs.Watch.{is_watching, affected, Delta, AreDeltas}
-use Rattle.djq_deltas.proofs.Lists.{nothing_there, first_or_later, first_there, later_there, kept_there, mapped_there, hold_each, pairs_head, pairs_tail}
+use Rattle.djq_deltas.proofs.Lists.{
+  nothing_there,
+  first_or_later,
+  first_there,
+  later_there,
+  kept_there,
+  mapped_there,
+  hold_each,
+  pairs_head,
+  pairs_tail,
+}
 use Rattle.djq_laws.proofs.Containing.{found_there, any_there, mapped_from}
 use Rattle.djq_told.specs.Told.{is_told_of, delta_replies}
 use Rattle.djq_told.proofs.Hearing.{heard, all_heard}
@@ -182,7 +221,8 @@ module _ (old : State) (change : RowsChange) (ds : List Delta)
       (λ (k : Delta). IsDelta (AnswersOf old.store.relations k.query) (AnswersOf change.after k.query) k.changes) ds d.0
       deltas.are_deltas d.1 in (
         (d.0).changes,
-        subst (λ (p : Listed). IsDelta (AnswersOf old.store.relations p) (AnswersOf change.after p) (d.0).changes) d.2 delta,
+        subst (λ (p : Listed). IsDelta (AnswersOf old.store.relations p) (AnswersOf change.after p) (d.0).changes) d.2
+            delta,
         subst (λ (p : Listed). filter (is_told_of (listed_name p)) (all_heard x.watches n ds)
             ≡ delta_replies (listed_name p) (record { number = n; changes = (d.0).changes })) d.2
             (of_one x.watches n ds d.0 deltas_apart d.1

@@ -1,5 +1,32 @@
 -- Printed replies are lines of their own.
-use Rattle.std.specs.Prelude.{ℕ, pos, negsuc, suc, zero, List, [], ◌∷◌, ◌++◌, ◌==◌, ◌≡◌, ◌≢◌, ◌≤◌, ◌+◌, ◌*◌, ◌&&◌, ◌||◌, Bool, true, false, not, cond, length, map, codes, decimal}
+use Rattle.std.specs.Prelude.{
+  ℕ,
+  pos,
+  negsuc,
+  suc,
+  zero,
+  List,
+  [],
+  ◌∷◌,
+  ◌++◌,
+  ◌==◌,
+  ◌≡◌,
+  ◌≢◌,
+  ◌≤◌,
+  ◌+◌,
+  ◌*◌,
+  ◌&&◌,
+  ◌||◌,
+  Bool,
+  true,
+  false,
+  not,
+  cond,
+  length,
+  map,
+  codes,
+  decimal,
+}
 use Rattle.std.specs.List.{list_all, flat_map}
 use Rattle.std.specs.Int.Digits.{digits_of}
 use Rattle.std.proofs.Common.{refl, sym, ap, ◌∙◌, subst, arith}
@@ -18,11 +45,66 @@ use Rattle.djq_lines.specs.declared.answer.EndLine.TheVariants.{Long, Slow, Memo
 use Rattle.djq_lines.specs.declared.answer.Shape.TheVariants.{Flat, Linear, Union}
 use Rattle.djq_lines.specs.declared.answer.Sign.{Sign}
 use Rattle.djq_lines.specs.declared.answer.Sign.TheVariants.{Came, Went}
-use Rattle.djq_lines.specs.declared.answer.Refusal.TheVariants.{Syntax, Taken, NoRelation, NoQuery, NoCursor, Arity, WrongType, HeadUnbound, HeadRepeated, VariableType, Limit, NoMemory, InUse, Unbound, Member, Misplaced}
+use Rattle.djq_lines.specs.declared.answer.Refusal.TheVariants.{
+  Syntax,
+  Taken,
+  NoRelation,
+  NoQuery,
+  NoCursor,
+  Arity,
+  WrongType,
+  HeadUnbound,
+  HeadRepeated,
+  VariableType,
+  Limit,
+  NoMemory,
+  InUse,
+  Unbound,
+  Member,
+  Misplaced,
+}
 use Rattle.djq_lines.specs.Reply.{line, cells_text, sign_text}
 use Rattle.djq_mirror.specs.declared.mode.TheConstants.{REPLY_LINE_BYTES}
 use Rattle.djq_mirror.specs.Inputs.{HasNoLf}
-use Rattle.djq_mirror.specs.Replies.{Reply, done, opened, added, removed, absent, batch_opened, row_held, batch_done, registered, cyclic, not_connex, answer, more, last, stale, united, member, had, shaped, watched, changed, counted, explained, refused, ended, cut, bye, joined, reply_text, IsNumber, is_cell, are_cells, is_variable, is_label, is_edge, is_rest}
+use Rattle.djq_mirror.specs.Replies.{
+  Reply,
+  done,
+  opened,
+  added,
+  removed,
+  absent,
+  batch_opened,
+  row_held,
+  batch_done,
+  registered,
+  cyclic,
+  not_connex,
+  answer,
+  more,
+  last,
+  stale,
+  united,
+  member,
+  had,
+  shaped,
+  watched,
+  changed,
+  counted,
+  explained,
+  refused,
+  ended,
+  cut,
+  bye,
+  joined,
+  reply_text,
+  IsNumber,
+  is_cell,
+  are_cells,
+  is_variable,
+  is_label,
+  is_edge,
+  is_rest,
+}
 use Rattle.djq_told.specs.Lines.{IsTheLine, PrintedAreLines}
 
 -- ---- no LF

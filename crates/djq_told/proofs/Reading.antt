@@ -1,5 +1,23 @@
 -- What a command says that a line is read as.
-use Rattle.std.specs.Prelude.{ℕ, List, [], ◌∷◌, ◌++◌, ◌≡◌, ◌≤◌, ◌&&◌, Bool, true, false, cond, length, Option, None, Some, All}
+use Rattle.std.specs.Prelude.{
+  ℕ,
+  List,
+  [],
+  ◌∷◌,
+  ◌++◌,
+  ◌≡◌,
+  ◌≤◌,
+  ◌&&◌,
+  Bool,
+  true,
+  false,
+  cond,
+  length,
+  Option,
+  None,
+  Some,
+  All,
+}
 use Rattle.std.specs.List.{AllZip, list_all}
 use Rattle.std.proofs.Common.{refl, sym, ap, ◌∙◌, subst, arith}
 use Rattle.std.proofs.lemmas.Bool.{and_parts}
@@ -17,11 +35,65 @@ use Rattle.djq_value.specs.Token.{Token, comma, arrow}
 use Rattle.djq_value.specs.Spelling.{IsSpelling}
 use Rattle.djq_lines.specs.declared.limits.TheConstants.{LINE_BYTES}
 use Rattle.djq_lines.specs.declared.command.Command.{Command}
-use Rattle.djq_lines.specs.declared.command.Command.TheVariants.{Rel, Add, Del, Query as Register, Union, Drop, Open, Next, Close, Has, Watch, Unwatch, Explain, Shape, Batch, Done, Abandon, Quit, Stop}
-use Rattle.djq_lines.specs.Grammar.{Item, atom, comparison, past_item, is_small_term, is_small_atom, is_in_range, command_of, past_limit, says as says_command, reading_in, reading_of}
-use Rattle.djq_proto.specs.Saying.{Says, SaysAtom, SaysComparison, SaysItem, SaysItems, SaysName, SaysTerm, SaysValue, list_tokens, more_tokens, atoms_among, comparisons_among}
+use Rattle.djq_lines.specs.declared.command.Command.TheVariants.{
+  Rel,
+  Add,
+  Del,
+  Query as Register,
+  Union,
+  Drop,
+  Open,
+  Next,
+  Close,
+  Has,
+  Watch,
+  Unwatch,
+  Explain,
+  Shape,
+  Batch,
+  Done,
+  Abandon,
+  Quit,
+  Stop,
+}
+use Rattle.djq_lines.specs.Grammar.{
+  Item,
+  atom,
+  comparison,
+  past_item,
+  is_small_term,
+  is_small_atom,
+  is_in_range,
+  command_of,
+  past_limit,
+  says as says_command,
+  reading_in,
+  reading_of,
+}
+use Rattle.djq_proto.specs.Saying.{
+  Says,
+  SaysAtom,
+  SaysComparison,
+  SaysItem,
+  SaysItems,
+  SaysName,
+  SaysTerm,
+  SaysValue,
+  list_tokens,
+  more_tokens,
+  atoms_among,
+  comparisons_among,
+}
 use Rattle.djq_proto.proofs.Spelled.{commands_are_spelled}
-use Rattle.djq_told.specs.Sayable.{IsName, IsSayableValue, IsSayableRow, IsSayableTerm, IsSayableAtom, IsSayableComparison, IsSayableQuery}
+use Rattle.djq_told.specs.Sayable.{
+  IsName,
+  IsSayableValue,
+  IsSayableRow,
+  IsSayableTerm,
+  IsSayableAtom,
+  IsSayableComparison,
+  IsSayableQuery,
+}
 use Rattle.djq_told.proofs.Lengths.{query_weight, query_less}
 use Rattle.djq_told.proofs.Utf8.{HaveUtf8, texts_have_utf8}
 

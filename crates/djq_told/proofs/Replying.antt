@@ -58,19 +58,109 @@ use Rattle.djq_lines.specs.declared.rest.NamedRest.{NamedRest}
 use Rattle.djq_lines.specs.declared.rest.QueryOutcome.{QueryOutcome}
 use Rattle.djq_lines.specs.declared.rest.QueryOutcome.TheVariants.{Registered, Cyclic, NotConnex}
 use Rattle.djq_lines.specs.declared.command.Command.{Command}
-use Rattle.djq_lines.specs.declared.command.Command.TheVariants.{Rel, Add, Del, Query as Register, Union, Drop, Open, Next, Close, Has, Watch, Unwatch, Explain, Shape as AskShape, Batch, Done, Abandon, Quit, Stop}
+use Rattle.djq_lines.specs.declared.command.Command.TheVariants.{
+  Rel,
+  Add,
+  Del,
+  Query as Register,
+  Union,
+  Drop,
+  Open,
+  Next,
+  Close,
+  Has,
+  Watch,
+  Unwatch,
+  Explain,
+  Shape as AskShape,
+  Batch,
+  Done,
+  Abandon,
+  Quit,
+  Stop,
+}
 use Rattle.djq_lines.specs.declared.held.HeldRow.{HeldRow}
 use Rattle.djq_lines.specs.Grammar.{Reading, says as says_command}
 use Rattle.djq_lines.specs.declared.limits.TheConstants.{LINE_BYTES, HELD}
 use Rattle.djq_lines.specs.Conditions.{Answers, OutOfMemoryWhere}
 use Rattle.djq_lines.specs.Hypergraph.{edges_of, head_of, variable_names}
-use Rattle.djq_lines.specs.Reply.{cells_text, line, text_of, answer_line, last_line, listing_lines, ok_reply, add_reply, delete_reply, query_reply, union_reply, member_line, has_reply, shape_reply, watch_reply, held_reply, done_reply, edges_text, rest_line, end_memory}
-use Rattle.djq_mirror.specs.Replies.{Reply, Node, leaf, trim, meet, done, opened as cursor_opened, added, removed, absent, batch_opened, row_held, batch_done, registered, cyclic, not_connex, answer, more, last, stale as gone_stale, united, member, had, shaped, watched, changed, counted, explained, refused, ended as is_ended, bye, joined, edges_line, reply_text, IsNumber, label_text as label_of, node_text as node_of}
+use Rattle.djq_lines.specs.Reply.{
+  cells_text,
+  line,
+  text_of,
+  answer_line,
+  last_line,
+  listing_lines,
+  ok_reply,
+  add_reply,
+  delete_reply,
+  query_reply,
+  union_reply,
+  member_line,
+  has_reply,
+  shape_reply,
+  watch_reply,
+  held_reply,
+  done_reply,
+  edges_text,
+  rest_line,
+  end_memory,
+}
+use Rattle.djq_mirror.specs.Replies.{
+  Reply,
+  Node,
+  leaf,
+  trim,
+  meet,
+  done,
+  opened as cursor_opened,
+  added,
+  removed,
+  absent,
+  batch_opened,
+  row_held,
+  batch_done,
+  registered,
+  cyclic,
+  not_connex,
+  answer,
+  more,
+  last,
+  stale as gone_stale,
+  united,
+  member,
+  had,
+  shaped,
+  watched,
+  changed,
+  counted,
+  explained,
+  refused,
+  ended as is_ended,
+  bye,
+  joined,
+  edges_line,
+  reply_text,
+  IsNumber,
+  label_text as label_of,
+  node_text as node_of,
+}
 use Rattle.djq_machine.specs.State.{Store, State, Session, Cursor, Position, open_at, stale, cursor_of}
 use Rattle.djq_machine.specs.Effect.{Effect, RefusedStep}
 use Rattle.djq_machine.specs.Batch.{hold_refusal, AddsBatch}
 use Rattle.djq_machine.specs.Store.{row_refusals, RegistersQuery, RegistersAs, RefusedLate, query_refusal}
-use Rattle.djq_machine.specs.Command.{AddStep, HoldStep, QueryStep, NextStepAt, CloseStep, ExplainStepOf, TellsLines, explain_lines, union_lines, CommandStep}
+use Rattle.djq_machine.specs.Command.{
+  AddStep,
+  HoldStep,
+  QueryStep,
+  NextStepAt,
+  CloseStep,
+  ExplainStepOf,
+  TellsLines,
+  explain_lines,
+  union_lines,
+  CommandStep,
+}
 use Rattle.djq_laws.specs.Sound.{IsSoundStore}
 use Rattle.djq_laws.proofs.Changing.{all_found}
 use Rattle.djq_laws.proofs.Forms.{done_of, none_holds}
@@ -78,7 +168,14 @@ use Rattle.djq_laws.proofs.Finding.{some_and}
 use Rattle.djq_mirror.specs.declared.mode.Mode.{Mode}
 use Rattle.djq_mirror.specs.declared.mode.Mode.TheVariants.{Idle, Listing, Live}
 use Rattle.djq_mirror.specs.Mirror.{Act, keep, turn_of, turn_of_change, turn_of_count}
-use Rattle.djq_told.specs.Sayable.{IsSayableQuery, IsSayableListed, IsSayableStore, IsSayablePosition, IsSayableCursor, IsSayableSession}
+use Rattle.djq_told.specs.Sayable.{
+  IsSayableQuery,
+  IsSayableListed,
+  IsSayableStore,
+  IsSayablePosition,
+  IsSayableCursor,
+  IsSayableSession,
+}
 use Rattle.djq_told.specs.Told.{replies_text, is_told_of}
 use Rattle.djq_told.proofs.Hearing.{text_append}
 use Rattle.djq_told.proofs.Printed.{IsFine, number_small, answers_fine}

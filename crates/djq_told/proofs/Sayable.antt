@@ -56,13 +56,55 @@ use Rattle.djq_lines.specs.declared.answer.AddOutcome.TheVariants.{First, More}
 use Rattle.djq_lines.specs.declared.answer.DeleteOutcome.{DeleteOutcome}
 use Rattle.djq_lines.specs.declared.answer.DeleteOutcome.TheVariants.{Last, Left, Absent}
 use Rattle.djq_lines.specs.declared.command.Command.{Command}
-use Rattle.djq_lines.specs.declared.command.Command.TheVariants.{Rel, Add, Del, Query as Register, Union, Drop, Open, Next, Close, Has, Watch, Unwatch, Explain, Shape, Batch, Done, Abandon, Quit, Stop}
+use Rattle.djq_lines.specs.declared.command.Command.TheVariants.{
+  Rel,
+  Add,
+  Del,
+  Query as Register,
+  Union,
+  Drop,
+  Open,
+  Next,
+  Close,
+  Has,
+  Watch,
+  Unwatch,
+  Explain,
+  Shape,
+  Batch,
+  Done,
+  Abandon,
+  Quit,
+  Stop,
+}
 use Rattle.djq_lines.specs.declared.held.HeldRow.{HeldRow}
 use Rattle.djq_lines.specs.Grammar.{says as says_command, reading_of}
 use Rattle.djq_lines.specs.Reply.{end_memory}
-use Rattle.djq_machine.specs.State.{Store, State, Session, Cursor, Position, open_at, stale, fresh, session_of, with_session, with_position, ended_by}
+use Rattle.djq_machine.specs.State.{
+  Store,
+  State,
+  Session,
+  Cursor,
+  Position,
+  open_at,
+  stale,
+  fresh,
+  session_of,
+  with_session,
+  with_position,
+  ended_by,
+}
 use Rattle.djq_machine.specs.Stale.{outdated, outdater_of, outdated_cursor, by_relation, listed_reads}
-use Rattle.djq_machine.specs.Changes.{RowsChange, RowsOutcome, tried, changed, row_in, row_out, add_outcome, delete_outcome}
+use Rattle.djq_machine.specs.Changes.{
+  RowsChange,
+  RowsOutcome,
+  tried,
+  changed,
+  row_in,
+  row_out,
+  add_outcome,
+  delete_outcome,
+}
 use Rattle.djq_machine.specs.Watch.{is_watching, Telling, ChangeStep}
 use Rattle.djq_machine.specs.Effect.{Effect, nothing, EndsWith, queue, queue_all}
 use Rattle.djq_machine.specs.Command.{
@@ -79,7 +121,21 @@ use Rattle.djq_machine.specs.Command.{
 }
 use Rattle.djq_machine.specs.Batch.{has_come, first_read, batch_outcome}
 use Rattle.djq_machine.specs.LineStep.{LineOutcome, long, blank, slow, no_room, run, ReadStep, FrontStep, behind_line}
-use Rattle.djq_machine.specs.Step.{Event, opened, fed, stepped, took, ended, closed, FedStep, TookStep, EndedStep, Acts, with_relations, Step}
+use Rattle.djq_machine.specs.Step.{
+  Event,
+  opened,
+  fed,
+  stepped,
+  took,
+  ended,
+  closed,
+  FedStep,
+  TookStep,
+  EndedStep,
+  Acts,
+  with_relations,
+  Step,
+}
 use Rattle.djq_machine.specs.Run.{Did}
 use Rattle.djq_machine.proofs.Walks.{walk_keeps}
 use Rattle.djq_laws.specs.Sound.{IsStart}
@@ -123,7 +179,17 @@ use Rattle.djq_told.specs.Sayable.{
 }
 use Rattle.djq_told.proofs.Reading.{IsSayableCommand, read_sayable}
 use Rattle.djq_told.proofs.Keeping.{change_keeps}
-use Rattle.djq_told.proofs.Storing.{answer_sayable, rel_sayable, add_sayable, del_sayable, done_sayable, query_sayable, union_sayable, drop_sayable, moved_store_sayable}
+use Rattle.djq_told.proofs.Storing.{
+  answer_sayable,
+  rel_sayable,
+  add_sayable,
+  del_sayable,
+  done_sayable,
+  query_sayable,
+  union_sayable,
+  drop_sayable,
+  moved_store_sayable,
+}
 
 -- ---- sessions
 

@@ -1,5 +1,45 @@
 -- What commands make of the store has names, and values within their limits.
-use Rattle.std.specs.Prelude.{ℕ, zero, suc, ◌+◌, ◌-◌, ◌*◌, ◌^◌, ◌<◌, ◌≢◌, List, [], ◌∷◌, ◌==◌, ◌&&◌, ◌||◌, ◌≡◌, ◌≤◌, ◌++◌, ◌⊎◌, Bool, true, false, not, cond, nat_le, nat_lt, length, Option, None, Some, is_some, is_none, Result, Ok, Err, map, All, Contains, ⊤}
+use Rattle.std.specs.Prelude.{
+  ℕ,
+  zero,
+  suc,
+  ◌+◌,
+  ◌-◌,
+  ◌*◌,
+  ◌^◌,
+  ◌<◌,
+  ◌≢◌,
+  List,
+  [],
+  ◌∷◌,
+  ◌==◌,
+  ◌&&◌,
+  ◌||◌,
+  ◌≡◌,
+  ◌≤◌,
+  ◌++◌,
+  ◌⊎◌,
+  Bool,
+  true,
+  false,
+  not,
+  cond,
+  nat_le,
+  nat_lt,
+  length,
+  Option,
+  None,
+  Some,
+  is_some,
+  is_none,
+  Result,
+  Ok,
+  Err,
+  map,
+  All,
+  Contains,
+  ⊤,
+}
 use Rattle.std.specs.List.{list_any}
 use Rattle.std.proofs.Common.{refl, sym, ap, ◌∙◌, subst, inl, inr, arith}
 use Rattle.std.proofs.lemmas.Bool.{eq-eqb, leb-false, ltb-false}
@@ -14,7 +54,23 @@ use Rattle.djq_model.specs.declared.query.Query.{Query}
 use Rattle.djq_model.specs.declared.query.Atom.{Atom}
 use Rattle.djq_model.specs.declared.query.Term.{Term}
 use Rattle.djq_model.specs.declared.query.Term.TheVariants.{Variable, Hole, Constant}
-use Rattle.djq_model.specs.Data.{Bytes, Tuple, bytes_eq, tuple_eq, drop_first, relation_of, tuples_in, tuples_of, counted_in, counted_of, rows_of, has_row, with_row, with_copies, without_copies}
+use Rattle.djq_model.specs.Data.{
+  Bytes,
+  Tuple,
+  bytes_eq,
+  tuple_eq,
+  drop_first,
+  relation_of,
+  tuples_in,
+  tuples_of,
+  counted_in,
+  counted_of,
+  rows_of,
+  has_row,
+  with_row,
+  with_copies,
+  without_copies,
+}
 use Rattle.djq_model.specs.Equality.{bytes_eq-decides}
 use Rattle.djq_model.specs.Answer.{Assignment, StandsFor, StandForAll, Satisfies, IsAnswer}
 use Rattle.djq_model.specs.Listed.{Listed, a_query, a_union, listed_name, AnswersOf, listed_of}
@@ -23,7 +79,17 @@ use Rattle.djq_model.proofs.Counted.{tuples_with_row, tuples_with_copies, tuples
 use Rattle.djq_lines.specs.Conditions.{first_of, OutOfMemoryWhere}
 use Rattle.djq_lines.specs.QueryFault.{is_too_large, query_faults}
 use Rattle.djq_lines.specs.Variables.{constants_of, is_variable, stands_in, variables_of}
-use Rattle.djq_lines.specs.declared.limits.TheConstants.{LAST_SEQ, COPIES, ROWS, QUERIES, MEMBERS, ATOMS, VARIABLES, HEAD_VARIABLES, COMPARISONS}
+use Rattle.djq_lines.specs.declared.limits.TheConstants.{
+  LAST_SEQ,
+  COPIES,
+  ROWS,
+  QUERIES,
+  MEMBERS,
+  ATOMS,
+  VARIABLES,
+  HEAD_VARIABLES,
+  COMPARISONS,
+}
 use Rattle.djq_lines.specs.declared.rest.QueryOutcome.{QueryOutcome}
 use Rattle.djq_lines.specs.declared.rest.QueryOutcome.TheVariants.{Registered, Cyclic, NotConnex}
 use Rattle.djq_lines.specs.declared.answer.Refusal.{Refusal}
@@ -35,7 +101,31 @@ use Rattle.djq_lines.specs.declared.answer.DeleteOutcome.TheVariants.{Last, Left
 use Rattle.djq_deltas.specs.Finite.{IsBound}
 use Rattle.djq_deltas.proofs.Lists.{nothing_there, first_or_later, first_there, later_there, hold_each, some_one}
 use Rattle.djq_machine.specs.State.{Store}
-use Rattle.djq_machine.specs.Store.{RefusedByTexts, RefusedLate, RegistersAs, MakesRelation, RegistersQuery, DropsQuery, AddsRow, AddsAs, DeletesRow, DeletesAs, with_rows, with_copies_of, copies_of, row_refusals, rel_refusal, query_refusal, drop_refusal, add_refusal, delete_refusal, answer_steps, most_steps, width_of, atoms_of}
+use Rattle.djq_machine.specs.Store.{
+  RefusedByTexts,
+  RefusedLate,
+  RegistersAs,
+  MakesRelation,
+  RegistersQuery,
+  DropsQuery,
+  AddsRow,
+  AddsAs,
+  DeletesRow,
+  DeletesAs,
+  with_rows,
+  with_copies_of,
+  copies_of,
+  row_refusals,
+  rel_refusal,
+  query_refusal,
+  drop_refusal,
+  add_refusal,
+  delete_refusal,
+  answer_steps,
+  most_steps,
+  width_of,
+  atoms_of,
+}
 use Rattle.djq_machine.specs.Union.{stands_twice, is_union, types_differ, union_refusal, AreUnder, RegistersUnion}
 use Rattle.djq_machine.specs.Batch.{is_there, with_held, with_all, count_came, HavePlaces, AddsBatch}
 use Rattle.djq_machine.specs.Step.{SameRelations}

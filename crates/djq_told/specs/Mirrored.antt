@@ -4,7 +4,20 @@ use Rattle.djq_model.specs.Data.{Bytes, Tuple}
 use Rattle.djq_model.specs.Listed.{Listed, listed_name, AnswersOf}
 use Rattle.djq_lines.specs.Reply.{cells_text}
 use Rattle.djq_lines.specs.declared.command.Command.{Command}
-use Rattle.djq_lines.specs.declared.command.Command.TheVariants.{Rel, Add, Del, Query as Register, Union, Open, Next, Close, Explain, Batch, Done, Abandon}
+use Rattle.djq_lines.specs.declared.command.Command.TheVariants.{
+  Rel,
+  Add,
+  Del,
+  Query as Register,
+  Union,
+  Open,
+  Next,
+  Close,
+  Explain,
+  Batch,
+  Done,
+  Abandon,
+}
 use Rattle.djq_lines.specs.Grammar.{Reading, says as says_command, reading_of}
 use Rattle.djq_mirror.specs.declared.mode.Mode.TheVariants.{Live}
 use Rattle.djq_mirror.specs.Inputs.{IsHeld}

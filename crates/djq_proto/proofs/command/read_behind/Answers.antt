@@ -19,7 +19,8 @@ pub returns-in_err-name-in-Union : goal.returns-in_err-name-in-Union
 returns-in_err-name-in-Union c =
     let r = c.from_residual-in_err-name-in-Union in
     subst (λ k. Gives (command_behind k c.args.lexer.now) r.result) (sym c.in-Union.is)
-    (subst (λ x. Gives (command_behind Union c.args.lexer.now) x) (sym (err_is r.result c.in_err-name-in-Union.field-0.0 r.ensures.1))
+    (subst (λ x. Gives (command_behind Union c.args.lexer.now) x)
+    (sym (err_is r.result c.in_err-name-in-Union.field-0.0 r.ensures.1))
     (union_refused (name_and_members c.args.lexer.now) c.in_err-name-in-Union.field-0.0 c.in_err-name-in-Union.ensures))
 
 pub returns-in_err-query-in-Query : goal.returns-in_err-query-in-Query
