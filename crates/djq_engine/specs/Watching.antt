@@ -3,7 +3,7 @@ use Rattle.std.specs.Prelude.{ℕ, List, [], ◌∷◌, ◌++◌, ◌≡◌, ◌
 use Rattle.djq_model.specs.declared.query.Query.{Query}
 use Rattle.djq_model.specs.declared.relation.Relation.{Relation}
 use Rattle.djq_model.specs.Data.{Bytes, rows_of}
-use Rattle.djq_model.specs.Listed.{Listed, a_query}
+use Rattle.djq_model.specs.Listed.{Listed, a_query, a_union}
 use Rattle.djq_lines.specs.Variables.{variables_of}
 use Rattle.djq_lines.specs.declared.answer.AddOutcome.{AddOutcome}
 use Rattle.djq_lines.specs.declared.answer.AddOutcome.TheVariants.{First, More}
@@ -96,14 +96,17 @@ EnrolsTelling old q _ new =
 
 -- What an update of a query counts at most, where no leaf has more than n tuples before it: for each
 -- atom over a relation that changes 16(m + v)(n + 1), with m atoms and v variables, holes counted in.
+-- The updates of a union are its members'.
 abbrev pub update_steps : RowsChange → ℕ → Listed → ℕ
 update_steps change n (a_query q) = length (filter (λ a. change.touches a.relation) q.atoms)
     * (16 * ((length q.atoms + length (variables_of q.atoms)) * (n + 1)))
+update_steps change n (a_union name qs) = 0
 
 -- What an update of a flat query counts at most, whatever the rows: 16(m + v) for each such atom.
 abbrev pub flat_steps : RowsChange → Listed → ℕ
 flat_steps change (a_query q) = length (filter (λ a. change.touches a.relation) q.atoms)
     * (16 * (length q.atoms + length (variables_of q.atoms)))
+flat_steps change (a_union name qs) = 0
 
 -- What so many updates of a query count at most, as a flat one or by its rows. Of a flat query two
 -- count at most.

@@ -8,7 +8,7 @@ ghost use Rattle.djq_reach.specs.Places.{readers_at, AreOnce};
 ghost use Rattle.djq_reach.specs.Tending.{AreUnwatched};
 ghost use Rattle.djq_reach.specs.Grouping.{CostsBy, WorksBy, relations_of, rows_in, times_back};
 ghost use Rattle.djq_engine.specs.Changing.{KeepsRest};
-ghost use Rattle.djq_engine.specs.Kept.{IsUnwatched, Outdates};
+ghost use Rattle.djq_engine.specs.Kept.{IsUnwatched, Outdates, KeepsPlaces, is_tried};
 ghost use Rattle.djq_engine.specs.Taking.{reached_in, LeadsHere, TakesGroups, LacksGroups};
 ghost use Rattle.djq_engine.specs.Watching.{CountsBatch, TellsChange, batch_times};
 ghost use Rattle.djq_engine.specs.Whole.{kept_in, IsWhole, IsTended};
@@ -100,6 +100,9 @@ pub fn done_in<L: Ledgers>(
         → steps.new.listing ≡ steps.old.listing }
     ensures updates { CountsBatch (batch_times held.now result) (kept_in parts.old) held.now
         steps.old.update steps.new.update }
+    ensures places { KeepsPlaces
+        (is_tried (tried (batch_outcome (kept_in parts.old).store held.now result)))
+        (kept_in parts.old) (kept_in parts.new) }
 {
     deltas_exist();
     heads_are_bound();
