@@ -76,6 +76,14 @@ impl DeltaLog {
         }
     }
 
+    /// Loses all lines: whoever puts them in can't go on.
+    pub fn lose(&mut self)
+        ensures { self.new.lost ≡ true }
+    {
+        self.lines.clear();
+        self.lost = true;
+    }
+
     /// Takes all lines out, to begin anew.
     pub fn clear(&mut self)
         ensures lines { self.new.lines ≡ [] }
