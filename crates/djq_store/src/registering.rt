@@ -1,0 +1,73 @@
+//! Queries and unions that are registered and dropped.
+ghost use Rattle.std.specs.Prelude.{◌≡◌, ◌≤◌, ◌<◌, map, length};
+ghost use Rattle.djq_machine.specs.Store.{RegistersQuery};
+ghost use Rattle.djq_machine.specs.Union.{RegistersUnion};
+ghost use Rattle.djq_engine.specs.Kept.{SameCursors, DropGives};
+ghost use Rattle.djq_engine.specs.Watching.{Enrols, EnrolsTelling};
+ghost use Rattle.djq_store.specs.Registering.{EnrolsUnion, EnrolsUnionTelling};
+
+use crate::finding::find_union;
+use crate::store::Store;
+use djq_engine::QueryId;
+use djq_lines::limits::{MEMBERS, QUERIES};
+use djq_lines::{QueryOutcome, Refusal};
+use djq_model::{Name, Query, Sequence};
+use djq_steps::{Ledgers, Steps};
+
+impl Store {
+    /// Registers a free-connex query, and tells how many lookups and links one of its answers takes
+    /// at most; or tells a rest that shows why the query isn't free-connex.
+    ///
+    /// # Errors
+    ///
+    /// `Taken` where a query or union has the name; the first fault that the query has; `Limit` at
+    /// [`QUERIES`](djq_lines::limits::QUERIES) queries and unions, or where a text of a free-connex query is
+    /// unknown and as many are known as may be; `NoMemory` out of memory. Texts that became known
+    /// stay so, and nothing else has changed.
+    pub fn query<L: Ledgers>(
+        &mut self,
+        query: Query,
+        steps: &mut Steps<L>,
+    ) -> Result<QueryOutcome, Refusal>
+        requires { 0 < length query.atoms }
+        ensures registers { RegistersQuery self.old.store query result self.new.store }
+        ensures cursors { SameCursors self.old.cursors self.new.cursors }
+        ensures enrols { Enrols self.old.registered query result self.new.registered }
+        ensures tellings { EnrolsTelling self.old query result self.new }
+        ensures counted { steps.new.listing ≡ steps.old.listing }
+    {
+        unreachable!()
+    }
+
+    /// Registers the union of some registered queries, and tells how many lookups and links one of its answers
+    /// takes at most.
+    ///
+    /// # Errors
+    ///
+    /// `Taken` where a query or union has the name; `NoQuery` where none has a member's; `Member` where a member's
+    /// name stands twice or is a union's, or where the answers of members have other types; `Limit` above
+    /// [`MEMBERS`](djq_lines::limits::MEMBERS) members, and at [`QUERIES`](djq_lines::limits::QUERIES) queries and
+    /// unions; `NoMemory` out of memory. Nothing has changed.
+    pub fn add_union(&mut self, name: Name, members: &[Name]) -> Result<u64, Refusal>
+        requires { 2 ≤ length members.now }
+        ensures registers { RegistersUnion self.old.store name members.now result self.new.store }
+        ensures cursors { SameCursors self.old.cursors self.new.cursors }
+        ensures enrols { EnrolsUnion self.old name members.now result self.new }
+        ensures tellings { EnrolsUnionTelling self.old name result self.new }
+    {
+        unreachable!()
+    }
+
+    /// Drops a query or union: it is registered no more. The ids of others and of their cursors stay.
+    /// It takes no memory.
+    ///
+    /// # Errors
+    ///
+    /// `NoQuery` where none has the name; `InUse` where a cursor is over it, stale or not, a session watches it, or
+    /// it is a member of a union. Nothing has changed.
+    pub fn drop_query(&mut self, name: &Name) -> Result<(), Refusal>
+        ensures { DropGives self.old name.now result self.new }
+    {
+        unreachable!()
+    }
+}
