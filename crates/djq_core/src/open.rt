@@ -1,6 +1,6 @@
-use djq_engine::CursorId;
 use djq_model::Name;
 use djq_session::Session;
+use djq_store::CursorId;
 
 /// An open session over the engine's cursors and queries.
 #[derive(Drop)]

@@ -13,13 +13,13 @@ use crate::line::step_session;
 use crate::open::OpenSession;
 use crate::tell::tell_change;
 use bytes::BytesMut;
-use djq_engine::Engine;
 use djq_lines::limits::{COLUMNS, SESSIONS};
 use djq_lines::{EndCause, EndLine, HeldRow};
 use djq_machine::{Fed, Machine, OpenRefusal, Stepped};
 use djq_model::{Name, NoMem, Sequence, Value};
 use djq_session::Session;
 use djq_steps::{Ledgers, Steps};
+use djq_store::Store;
 use std::alloc::Global;
 use std::marker::Model;
 
@@ -37,7 +37,7 @@ mod tests;
 /// ```
 #[derive(Drop)]
 pub struct Core {
-    engine: Engine,
+    engine: Store,
     ids: Vec<u64>,
     sessions: Vec<OpenSession>,
     stopped: bool,
@@ -82,7 +82,7 @@ impl Core {
         ensures batch { IfOk result (λ core. core.batch ≡ None) }
     {
         Ok(Core {
-            engine: Engine::new(alloc)?,
+            engine: Store::new(alloc)?,
             ids: Vec::with_capacity(alloc, SESSIONS)?,
             sessions: Vec::with_capacity(alloc, SESSIONS)?,
             stopped: false,

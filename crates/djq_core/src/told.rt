@@ -1,5 +1,5 @@
-use djq_engine::LentAnswer;
 use djq_model::{Answered, Lent};
+use djq_store::LentAnswer;
 
 /// An answer that the engine lends, to be told value by value.
 #[derive(Drop)]
