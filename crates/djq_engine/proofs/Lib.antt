@@ -40,3 +40,6 @@ pub mod Accepted
 pub mod Settled
 pub mod Worked
 pub mod Joined
+pub mod Placed
+pub mod Crowded
+pub mod Lawful

@@ -187,8 +187,10 @@ pub fn delta_cells_in(parts: &Parts, id: QueryId, nth: usize, cells: &mut Cells)
     showable_cells_stand();
     let line = line_at(&parts.logs[id.at], nth);
     match &parts.queries[id.at] {
-        Some(live) => live.put_in_head(&line.answer, cells),
+        Some(live) => {
+            live.put_in_head(&line.answer, cells);
+            line.came
+        }
         None => unreachable!(),
     }
-    line.came
 }

@@ -14,13 +14,12 @@ use Rattle.std.proofs.Common.{
   subst,
   ◌∙◌,
 }
-use Rattle.std.specs.Prelude.{◌↔◌, ◌&&◌, Bool}
+use Rattle.std.specs.Prelude.{◌&&◌, Bool}
 use Rattle.djq_model.specs.declared.relation.ColumnType.{ColumnType}
 use Rattle.djq_model.specs.Data.{Bytes, Tuple}
 use Rattle.djq_model.specs.Answer.{IsAnswer}
-use Rattle.djq_model.specs.Typed.{is_of, fits}
+use Rattle.djq_model.specs.Typed.{fits}
 use Rattle.djq_machine.specs.Store.{answer_types}
-use Rattle.djq_reduct.specs.Answers.{IsAnswerOf}
 use Rattle.djq_query.specs.declared.numbered.Variable.{Variable}
 use Rattle.djq_rows.specs.Cells.{cells_of, StandFor}
 use Rattle.djq_rows.specs.Catalog.{Catalog}
@@ -35,10 +34,12 @@ use Rattle.djq_live.specs.Member.{
   HadCellsStand,
   AnswersHaveCells,
   CellsTellValues,
+  HeadTypesAre,
+  ShowableCellsStand,
 }
 use Rattle.djq_live.specs.Shown.{AreShownAs}
 use Rattle.djq_live.proofs.Asking.{shown_have, types_are}
-use Rattle.djq_live.proofs.InHead.{kept_head, had_from, had_by}
+use Rattle.djq_live.proofs.InHead.{had_from, had_by}
 use Rattle.djq_live.proofs.Showing.{query_answer, tree_answer, stand}
 
 -- what cells show suits the variables' columns
@@ -61,6 +62,20 @@ cells_stand c l kept u is =
       of = ap (λ (types : List ColumnType). fits types (values_of c.texts l u))
           (types_are c l.query n l.patterns l.reducts over)
           ∙ shown_fits c.texts n.variables F u n.head (values_of c.texts l u) shows;
+      have = have.0;
+      are = have.1;
+    }
+
+pub head_are : HeadTypesAre
+head_are c l kept = sym (types_are c l.query l.numbered l.patterns l.reducts kept.over)
+
+pub showable_stand : ShowableCellsStand
+showable_stand texts l u h =
+    let n = l.numbered in
+    let F = l.reducts.tree.head in
+    let have = shown_have texts n.variables F u n.head (values_of texts l u) h.stands in
+    record {
+      of = shown_fits texts n.variables F u n.head (values_of texts l u) h.stands;
       have = have.0;
       are = have.1;
     }

@@ -72,7 +72,10 @@ fn same_columns(
         return false;
     }
     for at in 0..head.len() {
-        if !same_type(column_at(variables, head[at]), column_at(others, other_head[at])) {
+        if !same_type(
+            column_at(variables, head[at]),
+            column_at(others, other_head[at]),
+        ) {
             return false;
         }
     }
