@@ -2,7 +2,6 @@
 use Rattle.std.specs.Prelude.{
   ◌≡◌,
   ◌≤◌,
-  ⊤,
   ℕ,
   List,
   length,
@@ -35,11 +34,6 @@ use Rattle.djq_united.specs.United.{FitsMembers, AtFirst}
 -- the cells that a cursor has given, in the head's order
 abbrev pub union_cells : List Live → List (Option Cursor) → List (List ℕ)
 union_cells ls cursor = union_given has_cells cells_given ls cursor
-
--- an open cursor fits the members
-abbrev pub FitsOver : List Live → Progress → Type 0
-FitsOver ls (Open cursor ended) = FitsMembers ls cursor
-FitsOver ls (Stale relation n) = ⊤
 
 -- A cursor goes on by one answer that it hasn't given, and the first member has it as a tuple of its
 -- tree.

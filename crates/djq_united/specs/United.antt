@@ -1,6 +1,7 @@
 -- The union of some registered queries, over the queries in their places.
 use Rattle.std.specs.Prelude.{
   ◌≡◌,
+  ⊤,
   ℕ,
   ◌≤◌,
   Bool,
@@ -85,15 +86,19 @@ pub record AreMembers (qs : List (Option Live)) (ks : List ℕ) : Type 0 where
 abbrev pub FitsMembers : List Live → List (Option Cursor) → Type 0
 FitsMembers ls cursor = UnionFits has_cells cells_given FitsKept ls cursor
 
--- the open cursor in a slot fits the members
-abbrev pub FitsIn : List (Option Live) → United → ℕ → Type 0
-FitsIn qs u k = (cursor : List (Option Cursor)) (ended : Bool)
-    → slot_at u.cursors k ≡ Some (Open cursor ended) → FitsMembers (members_in qs u) cursor
+-- an open cursor fits the members
+abbrev pub FitsOver : List Live → Progress → Type 0
+FitsOver ls (Open cursor ended) = FitsMembers ls cursor
+FitsOver ls (Stale relation n) = ⊤
+
+-- The cursors in slots that are open fit the members.
+pub record FitAll (ls : List Live) (slots : List (Option Progress)) : Type 0 where
+  pub each : (k : ℕ) (p : Progress) → slot_at slots k ≡ Some p → FitsOver ls p
 
 -- It is the union of queries in these places, and its open cursors can go on.
 pub record IsUnited (qs : List (Option Live)) (u : United) : Type 0 where
   pub members : AreMembers qs u.members
-  pub fits : (k : ℕ) → FitsIn qs u k
+  pub fits : FitAll (members_in qs u) u.cursors
 
 -- Each query in a place is kept over one catalog.
 pub record AreKept (c : Catalog) (qs : List (Option Live)) : Type 0 where

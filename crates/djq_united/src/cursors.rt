@@ -21,9 +21,8 @@ ghost use Rattle.djq_united.specs.Slots.{
   outdated_progress,
   outdated_slots,
 };
-ghost use Rattle.djq_united.specs.United.{AreMembers, AreKept};
+ghost use Rattle.djq_united.specs.United.{AreMembers, AreKept, FitsOver, FitAll};
 ghost use Rattle.djq_united.specs.Advancing.{
-  FitsOver,
   Reads,
   Looks,
   InSlot,
@@ -188,8 +187,7 @@ impl Cursors {
         requires there { IsSome (slot_at self.old slot) }
         requires members { AreMembers queries.now places.now }
         requires kept { (c : CatalogModel) × AreKept c queries.now }
-        requires fits { (p : ProgressOf) → slot_at self.old slot ≡ Some p
-            → FitsOver (queries_at queries.now places.now) p }
+        requires fits { FitAll (queries_at queries.now places.now) self.old }
         ensures reads { InSlot
             (λ old new. Reads (queries_at queries.now places.now) old result answer.new new)
             self.old slot self.new }
@@ -210,8 +208,7 @@ impl Cursors {
         requires there { IsSome (slot_at self.old slot) }
         requires members { AreMembers queries.now places.now }
         requires kept { (c : CatalogModel) × AreKept c queries.now }
-        requires fits { (p : ProgressOf) → slot_at self.old slot ≡ Some p
-            → FitsOver (queries_at queries.now places.now) p }
+        requires fits { FitAll (queries_at queries.now places.now) self.old }
         requires fresh { (p : ProgressOf) → slot_at self.old slot ≡ Some p → IsOpen p }
         ensures looks { InSlot (λ old new. Looks (queries_at queries.now places.now) old result new)
             self.old slot self.new }
