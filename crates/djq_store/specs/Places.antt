@@ -21,7 +21,7 @@ vacant zero = []
 vacant (suc n) = None ∷ vacant n
 
 unfoldable pub in_places : {A : Type 0} → List (Option A) → List (Option A) → List (Option A)
-in_places queries unions = queries ++ vacant (QUERIES - length queries) ++ unions
+in_places queries unions = queries ++ (vacant (QUERIES - length queries) ++ unions)
 
 -- what a place has: of a query by its place, of a union by its slot
 abbrev pub by_place : {A : Type 0} → ℕ → (ℕ → A) → (ℕ → A) → A
@@ -97,13 +97,20 @@ abbrev pub lender_in : List (Option Live) → Option Joined → Option Live
 lender_in gs None = None
 lender_in gs (Some j) = first_member gs j.union
 
--- what contracts see
-abbrev pub kept_in : Parts → Kept
-kept_in p = let gs = p.engine.places in let us = p.unions.items in let texts = (p.engine.store).texts in record {
-  store = record p.engine.store { queries = map (listed_at gs us) p.order.items };
-  cursors = p.engine.cursors ++ held_from texts gs QUERIES us;
-  registered = map (registered_as gs us p.sessions.items) p.order.items;
-  affected = map id_at p.affected.items;
-  told = in_places p.engine.told (map (told_in texts gs) us);
-  places = in_places gs (map (lender_in gs) us);
+-- the cursors of queries and of unions
+abbrev pub cursors_in : Kept → List (Option Joined) → List Held
+cursors_in e us = e.cursors ++ held_from (e.store).texts e.places QUERIES us
+
+-- what contracts see, of an engine, unions in slots, the order, the sessions that watch each query, and the affected places
+abbrev pub seen : Kept → List (Option Joined) → List ℕ → List ℕ → List ℕ → Kept
+seen e us order sessions affected = record {
+  store = record e.store { queries = map (listed_at e.places us) order };
+  cursors = cursors_in e us;
+  registered = map (registered_as e.places us sessions) order;
+  affected = map id_at affected;
+  told = in_places e.told (map (told_in (e.store).texts e.places) us);
+  places = in_places e.places (map (lender_in e.places) us);
 }
+
+abbrev pub kept_in : Parts → Kept
+kept_in p = seen p.engine p.unions.items p.order.items p.sessions.items p.affected.items

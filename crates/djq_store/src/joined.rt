@@ -1,5 +1,4 @@
 use djq_cursor::DeltaLog;
-use djq_gains::Gathered;
 use djq_united::LiveUnion;
 
 /// A registered union.
@@ -11,6 +10,4 @@ pub struct Joined {
     pub watchers: u32,
     /// How its answers changed last, while it was watched.
     pub log: DeltaLog,
-    /// What is used where its log is made.
-    pub gathered: Gathered,
 }

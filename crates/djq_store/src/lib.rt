@@ -27,6 +27,7 @@ pub use explained::Explained;
 pub use store::Store;
 
 mod asking;
+mod below;
 mod change;
 mod explained;
 mod finding;

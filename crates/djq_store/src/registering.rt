@@ -7,12 +7,23 @@ ghost use Rattle.djq_engine.specs.Watching.{Enrols, EnrolsTelling};
 ghost use Rattle.djq_store.specs.Registering.{EnrolsUnion, EnrolsUnionTelling};
 
 use crate::finding::find_union;
+use crate::joined::Joined;
+use crate::judging::{judge_union, places_of, vacant_slot};
 use crate::store::Store;
-use djq_engine::QueryId;
-use djq_lines::limits::{MEMBERS, QUERIES};
+use djq_cursor::DeltaLog;
+use djq_lines::limits::QUERIES;
 use djq_lines::{QueryOutcome, Refusal};
-use djq_model::{Name, Query, Sequence};
+use djq_model::{Name, Query};
 use djq_steps::{Ledgers, Steps};
+use djq_united::LiveUnion;
+
+// Takes a place out of a list of places.
+fn leave(places: &mut Vec<usize>, at: usize)
+    ensures items { places.new.items ≡ left at places.old.items }
+    ensures room { vec_capacity places.new ≡ vec_capacity places.old }
+{
+    places.retain(|place| *place != at);
+}
 
 impl Store {
     /// Registers a free-connex query, and tells how many lookups and links one of its answers takes
@@ -36,7 +47,25 @@ impl Store {
         ensures tellings { EnrolsTelling self.old query result self.new }
         ensures counted { steps.new.listing ≡ steps.old.listing }
     {
-        unreachable!()
+        if find_union(self.parts.unions.as_slice(), &query.name).is_some() {
+            return Err(Refusal::Taken);
+        }
+        if let Some(refusal) = self.parts.engine.query_fault(&query) {
+            return Err(refusal);
+        }
+        if self.parts.order.len() >= QUERIES {
+            return Err(Refusal::Limit);
+        }
+        let name = query.name;
+        let outcome = self.parts.engine.query(query, steps)?;
+        if let QueryOutcome::Registered(_most) = &outcome {
+            let Some(id) = self.parts.engine.query_id(&name) else {
+                unreachable!()
+            };
+            self.parts.sessions[id.at] = 0;
+            self.parts.order.push_reserved(id.at);
+        }
+        Ok(outcome)
     }
 
     /// Registers the union of some registered queries, and tells how many lookups and links one of its answers
@@ -55,7 +84,23 @@ impl Store {
         ensures enrols { EnrolsUnion self.old name members.now result self.new }
         ensures tellings { EnrolsUnionTelling self.old name result self.new }
     {
-        unreachable!()
+        if let Some(refusal) = judge_union(&self.parts, &name, members) {
+            return Err(refusal);
+        }
+        let Ok(places) = places_of(self.parts.alloc, &self.parts.engine, members) else {
+            return Err(Refusal::NoMemory);
+        };
+        let Ok(slot) = vacant_slot(&mut self.parts.unions) else {
+            return Err(Refusal::NoMemory);
+        };
+        let most = most_of(self.parts.engine.places(), places.as_slice());
+        self.parts.unions[slot] = Some(Joined {
+            union: LiveUnion::new(&self.parts.engine, self.parts.alloc, name, places),
+            watchers: 0,
+            log: DeltaLog::new(self.parts.alloc),
+        });
+        self.parts.order.push_reserved(QUERIES + slot);
+        Ok(most)
     }
 
     /// Drops a query or union: it is registered no more. The ids of others and of their cursors stay.
@@ -68,6 +113,24 @@ impl Store {
     pub fn drop_query(&mut self, name: &Name) -> Result<(), Refusal>
         ensures { DropGives self.old name.now result self.new }
     {
-        unreachable!()
+        if let Some(slot) = find_union(self.parts.unions.as_slice(), name) {
+            if is_used(&self.parts.unions[slot]) {
+                return Err(Refusal::InUse);
+            }
+            self.parts.unions[slot] = None;
+            leave(&mut self.parts.order, QUERIES + slot);
+            leave(&mut self.parts.affected, QUERIES + slot);
+            return Ok(());
+        }
+        let Some(id) = self.parts.engine.query_id(name) else {
+            return Err(Refusal::NoQuery);
+        };
+        if is_member(self.parts.unions.as_slice(), id.at) {
+            return Err(Refusal::InUse);
+        }
+        self.parts.engine.drop_query(name)?;
+        leave(&mut self.parts.order, id.at);
+        leave(&mut self.parts.affected, id.at);
+        Ok(())
     }
 }

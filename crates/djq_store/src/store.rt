@@ -51,7 +51,7 @@ impl Store {
                 engine: Engine::new(alloc)?,
                 unions: Vec::new(alloc),
                 order: Vec::with_capacity(alloc, QUERIES)?,
-                sessions: Vec::from_elem(alloc, 0, QUERIES)?,
+                sessions: vec![in alloc; 0; QUERIES]?,
                 affected: Vec::with_capacity(alloc, QUERIES)?,
             },
         })
