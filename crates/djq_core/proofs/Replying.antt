@@ -16,11 +16,12 @@ use Rattle.djq_lines.specs.declared.answer.Refusal.{Refusal}
 use Rattle.djq_lines.specs.declared.held.HeldRow.{HeldRow}
 use Rattle.djq_lines.specs.declared.answer.Shape.{Shape}
 use Rattle.djq_lines.specs.declared.rest.QueryOutcome.{QueryOutcome}
-use Rattle.djq_lines.specs.declared.command.Command.TheVariants.{Rel, Query as Register, Has, Shape as AskShape, Drop}
-use Rattle.djq_lines.specs.Reply.{ok_reply, query_reply, has_reply, shape_reply}
+use Rattle.djq_lines.specs.declared.command.Command.TheVariants.{Rel, Query as Register, Union, Has, Shape as AskShape, Drop}
+use Rattle.djq_lines.specs.Reply.{ok_reply, query_reply, union_reply, has_reply, shape_reply}
 use Rattle.djq_lines.specs.declared.answer.Refusal.TheVariants.{NoQuery, InUse}
 use Rattle.djq_machine.specs.Conditions.{first_of, Answers, OutOfMemoryWhere}
 use Rattle.djq_machine.specs.State.{Store, Session, State, Cursor}
+use Rattle.djq_machine.specs.Union.{RegistersUnion}
 use Rattle.djq_machine.specs.Store.{MakesRelation, RegistersQuery, TellsWhether, has_steps, TellsShape, DropsQuery}
 use Rattle.djq_machine.specs.Effect.{Effect}
 use Rattle.djq_session.specs.Dialog.{Replies}
@@ -185,6 +186,21 @@ does_query old new before after q result was now counted registers same stays r 
         effect = refl;
         state = refl;
       }),
+      refl,
+    ))
+
+pub does_union : (old new : Kept) (before after : Talk) (name : Bytes) (members : List Bytes) (result : Result ℕ Refusal)
+    → RegistersUnion old.store name members result new.store → SameCursors old.cursors new.cursors → StaysCounted old.registered before.watches new.registered before.watches → Replies before after (union_reply result)
+    → ExecutesKeeping (Union name members) (is_done result) false old before new after 0 0
+does_union old new before after name members result registers same stays r =
+    replied_costing _ old new before after (union_reply result) 0 0 0 (kept_where (is_done result)) r same stays (omega arith) (λ st s x e f. (
+      record {
+        result = result;
+        store = new.store;
+        done = subst (λ store. RegistersUnion store name members result new.store) (sym e) registers;
+        effect = refl;
+        state = refl;
+      },
       refl,
     ))
 
