@@ -43,11 +43,6 @@ returns-in-Unwatch g c =
     (unkept (Unwatch c.in-Unwatch.query) false c.args.engine.now c.args.session.now c.run_unwatch.new.engine c.run_unwatch.new.session c.args.steps.now.listing c.args.steps.now.listing refl
     (counting _ false c.args.engine.now c.args.session.now c.run_unwatch.new.engine c.run_unwatch.new.session c.args.steps.now.listing c.args.steps.now.listing (omega arith) c.run_unwatch.ensures))
 
-pub returns-in-Union : goal.returns-in-Union
-returns-in-Union g c =
-    subst (λ (command : Command). ExecutesKeeping command c.run_union.result false c.args.engine.now c.args.session.now c.run_union.new.engine c.run_union.new.session c.args.steps.now.listing c.args.steps.now.listing) (sym c.in-Union.is)
-    (counting _ false c.args.engine.now c.args.session.now c.run_union.new.engine c.run_union.new.session c.args.steps.now.listing c.args.steps.now.listing (omega arith) c.run_union.ensures)
-
 pub returns-in-Explain : goal.returns-in-Explain
 returns-in-Explain g c =
     subst (λ (command : Command). ExecutesKeeping command false false c.args.engine.now c.args.session.now c.run_explain.new.engine c.run_explain.new.session c.args.steps.now.listing c.args.steps.now.listing) (sym c.in-Explain.is)
