@@ -1,5 +1,9 @@
 //! Commands on the relations, the queries and a session's cursors.
-ghost use Rattle.std.specs.Prelude.{◌≡◌, ◌<◌, false, true, length};
+ghost use Rattle.std.specs.Prelude.{◌≡◌, ◌≤◌, ◌<◌, ◌++◌, false, true, length, IsSomeAnd, OnOk};
+ghost use Rattle.djq_model.specs.Listed.{listed_of, members_of};
+ghost use Rattle.djq_lines.specs.Reply.{text_of};
+ghost use Rattle.djq_store.specs.Explaining.{Explains};
+ghost use Rattle.djq_core.specs.Explaining.{QueuesExplained, member_lines};
 ghost use Rattle.djq_lines.specs.declared.command.Command.TheVariants.{Rel};
 ghost use Rattle.djq_lines.specs.declared.command.Command.TheVariants.{Query as Register, Drop, Open};
 ghost use Rattle.djq_lines.specs.declared.command.Command.TheVariants.{Close, Has, Quit, Stop};
@@ -12,11 +16,14 @@ ghost use Rattle.djq_core.specs.Sound.{IsReady};
 
 use crate::change::Outcome;
 use crate::ending::{cut_off, give_up};
+use bytes::BytesMut;
 use djq_lines::limits::CURSORS;
 use djq_lines::{EndCause, QueryOutcome, Refusal};
 use djq_model::{Name, Names, NoMem, Query, Types, Value};
+use djq_reply::put_member;
 use djq_session::Session;
 use djq_steps::{Ledgers, Listing, Steps, Tally};
+use std::alloc::Global;
 use djq_store::{CursorId, Explained, Store};
 
 /// `rel`: a new relation. The answer is whether the line is kept.
@@ -208,34 +215,66 @@ pub(crate) fn run_has<L: Ledgers>(
     session.answer_has(outcome);
 }
 
-// The lines that explain a union: one for each member, and the end.
-fn queue_members(
+// The lines that explain a union's members go behind a text.
+fn put_members(
+    engine: &Store,
+    union: &Name,
+    count: usize,
+    text: &mut BytesMut,
+) -> Result<(), NoMem>
+    requires { IsSomeAnd (listed_of engine.now.store.queries union.now)
+        (λ q. count ≡ length (members_of q)) }
+    ensures { OnOk result (IsSomeAnd (listed_of engine.now.store.queries union.now)
+        (λ q. text.new.items ≡ text.old.items ++ text_of (member_lines q))) }
+{
+    for nth in 0..count {
+        put_member(&engine.member_name(union, nth), text)?;
+    }
+    Ok(())
+}
+
+// What explains a query or a union is queued: the lines of the one's tree, or of the other's members.
+//
+// # Errors
+//
+// `NoMem` out of memory; nothing is queued.
+fn queue_explained(
+    alloc: Global,
     engine: &Store,
     session: &mut Session<CursorId, Name>,
-    union: &Name,
-    members: usize,
-) -> Result<(), NoMem> {
-    for nth in 0..members {
-        session.queue_member(&engine.member_name(union, nth))?;
+    query: &Name,
+    explained: &Explained,
+) -> Result<(), NoMem>
+    requires { IsSomeAnd (listed_of engine.now.store.queries query.now)
+        (λ q. Explains q explained.now) }
+    ensures { QueuesExplained (listed_of engine.now.store.queries query.now)
+        session.old session.new result }
+{
+    match explained {
+        Explained::Tree(lines) => session.queue_explained(lines.as_bytes()),
+        Explained::Members(count) => {
+            let mut text = BytesMut::new(alloc);
+            put_members(engine, query, *count, &mut text)?;
+            session.queue_explained(&text)
+        }
     }
-    session.queue_last(true)
 }
 
 /// `explain`: the lines that explain the tree of a query, or the members of a union. Out of memory, the session
 /// ends.
-pub(crate) fn run_explain(engine: &mut Store, session: &mut Session<CursorId, Name>, query: &Name)
+pub(crate) fn run_explain(
+    alloc: Global,
+    engine: &mut Store,
+    session: &mut Session<CursorId, Name>,
+    query: &Name,
+)
     requires { IsReady engine.old session.old }
     ensures { Executes (Explain query.now) false
         engine.old session.old engine.new session.new 0 0 }
 {
     match engine.explain(query) {
-        Ok(Explained::Tree(lines)) => {
-            if session.queue_explained(lines.as_bytes()).is_err() {
-                cut_off(engine, session);
-            }
-        }
-        Ok(Explained::Members(count)) => {
-            if queue_members(engine, session, query, count).is_err() {
+        Ok(explained) => {
+            if queue_explained(alloc, engine, session, query, &explained).is_err() {
                 cut_off(engine, session);
             }
         }

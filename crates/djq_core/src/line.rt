@@ -32,6 +32,7 @@ use std::alloc::Global;
 
 // Runs a command that isn't on a row, and tells what is left to do.
 fn obey<L: Ledgers>(
+    alloc: Global,
     engine: &mut Store,
     session: &mut Session<CursorId, Name>,
     command: Command,
@@ -84,7 +85,7 @@ fn obey<L: Ledgers>(
             Left::Nothing { kept: false }
         }
         Command::Explain { query } => {
-            run_explain(engine, session, &query);
+            run_explain(alloc, engine, session, &query);
             Left::Nothing { kept: false }
         }
         Command::Shape { query } => {
@@ -205,7 +206,7 @@ fn run_other<L: Ledgers>(
                 session.refuse(Refusal::Misplaced);
                 return Left::Nothing { kept: false };
             }
-            obey(engine, session, command, steps)
+            obey(alloc, engine, session, command, steps)
         }
         Err(refusal) => {
             session.refuse(refusal_of(refusal));
