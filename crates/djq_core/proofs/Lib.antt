@@ -35,4 +35,4 @@ pub mod Seen
 pub mod Owing
 pub mod Keeping
 pub mod Loading
-mod Explaining
+pub mod Explaining
