@@ -1,11 +1,11 @@
 -- There are no more places than queries there may be.
-use Rattle.std.proofs.Common.{ℕ, zero, suc, List, [], ◌∷◌, ◌+◌, ◌≡◌, ◌<◌, ◌≤◌, ◌⊎◌, inl, inr, Bool, true, false, refl, ap, ◌∙◌, length, arith}
-use Rattle.std.specs.Prelude.{◌==◌, ◌||◌, ◌&&◌, not, Option, is_some, filter, cond}
-use Rattle.std.proofs.lemmas.Bool.{cases_Bool, false≢true}
+use Rattle.std.proofs.Common.{ℕ, zero, suc, List, [], ◌∷◌, ◌≡◌, ◌<◌, ◌≤◌, inl, inr, Bool, true, false, ap, ◌∙◌, length, arith}
+use Rattle.std.specs.Prelude.{◌==◌, ◌||◌, ◌&&◌, not, Option, cond}
+use Rattle.std.proofs.lemmas.Bool.{false≢true}
 use Rattle.djq_lines.specs.declared.limits.TheConstants.{QUERIES}
 use Rattle.djq_rows.specs.Catalog.{Catalog}
 use Rattle.djq_live.specs.Live.{Live}
-use Rattle.djq_reach.specs.Places.{place_at, is_reader}
+use Rattle.djq_reach.specs.Places.{is_reader}
 use Rattle.djq_reach.proofs.Among.{apart}
 use Rattle.djq_engine.specs.Places.{left}
 use Rattle.djq_engine.specs.Placing.{GrowsFull}
@@ -16,12 +16,12 @@ use Rattle.djq_engine.proofs.Reporting.{filter_few}
 -- a list with a place is longer than without it
 left_fewer : (i : ℕ) (xs : List ℕ) → is_reader xs i ≡ true → length (left i xs) < length xs
 left_fewer i [] e = absurd (false≢true e)
-left_fewer i (x ∷ xs) e = step (x == i) refl e
+left_fewer i (x ∷ xs) e = step (x == i) (left_fewer i xs) e
   where
-    step : (b : Bool) → (x == i) ≡ b → (b || is_reader xs i) ≡ true
+    step : (b : Bool) → (is_reader xs i ≡ true → length (left i xs) < length xs) → (b || is_reader xs i) ≡ true
         → length (cond (not b) (x ∷ left i xs) (left i xs)) < length (x ∷ xs)
-    step true f h = let few = filter_few (λ j. not (j == i)) xs in omega arith
-    step false f h = let few = left_fewer i xs h in omega arith
+    step true more h = let few = filter_few (λ j. not (j == i)) xs in omega arith
+    step false more h = let few = more h in omega arith
 
 -- a list that has all places below a number is as long
 pub all_below : (n : ℕ) (xs : List ℕ) → ((i : ℕ) → i < n → is_reader xs i ≡ true) → n ≤ length xs

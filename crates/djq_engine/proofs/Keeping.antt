@@ -1,5 +1,5 @@
 -- Reading a cursor leaves watches as they are.
-use Rattle.std.proofs.Common.{ℕ, List, ◌≡◌, Bool, true, false, sym, ap, ◌∙◌, subst, length, length-set}
+use Rattle.std.proofs.Common.{ℕ, List, ◌≡◌, Bool, true, false, ap, ◌∙◌, length, length-set}
 use Rattle.std.specs.Prelude.{Option, None, Some, IsSomeAnd}
 use Rattle.djq_machine.specs.State.{Position, open_at, stale}
 use Rattle.djq_cursor.specs.Log.{Log}

@@ -1,5 +1,5 @@
 -- What holds of an engine between any two calls, as contracts see it.
-use Rattle.std.proofs.Common.{ℕ, zero, List, [], ◌∷◌, ◌≡◌, Bool, true, false, refl, sym, ap, ◌∙◌, subst, length, arith}
+use Rattle.std.proofs.Common.{ℕ, List, [], ◌∷◌, ◌≡◌, Bool, true, false, refl, sym, ap, ◌∙◌, subst, length, arith}
 use Rattle.std.specs.Prelude.{Option, None, Some, IsSomeAnd, All, option_map, cond, map}
 use Rattle.std.proofs.lemmas.List.Elements.{All-cons, All-head, All-nil, All-tail}
 use Rattle.djq_model.specs.Data.{Bytes}
@@ -14,10 +14,9 @@ use Rattle.djq_live.specs.Member.{in_head, ShowableCellsStand}
 use Rattle.djq_live.specs.Updating.{change_of}
 use Rattle.djq_reach.specs.Places.{place_at, log_at}
 use Rattle.djq_engine.specs.declared.cursor.CursorId.{CursorId}
-use Rattle.djq_engine.specs.declared.cursor.QueryId.{QueryId}
 use Rattle.djq_engine.specs.declared.parts.Parts.{Parts}
 use Rattle.djq_engine.specs.Kept.{Held, IsOver, ArePlaced, AreListed, AreHeld, AreTold, CellsAre, registered_at}
-use Rattle.djq_engine.specs.Places.{query_in, id_at, held_as, held_of, held_from, registered_as, told_of, told_from}
+use Rattle.djq_engine.specs.Places.{query_in, id_at, held_as, held_of, registered_as, told_of, told_from}
 use Rattle.djq_engine.specs.Whole.{kept_in, IsWhole, IsTended}
 use Rattle.djq_engine.proofs.Affecting.{all_made}
 use Rattle.djq_engine.proofs.Enlisted.{registered_gives}
@@ -38,9 +37,11 @@ lines_have : (p : Parts) (l : Live) (law : ShowableCellsStand) (lines : List Lin
 lines_have p l law [] h = All-nil (λ c. (cells : List ℕ) × CellsAre (kept_in p) l cells c)
 lines_have p l law (k ∷ lines) h =
     All-cons (λ c. (cells : List ℕ) × CellsAre (kept_in p) l cells c) (change_of (p.catalog).texts l k)
-    (map (change_of (p.catalog).texts l) lines)
-    (in_head l k.answer, law (p.catalog).texts l k.answer
-    (All-head (λ k. IsShowable (p.catalog).texts l k.answer) k lines h))
+    (map (change_of (p.catalog).texts l) lines) (
+      in_head l k.answer,
+      law (p.catalog).texts l k.answer
+          (All-head (λ k. IsShowable (p.catalog).texts l k.answer) k lines h),
+    )
     (lines_have p l law lines (All-tail (λ k. IsShowable (p.catalog).texts l k.answer) k lines h))
 
 module _ (p : Parts) (s : IsWhole p) where

@@ -1,5 +1,5 @@
 -- The queries in their places, behind a call.
-use Rattle.std.proofs.Common.{ℕ, List, ◌≡◌, ◌≢◌, Bool, true, false, refl, sym, ap, ◌∙◌, subst, set}
+use Rattle.std.proofs.Common.{ℕ, List, ◌≡◌, ◌≢◌, ◌<◌, Bool, true, false, refl, sym, ap, ◌∙◌, subst, length, set}
 use Rattle.std.specs.Prelude.{Option, None, Some, IsSomeAnd, is_some}
 use Rattle.std.proofs.lemmas.Bool.{false≢true}
 use Rattle.std.proofs.lemmas.List.{get_or-set_same, get_or-set_other}
@@ -9,7 +9,7 @@ use Rattle.djq_model.specs.Listed.{Listed, a_query}
 use Rattle.djq_machine.specs.Changes.{is_outdated, one_change}
 use Rattle.djq_machine.specs.Stale.{reads}
 use Rattle.djq_reduct.specs.Reducts.{Reducts}
-use Rattle.djq_rows.specs.Catalog.{Catalog, relation_at}
+use Rattle.djq_rows.specs.Catalog.{relation_at}
 use Rattle.djq_live.specs.Live.{Live}
 use Rattle.djq_reach.specs.Places.{place_at, is_reader, readers_at}
 use Rattle.djq_reach.specs.Reaching.{DoneAt, Reach, Renews, Ages, Carries}
@@ -17,7 +17,7 @@ use Rattle.djq_reach.proofs.Reaching.{everywhere, place_below}
 use Rattle.djq_engine.specs.declared.parts.Parts.{Parts}
 use Rattle.djq_engine.specs.Kept.{SameShape, SameTables, KeepsQuery, is_tried}
 use Rattle.djq_engine.specs.Changing.{AgesReaders}
-use Rattle.djq_engine.specs.Outdating.{AgesBy, AgesAt, AgesAll}
+use Rattle.djq_engine.specs.Outdating.{AgesBy, AgesAt}
 use Rattle.djq_engine.specs.Places.{query_in}
 use Rattle.djq_engine.specs.Placing.{SamePlaces}
 use Rattle.djq_engine.specs.Whole.{IsWhole}

@@ -1,10 +1,9 @@
 -- What the updates of a batch count, by the texts of the queries.
-use Rattle.std.proofs.Common.{ℕ, zero, suc, List, [], ◌∷◌, ◌++◌, ◌+◌, ◌*◌, ◌≡◌, ◌<◌, ◌≤◌, Bool, true, false, cond, refl, sym, ap, ap₂, ◌∙◌, subst, length, get_or, arith, mul-le-mul_left}
-use Rattle.std.specs.Prelude.{◌==◌, ◌||◌, ◌&&◌, Option, None, Some, IsSomeAnd, is_some, All, filter, map, sum_by}
+use Rattle.std.proofs.Common.{ℕ, zero, suc, List, [], ◌∷◌, ◌+◌, ◌*◌, ◌≡◌, ◌≤◌, Bool, true, false, cond, refl, sym, ap, ap₂, ◌∙◌, subst, length, arith, mul-le-mul_left}
+use Rattle.std.specs.Prelude.{◌==◌, ◌||◌, ◌&&◌, Option, None, Some, IsSomeAnd, is_some, All, filter, sum_by}
 use Rattle.std.proofs.lemmas.Bool.{eqb-true, eq-eqb, false≢true}
 use Rattle.std.proofs.lemmas.List.Sums.{sum_by-cons}
 use Rattle.std.proofs.lemmas.Nat.{mul-le}
-use Rattle.djq_model.specs.Listed.{Listed, a_query}
 use Rattle.djq_lines.specs.declared.held.HeldRow.{HeldRow}
 use Rattle.djq_machine.specs.State.{Store}
 use Rattle.djq_machine.specs.Stale.{listed_reads}
@@ -14,18 +13,18 @@ use Rattle.djq_machine.specs.Batch.{rows_in as rows_held}
 use Rattle.djq_machine.proofs.Reading.{reads_atom}
 use Rattle.djq_propagate.specs.Updates.{HasAtMost}
 use Rattle.djq_query.specs.declared.numbered.NumberedAtom.{NumberedAtom}
-use Rattle.djq_rows.specs.Catalog.{Catalog, relation_at}
+use Rattle.djq_rows.specs.Catalog.{Catalog}
 use Rattle.djq_live.specs.Live.{Live, IsKept}
 use Rattle.djq_live.specs.Updating.{LeavesAreSmall, atoms_over, update_bound}
 use Rattle.djq_reach.specs.declared.group.Group.{Group}
 use Rattle.djq_reach.specs.Places.{place_at, is_reader, readers_at, AreOnce}
 use Rattle.djq_reach.specs.Tending.{work_of, work_at}
-use Rattle.djq_reach.specs.Grouping.{WorksBy, atoms_over_any, group_work, reached, relations_of, rows_in}
+use Rattle.djq_reach.specs.Grouping.{WorksBy, atoms_over_any, reached, relations_of, rows_in}
 use Rattle.djq_reach.proofs.Costing.{sums_within}
 use Rattle.djq_reach.proofs.Summing.{sums_all}
 use Rattle.djq_reach.proofs.Working.{sums_both}
 use Rattle.djq_engine.specs.declared.parts.Parts.{Parts}
-use Rattle.djq_engine.specs.Kept.{Registered, registered_at, readers_of}
+use Rattle.djq_engine.specs.Kept.{Registered, readers_of}
 use Rattle.djq_engine.specs.Places.{is_live, query_in, id_at, registered_as}
 use Rattle.djq_engine.specs.Watching.{AreBounded, update_steps}
 use Rattle.djq_engine.specs.Whole.{kept_in, IsWhole}

@@ -165,6 +165,7 @@ pub fn rel_in(parts: &mut Parts, name: Name, types: Types) -> Result<(), Refusal
     ensures cursors { SameCursors (kept_in parts.old).cursors (kept_in parts.new).cursors }
     ensures registered { (kept_in parts.new).registered ≡ (kept_in parts.old).registered }
     ensures tellings { SameTellings (kept_in parts.old) (kept_in parts.new) }
+    ensures places { (kept_in parts.new).places ≡ (kept_in parts.old).places }
 {
     live_stays();
     if parts.catalog.id(&name).is_some() {

@@ -86,3 +86,39 @@ returns-in-Ok-join_readers-clause-ok c =
         length-set gs at (Some q),
       );
     }
+
+pub returns-in-Err-push-clause-err : goal.returns-in-Err-push-clause-err
+returns-in-Err-push-clause-err c =
+    let old = c.args.parts.now in
+    record {
+      queries = c.vacant_place.ensures.same;
+      readers = record { long = refl; each = λ r. refl };
+      order = c.in-Err-push.ensures.err;
+      catalog = refl;
+      seq = refl;
+      watchers = c.vacant_place.ensures.watchers;
+      logs = c.vacant_place.ensures.logs;
+      affected = c.reserve.ensures.items;
+      room = omega (arith, c.requires.tended.room, c.reserve.ensures.capacity, ap (λ (xs : List ℕ). length xs) (c.in-Err-push.ensures.err));
+      watched = c.vacant_place.ensures.watched;
+      logged = c.vacant_place.ensures.logged;
+      bounded = room_bounds old.catalog old.queries.items c.vacant_place.new.queries.items old.order old.readers.items c.requires.whole c.requires.room c.vacant_place.ensures.long;
+    }
+
+pub returns-in-Err-clause-err : goal.returns-in-Err-clause-err
+returns-in-Err-clause-err c =
+    let old = c.args.parts.now in
+    record {
+      queries = c.vacant_place.ensures.same;
+      readers = record { long = refl; each = λ r. refl };
+      order = refl;
+      catalog = refl;
+      seq = refl;
+      watchers = c.vacant_place.ensures.watchers;
+      logs = c.vacant_place.ensures.logs;
+      affected = c.reserve.ensures.items;
+      room = omega (arith, c.requires.tended.room, c.reserve.ensures.capacity);
+      watched = c.vacant_place.ensures.watched;
+      logged = c.vacant_place.ensures.logged;
+      bounded = room_bounds old.catalog old.queries.items c.vacant_place.new.queries.items old.order old.readers.items c.requires.whole c.requires.room c.vacant_place.ensures.long;
+    }

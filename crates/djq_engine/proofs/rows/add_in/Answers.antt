@@ -6,6 +6,7 @@ use Rattle.djq_lines.specs.declared.answer.AddOutcome.{AddOutcome}
 use Rattle.djq_machine.specs.Store.{add_refusal}
 use Rattle.djq_dict.specs.declared.refusal.InternRefusal.{InternRefusal}
 use Rattle.djq_rows.specs.Catalog.{counted_at}
+use Rattle.djq_machine.specs.Changes.{row_in}
 use Rattle.djq_engine.specs.Judging.{bare}
 use Rattle.djq_engine.specs.Changing.{
   AddsTo,
@@ -390,7 +391,7 @@ returns-in-Err-Full-clause-places g c =
 pub returns-in-Err-NoMem-clause-places : goal.returns-in-Err-NoMem-clause-places
 returns-in-Err-NoMem-clause-places g c =
     keeps_changed c.args.parts.now (record c.put_row.new.parts { logs = c.empty_logs.new.logs }) c.age_readers.new.parts c.requires.whole
-    c.in_ok-id.id.at c.args.name.now _ c.in_ok-id.ensures.ok.relation.below c.in_ok-id.ensures.ok.relation.named
+    c.in_ok-id.id.at c.args.name.now (row_in c.args.parts.now.catalog.relations c.args.name.now c.args.row.now).after c.in_ok-id.ensures.ok.relation.below c.in_ok-id.ensures.ok.relation.named
     (subst (λ (r : InternRefusal). AddsTo c.in_ok-id.id.at c.args.row.now c.args.parts.now (Err r) c.put_row.new.parts) c.in-Err-NoMem.field-0-is c.in-Err-NoMem.ensures.adds).1.carries
     c.put_row.ensures.rest.readers c.age_readers.ensures
 
@@ -402,6 +403,6 @@ returns-in-Ok-More-clause-places g c =
 pub returns-clause-places : goal.returns-clause-places
 returns-clause-places g c =
     keeps_changed c.args.parts.now (record c.put_row.new.parts { seq = c.put_row.new.parts.seq + 1; affected = c.affect.new.affected }) c.age_readers-2.new.parts c.requires.whole
-    c.in_ok-id.id.at c.args.name.now _ c.in_ok-id.ensures.ok.relation.below c.in_ok-id.ensures.ok.relation.named
+    c.in_ok-id.id.at c.args.name.now (row_in c.args.parts.now.catalog.relations c.args.name.now c.args.row.now).after c.in_ok-id.ensures.ok.relation.below c.in_ok-id.ensures.ok.relation.named
     (subst (λ (o : AddOutcome). AddsTo c.in_ok-id.id.at c.args.row.now c.args.parts.now (Ok o) c.put_row.new.parts) c.in-Ok-First.field-0-is c.in-Ok-First.ensures.adds).1.has.carries
     c.put_row.ensures.rest.readers c.age_readers-2.ensures

@@ -4,6 +4,7 @@ use Rattle.djq_model.specs.Data.{Tuple, without_copies}
 use Rattle.djq_lines.specs.declared.answer.DeleteOutcome.{DeleteOutcome}
 use Rattle.djq_rows.specs.Catalog.{Catalog, StandForRow, counted_at}
 use Rattle.djq_live.specs.Live.{Live}
+use Rattle.djq_machine.specs.Changes.{row_out}
 use Rattle.djq_engine.proofs.Placed.{keeps_changed, keeps_equal}
 use Rattle.djq_engine.specs.declared.judge.Deletion.{Deletion}
 use Rattle.djq_engine.specs.Kept.{held_at}
@@ -310,5 +311,5 @@ returns-clause-places g c =
     let stand = subst (λ (cells : List ℕ). StandForRow c.args.parts.now.catalog c.in-Some.found.relation.at cells c.args.row.now) (sym c.as_slice.ensures) (stands c.args.parts.now c.args.name.now c.args.row.now c.in-Some.found may) in
     let went = subst (λ (o : DeleteOutcome). DeletesFrom c.in-Some.found.relation.at c.args.row.now c.args.parts.now o c.drop_cells.new.parts) c.in-Last.is (c.drop_cells.ensures.deletes c.args.row.now stand) in
     keeps_changed c.args.parts.now (record c.drop_cells.new.parts { seq = c.drop_cells.new.parts.seq + 1; affected = c.affect.new.affected }) c.age_readers.new.parts c.requires.whole
-    c.in-Some.found.relation.at c.args.name.now _ may.relation.below may.relation.named went.2.has.carries
+    c.in-Some.found.relation.at c.args.name.now (row_out c.args.parts.now.catalog.relations c.args.name.now c.args.row.now).after may.relation.below may.relation.named went.2.has.carries
     c.drop_cells.ensures.rest.readers c.age_readers.ensures

@@ -70,7 +70,9 @@ returns c =
     subst (λ (o : Option Live). IsSomeAnd o (λ m. IsSomeAnd (told_at (kept_in p) c.args.id)
     (λ changes. IsSomeAnd (slice_get changes c.args.nth) (λ x. (sign_of c.line_at-line.result.now.came ≡ x.sign)
     × StandFor p.catalog.texts (head_types m) c.put_in_head.new.cells x.answer)))) (sym there)
-    (line_is p c.requires.whole c.args.id t c.args.nth c.line_at-line.result.now _ l.0 got
-    (refl, subst (λ (cells : List ℕ). StandFor p.catalog.texts (head_types c.in-Some.live) cells
-    (values_of p.catalog.texts c.in-Some.live c.line_at-line.result.now.answer)) (sym c.put_in_head.ensures)
-    (c.showable_cells_stand.ensures p.catalog.texts c.in-Some.live c.line_at-line.result.now.answer shown)))
+    (line_is p c.requires.whole c.args.id t c.args.nth c.line_at-line.result.now _ l.0 got (
+      refl,
+      subst (λ (cells : List ℕ). StandFor p.catalog.texts (head_types c.in-Some.live) cells
+          (values_of p.catalog.texts c.in-Some.live c.line_at-line.result.now.answer)) (sym c.put_in_head.ensures)
+          (c.showable_cells_stand.ensures p.catalog.texts c.in-Some.live c.line_at-line.result.now.answer shown),
+    ))
