@@ -21,7 +21,7 @@ sys.dont_write_bytecode = True
 
 PATIENCE = 20
 STOPPED = 99
-PARTS = (0, 2, 4)  # quarters of a write at which it is stopped
+PARTS = (0, 1, 2, 3, 4)  # quarters of a write at which it is stopped
 SEEDS = range(8)  # ways to lose what wasn't synced, the first of which loses nothing
 MOST_CALLS = 200
 TESTS = []
@@ -106,6 +106,11 @@ def lines_that_are_kept_one_by_one():
 @test
 def a_batch_of_two_rows_is_left_whole_or_not_at_all():
     each_stop([[b"batch", b"add r 1 2", b"add r 2 3", b"done"]])
+
+
+@test
+def a_batch_in_several_writes_is_left_whole_or_not_at_all():
+    each_stop([[b"batch", *(b"add r %d 2" % row + b" " * 3000 for row in range(12)), b"done"]])
 
 
 @test
