@@ -3,7 +3,7 @@ ghost use Rattle.std.specs.Prelude.{◌+◌, ◌≤◌, ◌++◌, codes};
 ghost use Rattle.djq_lines.specs.Reply.{add_reply, answer_line, at_line, change_line};
 ghost use Rattle.djq_lines.specs.Reply.{delete_reply, done_reply, has_reply, held_reply, last_line};
 ghost use Rattle.djq_lines.specs.Reply.{ok_reply, query_reply, refusal_line, shape_reply};
-ghost use Rattle.djq_lines.specs.Reply.{member_line, stale_line, union_reply, watch_reply};
+ghost use Rattle.djq_lines.specs.Reply.{stale_line, union_reply, watch_reply};
 ghost use Rattle.djq_lines.specs.declared.limits.TheConstants.{LAST_LINE_BYTES, REPLY_BYTES};
 ghost use Rattle.djq_session.specs.Dialog.{MayQueue, Replies};
 
@@ -11,9 +11,9 @@ use super::Session;
 use djq_lines::{AddOutcome, DeleteOutcome, QueryOutcome, Refusal, Shape, Sign};
 use djq_model::{Answered, Name, NoMem};
 use djq_reply::{
-    put_answer, put_at, put_change, put_explained, put_last, put_member, put_registered, say_added,
-    say_batch, say_batch_done, say_deleted, say_done, say_has, say_held, say_opened, say_refused,
-    say_shape, say_stale, say_union, say_watched,
+    put_answer, put_at, put_change, put_explained, put_last, put_registered, say_added, say_batch,
+    say_batch_done, say_deleted, say_done, say_has, say_held, say_opened, say_refused, say_shape,
+    say_stale, say_union, say_watched,
 };
 
 impl<C: Copy, Q: Copy + PartialEq> Session<C, Q> {
@@ -178,7 +178,8 @@ impl<C: Copy, Q: Copy + PartialEq> Session<C, Q> {
         put_at(query, seq, &mut self.output)
     }
 
-    /// The lines that explain the tree of a query are queued, and `end` behind them.
+    /// The lines that explain the tree of a query or the members of a union are queued, and `end` behind
+    /// them.
     ///
     /// # Errors
     ///
@@ -189,18 +190,7 @@ impl<C: Copy, Q: Copy + PartialEq> Session<C, Q> {
         put_explained(lines, &mut self.output)
     }
 
-    /// The line that explains one member of a union is queued.
-    ///
-    /// # Errors
-    ///
-    /// `NoMem` only where the room was too small and can't grow; all is as before.
-    pub fn queue_member(&mut self, member: &Name) -> Result<(), NoMem>
-        ensures { MayQueue self.old self.new (member_line member.now) result }
-    {
-        put_member(member, &mut self.output)
-    }
-
-    /// The last line of a listing, or of what explains a union, is queued.
+    /// The last line of a listing is queued.
     ///
     /// # Errors
     ///
