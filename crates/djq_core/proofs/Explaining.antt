@@ -2,8 +2,8 @@
 use Rattle.std.proofs.Common.{ℕ, zero, suc, ◌+◌, ◌≤◌, ◌≡◌, ◌++◌, true, false, List, [], ◌∷◌, length, take, map, Option, None, Some, Result, Ok, Err, codes, refl, sym, ap, ◌∙◌, subst, arith, inl, inr, append_assoc, append-nil}
 use Rattle.std.specs.Prelude.{⊤, MatchOption, IsSomeAnd, is_none, slice_get}
 use Rattle.std.specs.Result.{is_err}
-use Rattle.std.proofs.lemmas.List.{map-append}
-use Rattle.std.proofs.lemmas.List.Concat.{flat_map-append}
+use Rattle.std.proofs.lemmas.List.{map-append, length-map, take_all}
+use Rattle.std.proofs.lemmas.Simd.{map-map}
 use Rattle.djq_model.specs.Data.{Bytes}
 use Rattle.djq_model.specs.Listed.{Listed, a_query, a_union, listed_of, members_of}
 use Rattle.djq_model.specs.declared.query.Query.{Query}
@@ -29,32 +29,15 @@ use Rattle.djq_core.specs.Ends.{CutsOff}
 use Rattle.djq_core.specs.Explaining.{AreExplaining, QueuesExplained, member_lines}
 use Rattle.djq_core.specs.Performs.{to_one, Executes}
 use Rattle.djq_core.proofs.Cutting.{cut_off_after}
+use Rattle.djq_core.proofs.Lines.{take_next, text_last}
 use Rattle.djq_core.proofs.Replying.{refused}
 use Rattle.djq_core.proofs.Watching.{stays_same}
 
 -- ---- the lines of a union's members, one after another
 
-text_last : (ls : List Bytes) (l : Bytes) → text_of (ls ++ l ∷ []) ≡ text_of ls ++ l
-text_last ls l = flat_map-append (λ (x : Bytes). x) ls (l ∷ []) ∙ ap (λ (bs : Bytes). text_of ls ++ bs) (append-nil l)
-
-next_number : (n : ℕ) → n + 1 ≡ suc n
-next_number n = omega arith
-
-take_suc : (ms : List Query) (n : ℕ) (name : Bytes) → slice_get (map (λ (m : Query). m.name) ms) n ≡ Some name
-    → map (λ (m : Query). member_line m.name) (take (suc n) ms) ≡ map (λ (m : Query). member_line m.name) (take n ms) ++ member_line name ∷ []
-take_suc [] n name h = absurd (cc (h))
-take_suc (m ∷ ms) zero name h = ap (λ (y : Bytes). member_line y ∷ []) (cc (h))
-take_suc (m ∷ ms) (suc n) name h = ap (λ (ls : List Bytes). member_line m.name ∷ ls) (take_suc ms n name h)
-
-take_whole : (ms : List Query) (n : ℕ) → length ms ≤ n → take n ms ≡ ms
-take_whole [] zero h = refl
-take_whole [] (suc n) h = refl
-take_whole (x ∷ xs) zero h = absurd (omega (arith, h))
-take_whole (x ∷ xs) (suc n) h = ap (λ (ys : List Query). x ∷ ys) (take_whole xs n (omega (arith, h)))
-
 -- So many lines are put.
 abbrev pub PutsSoFar : Option Listed → ℕ → Bytes → Bytes → Type 0
-PutsSoFar o nth old now = IsSomeAnd o (λ q. now ≡ old ++ text_of (map (λ m. member_line m.name) (take nth (members_of q))))
+PutsSoFar o nth old now = IsSomeAnd o (λ q. now ≡ old ++ text_of (map member_line (take nth (map (λ m. m.name) (members_of q)))))
 
 pub puts_start : (o : Option Listed) (count : ℕ) (old : Bytes) → IsSomeAnd o (λ q. count ≡ length (members_of q)) → PutsSoFar o 0 old old
 puts_start None count old h = absurd h
@@ -64,9 +47,10 @@ pub puts_more : (o : Option Listed) (nth : ℕ) (name old now new : Bytes) → P
     → IsSomeAnd o (λ q. slice_get (map (λ m. m.name) (members_of q)) nth ≡ Some name) → new ≡ now ++ member_line name → PutsSoFar o (nth + 1) old new
 puts_more None nth name old now new h e p = absurd h
 puts_more (Some q) nth name old now new h e p =
-    let lines = map (λ (m : Query). member_line m.name) (take nth (members_of q)) in
-    let more : map (λ (m : Query). member_line m.name) (take (nth + 1) (members_of q)) ≡ lines ++ member_line name ∷ []
-    = ap (λ (n : ℕ). map (λ (m : Query). member_line m.name) (take n (members_of q))) (next_number nth) ∙ take_suc (members_of q) nth name e in
+    let names = map (λ (m : Query). m.name) (members_of q) in
+    let lines = map member_line (take nth names) in
+    let more : map member_line (take (nth + 1) names) ≡ lines ++ member_line name ∷ []
+    = ap (map member_line) (take_next names nth name e) ∙ map-append member_line (take nth names) (name ∷ []) in
     p ∙ ap (λ (bs : Bytes). bs ++ member_line name) h ∙ append_assoc old (text_of lines) (member_line name)
     ∙ ap (λ (bs : Bytes). old ++ bs) (sym (ap text_of more ∙ text_last lines (member_line name)))
 
@@ -74,7 +58,9 @@ pub puts_last : (o : Option Listed) (count nth : ℕ) (old now : Bytes) → Puts
     → IsSomeAnd o (λ q. now ≡ old ++ text_of (member_lines q))
 puts_last None count nth old now h e le = absurd h
 puts_last (Some q) count nth old now h e le =
-    h ∙ ap (λ (ms : List Query). old ++ text_of (map (λ (m : Query). member_line m.name) ms)) (take_whole (members_of q) nth (omega (arith, e, le)))
+    let names = map (λ (m : Query). m.name) (members_of q) in
+    let all : take nth names ≡ names = take_all nth names (omega (arith, length-map (members_of q) (λ (m : Query). m.name), e, le)) in
+    h ∙ ap (λ (ls : List Bytes). old ++ text_of ls) (ap (map member_line) all ∙ map-map member_line (λ (m : Query). m.name) (members_of q))
 
 -- a member at a place below their number
 pub member_there : (o : Option Listed) (count nth : ℕ) → IsSomeAnd o (λ q. count ≡ length (members_of q)) → suc nth ≤ count → IsSomeAnd o (λ q. suc nth ≤ length (members_of q))

@@ -14,6 +14,7 @@ pub mod Continuing
 pub mod Carrying
 pub mod Taking
 mod Unkept
+mod Lines
 pub mod Batching
 pub mod Saying
 pub mod Fronting
