@@ -26,8 +26,8 @@ SEEDS = range(8)  # ways to lose what wasn't synced, the first of which loses no
 MOST_CALLS = 200
 TESTS = []
 
-BEGIN = [b"rel r int int", b"query q(x,y) <- r(x,y)", b"add r 9 9"]
-ASK = [b"open c q", b"next c 1000", b"watch q"]
+BEGIN = [b"rel r int int", b"query q(x,y) <- r(x,y)", b"query p(x,y) <- r(y,x)", b"add r 9 9"]
+ASK = [b"open c q", b"next c 1000", b"explain u", b"watch q"]
 
 
 def test(function):
@@ -54,11 +54,12 @@ def compiled(folder):
 
 
 def state_of(log):
-    """The answers and the number of changes that a file gives."""
+    """The answers, the members of a union and the number of changes that a file gives."""
     told, status = replay(log, ASK)
     if status != 0:
         raise AssertionError(f"the file that is left doesn't load: status {status}")
-    return tuple(sorted(line for line in told if line.startswith(b"= "))), told[-1]
+    members = [line for line in told if line.startswith(b"m ")]
+    return (*sorted(line for line in told if line.startswith(b"= ")), *members), told[-1]
 
 
 def each_stop(groups):
@@ -101,6 +102,11 @@ def each_stop(groups):
 @test
 def lines_that_are_kept_one_by_one():
     each_stop([[b"add r 1 2"], [b"del r 9 9"], [b"add r 3 4"]])
+
+
+@test
+def unions_that_are_kept():
+    each_stop([[b"union u q p"], [b"add r 1 2"], [b"drop u"], [b"union u p q"]])
 
 
 @test

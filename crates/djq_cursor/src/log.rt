@@ -71,8 +71,7 @@ impl DeltaLog {
         }
         let answer = answer.copy();
         if self.lines.push(Line { came, answer }).is_err() {
-            self.lines.clear();
-            self.lost = true;
+            self.lose();
         }
     }
 

@@ -1,5 +1,6 @@
 -- There are no more places than queries there may be.
-use Rattle.std.proofs.Common.{ℕ, zero, suc, List, [], ◌∷◌, ◌≡◌, ◌<◌, ◌≤◌, inl, inr, Bool, true, false, ap, ◌∙◌, length, arith}
+use Rattle.std.proofs.Common.{ℕ, zero, suc, List, [], ◌∷◌, ◌≡◌, ◌<◌, ◌≤◌, inl, inr, Bool, true, false}
+use Rattle.std.proofs.Common.{ap, ◌∙◌, length, arith}
 use Rattle.std.specs.Prelude.{◌==◌, ◌||◌, ◌&&◌, not, Option, cond}
 use Rattle.std.proofs.lemmas.Bool.{false≢true}
 use Rattle.djq_lines.specs.declared.limits.TheConstants.{QUERIES}
@@ -34,8 +35,8 @@ all_below (suc n) xs h =
     ∙ ap not (apart i n (λ e. omega arith))) in
     omega arith
 
-pub room_bounds : (c : Catalog) (gs hs : List (Option Live)) (order : List ℕ) (readers : List (List ℕ)) → IsSound c gs order readers
-    → length order < QUERIES → GrowsFull gs hs → length hs ≤ QUERIES
+pub room_bounds : (c : Catalog) (gs hs : List (Option Live)) (order : List ℕ) (readers : List (List ℕ))
+    → IsSound c gs order readers → length order < QUERIES → GrowsFull gs hs → length hs ≤ QUERIES
 room_bounds c gs hs order readers s few (inl same) = let bound = s.bounded in omega arith
 room_bounds c gs hs order readers s few (inr more) =
     let full = all_below (length gs) order (λ i low. s.listed i ∙ more.1 i low) in

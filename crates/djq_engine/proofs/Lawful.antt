@@ -61,7 +61,8 @@ module _ (p : Parts) (s : IsWhole p) where
       (λ r. r.query ≡ a_query l.query) (record { query = l; is = e }) (ap query_in e)
 
   abbrev IsHeldAt : CursorId → Held → Type 0
-  IsHeldAt id h = (h.id ≡ id) × IsSomeAnd (registered_at (kept_in p).registered id.query) (λ r. h.query ≡ listed_name r.query)
+  IsHeldAt id h = (h.id ≡ id)
+      × IsSomeAnd (registered_at (kept_in p).registered id.query) (λ r. h.query ≡ listed_name r.query)
 
   pub are_held : AreHeld (kept_in p)
   are_held id h held = by_place (place_at p.queries.items id.query.at) refl
@@ -97,7 +98,8 @@ module _ (p : Parts) (s : IsWhole p) where
       same_changes x y e = cc
 
       by_lost : (l : Live) → place_at p.queries.items id.at ≡ Some l → (b : Bool) → (log_at p.logs.items id.at).lost ≡ b
-          → cond b None (Some (map (change_of (p.catalog).texts l) (log_at p.logs.items id.at).lines)) ≡ Some changes → HaveCells changes l
+          → cond b None (Some (map (change_of (p.catalog).texts l) (log_at p.logs.items id.at).lines)) ≡ Some changes
+          → HaveCells changes l
       by_lost l e true f g = absurd cc
       by_lost l e false f g =
           subst (λ (cs : List Change). All (λ c. (cells : List ℕ) × CellsAre (kept_in p) l cells c) cs)

@@ -72,9 +72,11 @@ module _ (at : ℕ) (gs hs : List (Option Live)) (old new : Live) (there : place
   same_some x y e = cc
 
   pub keeps_moved : (reached : Listed → Bool) → KeepsIn reached gs hs
-  keeps_moved reached = everywhere (λ i. (l : Live) → place_at gs i ≡ Some l → IsSomeAnd (place_at hs i) (KeepsQuery reached l)) at
+  keeps_moved reached = everywhere
+      (λ i. (l : Live) → place_at gs i ≡ Some l → IsSomeAnd (place_at hs i) (KeepsQuery reached l)) at
       (λ l e. subst (λ (o : Option Live). IsSomeAnd o (KeepsQuery reached l)) (sym here)
-      (subst (λ (x : Live). KeepsQuery reached x new) (same_some old l (sym there ∙ e)) (keeps_tables reached old new same)))
+      (subst (λ (x : Live). KeepsQuery reached x new) (same_some old l (sym there ∙ e))
+      (keeps_tables reached old new same)))
       (λ i d l e. subst (λ (o : Option Live). IsSomeAnd o (KeepsQuery reached l)) (sym (others i d ∙ e))
       (keeps_tables reached l l (same_itself l)))
 
@@ -122,8 +124,8 @@ module _ (old mid new : Parts) (s : IsWhole old) (at : ℕ) (name : Bytes) (afte
     (low : at < length (old.catalog).relations) (named : (relation_at (old.catalog).relations at).name ≡ name)
     (carries : Carries (readers_at old.readers.items at) old.catalog old.queries.items mid.catalog mid.queries.items)
     (readers : mid.readers.items ≡ old.readers.items) (a : AgesReaders at name mid new) where
-  untouched : (i : ℕ) (l : Live) → place_at old.queries.items i ≡ Some l → is_outdated (one_change name after) (a_query l.query) ≡ false
-      → is_reader (readers_at old.readers.items at) i ≡ false
+  untouched : (i : ℕ) (l : Live) → place_at old.queries.items i ≡ Some l
+      → is_outdated (one_change name after) (a_query l.query) ≡ false → is_reader (readers_at old.readers.items at) i ≡ false
   untouched i l e out =
       reader_reads old.catalog old.queries.items old.order old.readers.items s at low i l e
       ∙ ap (reads l.query) named
@@ -137,13 +139,14 @@ module _ (old mid new : Parts) (s : IsWhole old) (at : ℕ) (name : Bytes) (afte
       let no = untouched i l e out in
       unreached (Ages name mid.seq) (readers_at mid.readers.items at) mid.queries.items new.queries.items a.reach i
       (ap (λ (rs : List (List ℕ)). is_reader (readers_at rs at) i) readers ∙ no)
-      ∙ unreached (Renews mid.catalog) (readers_at old.readers.items at) old.queries.items mid.queries.items carries.reach i no
+      ∙ unreached (Renews mid.catalog) (readers_at old.readers.items at) old.queries.items mid.queries.items
+      carries.reach i no
       ∙ e)
 
 -- ---- a change of several
 
-pub keeps_turned : (outdater : Listed → Option Bytes) (reached : Listed → Bool) (places : List ℕ) (old mid new : Parts) (s : IsWhole old)
-    → ((q : Listed) → reached q ≡ is_some (outdater q)) → Turned outdater places old mid new
+pub keeps_turned : (outdater : Listed → Option Bytes) (reached : Listed → Bool) (places : List ℕ)
+    (old mid new : Parts) (s : IsWhole old) → ((q : Listed) → reached q ≡ is_some (outdater q)) → Turned outdater places old mid new
     → KeepsIn reached old.queries.items new.queries.items
 keeps_turned outdater reached places old mid new s by b =
     keeps_alike reached old.queries.items new.queries.items (alike_then outdater places old mid new s b)

@@ -1,5 +1,7 @@
 -- What contracts see of an engine, and what its calls do to its cursors.
-use Rattle.std.specs.Prelude.{ℕ, List, [], ◌∷◌, ◌==◌, ◌≡◌, ◌≤◌, ◌+◌, ◌++◌, ◌&&◌, ◌⊎◌, Bool, true, false, not, Option, None, Some, is_none, IsSome, IsSomeAnd, IfSome, All, Result, Ok, Err, map, filter, find, nat_lt, slice_get, slice_index_or, slice_set, ⊤}
+use Rattle.std.specs.Prelude.{ℕ, List, [], ◌∷◌, ◌==◌, ◌≡◌, ◌≤◌, ◌+◌, ◌++◌, ◌&&◌, ◌⊎◌, Bool, true, false, not}
+use Rattle.std.specs.Prelude.{Option, None, Some, is_none, IsSome, IsSomeAnd, IfSome, All, Result, Ok, Err}
+use Rattle.std.specs.Prelude.{map, filter, find, nat_lt, slice_get, slice_index_or, slice_set, ⊤}
 use Rattle.djq_model.specs.declared.query.Query.{Query}
 use Rattle.djq_model.specs.Data.{Bytes, Tuple, bytes_eq, change_first}
 use Rattle.djq_model.specs.Listed.{Listed, a_query, a_union, listed_name, AnswersOf, listed_of}

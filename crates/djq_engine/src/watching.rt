@@ -1,5 +1,6 @@
 //! Those that watch queries, and how the answers of these changed last.
-ghost use Rattle.std.specs.Prelude.{◌≡◌, ◌<◌, ◌≤◌, ◌+◌, ◌-◌, Some, IsSomeAnd, option_map, false, map, AllPairs, length, slice_get};
+ghost use Rattle.std.specs.Prelude.{◌≡◌, ◌<◌, ◌≤◌, ◌+◌, ◌-◌, Some, IsSomeAnd, option_map, false};
+ghost use Rattle.std.specs.Prelude.{map, AllPairs, length, slice_get};
 ghost use Rattle.djq_model.specs.Data.{bytes_eq};
 ghost use Rattle.djq_model.specs.Listed.{listed_name};
 ghost use Rattle.djq_lines.specs.declared.limits.TheConstants.{QUERIES};

@@ -3,7 +3,10 @@ use Rattle.std.specs.Prelude.{
   ◌≡◌,
   ◌↔◌,
   ℕ,
+  ◌==◌,
   Bool,
+  true,
+  false,
   List,
   [],
   Option,
@@ -12,10 +15,13 @@ use Rattle.std.specs.Prelude.{
   unwrap_or,
   length,
   map,
+  filter,
+  sum_by,
   All,
   Contains,
   slice_get,
 }
+use Rattle.std.specs.List.{list_any}
 use Rattle.djq_model.specs.declared.relation.Relation.{Relation}
 use Rattle.djq_model.specs.declared.query.Query.{Query}
 use Rattle.djq_model.specs.Data.{Bytes, Tuple}
@@ -45,9 +51,20 @@ AtFirst k members P = IsSomeAnd (slice_get (queries_at k.places members) 0) P
 abbrev pub told_in : Kept → ℕ → Option (List Change)
 told_in k i = told_at k (record { at = i })
 
--- how many answers of it that tells
+-- the answers that it tells, and how many they are
+abbrev pub changes_in : Kept → ℕ → List Change
+changes_in k i = unwrap_or (told_in k i) []
+
 abbrev pub count_in : Kept → ℕ → ℕ
-count_in k i = length (unwrap_or (told_in k i) [])
+count_in k i = length (changes_in k i)
+
+-- whether a place is among these
+abbrev pub is_among : List ℕ → ℕ → Bool
+is_among places i = list_any (λ j. j == i) places
+
+-- how many answers are told of those members that were touched
+abbrev pub count_of : Kept → List ℕ → List ℕ → ℕ
+count_of k members touched = sum_by (count_in k) (filter (is_among touched) members)
 
 -- Members changed one way, from these relations to those of the engine. What is told of one that was
 -- touched is its delta; the answers of the others are the same.
@@ -55,10 +72,10 @@ pub record HaveChanged (before : List Relation) (k : Kept) (members touched : Li
     (came : Bool) : Type 0 where
   pub one_way : (i : ℕ) (l : Live) → Contains members i → query_at k.places i ≡ Some l
       → GoOneWay came (IsAnswer before l.query) (IsAnswer (k.store).relations l.query)
-  pub told : (i : ℕ) (l : Live) (changes : List Change) → Contains touched i
-      → query_at k.places i ≡ Some l → told_in k i ≡ Some changes
+  pub told : (i : ℕ) (l : Live) (changes : List Change) → Contains members i
+      → is_among touched i ≡ true → query_at k.places i ≡ Some l → told_in k i ≡ Some changes
       → IsDelta (IsAnswer before l.query) (IsAnswer (k.store).relations l.query) changes
-  pub others : (i : ℕ) (l : Live) → Contains members i → (Contains touched i → ⊥)
+  pub others : (i : ℕ) (l : Live) → Contains members i → is_among touched i ≡ false
       → query_at k.places i ≡ Some l
       → (t : Tuple) → IsAnswer before l.query t ↔ IsAnswer (k.store).relations l.query t
 

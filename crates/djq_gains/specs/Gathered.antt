@@ -81,6 +81,11 @@ pub record IsIn (gains : List Gain) (slot : ℕ) : Type 0 where
   pub is : gains ≡ front ++ gain ∷ back
   pub at : gain.slot ≡ slot
 
+-- what holds of the tuple in a slot
+abbrev pub AtSlot : List Gain → ℕ → (Gain → Type 0) → Type 0
+AtSlot gains slot P = (front : List Gain) (g : Gain) (back : List Gain) → gains ≡ front ++ g ∷ back
+    → g.slot ≡ slot → P g
+
 -- what lies in a slot, as a tuple of the nth delta too
 abbrev pub with_mark : ℕ → ℕ → Gain → Gain
 with_mark slot nth g = if g.slot == slot then record g { by = slice_set g.by nth true } else g

@@ -1,7 +1,7 @@
-ghost use Rattle.std.specs.Prelude.{◌≡◌, ◌↔◌, ◌⊎◌, ℕ, ◌+◌, ◌<◌, ◌≤◌, List, [], ◌∷◌, ◌++◌, length, map, slice_set, vec_len, vec_capacity, IfOk, OnErr, IfNone, IfSome};
+ghost use Rattle.std.specs.Prelude.{◌≡◌, ◌↔◌, ◌⊎◌, ℕ, ◌+◌, ◌<◌, ◌≤◌, List, [], ◌∷◌, ◌++◌, length, map, slice_set, vec_len, vec_capacity, IfOk, OnErr, Contains};
 ghost use Rattle.djq_arena.specs.Chains.{first_of};
 ghost use Rattle.djq_arena.specs.Rows.{Row, AreRows, IsAbsent, IsRow, slots};
-ghost use Rattle.djq_gains.specs.Gathered.{Gain, Stand, AreApart, StandSomewhere, marks_at, unmarked, gains_in, slots_in, is_by, marked_in, IsIn, Seats};
+ghost use Rattle.djq_gains.specs.Gathered.{Gain, Stand, AreApart, StandSomewhere, marks_at, unmarked, gains_in, slots_in, is_by, marked_in, IsIn, AtSlot, Seats};
 
 use djq_arena::Arena;
 use djq_reduct::Cells;
@@ -120,8 +120,9 @@ impl Gains {
     pub fn laws(&self)
         ensures apart { AreApart self.now.gains }
         ensures some { StandSomewhere self.now.gains }
+        ensures wide { (g : Gain) → Contains self.now.gains g → length g.cells ≡ self.now.width }
     {
-        let _tuples = &self.tuples;
+        self.tuples.laws();
     }
 
     /// How many different tuples there are.
@@ -165,8 +166,7 @@ impl Gains {
     /// The cells of the tuple in a slot.
     pub fn cells(&self, slot: u32) -> &[u64]
         requires { IsIn self.now.gains slot }
-        ensures { (xs : List Gain) (g : Gain) (ys : List Gain) → self.now.gains ≡ xs ++ g ∷ ys → g.slot ≡ slot
-            → result.now ≡ g.cells }
+        ensures { AtSlot self.now.gains slot (λ g. result.now ≡ g.cells) }
     {
         self.tuples.cells(slot)
     }
@@ -175,8 +175,7 @@ impl Gains {
     pub fn stands_in(&self, slot: u32, nth: usize) -> bool
         requires slot { IsIn self.now.gains slot }
         requires nth { nth < 8 }
-        ensures { (xs : List Gain) (g : Gain) (ys : List Gain) → self.now.gains ≡ xs ++ g ∷ ys → g.slot ≡ slot
-            → result ≡ is_by g nth }
+        ensures { AtSlot self.now.gains slot (λ g. result ≡ is_by g nth) }
     {
         self.tuples.laws();
         self.marks[slot as usize][nth]

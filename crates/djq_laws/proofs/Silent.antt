@@ -203,7 +203,8 @@ module _ (s : ℕ) where
   form_quiet ending old t x e new h apart deaf = quiet_alone t e apart h.0
 
   read_quiet : (old : State) (t : ℕ) (x : Session) (l : Bytes) (e : Effect) (new : State)
-      → ReadStep old t x l (reading_of l) e new → (t == s) ≡ false → Deaf (session_of old s) → to_session s e.queued ≡ []
+      → ReadStep old t x l (reading_of l) e new → (t == s) ≡ false → Deaf (session_of old s)
+      → to_session s e.queued ≡ []
   read_quiet old t x l e new h apart deaf = by (line_reads old t x l (reading_of l) e new h)
     where
       by : Reads old t x l (reading_of l) e new → to_session s e.queued ≡ []

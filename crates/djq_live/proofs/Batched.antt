@@ -1,25 +1,54 @@
 -- The tuples of many rows, and what they do to leaves.
-use Rattle.std.proofs.Common.{◌≡◌, ℕ, zero, suc, ◌+◌, ◌<◌, ◌≤◌, List, [], ◌∷◌, ◌++◌, length, take, refl, ap, sym, subst, ◌∙◌, ◌⊎◌, inl, inr, arith, length-append}
-use Rattle.std.specs.Prelude.{None, Some, Contains, slice_get, slice_index_or}
+use Rattle.std.proofs.Common.{
+  ◌≡◌,
+  ◌≢◌,
+  ℕ,
+  zero,
+  suc,
+  ◌+◌,
+  ◌*◌,
+  ◌<◌,
+  ◌≤◌,
+  List,
+  [],
+  ◌∷◌,
+  ◌++◌,
+  length,
+  take,
+  refl,
+  ap,
+  sym,
+  subst,
+  ◌∙◌,
+  ◌⊎◌,
+  inl,
+  inr,
+  arith,
+  length-append,
+  length-take-le,
+}
+use Rattle.std.specs.Prelude.{◌↔◌, Option, None, Some, Contains, slice_get, slice_index_or}
 use Rattle.std.proofs.lemmas.Bool.{cases_eq, cases_lt}
 use Rattle.std.proofs.lemmas.List.{take_more, take_all}
 use Rattle.std.proofs.lemmas.Option.{same_Some, none-some, slice_get_within}
-use Rattle.djq_index.specs.Tuple.{same}
+use Rattle.djq_index.specs.Tuple.{same, one}
 use Rattle.djq_index.specs.Entries.{Entry, cnt}
 use Rattle.djq_index.proofs.Tuples.{same_cases, is_same, one_true, one_other, one_le}
 use Rattle.djq_tree.specs.Labels.{label_at}
 use Rattle.djq_tree.specs.Tree.{Tree}
 use Rattle.djq_reduct.specs.Tables.{entries_at}
-use Rattle.djq_reduct.specs.Reducts.{Reducts}
+use Rattle.djq_reduct.specs.Reducts.{Reducts, IsReducts}
 use Rattle.djq_propagate.specs.Batches.{times, AreNew, AreThere, HasGainedAll, HasLostAll}
+use Rattle.djq_propagate.specs.Updates.{HasKept}
 use Rattle.djq_propagate.proofs.Batching.{times-append, next_there}
 use Rattle.djq_propagate.proofs.Measuring.{length_even}
 use Rattle.djq_propagate.proofs.Updating.{times_one}
 use Rattle.djq_query.specs.declared.numbered.NumberedAtom.{NumberedAtom}
-use Rattle.djq_query.specs.Pattern.{Shape}
+use Rattle.djq_query.specs.Pattern.{Shape, Gives}
+use Rattle.djq_live.specs.Leaves.{GivesOne}
 use Rattle.djq_live.specs.Changes.{GainsAll, Keeps}
 use Rattle.djq_live.specs.Stepping.{HasMore, ChangesAt, ChangesBelow, HoldBelow}
-use Rattle.djq_live.specs.Batching.{AreDistinct, AreTuplesOf, AreTuples, HasFew, CanTake, Adds, Drops}
+use Rattle.djq_live.specs.Batching.{AreDistinct, AreTuplesOf, AreTuples, FitAll, HasFew, CanTake, Adds, Drops}
 use Rattle.djq_live.proofs.Below.{IsStable}
 use Rattle.djq_live.proofs.Giving.{gives_once, gives_same, one_as}
 use Rattle.djq_live.proofs.Heads.{has_at}

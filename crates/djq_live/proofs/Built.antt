@@ -13,7 +13,7 @@ use Rattle.djq_model.specs.declared.query.Atom.{Atom}
 use Rattle.djq_model.specs.declared.query.Comparison.{Comparison}
 use Rattle.djq_model.specs.declared.query.Term.{Term}
 use Rattle.djq_model.specs.declared.query.Term.TheVariants.{Variable as Named, Hole, Constant}
-use Rattle.djq_model.specs.Data.{Bytes}
+use Rattle.djq_model.specs.Data.{Bytes, Tuple}
 use Rattle.djq_index.specs.Entries.{Entry, cnt, marks}
 use Rattle.djq_lines.specs.Hypergraph.{edges_from, edges_of, head_of}
 use Rattle.djq_lines.specs.QueryFault.{query_fault}

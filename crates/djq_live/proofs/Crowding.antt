@@ -1,7 +1,8 @@
 -- How much it counts where many tuples come to leaves, and how much where they go.
-use Rattle.std.proofs.Common.{◌≡◌, ◌≢◌, ℕ, ◌+◌, ◌*◌, ◌<◌, ◌≤◌, List, length, sym, subst, inl, inr, arith, mul-le-mul_left}
+use Rattle.std.proofs.Common.{◌≡◌, ◌≢◌, ℕ, ◌+◌, ◌*◌, ◌<◌, ◌≤◌, true, List, length, ap, sym, subst, ◌∙◌, inl, inr, arith, mul-le-mul_right, mul-le-mul_left}
 use Rattle.std.specs.Prelude.{Some, slice_get}
 use Rattle.std.proofs.lemmas.Bool.{cases_eq}
+use Rattle.djq_index.specs.Entries.{Entry, cnt}
 use Rattle.djq_tree.specs.Tree.{Tree}
 use Rattle.djq_reduct.specs.Tables.{entries_at}
 use Rattle.djq_reduct.specs.Reducts.{Reducts, IsReducts}
@@ -11,8 +12,8 @@ use Rattle.djq_propagate.proofs.Batching.{longer_by}
 use Rattle.djq_propagate.proofs.Measuring.{length_even}
 use Rattle.djq_propagate.proofs.Updating.{inserted_gained_all}
 use Rattle.djq_query.specs.declared.numbered.NumberedAtom.{NumberedAtom}
-use Rattle.djq_live.specs.Stepping.{HasMore, ChangesBelow}
-use Rattle.djq_live.specs.Batching.{HasFew, Adds, GrowsBy, CountsTuples, CountsMany, CountsGiven}
+use Rattle.djq_live.specs.Stepping.{HasMore, ChangesBelow, atoms_below}
+use Rattle.djq_live.specs.Batching.{HasFew, Adds, Drops, GrowsBy, CountsTuples, CountsMany, CountsGiven}
 use Rattle.djq_live.proofs.Sizing.{kept_most, fewer_stay, still_long}
 
 -- ---- one leaf

@@ -1,6 +1,33 @@
 -- Answers as cells in the order of the head.
-use Rattle.std.proofs.Common.{◌≡◌, ℕ, ◌+◌, ◌<◌, ◌≤◌, Bool, true, false, List, [], ◌∷◌, ◌++◌, length, map, take, refl, ap, sym, subst, ◌∙◌, inl, inr, arith}
+use Rattle.std.proofs.Common.{
+  ◌≡◌,
+  ℕ,
+  suc,
+  ◌+◌,
+  ◌<◌,
+  ◌≤◌,
+  Bool,
+  true,
+  false,
+  List,
+  [],
+  ◌∷◌,
+  ◌++◌,
+  length,
+  map,
+  take,
+  refl,
+  ap,
+  ap₂,
+  sym,
+  subst,
+  ◌∙◌,
+  inl,
+  inr,
+  arith,
+}
 use Rattle.std.specs.Prelude.{◌↔◌, Contains, slice_index, slice_index_or}
+use Rattle.std.specs.Bool.{OnTrue, OnFalse}
 use Rattle.std.proofs.lemmas.Bool.{cases_Bool, false≢true, or_cases, or_left, or_right}
 use Rattle.std.proofs.lemmas.List.{
   get_or-map,
@@ -27,7 +54,8 @@ use Rattle.djq_union.specs.Answers.{
   AreAll as AreAllOf,
   IsListing as IsListingOf,
 }
-use Rattle.djq_live.specs.Live.{Live, IsKeptSomewhere}
+use Rattle.djq_rows.specs.Catalog.{Catalog}
+use Rattle.djq_live.specs.Live.{Live, IsKept, IsKeptSomewhere}
 use Rattle.djq_live.specs.Member.{in_head, all_answers, has_cells, cells_given, FitsKept}
 use Rattle.djq_live.specs.Order.{reading, AreCellsOfAnswer}
 use Rattle.djq_live.proofs.Asking.{head_narrow, leaves_long}

@@ -18,6 +18,7 @@ use Rattle.djq_propagate.specs.Updates.{HasInserted, HasMarked, HasKept, HasGain
 use Rattle.djq_propagate.proofs.Updating.{inserted_gained}
 use Rattle.djq_propagate.proofs.Measuring.{length_even, length_less}
 use Rattle.djq_query.specs.declared.numbered.NumberedAtom.{NumberedAtom}
+use Rattle.djq_query.specs.Pattern.{Shape}
 use Rattle.djq_live.specs.Stepping.{
   HasMore,
   ChangesBelow,

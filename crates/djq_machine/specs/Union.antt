@@ -4,7 +4,6 @@ use Rattle.std.specs.Prelude.{
   List,
   [],
   ◌∷◌,
-  ◌==◌,
   ◌≡◌,
   ◌++◌,
   ◌&&◌,
@@ -16,7 +15,6 @@ use Rattle.std.specs.Prelude.{
   nat_le,
   nat_lt,
   Option,
-  None,
   Some,
   is_some,
   is_none,
@@ -27,7 +25,6 @@ use Rattle.std.specs.Prelude.{
   ⊤,
 }
 use Rattle.std.specs.List.{list_any}
-use Rattle.djq_model.specs.declared.relation.Relation.{Relation}
 use Rattle.djq_model.specs.declared.relation.ColumnType.{ColumnType}
 use Rattle.djq_model.specs.declared.relation.ColumnType.TheVariants.{Int as IntColumn, Text as TextColumn}
 use Rattle.djq_model.specs.declared.query.Query.{Query}

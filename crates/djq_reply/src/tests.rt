@@ -83,7 +83,11 @@ fn answers_commands(rt: HostRuntime) -> Result<(), Fail> {
     say_bye(&mut out);
     assert_eq!(rt;
         out.as_slice(),
-        b"ok\nok open\nok added 18446744073709551615 1\nok added 0 4294967295\nok removed 3 0\nok removed 3 12\nok absent 3\nok query 5\nyes\nno\nflat\nlinear\nunion\nok union 20\nok watch 33\nstale c rel 5\nok batch\nok held 1000\nok done 18446744073709551615 2\nbye\n".as_slice()
+        b"ok\nok open\nok added 18446744073709551615 1\nok added 0 4294967295\n\
+            ok removed 3 0\nok removed 3 12\nok absent 3\nok query 5\nyes\nno\n\
+            flat\nlinear\nunion\nok union 20\nok watch 33\nstale c rel 5\nok batch\n\
+            ok held 1000\nok done 18446744073709551615 2\nbye\n"
+            .as_slice()
     );
     Ok(())
 }

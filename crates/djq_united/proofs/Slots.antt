@@ -5,7 +5,7 @@ use Rattle.std.proofs.Common.{
   zero,
   suc,
   ◌≤◌,
-  Bool,
+  false,
   List,
   [],
   ◌∷◌,
@@ -20,14 +20,19 @@ use Rattle.std.proofs.Common.{
 }
 use Rattle.std.specs.Prelude.{Option, None, Some, option_map, slice_set}
 use Rattle.std.proofs.lemmas.Bool.{cases_eq, cases_lt}
-use Rattle.std.proofs.lemmas.List.{get_or_past, get_or-set_same, get_or-set_other, length-set, set-get_or}
+use Rattle.std.proofs.lemmas.List.{
+  get_or_past,
+  get_or-set_same,
+  get_or-set_other,
+  length-set,
+  set-get_or,
+}
 use Rattle.std.proofs.lemmas.Option.{same_Some}
 use Rattle.djq_model.specs.Data.{Bytes}
-use Rattle.djq_cursor.specs.declared.cursor.Cursor.{Cursor}
 use Rattle.djq_live.specs.Live.{Live}
 use Rattle.djq_united.specs.declared.cursors.Progress.{Progress}
 use Rattle.djq_united.specs.declared.cursors.Progress.TheVariants.{Open, Stale}
-use Rattle.djq_united.specs.Slots.{slot_at, SetsSlot, outdated_progress, outdated_slots}
+use Rattle.djq_united.specs.Slots.{slot_at, outdated_progress, outdated_slots}
 use Rattle.djq_united.specs.United.{FitsOver, FitAll}
 use Rattle.djq_united.specs.Advancing.{OpensSlot}
 

@@ -8,7 +8,6 @@ use Rattle.std.proofs.Common.{
   [],
   ◌∷◌,
   ◌++◌,
-  length,
   map,
   refl,
   ap,
@@ -21,7 +20,6 @@ use Rattle.std.proofs.Common.{
 }
 use Rattle.std.specs.Prelude.{◌||◌, Contains, Option, None, Some, IfSome, IsSomeAnd}
 use Rattle.std.specs.List.{AllZip}
-use Rattle.djq_model.specs.declared.relation.ColumnType.{ColumnType}
 use Rattle.djq_model.specs.declared.query.Query.{Query}
 use Rattle.djq_model.specs.Data.{Bytes, Tuple}
 use Rattle.djq_model.specs.Listed.{a_union}
@@ -32,35 +30,23 @@ use Rattle.djq_cursor.specs.declared.cursor.Cursor.{Cursor}
 use Rattle.djq_cursor.specs.Given.{Fits}
 use Rattle.djq_union.specs.Answers.{AreSome}
 use Rattle.djq_union.specs.Order.{merged}
-use Rattle.djq_union.specs.Union.{some_has, given_at, union_given, AreInStep, FitsFirst, UnionFits}
+use Rattle.djq_union.specs.Union.{some_has, given_at, AreInStep}
 use Rattle.djq_union.proofs.Lists.{none_contained, at_head, in_tail, head_or_tail}
 use Rattle.djq_rows.specs.Catalog.{Catalog}
-use Rattle.djq_live.specs.Live.{Live, IsKept, IsKeptSomewhere, IsShowable, values_of}
-use Rattle.djq_live.specs.Member.{
-  has_cells,
-  cells_given,
-  FitsKept,
-  HaveQueries,
-  query_at,
-  queries_at,
-  head_types,
-  in_tree,
-}
+use Rattle.djq_live.specs.Live.{Live, IsKeptSomewhere, values_of}
+use Rattle.djq_live.specs.Member.{has_cells, cells_given, FitsKept, query_at, head_types, in_tree}
 use Rattle.djq_live.proofs.Showable.{stays_showable}
 use Rattle.djq_united.specs.declared.cursors.Progress.{Progress}
 use Rattle.djq_united.specs.declared.cursors.Progress.TheVariants.{Open, Stale}
-use Rattle.djq_united.specs.Slots.{slot_at, outdated_slots}
+use Rattle.djq_united.specs.Slots.{outdated_slots}
 use Rattle.djq_united.specs.United.{
   United,
   members_in,
-  union_of,
   AreAlike,
-  AreMembers,
   FitsMembers,
   FitsOver,
   FitAll,
   IsUnited,
-  AreKept,
   shown_cells,
   given_by,
   position_of,
@@ -71,7 +57,6 @@ use Rattle.djq_united.specs.Staying.{
   HasSameShape,
   KeepMembers,
   MembersStay,
-  AreUntouched,
   UnionsStay,
   StaleStand,
 }
@@ -151,15 +136,17 @@ same_shape l m s = record {
   tree = ap (λ (r : Reducts). r.tree) s.reducts;
 }
 
-same_shapes : (ls ms : List Live) → AllZip HasSameTables ls ms → AllZip HasSameShape ls ms
-same_shapes [] [] zip = tt
-same_shapes [] (m ∷ ms) zip = absurd zip
-same_shapes (l ∷ ls) [] zip = absurd zip
-same_shapes (l ∷ ls) (m ∷ ms) zip = (same_shape l m zip.0, same_shapes ls ms zip.1)
+-- the tests of a member, and of some
+abbrev has_of : Live → List ℕ → Bool
+has_of l t = has_cells l t
 
-same_has : (l m : Live) → HasSameTables l m → (λ t. has_cells m t) ≡ (λ t. has_cells l t)
+abbrev some_of : List Live → List ℕ → Bool
+some_of ls t = some_has has_cells ls t
+
+same_has : (l m : Live) → HasSameTables l m
+    → ◌≡◌ {A = List ℕ → Bool} (has_of m) (has_of l)
 same_has l m s =
-    ap₂ (λ (n : Numbered) (r : Reducts) (t : List ℕ).
+    ap₂ {C = List ℕ → Bool} (λ (n : Numbered) (r : Reducts) (t : List ℕ).
     has_cells (record l { numbered = n; reducts = r }) t) s.numbered s.reducts
 
 same_given : (l m : Live) (s : Option Cursor) → HasSameTables l m
@@ -170,12 +157,12 @@ same_given l m (Some cursor) same =
     same.numbered same.reducts
 
 same_some : (ls ms : List Live) → AllZip HasSameTables ls ms
-    → (λ t. some_has has_cells ms t) ≡ (λ t. some_has has_cells ls t)
+    → ◌≡◌ {A = List ℕ → Bool} (some_of ms) (some_of ls)
 same_some [] [] zip = refl
 same_some [] (m ∷ ms) zip = absurd zip
 same_some (l ∷ ls) [] zip = absurd zip
 same_some (l ∷ ls) (m ∷ ms) zip =
-    ap₂ (λ (f g : List ℕ → Bool) (t : List ℕ). f t || g t) (same_has l m zip.0)
+    ap₂ {C = List ℕ → Bool} (λ (f g : List ℕ → Bool) (t : List ℕ). f t || g t) (same_has l m zip.0)
     (same_some ls ms zip.1)
 
 -- the same states have given the same
@@ -188,7 +175,7 @@ same_cells (l ∷ ls) (m ∷ ms) [] zip = refl
 same_cells (l ∷ ls) (m ∷ ms) (s ∷ ss) zip =
     ap (λ (f : List ℕ → Bool). merged f (given_at cells_given m s) (union_cells ms ss))
     (same_some ls ms zip.1)
-    ∙ ap₂ (λ (g rest : List (List ℕ)). merged (λ t. some_has has_cells ls t) g rest)
+    ∙ ap₂ (λ (g rest : List (List ℕ)). merged (some_of ls) g rest)
     (same_given l m s zip.0) (same_cells ls ms ss zip.1)
 
 -- a member's listing goes on
@@ -202,19 +189,19 @@ fit_later l m (Some cursor) same kept fit = (
 
 -- what holds of a member's test, of what it has given, of the later members' test and of what they
 -- have given
-step_later : (has same_has later same_later : List ℕ → Bool) (given same_given rest same_rest : List (List ℕ))
-    → same_has ≡ has → same_later ≡ later → same_given ≡ given → same_rest ≡ rest
-    → AreInStep has later given rest → AreInStep same_has same_later same_given same_rest
-step_later has same_has later same_later given same_given rest same_rest h k g r step =
-    subst (λ (f : List ℕ → Bool). AreInStep f same_later same_given same_rest) (sym h)
-    (subst (λ (f : List ℕ → Bool). AreInStep has f same_given same_rest) (sym k)
-    (subst (λ (ts : List (List ℕ)). AreInStep has later ts same_rest) (sym g)
+step_later : (has now later then : List ℕ → Bool) (given gave rest others : List (List ℕ))
+    → ◌≡◌ {A = List ℕ → Bool} now has → ◌≡◌ {A = List ℕ → Bool} then later → gave ≡ given
+    → others ≡ rest → AreInStep has later given rest → AreInStep now then gave others
+step_later has now later then given gave rest others h k g r step =
+    subst (λ (f : List ℕ → Bool). AreInStep f then gave others) (sym h)
+    (subst (λ (f : List ℕ → Bool). AreInStep has f gave others) (sym k)
+    (subst (λ (ts : List (List ℕ)). AreInStep has later ts others) (sym g)
     (subst (λ (ts : List (List ℕ)). AreInStep has later given ts) (sym r) step)))
 
-some_later : (has same_has : List ℕ → Bool) (given same_given : List (List ℕ)) → same_has ≡ has
-    → same_given ≡ given → AreSome has given → AreSome same_has same_given
-some_later has same_has given same_given h g some =
-    subst (λ (f : List ℕ → Bool). AreSome f same_given) (sym h)
+some_later : (has now : List ℕ → Bool) (given gave : List (List ℕ))
+    → ◌≡◌ {A = List ℕ → Bool} now has → gave ≡ given → AreSome has given → AreSome now gave
+some_later has now given gave h g some =
+    subst (λ (f : List ℕ → Bool). AreSome f gave) (sym h)
     (subst (λ (ts : List (List ℕ)). AreSome has ts) (sym g) some)
 
 union_fits : (ls ms : List Live) (ss : List (Option Cursor)) → AllZip HasSameTables ls ms
@@ -230,10 +217,9 @@ union_fits (l ∷ ls) (m ∷ ms) (s ∷ ss) zip kept fit =
     let r = same_cells ls ms ss zip.1 in (
       record {
         fit = fit_later l m s zip.0 (kept m (at_head m ms)) fit.0.fit;
-        some = some_later (λ t. has_cells l t) (λ t. has_cells m t) (given_at cells_given l s)
+        some = some_later (has_of l) (has_of m) (given_at cells_given l s)
             (given_at cells_given m s) h g fit.0.some;
-        step = step_later (λ t. has_cells l t) (λ t. has_cells m t)
-            (λ t. some_has has_cells ls t) (λ t. some_has has_cells ms t)
+        step = step_later (has_of l) (has_of m) (some_of ls) (some_of ms)
             (given_at cells_given l s) (given_at cells_given m s) (union_cells ls ss)
             (union_cells ms ss) h k g r fit.0.step;
       },
@@ -320,7 +306,7 @@ stale_stood texts more ls ms relation n (Open cursor ended) = refl
 stale_stood texts more ls ms relation n (Stale r m) = refl
 
 -- Once its cursors are stale, a union goes with the same queries, whatever their tables are.
-pub united_later : (old new : List (Option Live)) (u : United) (relation : Bytes) (n : ℕ)
+united_later : (old new : List (Option Live)) (u : United) (relation : Bytes) (n : ℕ)
     (slots : List (Option Progress)) → slots ≡ outdated_slots relation n u.cursors
     → IsUnited old u → KeepMembers HasSameShape old new u.members
     → IsUnited new (record u { cursors = slots })
@@ -329,3 +315,12 @@ united_later old new u relation n slots e united keep = record {
   fits = subst (FitAll (members_in new u)) (sym e)
       (stale_fits (members_in new u) relation n u.cursors);
 }
+
+-- the same where the union is seen from outside
+pub later_seen : (old new : List (Option Live)) (u v : United) (relation : Bytes) (n : ℕ)
+    (slots : List (Option Progress)) → u ≡ v → slots ≡ outdated_slots relation n u.cursors
+    → IsUnited old v → KeepMembers HasSameShape old new v.members
+    → IsUnited new (record u { cursors = slots })
+later_seen old new u v relation n slots e is united keep =
+    united_later old new u relation n slots is (subst (IsUnited old) (sym e) united)
+    (subst (λ (w : United). KeepMembers HasSameShape old new w.members) (sym e) keep)

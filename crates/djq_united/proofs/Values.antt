@@ -1,23 +1,9 @@
 -- From cells of a union's answers to values. Members have the same types of answers, so what stands
 -- for a tuple as the cells of one of them does so as cells of the first.
-use Rattle.std.proofs.Common.{
-  ◌≡◌,
-  ℕ,
-  Bool,
-  true,
-  false,
-  List,
-  [],
-  ◌∷◌,
-  map,
-  refl,
-  ap,
-  sym,
-  subst,
-  ◌∙◌,
-}
-use Rattle.std.specs.Prelude.{Any, Contains}
+use Rattle.std.proofs.Common.{◌≡◌, ℕ, true, List, [], ◌∷◌, map, refl, ap, sym, subst, ◌∙◌}
+use Rattle.std.specs.Prelude.{Any, Contains, Option, Some, IsSomeAnd, slice_get}
 use Rattle.std.proofs.lemmas.Bool.{false≢true}
+use Rattle.std.proofs.lemmas.Option.{same_Some}
 use Rattle.djq_model.specs.declared.relation.ColumnType.{ColumnType}
 use Rattle.djq_model.specs.declared.query.Query.{Query}
 use Rattle.djq_model.specs.Data.{Tuple}
@@ -32,17 +18,9 @@ use Rattle.djq_live.specs.Live.{Live, IsKept, IsShowable, values_of}
 use Rattle.djq_live.specs.Member.{has_cells, head_types, in_tree}
 use Rattle.djq_live.proofs.InTree.{tree_stand}
 use Rattle.djq_live.proofs.Standing.{are_had, cells_tell, had_stand, have_cells, head_are}
-use Rattle.djq_united.specs.United.{AreAlike, AtFirst, shown_cells}
+use Rattle.djq_united.specs.United.{AreAlike, first_of, AtFirst, shown_cells}
 use Rattle.djq_united.specs.Reading.{IsShownBy}
-use Rattle.djq_united.proofs.Lists.{
-  HasOne,
-  has_one,
-  one_has,
-  some_one,
-  one_there,
-  in_image,
-  image_of,
-}
+use Rattle.djq_united.proofs.Lists.{has_one, one_has, some_one, one_there, in_image, image_of}
 
 -- members that are alike, over one catalog
 pub record AreOver (c : Catalog) (ls : List Live) : Type 0 where
@@ -202,3 +180,19 @@ had_tells c l ls t v over stand =
           (shows c l ls over h.0 h.1).stands mine).1 h.2 in
           subst (λ (u : List ℕ). some_has has_cells (l ∷ ls) u ≡ true) same h.1,
     )
+
+-- ---- the first member, as it is lent
+
+pub first_at : (l : Live) (ls : List Live) → slice_get ls 0 ≡ Some l → first_of ls ≡ Some l
+first_at l [] e = absurd cc
+first_at l (m ∷ ms) e = e
+
+pub at_first : (P : Live → Type 0) (l : Live) (ls : List Live) → slice_get ls 0 ≡ Some l → P l
+    → AtFirst ls P
+at_first P l ls e h =
+    subst (λ (o : Option Live). IsSomeAnd o P) (sym (first_at l ls e)) h
+
+pub first_in : (l : Live) (ls : List Live) → slice_get ls 0 ≡ Some l → Contains ls l
+first_in l [] e = absurd cc
+first_in l (m ∷ ms) e =
+    subst (λ (n : Live). Contains (m ∷ ms) n) (same_Some m l e) (at_head m ms)

@@ -19,23 +19,13 @@ use Rattle.djq_model.specs.Data.{Bytes, Tuple}
 use Rattle.djq_model.specs.Listed.{Listed, AnswersOf}
 use Rattle.djq_machine.specs.State.{Position, open_at, stale}
 use Rattle.djq_machine.specs.Store.{IsLeft, AreAll, answer_steps}
-use Rattle.djq_cursor.specs.declared.cursor.Cursor.{Cursor}
 use Rattle.djq_rows.specs.Catalog.{Catalog}
 use Rattle.djq_live.specs.declared.listing.Next.{Next}
 use Rattle.djq_live.specs.declared.listing.Next.TheVariants.{Given, End, Stale}
 use Rattle.djq_live.specs.Live.{Live, IsShowable, values_of}
 use Rattle.djq_united.specs.declared.cursors.Progress.{Progress}
-use Rattle.djq_united.specs.declared.cursors.Progress.TheVariants.{Open}
 use Rattle.djq_united.specs.Slots.{slot_at, SetsSlot}
-use Rattle.djq_united.specs.United.{
-  United,
-  members_in,
-  union_of,
-  AtFirst,
-  IsUnited,
-  FitsMembers,
-  position_of,
-}
+use Rattle.djq_united.specs.United.{United, members_in, union_of, AtFirst, IsUnited, position_of}
 
 -- A cursor that has given nothing stands in a slot where none was, and nothing else has changed.
 pub record OpensIn (old : United) (k : ℕ) (new : United) : Type 0 where

@@ -20,7 +20,6 @@ use Rattle.std.specs.Prelude.{
   IsSomeAnd,
 }
 use Rattle.std.specs.List.{list_any}
-use Rattle.djq_model.specs.declared.query.Query.{Query}
 use Rattle.djq_model.specs.Data.{Bytes, Tuple}
 use Rattle.djq_model.specs.Listed.{Listed, a_union}
 use Rattle.djq_machine.specs.State.{Position, open_at, stale}

@@ -27,6 +27,8 @@
 mod alike;
 mod cursors;
 mod laws;
+#[cfg(test)]
+mod tests;
 mod union;
 
 pub use alike::heads_differ;

@@ -1,6 +1,6 @@
-use Rattle.std.proofs.Common.{true}
+use Rattle.std.proofs.Common.{true, length}
 use Rattle.djq_propagate.proofs.Updating.{inserted_gained_all}
-use Rattle.djq_live.proofs.Crowding.{insertions_count}
+use Rattle.djq_live.proofs.Crowding.{insertions_count, refusals_count}
 use Rattle.djq_live.proofs.Leafing.{kept_lists}
 use Rattle.djq_live.proofs.batch.add_all_and_tell.Goals as goal
 

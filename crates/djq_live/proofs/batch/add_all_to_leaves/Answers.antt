@@ -1,12 +1,12 @@
-use Rattle.std.proofs.Common.{true, ◌+◌, ◌<◌, length, ℕ, refl, sym, subst, ◌∙◌}
-use Rattle.djq_live.specs.Batching.{Adds}
+use Rattle.std.proofs.Common.{true, ◌+◌, ◌<◌, length, ℕ, List, refl, sym, subst, ◌∙◌}
+use Rattle.djq_live.specs.Batching.{Adds, GrowsBy, CountsMany}
 use Rattle.djq_live.specs.Stepping.{atoms_below}
 use Rattle.djq_tree.specs.Tree.{Tree}
 use Rattle.djq_cursor.specs.Changed.{IsGained}
 use Rattle.djq_live.proofs.Batched.{got_as, all_gained, adds_stable, adds_more, next_fresh, next_room}
-use Rattle.djq_live.proofs.Below.{below_skip, below_step, below_kept, below_at}
-use Rattle.djq_live.proofs.Crowding.{grown_next, grown_kept, counted_as, counted_more}
-use Rattle.djq_live.proofs.Gaining.{more_both}
+use Rattle.djq_live.proofs.Below.{below_none, below_skip, below_step, below_kept, below_at}
+use Rattle.djq_live.proofs.Crowding.{grown_none, grown_next, grown_kept, counted_none, counted_as, counted_more}
+use Rattle.djq_live.proofs.Gaining.{more_both, same_more}
 use Rattle.djq_live.proofs.Passing.{got, on_as, off_as, counts_over, counts_past, calls_as, lists_gained, lists_refused, kept_more}
 use Rattle.djq_live.proofs.Sizing.{one_more}
 use Rattle.djq_live.proofs.batch.add_all_to_leaves.Goals as goal

@@ -1,4 +1,4 @@
-use Rattle.std.proofs.Common.{◌+◌, ◌<◌, length, ℕ, List, sym, subst}
+use Rattle.std.proofs.Common.{◌+◌, ◌<◌, length, ℕ, List, sym, subst, ◌∙◌}
 use Rattle.djq_tree.specs.Tree.{Tree}
 use Rattle.djq_propagate.specs.Batches.{AreThere}
 use Rattle.djq_live.specs.Batching.{Drops}

@@ -1,4 +1,4 @@
-use Rattle.std.proofs.Common.{List, ℕ, ◌<◌, ◌+◌, subst, sym, arith}
+use Rattle.std.proofs.Common.{List, ℕ, ◌<◌, ◌+◌, length, subst, sym, ◌∙◌, arith}
 use Rattle.djq_live.proofs.Batched.{AreSoFar, batch_none, batch_more, batch_all}
 use Rattle.djq_live.proofs.Passing.{got}
 use Rattle.djq_live.proofs.batch.tuples_of_all.Goals as goal

@@ -1,7 +1,8 @@
-use Rattle.std.proofs.Common.{List, ℕ, length, ap, ◌∙◌}
+use Rattle.std.proofs.Common.{◌≡◌, List, ℕ, length, sym, subst, ap, ◌∙◌}
 use Rattle.std.proofs.lemmas.List.{length-map}
 use Rattle.djq_query.specs.declared.numbered.NumberedTerm.{NumberedTerm}
 use Rattle.djq_query.specs.declared.numbered.NumberedComparison.{NumberedComparison}
+use Rattle.djq_query.specs.Pattern.{tests_of}
 use Rattle.djq_rows.specs.Cells.{cell_of}
 use Rattle.djq_live.specs.Asked.{constants_in}
 use Rattle.djq_live.proofs.Patterns.{cells_long}

@@ -1,4 +1,19 @@
-use Rattle.std.proofs.Common.{◌<◌, [], ◌∷◌, ◌++◌, List, ℕ, length, map, ap, ap₂, ◌∙◌, rules, arith}
+use Rattle.std.proofs.Common.{
+  ◌≡◌,
+  ◌<◌,
+  [],
+  ◌∷◌,
+  ◌++◌,
+  List,
+  ℕ,
+  length,
+  map,
+  ap,
+  ap₂,
+  ◌∙◌,
+  rules,
+  arith,
+}
 use Rattle.std.specs.Prelude.{slice_index}
 use Rattle.std.proofs.lemmas.List.{take_all}
 use Rattle.djq_live.specs.Order.{reading}

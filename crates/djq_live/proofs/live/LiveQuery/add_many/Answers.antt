@@ -1,4 +1,4 @@
-use Rattle.std.proofs.Common.{ℕ, ◌<◌, length, ap, sym, subst, ◌∙◌, arith}
+use Rattle.std.proofs.Common.{ℕ, List, ◌<◌, length, ap, sym, subst, ◌∙◌, arith}
 use Rattle.djq_tree.specs.Tree.{Tree}
 use Rattle.djq_live.specs.Batching.{GrowsBy}
 use Rattle.djq_live.specs.Changes.{CameAll, GainsAll}

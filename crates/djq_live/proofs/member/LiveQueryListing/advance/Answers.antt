@@ -1,4 +1,4 @@
-use Rattle.std.proofs.Common.{sym, arith}
+use Rattle.std.proofs.Common.{◌≤◌, ◌+◌, ◌*◌, ◌∙◌, length, refl, sym, arith}
 use Rattle.djq_live.specs.Live.{Live}
 use Rattle.djq_live.proofs.InHead.{
   fits_outside,

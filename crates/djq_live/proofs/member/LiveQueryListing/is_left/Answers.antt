@@ -1,4 +1,4 @@
-use Rattle.std.proofs.Common.{arith}
+use Rattle.std.proofs.Common.{◌≤◌, ◌+◌, ◌*◌, length, arith}
 use Rattle.djq_live.proofs.InHead.{left_same, kept_narrow}
 use Rattle.djq_live.proofs.member.LiveQueryListing.is_left.Goals as goal
 
