@@ -139,7 +139,7 @@ pub(crate) fn run_open(
     session.answer_opened(outcome);
 }
 
-// A new cursor of the engine under a name of the session, where nothing refuses it.
+// A new cursor of the store under a name of the session, where nothing refuses it.
 fn open_cursor(
     engine: &mut Store,
     session: &mut Session<CursorId, Name>,

@@ -1,4 +1,4 @@
-//! `next`: one answer after another as the engine gives it, and the last line.
+//! `next`: one answer after another as the store gives it, and the last line.
 ghost use Rattle.std.specs.Prelude.{◌≡◌, ◌+◌, ◌≤◌, ◌∷◌, [], false};
 ghost use Rattle.djq_lines.specs.declared.limits.TheConstants.{LAST_LINE_BYTES, REPLY_BYTES};
 ghost use Rattle.djq_lines.specs.declared.command.Command.TheVariants.{Next as NextCommand};

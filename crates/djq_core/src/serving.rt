@@ -27,13 +27,13 @@ mod load;
 #[cfg(test)]
 mod tests;
 
-/// The join machine: an engine, and the open sessions. Contracts see its state, the lines that its
+/// The join machine: a store, and the open sessions. Contracts see its state, the lines that its
 /// last step kept, and what the batch of the loaded lines holds.
 ///
 /// ```text
 /// ids:      [ 1, 4, 5 ]              rising; a session is found by binary search
 /// sessions: [ s1, s4, s5 ]           each with its bytes and its cursors by name
-/// engine:   relations, queries, and the cursors that the names stand for
+/// engine:   the store: relations, queries, unions, and the cursors that the names stand for
 /// ```
 #[derive(Drop)]
 pub struct Core {
