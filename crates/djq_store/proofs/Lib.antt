@@ -11,3 +11,7 @@ pub mod Named
 pub mod Moved
 pub mod Unions
 pub mod Standing
+pub mod Sought
+pub mod Placed
+pub mod Enrolled
+pub mod Registered

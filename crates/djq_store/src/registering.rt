@@ -4,12 +4,25 @@ ghost use Rattle.djq_machine.specs.Store.{RegistersQuery};
 ghost use Rattle.djq_machine.specs.Union.{RegistersUnion};
 ghost use Rattle.djq_engine.specs.Kept.{SameCursors, DropGives};
 ghost use Rattle.djq_engine.specs.Watching.{Enrols, EnrolsTelling};
-ghost use Rattle.djq_store.specs.Registering.{EnrolsUnion, EnrolsUnionTelling};
+ghost use Rattle.djq_store.specs.Registering.{is_registered, EnrolsUnion, EnrolsUnionTelling};
 
+use crate::below::engine_laws;
+use crate::finding::find_union;
 use crate::store::Store;
+use djq_lines::limits::QUERIES;
 use djq_lines::{QueryOutcome, Refusal};
 use djq_model::{Name, Query};
 use djq_steps::{Ledgers, Steps};
+
+// Whether a query was registered.
+fn is_registered(outcome: &Result<QueryOutcome, Refusal>) -> bool
+    ensures { result ≡ is_registered outcome.now }
+{
+    match outcome {
+        Ok(QueryOutcome::Registered(_most)) => true,
+        _ => false,
+    }
+}
 
 impl Store {
     /// Registers a free-connex query, and tells how many lookups and links one of its answers takes
@@ -33,7 +46,25 @@ impl Store {
         ensures tellings { EnrolsTelling self.old query result self.new }
         ensures counted { steps.new.listing ≡ steps.old.listing }
     {
-        unreachable!()
+        engine_laws(&self.parts.engine);
+        let name = query.name;
+        if find_union(self.parts.unions.as_slice(), &name).is_some() {
+            return Err(Refusal::Taken);
+        }
+        if self.parts.order.len() >= QUERIES {
+            let fault = self.parts.engine.query_fault(&query);
+            return Err(fault.unwrap_or(Refusal::Limit));
+        }
+        let outcome = self.parts.engine.query(query, steps);
+        engine_laws(&self.parts.engine);
+        if is_registered(&outcome) {
+            let Some(id) = self.parts.engine.query_id(&name) else {
+                unreachable!()
+            };
+            self.parts.order.push_reserved(id.at);
+            self.parts.sessions[id.at] = 0;
+        }
+        outcome
     }
 
     /// Registers the union of some registered queries, and tells how many lookups and links one of its answers
