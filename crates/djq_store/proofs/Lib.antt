@@ -15,3 +15,10 @@ pub mod Sought
 pub mod Placed
 pub mod Enrolled
 pub mod Registered
+pub mod Belonging
+pub mod Used
+pub mod Dropping
+pub mod Slotted
+pub mod Undone
+pub mod Departed
+pub mod Vacated

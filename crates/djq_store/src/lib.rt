@@ -32,6 +32,7 @@ mod change;
 mod explained;
 mod finding;
 mod joined;
+mod leaving;
 mod judging;
 mod parts;
 mod reading;

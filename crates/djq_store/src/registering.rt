@@ -7,7 +7,8 @@ ghost use Rattle.djq_engine.specs.Watching.{Enrols, EnrolsTelling};
 ghost use Rattle.djq_store.specs.Registering.{is_registered, EnrolsUnion, EnrolsUnionTelling};
 
 use crate::below::engine_laws;
-use crate::finding::find_union;
+use crate::finding::{find_union, joined_in};
+use crate::leaving::{is_member, leave_out};
 use crate::store::Store;
 use djq_lines::limits::QUERIES;
 use djq_lines::{QueryOutcome, Refusal};
@@ -96,6 +97,32 @@ impl Store {
     pub fn drop_query(&mut self, name: &Name) -> Result<(), Refusal>
         ensures { DropGives self.old name.now result self.new }
     {
-        unreachable!()
+        engine_laws(&self.parts.engine);
+        if let Some(slot) = find_union(self.parts.unions.as_slice(), name) {
+            let joined = joined_in(self.parts.unions.as_slice(), slot);
+            if joined.watchers > 0 {
+                return Err(Refusal::InUse);
+            }
+            if !joined.union.is_idle() {
+                return Err(Refusal::InUse);
+            }
+            self.parts.unions[slot] = None;
+            leave_out(&mut self.parts.order, QUERIES + slot);
+            leave_out(&mut self.parts.affected, QUERIES + slot);
+            return Ok(());
+        }
+        let Some(id) = self.parts.engine.query_id(name) else {
+            return Err(Refusal::NoQuery);
+        };
+        if is_member(self.parts.unions.as_slice(), id.at) {
+            return Err(Refusal::InUse);
+        }
+        let dropped = self.parts.engine.drop_query(name);
+        engine_laws(&self.parts.engine);
+        if dropped.is_ok() {
+            leave_out(&mut self.parts.order, id.at);
+            leave_out(&mut self.parts.affected, id.at);
+        }
+        dropped
     }
 }
