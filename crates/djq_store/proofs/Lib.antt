@@ -37,3 +37,14 @@ pub mod Related
 pub mod Grown
 pub mod Batched
 pub mod Lined
+pub mod Sought
+pub mod Placed
+pub mod Enrolled
+pub mod Registered
+pub mod Belonging
+pub mod Used
+pub mod Dropping
+pub mod Slotted
+pub mod Undone
+pub mod Departed
+pub mod Vacated

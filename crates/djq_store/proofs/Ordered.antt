@@ -102,7 +102,7 @@ module _ (e : Kept) (b : IsEngine e) where
 
     module _ (order : List ℕ) (w : IsListed e us order) where
       -- which places are in the order
-      low_in_order : (at : ℕ) → (is_reader order at && nat_lt at QUERIES) ≡ is_some (registered_at e.registered (id_at at))
+      pub low_in_order : (at : ℕ) → (is_reader order at && nat_lt at QUERIES) ≡ is_some (registered_at e.registered (id_at at))
       low_in_order at =
           sym (reader_filter (λ i. nat_lt i QUERIES) order at) ∙ ap (λ xs. is_reader xs at) w.queries ∙ reader_mapped (λ (r : Registered). r.id.at) e.registered at
 

@@ -1,15 +1,19 @@
--- A union that is registered.
-use Rattle.std.specs.Prelude.{ℕ, Bool, false, not, nat_lt, ◌||◌, Option, List, [], ◌∷◌, ◌++◌, ◌≡◌, None, Some, IsSomeAnd, Result, Ok, Err}
+-- A query or union that is registered.
+use Rattle.std.specs.Prelude.{ℕ, List, [], ◌∷◌, ◌++◌, ◌≡◌, Bool, true, false, None, Some, IsSomeAnd, Result, Ok, Err}
 use Rattle.djq_model.specs.declared.query.Query.{Query}
 use Rattle.djq_model.specs.Data.{Bytes}
 use Rattle.djq_model.specs.Listed.{a_union}
-use Rattle.djq_reach.specs.Places.{is_reader}
-use Rattle.djq_united.specs.Slots.{are_vacant}
-use Rattle.djq_store.specs.declared.joined.Joined.{Joined}
+use Rattle.djq_lines.specs.declared.rest.QueryOutcome.{QueryOutcome}
+use Rattle.djq_lines.specs.declared.rest.QueryOutcome.TheVariants.{Registered as HasRegistered}
 use Rattle.djq_lines.specs.declared.answer.Refusal.{Refusal}
 use Rattle.djq_machine.specs.Union.{AreUnder}
 use Rattle.djq_engine.specs.declared.cursor.QueryId.{QueryId}
 use Rattle.djq_engine.specs.Kept.{Kept, SameTellings, TellsOf, registered_at, registered_of}
+
+-- whether a query was registered
+abbrev pub is_registered : Result QueryOutcome Refusal → Bool
+is_registered (Ok (HasRegistered most)) = true
+is_registered _ = false
 
 -- A union of the queries under these names is enrolled last, unwatched, where it was registered.
 abbrev pub EnrolsUnion : Kept → Bytes → List Bytes → Result ℕ Refusal → Kept → Type 0
@@ -25,13 +29,3 @@ abbrev pub EnrolsUnionTelling : Kept → Bytes → Result ℕ Refusal → Kept �
 EnrolsUnionTelling old name (Ok most) new = (new.affected ≡ old.affected)
     × IsSomeAnd (registered_of new.registered name) (λ r. TellsOf old r.id (Some []) new)
 EnrolsUnionTelling old name (Err r) new = SameTellings old new
-
--- whether a cursor is over the union in a slot, or a session watches it
-abbrev pub is_used : Option Joined → Bool
-is_used None = false
-is_used (Some j) = nat_lt 0 j.watchers || not (are_vacant j.union.cursors)
-
--- whether it has the query in a place as a member
-abbrev pub has_member : ℕ → Option Joined → Bool
-has_member at None = false
-has_member at (Some j) = is_reader j.union.members at

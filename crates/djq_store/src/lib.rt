@@ -35,6 +35,7 @@ mod explained;
 mod finding;
 mod following;
 mod joined;
+mod leaving;
 mod judging;
 mod parts;
 mod reading;

@@ -1,20 +1,20 @@
 //! Queries and unions that are registered and dropped.
-ghost use Rattle.std.specs.Prelude.{◌≡◌, ◌≤◌, ◌<◌, map, length, vec_capacity};
-ghost use Rattle.std.specs.List.{list_any};
+ghost use Rattle.std.specs.Prelude.{◌≡◌, ◌≤◌, ◌<◌, map, length};
 ghost use Rattle.djq_model.specs.Data.{Bytes};
 ghost use Rattle.djq_model.specs.Listed.{a_union};
 ghost use Rattle.djq_machine.specs.Store.{answer_steps};
 ghost use Rattle.djq_live.specs.Member.{HaveQueries, queries_at};
-ghost use Rattle.djq_engine.specs.Places.{left};
 ghost use Rattle.djq_machine.specs.Store.{RegistersQuery};
 ghost use Rattle.djq_machine.specs.Union.{RegistersUnion};
 ghost use Rattle.djq_engine.specs.Kept.{SameCursors, DropGives};
 ghost use Rattle.djq_engine.specs.Watching.{Enrols, EnrolsTelling};
-ghost use Rattle.djq_store.specs.Registering.{EnrolsUnion, EnrolsUnionTelling, is_used, has_member};
+ghost use Rattle.djq_store.specs.Registering.{is_registered, EnrolsUnion, EnrolsUnionTelling};
 
-use crate::finding::find_union;
+use crate::below::engine_laws;
+use crate::finding::{find_union, joined_in};
 use crate::joined::Joined;
 use crate::judging::{judge_union, places_of, vacant_slot};
+use crate::leaving::{is_member, leave_out};
 use crate::store::Store;
 use djq_cursor::DeltaLog;
 use djq_lines::limits::QUERIES;
@@ -24,39 +24,14 @@ use djq_model::{Name, Query};
 use djq_steps::{Ledgers, Steps};
 use djq_united::LiveUnion;
 
-// Takes a place out of a list of places.
-fn leave(places: &mut Vec<usize>, at: usize)
-    ensures items { places.new.items ≡ left at places.old.items }
-    ensures room { vec_capacity places.new ≡ vec_capacity places.old }
+// Whether a query was registered.
+fn is_registered(outcome: &Result<QueryOutcome, Refusal>) -> bool
+    ensures { result ≡ is_registered outcome.now }
 {
-    places.retain(|place| *place != at);
-}
-
-// Whether a union is used: a cursor is over it, stale or not, or a session watches it.
-fn is_used(slot: &Option<Joined>) -> bool
-    ensures { result ≡ is_used slot.now }
-{
-    match slot {
-        Some(joined) => joined.watchers > 0 || !joined.union.is_idle(),
-        None => false,
+    match outcome {
+        Ok(QueryOutcome::Registered(_most)) => true,
+        _ => false,
     }
-}
-
-// Whether a union has the query in a place as a member.
-fn has_member(slot: &Option<Joined>, at: usize) -> bool
-    ensures { result ≡ has_member at slot.now }
-{
-    match slot {
-        Some(joined) => joined.union.members().iter().any(|member| *member == at),
-        None => false,
-    }
-}
-
-// Whether the query in a place is a member of a union.
-fn is_member(unions: &[Option<Joined>], at: usize) -> bool
-    ensures { result ≡ list_any (has_member at) unions.now }
-{
-    unions.iter().any(|slot| has_member(slot, at))
 }
 
 // The most lookups and links that an answer of a union of queries takes.
@@ -90,25 +65,25 @@ impl Store {
         ensures tellings { EnrolsTelling self.old query result self.new }
         ensures counted { steps.new.listing ≡ steps.old.listing }
     {
-        if find_union(self.parts.unions.as_slice(), &query.name).is_some() {
+        engine_laws(&self.parts.engine);
+        let name = query.name;
+        if find_union(self.parts.unions.as_slice(), &name).is_some() {
             return Err(Refusal::Taken);
         }
-        if let Some(refusal) = self.parts.engine.query_fault(&query) {
-            return Err(refusal);
-        }
         if self.parts.order.len() >= QUERIES {
-            return Err(Refusal::Limit);
+            let fault = self.parts.engine.query_fault(&query);
+            return Err(fault.unwrap_or(Refusal::Limit));
         }
-        let name = query.name;
-        let outcome = self.parts.engine.query(query, steps)?;
-        if let QueryOutcome::Registered(_most) = &outcome {
+        let outcome = self.parts.engine.query(query, steps);
+        engine_laws(&self.parts.engine);
+        if is_registered(&outcome) {
             let Some(id) = self.parts.engine.query_id(&name) else {
                 unreachable!()
             };
-            self.parts.sessions[id.at] = 0;
             self.parts.order.push_reserved(id.at);
+            self.parts.sessions[id.at] = 0;
         }
-        Ok(outcome)
+        outcome
     }
 
     /// Registers the union of some registered queries, and tells how many lookups and links one of its answers
@@ -156,13 +131,18 @@ impl Store {
     pub fn drop_query(&mut self, name: &Name) -> Result<(), Refusal>
         ensures { DropGives self.old name.now result self.new }
     {
+        engine_laws(&self.parts.engine);
         if let Some(slot) = find_union(self.parts.unions.as_slice(), name) {
-            if is_used(&self.parts.unions[slot]) {
+            let joined = joined_in(self.parts.unions.as_slice(), slot);
+            if joined.watchers > 0 {
+                return Err(Refusal::InUse);
+            }
+            if !joined.union.is_idle() {
                 return Err(Refusal::InUse);
             }
             self.parts.unions[slot] = None;
-            leave(&mut self.parts.order, QUERIES + slot);
-            leave(&mut self.parts.affected, QUERIES + slot);
+            leave_out(&mut self.parts.order, QUERIES + slot);
+            leave_out(&mut self.parts.affected, QUERIES + slot);
             return Ok(());
         }
         let Some(id) = self.parts.engine.query_id(name) else {
@@ -171,9 +151,12 @@ impl Store {
         if is_member(self.parts.unions.as_slice(), id.at) {
             return Err(Refusal::InUse);
         }
-        self.parts.engine.drop_query(name)?;
-        leave(&mut self.parts.order, id.at);
-        leave(&mut self.parts.affected, id.at);
-        Ok(())
+        let dropped = self.parts.engine.drop_query(name);
+        engine_laws(&self.parts.engine);
+        if dropped.is_ok() {
+            leave_out(&mut self.parts.order, id.at);
+            leave_out(&mut self.parts.affected, id.at);
+        }
+        dropped
     }
 }
