@@ -23,8 +23,8 @@ use djq_model::{Name, Names, NoMem, Query, Types, Value};
 use djq_reply::put_member;
 use djq_session::Session;
 use djq_steps::{Ledgers, Listing, Steps, Tally};
-use std::alloc::Global;
 use djq_store::{CursorId, Explained, Store};
+use std::alloc::Global;
 
 /// `rel`: a new relation. The answer is whether the line is kept.
 pub(crate) fn run_rel(
@@ -216,12 +216,7 @@ pub(crate) fn run_has<L: Ledgers>(
 }
 
 // The lines that explain a union's members go behind a text.
-fn put_members(
-    engine: &Store,
-    union: &Name,
-    count: usize,
-    text: &mut BytesMut,
-) -> Result<(), NoMem>
+fn put_members(engine: &Store, union: &Name, count: usize, text: &mut BytesMut) -> Result<(), NoMem>
     requires { IsSomeAnd (listed_of engine.now.store.queries union.now)
         (λ q. count ≡ length (members_of q)) }
     ensures { OnOk result (IsSomeAnd (listed_of engine.now.store.queries union.now)

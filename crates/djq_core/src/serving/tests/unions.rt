@@ -82,11 +82,7 @@ fn judges_unions<L: Ledgers>(rt: &HostRuntime, blanks: Blanks) -> Result<bool, N
         1,
         b"explain u\nshape u\nhas u 1\nunwatch u\ndrop u\ndrop a\n",
     );
-    let asked = is_told(
-        &mut core,
-        1,
-        b"m a\nm b\nend\nunion\nno\nok\nok\nok\n",
-    );
+    let asked = is_told(&mut core, 1, b"m a\nm b\nend\nunion\nno\nok\nok\nok\n");
     Ok(watched && refused && asked)
 }
 
