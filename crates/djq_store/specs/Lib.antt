@@ -9,3 +9,4 @@ pub mod Lending
 pub mod Watching
 pub mod Counting
 pub mod Moving
+pub mod Filling

@@ -30,6 +30,7 @@ mod asking;
 mod below;
 mod change;
 mod explained;
+mod filling;
 mod finding;
 mod joined;
 mod leaving;
