@@ -23,3 +23,4 @@ pub mod Undone
 pub mod Departed
 pub mod Vacated
 pub mod Unioned
+pub mod Twice
