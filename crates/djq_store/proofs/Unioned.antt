@@ -1,37 +1,33 @@
 -- A union that fills a vacant slot is registered, behind all else.
-use Rattle.std.proofs.Common.{ℕ, zero, suc, List, [], ◌∷◌, ◌++◌, ◌+◌, ◌-◌, ◌≡◌, ◌<◌, ◌≤◌, ◌⊎◌, inl, inr, Bool, true, false, refl, sym, ap, ap₂, ◌∙◌, subst, length, get_or, set, arith, length-set, append-nil}
-use Rattle.std.specs.Prelude.{◌==◌, ◌&&◌, ◌||◌, Option, None, Some, is_none, is_some, position, IsSomeAnd, All, cond, count_by, find, filter, map, nat_lt, option_map, Result, Ok, Err, ⊤}
-use Rattle.std.proofs.lemmas.Bool.{eq-eqb, eqb-true, false≢true, cases_order, le-ltb, lt-ltb}
+use Rattle.std.proofs.Common.{ℕ, zero, suc, List, [], ◌∷◌, ◌++◌, ◌+◌, ◌≡◌, ◌<◌, ◌≤◌, ◌⊎◌, inl, inr, Bool, true, false, refl, sym, ap, ap₂, ◌∙◌, subst, length, get_or, set, arith, length-set, append-nil}
+use Rattle.std.specs.Prelude.{◌==◌, ◌&&◌, ◌||◌, Option, None, Some, is_none, is_some, position, IsSomeAnd, All, cond, count_by, find, map, nat_lt, option_map}
+use Rattle.std.proofs.lemmas.Bool.{eq-eqb, eqb-true, false≢true, cases_order, le-ltb}
 use Rattle.std.proofs.lemmas.List.{get_or-set_same, get_or-set_other, get_or_past}
 use Rattle.std.proofs.lemmas.List.Sums.{sum_by-cons, sum_by-append}
-use Rattle.djq_model.specs.declared.query.Query.{Query}
-use Rattle.djq_model.specs.Data.{Bytes, bytes_eq}
-use Rattle.djq_model.specs.Listed.{Listed, a_union, listed_name, listed_of}
+use Rattle.djq_model.specs.Listed.{Listed, listed_name, listed_of}
 use Rattle.djq_lines.specs.declared.limits.TheConstants.{QUERIES, SESSIONS}
 use Rattle.djq_machine.specs.State.{Store}
 use Rattle.djq_live.specs.Live.{Live, IsShowable}
 use Rattle.djq_reach.specs.Places.{is_reader}
 use Rattle.djq_reach.proofs.Among.{apart, reader_more}
-use Rattle.djq_engine.specs.declared.cursor.CursorId.{CursorId}
-use Rattle.djq_engine.specs.declared.cursor.QueryId.{QueryId}
-use Rattle.djq_engine.specs.Kept.{Kept, Held, Registered, SameCursors, TellsOf, same_query, held_at, registered_at, registered_of, told_at}
+use Rattle.djq_engine.specs.Kept.{Kept, Registered, SameCursors, TellsOf, held_at, registered_at, registered_of}
 use Rattle.djq_live.specs.Updating.{change_of}
 use Rattle.djq_engine.specs.Places.{id_at, told_of}
 use Rattle.djq_engine.specs.Finding.{IsFirst}
 use Rattle.djq_engine.proofs.Firsts.{first_of_position, none_of_position}
 use Rattle.djq_engine.proofs.Listing.{map_members, once_push}
-use Rattle.djq_united.specs.United.{IsUnited, union_of, members_in}
+use Rattle.djq_united.specs.United.{IsUnited, union_of}
 use Rattle.djq_store.specs.declared.joined.Joined.{Joined}
 use Rattle.djq_store.specs.Below.{IsEngine}
 use Rattle.djq_store.specs.Filling.{Fills}
-use Rattle.djq_store.specs.Places.{joined_at, listed_in, listed_at, union_watchers, sessions_at, registered_as, held_of, told_in, cursors_in, seen}
+use Rattle.djq_store.specs.Places.{joined_at, listed_at, union_watchers, sessions_at, registered_as, held_of, told_in, seen}
 use Rattle.djq_store.specs.Whole.{IsListed, IsCounted, IsShownByFirst, wants, query_places}
 use Rattle.djq_store.proofs.Held.{held_high}
 use Rattle.djq_store.proofs.Members.{first_there}
-use Rattle.djq_store.proofs.Ordered.{Joint, listed_joint, listed_is, registered_is, registered_by_name, named_here}
+use Rattle.djq_store.proofs.Ordered.{listed_joint, listed_is, registered_is, registered_by_name, named_here}
 use Rattle.djq_store.proofs.Placed.{map_push, push_long, filter_push, told_high}
 use Rattle.djq_store.proofs.Seats.{high_place}
-use Rattle.djq_store.proofs.Slots.{slot_below, count_each, count_more, set_here}
+use Rattle.djq_store.proofs.Slots.{count_each, count_more}
 use Rattle.djq_store.proofs.Slotted.{listed_other, sessions_other, registered_other, held_other, told_other}
 
 -- a slot that is set
