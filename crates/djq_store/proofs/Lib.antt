@@ -23,4 +23,3 @@ pub mod Undone
 pub mod Departed
 pub mod Vacated
 pub mod Unioned
-pub mod Twice
