@@ -204,7 +204,7 @@ module _ (e : Kept) (b : IsEngine e) (us us' : List (Option Joined)) (order sess
     nameless i there called =
         let was : listed_name (listed_at e.places us i) ≡ j.union.name = sym (ap listed_name (listed_same i (other i there))) ∙ called in
         let some : Some (listed_at e.places us i) ≡ None =
-            sym (listed_is e b us order w j.union.name ∙ ap (option_map (listed_at e.places us)) (named_here e b us order w j.union.name i there was)) ∙ unknown in
+        sym (listed_is e b us order w j.union.name ∙ ap (option_map (listed_at e.places us)) (named_here e b us order w j.union.name i there was)) ∙ unknown in
         absurd cc
 
     name_here : listed_name (listed_at e.places us' at) ≡ j.union.name
