@@ -11,9 +11,9 @@ ghost use Rattle.djq_engine.specs.Watching.{Enrols, EnrolsTelling};
 ghost use Rattle.djq_store.specs.Registering.{is_registered, EnrolsUnion, EnrolsUnionTelling};
 
 use crate::below::engine_laws;
+use crate::filling::fill_slot;
 use crate::finding::{find_union, joined_in};
 use crate::joined::Joined;
-use crate::filling::fill_slot;
 use crate::judging::{judge_union, places_of};
 use crate::leaving::{is_member, leave_out};
 use crate::store::Store;
