@@ -29,10 +29,6 @@ some_there : {A : Type 0} (o : Option A) (P : A → Type 0) → IsSomeAnd o P �
 some_there None P h = absurd h
 some_there (Some x) P h = (x, refl, h)
 
-none_mapped : {A B : Type 0} (f : A → B) (o : Option A) → is_none (option_map f o) ≡ is_none o
-none_mapped f None = refl
-none_mapped f (Some x) = refl
-
 -- a query that is registered under a name
 pub record Under (e : Kept) (name : Bytes) : Type 0 where
   pub registered : Registered
@@ -57,10 +53,16 @@ module _ (e : Kept) (b : IsEngine e) (us : List (Option Joined)) (order sessions
         engine_listed e b us order w name none ∙ ap (λ (qs : List Listed). listed_of qs name) (sym b.queries)
         ∙ find_mapped (λ q. bytes_eq (listed_name q) name) (λ (r : Registered). r.query) e.registered
 
-    pub query_unknown : (id : Option QueryId) → id ≡ option_map (λ r. r.id) (registered_of e.registered name) → is_none id ≡ is_none listed
-    query_unknown id is =
-        ap is_none is ∙ none_mapped (λ (r : Registered). r.id) (registered_of e.registered name)
-        ∙ sym (ap is_none listed_below ∙ none_mapped (λ (r : Registered). r.query) (registered_of e.registered name))
+    pub query_unknown : (id : Option QueryId) → id ≡ option_map (λ r. r.id) (registered_of e.registered name) → (b : Bool) → is_some id ≡ not b → b ≡ is_none listed
+    query_unknown id is b h =
+        by_found (registered_of e.registered name) b (sym (ap is_some is) ∙ h)
+        ∙ sym (ap is_none listed_below)
+      where
+        by_found : (o : Option Registered) (b : Bool) → is_some (option_map (λ (r : Registered). r.id) o) ≡ not b → b ≡ is_none (option_map (λ (r : Registered). r.query) o)
+        by_found None true h = refl
+        by_found None false h = absurd cc
+        by_found (Some r) true h = absurd cc
+        by_found (Some r) false h = refl
 
     pub under_of : (r : Registered) → registered_of e.registered name ≡ Some r → Under e name
     under_of r f =
@@ -86,16 +88,16 @@ module _ (e : Kept) (b : IsEngine e) (us : List (Option Joined)) (order sessions
 
   -- what is registered and no union is a query
   pub none_called : is_union listed ≡ false → NoUnion us name
-  none_called no k j there = by_test (bytes_eq j.union.name name) refl
+  none_called apart k j there = by_test (bytes_eq j.union.name name) refl
     where
       by_test : (c : Bool) → bytes_eq j.union.name name ≡ c → bytes_eq j.union.name name ≡ false
       by_test false f = f
       by_test true f =
-          absurd (false≢true (sym no ∙ union_there k (record { union = j; there = there; called = (bytes_eq-decides j.union.name name).0 f })))
+          absurd (false≢true (sym apart ∙ union_there k (record { union = j; there = there; called = (bytes_eq-decides j.union.name name).0 f })))
 
-  module _ (known : is_some listed ≡ true) (no : is_union listed ≡ false) where
+  module _ (known : is_some listed ≡ true) (apart : is_union listed ≡ false) where
     pub under : Under e name
-    under = under_here (none_called no) known
+    under = under_here (none_called apart) known
 
     -- the id by which the engine knows it
     pub id_under : (id : QueryId) → Some id ≡ option_map (λ r. r.id) (registered_of e.registered name) → id ≡ under.registered.id
@@ -118,7 +120,7 @@ module _ (e : Kept) (b : IsEngine e) (us : List (Option Joined)) (order sessions
         law b.over.catalog l (b.over.live id.at l there).kept
         ∙ ap (λ rs. answer_types rs l.query) b.over.relations
         ∙ ap (λ (q : Live). answer_types (e.store).relations q.query) (same (sym there ∙ ap (λ (i : QueryId). query_at e.places i.at) (id_under id is) ∙ under.there))
-        ∙ sym (ap (listed_types (e.store).relations) (listed_below (none_called no)
+        ∙ sym (ap (listed_types (e.store).relations) (listed_below (none_called apart)
         ∙ ap (option_map (λ (r : Registered). r.query)) under.found ∙ ap (λ (q : Listed). Some q) under.is))
       where
         same : {x y : Live} → Some x ≡ Some y → x ≡ y
@@ -134,7 +136,9 @@ pub differs_more : (st : Store) (names : List Bytes) (i : ℕ) (d : Bytes) → 1
     → types_differ st (take (i + 1) names) ≡ (types_differ st (take i names) || not (same_types (types_under st (get_or names 0 d)) (types_under st (get_or names i d))))
 differs_more st [] i d some low = absurd (omega arith)
 differs_more st (n ∷ ns) zero d some low = absurd (omega arith)
-differs_more st (n ∷ ns) (suc i) d some low = list_any_more (λ m. not (same_types (types_under st n) (types_under st m))) ns i d (omega arith)
+differs_more st (n ∷ ns) (suc i) d some low =
+    let on : suc i + 1 ≡ suc (i + 1) = omega arith in
+    ap (λ k. types_differ st (take k (n ∷ ns))) on ∙ list_any_more (λ m. not (same_types (types_under st n) (types_under st m))) ns i d (omega arith)
 
 pub differs_at : (st : Store) (names : List Bytes) (i : ℕ) (d : Bytes) → 1 ≤ i → i < length names
     → not (same_types (types_under st (get_or names 0 d)) (types_under st (get_or names i d))) ≡ true → types_differ st names ≡ true
@@ -160,7 +164,7 @@ some_known (Some x) e = refl
 
 pub all_queries : (listed : List Listed) (names : List Bytes) → list_any (λ n. is_none (listed_of listed n)) names ≡ false → list_any (λ n. is_union (listed_of listed n)) names ≡ false
     → All (λ n. (is_some (listed_of listed n) ≡ true) × (is_union (listed_of listed n) ≡ false)) names
-all_queries listed names known no k d low = (
+all_queries listed names known apart k d low = (
   some_known (listed_of listed (get_or names k d)) (none_any (λ n. is_none (listed_of listed n)) names known k d low),
-  none_any (λ n. is_union (listed_of listed n)) names no k d low,
+  none_any (λ n. is_union (listed_of listed n)) names apart k d low,
 )
