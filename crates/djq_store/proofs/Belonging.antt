@@ -109,7 +109,7 @@ module _ (e : Kept) (b : IsEngine e) (us : List (Option Joined)) (order : List �
               let l_is : t.query ≡ l = same (sym t.there ∙ is) in
               let called : t.query.query.name ≡ s.query.query.name = ap (λ (x : Live). x.query.name) l_is ∙ (bytes_eq-decides l.query.name s.query.query.name).0 f in
               let i_is : i ≡ at = w.named i at (seat_order e b us order w i t) (seat_order e b us order w at s)
-                  (ap listed_name (listed_seat e b us i t) ∙ called ∙ sym (ap listed_name (listed_seat e b us at s))) in
+              (ap listed_name (listed_seat e b us i t) ∙ called ∙ sym (ap listed_name (listed_seat e b us at s))) in
               absurd (false≢true (sym (none k j there) ∙ ap (is_reader j.union.members) (sym i_is) ∙ among))
 
   pub seat_member : (at : ℕ) (s : Seat e at) (k : ℕ) (j : Joined) → joined_at us k ≡ Some j → is_reader j.union.members at ≡ true → is_member (map (listed_at e.places us) order) s.query.query.name ≡ true

@@ -167,8 +167,8 @@ module _ (e e' : Kept) (r : Rests e e') (us : List (Option Joined)) (order sessi
       nameless i there called =
           let was : listed_name (listed_at e.places us i) ≡ q.name = sym (ap listed_name (listed_stays e e' r.before (grows e e' r us order sessions affected w) r.laws.members us order w i there)) ∙ called in
           let some : Some (listed_at e.places us i) ≡ None =
-              sym (listed_is e r.before us order w q.name ∙ ap (option_map (listed_at e.places us)) (named_here e r.before us order w q.name i there was))
-              ∙ engine_listed e r.before us order w q.name none ∙ unknown in
+          sym (listed_is e r.before us order w q.name ∙ ap (option_map (listed_at e.places us)) (named_here e r.before us order w q.name i there was))
+          ∙ engine_listed e r.before us order w q.name none ∙ unknown in
           absurd cc
 
       name_here : listed_name (listed_at e'.places us at) ≡ q.name

@@ -263,10 +263,13 @@ module _ (e e' : Kept) (r : Rests e e') (us : List (Option Joined)) (order sessi
 
     pub registered_registers : RegistersQuery before.store q (Ok (HasRegistered most)) after.store
     registered_registers = record {
-      answer = answers_done (query_refusal before.store q) (HasRegistered most) (RegistersAs before.store q after.store) (RefusedLate before.store q after.store) (same_refusals ∙ done.0)
-          (done.1.0, done.1.1, done.1.2,
-          store_with (record e.store { texts = all_learned (e.store).texts (texts_in (constants_of q)); queries = (e.store).queries ++ a_query q ∷ [] }) (map (listed_at e.places us) order ++ a_query q ∷ []) done.1.3
-          (map (listed_at e'.places us) (order ++ id.at ∷ [])) (enrolled_queries e e' r us order sessions affected w q id.at fresh last));
+      answer = answers_done (query_refusal before.store q) (HasRegistered most) (RegistersAs before.store q after.store) (RefusedLate before.store q after.store) (same_refusals ∙ done.0) (
+        done.1.0,
+        done.1.1,
+        done.1.2,
+        store_with (record e.store { texts = all_learned (e.store).texts (texts_in (constants_of q)); queries = (e.store).queries ++ a_query q ∷ [] }) (map (listed_at e.places us) order ++ a_query q ∷ []) done.1.3
+            (map (listed_at e'.places us) (order ++ id.at ∷ [])) (enrolled_queries e e' r us order sessions affected w q id.at fresh last),
+      );
       stays = λ h. absurd (refuses (same_refusals ∙ done.0) h);
     }
       where

@@ -241,7 +241,7 @@ module _ (e : Kept) (b : IsEngine e) (us : List (Option Joined)) (order sessions
                 let is : held_as (e.store).texts e.places y.union id p ≡ h = same g in
                 let z : Joint us i = record { union = y; there = f } in
                 let places : QUERIES + i ≡ at = w.named (QUERIES + i) at (joint_order e b us order w i z) in_order
-                    (ap listed_name (listed_joint e.places us i z) ∙ ap (λ (x : Held). x.query) is ∙ called ∙ sym (ap listed_name (listed_joint e.places us k x))) in
+                (ap listed_name (listed_joint e.places us i z) ∙ ap (λ (x : Held). x.query) is ∙ called ∙ sym (ap listed_name (listed_joint e.places us k x))) in
                 let slot : i ≡ k = omega (arith, places) in
                 let y_is : y ≡ j = same_joined (sym f ∙ ap (joined_at us) slot ∙ there) in
                 vacant_slot j.union.cursors none_held id.cursor p (ap (λ (u : Joined). slot_at u.union.cursors id.cursor) (sym y_is) ∙ s)
@@ -288,12 +288,11 @@ module _ (e : Kept) (b : IsEngine e) (us : List (Option Joined)) (order sessions
       registered =
           map_members (registered_as e.places us' sessions) (registered_as e.places us sessions) (left at order) (λ i h. registered_other us us' k others e.places sessions i (left_in at order i h).1)
           ∙ sym (map_left (registered_as e.places us sessions) (λ (r : Registered). bytes_eq (listed_name r.query) name) at order test_at);
-      tellings = subst (λ (o : Option Registered). IsSomeAnd o (λ r. TellsOf old r.id None new × (new.affected ≡ filter (λ (id : QueryId). not (same_query id r.id)) old.affected))) (sym named_at)
-          (
-            record {
-              here = told_high e b us' (left at order) sessions (left at affected) (id_at at) k refl ∙ ap (told_in (e.store).texts e.places) gone;
-              others = λ id d. told_other us us' k others e b order (left at order) sessions affected (left at affected) id (λ h. false≢true (sym d ∙ eq-eqb id.at at h));
-            },
-            ids_left at affected,
-          );
+      tellings = subst (λ (o : Option Registered). IsSomeAnd o (λ r. TellsOf old r.id None new × (new.affected ≡ filter (λ (id : QueryId). not (same_query id r.id)) old.affected))) (sym named_at) (
+        record {
+          here = told_high e b us' (left at order) sessions (left at affected) (id_at at) k refl ∙ ap (told_in (e.store).texts e.places) gone;
+          others = λ id d. told_other us us' k others e b order (left at order) sessions affected (left at affected) id (λ h. false≢true (sym d ∙ eq-eqb id.at at h));
+        },
+        ids_left at affected,
+      );
     }

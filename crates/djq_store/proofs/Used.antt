@@ -231,7 +231,7 @@ module _ (e : Kept) (b : IsEngine e) (us : List (Option Joined)) (order sessions
           let stored = low_place at (λ i. get_or sessions i 0) (λ k. union_watchers (joined_at us k)) s.low in
           let counted = count.counted s.registered (ap (registered_at e.registered) s.id ∙ s.found) in
           let same : s.registered.watchers ≡ get_or sessions at 0 + 0 =
-              counted ∙ ap (λ (i : QueryId). get_or sessions i.at 0 + count_by (wants i.at) us) s.id ∙ ap (λ n. get_or sessions at 0 + n) unwanted in
+          counted ∙ ap (λ (i : QueryId). get_or sessions i.at 0 + count_by (wants i.at) us) s.id ∙ ap (λ n. get_or sessions at 0 + n) unwanted in
           ap (λ n. nat_lt 0 n) (stored ∙ omega (arith, same))
 
       -- it is in use where it is in the engine

@@ -158,8 +158,8 @@ module _ (e e' : Kept) (us : List (Option Joined)) (order sessions affected : Li
       let placed = some_there (query_at e.places x.id.at) (λ l. x.query ≡ a_query l.query) (v.before.placed k d low) in
       let below : k < length (query_places order) = let long = ap (λ (xs : List ℕ). length xs) w.queries ∙ map_long (λ (r : Registered). r.id.at) e.registered in omega (arith, long, low) in
       let among : is_reader (query_places order) x.id.at ≡ true =
-          ap (is_reader (query_places order)) (sym (ap (λ xs. get_or xs k d.id.at) w.queries ∙ get_or-map (λ (r : Registered). r.id.at) e.registered k d d.id.at low))
-          ∙ reader_at (query_places order) k d.id.at below in
+      ap (is_reader (query_places order)) (sym (ap (λ xs. get_or xs k d.id.at) w.queries ∙ get_or-map (λ (r : Registered). r.id.at) e.registered k d d.id.at low))
+      ∙ reader_at (query_places order) k d.id.at below in
       let there : is_reader order x.id.at ≡ true = and_left (is_reader order x.id.at) (nat_lt x.id.at QUERIES) (sym (reader_filter (λ i. nat_lt i QUERIES) order x.id.at) ∙ among) in
       let low_at : x.id.at < QUERIES = omega (arith, place_below e.places x.id.at placed.0 placed.1, v.before.few) in
       let is : listed_at e.places us x.id.at ≡ x.query = listed_low e.places us x.id.at placed.0 low_at placed.1 ∙ sym placed.2 in

@@ -21,7 +21,15 @@ fn some_has<L: Ledgers>(
     tuple: &[Value],
     listing: &mut Tally<Listing<L>>,
 ) -> Result<bool, Refusal> {
-    unreachable!()
+    for nth in 0..members.len() {
+        let name = engine.query_name(QueryId { at: members[nth] });
+        match engine.has(&name, tuple, listing) {
+            Ok(true) => return Ok(true),
+            Ok(false) => {}
+            Err(refusal) => return Err(refusal),
+        }
+    }
+    Ok(false)
 }
 
 impl Store {
