@@ -1,29 +1,24 @@
 -- What stands under a name, as it is asked of the engine and of unions in slots.
-use Rattle.std.proofs.Common.{ℕ, zero, suc, List, [], ◌∷◌, ◌+◌, ◌≡◌, ◌<◌, ◌≤◌, Bool, true, false, refl, sym, ap, ◌∙◌, subst, length, get_or, take, drop, arith}
-use Rattle.std.specs.Prelude.{◌||◌, Option, None, Some, IsSome, IsSomeAnd, is_some, is_none, not, option_map, map, All}
-use Rattle.std.specs.List.{list_any}
+use Rattle.std.proofs.Common.{ℕ, List, ◌≡◌, Bool, true, false, refl, sym, ap, ◌∙◌, subst}
+use Rattle.std.specs.Prelude.{Option, None, Some, IsSome, IsSomeAnd, is_some, is_none, not, option_map}
 use Rattle.std.proofs.lemmas.Bool.{false≢true}
-use Rattle.std.proofs.lemmas.List.{at_drop_more, take_all, drop_all}
-use Rattle.std.proofs.lemmas.List.Folds.{list_any_more, list_any_at}
 use Rattle.djq_model.specs.Data.{Bytes, bytes_eq}
 use Rattle.djq_model.specs.Equality.{bytes_eq-decides}
 use Rattle.djq_model.specs.Listed.{Listed, a_query, listed_name, listed_of}
-use Rattle.djq_machine.specs.State.{Store}
 use Rattle.djq_machine.specs.Store.{answer_types, listed_types}
-use Rattle.djq_machine.specs.Union.{is_union, same_types, stands_twice, types_differ, types_under}
+use Rattle.djq_machine.specs.Union.{is_union, types_under}
 use Rattle.djq_live.specs.Live.{Live}
 use Rattle.djq_live.specs.Member.{head_types, query_at, HeadTypesAre}
 use Rattle.djq_engine.specs.declared.cursor.QueryId.{QueryId}
 use Rattle.djq_engine.specs.Kept.{Kept, Registered, AtPlace, registered_at, registered_of}
-use Rattle.djq_engine.specs.Places.{id_at}
 use Rattle.djq_store.specs.declared.joined.Joined.{Joined}
 use Rattle.djq_store.specs.Below.{IsEngine}
-use Rattle.djq_store.specs.Places.{joined_at, seen}
+use Rattle.djq_store.specs.Places.{seen}
 use Rattle.djq_store.specs.Whole.{IsListed}
 use Rattle.djq_store.proofs.Answering.{called_listed}
 use Rattle.djq_store.proofs.Found.{find_mapped, found_all}
 use Rattle.djq_store.proofs.Named.{Called}
-use Rattle.djq_store.proofs.Ordered.{NoUnion, Seat, seat_here, engine_listed}
+use Rattle.djq_store.proofs.Ordered.{NoUnion, seat_here, engine_listed}
 
 some_there : {A : Type 0} (o : Option A) (P : A → Type 0) → IsSomeAnd o P → (x : A) × (o ≡ Some x) × P x
 some_there None P h = absurd h
@@ -86,7 +81,7 @@ module _ (e : Kept) (b : IsEngine e) (us : List (Option Joined)) (order sessions
         by_found None f = absurd (false≢true (sym (ap is_some (listed_below ∙ ap (option_map (λ (r : Registered). r.query)) f)) ∙ known))
         by_found (Some r) f = under_of r f
 
-  -- what is registered and no union is a query
+  -- no union has the name of what is registered and is none
   pub none_called : is_union listed ≡ false → NoUnion us name
   none_called apart k j there = by_test (bytes_eq j.union.name name) refl
     where
@@ -125,46 +120,3 @@ module _ (e : Kept) (b : IsEngine e) (us : List (Option Joined)) (order sessions
       where
         same : {x y : Live} → Some x ≡ Some y → x ≡ y
         same h = cc
-
--- ---- names, one after another
-
-pub twice_here : (names : List Bytes) (i : ℕ) (d : Bytes) → i < length names
-    → stands_twice (drop i names) ≡ (list_any (λ m. bytes_eq m (get_or names i d)) (drop (i + 1) names) || stands_twice (drop (i + 1) names))
-twice_here names i d low = at_drop_more stands_twice names i d low
-
-pub differs_more : (st : Store) (names : List Bytes) (i : ℕ) (d : Bytes) → 1 ≤ i → i < length names
-    → types_differ st (take (i + 1) names) ≡ (types_differ st (take i names) || not (same_types (types_under st (get_or names 0 d)) (types_under st (get_or names i d))))
-differs_more st [] i d some low = absurd (omega arith)
-differs_more st (n ∷ ns) zero d some low = absurd (omega arith)
-differs_more st (n ∷ ns) (suc i) d some low =
-    let on : suc i + 1 ≡ suc (i + 1) = omega arith in
-    ap (λ k. types_differ st (take k (n ∷ ns))) on ∙ list_any_more (λ m. not (same_types (types_under st n) (types_under st m))) ns i d (omega arith)
-
-pub differs_at : (st : Store) (names : List Bytes) (i : ℕ) (d : Bytes) → 1 ≤ i → i < length names
-    → not (same_types (types_under st (get_or names 0 d)) (types_under st (get_or names i d))) ≡ true → types_differ st names ≡ true
-differs_at st [] i d some low h = absurd (omega arith)
-differs_at st (n ∷ ns) zero d some low h = absurd (omega arith)
-differs_at st (n ∷ ns) (suc i) d some low h = list_any_at (λ m. not (same_types (types_under st n) (types_under st m))) ns i d (omega arith) h
-
-pub differs_first : (st : Store) (names : List Bytes) → types_differ st (take 1 names) ≡ false
-differs_first st [] = refl
-differs_first st (n ∷ ns) = refl
-
--- none of some names is unknown, and none is a union's
-pub none_any : {A : Type 0} (p : A → Bool) (xs : List A) → list_any p xs ≡ false → (k : ℕ) (d : A) → k < length xs → p (get_or xs k d) ≡ false
-none_any p xs e k d low = by_test (p (get_or xs k d)) refl
-  where
-    by_test : (c : Bool) → p (get_or xs k d) ≡ c → p (get_or xs k d) ≡ false
-    by_test false f = f
-    by_test true f = absurd (false≢true (sym e ∙ list_any_at p xs k d low f))
-
-some_known : {A : Type 0} (o : Option A) → is_none o ≡ false → is_some o ≡ true
-some_known None e = absurd cc
-some_known (Some x) e = refl
-
-pub all_queries : (listed : List Listed) (names : List Bytes) → list_any (λ n. is_none (listed_of listed n)) names ≡ false → list_any (λ n. is_union (listed_of listed n)) names ≡ false
-    → All (λ n. (is_some (listed_of listed n) ≡ true) × (is_union (listed_of listed n) ≡ false)) names
-all_queries listed names known apart k d low = (
-  some_known (listed_of listed (get_or names k d)) (none_any (λ n. is_none (listed_of listed n)) names known k d low),
-  none_any (λ n. is_union (listed_of listed n)) names apart k d low,
-)

@@ -1,5 +1,5 @@
 -- Whether a union has a name, as it is found by code.
-use Rattle.std.proofs.Common.{ℕ, List, ◌≡◌, Bool, true, false, refl, sym, ap, ◌∙◌}
+use Rattle.std.proofs.Common.{ℕ, List, ◌≡◌, Bool, true, false, ap, ◌∙◌}
 use Rattle.std.specs.Prelude.{Option, None, Some, is_some, not, position}
 use Rattle.djq_model.specs.Data.{Bytes}
 use Rattle.djq_store.specs.declared.joined.Joined.{Joined}
