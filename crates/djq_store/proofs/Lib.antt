@@ -50,3 +50,5 @@ pub mod Undone
 pub mod Departed
 pub mod Vacated
 pub mod Unioned
+pub mod Chosen
+pub mod Joining
