@@ -1,24 +1,21 @@
 -- Whether a name is that of a member of some union.
-use Rattle.std.proofs.Common.{ℕ, zero, suc, List, [], ◌∷◌, ◌++◌, ◌+◌, ◌≡◌, ◌<◌, ◌≤◌, ◌⊎◌, inl, inr, Bool, true, false, refl, sym, ap, ap₂, ◌∙◌, subst, length, get_or, arith}
-use Rattle.std.specs.Prelude.{◌==◌, ◌||◌, Option, None, Some, IsSomeAnd, cond, map, option_to_list, ⊤}
-use Rattle.std.specs.List.{list_any, AllByRecursion}
-use Rattle.std.proofs.lemmas.Bool.{eq-eqb, eqb-true, false≢true}
+use Rattle.std.proofs.Common.{ℕ, List, [], ◌∷◌, ◌++◌, ◌+◌, ◌≡◌, ◌<◌, ◌⊎◌, inl, inr, Bool, true, false, refl, sym, ap, ◌∙◌, subst}
+use Rattle.std.specs.Prelude.{◌==◌, ◌||◌, Option, None, Some, map, option_to_list}
+use Rattle.std.specs.List.{list_any}
+use Rattle.std.proofs.lemmas.Bool.{eqb-true, false≢true}
 use Rattle.djq_model.specs.declared.query.Query.{Query}
 use Rattle.djq_model.specs.Data.{Bytes, bytes_eq}
 use Rattle.djq_model.specs.Equality.{bytes_eq-decides}
-use Rattle.djq_model.specs.Listed.{Listed, a_query, a_union, listed_name, members_of}
+use Rattle.djq_model.specs.Listed.{listed_name, members_of}
 use Rattle.djq_lines.specs.declared.limits.TheConstants.{QUERIES}
 use Rattle.djq_machine.specs.Store.{is_member}
 use Rattle.djq_live.specs.Live.{Live}
 use Rattle.djq_live.specs.Member.{query_at, queries_at}
 use Rattle.djq_reach.specs.Places.{is_reader}
-use Rattle.djq_engine.specs.Kept.{Kept, Registered}
-use Rattle.djq_engine.specs.Places.{id_at}
+use Rattle.djq_engine.specs.Kept.{Kept}
 use Rattle.djq_engine.proofs.Listing.{here, behind}
-use Rattle.djq_united.specs.United.{United, IsUnited, members_in, union_of}
 use Rattle.djq_store.specs.declared.joined.Joined.{Joined}
 use Rattle.djq_store.specs.Below.{IsEngine}
-use Rattle.djq_store.specs.Finding.{has_member}
 use Rattle.djq_store.specs.Places.{joined_at, listed_at}
 use Rattle.djq_store.specs.Whole.{IsListed}
 use Rattle.djq_store.proofs.Departed.{none_any, one_any}

@@ -1,13 +1,11 @@
 -- What is found by code about a name that is to be dropped.
-use Rattle.std.proofs.Common.{ℕ, List, ◌≡◌, Bool, true, false, refl, sym, ap, subst, ◌∙◌, get_or}
+use Rattle.std.proofs.Common.{ℕ, List, ◌≡◌, true, false, refl, sym, ap, subst, ◌∙◌}
 use Rattle.std.specs.Prelude.{Option, None, Some, is_ok, option_map, Result, Ok, Err, ⊤}
 use Rattle.std.specs.List.{list_any}
 use Rattle.djq_model.specs.Data.{Bytes, bytes_eq}
 use Rattle.djq_model.specs.Equality.{bytes_eq-decides}
-use Rattle.djq_model.specs.Listed.{Listed, listed_name, listed_of}
+use Rattle.djq_model.specs.Listed.{listed_name, listed_of}
 use Rattle.djq_lines.specs.declared.answer.Refusal.{Refusal}
-use Rattle.djq_lines.specs.declared.limits.TheConstants.{QUERIES}
-use Rattle.djq_live.specs.Live.{Live}
 use Rattle.djq_reach.specs.Places.{is_reader}
 use Rattle.djq_engine.specs.declared.cursor.QueryId.{QueryId}
 use Rattle.djq_engine.specs.Kept.{Kept, Registered, registered_of}
@@ -16,7 +14,7 @@ use Rattle.djq_store.specs.Below.{IsEngine}
 use Rattle.djq_store.specs.Finding.{has_member}
 use Rattle.djq_store.specs.Places.{joined_at}
 use Rattle.djq_store.specs.Whole.{IsListed}
-use Rattle.djq_store.proofs.Departed.{Passing, passing, none_passing}
+use Rattle.djq_store.proofs.Departed.{passing, none_passing}
 use Rattle.djq_store.proofs.Found.{find_mapped, found_passes}
 use Rattle.djq_store.proofs.Ordered.{NoUnion, Seat, seat_of}
 use Rattle.djq_store.proofs.Used.{found_by_id}

@@ -1,35 +1,33 @@
 -- A query that the engine registered is registered in the store, behind all else.
-use Rattle.std.proofs.Common.{ℕ, zero, suc, List, [], ◌∷◌, ◌++◌, ◌+◌, ◌-◌, ◌≡◌, ◌<◌, ◌≤◌, ◌⊎◌, inl, inr, Bool, true, false, refl, sym, ap, ap₂, ◌∙◌, subst, length, get_or, set, arith, length-set}
-use Rattle.std.specs.Prelude.{◌==◌, ◌&&◌, ◌||◌, Option, None, Some, is_some, IsSomeAnd, option_map, cond, count_by, find, filter, map, nat_lt, slice_index_or, ⊤}
+use Rattle.std.proofs.Common.{ℕ, List, [], ◌∷◌, ◌++◌, ◌+◌, ◌-◌, ◌≡◌, ◌<◌, ◌≤◌, ◌⊎◌, inl, inr, Bool, true, false, refl, sym, ap, ap₂, ◌∙◌, subst, length, get_or, set, arith, length-set}
+use Rattle.std.specs.Prelude.{◌==◌, ◌&&◌, ◌||◌, Option, None, Some, is_some, IsSomeAnd, option_map, cond, count_by, find, map, nat_lt, slice_index_or, ⊤}
 use Rattle.std.specs.Option.{option_or}
 use Rattle.std.specs.List.{AllByRecursion}
 use Rattle.std.proofs.lemmas.Bool.{eq-eqb, eqb-true, lt-ltb, false≢true, cases_order}
 use Rattle.std.proofs.lemmas.List.{get_or-set_same, get_or-set_other}
 use Rattle.std.proofs.lemmas.List.Folds.{find-append}
 use Rattle.djq_model.specs.declared.query.Query.{Query}
-use Rattle.djq_model.specs.Data.{Bytes, bytes_eq}
+use Rattle.djq_model.specs.Data.{bytes_eq}
 use Rattle.djq_model.specs.Equality.{bytes_eq-decides}
 use Rattle.djq_model.specs.Listed.{Listed, a_query, listed_name, listed_of}
 use Rattle.djq_lines.specs.declared.limits.TheConstants.{QUERIES, SESSIONS}
-use Rattle.djq_machine.specs.State.{Store}
 use Rattle.djq_live.specs.Live.{Live}
-use Rattle.djq_live.specs.Member.{query_at, HaveQueries}
+use Rattle.djq_live.specs.Member.{query_at}
 use Rattle.djq_reach.specs.Places.{is_reader}
 use Rattle.djq_reach.proofs.Among.{apart, reader_more}
 use Rattle.djq_engine.specs.declared.cursor.QueryId.{QueryId}
 use Rattle.djq_engine.specs.Kept.{Kept, Registered, TellsOf, registered_at, registered_of, same_query, told_at}
-use Rattle.djq_engine.specs.Places.{id_at, query_in}
+use Rattle.djq_engine.specs.Places.{id_at}
 use Rattle.djq_engine.proofs.Listing.{once_push, map_members}
-use Rattle.djq_united.specs.United.{IsUnited, union_of}
+use Rattle.djq_united.specs.United.{IsUnited}
 use Rattle.djq_store.specs.declared.joined.Joined.{Joined}
-use Rattle.djq_store.specs.Below.{IsEngine}
-use Rattle.djq_store.specs.Places.{joined_at, listed_in, listed_at, union_watchers, sessions_at, registered_as, told_in, seen}
-use Rattle.djq_store.specs.Whole.{IsListed, IsCounted, wants, query_places}
+use Rattle.djq_store.specs.Places.{joined_at, listed_at, union_watchers, sessions_at, registered_as, told_in, seen}
+use Rattle.djq_store.specs.Whole.{IsListed, IsCounted, wants}
 use Rattle.djq_store.proofs.Found.{find_mapped}
 use Rattle.djq_store.proofs.Members.{log_stays}
-use Rattle.djq_store.proofs.Ordered.{NoUnion, Seat, Joint, seat_of, seat_here, seat, low_in_order, order_seat, order_joint, listed_seat, listed_joint, listed_is, named_here, engine_listed, registered_by_name, place_named}
+use Rattle.djq_store.proofs.Ordered.{NoUnion, Seat, seat_of, seat_here, low_in_order, listed_seat, listed_is, named_here, engine_listed, registered_by_name}
 use Rattle.djq_store.proofs.Placed.{map_push, push_long, query_places_low, told_low, told_high, mapped_at}
-use Rattle.djq_store.proofs.Seats.{Slot, cases_place, low_place, high_place}
+use Rattle.djq_store.proofs.Seats.{Slot, cases_place, low_place}
 use Rattle.djq_store.proofs.Slots.{count_none}
 use Rattle.djq_store.proofs.Staying.{Rests, grows, united_stays, queries_over, registered_over, logs_stay, listed_stays}
 

@@ -1,6 +1,6 @@
 -- What the engine does with a query that is to be registered is what the store does.
-use Rattle.std.proofs.Common.{ℕ, zero, suc, List, [], ◌∷◌, ◌++◌, ◌+◌, ◌≡◌, ◌<◌, ◌≤◌, ◌⊎◌, inl, inr, Bool, true, false, refl, sym, ap, ap₂, ◌∙◌, subst, length, get_or, set, arith, append-nil}
-use Rattle.std.specs.Prelude.{Option, None, Some, is_some, IsSomeAnd, option_map, cond, map, nat_le, nat_lt, unwrap_or, Result, Ok, Err}
+use Rattle.std.proofs.Common.{ℕ, List, [], ◌∷◌, ◌++◌, ◌≡◌, ◌<◌, ◌≤◌, ◌⊎◌, inl, inr, Bool, true, false, refl, sym, ap, ap₂, ◌∙◌, subst, length, set, arith, append-nil}
+use Rattle.std.specs.Prelude.{Option, None, Some, is_some, option_map, cond, map, nat_le, nat_lt, unwrap_or, Result, Ok, Err}
 use Rattle.std.proofs.lemmas.Bool.{le-leb, lt-leb, false≢true}
 use Rattle.djq_model.specs.declared.query.Query.{Query}
 use Rattle.djq_model.specs.Data.{Bytes}
@@ -18,21 +18,21 @@ use Rattle.djq_machine.specs.State.{Store}
 use Rattle.djq_machine.specs.Store.{RegistersQuery, RegistersAs, RefusedLate, RefusedByTexts, query_refusal}
 use Rattle.djq_rows.proofs.Learning.{Grown, all_grown, grown_is}
 use Rattle.djq_engine.specs.declared.cursor.QueryId.{QueryId}
-use Rattle.djq_engine.specs.Kept.{Kept, Registered, KeepsTables, SameCursors, registered_at, registered_of, told_at}
+use Rattle.djq_engine.specs.Kept.{Kept, Registered, KeepsTables, registered_at, registered_of, told_at}
 use Rattle.djq_engine.specs.Places.{id_at}
 use Rattle.djq_engine.specs.Watching.{Enrols, EnrolsTelling}
 use Rattle.djq_engine.proofs.Conditions.{answers_refused, answers_done, done_of, first_false, front_refuses, front_passes}
 use Rattle.djq_store.specs.declared.joined.Joined.{Joined}
 use Rattle.djq_store.specs.Below.{IsEngine, StayingLaws}
 use Rattle.djq_store.specs.Registering.{is_registered}
-use Rattle.djq_store.specs.Places.{joined_at, listed_at, registered_as, seen, cursors_in}
+use Rattle.djq_store.specs.Places.{listed_at, registered_as, seen}
 use Rattle.djq_store.specs.Whole.{IsListed, IsCounted, query_places}
 use Rattle.djq_store.proofs.Enrolled.{enrolled, not_in_order, in_engine, enrolled_listed, enrolled_counted, enrolled_queries, enrolled_registered, enrolled_tells, log_same}
 use Rattle.djq_store.proofs.Named.{Called}
 use Rattle.djq_store.proofs.Ordered.{NoUnion, engine_listed, registered_is}
 use Rattle.djq_store.proofs.Placed.{map_long, filter_long, told_low, told_high}
 use Rattle.djq_store.proofs.Seats.{Slot, cases_place}
-use Rattle.djq_store.proofs.Staying.{Rests, queries_over, registered_over, cursors_over}
+use Rattle.djq_store.proofs.Staying.{Rests, queries_over, registered_over}
 use Rattle.djq_store.proofs.Unions.{union_listed}
 
 -- ---- texts only grow

@@ -1,6 +1,6 @@
 -- What stands in one slot of unions changes, and nothing else.
-use Rattle.std.proofs.Common.{ℕ, zero, suc, List, [], ◌∷◌, ◌++◌, ◌+◌, ◌-◌, ◌≡◌, ◌<◌, ◌≤◌, ◌⊎◌, inl, inr, Bool, true, false, refl, sym, ap, ap₂, ◌∙◌, subst, length, get_or, arith}
-use Rattle.std.specs.Prelude.{Option, None, Some, slice_index_or}
+use Rattle.std.proofs.Common.{ℕ, List, ◌+◌, ◌≡◌, ◌<◌, ◌⊎◌, inl, inr, sym, ap, ap₂, ◌∙◌}
+use Rattle.std.specs.Prelude.{Option, slice_index_or}
 use Rattle.djq_model.specs.Listed.{Listed}
 use Rattle.djq_lines.specs.declared.limits.TheConstants.{QUERIES}
 use Rattle.djq_live.specs.Live.{Live}

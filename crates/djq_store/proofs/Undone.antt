@@ -1,22 +1,20 @@
 -- A union that nothing uses leaves its slot.
-use Rattle.std.proofs.Common.{ℕ, zero, suc, List, [], ◌∷◌, ◌++◌, ◌+◌, ◌-◌, ◌≡◌, ◌<◌, ◌≤◌, ◌⊎◌, inl, inr, Bool, true, false, refl, sym, ap, ap₂, ◌∙◌, subst, length, get_or, set, arith, length-set}
-use Rattle.std.specs.Prelude.{◌==◌, ◌&&◌, ◌||◌, not, Option, None, Some, is_some, is_none, IsSomeAnd, IfSome, cond, count_by, find, filter, map, nat_lt, option_map, Result, Ok, Err, ⊤}
+use Rattle.std.proofs.Common.{ℕ, zero, suc, List, [], ◌∷◌, ◌+◌, ◌≡◌, ◌<◌, ◌≤◌, ◌⊎◌, inl, inr, Bool, true, false, refl, sym, ap, ap₂, ◌∙◌, subst, get_or, set, arith, length-set}
+use Rattle.std.specs.Prelude.{◌==◌, ◌&&◌, ◌||◌, not, Option, None, Some, is_some, is_none, IsSomeAnd, IfSome, cond, count_by, filter, nat_lt, option_map, Ok, Err}
 use Rattle.std.proofs.lemmas.Bool.{eq-eqb, eqb-true, false≢true, cases_order, le-ltb, lt-ltb}
-use Rattle.std.proofs.lemmas.List.{get_or-set_same, get_or-set_other}
+use Rattle.std.proofs.lemmas.List.{get_or-set_other}
 use Rattle.djq_model.specs.Data.{Bytes, bytes_eq, drop_first}
 use Rattle.djq_model.specs.Equality.{bytes_eq-decides}
 use Rattle.djq_model.specs.Listed.{Listed, listed_name, listed_of}
-use Rattle.djq_lines.specs.declared.answer.Refusal.{Refusal}
 use Rattle.djq_lines.specs.declared.answer.Refusal.TheVariants.{NoQuery, InUse}
 use Rattle.djq_lines.specs.declared.limits.TheConstants.{QUERIES, SESSIONS}
 use Rattle.djq_machine.specs.Conditions.{first_of as first_refusal, OutOfMemoryWhere}
 use Rattle.djq_machine.specs.State.{Store}
-use Rattle.djq_machine.specs.Store.{drop_refusal, is_member}
-use Rattle.djq_live.specs.Live.{Live}
+use Rattle.djq_machine.specs.Store.{drop_refusal}
 use Rattle.djq_reach.specs.Places.{is_reader}
 use Rattle.djq_engine.specs.declared.cursor.CursorId.{CursorId}
 use Rattle.djq_engine.specs.declared.cursor.QueryId.{QueryId}
-use Rattle.djq_engine.specs.Kept.{Kept, Held, Registered, SameCursors, Uses, DropGives, DropsTelling, TellsOf, same_query, held_at, registered_at, registered_of, is_watched, told_at}
+use Rattle.djq_engine.specs.Kept.{Kept, Held, Registered, SameCursors, Uses, DropGives, TellsOf, same_query, held_at, registered_at, registered_of, is_watched}
 use Rattle.djq_engine.specs.Places.{id_at, left}
 use Rattle.djq_engine.proofs.Conditions.{answers_refused, answers_done}
 use Rattle.djq_engine.proofs.Listing.{map_members, drop_listed, filter_twice, once_filter, reader_filter, all_but}
@@ -25,14 +23,14 @@ use Rattle.djq_united.specs.Slots.{slot_at, are_vacant}
 use Rattle.djq_united.specs.United.{IsUnited, union_of}
 use Rattle.djq_store.specs.declared.joined.Joined.{Joined}
 use Rattle.djq_store.specs.Below.{IsEngine}
-use Rattle.djq_store.specs.Places.{joined_at, listed_at, union_watchers, sessions_at, registered_as, held_as, held_of, told_in, cursors_in, seen}
+use Rattle.djq_store.specs.Places.{joined_at, listed_at, union_watchers, sessions_at, registered_as, held_as, held_of, told_in, seen}
 use Rattle.djq_store.specs.Whole.{IsListed, IsCounted, IsShownByFirst, wants, query_places}
 use Rattle.djq_store.proofs.Belonging.{union_no_member}
-use Rattle.djq_store.proofs.Departed.{left_in, left_other, left_here, left_shorter, map_left, ids_left, Occupied, occupied}
+use Rattle.djq_store.proofs.Departed.{left_in, left_other, left_here, left_shorter, map_left, ids_left, occupied}
 use Rattle.djq_store.proofs.Given.{held_seat}
 use Rattle.djq_store.proofs.Held.{held_low, held_high}
 use Rattle.djq_store.proofs.Moved.{cursor_of}
-use Rattle.djq_store.proofs.Ordered.{Seat, Joint, joint_order, listed_joint, registered_by_name, named_joint, seat_no_union}
+use Rattle.djq_store.proofs.Ordered.{Joint, joint_order, listed_joint, registered_by_name, named_joint, seat_no_union}
 use Rattle.djq_store.proofs.Placed.{filter_long, told_high}
 use Rattle.djq_store.proofs.Seats.{Slot, cases_place, high_place}
 use Rattle.djq_store.proofs.Slots.{slot_below, count_each, count_more, count_positive, set_here}

@@ -1,22 +1,22 @@
 -- Whether what has a name is in use, and what dropping it gives.
-use Rattle.std.proofs.Common.{ℕ, zero, suc, List, [], ◌∷◌, ◌++◌, ◌+◌, ◌-◌, ◌≡◌, ◌<◌, ◌≤◌, ◌⊎◌, inl, inr, Bool, true, false, refl, sym, ap, ap₂, ◌∙◌, subst, length, get_or, set, arith, append-nil}
-use Rattle.std.specs.Prelude.{◌==◌, ◌&&◌, ◌||◌, not, Option, None, Some, is_some, is_none, IsSomeAnd, All, AllPairs, IfSome, cond, count_by, filter, find, map, nat_lt, option_map, Result, Ok, Err, OnErr, ⊤}
+use Rattle.std.proofs.Common.{ℕ, zero, suc, List, [], ◌∷◌, ◌+◌, ◌≡◌, ◌<◌, ◌⊎◌, inl, inr, Bool, true, false, refl, sym, ap, ap₂, ◌∙◌, subst, get_or, set, arith}
+use Rattle.std.specs.Prelude.{◌==◌, ◌&&◌, ◌||◌, not, Option, None, Some, is_none, IsSomeAnd, AllPairs, IfSome, cond, count_by, filter, find, nat_lt, option_map, Ok, Err}
 use Rattle.std.specs.List.{list_any}
 use Rattle.std.proofs.lemmas.Bool.{eq-eqb, eqb-true, ltb-true, false≢true}
 use Rattle.djq_model.specs.Data.{Bytes, bytes_eq, drop_first}
 use Rattle.djq_model.specs.Equality.{bytes_eq-decides}
-use Rattle.djq_model.specs.Listed.{Listed, a_query, listed_name, listed_of, members_of}
+use Rattle.djq_model.specs.Listed.{Listed, listed_name, listed_of, members_of}
 use Rattle.djq_lines.specs.declared.answer.Refusal.{Refusal}
 use Rattle.djq_lines.specs.declared.answer.Refusal.TheVariants.{NoQuery, InUse}
 use Rattle.djq_lines.specs.declared.limits.TheConstants.{QUERIES}
-use Rattle.djq_machine.specs.Conditions.{first_of as first_refusal, Answers, OutOfMemoryWhere}
+use Rattle.djq_machine.specs.Conditions.{first_of as first_refusal, OutOfMemoryWhere}
 use Rattle.djq_machine.specs.State.{Store}
-use Rattle.djq_machine.specs.Store.{DropsQuery, drop_refusal, is_member}
+use Rattle.djq_machine.specs.Store.{drop_refusal, is_member}
 use Rattle.djq_live.specs.Live.{Live}
 use Rattle.djq_reach.specs.Places.{is_reader}
 use Rattle.djq_engine.specs.declared.cursor.CursorId.{CursorId}
 use Rattle.djq_engine.specs.declared.cursor.QueryId.{QueryId}
-use Rattle.djq_engine.specs.Kept.{Kept, Held, Registered, SameShape, SameTables, KeepsQuery, KeepsTables, Uses, DropGives, DropsRegistered, DropsTelling, DropsPlace, SameTellings, TellsOf, same_query, held_at, registered_at, registered_of, is_watched, same_id}
+use Rattle.djq_engine.specs.Kept.{Kept, Held, Registered, KeepsQuery, KeepsTables, Uses, DropGives, DropsPlace, TellsOf, same_query, held_at, registered_at, registered_of, is_watched, same_id}
 use Rattle.djq_engine.specs.Places.{id_at, left}
 use Rattle.djq_engine.proofs.Listing.{reader_filter}
 use Rattle.djq_united.specs.declared.cursors.Progress.{Progress}
@@ -24,7 +24,7 @@ use Rattle.djq_united.specs.Slots.{slot_at}
 use Rattle.djq_engine.proofs.Conditions.{answers_refused, answers_done, refused_as, done_of}
 use Rattle.djq_store.specs.declared.joined.Joined.{Joined}
 use Rattle.djq_store.specs.Below.{IsEngine, StayingLaws}
-use Rattle.djq_store.specs.Places.{joined_at, listed_at, union_watchers, registered_as, held_as, held_of, cursors_in, seen}
+use Rattle.djq_store.specs.Places.{joined_at, listed_at, union_watchers, registered_as, held_as, held_of, seen}
 use Rattle.djq_store.specs.Whole.{IsListed, IsCounted, wants, query_places}
 use Rattle.djq_store.proofs.Belonging.{is_called, seat_no_member, seat_member}
 use Rattle.djq_store.proofs.Departed.{none_any}

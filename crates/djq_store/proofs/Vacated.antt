@@ -1,32 +1,31 @@
 -- A query that no union needs leaves its place in the engine, and with it the store.
-use Rattle.std.proofs.Common.{ℕ, zero, suc, List, [], ◌∷◌, ◌++◌, ◌+◌, ◌-◌, ◌≡◌, ◌<◌, ◌≤◌, ◌⊎◌, inl, inr, Bool, true, false, refl, sym, ap, ap₂, ◌∙◌, subst, length, get_or, set, arith}
-use Rattle.std.specs.Prelude.{◌==◌, ◌&&◌, ◌||◌, not, Option, None, Some, is_some, IsSomeAnd, cond, count_by, find, filter, map, nat_lt, option_to_list, option_map, All, Ok, ⊤}
+use Rattle.std.proofs.Common.{ℕ, zero, suc, List, [], ◌∷◌, ◌++◌, ◌+◌, ◌≡◌, ◌<◌, ◌⊎◌, inl, inr, Bool, true, false, refl, sym, ap, ap₂, ◌∙◌, subst, length, get_or, set, arith}
+use Rattle.std.specs.Prelude.{◌==◌, ◌&&◌, ◌||◌, not, Option, None, Some, IsSomeAnd, cond, count_by, find, filter, map, nat_lt, option_to_list, option_map, All, Ok, ⊤}
 use Rattle.std.specs.List.{AllByRecursion}
 use Rattle.std.proofs.lemmas.Bool.{eq-eqb, eqb-true, false≢true, cases_order, lt-ltb}
-use Rattle.std.proofs.lemmas.List.{get_or-set_same, get_or-set_other, get_or-map}
+use Rattle.std.proofs.lemmas.List.{get_or-set_other, get_or-map}
 use Rattle.djq_model.specs.Data.{Bytes, bytes_eq, drop_first}
 use Rattle.djq_model.specs.Equality.{bytes_eq-decides}
 use Rattle.djq_model.specs.Listed.{Listed, a_query, a_union, listed_name}
-use Rattle.djq_lines.specs.declared.limits.TheConstants.{QUERIES, SESSIONS}
+use Rattle.djq_lines.specs.declared.limits.TheConstants.{QUERIES}
 use Rattle.djq_machine.specs.State.{Store}
 use Rattle.djq_live.specs.Live.{Live, IsShowable}
-use Rattle.djq_live.specs.Member.{query_at, queries_at, HaveQueries}
+use Rattle.djq_live.specs.Member.{query_at, queries_at}
 use Rattle.djq_reach.specs.Places.{is_reader}
 use Rattle.djq_reach.proofs.Reaching.{place_below}
-use Rattle.djq_engine.specs.declared.cursor.CursorId.{CursorId}
 use Rattle.djq_engine.specs.declared.cursor.QueryId.{QueryId}
-use Rattle.djq_engine.specs.Kept.{Kept, Held, Registered, AtPlace, SameCursors, TellsOf, DropsTelling, held_at, registered_at, registered_of, same_query, told_at}
+use Rattle.djq_engine.specs.Kept.{Kept, Held, Registered, SameCursors, TellsOf, DropsTelling, held_at, registered_at, registered_of, same_query, told_at}
 use Rattle.djq_engine.specs.Places.{id_at, query_in, told_of, left}
 use Rattle.djq_engine.proofs.Listing.{map_members, drop_listed, reader_filter, filter_twice, once_filter}
-use Rattle.djq_united.specs.United.{United, AreAlike, AreMembers, IsUnited, FitAll, members_in, first_of, union_of, position_of}
+use Rattle.djq_united.specs.United.{United, AreAlike, IsUnited, FitAll, members_in, first_of, position_of}
 use Rattle.djq_united.specs.Slots.{slot_at}
 use Rattle.djq_store.specs.declared.joined.Joined.{Joined}
 use Rattle.djq_store.specs.Below.{IsEngine}
-use Rattle.djq_store.specs.Places.{joined_at, listed_in, listed_at, sessions_at, registered_as, held_of, told_in, cursors_in, seen}
+use Rattle.djq_store.specs.Places.{joined_at, listed_in, listed_at, registered_as, held_of, told_in, seen}
 use Rattle.djq_store.specs.Whole.{IsListed, IsCounted, IsShownByFirst, wants, query_places}
-use Rattle.djq_store.proofs.Departed.{left_in, left_other, left_here, left_shorter, map_left, find_left, ids_left}
+use Rattle.djq_store.proofs.Departed.{left_in, left_other, left_shorter, map_left, find_left, ids_left}
 use Rattle.djq_store.proofs.Held.{held_low, held_high}
-use Rattle.djq_store.proofs.Ordered.{Seat, Joint, seat_of, seat_order, listed_seat, listed_low, registered_by_name, named_here}
+use Rattle.djq_store.proofs.Ordered.{Seat, seat_order, listed_seat, listed_low, registered_by_name, named_here}
 use Rattle.djq_store.proofs.Placed.{filter_long, map_long, told_low, told_high}
 use Rattle.djq_store.proofs.Seats.{Slot, cases_place, low_place, high_place}
 

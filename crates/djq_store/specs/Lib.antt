@@ -14,3 +14,4 @@ pub mod Affecting
 pub mod Following
 pub mod Judging
 pub mod Batches
+pub mod Filling

@@ -32,6 +32,7 @@ mod batches;
 mod below;
 mod change;
 mod explained;
+mod filling;
 mod finding;
 mod following;
 mod joined;

@@ -11,9 +11,10 @@ ghost use Rattle.djq_engine.specs.Watching.{Enrols, EnrolsTelling};
 ghost use Rattle.djq_store.specs.Registering.{is_registered, EnrolsUnion, EnrolsUnionTelling};
 
 use crate::below::engine_laws;
+use crate::filling::fill_slot;
 use crate::finding::{find_union, joined_in};
 use crate::joined::Joined;
-use crate::judging::{judge_union, places_of, vacant_slot};
+use crate::judging::{judge_union, places_of};
 use crate::leaving::{is_member, leave_out};
 use crate::store::Store;
 use djq_cursor::DeltaLog;
@@ -102,23 +103,26 @@ impl Store {
         ensures enrols { EnrolsUnion self.old name members.now result self.new }
         ensures tellings { EnrolsUnionTelling self.old name result self.new }
     {
+        engine_laws(&self.parts.engine);
         if let Some(refusal) = judge_union(&self.parts, &name, members) {
             return Err(refusal);
         }
         let Ok(places) = places_of(self.parts.alloc, &self.parts.engine, members) else {
             return Err(Refusal::NoMemory);
         };
-        let Ok(slot) = vacant_slot(&mut self.parts.unions) else {
-            return Err(Refusal::NoMemory);
-        };
         let most = most_of(self.parts.engine.places(), places.as_slice());
-        self.parts.unions[slot] = Some(Joined {
+        let joined = Joined {
             union: LiveUnion::new(self.parts.alloc, name, places),
             watchers: 0,
             log: DeltaLog::new(self.parts.alloc),
-        });
-        self.parts.order.push_reserved(QUERIES + slot);
-        Ok(most)
+        };
+        match fill_slot(&mut self.parts.unions, joined) {
+            Ok(slot) => {
+                self.parts.order.push_reserved(QUERIES + slot);
+                Ok(most)
+            }
+            Err(_error) => Err(Refusal::NoMemory),
+        }
     }
 
     /// Drops a query or union: it is registered no more. The ids of others and of their cursors stay.

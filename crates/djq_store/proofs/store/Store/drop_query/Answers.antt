@@ -1,6 +1,5 @@
-use Rattle.std.proofs.Common.{◌≡◌, ◌++◌, ◌∷◌, ◌+◌, ◌<◌, ◌≤◌, [], List, ℕ, Bool, true, false, sym, subst, ap, refl, ◌∙◌, length, set, arith}
-use Rattle.std.specs.Prelude.{Option, None, Some, IsSomeAnd, Result, Ok, Err, is_some, is_ok, option_map, position, ⊤}
-use Rattle.std.specs.List.{list_any}
+use Rattle.std.proofs.Common.{◌≡◌, ◌+◌, ◌<◌, List, ℕ, sym, subst, ap, ◌∙◌, set, arith}
+use Rattle.std.specs.Prelude.{Option, None, IsSomeAnd, Result, Ok, Err, ⊤}
 use Rattle.djq_model.specs.Data.{Bytes}
 use Rattle.djq_lines.specs.declared.answer.Refusal.{Refusal}
 use Rattle.djq_lines.specs.declared.answer.Refusal.TheVariants.{NoQuery, InUse}
@@ -9,11 +8,10 @@ use Rattle.djq_engine.specs.Kept.{Kept, DropGives, DropsPlace}
 use Rattle.djq_engine.specs.Places.{left}
 use Rattle.djq_united.specs.Slots.{are_vacant}
 use Rattle.djq_store.specs.declared.joined.Joined.{Joined}
-use Rattle.djq_store.specs.Finding.{has_member}
 use Rattle.djq_store.specs.Places.{joined_at, seen}
-use Rattle.djq_store.specs.Whole.{IsListed, IsCounted}
+use Rattle.djq_store.specs.Whole.{IsListed}
 use Rattle.djq_store.proofs.Named.{no_union, found_union}
-use Rattle.djq_store.proofs.Dropping.{NamedSeat, named_seat, unknown_name, member_slot, no_member_slot, was_dropped, was_refused, same_joined}
+use Rattle.djq_store.proofs.Dropping.{named_seat, unknown_name, member_slot, no_member_slot, was_dropped, was_refused, same_joined}
 use Rattle.djq_store.proofs.Staying.{listed_over, counts_stay}
 use Rattle.djq_store.proofs.Undone.{drop_watched, drop_held, undone_listed, undone_counted, undone_gives}
 use Rattle.djq_store.proofs.Used.{drop_unknown, drop_member, drop_done, drop_gives, drop_refused, drop_rests}

@@ -1,5 +1,5 @@
-use Rattle.std.proofs.Common.{◌≡◌, ◌++◌, ◌∷◌, ◌<◌, ◌≤◌, [], List, ℕ, Bool, true, false, sym, subst, ap, refl, ◌∙◌, length, set, arith}
-use Rattle.std.specs.Prelude.{Option, None, Some, Result, Ok, Err, is_some, map, unwrap_or}
+use Rattle.std.proofs.Common.{◌++◌, ◌∷◌, ◌<◌, ◌≤◌, [], List, ℕ, sym, subst, ◌∙◌, length, set, arith}
+use Rattle.std.specs.Prelude.{Result, Err, unwrap_or}
 use Rattle.djq_lines.specs.declared.answer.Refusal.{Refusal}
 use Rattle.djq_lines.specs.declared.answer.Refusal.TheVariants.{Taken, Limit}
 use Rattle.djq_lines.specs.declared.rest.QueryOutcome.{QueryOutcome}
@@ -8,7 +8,7 @@ use Rattle.djq_machine.specs.Store.{RegistersQuery}
 use Rattle.djq_engine.specs.Kept.{Kept, SameCursors}
 use Rattle.djq_engine.specs.Watching.{Enrols, EnrolsTelling}
 use Rattle.djq_store.specs.Places.{seen, cursors_in}
-use Rattle.djq_store.specs.Whole.{IsListed, IsCounted}
+use Rattle.djq_store.specs.Whole.{IsListed}
 use Rattle.djq_store.proofs.Registered.{query_rests, full_unwraps, taken_refusal, refused, outcome_of, registered_listed, registered_counted, registered_registers, registered_enrols, registered_tells, unregistered, unregistered_same, unregistered_enrols, unregistered_tells}
 use Rattle.djq_store.proofs.Sought.{sought_none, sought_some}
 use Rattle.djq_store.proofs.Staying.{listed_over, counts_stay, cursors_over}
