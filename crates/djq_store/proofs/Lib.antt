@@ -33,6 +33,7 @@ pub mod Answering
 pub mod Counted
 pub mod Together
 pub mod Joint
+pub mod Judged
 pub mod Related
 pub mod Grown
 pub mod Batched

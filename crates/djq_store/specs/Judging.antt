@@ -1,5 +1,5 @@
 -- What a union is made of.
-use Rattle.std.specs.Prelude.{ℕ, List, [], ◌∷◌, ◌++◌, ◌≡◌, ◌<◌, ◌⊎◌, All, IsSomeAnd, Option, None, Some, true, false, is_some, length, map, option_map}
+use Rattle.std.specs.Prelude.{ℕ, List, [], ◌∷◌, ◌++◌, ◌≡◌, ◌<◌, ◌⊎◌, All, Option, None, Some, true, false, is_some, length, map, option_map}
 use Rattle.djq_model.specs.Data.{Bytes}
 use Rattle.djq_model.specs.Listed.{listed_of}
 use Rattle.djq_machine.specs.State.{Store}

@@ -1,21 +1,23 @@
 //! Whether a union may be registered, and what it is made of.
-ghost use Rattle.std.specs.Prelude.{◌≡◌, ◌<◌, ◌≤◌, ℕ, ⊤, false, not, All, IfOk, IsSome, IsSomeAnd, OnErr, Some, None, is_none, is_some, length, map};
+ghost use Rattle.std.specs.Prelude.{◌≡◌, ◌||◌, true, false, All, IfOk, IsSome, OnErr, is_none, is_some};
 ghost use Rattle.std.specs.List.{list_any};
+ghost use Rattle.djq_model.specs.Data.{bytes_eq};
 ghost use Rattle.djq_model.specs.Listed.{listed_of};
-ghost use Rattle.djq_machine.specs.Store.{answer_steps};
-ghost use Rattle.djq_machine.specs.Union.{union_refusal, stands_twice, types_differ, is_union};
+ghost use Rattle.djq_machine.specs.Union.{union_refusal, stands_twice, types_differ, types_under, is_union};
+ghost use Rattle.djq_live.specs.Member.{head_types};
 ghost use Rattle.djq_engine.specs.Kept.{registered_of};
-ghost use Rattle.djq_store.specs.Places.{kept_in, joined_at};
+ghost use Rattle.djq_store.specs.Places.{kept_in};
 ghost use Rattle.djq_store.specs.Judging.{AreQueries, ArePlacesOf, TakesSlot};
 ghost use Rattle.djq_store.specs.Whole.{IsWhole};
 
+use crate::below::engine_laws;
 use crate::finding::find_union;
 use crate::joined::Joined;
 use crate::parts::Parts;
 use djq_engine::{Engine, QueryId};
 use djq_lines::Refusal;
 use djq_lines::limits::{MEMBERS, QUERIES};
-use djq_live::LiveQuery;
+use djq_live::{LiveQuery, head_types_are};
 use djq_model::{Name, NoMem, Sequence};
 use std::alloc::Global;
 
@@ -24,7 +26,40 @@ fn is_unknown(parts: &Parts, name: &Name) -> bool
     requires { IsWhole parts.now }
     ensures { result ≡ is_none (listed_of (kept_in parts.now).store.queries name.now) }
 {
+    engine_laws(&parts.engine);
     find_union(parts.unions.as_slice(), name).is_none() && parts.engine.query_id(name).is_none()
+}
+
+// Whether a union is registered under a name.
+fn is_union(parts: &Parts, name: &Name) -> bool
+    requires { IsWhole parts.now }
+    ensures { result ≡ is_union (listed_of (kept_in parts.now).store.queries name.now) }
+{
+    engine_laws(&parts.engine);
+    find_union(parts.unions.as_slice(), name).is_some()
+}
+
+// Whether one of these names is registered nowhere.
+fn any_unknown(parts: &Parts, names: &[Name]) -> bool
+    requires { IsWhole parts.now }
+    ensures { result ≡ list_any (λ n. is_none (listed_of (kept_in parts.now).store.queries n)) names.now }
+{
+    names.iter().any(|name| is_unknown(parts, name))
+}
+
+// Whether a union is registered under one of these names.
+fn any_union(parts: &Parts, names: &[Name]) -> bool
+    requires { IsWhole parts.now }
+    ensures { result ≡ list_any (λ n. is_union (listed_of (kept_in parts.now).store.queries n)) names.now }
+{
+    names.iter().any(|name| is_union(parts, name))
+}
+
+// Whether a name stands among these.
+fn stands_among(name: &Name, names: &[Name]) -> bool
+    ensures { result ≡ list_any (λ m. bytes_eq m name.now) names.now }
+{
+    names.iter().any(|other| *other == *name)
 }
 
 // Whether a name stands among these twice.
@@ -32,19 +67,22 @@ fn stands_twice(names: &[Name]) -> bool
     ensures { result ≡ stands_twice names.now }
 {
     for nth in 0..names.len() {
-        let name = names[nth];
-        if names[nth + 1..].iter().any(|other| *other == name) {
+        if stands_among(&names[nth], &names[nth + 1..]) {
             return true;
         }
     }
     false
 }
 
-// The query of a name.
+// The query that is registered under a name.
 fn query_of<'a>(parts: &'a Parts, name: &Name) -> &'a LiveQuery
     requires whole { IsWhole parts.now }
-    requires found { IsSome (registered_of parts.now.engine.registered name.now) }
+    requires known { is_some (listed_of (kept_in parts.now).store.queries name.now) ≡ true }
+    requires query { is_union (listed_of (kept_in parts.now).store.queries name.now) ≡ false }
+    ensures { head_types result.now ≡ types_under (kept_in parts.now).store name.now }
 {
+    engine_laws(&parts.engine);
+    head_types_are();
     match parts.engine.query_id(name) {
         Some(id) => parts.engine.live(id),
         None => unreachable!(),
@@ -69,14 +107,14 @@ fn types_differ(parts: &Parts, names: &[Name]) -> bool
 fn are_misfit(parts: &Parts, members: &[Name]) -> bool
     requires whole { IsWhole parts.now }
     requires known { list_any (λ n. is_none (listed_of (kept_in parts.now).store.queries n)) members.now ≡ false }
+    ensures { result ≡ (stands_twice members.now
+        || list_any (λ n. is_union (listed_of (kept_in parts.now).store.queries n)) members.now
+        || types_differ (kept_in parts.now).store members.now) }
 {
     if stands_twice(members) {
         return true;
     }
-    if members
-        .iter()
-        .any(|name| find_union(parts.unions.as_slice(), name).is_some())
-    {
+    if any_union(parts, members) {
         return true;
     }
     types_differ(parts, members)
@@ -90,7 +128,7 @@ pub fn judge_union(parts: &Parts, name: &Name, members: &[Name]) -> Option<Refus
     if !is_unknown(parts, name) {
         return Some(Refusal::Taken);
     }
-    if members.iter().any(|member| is_unknown(parts, member)) {
+    if any_unknown(parts, members) {
         return Some(Refusal::NoQuery);
     }
     if are_misfit(parts, members) {
