@@ -50,3 +50,4 @@ pub mod Undone
 pub mod Departed
 pub mod Vacated
 pub mod Unioned
+pub mod Fresh
