@@ -48,3 +48,4 @@ pub mod Slotted
 pub mod Undone
 pub mod Departed
 pub mod Vacated
+pub mod Most
