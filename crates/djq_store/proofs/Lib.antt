@@ -51,3 +51,4 @@ pub mod Departed
 pub mod Vacated
 pub mod Unioned
 pub mod Fresh
+pub mod Most
