@@ -2,6 +2,7 @@ pub mod Seats
 pub mod Found
 pub mod Slots
 pub mod Ordered
+pub mod Having
 pub mod Held
 pub mod Members
 pub mod Alike
