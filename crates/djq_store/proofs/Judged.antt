@@ -32,7 +32,8 @@ pub record Under (e : Kept) (name : Bytes) : Type 0 where
   pub there : query_at e.places registered.id.at ≡ Some query
   pub is : registered.query ≡ a_query query.query
 
-module _ (e : Kept) (b : IsEngine e) (us : List (Option Joined)) (order sessions affected : List ℕ) (w : IsListed e us order) (name : Bytes) where
+module _ (e : Kept) (b : IsEngine e) (us : List (Option Joined)) (order sessions affected : List ℕ)
+    (w : IsListed e us order) (name : Bytes) where
   abbrev listed : Option Listed
   listed = listed_of ((seen e us order sessions affected).store).queries name
 
@@ -48,12 +49,14 @@ module _ (e : Kept) (b : IsEngine e) (us : List (Option Joined)) (order sessions
         engine_listed e b us order w name none ∙ ap (λ (qs : List Listed). listed_of qs name) (sym b.queries)
         ∙ find_mapped (λ q. bytes_eq (listed_name q) name) (λ (r : Registered). r.query) e.registered
 
-    pub query_unknown : (id : Option QueryId) → id ≡ option_map (λ r. r.id) (registered_of e.registered name) → (b : Bool) → is_some id ≡ not b → b ≡ is_none listed
+    pub query_unknown : (id : Option QueryId) → id ≡ option_map (λ r. r.id) (registered_of e.registered name)
+        → (b : Bool) → is_some id ≡ not b → b ≡ is_none listed
     query_unknown id is b h =
         by_found (registered_of e.registered name) b (sym (ap is_some is) ∙ h)
         ∙ sym (ap is_none listed_below)
       where
-        by_found : (o : Option Registered) (b : Bool) → is_some (option_map (λ (r : Registered). r.id) o) ≡ not b → b ≡ is_none (option_map (λ (r : Registered). r.query) o)
+        by_found : (o : Option Registered) (b : Bool) → is_some (option_map (λ (r : Registered). r.id) o) ≡ not b
+            → b ≡ is_none (option_map (λ (r : Registered). r.query) o)
         by_found None true h = refl
         by_found None false h = absurd cc
         by_found (Some r) true h = absurd cc
@@ -62,7 +65,8 @@ module _ (e : Kept) (b : IsEngine e) (us : List (Option Joined)) (order sessions
     pub under_of : (r : Registered) → registered_of e.registered name ≡ Some r → Under e name
     under_of r f =
         let p = some_there (query_at e.places r.id.at) (λ l. r.query ≡ a_query l.query)
-        (found_all (λ r. AtPlace e r.id (λ l. r.query ≡ a_query l.query)) (λ r. bytes_eq (listed_name r.query) name) e.registered r b.placed f) in
+        (found_all (λ r. AtPlace e r.id (λ l. r.query ≡ a_query l.query))
+        (λ r. bytes_eq (listed_name r.query) name) e.registered r b.placed f) in
         record { registered = r; found = f; query = p.0; there = p.1; is = p.2 }
 
     pub no_union_there : is_union listed ≡ false
@@ -72,13 +76,15 @@ module _ (e : Kept) (b : IsEngine e) (us : List (Option Joined)) (order sessions
         by_found None f = ap is_union (listed_below ∙ ap (option_map (λ (r : Registered). r.query)) f)
         by_found (Some r) f =
             let u = under_of r f in
-            ap is_union (listed_below ∙ ap (option_map (λ (r : Registered). r.query)) u.found ∙ ap (λ (q : Listed). Some q) u.is)
+            ap is_union (listed_below ∙ ap (option_map (λ (r : Registered). r.query)) u.found
+            ∙ ap (λ (q : Listed). Some q) u.is)
 
     pub under_here : is_some listed ≡ true → Under e name
     under_here known = by_found (registered_of e.registered name) refl
       where
         by_found : (o : Option Registered) → registered_of e.registered name ≡ o → Under e name
-        by_found None f = absurd (false≢true (sym (ap is_some (listed_below ∙ ap (option_map (λ (r : Registered). r.query)) f)) ∙ known))
+        by_found None f = absurd (false≢true (sym (ap is_some
+            (listed_below ∙ ap (option_map (λ (r : Registered). r.query)) f)) ∙ known))
         by_found (Some r) f = under_of r f
 
   -- no union has the name of what is registered and is none
@@ -88,14 +94,19 @@ module _ (e : Kept) (b : IsEngine e) (us : List (Option Joined)) (order sessions
       by_test : (c : Bool) → bytes_eq j.union.name name ≡ c → bytes_eq j.union.name name ≡ false
       by_test false f = f
       by_test true f =
-          absurd (false≢true (sym apart ∙ union_there k (record { union = j; there = there; called = (bytes_eq-decides j.union.name name).0 f })))
+          absurd (false≢true (sym apart ∙ union_there k (record {
+            union = j;
+            there = there;
+            called = (bytes_eq-decides j.union.name name).0 f;
+          })))
 
   module _ (known : is_some listed ≡ true) (apart : is_union listed ≡ false) where
     pub under : Under e name
     under = under_here (none_called apart) known
 
     -- the id by which the engine knows it
-    pub id_under : (id : QueryId) → Some id ≡ option_map (λ r. r.id) (registered_of e.registered name) → id ≡ under.registered.id
+    pub id_under : (id : QueryId) → Some id ≡ option_map (λ r. r.id) (registered_of e.registered name)
+        → id ≡ under.registered.id
     id_under id is = same (is ∙ ap (option_map (λ (r : Registered). r.id)) under.found)
       where
         same : {x y : QueryId} → Some x ≡ Some y → x ≡ y
@@ -104,17 +115,20 @@ module _ (e : Kept) (b : IsEngine e) (us : List (Option Joined)) (order sessions
     pub none_impossible : None ≡ option_map (λ (r : Registered). r.id) (registered_of e.registered name) → ⊥
     none_impossible is = let h = is ∙ ap (option_map (λ (r : Registered). r.id)) under.found in absurd cc
 
-    pub under_registered : (id : QueryId) → Some id ≡ option_map (λ r. r.id) (registered_of e.registered name) → IsSome (registered_at e.registered id)
+    pub under_registered : (id : QueryId) → Some id ≡ option_map (λ r. r.id) (registered_of e.registered name)
+        → IsSome (registered_at e.registered id)
     under_registered id is =
         subst (λ (i : QueryId). IsSome (registered_at e.registered i)) (sym (id_under id is))
         (let s = seat_here e b under.registered.id.at under.query under.there in ap is_some s.found)
 
-    pub types_are : HeadTypesAre → (id : QueryId) (l : Live) → Some id ≡ option_map (λ r. r.id) (registered_of e.registered name) → query_at e.places id.at ≡ Some l
+    pub types_are : HeadTypesAre → (id : QueryId) (l : Live)
+        → Some id ≡ option_map (λ r. r.id) (registered_of e.registered name) → query_at e.places id.at ≡ Some l
         → head_types l ≡ types_under (seen e us order sessions affected).store name
     types_are law id l is there =
         law b.over.catalog l (b.over.live id.at l there).kept
         ∙ ap (λ rs. answer_types rs l.query) b.over.relations
-        ∙ ap (λ (q : Live). answer_types (e.store).relations q.query) (same (sym there ∙ ap (λ (i : QueryId). query_at e.places i.at) (id_under id is) ∙ under.there))
+        ∙ ap (λ (q : Live). answer_types (e.store).relations q.query)
+        (same (sym there ∙ ap (λ (i : QueryId). query_at e.places i.at) (id_under id is) ∙ under.there))
         ∙ sym (ap (listed_types (e.store).relations) (listed_below (none_called apart)
         ∙ ap (option_map (λ (r : Registered). r.query)) under.found ∙ ap (λ (q : Listed). Some q) under.is))
       where

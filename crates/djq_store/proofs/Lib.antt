@@ -2,6 +2,7 @@ pub mod Seats
 pub mod Found
 pub mod Slots
 pub mod Ordered
+pub mod Having
 pub mod Held
 pub mod Members
 pub mod Alike
@@ -52,3 +53,5 @@ pub mod Vacated
 pub mod Unioned
 pub mod Chosen
 pub mod Joining
+pub mod Fresh
+pub mod Most

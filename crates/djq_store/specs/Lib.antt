@@ -3,6 +3,7 @@ pub mod Places
 pub mod Whole
 pub mod Finding
 pub mod Reading
+pub mod Asking
 pub mod Explaining
 pub mod Registering
 pub mod Lending

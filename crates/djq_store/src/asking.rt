@@ -1,8 +1,12 @@
 //! What is asked of registered queries and unions without changing them.
-ghost use Rattle.std.specs.Prelude.{◌≡◌, ◌+◌, ◌≤◌, Some, map, IsSomeAnd, slice_get};
-ghost use Rattle.djq_model.specs.Listed.{listed_of, members_of};
-ghost use Rattle.djq_machine.specs.Store.{TellsShape, TellsWhether, has_steps};
+ghost use Rattle.std.specs.Prelude.{◌≡◌, ◌+◌, ◌≤◌, ⊤, Some, length, map, IsSomeAnd, slice_get};
+ghost use Rattle.djq_model.specs.Data.{Bytes};
+ghost use Rattle.djq_model.specs.Listed.{a_query, a_union, listed_of, members_of};
+ghost use Rattle.djq_machine.specs.Store.{TellsShape, TellsWhether, atoms_of, has_steps};
 ghost use Rattle.djq_machine.specs.Batch.{TellsSuits};
+ghost use Rattle.djq_live.specs.Member.{query_at};
+ghost use Rattle.djq_united.specs.United.{AreMembers};
+ghost use Rattle.djq_store.specs.Asking.{TellsOf, asked_in};
 ghost use Rattle.djq_store.specs.Explaining.{ExplainGives, HasMember};
 
 use crate::below::engine_laws;
@@ -11,8 +15,27 @@ use crate::finding::{find_union, joined_in};
 use crate::store::Store;
 use djq_engine::{Engine, QueryId};
 use djq_lines::{Refusal, Shape};
+use djq_live::head_types_are;
 use djq_model::{Name, Value};
 use djq_steps::{Ledgers, Listing, Tally};
+
+// Whether a tuple is an answer of the query in a place.
+fn has_at<L: Ledgers>(
+    engine: &Engine,
+    at: usize,
+    tuple: &[Value],
+    listing: &mut Tally<Listing<L>>,
+) -> Result<bool, Refusal>
+    requires { IsSomeAnd (query_at engine.now.places at) (λ l. ⊤) }
+    ensures tells { IsSomeAnd (query_at engine.now.places at)
+        (λ l. TellsOf engine.now.store.relations (a_query l.query) tuple.now result) }
+    ensures counted { IsSomeAnd (query_at engine.now.places at)
+        (λ l. listing.new ≤ listing.old + length l.query.atoms) }
+{
+    engine_laws(engine);
+    let name = engine.query_name(QueryId { at });
+    engine.has(&name, tuple, listing)
+}
 
 // Whether a tuple is an answer of one of these queries, whose answers have the same types.
 fn some_has<L: Ledgers>(
@@ -20,10 +43,16 @@ fn some_has<L: Ledgers>(
     members: &[usize],
     tuple: &[Value],
     listing: &mut Tally<Listing<L>>,
-) -> Result<bool, Refusal> {
+) -> Result<bool, Refusal>
+    requires { AreMembers engine.now.places members.now }
+    ensures tells { (name : Bytes) → TellsOf engine.now.store.relations
+        (a_union name (asked_in engine.now.places members.now)) tuple.now result }
+    ensures counted { listing.new ≤ listing.old + atoms_of (asked_in engine.now.places members.now) }
+{
+    engine_laws(engine);
+    head_types_are();
     for nth in 0..members.len() {
-        let name = engine.query_name(QueryId { at: members[nth] });
-        match engine.has(&name, tuple, listing) {
+        match has_at(engine, members[nth], tuple, listing) {
             Ok(true) => return Ok(true),
             Ok(false) => {}
             Err(refusal) => return Err(refusal),

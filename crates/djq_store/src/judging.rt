@@ -1,5 +1,5 @@
 //! Whether a union may be registered, and what it is made of.
-ghost use Rattle.std.specs.Prelude.{◌≡◌, ◌||◌, true, false, All, IfOk, IsSome, OnErr, is_none, is_some};
+ghost use Rattle.std.specs.Prelude.{◌≡◌, ◌||◌, true, false, All, IfOk, IsSome, is_none, is_some};
 ghost use Rattle.std.specs.List.{list_any};
 ghost use Rattle.djq_model.specs.Data.{bytes_eq};
 ghost use Rattle.djq_model.specs.Listed.{listed_of};
@@ -7,14 +7,13 @@ ghost use Rattle.djq_machine.specs.Union.{union_refusal, stands_twice, types_dif
 ghost use Rattle.djq_live.specs.Member.{head_types};
 ghost use Rattle.djq_engine.specs.Kept.{registered_of};
 ghost use Rattle.djq_store.specs.Places.{kept_in};
-ghost use Rattle.djq_store.specs.Judging.{AreQueries, ArePlacesOf, TakesSlot};
+ghost use Rattle.djq_store.specs.Judging.{AreQueries, ArePlacesOf};
 ghost use Rattle.djq_store.specs.Whole.{IsWhole};
 
 use crate::below::engine_laws;
 use crate::finding::find_union;
-use crate::joined::Joined;
 use crate::parts::Parts;
-use djq_engine::{Engine, QueryId};
+use djq_engine::Engine;
 use djq_lines::Refusal;
 use djq_lines::limits::{MEMBERS, QUERIES};
 use djq_live::{LiveQuery, head_types_are};
@@ -157,21 +156,4 @@ pub fn places_of(alloc: Global, engine: &Engine, names: &[Name]) -> Result<Seque
         places.push(id.at)?;
     }
     Ok(places)
-}
-
-/// A slot where no union stands, which is made where there is none.
-///
-/// # Errors
-///
-/// `NoMem` out of memory. Nothing has changed.
-pub fn vacant_slot(unions: &mut Vec<Option<Joined>>) -> Result<usize, NoMem>
-    ensures slot { IfOk result (λ slot. TakesSlot slot unions.old.items unions.new.items) }
-    ensures err { OnErr result (unions.new.items ≡ unions.old.items) }
-{
-    if let Some(slot) = unions.iter().position(|union| union.is_none()) {
-        return Ok(slot);
-    }
-    let slot = unions.len();
-    unions.push(None)?;
-    Ok(slot)
 }

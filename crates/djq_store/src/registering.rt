@@ -1,9 +1,11 @@
 //! Queries and unions that are registered and dropped.
-ghost use Rattle.std.specs.Prelude.{◌≡◌, ◌≤◌, ◌<◌, map, length};
+ghost use Rattle.std.specs.Prelude.{◌≡◌, ◌≤◌, ◌<◌, ◌^◌, ⊤, All, Some, IsSomeAnd, map, length};
 ghost use Rattle.djq_model.specs.Data.{Bytes};
 ghost use Rattle.djq_model.specs.Listed.{a_union};
 ghost use Rattle.djq_machine.specs.Store.{answer_steps};
-ghost use Rattle.djq_live.specs.Member.{HaveQueries, queries_at};
+ghost use Rattle.djq_live.specs.Live.{IsKeptSomewhere};
+ghost use Rattle.djq_live.specs.Member.{query_at, queries_at};
+ghost use Rattle.djq_united.specs.United.{AreMembers};
 ghost use Rattle.djq_machine.specs.Store.{RegistersQuery};
 ghost use Rattle.djq_machine.specs.Union.{RegistersUnion};
 ghost use Rattle.djq_engine.specs.Kept.{SameCursors, DropGives};
@@ -24,6 +26,7 @@ use djq_live::LiveQuery;
 use djq_model::{Name, Query};
 use djq_steps::{Ledgers, Steps};
 use djq_united::LiveUnion;
+use std::mem::size_of_val;
 
 // Whether a query was registered.
 fn is_registered(outcome: &Result<QueryOutcome, Refusal>) -> bool
@@ -35,13 +38,41 @@ fn is_registered(outcome: &Result<QueryOutcome, Refusal>) -> bool
     }
 }
 
+// The query in a place.
+fn member_in(queries: &[Option<LiveQuery>], place: usize) -> &LiveQuery
+    requires { IsSomeAnd (query_at queries.now place) (λ l. ⊤) }
+    ensures { query_at queries.now place ≡ Some result.now }
+{
+    match &queries[place] {
+        Some(query) => query,
+        None => unreachable!(),
+    }
+}
+
+// How many atoms a query has. They stand in memory, with 64 bytes or more each, so they are few.
+fn atoms_of(query: &LiveQuery) -> u64
+    ensures count { result ≡ length query.now.query.atoms }
+    ensures few { result < 2 ^ 58 }
+{
+    let atoms = query.query().atoms.as_slice();
+    let _bytes = size_of_val(atoms);
+    atoms.len() as u64
+}
+
 // The most lookups and links that an answer of a union of queries takes.
 fn most_of(queries: &[Option<LiveQuery>], members: &[usize]) -> u64
-    requires { HaveQueries queries.now members.now }
+    requires members { AreMembers queries.now members.now }
+    requires kept { All IsKeptSomewhere (queries_at queries.now members.now) }
     ensures { (name : Bytes) → result
         ≡ answer_steps (a_union name (map (λ l. l.query) (queries_at queries.now members.now))) }
 {
-    unreachable!()
+    let mut atoms = 0;
+    for nth in 0..members.len() {
+        atoms += atoms_of(member_in(queries, members[nth]));
+    }
+    let count = members.len() as u64;
+    let width = member_in(queries, members[0]).width() as u64;
+    count * (2 * width + 1) + (count - 1) * atoms
 }
 
 impl Store {
