@@ -11,7 +11,6 @@ use Rattle.djq_machine.specs.Conditions.{Answers, OutOfMemoryWhere}
 use Rattle.djq_machine.specs.State.{Store}
 use Rattle.djq_machine.specs.Store.{answer_steps}
 use Rattle.djq_machine.specs.Union.{AreUnder, RegistersUnion, union_refusal}
-use Rattle.djq_live.specs.Live.{Live}
 use Rattle.djq_live.specs.Member.{queries_at, HeadTypesAre}
 use Rattle.djq_engine.specs.Kept.{Kept, Registered, SameCursors, TellsOf, registered_of}
 use Rattle.djq_engine.specs.Places.{id_at}
@@ -66,9 +65,14 @@ module _ (e : Kept) (b : IsEngine e) (law : HeadTypesAre) (us : List (Option Joi
       }
 
       pub joining_enrols : (most : ℕ) → EnrolsUnion old name names (Ok most) new
-      joining_enrols most = (id_at (QUERIES + k), qs, under, unioned_fresh e b us us' order sessions affected w k j f unwatched,
-          unioned_registered e b us us' order sessions affected w k j f unwatched
-          ∙ ap (λ (q : Listed). old.registered ++ (let s : Registered = record { id = id_at (QUERIES + k); query = q; watchers = 0 } in s) ∷ []) union_is)
+      joining_enrols most = (
+        id_at (QUERIES + k),
+        qs,
+        under,
+        unioned_fresh e b us us' order sessions affected w k j f unwatched,
+        unioned_registered e b us us' order sessions affected w k j f unwatched
+            ∙ ap (λ (q : Listed). old.registered ++ (let s : Registered = record { id = id_at (QUERIES + k); query = q; watchers = 0 } in s) ∷ []) union_is,
+      )
 
       pub joining_cursors : SameCursors old.cursors new.cursors
       joining_cursors = unioned_cursors e b us us' order sessions affected w k j f (ap (λ (u : United). u.cursors) is)
@@ -84,5 +88,8 @@ module _ (e : Kept) (b : IsEngine e) (law : HeadTypesAre) (us : List (Option Joi
         joining_listed = unioned_listed e b us us' order sessions affected w k j f fits kept empty unknown joining_less
 
         pub joining_tells : (most : ℕ) → EnrolsUnionTelling old name (Ok most) new
-        joining_tells most = (refl, subst (λ (u : United). IsSomeAnd (registered_of new.registered u.name) (λ (r : Registered). TellsOf old r.id (Some []) new)) is
-            (unioned_tells e b us us' order sessions affected w k j f fits kept empty unknown joining_less))
+        joining_tells most = (
+          refl,
+          subst (λ (u : United). IsSomeAnd (registered_of new.registered u.name) (λ (r : Registered). TellsOf old r.id (Some []) new)) is
+              (unioned_tells e b us us' order sessions affected w k j f fits kept empty unknown joining_less),
+        )

@@ -22,7 +22,7 @@ use crate::store::Store;
 use djq_cursor::DeltaLog;
 use djq_lines::limits::QUERIES;
 use djq_lines::{QueryOutcome, Refusal};
-use djq_live::LiveQuery;
+use djq_live::{LiveQuery, head_types_are};
 use djq_model::{Name, Query};
 use djq_steps::{Ledgers, Steps};
 use djq_united::LiveUnion;
@@ -135,6 +135,7 @@ impl Store {
         ensures tellings { EnrolsUnionTelling self.old name result self.new }
     {
         engine_laws(&self.parts.engine);
+        head_types_are();
         if let Some(refusal) = judge_union(&self.parts, &name, members) {
             return Err(refusal);
         }

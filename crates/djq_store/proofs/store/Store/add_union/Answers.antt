@@ -1,9 +1,8 @@
-use Rattle.std.proofs.Common.{◌≡◌, ◌<◌, ◌≤◌, ◌++◌, ◌∷◌, ◌+◌, [], List, ℕ, sym, subst, refl, ◌∙◌, map, length, arith}
+use Rattle.std.proofs.Common.{◌≡◌, List, ℕ, sym, subst, refl, ◌∙◌, map, arith}
 use Rattle.std.specs.Prelude.{Ok, Option, Some}
 use Rattle.djq_model.specs.Listed.{a_union}
 use Rattle.djq_live.specs.Member.{query_at, queries_at}
 use Rattle.djq_machine.specs.Store.{answer_steps}
-use Rattle.djq_lines.specs.declared.limits.TheConstants.{QUERIES}
 use Rattle.djq_live.specs.Live.{Live}
 use Rattle.djq_live.proofs.AtPlaces.{are_kept}
 use Rattle.djq_machine.specs.Union.{RegistersUnion}
@@ -13,7 +12,7 @@ use Rattle.djq_store.specs.Places.{seen}
 use Rattle.djq_store.specs.Registering.{EnrolsUnion, EnrolsUnionTelling}
 use Rattle.djq_store.specs.Whole.{IsListed}
 use Rattle.djq_store.proofs.Chosen.{are_fit, are_known}
-use Rattle.djq_store.proofs.Joining.{joining_less, joining_members, joining_registers, joining_enrols, joining_cursors, joining_counted, joining_listed, joining_tells}
+use Rattle.djq_store.proofs.Joining.{joining_members, joining_registers, joining_enrols, joining_cursors, joining_counted, joining_listed, joining_tells}
 use Rattle.djq_store.proofs.store.Store.add_union.Goals as goal
 
 pub places_of-requires : goal.places_of-requires
