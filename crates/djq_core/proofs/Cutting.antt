@@ -1,36 +1,30 @@
 -- A reply that finds no memory: its session is cut off; and the reply to `query`, whole or cut.
-use Rattle.std.proofs.Common.{ℕ, ◌≡◌, ◌++◌, false, List, [], ◌∷◌, Option, None, Some, Result, Ok, Err, codes, refl, sym, ap, ◌∙◌, subst, arith, inl, inr}
-use Rattle.std.specs.Prelude.{MatchOption, IsSomeAnd, is_none}
+use Rattle.std.proofs.Common.{ℕ, ◌≡◌, false, List, [], None, Some, Result, refl, sym, ap, ◌∙◌, subst, arith, inr}
 use Rattle.djq_model.specs.Data.{Bytes}
-use Rattle.djq_model.specs.Listed.{Listed, a_query, listed_of}
 use Rattle.djq_model.specs.declared.query.Query.{Query}
 use Rattle.djq_lines.specs.declared.answer.Refusal.{Refusal}
-use Rattle.djq_lines.specs.declared.answer.Refusal.TheVariants.{Syntax, Taken, NoRelation, NoQuery, NoCursor, Arity, WrongType, HeadUnbound, HeadRepeated, VariableType, Unbound, Limit, NoMemory, InUse, Misplaced}
 use Rattle.djq_lines.specs.declared.answer.EndCause.TheVariants.{Memory}
 use Rattle.djq_lines.specs.declared.rest.QueryOutcome.{QueryOutcome}
-use Rattle.djq_lines.specs.declared.command.Command.TheVariants.{Query as Register, Explain}
-use Rattle.djq_lines.specs.Reply.{line, refusal_line, query_reply, text_of, end_memory}
-use Rattle.djq_machine.specs.Keeping.{Keeping, no_line, kept_where, is_registration}
-use Rattle.djq_machine.specs.State.{Store, Session, State, with_session, ended_by}
+use Rattle.djq_lines.specs.declared.command.Command.TheVariants.{Query as Register}
+use Rattle.djq_lines.specs.Reply.{query_reply, end_memory}
+use Rattle.djq_machine.specs.Keeping.{Keeping, kept_where, is_registration}
+use Rattle.djq_machine.specs.State.{Session, State, with_session, ended_by}
 use Rattle.djq_machine.specs.Store.{RegistersQuery}
-use Rattle.djq_machine.specs.Conditions.{first_of, Answers, OutOfMemoryWhere}
-use Rattle.djq_machine.specs.Effect.{Effect, RefusedStep}
-use Rattle.djq_machine.specs.Command.{explain_lines, ExplainStepOf}
-use Rattle.djq_machine.proofs.Explaining.{explained}
+use Rattle.djq_machine.specs.Effect.{Effect}
 use Rattle.djq_session.specs.declared.named.NamedCursor.{NamedCursor}
-use Rattle.djq_session.specs.Dialog.{Replies, Queues, Lacks}
+use Rattle.djq_session.specs.Dialog.{Lacks}
 use Rattle.djq_engine.specs.declared.cursor.CursorId.{CursorId}
-use Rattle.djq_engine.specs.Kept.{Kept, SameCursors, Explains, ExplainGives, HasTree}
+use Rattle.djq_engine.specs.Kept.{Kept, SameCursors}
 use Rattle.djq_core.specs.declared.open.OpenSession.{OpenSession}
 use Rattle.djq_core.specs.Views.{Talk, session_in, state_in}
 use Rattle.djq_core.specs.Sound.{ids_of, all_ids, AreHeld, AreApart, HasCount, StaysCounted, IsOwn, IsSound, IsReady}
 use Rattle.djq_core.specs.Ends.{GivesUp, CutsOff}
-use Rattle.djq_core.specs.Performs.{among, to_one, to_keep, behind, unqueued, Performs, Executes, ExecutesKeeping}
+use Rattle.djq_core.specs.Performs.{among, to_keep, behind, unqueued, Performs, ExecutesKeeping}
 use Rattle.djq_core.proofs.Ids.{agree_same, agree_held, agree_open}
 use Rattle.djq_core.proofs.Around.{parts, whole}
 use Rattle.djq_core.proofs.GivingUp.{ends_among}
-use Rattle.djq_core.proofs.Replying.{around_same, refused}
-use Rattle.djq_core.proofs.Watching.{recount, stays_same, stays_on}
+use Rattle.djq_core.proofs.Replying.{around_same}
+use Rattle.djq_core.proofs.Watching.{recount, stays_on}
 
 -- Something is done, the cursors stay as they are, and the session is cut off.
 pub cut_off_after : (M : State → ℕ → Session → Effect → State → Type 0) (old mid new : Kept) (before between after : Talk) (was now : ℕ) (kept : Keeping)

@@ -1,5 +1,5 @@
 -- The reply to `explain`, whole or cut.
-use Rattle.std.proofs.Common.{ℕ, zero, suc, ◌+◌, ◌≤◌, ◌≡◌, ◌++◌, true, false, List, [], ◌∷◌, length, take, map, Option, None, Some, Result, Ok, Err, codes, refl, sym, ap, ◌∙◌, subst, arith, inl, inr, append_assoc, append-nil}
+use Rattle.std.proofs.Common.{ℕ, suc, ◌+◌, ◌≤◌, ◌≡◌, ◌++◌, true, false, List, [], ◌∷◌, length, take, map, Option, None, Some, Result, Ok, Err, codes, refl, sym, ap, ◌∙◌, subst, arith, inl, inr, append_assoc, append-nil}
 use Rattle.std.specs.Prelude.{⊤, MatchOption, IsSomeAnd, is_none, slice_get}
 use Rattle.std.specs.Result.{is_err}
 use Rattle.std.proofs.lemmas.List.{map-append, length-map, take_all}
@@ -14,13 +14,13 @@ use Rattle.djq_lines.specs.declared.answer.EndCause.TheVariants.{Memory}
 use Rattle.djq_lines.specs.declared.command.Command.TheVariants.{Explain}
 use Rattle.djq_lines.specs.Reply.{line, member_line, refusal_line, text_of, end_memory}
 use Rattle.djq_machine.specs.Keeping.{no_line}
-use Rattle.djq_machine.specs.State.{Store, Session, State, with_session, ended_by}
+use Rattle.djq_machine.specs.State.{Store, State, with_session, ended_by}
 use Rattle.djq_machine.specs.Conditions.{first_of, Answers, OutOfMemoryWhere}
 use Rattle.djq_machine.specs.Effect.{Effect, RefusedStep}
 use Rattle.djq_machine.specs.Command.{explain_lines, union_lines, ExplainStepOf}
 use Rattle.djq_machine.proofs.Explaining.{explained}
-use Rattle.djq_session.specs.Dialog.{Replies, Queues, Lacks, MayQueue}
-use Rattle.djq_engine.specs.Kept.{Kept, HasTree, ExplainsTree}
+use Rattle.djq_session.specs.Dialog.{Replies, Queues, MayQueue}
+use Rattle.djq_engine.specs.Kept.{Kept, HasTree}
 use Rattle.djq_store.specs.declared.explained.Explained.{Explained}
 use Rattle.djq_store.specs.declared.explained.Explained.TheVariants.{Tree, Members}
 use Rattle.djq_store.specs.Explaining.{Explains, ExplainGives, TakesMemory}

@@ -1,5 +1,5 @@
 -- What explains a query or a union, as it is queued to a session.
-use Rattle.std.specs.Prelude.{List, ◌++◌, ◌≡◌, codes, Option, None, Some, IsSomeAnd, Result, Ok, Err, ⊤, map}
+use Rattle.std.specs.Prelude.{List, ◌++◌, ◌≡◌, codes, Option, IsSomeAnd, Result, Ok, Err, ⊤, map}
 use Rattle.djq_model.specs.Data.{Bytes}
 use Rattle.djq_model.specs.Listed.{Listed, a_query, a_union, members_of}
 use Rattle.djq_model.specs.declared.memory.NoMem.{NoMem}
