@@ -7,6 +7,7 @@ and with 4N. README.md beside this file says how to read the table. Standard lib
 """
 
 import argparse
+import collections
 import contextlib
 import os
 import random
@@ -425,6 +426,100 @@ def untouched(program, count):
     yield "untouched: the same beside a watched query on others", measured[1] / count, theirs / count, "ns"
 
 
+MEMBERS = [f"m{at}" for at in range(4)]  # of a union; each has half of its answers in common with the next one
+UNION = [f"rel {name} int int" for name in MEMBERS] + [f"query {name}(x,y) <- {name}(x,y)" for name in MEMBERS]
+UNION.append(" ".join(["union u", *MEMBERS]))
+
+
+def union_trigger(name, event, sign, row):
+    """Logs an answer that comes or goes where no other member has it."""
+    without = "not exists (select 1 from {} where x = {}.x and y = {}.y)"
+    others = [without.format(other, row, row) for other in MEMBERS if other != name]
+    return f"""create trigger {name}{event} after {event} on {name} begin
+      insert into log select '{sign}', {row}.x, {row}.y, null, null where {" and ".join(others)};
+      insert into log(sign) values ('at'); end;"""
+
+
+def union_by_sqlite(there, changes):
+    """The seconds for the first ten answers, for all and for the changes; all answers, and what the changes told."""
+    triggers = [union_trigger(name, *of) for name in MEMBERS for of in (("insert", "+", "new"), ("delete", "-", "old"))]
+    base = base_of("".join(map(TABLE.format, MEMBERS)) + "".join(triggers))
+    apply(base, there)
+    wanted = " union ".join(f"select x, y from {name}" for name in MEMBERS)
+    begin = time.perf_counter()
+    base.execute(f"select * from ({wanted}) limit 10").fetchall()
+    first = time.perf_counter() - begin
+    begin = time.perf_counter()
+    expected = base.execute(wanted).fetchall()
+    whole = time.perf_counter() - begin
+    seconds, log = apply(base, changes)
+    return (first, whole, seconds), sorted(expected), deltas_of_log(log, 2)
+
+
+def members_listed(session, each):
+    """What a client does that has no union: it lists the members one after another, and drops what it has already."""
+    seconds, told = session.feed([line for name in MEMBERS for line in listing("c", name, each)])
+    begin = time.perf_counter()
+    answers = {line for line in told if line.startswith("= ")}
+    return seconds + time.perf_counter() - begin, answers
+
+
+def members_counted(session, there, lines):
+    """The same for changes: it watches the members, and counts for each answer how many of them have it."""
+    held = collections.Counter(" ".join(map(str, row)) for _, _, row in there)
+    session.feed([f"watch {name}" for name in MEMBERS])
+    seconds, told = session.feed(lines)
+    begin = time.perf_counter()
+    deltas, delta = [], []
+    for line in told:
+        sign, _, answer = line.split(" ", 2)
+        if sign in ("+", "-"):
+            before = held[answer]
+            held[answer] += 1 if sign == "+" else -1
+            if not before or not held[answer]:
+                delta.append((sign, answer))
+        elif sign == "ok":
+            deltas.append(delta)
+            delta = []
+    seconds += time.perf_counter() - begin
+    return seconds, [{(sign, *map(int, answer.split(" "))) for sign, answer in delta} for delta in deltas]
+
+
+def union(program, count):
+    """A union of four members of N/2 answers each, of which each shares half of its answers with the next; beside it
+    what a client does that lists and watches the members itself."""
+    each, times = count // 2, 300
+    places = [(name, at * each // 2) for at, name in enumerate(MEMBERS)]
+    there = [("add", name, (x, x)) for name, begin in places for x in range(begin, begin + each)]
+    chance = random.Random(9)
+    chance.shuffle(there)
+    moved = [chance.randrange(each) for _ in range(min(each, 2500))]
+    changes = [(word, MEMBERS[0], (x, x)) for x in moved for word in ("del", "add")]
+    theirs, expected, deltas = union_by_sqlite(there, changes)
+    with Session(program) as session:
+        session.feed(UNION + lines_of(there))
+        first, told = session.feed(["open c u", "next c 10", "close c"] * times)
+        same(sum(line.startswith("= ") for line in told), 10 * times, "union")
+        of_member, _ = session.feed([f"open c {MEMBERS[0]}", "next c 10", "close c"] * times)
+        whole, told = session.feed(listing("c", "u", len(expected)))
+        same(answers_of(told), expected, "union")
+        listed, told = members_listed(session, each)
+        same(answers_of(told), expected, "union")
+        session.feed(["watch u"])
+        ours, told = session.feed(lines_of(changes))
+        same(deltas_of_lines(told), deltas, "union")
+        session.feed(["unwatch u"])
+        counted, told = members_counted(session, there, lines_of(changes))
+        same(told, deltas, "union")
+    answers, number = len(expected), len(changes)
+    yield "union: open, first 10 answers, close", first / times, theirs[0], "ns"
+    yield "union: the same of its first member", of_member / times, theirs[0], "ns"
+    yield "union: list all, an answer", whole / answers, theirs[1] / answers, "ns"
+    yield "union: list its members and drop repeats, an answer", listed / answers, theirs[1] / answers, "ns"
+    yield "union: a watched change", ours / number, theirs[2] / number, "ns"
+    yield "union: a change, its members watched and counted", counted / number, theirs[2] / number, "ns"
+
+
 PARTS = {
     "load": load,
     "join": join,
@@ -436,6 +531,7 @@ PARTS = {
     "hierarchical": hierarchical,
     "64-queries": many_queries,
     "untouched": untouched,
+    "union": union,
 }
 
 

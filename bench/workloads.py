@@ -1,4 +1,4 @@
-"""The streams whose instructions `count.py` counts: sixteen kinds of work, each made for a number of rows.
+"""The streams whose instructions `count.py` counts: nineteen kinds of work, each made for a number of rows.
 
 The letters name them in what `count.py` tells. Each stream is the same on every machine.
 """
@@ -198,6 +198,38 @@ def passed_over(rows, into):
     return Stream(lines, counted, len(counted))
 
 
+def filled_union(rows):
+    """A union of four members of a quarter of the rows each, of which each shares half of its answers with the next;
+    and how many answers that makes."""
+    each, members = rows // 4, ["m0", "m1", "m2", "m3"]
+    lines = relations(members) + [f"query {name}(x,y) <- {name}(x,y)" for name in members]
+    lines.append(" ".join(["union u", *members]))
+    there = [(name, at * (each // 2) + x) for at, name in enumerate(members) for x in range(each)]
+    random.Random(9).shuffle(there)
+    return lines + [add(name, x, x) for name, x in there], 3 * (each // 2) + each
+
+
+def first_ten_of_a_union(rows):
+    """The first ten answers of a union, by a cursor that is opened and closed."""
+    return Stream(filled_union(rows)[0], ["open c u", "next c 10", "close c"] * 300, 300, 3000)
+
+
+def listing_of_a_union(rows):
+    """All answers of a union, a thousand a command."""
+    lines, answers = filled_union(rows)
+    return Stream(lines, ["open c u"] + ["next c 1000"] * (answers // 1000 + 1) + ["close c"], answers, answers)
+
+
+def watched_union(rows):
+    """Changes of a member, of which half come to an answer of the union and half to one that the next member has."""
+    chance, counted, told = random.Random(10), [], 0
+    for _ in range(500):
+        x = chance.randrange(rows // 4)
+        counted += [delete("m0", x, x), add("m0", x, x)]
+        told += 2 * (x < rows // 8)
+    return Stream([*filled_union(rows)[0], "watch u"], counted, len(counted), told)
+
+
 @dataclass
 class Workload:
     """A kind of work, how it is made for a number of rows, that number, and the instructions that an operation takes in
@@ -226,4 +258,7 @@ WORKLOADS = {
     "J": Workload("a change that moves N tuples", moved, 500, 359_804),
     "K": Workload("an add that no comparison lets through, 64 watched queries", lambda rows: passed_over(rows, "r"), 400),
     "K0": Workload("an add that no query reads, beside them", lambda rows: passed_over(rows, "u"), 400),
+    "L": Workload("the first ten answers of a union of four", first_ten_of_a_union, 4000),
+    "L2": Workload("an answer of a union of four, most of two members", listing_of_a_union, 4000),
+    "L3": Workload("a watched change of a union of four", watched_union, 4000),
 }

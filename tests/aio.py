@@ -21,6 +21,7 @@ import djq.aio
 TYPES = {"r": (int, int), "s": (int, str), "t": (str,)}
 QUERIES = [
     "q(x,y,z) <- r(x,y), s(y,z)", "p(z) <- t(z)", "bad(x,z) <- r(x,y), s(y,z)", "ring(x) <- r(x,y), r(y,x), r(x,x)",
+    "w(z) <- s(_,z)",
 ]  # fmt: skip
 
 TEXTS = ["a", 'b"', "c\\", "d\n", "ü"]
@@ -33,6 +34,8 @@ def random_commands(count, seed):
         yield "relation", (name, *types)
     for text in QUERIES:
         yield "query", (text,)
+    for members in (("p", "w"), ("p", "q"), ("p",), ("p", "none"), ("p", "w")):
+        yield "union", ("u", *members)
     for _ in range(count):
         yield chance.choice(["add", "delete"]), random_row(chance)
         if chance.random() < 0.1:
@@ -41,9 +44,11 @@ def random_commands(count, seed):
             yield chance.choice([("has", ("q", 1, 2, "a")), ("has", ("p", "ü")), ("snapshot", ("q",)), ("has", ("z",))])
         if chance.random() < 0.1:
             yield chance.choice([("snapshot", ("p",)), ("explain", ("q",)), ("watch", ("q",)), ("unwatch", ("p",))])
-            yield "shape", (chance.choice("qpz"),)
+            yield "shape", (chance.choice("qpzu"),)
+            yield chance.choice([("snapshot", ("u",)), ("explain", ("u",)), ("watch", ("u",)), ("has", ("u", "ü"))])
         if chance.random() < 0.02:
             yield chance.choice([("drop", ("q",)), ("relation", ("r", int)), ("ping", ()), ("add", ("No", 1))])
+            yield chance.choice([("drop", ("p",)), ("unwatch", ("u",)), ("union", ("u2", "w", "p", "w"))])
 
 
 def random_row(chance):
@@ -82,7 +87,7 @@ def one_after_another(server, commands):
                 told.append(batch_of(client, given) if name == "batch" else getattr(client, name)(*given))
             except djq.Error as error:
                 told.append(plain(error))
-        rest = [change for change in client.changes("q", 0.2)]
+        rest = [change for query in "qu" for change in client.changes(query, 0.2)]
     return told, rest
 
 
@@ -96,14 +101,14 @@ async def awaited(server, commands):
                 told.append(await (awaited_batch_of(client, given) if is_batch else getattr(client, name)(*given)))
             except djq.Error as error:
                 told.append(plain(error))
-        rest = [change async for change in client.changes("q", 0.2)]
+        rest = [change for query in "qu" async for change in client.changes(query, 0.2)]
     return told, rest
 
 
 def test_the_same_script(program):
     """Both are told the same, values, errors and changes, on servers of their own."""
     for seed in range(3):
-        commands = [*random_commands(400, seed), ("query", (QUERIES[0],)), ("watch", ("q",))]
+        commands = [*random_commands(400, seed), ("query", (QUERIES[0],)), ("watch", ("q",)), ("watch", ("u",))]
         commands += [("add", ("r", 77, 1)), ("add", ("s", 1, "new")), ("delete", ("s", 1, "new"))]
         with Server(program) as one, Server(program) as two:
             blocking = one_after_another(one, commands)

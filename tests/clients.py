@@ -99,6 +99,7 @@ def test_refusals_by_their_lines():
         ("err 12 memory", djq.OutOfMemory),
         ("err 14 in use", djq.InUse),
         ("err 16 unbound", djq.ComparisonUnbound),
+        ("err 17 member", djq.MemberRefused),
         ("err 18 batch", djq.Misplaced),
         ("err 99 else", djq.Refused),
         ("no cyclic x,y x,z y,z", djq.Cyclic),
@@ -137,6 +138,22 @@ def test_a_reply_to_a_batch():
     assert (rows.replies, rows.changed, rows.refused) == (3, 0, 1) and rows.first[0].line == "add r"
     assert done.result() == djq.Done(7, 2) and done.result().changed and not djq.Done(7, 0).changed
     assert len(protocol.changes["q"]) == 1 and protocol.due == 0
+
+
+def test_replies_about_a_union():
+    text = b"ok union 8\n+ u 1\nat u 1\nm a\nm b\nend\nat u 2\nunion\n= 1\nmore\nok\n"
+    for size in (1, 7, 1000):
+        protocol, counted = djq.Protocol(), djq.protocol.ReplyCount(b"")
+        made = protocol.say("union u a b", djq.protocol.READ_UNION)
+        members = protocol.say("explain u", djq.protocol.read_tree)
+        shape = protocol.say("shape u", djq.protocol.READ_SHAPE)
+        page, closed = protocol.say("next c 1", djq.protocol.read_page), protocol.say("close c", djq.protocol.READ_OK)
+        for at in range(0, len(text), size):
+            protocol.feed(text[at : at + size])
+            counted.count(text[at : at + size])
+        assert (made.result(), members.result(), shape.result()) == (8, ["m a", "m b"], "union")
+        assert page.result() == djq.Page([(1,)], False) and closed.done
+        assert len(protocol.changes["u"]) == 2 and protocol.due == 0 and counted.replies == 5, counted.replies
 
 
 def test_an_end_fails_what_is_due():
@@ -196,7 +213,7 @@ def test_refusals(server):
 
 def test_an_error_class_for_each_number(server):
     # 12 needs a machine without memory; 13 comes only behind bytes without a line end, which this client doesn't send
-    assert set(djq.REFUSALS) == set(range(1, 19)) - {13, 15, 17}
+    assert set(djq.REFUSALS) == set(range(1, 19)) - {13, 15}
     with server.connect() as client:
         client.relation("n", int, str)
         client.query("qn(x) <- n(x,_)")
@@ -215,6 +232,7 @@ def test_an_error_class_for_each_number(server):
             (11, lambda: client.query("qm(x) <- " + ", ".join(["n(x,_)"] * 33))),
             (14, lambda: client.drop("qn")),
             (16, lambda: client.query("qm(x) <- n(x,_), y < 5")),
+            (17, lambda: client.union("qm", "qn", "qn")),
             (18, lambda: client._do("done", djq.protocol.READ_DONE)),
         ):
             error = raises(djq.Refused, call)
@@ -255,6 +273,99 @@ def test_texts_and_joins(server):
         raises(djq.NoQuery, lambda: client.shape("jm"))
         refused = raises(djq.NotFreeConnex, lambda: client.query("jn(x,z) <- calls(x,y), calls(y,z)"))
         assert refused.edges == [("x", "y"), ("x", "z"), ("y", "z")]
+
+
+def test_unions(server):
+    with server.connect() as client, server.connect() as other:
+        for relation in ("va", "vb"):
+            client.relation(relation, int, str)
+        client.query("qva(x,y) <- va(x,y)")
+        client.query("qvb(x,y) <- vb(x,y), x >= 0")
+        assert client.union("qv", "qva", "qvb") == 12
+        assert client.shape("qv") == "union" and client.explain("qv") == ["m qva", "m qvb"]
+        seq = other.watch("qv")
+
+        def told():
+            change = other.next_change("qv", SECONDS)
+            return change.seq - seq, set(change.came), set(change.went)
+
+        client.add("va", 1, "a")
+        assert told() == (1, {(1, "a")}, set())
+        client.add("vb", 1, "a")
+        client.add("vb", -1, "b")
+        assert [told(), told()] == [(2, set(), set()), (3, set(), set())]
+        with client.batch() as batch:
+            for row in (("va", 2, "b"), ("vb", 2, "b"), ("vb", 3, "c")):
+                batch.add(*row)
+        assert batch.result() == djq.Done(seq + 4, 3) and told() == (4, {(2, "b"), (3, "c")}, set())
+        client.delete("va", 1, "a")
+        client.delete("vb", 1, "a")
+        assert [told(), told()] == [(5, set(), set()), (6, set(), {(1, "a")})]
+        assert client.snapshot("qv") == set(client.answers("qv", page=1)) == {(2, "b"), (3, "c")}
+        assert client.has("qv", 2, "b") and not client.has("qv", 1, "a")
+        with client.cursor("qv") as cursor:
+            assert len(cursor.next(1).answers) == 1
+            client.add("vb", 4, "d")
+            assert raises(djq.Stale, cursor.next).relation == "vb"
+        raises(djq.InUse, lambda: client.drop("qva"))
+        raises(djq.InUse, lambda: client.drop("qv"))
+        other.unwatch("qv")
+        client.drop("qv")
+        client.drop("qva")
+        raises(djq.NoQuery, lambda: client.shape("qv"))
+
+
+def test_unions_are_refused(server):
+    with server.connect() as client:
+        client.relation("vr", int, str)
+        for number in range(9):
+            client.query(f"qr{number}(x) <- vr(x,_), x > {number}")
+        client.query("qrt(y) <- vr(_,y)")
+        members = [f"qr{number}" for number in range(9)]
+        with client.pipeline(raises=False) as many:
+            first, again = many.union("qr", "qr0", "qr1"), many.union("qr", "qr0", "qr1")
+        assert first.result() == 8 and isinstance(raises(djq.Taken, again.result), djq.Taken)
+        for kind, given, why in (
+            (djq.Taken, ("qr0", "qr1", "qr2"), "the name is there: qr0"),
+            (djq.NoQuery, ("qs", "qr1", "none"), "one of these isn't registered: qr1, none"),
+            (djq.MemberRefused, ("qs", "qr1", "qr2", "qr1"), "qr1 stands twice"),
+            (djq.MemberRefused, ("qs", "qr1", "qrt"), "their answers aren't of the same types"),
+            (djq.MemberRefused, ("qs", "qr1", "qr"), "one is a union"),
+            (djq.LimitReached, ("qs", *members), "9 members, and 8 are the most"),
+            (djq.Syntax, ("qs", "qr1"), ""),
+            (djq.BadName, ("qs", "qr1", "a\nstop"), ""),
+            (djq.BadName, ("Qs", "qr1", "qr2"), ""),
+        ):
+            error = raises(kind, lambda: client.union(*given))
+            assert type(error) is kind and why in error.why, (given, error)
+        assert client.union("qs", *members[: djq.MOST_MEMBERS]) == 80
+
+
+def test_a_live_union_beside_fresh_listings(server):
+    """A live set of a union is those of its members together, also where one of them belongs to a table."""
+    draw = random.Random(17)
+    with server.connect() as client, server.connect() as other:
+        table = client.table("vk", int, int)
+        client.relation("vs", int, int, int)
+        client.query("qvs(y,x) <- vs(x,y,_)")
+        client.union("every", "qvs", "vk_rows")
+        with other.lives("every", "qvs") as lives:
+            every, single = lives
+            shared = 0
+            for _ in range(400):
+                key, value = draw.randrange(4), draw.randrange(4)
+                if draw.random() < 0.4:
+                    table.upsert(key, value)
+                elif draw.random() < 0.3:
+                    batch_of(client, *[("vs", draw.randrange(4), key, draw.randrange(2)) for _ in range(3)])
+                else:
+                    client.delete("vs", value, key, draw.randrange(2))
+                if draw.random() < 0.2:
+                    lives.sync()
+                    rows, own = set(table), set(client.answers("qvs"))
+                    assert single.answers == own and every.answers == own | rows == client.snapshot("every")
+                    shared += len(own & rows)
+            assert shared > 10
 
 
 def test_pipelines(server):
@@ -480,13 +591,15 @@ def test_live_begins_while_rows_change(server):
     with server.connect() as client, contextlib.ExitStack() as open_ones:
         client.relation("lb", int, int)
         client.query("lo(x,y,z) <- lb(x,y), lb(y,z)")
+        client.query("back(x,y,z) <- lb(z,y), lb(y,x)")
+        client.union("ways", "lo", "back")
         client.add("lb", 1, 1)
         other = threading.Thread(target=churn)
         other.start()
         lives = []
         try:
-            for _ in range(25):
-                lives.append(open_ones.enter_context(client.live("lo")))
+            for number in range(25):
+                lives.append(open_ones.enter_context(client.live(("lo", "ways")[number % 2])))
                 next(lives[-1].changes(SECONDS))
         finally:
             stop.set()
@@ -495,7 +608,7 @@ def test_live_begins_while_rows_change(server):
         for live in lives:
             while live.seq < last[0]:
                 next(live.changes(SECONDS))
-            assert live.answers == set(client.answers("lo"))
+            assert live.answers == set(client.answers(live.query)), live.query
 
 
 def test_a_stalled_reader_comes_back(server):
@@ -544,6 +657,7 @@ def test_errors_tell_what_is_wrong(server):
             (djq.NoQuery, lambda: client.cursor("nothing"), "open c1 nothing", "no query is named nothing"),
             (djq.Taken, lambda: client.relation("e", int), "rel e int", "the name is there: e"),
             (djq.Taken, lambda: client.query("qe(x) <- e(x,_)"), "query qe(x) <- e(x,_)", "the name is there: qe"),
+            (djq.Taken, lambda: client.union("qe", "qe", "qe"), "union qe qe qe", "the name is there: qe"),
             (djq.Arity, lambda: client.add("e", 1), "add e 1", "1 values were given, and e has 2 columns"),
             (djq.WrongType, lambda: client.add("e", 2**63, ""), f'add e {2**63} ""', "value 1 is past 64 bits"),
             (djq.WrongType, lambda: client.add("e", "a", ""), 'add e "a" ""', "value 1 is a text, and its column int"),
@@ -806,6 +920,29 @@ def test_alarm(program):
             assert process.wait(SECONDS) == 0
 
 
+def test_rules(program):
+    with Server(program) as server, server.connect() as client:
+        assert output(server, "rules.py", "--once") == ""
+        client.add("levels", 12, 5)
+        stands = "stands 7: pump 2 has to stop, it is dry\n"
+        assert output(server, "rules.py", "--once") == stands
+        with example(server, "rules.py", "--lines", "5") as process:
+            hear(process, stands)
+            client.add("levels", 11, 5)
+            hear(process, "raised 8: pump 1 has to stop, it is dry")
+            # the other rule holds beside it, and then this one no more: nothing is told
+            client.add("bearings", 1, 85)
+            client.delete("levels", 11, 5)
+            client.delete("bearings", 1, 85)
+            hear(process, "cleared 11: pump 1 may run")
+            batch_of(client, ("bearings", 1, 85), ("levels", 11, 5))
+            hear(process, "raised 12: pump 1 has to stop, it is dry and hot")
+            client.delete("pumps", 2, 12, "running")
+            hear(process, "cleared 13: pump 2 may run")
+            assert process.wait(SECONDS) == 0
+        raises(djq.InUse, lambda: client.drop("hot"))
+
+
 def test_cache(program):
     with Server(program) as server, server.connect() as client:
         told = output(server, "cache.py", "--size", "2", given="1 1 2\n1 3 2\n")
@@ -874,11 +1011,12 @@ def test_stop(program):
 ALONE = [
     test_values_there_and_back, test_answers_there_and_back, test_deltas_between_replies, test_changes_up_to_one,
     test_refusals_by_their_lines, test_many_replies_are_counted, test_a_reply_to_a_batch,
-    test_an_end_fails_what_is_due,
+    test_replies_about_a_union, test_an_end_fails_what_is_due,
 ]  # fmt: skip
 SERVED = [
     test_commands, test_refusals, test_an_error_class_for_each_number, test_comparisons, test_texts_and_joins,
-    test_pipelines, test_batches, test_batches_of_which_nothing_comes, test_random_rows_by_two_clients, test_ends,
+    test_unions, test_unions_are_refused, test_a_live_union_beside_fresh_listings, test_pipelines, test_batches,
+    test_batches_of_which_nothing_comes, test_random_rows_by_two_clients, test_ends,
     test_watch_and_unwatch, test_a_watched_query_is_in_use, test_two_queries_are_told_in_order_of_registration,
     test_live_beside_a_fresh_listing, test_live_begins_while_rows_change, test_a_stalled_reader_comes_back,
     test_errors_tell_what_is_wrong, test_what_isnt_sent, test_unwatch_forgets,
@@ -887,7 +1025,7 @@ SERVED = [
 ]  # fmt: skip
 # each with a server of its own
 APART = [
-    test_explain, test_stop, test_dashboard, test_alarm, test_cache, test_a_reply_that_doesnt_come,
+    test_explain, test_stop, test_dashboard, test_alarm, test_rules, test_cache, test_a_reply_that_doesnt_come,
     test_a_server_that_is_started_again_with_its_log, test_a_batch_that_is_interrupted,
     *pages.TESTS, *busy.TESTS,
 ]  # fmt: skip

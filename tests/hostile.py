@@ -131,6 +131,18 @@ TABLE = [
      SYNTAX * 2 + b"err 5 no cursor\n" * 2 + SYNTAX, 0),
     (b'rel r text\nadd r "' + b"a" * 255 + b'"\nadd r "' + b"a" * 256 + b'"\nadd r "' + b"\\n" * 255 + b'"\n',
      b"ok\nok added 1 1\nerr 7 type\nok added 2 1\n", 0),
+    # unions
+    (b"union\nunion u\nunion u a\nunion u 1 a\nunion u a, b\nunion u(a,b)\nUNION u a b\n", SYNTAX * 7, 0),
+    (b"union u a b <-\nunion u a \"b\"\nunion u a _\nunion u a -1\nunion u a b\t\nunion u a " + b"b" * 33 + b"\n",
+     SYNTAX * 6, 0),
+    (b"union u a " + b"b" * 32 + b"\nunion u" + b" a" * 2044 + b"\n", b"err 4 no query\n" * 2, 0),
+    (b"rel r int\nquery a(x) <- r(x)\nunion u" + b" a" * 2044 + b"\nunion a b c\nunion u a c a\n",
+     b"ok\nok query 3\nerr 17 member\nerr 2 taken\nerr 4 no query\n", 0),
+    (b"rel union int\nquery a(x) <- union(x)\nquery union(x)<-union(x),x>0\n  union  u  a  union \r\n"
+     b"open union u\nnext union 1\n",
+     b"ok\nok query 3\nok query 3\nok union 8\nok open\nend\n", 0),
+    (b"union u" + b" a" * 2045, b"end long\n", 8),
+    (b"union u a", b"err 13 cut\n", 0),
     # batches
     (b"done\nabandon\n", b"err 18 batch\n" * 2, 0),
     (b"batch 1\ndone x\nabandon abandon\nBATCH\nbatch()\n", SYNTAX * 5, 0),

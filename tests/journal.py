@@ -108,7 +108,8 @@ def ask(connection, lines):
         told += piece
 
 
-BEGIN = b"rel r int int\nquery q(x) <- r(x,y), y >= 0\n"
+# the rows are listed by a union, one of whose members has them all
+BEGIN = b"rel r int int\nquery q(x) <- r(x,y), y >= 0\nquery p(x) <- r(x,y), y >= 0, x < 50\nunion u p q\n"
 
 
 def of_batch(at):
@@ -142,7 +143,7 @@ def state(program, log):
     """The number of changes and the rows that a file comes to, by a server that is started on it."""
     serving = Serving(program, log)
     with serving.connect() as connection:
-        lines = ask(connection, b"watch q\nopen c q\n" + b"next c 1000\n" * 200)
+        lines = ask(connection, b"watch u\nopen c u\n" + b"next c 1000\n" * 200)
     serving.kill()
     watch = next(line for line in lines if line.startswith("ok watch"))
     return int(watch.split()[2]), {int(line[2:]) for line in lines if line.startswith("= ")}
@@ -257,6 +258,26 @@ def a_batch_is_kept_whole(program, folder, options):
 
 
 @test
+def unions_are_kept(program, folder, options):
+    log = os.path.join(folder, "unions")
+    kept = [b"rel r int", b"query a(x) <- r(x)", b"query b(x) <- r(x), x > 5", b" union  u a  b", b"add r 7",
+            b"union v b a"]
+    refused = [b"union u a b", b"union w a", b"union w a a", b"union w a u", b"union w a none", b"drop a"]
+    lines = kept + refused + [b"drop u", b"union u b a", b"explain u"]
+    told, status, _ = replay(program, log, b"open 1\n" + b"".join(b"say 1 %s\n" % line for line in lines))
+    want = [b"ok", b"ok query 3", b"ok query 3", b"ok union 8", b"ok added 1 1", b"ok union 8", b"err 2 taken",
+            b"err 1 syntax", b"err 17 member", b"err 17 member", b"err 4 no query", b"err 14 in use",
+            b"ok", b"ok union 8", b"m b", b"m a", b"end"]
+    expect((told, status), (b"".join(b"1< " + line + b"\n" for line in want), 0), "replies")
+    expect(read(log), HEADER + b"".join(map(record, [*kept, b"drop u", b"union u b a"])) + b"\0", "the file")
+    schedule = b"open 1\nsay 1 has u 7\nsay 1 drop b\nsay 1 explain u\nsay 1 watch u\nsay 1 watch v\nsay 1 add r 8\n"
+    # v is told first, since u was registered anew behind it
+    want = b"1< yes\n1< err 14 in use\n1< m b\n1< m a\n1< end\n1< ok watch 1\n1< ok watch 1\n" \
+        b"1< + v 8\n1< at v 2\n1< + u 8\n1< at u 2\n1< ok added 2 1\n"
+    expect(replay(program, log, schedule)[:2], (want, 0), "loaded")
+
+
+@test
 def a_refused_batch_isnt_kept(program, folder, options):
     log = os.path.join(folder, "refused")
     schedule = b"open 1\nopen 2\nsay 1 rel r int\nsay 1 done\nsay 1 batch\nsay 2 batch\nsay 1 rel s int\nsay 1 add r 1\n" \
@@ -316,7 +337,8 @@ def each_byte_changed(program, folder, options):
 @test
 def a_refused_line(program, folder, options):
     log = os.path.join(folder, "refused")
-    for line in (b"add z 1", b"del r 9", b"next c 1", b"rel r int", b"query q(x,z) <- r(x), r(z), r(y), z < 1", b"\xff"):
+    for line in (b"add z 1", b"del r 9", b"next c 1", b"rel r int", b"union u q q",
+                 b"query q(x,z) <- r(x), r(z), r(y), z < 1", b"\xff"):
         write(log, HEADER + record(b"rel r int") + record(line) + b"\0")
         told, status, said = replay(program, log, b"open 1\nsay 1 add r 8\n")
         if line.startswith(b"query"):
@@ -330,7 +352,8 @@ def a_refused_line_of_a_batch(program, folder, options):
     log = os.path.join(folder, "refused")
     full = [b"add r 1"] * 1000
     for lines in ([b"done"], [b"abandon"], [b"batch", b"batch"], [b"batch", b"rel s int"], [b"batch", b"del r 1"],
-                  [b"batch", b"quit"], [b"batch", b"add z 1"], [b"batch", b"add r 1", b"add r 1 1"], [b"batch", b"done", b"done"],
+                  [b"batch", b"quit"], [b"batch", b"union u q q"], [b"batch", b"add z 1"],
+                  [b"batch", b"add r 1", b"add r 1 1"], [b"batch", b"done", b"done"],
                   [b"batch", b"add r 1", b"abandon", b"abandon"], [b"batch", *full, b"add r 1"], [b"batch", b"add r 1", b"drop q"]):
         before = HEADER + b"".join(map(record, [b"rel r int", *lines[:-1]]))
         whole = before + record(lines[-1]) + b"\0"

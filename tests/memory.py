@@ -233,6 +233,64 @@ batch
 add r 1 2
 """)
 
+UNIONS = lines(b"""
+rel r int text
+rel s text int
+query a(x,y) <- r(x,y)
+query b(x,y) <- s(y,x)
+query c(y,x) <- s(y,x)
+union u a b
+union u a b
+union v a
+union v a z
+union v a a
+union v a u
+union v a c
+add r 1 "one"
+watch u
+add s "one" 1
+add s "two" 2
+open c u
+open d a
+next c 9
+has u 2 "two"
+has u 2 "unknown"
+has u 2
+explain u
+shape u
+del r 1 "one"
+next c 9
+next d 9
+close c
+open c u
+next c 1
+next c 1
+drop a
+batch
+add r 3 "three"
+add s "three" 3
+add s "four" 3
+union v a b
+done
+next c 1
+union v b a
+watch v
+del s "one" 1
+del s "four" 3
+close c
+close d
+unwatch u
+drop u
+drop a
+unwatch v
+drop v
+drop a
+query a(x,y) <- r(x,_), s(y,x), x < 9
+union u a b
+open c u
+next c 9
+""")
+
 CONSTANTS_AND_TEXTS = lines(b"""
 rel r int int int
 add r 1 1 3
@@ -352,6 +410,22 @@ say 5 next c 9
 say 2 abandon
 say 2 explain q
 say 2 drop p
+say 2 query w(y,x) <- r(x,y), s(_)
+say 2 union u q w
+say 5 watch u
+say 2 open d u
+say 1 add r 4 3
+say 2 next d 1
+say 2 close d
+say 2 open d u
+say 2 next d 50
+say 2 explain u
+say 5 unwatch u
+say 2 close d
+say 2 drop w
+say 2 drop u
+say 2 drop w
+say 1 del r 4 3
 open 6
 say 6 has q 2 2
 say 6 batch
@@ -465,6 +539,11 @@ def self_joins_that_are_watched():
 @test
 def batches_that_are_watched():
     each_growth_refused("batches", BATCHES)
+
+
+@test
+def unions_that_are_listed_and_watched():
+    each_growth_refused("unions", UNIONS)
 
 
 @test

@@ -67,10 +67,18 @@ def random_batch(draw):
 
 
 def random_schedule(draw):
-    """Session 1 watches q and lists it again and again; 2 and 3 change rows; 4 lists q at the end."""
+    """Session 1 watches q and lists it again and again; 2 and 3 change rows; 4 lists q at the end. Now and then q is a
+    union, whose members share answers, and session 1 registers another one beside it."""
     lines = [f"open {i}" for i in (1, 2, 3, 4)]
-    lines += ["say 2 rel r int int", "say 2 rel s int int", "say 2 query q(x,y,z) <- r(x,y), s(z,y)", "say 2 query qq(x) <- r(x,_)"]
+    lines += ["say 2 rel r int int", "say 2 rel s int int", "say 2 query qq(x) <- r(x,_)"]
+    if draw.random() < 0.5:
+        lines += ["say 2 query q(x,y,z) <- r(x,y), s(z,y)"]
+    else:
+        lines += ["say 2 query one(x,y,z) <- r(x,y), s(z,y)", "say 2 query two(z,y,x) <- r(x,y), s(z,y), y > 0"]
+        lines += ["say 2 query three(y,x,z) <- r(x,z), s(x,y)", "say 2 union q one two three"]
     lines += ["say 1 watch q"]
+    if draw.random() < 0.3:
+        lines += ["say 1 query other(x) <- s(x,_)", "say 1 union both qq other", "say 1 union both qq qq"]
     is_open = False
     held = []  # lines of a batch of session 3, between which the others go on
     for _ in range(draw.randrange(5, 120)):
@@ -129,12 +137,16 @@ def lines_that_cant_be_followed_are_told(program, options):
     for line in [
         b"= 2 \"b\"\n", b"more\n", b"+ q 1 \"a\"\n", b"- q 2 \"b\"\n", b"ok watch", b"nonsense\n", b"= 01\n", b"=  1\n", b"= 1 \n", b"= -0\n",
         b"= \"\\a\"\n", b"= 9223372036854775808\n", b"ok added 1\n", b"ok added 01 1\n", b"err 15 later\n", b"\n", b"end long \n", b"at q\n",
+        b"ok union\n", b"ok union 01\n", b"ok union a\n", b"m\n", b"m A\n", b"m a b\n", b"union q\n",
+        b"err 17 unbound\n",
         b"ok batch 1\n", b"ok held\n", b"ok held 01\n", b"ok done 1\n", b"ok done 1 01\n", b"err 18\n",
         b"stale c r\n", b"= \"\xff\"\n", b"ok\r\n", b"no cyclic\n", b"n 0 leaf r\n", b"x" * 16385 + b"\n", b"x" * 20000,
     ]:
         expect(mirror(program, known + line), (b"mirror 5\n", 12), repr(line[:40]))
     for line in [b"end\n", b"at q 7\n", b"+ p 1\n", b"- p 1\n", b"at p 7\n", b"ok\n", b"ok added 18446744073709551615 4294967295\n",
-                 b"ok query 33\n", b"no cyclic x,y y,z z,x\n", b"no connex x,_ y\n", b"yes\n", b"flat\n", b"err 16 unbound\n", b"err 18 batch\n",
+                 b"ok query 33\n", b"no cyclic x,y y,z z,x\n", b"no connex x,_ y\n", b"yes\n", b"flat\n",
+                 b"union\n", b"ok union 8\n", b"m a\n", b"m union_1\n", b"err 17 member\n",
+                 b"err 16 unbound\n", b"err 18 batch\n",
                  b"ok batch\n", b"ok held 1\n", b"ok held 1000\n", b"ok done 0 0\n", b"ok done 18446744073709551615 1000\n", b"bye\n", b"end slow\n",
                  b"n 0 leaf r x,_\n", b"n 12 trim 3 - out\n", b"n 3 meet 0 1 x out\n"]:
         expect(mirror(program, known + line), (b"= 1 \"a\"\nend\n", 0), repr(line))

@@ -16,6 +16,7 @@ TEXT_BYTES = 255
 MOST_SESSIONS = 64
 MOST_COLUMNS, MOST_RELATIONS, MOST_QUERIES, MOST_CURSORS = 16, 256, 256, 16
 MOST_ATOMS, MOST_VARIABLES, MOST_HEAD, MOST_COMPARISONS = 32, 128, 16, 32
+MOST_MEMBERS = 8
 MOST_ANSWERS = 1000
 MOST_COPIES = (1 << 32) - 1
 MOST_HELD = 1000
@@ -24,7 +25,7 @@ SYNTAX, TAKEN, NO_RELATION, NO_QUERY = b"err 1 syntax", b"err 2 taken", b"err 3 
 NO_CURSOR, ARITY, TYPE, UNBOUND = b"err 5 no cursor", b"err 6 arity", b"err 7 type", b"err 8 head unbound"
 REPEATED, VARIABLE_TYPE, LIMIT = b"err 9 head repeated", b"err 10 variable type", b"err 11 limit"
 MEMORY, CUT, IN_USE = b"err 12 memory", b"err 13 cut", b"err 14 in use"
-COMPARES_UNBOUND, MISPLACED = b"err 16 unbound", b"err 18 batch"
+COMPARES_UNBOUND, MEMBER, MISPLACED = b"err 16 unbound", b"err 17 member", b"err 18 batch"
 END_MEMORY = b"end memory"
 
 # bytes of a reply that are kept before its line is run
@@ -185,6 +186,11 @@ def command_of(line):
             raise Syntax
     elif word == b"query":
         said = reader.query()
+    elif word == b"union":
+        name, members = reader.name(), []
+        while reader.rest() or len(members) < 2:
+            members.append(reader.name())
+        said = (name, members)
     elif word == b"open":
         said = (reader.name(), reader.name())
     elif word == b"next":
@@ -284,6 +290,8 @@ class Tree:
 
 class Query:
     """A query of the grammar over known relations; its variables are numbered as they come."""
+
+    members = ()
 
     def __init__(self, name, head, atoms, comparisons):
         self.name, self.variables, self.types = name, [], {}
@@ -388,6 +396,9 @@ class Query:
             words = node.words or b"leaf " + self.atoms[at][0]
             yield b"n %d %s %s" % (at, words, self.label(node.label)) + (b" out" if at in tree.out else b"")
 
+    def shape(self):
+        return b"flat" if self.flat() else b"linear"
+
     def flat(self):
         """Whether any two variables stand in nested or disjoint sets of atoms, and where one of the head stands in
         fewer atoms than another one that has all of its, the other is of the head too."""
@@ -403,6 +414,34 @@ class Query:
 
     def rest(self, edges):
         return b" ".join(self.label(edge) for edge in sorted(map(sorted, edges)))
+
+
+class Union:
+    """The answers that some of its members have, each once."""
+
+    def __init__(self, name, members):
+        self.name, self.members, self.head_types = name, members, members[0].head_types
+        self.reads = set().union(*(member.reads for member in members))
+
+    def most(self):
+        """The most steps that one answer may take."""
+        count, atoms = len(self.members), sum(len(member.atoms) for member in self.members)
+        return count * (2 * len(self.head_types) + 1) + (count - 1) * atoms
+
+    def answers(self, relations):
+        return set().union(*(member.answers(relations) for member in self.members))
+
+    def computed(self, relations):
+        return set().union(*(member.computed(relations) for member in self.members))
+
+    def by_definition(self, relations, domain):
+        return set().union(*(member.by_definition(relations, domain) for member in self.members))
+
+    def explained(self):
+        return [b"m " + member.name for member in self.members]
+
+    def shape(self):
+        return b"union"
 
 
 def assigned(places, row):
@@ -773,6 +812,28 @@ class Machine:
             return LIMIT
         return self.not_admitted(query)
 
+    def union(self, session, name, members):
+        if session.refused():
+            return
+        refusal = self.refuse_union(name, members)
+        if refusal:
+            return session.say(refusal)
+        self.queries[name] = Union(name, [self.queries[member] for member in members])
+        session.say(b"ok union %d" % self.queries[name].most())
+
+    def refuse_union(self, name, members):
+        """The refusal of a union, or None."""
+        if name in self.queries:
+            return TAKEN
+        if any(member not in self.queries for member in members):
+            return NO_QUERY
+        found = [self.queries[member] for member in members]
+        if len(set(members)) < len(members) or any(query.members for query in found):
+            return MEMBER
+        if any(query.head_types != found[0].head_types for query in found):
+            return MEMBER
+        return LIMIT if len(members) > MOST_MEMBERS or len(self.queries) >= MOST_QUERIES else None
+
     @staticmethod
     def miscompared(kind, sign, constant):
         """Whether a comparison doesn't suit a variable of a type."""
@@ -792,7 +853,7 @@ class Machine:
             return session.say(NO_QUERY)
         query = self.queries[name]
         held = any(cursor.query is query for other in self.sessions.values() for cursor in other.cursors.values())
-        if held or self.watchers(query):
+        if held or self.watchers(query) or any(query in other.members for other in self.queries.values()):
             return session.say(IN_USE)
         del self.queries[name]
         session.say(b"ok")
@@ -844,7 +905,7 @@ class Machine:
         if name not in self.queries:
             return session.say(NO_QUERY)
         query = self.queries[name]
-        if len(values) != len(query.head):
+        if len(values) != len(query.head_types):
             return session.say(ARITY)
         if mistyped(values, query.head_types):
             return session.say(TYPE)
@@ -874,7 +935,7 @@ class Machine:
     def shape(self, session, name):
         if name not in self.queries:
             return session.say(NO_QUERY)
-        session.say(b"flat" if self.queries[name].flat() else b"linear")
+        session.say(self.queries[name].shape())
 
     def quit(self, session):
         session.end("quit", b"bye")

@@ -66,7 +66,7 @@ def run_page(name, program, behind=lambda client: None):
 
 def test_recipes(program):
     ran = run_page("RECIPES.md", program)
-    assert ran == {"djq": 0, "python": 16}, ran
+    assert ran == {"djq": 0, "python": 17}, ran
 
 
 def test_queries(program):
@@ -75,7 +75,7 @@ def test_queries(program):
         assert client.snapshot("helped_too") == client.snapshot("limits_of") != set()
 
     ran = run_page("QUERIES.md", program, helper_is_in_step)
-    assert ran == {"djq": 10, "python": 1}, ran
+    assert ran == {"djq": 11, "python": 1}, ran
 
 
 # The three rules of QUERIES.md, tried out

@@ -1103,7 +1103,7 @@ def what_isnt_for_a_batch_is_refused_in_its_order():
                (b"batch", [b"ok batch"])]
     for line in [b"rel s int", b"rel r int", b"del r 1", b"del r " + past, b"query p(x) <- r(x)", b"query p(x) <- r(%s,x)" % past,
                  b"drop q", b"drop z", b"open d q", b"next c 1", b"next z 1", b"close c", b"has q 1", b"has q " + past, b"watch q",
-                 b"unwatch q", b"explain q", b"shape q", b"batch"]:
+                 b"unwatch q", b"explain q", b"shape q", b"union u q q", b"batch"]:
         session.append((line, [b"err 18 batch"]))
     for line in [b"rel r bool", b"del r", b"batch 1", b"done 1", b"abandon r", b"next c 0", b"add", b"add r", b"nothing"]:
         session.append((line, [b"err 1 syntax"]))
@@ -1213,6 +1213,294 @@ def deltas_of_batches_add_up_to_a_fresh_listing():
                     expect(following.answers[text[:1]], brute(head, atoms, rows), text)
         for text, head, atoms in JOINS:
             expect(listed(changer, b"k", text[:1]), brute(head, atoms, rows), text)
+
+
+# Unions
+
+
+UNION = [
+    (b"rel r int", [b"ok"]),
+    (b"rel s int", [b"ok"]),
+    (b"query a(x) <- r(x)", [b"ok query 3"]),
+    (b"query b(x) <- s(x)", [b"ok query 3"]),
+    (b"union u a b", [b"ok union 8"]),
+    (b"watch u", [b"ok watch 0"]),
+    (b"add r 1", [b"+ u 1", b"at u 1", b"ok added 1 1"]),
+    (b"add s 1", [b"at u 2", b"ok added 2 1"]),
+    (b"has u 1", [b"yes"]),
+    (b"has u 2", [b"no"]),
+    (b"open c u", [b"ok open"]),
+    (b"next c 9", [b"= 1", b"end"]),
+    (b"next c 9", [b"end"]),
+    (b"add s 2", [b"+ u 2", b"at u 3", b"ok added 3 1"]),
+    (b"next c 9", [b"stale c s 3"]),
+    (b"add s 2", [b"ok added 3 2"]),
+    (b"del r 1", [b"at u 4", b"ok removed 4 0"]),
+    (b"del s 1", [b"- u 1", b"at u 5", b"ok removed 5 0"]),
+    (b"next c 9", [b"stale c s 3"]),
+    (b"close c", [b"ok"]),
+    (b"open c u", [b"ok open"]),
+    (b"next c 1", [b"= 2", b"end"]),
+    (b"explain u", [b"m a", b"m b", b"end"]),
+    (b"shape u", [b"union"]),
+    (b"shape a", [b"flat"]),
+    (b"drop a", [b"err 14 in use"]),
+    (b"union v a", [b"err 1 syntax"]),
+    (b"union u a b", [b"err 2 taken"]),
+    (b"union v a z", [b"err 4 no query"]),
+    (b"union v a a", [b"err 17 member"]),
+    (b"union v a u", [b"err 17 member"]),
+]
+
+
+@test
+def a_union_is_listed_told_and_asked_as_a_query():
+    expect_session(UNION)
+
+
+@test
+def answers_of_several_members_are_listed_once():
+    lines = [b"rel r int", b"rel s int", b"query a(x) <- r(x)", b"query b(x) <- s(x)", b"union u a b", b"union w b a"]
+    lines += [b"add r %d" % at for at in range(2000)] + [b"add s %d" % at for at in range(1000, 3000)]
+    fill = len(lines)
+    lines += [b"open c u"] + [b"next c 1000"] * 4
+    lines += [b"open d w", b"next d 999", b"next d 1000", b"next d 1000", b"next d 2"]
+    output, status = run(texts_of_lines(lines))
+    replies = output.splitlines()[fill:]
+    ends = [at for at, reply in enumerate(replies) if not reply.startswith(b"= ")]
+    want = [b"ok open", b"more", b"more", b"end", b"end", b"ok open", b"more", b"more", b"more", b"end"]
+    expect(([replies[at] for at in ends], status), (want, 0))
+    expect([ends[at + 1] - ends[at] - 1 for at in range(9)], [1000, 1000, 1000, 0, 0, 999, 1000, 1000, 1])
+    for told in (replies[:ends[4]], replies[ends[5]:]):
+        expect(sorted(int(reply[2:]) for reply in told if reply.startswith(b"= ")), list(range(3000)))
+
+
+@test
+def a_union_is_refused_in_its_order():
+    session = [(b"rel r int", [b"ok"]), (b"rel s int int", [b"ok"]), (b"rel t text", [b"ok"])]
+    session += [(b"query q%d(x) <- r(x), x > %d" % (at, at), [b"ok query 3"]) for at in range(9)]
+    session += [(b"query p(x,y) <- s(x,y)", [b"ok query 5"]), (b"query t(x) <- t(x)", [b"ok query 3"]),
+                (b"query n() <- r(_)", [b"ok query 1"]), (b"query m() <- s(_,_), t(_)", [b"ok query 1"])]
+    for line in [b"union", b"union v", b"union v q0", b"union v q0 1", b"union v q0,q1", b"union v(q0,q1)",
+                 b"union 1 q0 q1", b"union V q0 q1", b"union v q0 Q1", b'union v q0 "q1"', b"union v q0 _",
+                 b"union v q0 q1 <- q2", b"union " + b"v" * 33 + b" q0 q1", b"union v q0 " + b"q" * 33,
+                 b"union\tv q0 q1"]:
+        session.append((line, [b"err 1 syntax"]))
+    eight = b" ".join(b"q%d" % at for at in range(8))
+    session += [
+        (b"union q0 z z", [b"err 2 taken"]),
+        (b"union v z z", [b"err 4 no query"]),
+        (b"union v q0 q0 z", [b"err 4 no query"]),
+        (b"union v q0 p t z", [b"err 4 no query"]),
+        (b"union v q0 q1 v", [b"err 4 no query"]),  # no union is its own member
+        (b"union v q0 q0", [b"err 17 member"]),
+        (b"union v q0 p", [b"err 17 member"]),  # of another length
+        (b"union v q0 t", [b"err 17 member"]),  # of another type
+        (b"union v q0 n", [b"err 17 member"]),
+        (b"union v " + eight + b" q8 p", [b"err 17 member"]),
+        (b"union v " + eight + b" q8 q0", [b"err 17 member"]),
+        (b"union v " + eight + b" q8", [b"err 11 limit"]),
+        (b"  union   v  " + eight + b"  ", [b"ok union 80"]),
+        (b"union w q0 v", [b"err 17 member"]),
+        (b"union w v q0 q1", [b"err 17 member"]),
+        (b"union v q0 q1", [b"err 2 taken"]),
+        (b"query v(x) <- r(x)", [b"err 2 taken"]),
+        (b"union union q1 q0", [b"ok union 8"]),  # no word is reserved
+        (b"union r q8 q0", [b"ok union 8"]),  # names of relations are apart
+        (b"union w n m", [b"ok union 5"]),
+        (b"add r 8", [b"ok added 1 1"]),
+        (b"open c w", [b"ok open"]),
+        (b"next c 9", [b"=", b"end"]),
+        (b"has w", [b"yes"]),
+        (b"has w 1", [b"err 6 arity"]),
+        (b"has v", [b"err 6 arity"]),
+        (b'has v "a"', [b"err 7 type"]),
+        (b"has v 9223372036854775808", [b"err 7 type"]),
+        (b"has v 8", [b"yes"]),
+        (b"has r 8", [b"yes"]),
+        (b"has r 9", [b"no"]),
+        (b"batch", [b"ok batch"]),
+        (b"union x q0 q1", [b"err 18 batch"]),
+        (b"union x q0", [b"err 1 syntax"]),
+        (b"done", [b"ok done 1 0"]),
+        (b"union x q0 q1", [b"ok union 8"]),
+    ]
+    expect_session(session)
+
+
+@test
+def unions_and_queries_are_256_together():
+    lines = [b"rel r int"] + [b"query q%d(x) <- r(x)" % at for at in range(250)]
+    replies = [b"ok"] + [b"ok query 3"] * 250
+    lines += [b"union u%d q%d q%d" % (at, at, at + 1) for at in range(8)]
+    lines += [b"query q250(x) <- r(x)", b"query q0(x) <- r(x)"]
+    replies += [b"ok union 8"] * 6 + [b"err 11 limit"] * 3 + [b"err 2 taken"]
+    lines += [b"union u6 q1 q1", b"drop u0", b"query q250(x) <- r(x)", b"union u0 q0 q1", b"drop q0", b"union u6 q1 q2"]
+    replies += [b"err 17 member", b"ok", b"ok query 3", b"err 11 limit", b"ok", b"ok union 8"]
+    expect_run(texts_of_lines(lines), texts_of_lines(replies))
+
+
+@test
+def a_member_stays_as_long_as_a_union_has_it():
+    schedule = (b"open 1\nopen 2\nopen 3\nsay 1 rel r int\nsay 1 query a(x) <- r(x)\nsay 1 query b(x) <- r(x), x > 5\n"
+                b"say 1 query c(x) <- r(x), x < 9\nsay 1 union u a b\nsay 1 union v b c a\nsay 2 drop a\nsay 2 drop c\n"
+                b"say 2 watch u\nsay 3 open k v\nsay 1 drop u\nsay 1 drop v\nsay 2 unwatch u\nsay 1 drop u\n"
+                b"say 1 drop a\nsay 1 add r 7\nsay 3 next k 1\nsay 1 drop v\nend 3\n"
+                b"say 1 drop v\nsay 1 drop b\nsay 1 drop a\n"
+                b"say 2 unwatch u\nsay 1 union u a c\nsay 1 query a(x) <- r(x)\nsay 1 union u a c\nsay 2 open k u\n"
+                b"say 2 next k 9\n")
+    told = (b"1< ok\n1< ok query 3\n1< ok query 3\n1< ok query 3\n1< ok union 8\n1< ok union 15\n2< err 14 in use\n"
+            b"2< err 14 in use\n2< ok watch 0\n3< ok open\n1< err 14 in use\n1< err 14 in use\n2< ok\n1< ok\n"
+            b"1< err 14 in use\n1< ok added 1 1\n3< stale k r 1\n1< err 14 in use\n1< ok\n1< ok\n1< ok\n"
+            b"2< err 4 no query\n1< err 4 no query\n1< ok query 3\n1< ok union 8\n2< ok open\n2< = 7\n2< end\n")
+    expect(run(schedule, ("replay",)), (told, 0))
+
+
+@test
+def members_answers_are_compared_in_the_order_of_their_heads():
+    session = [
+        (b"rel r int text", [b"ok"]),
+        (b"rel s text int", [b"ok"]),
+        (b"query a(n,t) <- r(n,t)", [b"ok query 5"]),
+        (b"query b(n,t) <- s(t,n)", [b"ok query 5"]),
+        (b'query c(n,t) <- s(t,m), r(n,_), t != "x", m >= 0', [b"ok query 5"]),
+        (b"union u b c a", [b"ok union 23"]),
+        (b"watch u", [b"ok watch 0"]),
+        (b'add r 1 "one"', [b'+ u 1 "one"', b"at u 1", b"ok added 1 1"]),
+        (b'add s "one" 1', [b"at u 2", b"ok added 2 1"]),
+        (b'add s "x" 1', [b'+ u 1 "x"', b"at u 3", b"ok added 3 1"]),
+        (b'has u 1 "x"', [b"yes"]),
+        (b'has u 1 "nobody said this"', [b"no"]),
+        (b'has u "x" 1', [b"err 7 type"]),
+        (b'del r 1 "one"', [b"at u 4", b"ok removed 4 0"]),
+        (b'del s "x" 1', [b'- u 1 "x"', b"at u 5", b"ok removed 5 0"]),
+        (b"open k u", [b"ok open"]),
+        (b"next k 9", [b'= 1 "one"', b"end"]),
+    ]
+    expect_session(session)
+    output, status = run(lines_of(session) + b'add r 2 "two"\ndel s "one" 1\n')
+    told = output[len(replies_of(session)):].splitlines()
+    told[:2], told[4:6] = sorted(told[:2]), sorted(told[4:6])
+    want = [b'+ u 2 "one"', b'+ u 2 "two"', b"at u 6", b"ok added 6 1",
+            b'- u 1 "one"', b'- u 2 "one"', b"at u 7", b"ok removed 7 0"]
+    expect((told, status), (want, 0))
+
+
+@test
+def a_batch_below_members_is_one_delta_of_their_union():
+    expect_session([
+        (b"rel r int", [b"ok"]),
+        (b"rel s int", [b"ok"]),
+        (b"rel t int", [b"ok"]),
+        (b"query a(x) <- r(x), t(_)", [b"ok query 3"]),
+        (b"query b(x) <- s(x)", [b"ok query 3"]),
+        (b"union u b a", [b"ok union 9"]),
+        (b"watch u", [b"ok watch 0"]),
+        (b"watch b", [b"ok watch 0"]),
+        (b"open c u", [b"ok open"]),
+        (b"open d a", [b"ok open"]),
+        (b"batch", [b"ok batch"]),
+        (b"add r 5", [b"ok held 1"]),
+        (b"explain u", [b"err 18 batch"]),
+        (b"add s 5", [b"ok held 2"]),
+        (b"add t 0", [b"ok held 3"]),
+        (b"done", [b"+ b 5", b"at b 1", b"+ u 5", b"at u 1", b"ok done 1 3"]),
+        (b"next c 1", [b"stale c r 1"]),
+        (b"next d 1", [b"stale d r 1"]),
+        (b"close c", [b"ok"]),
+        (b"open c u", [b"ok open"]),
+        (b"batch", [b"ok batch"]),
+        (b"add r 5", [b"ok held 1"]),
+        (b"add t 1", [b"ok held 2"]),
+        (b"add s 5", [b"ok held 3"]),
+        (b"done", [b"at u 2", b"ok done 2 1"]),
+        (b"next c 1", [b"stale c t 2"]),
+        (b"batch", [b"ok batch"]),
+        (b"add s 5", [b"ok held 1"]),
+        (b"add r 5", [b"ok held 2"]),
+        (b"done", [b"ok done 2 0"]),
+        (b"del t 0", [b"at u 3", b"ok removed 3 0"]),
+        (b"del s 5", [b"ok removed 3 2"]),
+        (b"del t 1", [b"at u 4", b"ok removed 4 0"]),
+        (b"del s 5", [b"ok removed 4 1"]),
+        (b"del s 5", [b"- b 5", b"at b 5", b"- u 5", b"at u 5", b"ok removed 5 0"]),
+    ])
+
+
+@test
+def deltas_go_by_registration_of_queries_and_unions():
+    schedule = (b"open 1\nopen 2\nsay 1 rel r int\nsay 1 query z(x) <- r(x)\nsay 1 query y(x) <- r(x), x > 0\n"
+                b"say 1 union m z y\nsay 1 query b(x) <- r(x), x < 9\nsay 1 union a y b\nsay 2 watch a\nsay 2 watch b\n"
+                b"say 2 watch z\nsay 2 watch m\nsay 1 watch a\nsay 1 add r 5\nsay 1 del r 5\nsay 2 unwatch m\n"
+                b"say 1 drop m\nsay 1 union m y z\nsay 2 watch m\nsay 1 add r 9\n")
+    told = (b"1< ok\n1< ok query 3\n1< ok query 3\n1< ok union 8\n1< ok query 3\n1< ok union 8\n2< ok watch 0\n"
+            b"2< ok watch 0\n2< ok watch 0\n2< ok watch 0\n1< ok watch 0\n"
+            b"1< + a 5\n1< at a 1\n1< ok added 1 1\n"
+            b"2< + z 5\n2< at z 1\n2< + m 5\n2< at m 1\n2< + b 5\n2< at b 1\n2< + a 5\n2< at a 1\n"
+            b"1< - a 5\n1< at a 2\n1< ok removed 2 0\n"
+            b"2< - z 5\n2< at z 2\n2< - m 5\n2< at m 2\n2< - b 5\n2< at b 2\n2< - a 5\n2< at a 2\n"
+            b"2< ok\n1< ok\n1< ok union 8\n2< ok watch 2\n"
+            b"1< + a 9\n1< at a 3\n1< ok added 3 1\n"
+            b"2< + z 9\n2< at z 3\n2< at b 3\n2< + a 9\n2< at a 3\n2< + m 9\n2< at m 3\n")
+    expect(run(schedule, ("replay",)), (told, 0))
+
+
+MEMBERS = [
+    (b"a(x,y) <- r(x,y)", "xy", [("r", "xy")]),
+    (b"b(x,y) <- s(y,x)", "xy", [("s", "yx")]),
+    (b"c(x,y) <- r(x,z), s(z,_), t(y)", "xy", [("r", "xz"), ("s", "z_"), ("t", "y")]),
+    (b"d(y,x) <- r(x,y), r(y,_)", "yx", [("r", "xy"), ("r", "y_")]),
+]
+# in the order in which they are registered, between the members
+UNIONS = [(b"u", b"ab", 12), (b"v", b"bcda", 41), (b"w", b"dc", 15)]
+
+
+def answers_by_brute_force(rows):
+    """Of each member and each union its answers."""
+    answers = {text[:1]: brute(head, atoms, rows) for text, head, atoms in MEMBERS}
+    for name, members, _ in UNIONS:
+        answers[name] = set().union(*(answers[bytes([member])] for member in members))
+    return answers
+
+
+@test
+def unions_are_listed_told_and_asked_as_by_brute_force():
+    chance = random.Random(16)
+    rows = {"r": {}, "s": {}, "t": {}}
+    reads = {text[:1]: {relation for relation, _ in atoms} for text, _, atoms in MEMBERS}
+    reads.update({name: set().union(*(reads[bytes([member])] for member in members)) for name, members, _ in UNIONS})
+    seq, shared = 0, 0
+    with Serving() as serving:
+        changer, following = serving.client(), Following(serving.client())
+        changer.ask(b"rel r int int\nrel s int int\nrel t int", b"ok", b"ok", b"ok")
+        for text, _, _ in MEMBERS:
+            changer.ask(b"query " + text, b"ok query 5")
+        for name, members, most in UNIONS:
+            said = b" ".join(bytes([member]) for member in members)
+            changer.ask(b"union %s %s" % (name, said), b"ok union %d" % most)
+        for name in reads:
+            following.client.ask(b"watch " + name, b"ok watch 0")
+            following.answers[name] = set()
+        for turn in range(600):
+            if chance.random() < 0.2:
+                changed, came = put_batch(changer, chance, rows, 4)
+                seq += came > 0
+                expect(changer.line(), b"ok done %d %d" % (seq, came))
+            else:
+                relation, is_change, said = change_row(changer, chance, rows, 4)
+                seq, changed = seq + is_change, {relation} if is_change else set()
+                expect(changer.line(), said % seq)
+            answers = answers_by_brute_force(rows)
+            shared += len(answers[b"a"] & answers[b"b"])
+            for name in reads:
+                if changed & reads[name]:
+                    following.take(name, seq)
+                expect(following.answers[name], answers[name], name)
+            name, answer = chance.choice(UNIONS)[0], (chance.randrange(4), chance.randrange(4))
+            changer.ask(b"has %s %d %d" % (name, *answer), b"yes" if answer in answers[name] else b"no")
+            if turn % 5 == 0:
+                expect(listed(changer, b"k", name), answers[name], name)
+    expect(shared > 100, True, "answers that two members share")
 
 
 def read_answer(text):

@@ -32,7 +32,7 @@ PATIENCE = 60
 ENOUGH = 5
 
 RELATIONS = [b"r", b"s", b"t", b"u", b"k", b"int"]
-QUERIES = [b"q", b"p", b"w", b"r", b"query", b"q_1", b"zz", b"f", b"g", b"h"]
+QUERIES = [b"q", b"p", b"w", b"r", b"query", b"q_1", b"zz", b"f", b"g", b"h", b"u", b"uu", b"union", b"v", b"m_", b"n1"]
 CURSORS = [b"c", b"d", b"e", b"q", b"next"] + [b"c%d" % at for at in range(15)]
 VARIABLES = [b"x", b"y", b"z", b"v", b"w", b"a", b"b", b"r"]
 TEXTS = [b'""', b'"a"', b'"b\\"\\\\\\n"', b'"\xc3\xa9 _"', b'"' + b"l" * 255 + b'"']
@@ -65,7 +65,8 @@ class World:
         self.changes = chance.choice([10, 40, 80]) if self.values < 30 else 300
         # how many lines of a hundred are near the grammar, and not in it
         self.near = chance.choice([2, 5, 5, 5, 40])
-        self.relations, self.heads = {}, {}
+        # for each query and each union the types of its answers, and for each union its members
+        self.relations, self.heads, self.unions = {}, {}, {}
 
 
 class Author:
@@ -74,10 +75,11 @@ class Author:
     def __init__(self, chance, world=None):
         self.chance, self.world = chance, world or World(chance)
         self.relations, self.heads, self.cursors, self.planned = self.world.relations, self.world.heads, {}, []
+        self.unions = self.world.unions
         self.kinds = [self.rel] + [self.row] * self.world.changes + [self.copies] * (self.world.changes // 10)
         self.kinds += [self.batch] * (2 + self.world.changes // 20) + [self.query] * 14 + [self.open] * 6
         self.kinds += [self.listing] * 8 + [self.next] * 12 + [self.close] * 6 + [self.has] * 7 + [self.watch] * 6
-        self.kinds += [self.explain] * 2 + [self.shape] * 4 + [self.drop] * 8
+        self.kinds += [self.explain] * 2 + [self.shape] * 4 + [self.drop] * 8 + [self.union] * 12
 
     def one(self, known, names):
         """Mostly a name that was given, at times any name."""
@@ -245,6 +247,44 @@ class Author:
             comparisons = [self.comparison(first[of], kinds[of]) for _ in range(many)]
         return self.said_query(self.free(self.heads, QUERIES), head, atoms, comparisons)
 
+    def union(self):
+        """A union of queries that were named, mostly of some whose answers are of the same types."""
+        if self.chance.random() < 0.03:
+            return self.large_union()
+        name, first = self.free(self.heads, QUERIES), self.one(self.heads, QUERIES)
+        alike = [query for query, types in self.heads.items()
+                 if types == self.heads.get(first) and query not in self.unions]
+        self.chance.shuffle(alike)
+        members = alike[:self.chance.choice([2, 2, 2, 3, 3, 4, 8])]
+        # of a member that doesn't suit the others, stands twice or is a union there are less
+        while len(members) < 2 or self.chance.random() < 0.07:
+            members.insert(self.chance.randrange(len(members) + 1), self.one(self.heads, QUERIES))
+        said = self.said_union(name, members[1:] if self.chance.random() < 0.02 else members)
+        if self.chance.random() < 0.5:
+            return said
+        # what was there of this name, and isn't known here any more, goes first
+        self.planned = [said]
+        return b"drop " + name
+
+    def large_union(self):
+        """Queries over one relation, and a union of as many of them as it may have, or of one more; it is listed, and
+        all of them are dropped."""
+        relation = self.one(self.relations, RELATIONS)
+        kinds = self.relations.get(relation, [b"int"])
+        atom = relation, [b"x"] + [b"_"] * (len(kinds) - 1)
+        members = [b"l%d" % at for at in range(model.MOST_MEMBERS + self.chance.choice([0, 0, 1]))]
+        queries = [self.said_query(member, [b"x"], [atom], self.comparisons({b"x": kinds[0]})) for member in members]
+        self.chance.shuffle(members)
+        union = [b"drop lu", b"close c", b"next c 1000", b"open c lu", b" ".join([b"union lu", *members])]
+        self.planned = [b"drop " + member for member in members] + union + queries
+        return self.planned.pop()
+
+    def said_union(self, name, members):
+        types = {str(self.heads.get(member)) for member in members}
+        if name not in self.heads and len(types) == 1 and len(members) > 1 and members[0] in self.heads:
+            self.heads[name], self.unions[name] = self.heads[members[0]], members
+        return b" ".join([b"union", name, *members])
+
     def open(self):
         cursor, query = self.free(self.cursors, CURSORS), self.one(self.heads, QUERIES)
         self.cursors.setdefault(cursor, query)
@@ -280,11 +320,22 @@ class Author:
         return b"shape " + self.one(self.heads, QUERIES)
 
     def drop(self):
+        """A query is dropped, mostly once nothing of this session is on it and no union has it."""
         name = self.one(self.heads, QUERIES)
-        if self.chance.random() < 0.5:
-            self.planned = [b"drop " + name, b"unwatch " + name]
-        self.heads.pop(name, None)
-        return b"drop " + name
+        going = [name]
+        if self.chance.random() < 0.7:
+            going += [union for union, members in self.unions.items() if name in members]
+        self.planned = []
+        for query in going:
+            self.planned.append(b"drop " + query)
+            if self.chance.random() < 0.7:
+                held = [cursor for cursor, opened in self.cursors.items() if opened == query]
+                self.planned += [b"unwatch " + query] + [b"close " + cursor for cursor in held]
+                for cursor in held:
+                    del self.cursors[cursor]
+            self.heads.pop(query, None)
+            self.unions.pop(query, None)
+        return self.planned.pop()
 
     def line(self):
         odd = self.chance.random() * 100
@@ -395,7 +446,8 @@ def flood_stream(chance):
     """Long answers to sessions that take nothing for a while, or at once: some find too much pending."""
     wide = b" ".join([b'"' + chance.choice([b"a", b"b"]) * 255 + b'"'] * 4)
     start = [b"rel t text text text text", b"rel r int", b"add t " + wide,
-             b"query f(a,b,c,d,x,y,z) <- t(a,b,c,d), r(x), r(y), r(z)", b"query p(x) <- r(x), t(_,_,_,_)"]
+             b"query f(a,b,c,d,x,y,z) <- t(a,b,c,d), r(x), r(y), r(z)", b"query p(x) <- r(x), t(_,_,_,_)",
+             b"query h(a,b,c,d,x,y,z) <- t(a,b,c,d), r(z), r(y), r(x), y > 3", b"union g f h"]
     if chance.random() < 0.3:
         # one session, whose own deltas are too long
         start += [b"query w(a) <- t(a,_,_,_)", b"watch f", b"watch w", b"del t " + wide]
@@ -407,7 +459,8 @@ def flood_stream(chance):
         number = chance.randrange(1, 4)
         said = [chance.choice([b"add r %d", b"add r %d", b"add r %d", b"del r %d", b"has p %d"]) % chance.randrange(10)]
         if chance.random() < 0.3:
-            said = [chance.choice([b"watch f", b"watch p", b"unwatch f", b"open c f", b"close c"] + [b"next c 1000"] * 2)]
+            words = [b"watch f", b"watch g", b"watch p", b"unwatch f", b"open c f", b"open c g", b"close c"]
+            said = [chance.choice(words + [b"next c 1000"] * 2)]
         elif chance.random() < 0.1:
             held = [b"add r %d" % chance.randrange(10) for _ in range(chance.randrange(6))]
             said = [b"batch", *held, b"done"]
@@ -517,12 +570,12 @@ def check_model(chance):
         for _ in machine.feed(session, text):
             pass
         for query in machine.queries.values():
-            if len(query.variables) <= 6:
+            if all(len(one.variables) <= 6 for one in query.members or [query]):
                 domain = {value for relation in machine.relations.values() for row in relation.rows for value in row}
                 wanted = query.by_definition(machine.relations, sorted(domain, key=repr)[:5])
                 got = query.computed(machine.relations)
                 if len(domain) <= 5 and got != wanted:
-                    raise SystemExit("the model is wrong: " + repr(query.atoms))
+                    raise SystemExit("the model is wrong: " + repr([one.atoms for one in query.members or [query]]))
 
 
 # ---------------------------------------------------------------- the driver

@@ -125,6 +125,27 @@ unwatch q
 shape q
 shape z
 explain q
+query p(x) <- r(x,_)
+query t(x) <- r(x,"b")
+union u p t
+union u p t
+union v p
+union v p p
+union v p q
+union v p none
+explain u
+shape u
+watch u
+add r 2 "c"
+add r 5 "b"
+has u 5
+open c u
+del r 5 "b"
+next c 9
+close c
+drop p
+unwatch u
+drop u
 drop q
 done
 batch
@@ -152,6 +173,7 @@ def a_filter_writes_what_the_program_does(program):
     assert "err 18 batch: no batch is open (sent: done)" in told, told
     assert 'err 18 batch: a batch is open (sent: has q 4 "d")' in told, told
     assert told.startswith("djq-shell: line 2: err 2 taken"), told
+    assert "err 17 member: p stands twice (sent: union v p p)" in told, told
     assert "djq-shell: line 7: err 6 arity: 1 values were given, and r has 2 columns" in told, told
 
 
@@ -306,6 +328,7 @@ def a_tree_is_drawn_with_its_root_on_top(program):
     drawn = [re.split(" {3,}", line.lstrip())[0] for line in tree(lines)]
     expect(drawn, ["4 trim", "└── 3 meet  y", "├── 1 leaf s  y", "└── 2 trim  y", "└── 0 leaf r  x,y"])
     expect([line[:4] for line in tree(lines)], ["4 tr", "└── ", "    ", "    ", "    "])
+    expect(tree(["m a", "m b", "m c"]), ["union of", "├── a", "├── b", "└── c"])
     assert tree(["n 0 leaf r x,y", "n 1 trim 0 x out", "n 2 trim 1 - out"])[2].strip().startswith("└── (0 leaf r  x,y)")
 
 
@@ -552,6 +575,12 @@ def commands_are_typed(program):
         shell.runs("open c q", "ok open")
         assert "number" in shell.runs("next c 5", "2 answers, and these are the last")
         assert "└── 0 leaf r  number,name" in shell.runs("\\explain q", "1 trim")
+        shell.runs("query one(number,name) <- r(number,name), number = 1", "ok query 5")
+        shell.runs("union u one q", "ok union 12")
+        assert "number" in shell.runs("\\show u", "2 answers, and these are the last")
+        for line in ("explain u", "\\explain u"):
+            assert "├── one\n" in shell.runs(line, "union of").replace("\n\n", "\n")
+        shell.runs("\\names", "union u one q")
         shell.runs("\\timing", "timing is on")
         assert re.search(r"\n[0-9.]+ ms", shell.runs("has q 1 \"one\"", "yes"))
         shell.runs("\\timing", "timing is off")
@@ -598,6 +627,22 @@ def refusals_say_what_to_do(program):
             shown = shell.runs(line, refusal)
             assert advice in shown, (line, shown)
         shell.runs("query q(x) <- r(x,_)", "ok query 3")
+        shell.runs("query p(x) <- s(x,_)", "ok query 3")
+        shell.runs("query t(x) <- s(_,x)", "ok query 3")
+        shell.runs("union u p q", "ok union 8")
+        for line, refusal, advice in (
+            ("union v p", "err 1 syntax", "union NAME QUERY QUERY"),
+            ("union u p q", "err 2 taken", "drop u first"),
+            ("union v p qq", "err 4 no query", "did you mean q?"),
+            ("union v p p", "err 17 member: p stands twice", "name p once"),
+            ("union v p u", "err 17 member", "u is a union itself: name its members, p q"),
+            ("union v p t", "err 17 member", "as many variables, of the same types in order: p(x), t(x)"),
+            ("union v a b c d e f g h i", "err 4 no query", "register it: query a"),
+            ("drop q", "err 14 in use", "drop u first"),
+        ):
+            shown = shell.runs(line, refusal)
+            assert advice in shown, (line, shown)
+        shell.runs("drop u", "ok")
         shell.runs("open c q", "ok open")
         shell.runs("watch q", "ok watch 0")
         assert "close c, unwatch q first" in shell.runs("drop q", "err 14 in use")
@@ -686,6 +731,9 @@ def lines_are_pasted_completed_and_remembered(program):
             shell.runs("", "0 answers")
             shell.completes("query other(x) <- na")
             shell.runs("(x,_)", "ok query 3")
+            # of a union queries alone are members, each once
+            shell.completes("union both joined o")
+            shell.runs("", "err 17 member")
             # typed over several lines
             shell.types("query third(x) <-\r")
             shell.waits("...>", behind)

@@ -21,13 +21,13 @@ sys.dont_write_bytecode = True
 
 PATIENCE = 20
 STOPPED = 99
-PARTS = (0, 2, 4)  # quarters of a write at which it is stopped
+PARTS = (0, 1, 2, 3, 4)  # quarters of a write at which it is stopped
 SEEDS = range(8)  # ways to lose what wasn't synced, the first of which loses nothing
 MOST_CALLS = 200
 TESTS = []
 
-BEGIN = [b"rel r int int", b"query q(x,y) <- r(x,y)", b"add r 9 9"]
-ASK = [b"open c q", b"next c 1000", b"watch q"]
+BEGIN = [b"rel r int int", b"query q(x,y) <- r(x,y)", b"query p(x,y) <- r(y,x)", b"add r 9 9"]
+ASK = [b"open c q", b"next c 1000", b"explain u", b"watch q"]
 
 
 def test(function):
@@ -54,11 +54,12 @@ def compiled(folder):
 
 
 def state_of(log):
-    """The answers and the number of changes that a file gives."""
+    """The answers, the members of a union and the number of changes that a file gives."""
     told, status = replay(log, ASK)
     if status != 0:
         raise AssertionError(f"the file that is left doesn't load: status {status}")
-    return tuple(sorted(line for line in told if line.startswith(b"= "))), told[-1]
+    members = [line for line in told if line.startswith(b"m ")]
+    return (*sorted(line for line in told if line.startswith(b"= ")), *members), told[-1]
 
 
 def each_stop(groups):
@@ -104,8 +105,18 @@ def lines_that_are_kept_one_by_one():
 
 
 @test
+def unions_that_are_kept():
+    each_stop([[b"union u q p"], [b"add r 1 2"], [b"drop u"], [b"union u p q"]])
+
+
+@test
 def a_batch_of_two_rows_is_left_whole_or_not_at_all():
     each_stop([[b"batch", b"add r 1 2", b"add r 2 3", b"done"]])
+
+
+@test
+def a_batch_in_several_writes_is_left_whole_or_not_at_all():
+    each_stop([[b"batch", *(b"add r %d 2" % row + b" " * 3000 for row in range(12)), b"done"]])
 
 
 @test

@@ -225,6 +225,24 @@ def rows_of_another_session_come_and_go(program):
 
 
 @test
+def a_union_is_shown_as_a_query(program):
+    with Server(program) as server, fill(server, (1, "one")) as client:
+        client.query("large(k,t) <- r(k,t), k > 5")
+        client.query("named(k,t) <- r(k,t), t != \"one\"")
+        client.union("either", "large", "named")
+        with Web(server, PAGE.replace('"rows"', '"either"')) as web, Events(web.live()) as events:
+            events.until(lambda views: len(views) == 6)
+            expect((events.rows(), events.views["1"]["lines"][0]["count"]), ([], 0))
+            client.add("r", 9, "nine")  # an answer of both
+            events.until(lambda views: events.rows() == [("9", "nine")] and views["1"]["lines"][0]["count"] == 1)
+            expect((events.views["0"]["columns"], events.views["2"]["cells"]), (["key", "<u>text</u>"], ["9", "nine"]))
+            client.add("r", 6, "one")
+            events.until(lambda views: events.rows() == [("6", "one"), ("9", "nine")])
+            client.delete("r", 9, "nine")
+            events.until(lambda views: events.rows() == [("6", "one")] and views["1"]["lines"][0]["count"] == 1)
+
+
+@test
 def changes_come_within_a_tenth_of_a_second(program):
     with shown(program) as (client, web), Events(web) as events:
         events.until(lambda views: "0" in views)

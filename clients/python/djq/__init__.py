@@ -11,6 +11,12 @@
             for change in live.changes():           # blocks until rows change
                 print(change.seq, change.came, change.went)
 
+Where one of several queries is enough, their union is told as one query, an answer of several of them once:
+
+    server.query("hot(x) <- reading(x,y), y >= 80")
+    server.query("shut(x) <- closed(x)")
+    server.union("alarm", "hot", "shut")
+
 A row has copies: each `add` brings one, each `delete` takes one, and only the first that comes and the last that goes
 change what is answered. Rows that belong together come by a batch, all at once or none of them:
 
@@ -30,21 +36,21 @@ Inside, `protocol` knows the lines and no socket: what a command sends, which re
 from .connection import Batch, Connection, Cursor, Pipeline, connect
 from .errors import (
     REFUSALS, Arity, BadName, ComparisonUnbound, Cyclic, Disconnected, Ended, Error, HeadRepeated, HeadUnbound, InUse,
-    LimitReached, Misplaced, NoCursor, NoQuery, NoRelation, NotFreeConnex, NotWatched, OutOfMemory, Overtaken,
-    Refused, SomeRefused, Stale, Syntax, Taken, TooLong, Unanswered, VariableType, WrongType,
+    LimitReached, MemberRefused, Misplaced, NoCursor, NoQuery, NoRelation, NotFreeConnex, NotWatched, OutOfMemory,
+    Overtaken, Refused, SomeRefused, Stale, Syntax, Taken, TooLong, Unanswered, VariableType, WrongType,
 )  # fmt: skip
 from .live import Live, Lives
 from .protocol import (
-    MOST_ANSWERS, MOST_HELD, Absent, Added, Answer, Change, Done, Page, Pending, Protocol, Removed, Update, Value,
-    read_values, spell,
+    MOST_ANSWERS, MOST_HELD, MOST_MEMBERS, Absent, Added, Answer, Change, Done, Page, Pending, Protocol, Removed,
+    Update, Value, read_values, spell,
 )  # fmt: skip
 from .table import Table
 
 __all__ = [
-    "MOST_ANSWERS", "MOST_HELD", "REFUSALS", "Absent", "Added", "Answer", "Arity", "BadName", "Batch", "Change",
-    "ComparisonUnbound", "Connection", "Cursor", "Cyclic", "Disconnected", "Done", "Ended", "Error", "HeadRepeated",
-    "HeadUnbound", "InUse", "LimitReached", "Live", "Lives", "Misplaced", "NoCursor", "NoQuery", "NoRelation",
-    "NotFreeConnex", "NotWatched", "OutOfMemory", "Overtaken", "Page", "Pending", "Pipeline", "Protocol", "Refused",
-    "Removed", "SomeRefused", "Stale", "Syntax", "Table", "Taken", "TooLong", "Unanswered", "Update", "Value",
-    "VariableType", "WrongType", "connect", "read_values", "spell",
+    "MOST_ANSWERS", "MOST_HELD", "MOST_MEMBERS", "REFUSALS", "Absent", "Added", "Answer", "Arity", "BadName", "Batch",
+    "Change", "ComparisonUnbound", "Connection", "Cursor", "Cyclic", "Disconnected", "Done", "Ended", "Error",
+    "HeadRepeated", "HeadUnbound", "InUse", "LimitReached", "Live", "Lives", "MemberRefused", "Misplaced", "NoCursor",
+    "NoQuery", "NoRelation", "NotFreeConnex", "NotWatched", "OutOfMemory", "Overtaken", "Page", "Pending", "Pipeline",
+    "Protocol", "Refused", "Removed", "SomeRefused", "Stale", "Syntax", "Table", "Taken", "TooLong", "Unanswered",
+    "Update", "Value", "VariableType", "WrongType", "connect", "read_values", "spell",
 ]  # fmt: skip

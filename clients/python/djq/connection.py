@@ -14,7 +14,7 @@ from .batch import Collected
 from .errors import Disconnected, Error, NoCursor, NotWatched, Refused, SomeRefused, Unanswered
 from .listing import WITHIN, Said, list_whole
 from .protocol import FIRST_REFUSALS, MOST_ANSWERS, Added, Answer, Change, Done, Page, Pending, Protocol, Rows, Update
-from .protocol import Value, checked, column_type, fitting, spell, spell_line
+from .protocol import Value, checked, column_type, fitting, spell, spell_line, spell_union
 
 if TYPE_CHECKING:
     from .live import Live, Lives
@@ -93,8 +93,13 @@ class Connection:
         """Registers a query, as `q(x,y) <- r(x,z), s(z,y)`. Gives the most steps that one answer costs."""
         return self._do(fitting(f"query {text}"), protocol.READ_QUERY)
 
+    def union(self, name: str, *members: str) -> int:
+        """Registers the union of two to eight queries, whose answers are of the same types: it has the answers that any
+        of them has, each once, and its name is used as a query's. Gives the most steps that one answer costs."""
+        return self._do(spell_union(name, members), protocol.READ_UNION)
+
     def drop(self, query: str) -> None:
-        """Takes a query out that no cursor and no watch is on."""
+        """Takes a query or a union out that no cursor and no watch is on, and that is no union's member."""
         self._do(spell_line("drop", query), protocol.READ_OK)
 
     def has(self, query: str, *values: Value) -> bool:
@@ -114,11 +119,12 @@ class Connection:
         self._protocol.forget(query)
 
     def explain(self, query: str) -> list[str]:
-        """The query's join tree, a line a node."""
+        """The query's join tree, a line a node; or a union's members, a line `m NAME` each."""
         return self._do(spell_line("explain", query), protocol.read_tree)
 
     def shape(self, query: str) -> str:
-        """`flat` where no change of a row costs the query more as rows grow in number; else `linear`."""
+        """`flat` where no change of a row costs the query more as rows grow in number, else `linear`; `union` of a
+        union, whose members have shapes of their own."""
         return self._do(spell_line("shape", query), protocol.READ_SHAPE)
 
     def cursor(self, query: str) -> Cursor:
@@ -522,6 +528,10 @@ class Pipeline:
     def query(self, text: str) -> Pending[int]:
         """Registers a query."""
         return self._say(fitting(f"query {text}"), protocol.READ_QUERY)
+
+    def union(self, name: str, *members: str) -> Pending[int]:
+        """Registers a union."""
+        return self._say(spell_union(name, members), protocol.READ_UNION)
 
     def _say(self, line: str, read: Callable[[list[str]], T | None]) -> Pending[T]:
         self._connection._pump()

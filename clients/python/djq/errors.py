@@ -149,7 +149,7 @@ class OutOfMemory(Refused):
 
 
 class InUse(Refused):
-    """A cursor or a watch is on the query."""
+    """A cursor or a watch is on the query, or it is a member of a union."""
 
     number = 14
 
@@ -158,6 +158,12 @@ class ComparisonUnbound(Refused):
     """A variable that is compared isn't in an atom."""
 
     number = 16
+
+
+class MemberRefused(Refused):
+    """A member of a union stands twice, is a union itself, or has answers of other types than the others."""
+
+    number = 17
 
 
 class Misplaced(Refused):
@@ -216,6 +222,6 @@ REFUSALS: dict[int, type[Refused]] = {
     kind.number: kind
     for kind in (
         Syntax, Taken, NoRelation, NoQuery, NoCursor, Arity, WrongType, HeadUnbound,
-        HeadRepeated, VariableType, LimitReached, OutOfMemory, InUse, ComparisonUnbound, Misplaced,
+        HeadRepeated, VariableType, LimitReached, OutOfMemory, InUse, ComparisonUnbound, MemberRefused, Misplaced,
     )
 }  # fmt: skip

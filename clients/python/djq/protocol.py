@@ -17,6 +17,7 @@ MOST_ANSWERS = 1000  # that one `next` may ask for
 MOST_LINE = 4096  # bytes of a line
 MOST_TEXT = 255  # bytes of a text
 MOST_HELD = 1000  # rows of a batch
+MOST_MEMBERS = 8  # of a union
 FIRST_REFUSALS = 10  # that are kept of commands that are sent together
 
 
@@ -39,6 +40,11 @@ def spell(value: Value) -> str:
     if isinstance(value, int):
         return str(int(value))
     return '"' + _NEEDS_ESCAPE.sub(lambda found: _ESCAPES[found[0]], value) + '"'
+
+
+def spell_union(name: str, members: tuple[str, ...]) -> str:
+    """The line that registers a union. Raises `BadName` and `TooLong`."""
+    return fitting(" ".join(["union", *map(checked, (name, *members))]))
 
 
 def spell_line(command: str, name: str, values: tuple[Value, ...] = ()) -> str:
@@ -323,6 +329,8 @@ def what_is_wrong(number: int, line: str, columns: dict[str, tuple[str, ...]]) -
     if number == 18:
         return "no batch is open" if command in ("done", "abandon") else "a batch is open"
     name, _, said = rest.partition(" ")
+    if command == "union" and number != 2:
+        return _wrong_members(number, said.split())
     if number == 3 and command in ("add", "del"):
         return f"no relation is named {name}"
     if number == 4 and command != "open":
@@ -339,6 +347,17 @@ def what_is_wrong(number: int, line: str, columns: dict[str, tuple[str, ...]]) -
         return ""
     kinds = columns.get(name) if command != "has" else None
     return _wrong_values(number, name, values, kinds)
+
+
+def _wrong_members(number: int, members: list[str]) -> str:
+    if number == 4:
+        return f"one of these isn't registered: {', '.join(members)}"
+    if number == 11 and len(members) > MOST_MEMBERS:
+        return f"{len(members)} members, and {MOST_MEMBERS} are the most"
+    if number != 17:
+        return ""
+    twice = [name for place, name in enumerate(members) if name in members[:place]]
+    return f"{twice[0]} stands twice" if twice else "one is a union, or their answers aren't of the same types"
 
 
 def _wrong_values(number: int, name: str, values: Answer, kinds: tuple[str, ...] | None) -> str:
@@ -376,9 +395,10 @@ READ_REMOVED: Callable[[list[str]], Update] = reader(
 )
 READ_DONE = reader(ok_done=lambda rest: Done(*map(int, rest.split(" "))))
 READ_HAS = reader(yes=lambda rest: True, no=lambda rest: False)
-READ_SHAPE = reader(flat=lambda rest: "flat", linear=lambda rest: "linear")
+READ_SHAPE = reader(flat=lambda rest: "flat", linear=lambda rest: "linear", union=lambda rest: "union")
 READ_OPEN = reader(ok_open=lambda rest: True)
 READ_QUERY = reader(ok_query=int)
+READ_UNION = reader(ok_union=int)
 READ_WATCH = reader(ok_watch=int)
 READ_BYE = reader(bye=lambda rest: True)
 
@@ -393,7 +413,7 @@ def read_page(lines: list[str]) -> Page | None:
 
 def read_tree(lines: list[str]) -> list[str] | None:
     """Reads the reply to `explain`, once it is whole."""
-    if lines[-1].startswith("n "):
+    if lines[-1].startswith(("n ", "m ")):
         return None
     _one_line(lines[-1], {"end": lambda rest: True})
     return lines[:-1]
@@ -403,7 +423,7 @@ class ReplyCount:
     """How many replies end in bytes that come, without reading what they say."""
 
     # what begins a line that ends no reply, behind the end of the line before
-    _INNER = (b"\n= ", b"\n=\n", b"\n+ ", b"\n- ", b"\nat ", b"\nn ")
+    _INNER = (b"\n= ", b"\n=\n", b"\n+ ", b"\n- ", b"\nat ", b"\nn ", b"\nm ")
 
     def __init__(self, rest: bytes) -> None:
         self.replies = 0

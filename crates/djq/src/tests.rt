@@ -320,6 +320,21 @@ fn batches_come_at_once(rt: HostRuntime) -> Result<(), Fail> {
     Ok(())
 }
 
+/// An answer that two members of a union have is told where the first of them gains it and where the last of
+/// them loses it, and is listed once; and a line that makes no union says why.
+#[test]
+fn a_union_is_told_and_listed_once(rt: HostRuntime) -> Result<(), Fail> {
+    let input =
+        b"rel r int\nrel s int\nquery a(x) <- r(x)\nquery b(x) <- s(x)\nunion u a b\nwatch u\nadd r 1\nadd s 1\nadd s 2\nopen c u\nnext c 9\ndel r 1\ndel s 1\ndrop a\nunion v a\nunion u a b\nunion v a z\nunion v a a\nunion v a u\nexplain u\nshape u\n";
+    let replies =
+        b"ok\nok\nok query 3\nok query 3\nok union 8\nok watch 0\n+ u 1\nat u 1\nok added 1 1\nat u 2\nok added 2 1\n+ u 2\nat u 3\nok added 3 1\nok open\n= 1\n= 2\nend\nat u 4\nok removed 4 0\n- u 1\nat u 5\nok removed 5 0\nerr 14 in use\nerr 1 syntax\nerr 2 taken\nerr 4 no query\nerr 17 member\nerr 17 member\nm a\nm b\nend\nunion\n";
+    let mut source = MemSource::new(input.to_vec(rt.alloc())?, 8192);
+    let mut sink = MemSink::new(rt.alloc());
+    assert_eq!(rt; run_words(&rt, &RUN, &mut source, &mut sink), Status::Done);
+    assert_eq!(rt; sink.taken(), Some(replies.as_slice()));
+    Ok(())
+}
+
 #[test]
 fn a_schedule_is_replayed(rt: HostRuntime) -> Result<(), Fail> {
     let schedule =

@@ -174,7 +174,7 @@ listed_as : (old : Kept) (stopped : Bool) (xs : List OpenSession) (o : Option Ro
     → ListsDeltas (old.store).relations (queries_affected old) o ds → ListsDeltas (old.store).relations (affected (state_in old stopped xs)) o ds
 listed_as old stopped xs None ds sound queries h = h
 listed_as old stopped xs (Some change) ds sound queries h =
-    subst (λ (qs : List Listed). AreDeltas (old.store).relations change.after qs ds) (affected_is old stopped xs change sound queries) h
+    subst (λ (qs : List Listed). AreDeltas (old.store).relations change qs ds) (affected_is old stopped xs change sound queries) h
 
 -- what the machine says of a change, once its line was taken
 change_step : (old mid new : Kept) (stopped : Bool) (xs ys : List OpenSession) (s : ℕ) (outcome : RowsOutcome) (reply : Bytes) (kept : Keeping) (was now : ℕ)

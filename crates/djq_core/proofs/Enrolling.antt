@@ -6,7 +6,7 @@ use Rattle.std.proofs.lemmas.Bool.{false≢true, le-leb}
 use Rattle.std.proofs.lemmas.List.Elements.{All-contains, Contains-append_right, Contains-append_cases}
 use Rattle.djq_model.specs.declared.query.Query.{Query}
 use Rattle.djq_model.specs.Data.{Bytes, bytes_eq}
-use Rattle.djq_model.specs.Listed.{a_query, listed_name, listed_of}
+use Rattle.djq_model.specs.Listed.{a_query, a_union, listed_name, listed_of}
 use Rattle.djq_lines.specs.declared.limits.TheConstants.{CURSORS}
 use Rattle.djq_lines.specs.declared.answer.Refusal.{Refusal}
 use Rattle.djq_lines.specs.declared.answer.Refusal.TheVariants.{Taken, NoQuery, Limit}
@@ -20,6 +20,7 @@ use Rattle.djq_engine.specs.declared.cursor.CursorId.{CursorId}
 use Rattle.djq_engine.specs.declared.cursor.QueryId.{QueryId}
 use Rattle.djq_engine.specs.Kept.{Kept, Registered, registered_of}
 use Rattle.djq_engine.specs.Watching.{Enrols}
+use Rattle.djq_store.specs.Registering.{EnrolsUnion}
 use Rattle.djq_core.specs.Views.{Talk}
 use Rattle.djq_core.specs.Sound.{times_in, StaysCounted}
 use Rattle.djq_core.specs.Opens.{Opens}
@@ -89,6 +90,13 @@ stays_enrolled old new ws q (Ok (HasRegistered most)) e apart =
 stays_enrolled old new ws q (Ok (Cyclic u)) e apart = stays_same old new ws ws e refl
 stays_enrolled old new ws q (Ok (NotConnex u)) e apart = stays_same old new ws ws e refl
 stays_enrolled old new ws q (Err r) e apart = stays_same old new ws ws e refl
+
+pub stays_united : (old new : Kept) (ws : List Bytes) (name : Bytes) (members : List Bytes) (result : Result ℕ Refusal) → EnrolsUnion old name members result new → NamesApart new.registered
+    → StaysCounted old.registered ws new.registered ws
+stays_united old new ws name members (Ok most) e apart =
+    let n : Registered = record { id = e.0; query = a_union name e.1; watchers = 0 } in
+    subst (λ (rs : List Registered). StaysCounted old.registered ws rs ws) (sym e.4) (enrolled old.registered ws n refl (subst NamesApart e.4 apart))
+stays_united old new ws name members (Err r) e apart = stays_same old.registered new.registered ws ws e refl
 
 -- ---- a cursor that is one too many
 

@@ -14,6 +14,7 @@ pub mod Continuing
 pub mod Carrying
 pub mod Taking
 mod Unkept
+mod Lines
 pub mod Batching
 pub mod Saying
 pub mod Fronting
@@ -35,3 +36,4 @@ pub mod Seen
 pub mod Owing
 pub mod Keeping
 pub mod Loading
+pub mod Explaining

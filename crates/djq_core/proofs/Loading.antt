@@ -6,7 +6,7 @@ use Rattle.std.proofs.lemmas.List.Elements.{All-append, All-cons, All-contains, 
 use Rattle.djq_deltas.proofs.Lists.{hold_each}
 use Rattle.djq_model.specs.declared.query.Query.{Query}
 use Rattle.djq_model.specs.Data.{Bytes, Tuple, bytes_eq}
-use Rattle.djq_model.specs.Listed.{a_query, listed_name}
+use Rattle.djq_model.specs.Listed.{a_query, a_union, listed_name}
 use Rattle.djq_lines.specs.declared.answer.Refusal.{Refusal}
 use Rattle.djq_lines.specs.Conditions.{Answers, OutOfMemoryWhere}
 use Rattle.djq_lines.specs.declared.answer.Refusal.TheVariants.{NoMemory}
@@ -32,6 +32,7 @@ use Rattle.djq_proto.specs.Reading.{Reads}
 use Rattle.djq_engine.specs.declared.cursor.CursorId.{CursorId}
 use Rattle.djq_engine.specs.Kept.{Kept, Held, Registered, held_at, is_watched, SameCursors, Outdates, outdated_held, Uses, DropGives, DropsRegistered}
 use Rattle.djq_engine.specs.Watching.{Enrols}
+use Rattle.djq_store.specs.Registering.{EnrolsUnion}
 use Rattle.djq_core.specs.declared.open.OpenSession.{OpenSession}
 use Rattle.djq_core.specs.Views.{open_in, state_in}
 use Rattle.djq_core.specs.Sound.{BatchSuits, AreSuited, batches_of, IsSound, IsCore}
@@ -128,6 +129,21 @@ pub idle_enrolled : (old new : Kept) (q : Query) (result : Result QueryOutcome R
 idle_enrolled old new q result idle same e = record {
   cursorless = λ c. same c ∙ idle.cursorless c;
   unwatched = enrolled old.registered new.registered q result e idle.unwatched;
+}
+
+united : (old new : Kept) (name : Bytes) (members : List Bytes) (result : Result ℕ Refusal) → EnrolsUnion old name members result new → All (λ (r : Registered). is_watched r ≡ false) old.registered
+    → All (λ (r : Registered). is_watched r ≡ false) new.registered
+united old new name members (Ok most) e h =
+    let n : Registered = record { id = e.0; query = a_union name e.1; watchers = 0 } in
+    subst (λ (rs : List Registered). All (λ (r : Registered). is_watched r ≡ false) rs) (sym e.4)
+    (All-append (λ (r : Registered). is_watched r ≡ false) old.registered (n ∷ []) h (All-cons (λ (r : Registered). is_watched r ≡ false) n [] refl (All-nil (λ (r : Registered). is_watched r ≡ false))))
+united old new name members (Err r) e h = subst (λ (rs : List Registered). All (λ (r : Registered). is_watched r ≡ false) rs) (sym e) h
+
+pub idle_united : (old new : Kept) (name : Bytes) (members : List Bytes) (result : Result ℕ Refusal) → IsIdle old → SameCursors old.cursors new.cursors
+    → EnrolsUnion old name members result new → IsIdle new
+idle_united old new name members result idle same e = record {
+  cursorless = λ c. same c ∙ idle.cursorless c;
+  unwatched = united old new name members result e idle.unwatched;
 }
 
 left : (old new : List Registered) (q : Bytes) (result : Result ⊤ Refusal) → DropsRegistered old q result new → All (λ (r : Registered). is_watched r ≡ false) old

@@ -1,9 +1,8 @@
 -- A delta as it is printed, line by line.
-use Rattle.std.proofs.Common.{ℕ, zero, suc, ◌+◌, ◌≤◌, ◌≡◌, ◌++◌, true, false, List, [], ◌∷◌, length, take, option_map, Option, None, Some, Result, Ok, Err, refl, sym, ap, ◌∙◌, arith, append_assoc, append-nil}
+use Rattle.std.proofs.Common.{ℕ, ◌+◌, ◌≤◌, ◌≡◌, ◌++◌, true, false, List, [], ◌∷◌, length, take, option_map, Option, None, Some, Result, Ok, Err, refl, sym, ap, ◌∙◌, arith, append_assoc, append-nil}
 use Rattle.std.specs.Prelude.{⊤, IsSomeAnd, MatchOption, slice_get}
 use Rattle.std.specs.Result.{is_err, is_ok}
-use Rattle.std.proofs.lemmas.List.{map-append}
-use Rattle.std.proofs.lemmas.List.Concat.{flat_map-append}
+use Rattle.std.proofs.lemmas.List.{map-append, take_all}
 use Rattle.bytes.specs.Filled.{Filled}
 use Rattle.djq_model.specs.declared.memory.NoMem.{NoMem}
 use Rattle.djq_model.specs.Data.{Bytes, Tuple}
@@ -11,23 +10,7 @@ use Rattle.djq_value.specs.Output.{Puts}
 use Rattle.djq_lines.specs.declared.answer.Sign.{Sign}
 use Rattle.djq_lines.specs.Reply.{text_of, change_line, at_line}
 use Rattle.djq_machine.specs.Delta.{Change, change_lines, delta_lines}
-
-text_last : (ls : List Bytes) (l : Bytes) → text_of (ls ++ l ∷ []) ≡ text_of ls ++ l
-text_last ls l = flat_map-append (λ (x : Bytes). x) ls (l ∷ []) ∙ ap (λ (bs : Bytes). text_of ls ++ bs) (append-nil l)
-
-next_number : (n : ℕ) → n + 1 ≡ suc n
-next_number n = omega arith
-
-take_suc : (xs : List Change) (n : ℕ) (c : Change) → slice_get xs n ≡ Some c → take (suc n) xs ≡ take n xs ++ c ∷ []
-take_suc [] n c h = absurd (cc (h))
-take_suc (x ∷ xs) zero c h = ap (λ (y : Change). y ∷ []) (cc (h))
-take_suc (x ∷ xs) (suc n) c h = ap (λ (ys : List Change). x ∷ ys) (take_suc xs n c h)
-
-take_whole : (xs : List Change) (n : ℕ) → length xs ≤ n → take n xs ≡ xs
-take_whole [] zero h = refl
-take_whole [] (suc n) h = refl
-take_whole (x ∷ xs) zero h = absurd (omega (arith, h))
-take_whole (x ∷ xs) (suc n) h = ap (λ (ys : List Change). x ∷ ys) (take_whole xs n (omega (arith, h)))
+use Rattle.djq_core.proofs.Lines.{take_next, text_last}
 
 -- So many lines of a delta are printed.
 abbrev pub PrintsSoFar : Option (List Change) → Bytes → ℕ → ℕ → Bytes → Bytes → Type 0
@@ -50,7 +33,7 @@ one_line : (q : Bytes) (changes : List Change) (nth : ℕ) (c : Change) (old now
 one_line q changes nth c old now new e h p =
     let lines = change_lines q (take nth changes) in
     let more : change_lines q (take (nth + 1) changes) ≡ lines ++ change_line c.sign q c.answer ∷ []
-    = ap (λ (n : ℕ). change_lines q (take n changes)) (next_number nth) ∙ ap (change_lines q) (take_suc changes nth c e)
+    = ap (change_lines q) (take_next changes nth c e)
     ∙ map-append (λ (x : Change). change_line x.sign q x.answer) (take nth changes) (c ∷ []) in
     p ∙ ap (λ (bs : Bytes). bs ++ change_line c.sign q c.answer) h ∙ append_assoc old (text_of lines) (change_line c.sign q c.answer)
     ∙ ap (λ (bs : Bytes). old ++ bs) (sym (ap text_of more ∙ text_last lines (change_line c.sign q c.answer)))
@@ -69,7 +52,7 @@ pub prints_last : (o : Option (List Change)) (q : Bytes) (count nth n : ℕ) (ol
     → MatchOption o ⊥ (λ changes. new ≡ old ++ text_of (delta_lines q changes n))
 prints_last None q count nth n old now new s le h p = absurd (cc (h))
 prints_last (Some changes) q count nth n old now new s le h p =
-    let all : take nth changes ≡ changes = take_whole changes nth (omega (arith, s.0, le)) in
+    let all : take nth changes ≡ changes = take_all nth changes (omega (arith, s.0, le)) in
     let lines = change_lines q changes in
     p ∙ ap (λ (bs : Bytes). bs ++ at_line q n) (s.1 ∙ ap (λ (cs : List Change). old ++ text_of (change_lines q cs)) all) ∙ append_assoc old (text_of lines) (at_line q n)
     ∙ ap (λ (bs : Bytes). old ++ bs) (sym (text_last lines (at_line q n)))

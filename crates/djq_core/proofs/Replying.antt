@@ -16,12 +16,13 @@ use Rattle.djq_lines.specs.declared.answer.Refusal.{Refusal}
 use Rattle.djq_lines.specs.declared.held.HeldRow.{HeldRow}
 use Rattle.djq_lines.specs.declared.answer.Shape.{Shape}
 use Rattle.djq_lines.specs.declared.rest.QueryOutcome.{QueryOutcome}
-use Rattle.djq_lines.specs.declared.command.Command.TheVariants.{Rel, Query as Register, Has, Shape as AskShape, Drop}
-use Rattle.djq_lines.specs.Reply.{ok_reply, query_reply, has_reply, shape_reply}
+use Rattle.djq_lines.specs.declared.command.Command.TheVariants.{Rel, Query as Register, Union, Has, Shape as AskShape, Drop}
+use Rattle.djq_lines.specs.Reply.{ok_reply, query_reply, union_reply, has_reply, shape_reply}
 use Rattle.djq_lines.specs.declared.answer.Refusal.TheVariants.{NoQuery, InUse}
 use Rattle.djq_machine.specs.Conditions.{first_of, Answers, OutOfMemoryWhere}
 use Rattle.djq_machine.specs.State.{Store, Session, State, Cursor}
-use Rattle.djq_machine.specs.Store.{MakesRelation, RegistersQuery, TellsWhether, has_steps, TellsShape, DropsQuery}
+use Rattle.djq_machine.specs.Union.{RegistersUnion}
+use Rattle.djq_machine.specs.Store.{MakesRelation, RegistersQuery, TellsWhether, has_steps, TellsShape, is_member, DropsQuery}
 use Rattle.djq_machine.specs.Effect.{Effect}
 use Rattle.djq_session.specs.Dialog.{Replies}
 use Rattle.djq_engine.specs.Kept.{Kept, Held, held_at, SameCursors, same_id, Uses, DropGives, Registered, registered_of, is_watched}
@@ -188,6 +189,21 @@ does_query old new before after q result was now counted registers same stays r 
       refl,
     ))
 
+pub does_union : (old new : Kept) (before after : Talk) (name : Bytes) (members : List Bytes) (result : Result ℕ Refusal)
+    → RegistersUnion old.store name members result new.store → SameCursors old.cursors new.cursors → StaysCounted old.registered before.watches new.registered before.watches → Replies before after (union_reply result)
+    → ExecutesKeeping (Union name members) (is_done result) false old before new after 0 0
+does_union old new before after name members result registers same stays r =
+    replied_costing _ old new before after (union_reply result) 0 0 0 (kept_where (is_done result)) r same stays (omega arith) (λ st s x e f. (
+      record {
+        result = result;
+        store = new.store;
+        done = subst (λ store. RegistersUnion store name members result new.store) (sym e) registers;
+        effect = refl;
+        state = refl;
+      },
+      refl,
+    ))
+
 pub does_has : (k : Kept) (before after : Talk) (q : Bytes) (t : Tuple) (result : Result Bool Refusal) (was now : ℕ)
     → TellsWhether k.store q t result → now ≤ was + has_steps (listed_of k.store.queries q) → Replies before after (has_reply result)
     → Executes (Has q t) false k before k after was now
@@ -313,12 +329,12 @@ use_is k q false xs sound u = sym (sessions_unused k.cursors q xs sound.cursors_
 -- what is dropped was in no use
 dropped_unused : (st st' : Store) (used : Bool) (q : Bytes) (d : ⊤) → DropsQuery st used q (Ok d) st' → used ≡ false
 dropped_unused st st' used q d drops =
-    step used (is_none (listed_of st.queries q)) (λ x. st' ≡ record st { queries = drop_first (λ (p : Listed). bytes_eq (listed_name p) q) st.queries }) (OutOfMemoryWhere ⊥) drops.answer
+    step used (is_member st.queries q) (is_none (listed_of st.queries q)) (λ x. st' ≡ record st { queries = drop_first (λ (p : Listed). bytes_eq (listed_name p) q) st.queries }) (OutOfMemoryWhere ⊥) drops.answer
   where
-    step : (u b : Bool) (Done : ⊤ → Type 0) (Late : Refusal → Type 0) → Answers (first_of ((b, NoQuery) ∷ (u, InUse) ∷ [])) (Ok d) Done Late → u ≡ false
-    step false b D L h = refl
-    step true true D L h = absurd h
-    step true false D L h = absurd h
+    step : (u m b : Bool) (Done : ⊤ → Type 0) (Late : Refusal → Type 0) → Answers (first_of ((b, NoQuery) ∷ (u || m, InUse) ∷ [])) (Ok d) Done Late → u ≡ false
+    step false m b D L h = refl
+    step true m true D L h = absurd h
+    step true m false D L h = absurd h
 
 unwatched_there : (k : Kept) (q : Bytes) (used : Bool) → Uses k q used → used ≡ false → (r : Registered) → registered_of k.registered q ≡ Some r → r.watchers ≡ 0
 unwatched_there k q true u e r f = absurd (cc (e))

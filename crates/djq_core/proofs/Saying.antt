@@ -11,10 +11,10 @@ use Rattle.djq_lines.specs.declared.answer.Refusal.{Refusal}
 use Rattle.djq_lines.specs.declared.answer.Refusal.TheVariants.{WrongType, Syntax, NoMemory, Misplaced}
 use Rattle.djq_lines.specs.declared.held.HeldRow.{HeldRow}
 use Rattle.djq_lines.specs.declared.command.Command.{Command}
-use Rattle.djq_lines.specs.declared.command.Command.TheVariants.{Rel, Add, Del, Query as Register, Drop, Open, Next, Close, Has, Watch, Unwatch, Explain, Shape, Batch, Done, Abandon, Quit, Stop}
+use Rattle.djq_lines.specs.declared.command.Command.TheVariants.{Rel, Add, Del, Query as Register, Union, Drop, Open, Next, Close, Has, Watch, Unwatch, Explain, Shape, Batch, Done, Abandon, Quit, Stop}
 use Rattle.djq_lines.specs.declared.keyword.Keyword.{Keyword}
-use Rattle.djq_lines.specs.declared.keyword.Keyword.TheVariants.{Rel as RelWord, Add as AddWord, Del as DelWord, Query as QueryWord, Drop as DropWord, Open as OpenWord, Next as NextWord, Close as CloseWord, Has as HasWord, Watch as WatchWord, Unwatch as UnwatchWord, Explain as ExplainWord, Shape as ShapeWord, Batch as BatchWord, Done as DoneWord, Abandon as AbandonWord, Quit as QuitWord, Stop as StopWord}
-use Rattle.djq_lines.specs.Grammar.{Reading, outside, past_limit, says, reading_in, reading_of, command_of, command_in, command_with, command_behind, is_in_range, takes_memory_to_read, is_count, count_of, keyword_of, nothing, type_of, all_of, named_some, named_any, query_in, query_of, Body, body_in, items_in, with_atoms, in_front, list_in, name_of, one_name, two_names, name_and_count}
+use Rattle.djq_lines.specs.declared.keyword.Keyword.TheVariants.{Rel as RelWord, Add as AddWord, Del as DelWord, Query as QueryWord, Union as UnionWord, Drop as DropWord, Open as OpenWord, Next as NextWord, Close as CloseWord, Has as HasWord, Watch as WatchWord, Unwatch as UnwatchWord, Explain as ExplainWord, Shape as ShapeWord, Batch as BatchWord, Done as DoneWord, Abandon as AbandonWord, Quit as QuitWord, Stop as StopWord}
+use Rattle.djq_lines.specs.Grammar.{Reading, outside, past_limit, says, reading_in, reading_of, command_of, command_in, command_with, command_behind, is_in_range, takes_memory_to_read, is_count, count_of, keyword_of, nothing, type_of, all_of, named_some, named_any, query_in, query_of, Body, body_in, items_in, with_atoms, in_front, list_in, name_of, one_name, two_names, name_and_count, name_and_members}
 use Rattle.djq_proto.specs.declared.refusal.LineRefusal.{LineRefusal}
 use Rattle.djq_proto.specs.declared.refusal.LineRefusal.TheVariants.{Syntax as Outside, Range, NoMem}
 use Rattle.djq_proto.specs.Reading.{Gives, Reads}
@@ -275,6 +275,37 @@ types_said (arrow ∷ ts) p e = absurd (cc)
 types_said (operator o ∷ ts) p e = absurd (cc)
 types_said (stray ∷ ts) p e = absurd (cc)
 
+-- A union that a line says has two members at least.
+
+front_two : {A : Type 0} (o p : Option A) (more : Option (List A)) (xs : List A) → in_front o (in_front p more) ≡ Some xs → 2 ≤ length xs
+front_two None p more xs e = absurd (cc)
+front_two (Some a) None more xs e = absurd (cc)
+front_two (Some a) (Some b) None xs e = absurd (cc)
+front_two {A} (Some a) (Some b) (Some more) xs e = let same : a ∷ b ∷ more ≡ xs = cc in omega (arith, ap (λ (l : List A). length l) same)
+
+members_said : (ts : List Token) (p : Bytes × List Bytes) → name_and_members ts ≡ Some p → 2 ≤ length p.1
+members_said [] p e = absurd (cc)
+members_said (n ∷ []) p e = absurd (cc)
+members_said (n ∷ a ∷ []) p e = absurd (cc)
+members_said (word n ∷ a ∷ b ∷ ts) p e = by (is_name n) e
+  where
+    made : (o : Option (List Bytes)) → all_of name_of (a ∷ b ∷ ts) ≡ o → option_map (λ xs. (n, xs)) o ≡ Some p → 2 ≤ length p.1
+    made None f g = absurd (cc)
+    made (Some xs) f g =
+        let same : (n, xs) ≡ p = cc in
+        subst (λ (q : Bytes × List Bytes). 2 ≤ length q.1) same (front_two (name_of a) (name_of b) (all_of name_of ts) xs f)
+
+    by : (c : Bool) → cond c (option_map (λ xs. (n, xs)) (all_of name_of (a ∷ b ∷ ts))) None ≡ Some p → 2 ≤ length p.1
+    by true f = made (all_of name_of (a ∷ b ∷ ts)) refl f
+    by false f = absurd (cc)
+members_said (text n ∷ a ∷ b ∷ ts) p e = absurd (cc)
+members_said (open_paren ∷ a ∷ b ∷ ts) p e = absurd (cc)
+members_said (close_paren ∷ a ∷ b ∷ ts) p e = absurd (cc)
+members_said (comma ∷ a ∷ b ∷ ts) p e = absurd (cc)
+members_said (arrow ∷ a ∷ b ∷ ts) p e = absurd (cc)
+members_said (operator o ∷ a ∷ b ∷ ts) p e = absurd (cc)
+members_said (stray ∷ a ∷ b ∷ ts) p e = absurd (cc)
+
 -- What a line says can be run.
 
 runnable_behind : (k : Keyword) (ts : List Token) (command : Command) → command_behind k ts ≡ Some command → IsRunnable command
@@ -282,6 +313,7 @@ runnable_behind RelWord ts command e = made_of (λ p. Rel p.0 p.1) (named_some t
 runnable_behind AddWord ts command e = made_of (λ p. Add p.0 p.1) (named_some literal_of ts) command (IsRunnable command) (λ a f g. subst IsRunnable g tt) e
 runnable_behind DelWord ts command e = made_of (λ p. Del p.0 p.1) (named_some literal_of ts) command (IsRunnable command) (λ a f g. subst IsRunnable g tt) e
 runnable_behind QueryWord ts command e = made_of (λ q. Register q) (query_in ts) command (IsRunnable command) (λ q f g. subst IsRunnable g (query_said ts q f)) e
+runnable_behind UnionWord ts command e = made_of (λ p. Union p.0 p.1) (name_and_members ts) command (IsRunnable command) (λ p f g. subst IsRunnable g (members_said ts p f)) e
 runnable_behind DropWord ts command e = made_of (λ q. Drop q) (one_name ts) command (IsRunnable command) (λ a f g. subst IsRunnable g tt) e
 runnable_behind OpenWord ts command e = made_of (λ p. Open p.0 p.1) (two_names ts) command (IsRunnable command) (λ a f g. subst IsRunnable g tt) e
 runnable_behind NextWord ts command e = made_of (λ p. Next p.0 p.1) (name_and_count ts) command (IsRunnable command) (λ p f g. subst IsRunnable g (count_said ts p f)) e
@@ -350,6 +382,7 @@ other_said (Rel n cs) ts h e = refl
 other_said (Add n row) ts h e = absurd (true≢false (sym (ap begins_row h.1.3) ∙ e))
 other_said (Del n row) ts h e = absurd (true≢false (sym (ap begins_row h.1.3) ∙ e))
 other_said (Register q) ts h e = refl
+other_said (Union u members) ts h e = refl
 other_said (Drop q) ts h e = refl
 other_said (Open c q) ts h e = refl
 other_said (Next c n) ts h e = refl

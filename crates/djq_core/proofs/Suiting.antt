@@ -10,7 +10,7 @@ use Rattle.djq_model.specs.declared.relation.Relation.{Relation}
 use Rattle.djq_model.specs.declared.query.Query.{Query}
 use Rattle.djq_model.specs.Data.{Bytes, Tuple, bytes_eq, change_first, drop_first, relation_of, counted_of, has_row, rows_of, with_row}
 use Rattle.djq_model.specs.Known.{texts_in, all_learned}
-use Rattle.djq_model.specs.Listed.{Listed, a_query, listed_name, listed_of}
+use Rattle.djq_model.specs.Listed.{Listed, a_query, a_union, listed_name, listed_of}
 use Rattle.djq_model.specs.Typed.{fits}
 use Rattle.djq_lines.specs.Columns.{types_of}
 use Rattle.djq_lines.specs.Conditions.{first_of, Answers, OutOfMemoryWhere}
@@ -27,7 +27,7 @@ use Rattle.djq_lines.specs.declared.answer.AddOutcome.TheVariants.{First, More}
 use Rattle.djq_lines.specs.declared.answer.DeleteOutcome.{DeleteOutcome}
 use Rattle.djq_lines.specs.declared.answer.DeleteOutcome.TheVariants.{Last, Left, Absent}
 use Rattle.djq_lines.specs.declared.command.Command.{Command}
-use Rattle.djq_lines.specs.declared.command.Command.TheVariants.{Rel, Add, Del, Query as Register, Drop, Open, Next, Close, Has, Watch, Unwatch, Explain, Shape, Batch, Done, Abandon, Quit, Stop}
+use Rattle.djq_lines.specs.declared.command.Command.TheVariants.{Rel, Add, Del, Query as Register, Union, Drop, Open, Next, Close, Has, Watch, Unwatch, Explain, Shape, Batch, Done, Abandon, Quit, Stop}
 use Rattle.djq_lines.specs.declared.rest.QueryOutcome.{QueryOutcome}
 use Rattle.djq_lines.specs.declared.rest.QueryOutcome.TheVariants.{Registered, Cyclic, NotConnex}
 use Rattle.djq_lines.specs.declared.held.HeldRow.{HeldRow}
@@ -39,11 +39,12 @@ use Rattle.djq_machine.specs.Changes.{RowsChange, RowsOutcome, tried, changed}
 use Rattle.djq_machine.specs.Effect.{Effect, queue, queue_all, RefusedStep}
 use Rattle.djq_machine.specs.Walk.{Walk}
 use Rattle.djq_machine.specs.Watch.{Delta, Telling, says_more, ends_more, watcher_of, TellsWatcher, TellsSession, TellsDelta, RepliesLast, ChangeStep}
-use Rattle.djq_machine.specs.Command.{uses, AddStep, NextStepAt, CloseStep, OpensTo, with_cursor, BecomesWhere, with_watch, without_watch, TellsLines, explain_lines, ExplainStepOf, with_batch, without_batch, HoldStep, DoneStep, is_misplaced, CommandStep}
+use Rattle.djq_machine.specs.Command.{uses, AddStep, NextStepAt, CloseStep, OpensTo, with_cursor, BecomesWhere, with_watch, without_watch, TellsLines, explain_lines, union_lines, ExplainStepOf, with_batch, without_batch, HoldStep, DoneStep, is_misplaced, CommandStep}
 use Rattle.djq_machine.specs.LineStep.{LineOutcome, long, blank, slow, no_room, run, behind_line, FrontStep, ReadStep}
 use Rattle.djq_machine.specs.Step.{SameRelations, Step, stepped, with_relations}
 use Rattle.djq_machine.specs.Call.{Counts, StepGives, RanStep, EndedStepAs, cause_of}
-use Rattle.djq_machine.specs.Store.{with_rows, with_copies_of, copies_of, rel_refusal, add_refusal, delete_refusal, query_refusal, drop_refusal, MakesRelation, AddsAs, AddsRow, DeletesAs, DeletesRow, RefusedByTexts, RegistersAs, RefusedLate, RegistersQuery, DropsQuery}
+use Rattle.djq_machine.specs.Union.{union_refusal, AreUnder, RegistersUnion}
+use Rattle.djq_machine.specs.Store.{answer_steps, with_rows, with_copies_of, copies_of, rel_refusal, add_refusal, delete_refusal, query_refusal, drop_refusal, MakesRelation, AddsAs, AddsRow, DeletesAs, DeletesRow, RefusedByTexts, RegistersAs, RefusedLate, RegistersQuery, DropsQuery}
 use Rattle.djq_core.specs.Sound.{BatchSuits, AreSuited}
 use Rattle.djq_core.proofs.Carrying.{CarriedOut}
 use Rattle.djq_machine.specs.Batch.{suit_refusal, hold_refusal, SuitAll, is_there, with_held, with_all, count_came, AddsBatch}
@@ -204,6 +205,18 @@ query_keeps old new q r h = by (query_refusal old q) refl r h.answer
     by None f (Ok (Cyclic rest)) a = same_types old new (relations_of old new a.1)
     by None f (Ok (NotConnex rest)) a = same_types old new (relations_of old new a.1)
     by None f (Err e) a = late e a
+
+pub union_keeps : (old new : Store) (name : Bytes) (members : List Bytes) (r : Result ℕ Refusal) → RegistersUnion old name members r new → KeepTypes old.relations new.relations
+union_keeps old new name members (Err e) h = same_types old new (relations_of old new h.stays)
+union_keeps old new name members (Ok most) h = by (union_refusal old name members) h.answer
+  where
+    by : (o : Option Refusal)
+        → Answers o (Ok most) (λ (m : ℕ). (qs : List Query) × AreUnder old.queries members qs
+        × (m ≡ answer_steps (a_union name qs))
+        × (new ≡ record old { queries = old.queries ++ a_union name qs ∷ [] })) (OutOfMemoryWhere ⊤)
+        → KeepTypes old.relations new.relations
+    by (Some e) a = absurd a
+    by None a = same_types old new (ap (λ (s : Store). s.relations) a.3)
 
 pub drop_keeps : (old new : Store) (used : Bool) (name : Bytes) (r : Result ⊤ Refusal) → DropsQuery old used name r new → KeepTypes old.relations new.relations
 drop_keeps old new used name (Err e) h = same_types old new (relations_of old new h.stays)
@@ -421,13 +434,14 @@ close_goes : (old : State) (s : ℕ) (c : Bytes) (o : Option Cursor) (e : Effect
 close_goes old s c None e new h = refused_goes old s NoCursor e new h
 close_goes old s c (Some k) e new h = goes_to old (with_session old s _) new h.1 (goes_session old s _ (λ x b. b))
 
+lines_go : (old : State) (s : ℕ) (lines : List Bytes) (e : Effect) (new : State) → TellsLines old s lines e new → GoesOn old new
+lines_go old s lines e new (inl k) = goes_same old new k.1
+lines_go old s lines e new (inr (told, lacking, rest, parts, ends)) = goes_to old (with_session old s (ended_by Memory)) new ends.1 (goes_ended old s Memory)
+
 explain_goes : (old : State) (s : ℕ) (o : Option Listed) (e : Effect) (new : State) → MatchOption o (RefusedStep old s NoQuery e new) (λ k. ExplainStepOf old s k e new) → GoesOn old new
 explain_goes old s None e new h = refused_goes old s NoQuery e new h
-explain_goes old s (Some (a_query q)) e new h = by h.tells
-  where
-    by : TellsLines old s (explain_lines q h.tree) e new → GoesOn old new
-    by (inl k) = goes_same old new k.1
-    by (inr (told, lacking, rest, parts, ends)) = goes_to old (with_session old s (ended_by Memory)) new ends.1 (goes_ended old s Memory)
+explain_goes old s (Some (a_query q)) e new h = lines_go old s (explain_lines q h.tree) e new h.tells
+explain_goes old s (Some (a_union name qs)) e new h = lines_go old s (union_lines qs) e new h
 
 opens_goes : (old : State) (s : ℕ) (c q : Bytes) (new : State) (r : Result ⊤ Refusal) → OpensTo old s c q new r → GoesOn old new
 opens_goes old s c q new (Ok d) h = goes_to old (with_session old s (with_cursor c q)) new h (goes_session old s (with_cursor c q) (λ x b. b))
@@ -447,6 +461,8 @@ command_goes old s x l (Register q) e new own (inr h) =
     let mid : State = record old { store = h.store } in
     goes_to old (with_session mid s (ended_by Memory)) new h.ends.1
     (goes_then old mid (with_session mid s (ended_by Memory)) (goes_store old h.store (query_keeps old.store h.store q h.result h.done)) (goes_ended mid s Memory))
+command_goes old s x l (Union u members) e new own h =
+    goes_to old (record old { store = h.store }) new h.state (goes_store old h.store (union_keeps old.store h.store u members h.result h.done))
 command_goes old s x l (Drop q) e new own h =
     goes_to old (record old { store = h.store }) new h.state (goes_store old h.store (drop_keeps old.store h.store (list_any (uses q) old.sessions) q h.result h.done))
 command_goes old s x l (Open c q) e new own h = opens_goes old s c q new h.result h.state

@@ -18,7 +18,8 @@ use Rattle.djq_engine.specs.declared.cursor.CursorId.{CursorId}
 use Rattle.djq_live.specs.declared.listing.Next.{Next}
 use Rattle.djq_live.specs.declared.listing.Next.TheVariants.{Given, End, Stale}
 use Rattle.djq_live.specs.Live.{Live, values_of}
-use Rattle.djq_engine.specs.Kept.{Kept, Held, held_at, same_id, IsHeld, IsFresh, IsOpenAt, MovesCursor, NextGives, NextGivesAt, read_steps, MoreGives, MoreGivesAt, AnswerIs, IsThere}
+use Rattle.djq_engine.specs.Kept.{Kept, Held, held_at, same_id, IsHeld, IsFresh, IsOpenAt, MovesCursor, read_steps, MoreGives, MoreGivesAt, AnswerIs, IsShown}
+use Rattle.djq_store.specs.Reading.{NextGives, NextGivesAt}
 use Rattle.djq_core.specs.declared.listing.Listed.{Listed as HowListed}
 use Rattle.djq_core.specs.declared.listing.Listed.TheVariants.{Cut, Stale as WasStale}
 use Rattle.djq_core.specs.Views.{Talk}
@@ -167,7 +168,7 @@ one_query o q r e f = let s : Some q ≡ Some r = sym e ∙ f in cc
 pub record Further (old : Kept) (id : CursorId) (h : Held) (given told : List Tuple) (k' : Kept) (answer : List ℕ) (q : Listed) : Type 0 where
   pub tuple : Tuple
   pub left : IsLeft (AnswersOf (old.store).relations q) (given ++ told) tuple
-  pub there : IsThere k' id answer
+  pub there : IsShown k' id answer
   pub is : AnswerIs k' id answer tuple
   pub stands : StandsAt old id h (open_at (given ++ (told ++ tuple ∷ [])) false) k'
 
@@ -182,7 +183,7 @@ further old id h given told ended k answer k' now now' e s r =
     record {
       tuple = t;
       left = left;
-      there = subst (λ (x : CursorId). IsThere k' x answer) same r.gives.2;
+      there = subst (λ (x : CursorId). IsShown k' x answer) same r.gives.2;
       is = subst (λ (x : CursorId). AnswerIs k' x answer t) same r.gives.3;
       stands = subst (λ (ts : List Tuple). StandsAt old id h (open_at ts false) k') (append_assoc given told (t ∷ [])) moved;
     }
@@ -216,7 +217,7 @@ read_stale old id before h r m n k d was now result answer k' now' e f t g =
 
 -- A further answer is there to be lent.
 there_at : (old : Kept) (id : CursorId) (before : Talk) (h : Held) (p : Position) (n : ℕ) (k : Kept) (d : Talk) (was now : ℕ) (answer : List ℕ) (k' : Kept) (now' : ℕ)
-    → held_at old.cursors id ≡ Some h → h.position ≡ p → SoFarAt old id before h p n k d was now → NextGives k id Given answer k' now now' → IsThere k' id answer × IsHeld k' id
+    → held_at old.cursors id ≡ Some h → h.position ≡ p → SoFarAt old id before h p n k d was now → NextGives k id Given answer k' now now' → IsShown k' id answer × IsHeld k' id
 there_at old id before h (open_at given ended) n k d was now answer k' now' e f t g =
     let r = read_open old id h (given ++ t.told) t.ended k Given answer k' now now' t.stands g in
     let x = further old id h given t.told t.ended k answer k' now now' e t.stands r in
@@ -225,7 +226,7 @@ there_at old id before h (stale a b) n k d was now answer k' now' e f t g =
     let r = read_stale old id before h a b n k d was now Given answer k' now' e f t g in absurd r.gives
 
 pub is_there : (old : Kept) (id : CursorId) (before : Talk) (n : ℕ) (k : Kept) (d : Talk) (was now : ℕ) (answer : List ℕ) (k' : Kept) (now' : ℕ)
-    → SoFar old id before n k d was now → NextGives k id Given answer k' now now' → IsThere k' id answer × IsHeld k' id
+    → SoFar old id before n k d was now → NextGives k id Given answer k' now now' → IsShown k' id answer × IsHeld k' id
 is_there old id before n k d was now answer k' now' s g = there_at old id before s.cursor (s.cursor).position n k d was now answer k' now' s.held refl s.so_far g
 
 -- An answer more is told.

@@ -1,16 +1,16 @@
 -- Commands whose lines are never kept.
-use Rattle.std.proofs.Common.{ℕ, ◌≡◌, Bool, true, false, Option, None, Some, ap, inl, inr}
+use Rattle.std.proofs.Common.{ℕ, List, ◌≡◌, Bool, true, false, Option, None, Some, ap, inl, inr}
 use Rattle.std.specs.Prelude.{IsSomeAnd, MatchOption}
 use Rattle.djq_model.specs.Data.{Bytes}
-use Rattle.djq_model.specs.Listed.{Listed, a_query, listed_of}
+use Rattle.djq_model.specs.Listed.{Listed, a_query, a_union, listed_of}
 use Rattle.djq_lines.specs.declared.answer.Refusal.{Refusal}
 use Rattle.djq_lines.specs.declared.answer.Refusal.TheVariants.{NoQuery, NoCursor}
 use Rattle.djq_lines.specs.declared.command.Command.{Command}
-use Rattle.djq_lines.specs.declared.command.Command.TheVariants.{Rel, Add, Del, Query as Register, Drop, Open, Next, Close, Has, Watch, Unwatch, Explain, Shape, Batch, Done, Abandon, Quit, Stop}
+use Rattle.djq_lines.specs.declared.command.Command.TheVariants.{Rel, Add, Del, Query as Register, Union, Drop, Open, Next, Close, Has, Watch, Unwatch, Explain, Shape, Batch, Done, Abandon, Quit, Stop}
 use Rattle.djq_machine.specs.State.{Session, State, Cursor, Position, open_at, stale, cursor_of}
 use Rattle.djq_machine.specs.Keeping.{no_line}
 use Rattle.djq_machine.specs.Effect.{Effect, RefusedStep}
-use Rattle.djq_machine.specs.Command.{NextStepAt, CloseStep, ExplainStepOf, TellsLines, explain_lines}
+use Rattle.djq_machine.specs.Command.{NextStepAt, CloseStep, ExplainStepOf, TellsLines, explain_lines, union_lines}
 use Rattle.djq_engine.specs.Kept.{Kept}
 use Rattle.djq_core.specs.Views.{Talk}
 use Rattle.djq_core.specs.Performs.{Does, Executes, ExecutesKeeping}
@@ -21,6 +21,7 @@ may_keep (Rel name types) = true
 may_keep (Add name row) = true
 may_keep (Del name row) = true
 may_keep (Register q) = true
+may_keep (Union u members) = true
 may_keep (Drop q) = true
 may_keep Done = true
 may_keep _ = false
@@ -49,13 +50,14 @@ module _ (st : State) (s : ℕ) (e : Effect) (st' : State) where
   close_unkept c None h = refused_unkept NoCursor h
   close_unkept c (Some k) h = ap (λ (f : Effect). f.kept) h.0
 
+  lines_unkept : (lines : List Bytes) → TellsLines st s lines e st' → e.kept ≡ no_line
+  lines_unkept lines (inl k) = ap (λ (f : Effect). f.kept) k.0
+  lines_unkept lines (inr (told, lacking, rest, parts, ends)) = ap (λ (f : Effect). f.kept) ends.0
+
   explain_unkept : (o : Option Listed) → MatchOption o (RefusedStep st s NoQuery e st') (λ q. ExplainStepOf st s q e st') → e.kept ≡ no_line
   explain_unkept None h = refused_unkept NoQuery h
-  explain_unkept (Some (a_query q)) h = by h.tells
-    where
-      by : TellsLines st s (explain_lines q h.tree) e st' → e.kept ≡ no_line
-      by (inl k) = ap (λ (f : Effect). f.kept) k.0
-      by (inr (told, lacking, rest, parts, ends)) = ap (λ (f : Effect). f.kept) ends.0
+  explain_unkept (Some (a_query q)) h = lines_unkept (explain_lines q h.tree) h.tells
+  explain_unkept (Some (a_union name qs)) h = lines_unkept (union_lines qs) h
 
   step_unkept : (x : Session) (c : Command) → may_keep c ≡ false → Does c st s x e st' → e.kept ≡ no_line
   step_unkept x (Open c q) m h = ap (λ (f : Effect). f.kept) h.effect
@@ -75,6 +77,7 @@ module _ (st : State) (s : ℕ) (e : Effect) (st' : State) where
   step_unkept x (Add name row) m h = absurd cc
   step_unkept x (Del name row) m h = absurd cc
   step_unkept x (Register q) m h = absurd cc
+  step_unkept x (Union u members) m h = absurd cc
   step_unkept x (Drop q) m h = absurd cc
 
 -- Such a command is done, and its line isn't kept.

@@ -39,7 +39,7 @@ use Rattle.djq_machine.specs.Batch.{AddsBatch, batch_outcome}
 use Rattle.djq_machine.specs.Store.{AddsRow, DeletesRow}
 use Rattle.djq_machine.specs.Changes.{RowsOutcome, row_in, row_out, add_outcome, delete_outcome, tried}
 use Rattle.djq_engine.specs.Kept.{Kept, Outdates, same_query}
-use Rattle.djq_engine.specs.Watching.{TellsChange}
+use Rattle.djq_store.specs.Watching.{TellsChange}
 use Rattle.djq_core.specs.declared.change.Outcome.{Outcome}
 use Rattle.djq_core.specs.declared.change.Outcome.TheVariants.{Added, Deleted, Done}
 use Rattle.djq_core.specs.declared.kept.KeptLines.{KeptLines}

@@ -10,3 +10,4 @@ pub mod Changing
 pub mod Telling
 pub mod Stepping
 pub mod Batching
+pub mod Explaining

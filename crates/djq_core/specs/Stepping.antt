@@ -5,7 +5,7 @@ use Rattle.djq_lines.specs.Line.{a_line, front_of}
 use Rattle.djq_lines.specs.declared.answer.EndCause.{EndCause}
 use Rattle.djq_lines.specs.declared.answer.EndCause.TheVariants.{Long, Slow, Memory}
 use Rattle.djq_lines.specs.declared.command.Command.{Command}
-use Rattle.djq_lines.specs.declared.command.Command.TheVariants.{Rel, Add, Del, Query as Register, Next}
+use Rattle.djq_lines.specs.declared.command.Command.TheVariants.{Rel, Add, Del, Query as Register, Union, Next}
 use Rattle.djq_lines.specs.declared.answer.Refusal.{Refusal}
 use Rattle.djq_lines.specs.declared.answer.Refusal.TheVariants.{Syntax, WrongType, NoMemory}
 use Rattle.djq_proto.specs.declared.refusal.LineRefusal.{LineRefusal}
@@ -30,6 +30,7 @@ use Rattle.djq_core.specs.Changing.{IsChange, LeavesChange, is_kept, line_where}
 abbrev pub IsRunnable : Command → Type 0
 IsRunnable (Rel n cs) = 0 < length cs
 IsRunnable (Register q) = 0 < length q.atoms
+IsRunnable (Union u members) = 2 ≤ length members
 IsRunnable (Next c count) = 1 ≤ count
 IsRunnable _ = ⊤
 

@@ -14,15 +14,15 @@ use crate::change::{Left, Outcome};
 use crate::commands::{run_quit, run_stop};
 use crate::held::new_row;
 use crate::reading::{BatchLine, read_in_batch};
-use djq_engine::{CursorId, Engine};
 use djq_lines::{HeldRow, Refusal};
 use djq_model::{Name, Value};
 use djq_session::Session;
 use djq_steps::{Ledgers, Steps};
+use djq_store::{CursorId, Store};
 use std::alloc::Global;
 
 /// `batch`: rows that are added are held from now on.
-pub(crate) fn run_batch(engine: &Engine, session: &mut Session<CursorId, Name>)
+pub(crate) fn run_batch(engine: &Store, session: &mut Session<CursorId, Name>)
     requires { IsReady engine.now session.old }
     ensures { Executes Batch false engine.now session.old engine.now session.new 0 0 }
 {
@@ -34,7 +34,7 @@ pub(crate) fn run_batch(engine: &Engine, session: &mut Session<CursorId, Name>)
 /// do. Room for a reply was kept.
 pub(crate) fn run_in_batch<L: Ledgers>(
     alloc: Global,
-    engine: &mut Engine,
+    engine: &mut Store,
     session: &mut Session<CursorId, Name>,
     end: usize,
     rest: usize,
@@ -114,7 +114,7 @@ fn hold(session: &mut Session<CursorId, Name>, made: Result<HeldRow, Refusal>)
 
 // `done`: the batch is closed, and its rows go in at once. What is left is to tell it and to answer.
 fn run_done<L: Ledgers>(
-    engine: &mut Engine,
+    engine: &mut Store,
     session: &mut Session<CursorId, Name>,
     steps: &mut Steps<L>,
 ) -> Outcome

@@ -1,9 +1,13 @@
 //! Commands on the relations, the queries and a session's cursors.
-ghost use Rattle.std.specs.Prelude.{◌≡◌, ◌<◌, false, true, length};
+ghost use Rattle.std.specs.Prelude.{◌≡◌, ◌≤◌, ◌<◌, ◌++◌, false, true, length, IsSomeAnd, OnOk};
+ghost use Rattle.djq_model.specs.Listed.{listed_of, members_of};
+ghost use Rattle.djq_lines.specs.Reply.{text_of};
+ghost use Rattle.djq_store.specs.Explaining.{Explains};
+ghost use Rattle.djq_core.specs.Explaining.{QueuesExplained, member_lines};
 ghost use Rattle.djq_lines.specs.declared.command.Command.TheVariants.{Rel};
 ghost use Rattle.djq_lines.specs.declared.command.Command.TheVariants.{Query as Register, Drop, Open};
 ghost use Rattle.djq_lines.specs.declared.command.Command.TheVariants.{Close, Has, Quit, Stop};
-ghost use Rattle.djq_lines.specs.declared.command.Command.TheVariants.{Explain, Shape};
+ghost use Rattle.djq_lines.specs.declared.command.Command.TheVariants.{Explain, Shape, Union};
 ghost use Rattle.djq_core.specs.Opens.{Opens};
 ghost use Rattle.djq_machine.specs.Keeping.{is_registration};
 ghost use Rattle.djq_core.specs.Performs.{Executes, ExecutesKeeping};
@@ -12,16 +16,19 @@ ghost use Rattle.djq_core.specs.Sound.{IsReady};
 
 use crate::change::Outcome;
 use crate::ending::{cut_off, give_up};
-use djq_engine::{CursorId, Engine};
+use bytes::BytesMut;
 use djq_lines::limits::CURSORS;
 use djq_lines::{EndCause, QueryOutcome, Refusal};
-use djq_model::{Name, Query, Types, Value};
+use djq_model::{Name, Names, NoMem, Query, Types, Value};
+use djq_reply::put_member;
 use djq_session::Session;
 use djq_steps::{Ledgers, Listing, Steps, Tally};
+use djq_store::{CursorId, Explained, Store};
+use std::alloc::Global;
 
 /// `rel`: a new relation. The answer is whether the line is kept.
 pub(crate) fn run_rel(
-    engine: &mut Engine,
+    engine: &mut Store,
     session: &mut Session<CursorId, Name>,
     name: Name,
     types: Types,
@@ -38,7 +45,7 @@ pub(crate) fn run_rel(
 
 /// `add`: a row goes into a relation. What is left is to tell it and to answer.
 pub(crate) fn run_add<L: Ledgers>(
-    engine: &mut Engine,
+    engine: &mut Store,
     name: &Name,
     row: &[Value],
     steps: &mut Steps<L>,
@@ -52,7 +59,7 @@ pub(crate) fn run_add<L: Ledgers>(
 
 /// `del`: a row goes out of a relation, likewise.
 pub(crate) fn run_del<L: Ledgers>(
-    engine: &mut Engine,
+    engine: &mut Store,
     name: &Name,
     row: &[Value],
     steps: &mut Steps<L>,
@@ -67,7 +74,7 @@ pub(crate) fn run_del<L: Ledgers>(
 /// `query`: a query is registered, or a rest shows why it isn't. Out of memory in a long rest, the
 /// session ends. The answer is whether the line is kept.
 pub(crate) fn run_query<L: Ledgers>(
-    engine: &mut Engine,
+    engine: &mut Store,
     session: &mut Session<CursorId, Name>,
     query: Query,
     steps: &mut Steps<L>,
@@ -88,6 +95,24 @@ pub(crate) fn run_query<L: Ledgers>(
     kept
 }
 
+/// `union`: the union of some queries is registered. The answer is whether the line is kept.
+pub(crate) fn run_union(
+    engine: &mut Store,
+    session: &mut Session<CursorId, Name>,
+    name: Name,
+    members: &Names,
+) -> bool
+    requires ready { IsReady engine.old session.old }
+    requires several { 2 ≤ length members.now }
+    ensures { ExecutesKeeping (Union name members.now) result false
+        engine.old session.old engine.new session.new 0 0 }
+{
+    let outcome = engine.add_union(name, members.as_slice());
+    engine.laws();
+    session.answer_united(outcome);
+    outcome.is_ok()
+}
+
 /// Whether a query is registered.
 pub(crate) fn is_registered(outcome: &Result<QueryOutcome, Refusal>) -> bool
     ensures { result ≡ is_registration outcome.now }
@@ -101,7 +126,7 @@ pub(crate) fn is_registered(outcome: &Result<QueryOutcome, Refusal>) -> bool
 
 /// `open`: a cursor in front of a query's answers.
 pub(crate) fn run_open(
-    engine: &mut Engine,
+    engine: &mut Store,
     session: &mut Session<CursorId, Name>,
     name: &Name,
     query: &Name,
@@ -114,9 +139,9 @@ pub(crate) fn run_open(
     session.answer_opened(outcome);
 }
 
-// A new cursor of the engine under a name of the session, where nothing refuses it.
+// A new cursor of the store under a name of the session, where nothing refuses it.
 fn open_cursor(
-    engine: &mut Engine,
+    engine: &mut Store,
     session: &mut Session<CursorId, Name>,
     name: &Name,
     query: &Name,
@@ -145,7 +170,7 @@ fn open_cursor(
 }
 
 /// `close`: a cursor is given up.
-pub(crate) fn run_close(engine: &mut Engine, session: &mut Session<CursorId, Name>, name: &Name)
+pub(crate) fn run_close(engine: &mut Store, session: &mut Session<CursorId, Name>, name: &Name)
     requires { IsReady engine.old session.old }
     ensures { Executes (Close name.now) false engine.old session.old engine.new session.new 0 0 }
 {
@@ -161,7 +186,7 @@ pub(crate) fn run_close(engine: &mut Engine, session: &mut Session<CursorId, Nam
 
 /// `drop`: a query is registered no more. The answer is whether the line is kept.
 pub(crate) fn run_drop(
-    engine: &mut Engine,
+    engine: &mut Store,
     session: &mut Session<CursorId, Name>,
     query: &Name,
 ) -> bool
@@ -176,7 +201,7 @@ pub(crate) fn run_drop(
 
 /// `has`: whether a tuple is an answer of a query.
 pub(crate) fn run_has<L: Ledgers>(
-    engine: &Engine,
+    engine: &Store,
     session: &mut Session<CursorId, Name>,
     query: &Name,
     tuple: &[Value],
@@ -190,15 +215,61 @@ pub(crate) fn run_has<L: Ledgers>(
     session.answer_has(outcome);
 }
 
-/// `explain`: the lines that explain the tree of a query. Out of memory, the session ends.
-pub(crate) fn run_explain(engine: &mut Engine, session: &mut Session<CursorId, Name>, query: &Name)
+// The lines that explain a union's members go behind a text.
+fn put_members(engine: &Store, union: &Name, count: usize, text: &mut BytesMut) -> Result<(), NoMem>
+    requires { IsSomeAnd (listed_of engine.now.store.queries union.now)
+        (λ q. count ≡ length (members_of q)) }
+    ensures { OnOk result (IsSomeAnd (listed_of engine.now.store.queries union.now)
+        (λ q. text.new.items ≡ text.old.items ++ text_of (member_lines q))) }
+{
+    for nth in 0..count {
+        put_member(&engine.member_name(union, nth), text)?;
+    }
+    Ok(())
+}
+
+// What explains a query or a union is queued: the lines of the one's tree, or of the other's members.
+//
+// # Errors
+//
+// `NoMem` out of memory; nothing is queued.
+fn queue_explained(
+    alloc: Global,
+    engine: &Store,
+    session: &mut Session<CursorId, Name>,
+    query: &Name,
+    explained: &Explained,
+) -> Result<(), NoMem>
+    requires { IsSomeAnd (listed_of engine.now.store.queries query.now)
+        (λ q. Explains q explained.now) }
+    ensures { QueuesExplained (listed_of engine.now.store.queries query.now)
+        session.old session.new result }
+{
+    match explained {
+        Explained::Tree(lines) => session.queue_explained(lines.as_bytes()),
+        Explained::Members(count) => {
+            let mut text = BytesMut::new(alloc);
+            put_members(engine, query, *count, &mut text)?;
+            session.queue_explained(&text)
+        }
+    }
+}
+
+/// `explain`: the lines that explain the tree of a query, or the members of a union. Out of memory, the session
+/// ends.
+pub(crate) fn run_explain(
+    alloc: Global,
+    engine: &mut Store,
+    session: &mut Session<CursorId, Name>,
+    query: &Name,
+)
     requires { IsReady engine.old session.old }
     ensures { Executes (Explain query.now) false
         engine.old session.old engine.new session.new 0 0 }
 {
     match engine.explain(query) {
-        Ok(lines) => {
-            if session.queue_explained(lines.as_bytes()).is_err() {
+        Ok(explained) => {
+            if queue_explained(alloc, engine, session, query, &explained).is_err() {
                 cut_off(engine, session);
             }
         }
@@ -210,7 +281,7 @@ pub(crate) fn run_explain(engine: &mut Engine, session: &mut Session<CursorId, N
 }
 
 /// `shape`: what bounds an update of a query.
-pub(crate) fn run_shape(engine: &Engine, session: &mut Session<CursorId, Name>, query: &Name)
+pub(crate) fn run_shape(engine: &Store, session: &mut Session<CursorId, Name>, query: &Name)
     requires { IsReady engine.now session.old }
     ensures { Executes (Shape query.now) false engine.now session.old engine.now session.new 0 0 }
 {
@@ -219,7 +290,7 @@ pub(crate) fn run_shape(engine: &Engine, session: &mut Session<CursorId, Name>, 
 }
 
 /// `quit`: the session ends.
-pub(crate) fn run_quit(engine: &mut Engine, session: &mut Session<CursorId, Name>)
+pub(crate) fn run_quit(engine: &mut Store, session: &mut Session<CursorId, Name>)
     requires { IsReady engine.old session.old }
     ensures { Executes Quit false engine.old session.old engine.new session.new 0 0 }
 {
@@ -228,7 +299,7 @@ pub(crate) fn run_quit(engine: &mut Engine, session: &mut Session<CursorId, Name
 }
 
 /// `stop`: the session ends, and the server is stopped.
-pub(crate) fn run_stop(engine: &mut Engine, session: &mut Session<CursorId, Name>)
+pub(crate) fn run_stop(engine: &mut Store, session: &mut Session<CursorId, Name>)
     requires { IsReady engine.old session.old }
     ensures { Executes Stop true engine.old session.old engine.new session.new 0 0 }
 {

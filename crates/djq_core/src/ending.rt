@@ -8,13 +8,13 @@ ghost use Rattle.djq_core.specs.Performs.{Performs};
 ghost use Rattle.djq_core.specs.Telling.{KeepsTold};
 ghost use Rattle.djq_core.specs.Sound.{IsOwn, HasCount};
 
-use djq_engine::{CursorId, Engine};
 use djq_lines::{EndCause, EndLine};
 use djq_model::Name;
 use djq_session::Session;
+use djq_store::{CursorId, Store};
 
-// The engine gives up the cursors of a session, and nothing else.
-fn give_up_cursors(engine: &mut Engine, session: &mut Session<CursorId, Name>)
+// The store gives up the cursors of a session, and nothing else.
+fn give_up_cursors(engine: &mut Store, session: &mut Session<CursorId, Name>)
     requires { IsOwn engine.old session.old }
     ensures { GivesUpCursors engine.old session.old engine.new session.new }
 {
@@ -23,8 +23,8 @@ fn give_up_cursors(engine: &mut Engine, session: &mut Session<CursorId, Name>)
     }
 }
 
-// The engine counts a session no more among those that watch its queries.
-fn give_up_watches(engine: &mut Engine, session: &mut Session<CursorId, Name>)
+// The store counts a session no more among those that watch its queries.
+fn give_up_watches(engine: &mut Store, session: &mut Session<CursorId, Name>)
     requires { HasCount engine.old.registered session.old.watches }
     ensures { GivesUpWatches engine.old session.old engine.new session.new }
 {
@@ -36,8 +36,8 @@ fn give_up_watches(engine: &mut Engine, session: &mut Session<CursorId, Name>)
     }
 }
 
-/// The engine gives up the cursors and the watches of a session, and nothing else.
-pub(crate) fn give_up(engine: &mut Engine, session: &mut Session<CursorId, Name>)
+/// The store gives up the cursors and the watches of a session, and nothing else.
+pub(crate) fn give_up(engine: &mut Store, session: &mut Session<CursorId, Name>)
     requires { IsOwn engine.old session.old }
     ensures gives_up { GivesUp engine.old session.old engine.new session.new }
     ensures told { KeepsTold engine.old engine.new }
@@ -47,7 +47,7 @@ pub(crate) fn give_up(engine: &mut Engine, session: &mut Session<CursorId, Name>
 }
 
 /// Out of memory in the midst of a reply, a session ends, and is told so.
-pub(crate) fn cut_off(engine: &mut Engine, session: &mut Session<CursorId, Name>)
+pub(crate) fn cut_off(engine: &mut Store, session: &mut Session<CursorId, Name>)
     requires own { IsOwn engine.old session.old }
     requires running { session.old.cause ≡ None }
     ensures { CutsOff engine.old session.old engine.new session.new }
@@ -58,7 +58,7 @@ pub(crate) fn cut_off(engine: &mut Engine, session: &mut Session<CursorId, Name>
 
 /// A session ends with a line that tells why.
 pub(crate) fn end_by(
-    engine: &mut Engine,
+    engine: &mut Store,
     session: &mut Session<CursorId, Name>,
     line: EndLine,
     cause: EndCause,
@@ -77,7 +77,7 @@ pub(crate) fn end_by(
 }
 
 /// A session's input has ended: where bytes are held, which no line end follows, that is said.
-pub(crate) fn end_input(engine: &mut Engine, session: &mut Session<CursorId, Name>)
+pub(crate) fn end_input(engine: &mut Store, session: &mut Session<CursorId, Name>)
     requires own { IsOwn engine.old session.old }
     requires running { session.old.cause ≡ None }
     ensures performs { Performs (λ st s x e st'. EndsQuietly session.old.held st s e st') false

@@ -2,10 +2,10 @@
 ghost use Rattle.std.specs.Prelude.{◌≡◌, IfOk};
 ghost use Rattle.djq_core.specs.Batching.{MakesRow, row_of};
 
-use djq_engine::Engine;
 use djq_lines::limits::HELD;
 use djq_lines::{HeldRow, Refusal};
 use djq_model::{Name, NoMem, Row, Sequence, Text, Value};
+use djq_store::Store;
 use std::alloc::Global;
 
 /// A row that is to be held behind so many others, with the line that says it.
@@ -15,7 +15,7 @@ use std::alloc::Global;
 /// Why it isn't held: the row doesn't suit a relation, or as many are held as may be; or out of memory.
 pub(crate) fn new_row(
     alloc: Global,
-    engine: &Engine,
+    engine: &Store,
     count: usize,
     line: &[u8],
     name: &Name,

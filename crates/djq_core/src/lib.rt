@@ -1,11 +1,11 @@
-//! The join machine over one engine, for up to 64 sessions.
+//! The join machine over one store of relations, queries and unions, for up to 64 sessions.
 //!
-//! [`Core`] keeps the engine, the open sessions by rising id, and whether a session said `stop`.
+//! [`Core`] keeps the store, the open sessions by rising id, and whether a session said `stop`.
 //! Each of its calls makes one step of the join machine, of which contracts see the state. It reads
 //! and sends nothing, and knows no time.
 //!
-//! What surprises: a cursor's name belongs to its session, and stands for a cursor of the engine;
-//! so two sessions may use one name, and a change outdates cursors in the engine alone, whatever
+//! What surprises: a cursor's name belongs to its session, and stands for a cursor of the store;
+//! so two sessions may use one name, and a change outdates cursors in the store alone, whatever
 //! sessions they are of. A session's end gives up its cursors and its watches, and nothing else. A
 //! change is told to all who watch before the session that made it is answered.
 //!
@@ -18,10 +18,10 @@
 //! ```
 //!
 //! Every command is a command of *a session among others*. Each function that runs one is handed
-//! the engine and that session alone, and promises a step of the machine whatever sessions there
+//! the store and that session alone, and promises a step of the machine whatever sessions there
 //! are besides (`specs/Performs.antt`); so none of them can read or write another session, and a
 //! step costs nothing that grows with their number but the binary search for its id. A change is
-//! told afterwards, by a pass over the sessions for each watched query that it affected.
+//! told afterwards, by a pass over the sessions for each watched query or union that it affected.
 //!
 //! What is kept of a step is its line, where the line is one that, loaded into a core without
 //! sessions, does there what it did here: `accepted` lends it, from a copy that was made before the
@@ -34,7 +34,7 @@
 //! line by line, and a session's end; `tell` what a command on rows leaves to do, each delta printed
 //! once, and then its answer. While a session has a batch open, `reading` says what its line is to
 //! the batch, `held` makes the rows that are held, and `batch` runs it. `told` lends an answer of the
-//! engine to the session that prints it; `copied` is where a line is copied, and `kept` what a step
+//! store to the session that prints it; `copied` is where a line is copied, and `kept` what a step
 //! kept.
 #![tactic(auto)]
 

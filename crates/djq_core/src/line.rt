@@ -13,14 +13,13 @@ use crate::batch::{run_batch, run_in_batch};
 use crate::change::Left;
 use crate::commands::{
     run_add, run_close, run_del, run_drop, run_explain, run_has, run_open, run_query, run_quit,
-    run_rel, run_shape, run_stop,
+    run_rel, run_shape, run_stop, run_union,
 };
 use crate::copied::Copied;
 use crate::ending::end_by;
 use crate::listing::run_next;
 use crate::reading::refusal_of;
 use crate::watch::{run_unwatch, run_watch};
-use djq_engine::{CursorId, Engine};
 use djq_lines::limits::{PENDING_BYTES, REPLY_BYTES};
 use djq_lines::{Command, EndCause, EndLine, Refusal};
 use djq_machine::Stepped;
@@ -28,11 +27,13 @@ use djq_model::{Name, Value};
 use djq_proto::{Front, RowLine, is_blank, read_command, read_row};
 use djq_session::Session;
 use djq_steps::{Ledgers, Steps};
+use djq_store::{CursorId, Store};
 use std::alloc::Global;
 
 // Runs a command that isn't on a row, and tells what is left to do.
 fn obey<L: Ledgers>(
-    engine: &mut Engine,
+    alloc: Global,
+    engine: &mut Store,
     session: &mut Session<CursorId, Name>,
     command: Command,
     steps: &mut Steps<L>,
@@ -52,6 +53,9 @@ fn obey<L: Ledgers>(
         Command::Del { .. } => unreachable!(),
         Command::Query { query } => Left::Nothing {
             kept: run_query(engine, session, query, steps),
+        },
+        Command::Union { name, members } => Left::Nothing {
+            kept: run_union(engine, session, name, &members),
         },
         Command::Open { cursor, query } => {
             run_open(engine, session, &cursor, &query);
@@ -81,7 +85,7 @@ fn obey<L: Ledgers>(
             Left::Nothing { kept: false }
         }
         Command::Explain { query } => {
-            run_explain(engine, session, &query);
+            run_explain(alloc, engine, session, &query);
             Left::Nothing { kept: false }
         }
         Command::Shape { query } => {
@@ -108,7 +112,7 @@ fn obey<L: Ledgers>(
 // what is left to do. Room for a reply was kept.
 fn run_front<L: Ledgers>(
     alloc: Global,
-    engine: &mut Engine,
+    engine: &mut Store,
     session: &mut Session<CursorId, Name>,
     end: usize,
     rest: usize,
@@ -135,7 +139,7 @@ fn run_front<L: Ledgers>(
 // do. Room for a reply was kept.
 fn run_line<L: Ledgers>(
     alloc: Global,
-    engine: &mut Engine,
+    engine: &mut Store,
     session: &mut Session<CursorId, Name>,
     end: usize,
     rest: usize,
@@ -177,7 +181,7 @@ fn run_line<L: Ledgers>(
 #[inline(never)]
 fn run_other<L: Ledgers>(
     alloc: Global,
-    engine: &mut Engine,
+    engine: &mut Store,
     session: &mut Session<CursorId, Name>,
     end: usize,
     rest: usize,
@@ -202,7 +206,7 @@ fn run_other<L: Ledgers>(
                 session.refuse(Refusal::Misplaced);
                 return Left::Nothing { kept: false };
             }
-            obey(engine, session, command, steps)
+            obey(alloc, engine, session, command, steps)
         }
         Err(refusal) => {
             session.refuse(refusal_of(refusal));
@@ -222,7 +226,7 @@ fn is_for_batch(command: &Command) -> bool
 // to do.
 fn step_line<L: Ledgers>(
     alloc: Global,
-    engine: &mut Engine,
+    engine: &mut Store,
     session: &mut Session<CursorId, Name>,
     end: usize,
     rest: usize,
@@ -272,7 +276,7 @@ fn step_line<L: Ledgers>(
 /// is copied before.
 pub(crate) fn step_session<L: Ledgers>(
     alloc: Global,
-    engine: &mut Engine,
+    engine: &mut Store,
     session: &mut Session<CursorId, Name>,
     copied: &mut Copied,
     row: &mut Vec<Value>,

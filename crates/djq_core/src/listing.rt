@@ -1,4 +1,4 @@
-//! `next`: one answer after another as the engine gives it, and the last line.
+//! `next`: one answer after another as the store gives it, and the last line.
 ghost use Rattle.std.specs.Prelude.{◌≡◌, ◌+◌, ◌≤◌, ◌∷◌, [], false};
 ghost use Rattle.djq_lines.specs.declared.limits.TheConstants.{LAST_LINE_BYTES, REPLY_BYTES};
 ghost use Rattle.djq_lines.specs.declared.command.Command.TheVariants.{Next as NextCommand};
@@ -8,11 +8,11 @@ ghost use Rattle.djq_core.specs.Sound.{AreHeld, IsReady};
 
 use crate::ending::cut_off;
 use crate::told::ToldAnswer;
-use djq_engine::{Answer, CursorId, Engine, Next};
 use djq_lines::Refusal;
 use djq_model::{Name, NoMem};
 use djq_session::Session;
 use djq_steps::{Ledgers, Listing, Tally};
+use djq_store::{Answer, CursorId, Next, Store};
 
 /// How a listing came out.
 #[derive(Clone, Copy, Debug)]
@@ -28,7 +28,7 @@ pub(crate) enum Listed {
 /// `next`: further answers, at most as many as asked for. Out of memory in a long reply, the
 /// session ends.
 pub(crate) fn run_next<L: Ledgers>(
-    engine: &mut Engine,
+    engine: &mut Store,
     session: &mut Session<CursorId, Name>,
     name: &Name,
     count: u32,
@@ -51,7 +51,7 @@ pub(crate) fn run_next<L: Ledgers>(
 
 // Reads a cursor, and queues its answers and the last line, as long as there is room.
 fn list_answers<L: Ledgers>(
-    engine: &mut Engine,
+    engine: &mut Store,
     session: &mut Session<CursorId, Name>,
     id: CursorId,
     count: u32,

@@ -13,13 +13,13 @@ use crate::line::step_session;
 use crate::open::OpenSession;
 use crate::tell::tell_change;
 use bytes::BytesMut;
-use djq_engine::Engine;
 use djq_lines::limits::{COLUMNS, SESSIONS};
 use djq_lines::{EndCause, EndLine, HeldRow};
 use djq_machine::{Fed, Machine, OpenRefusal, Stepped};
 use djq_model::{Name, NoMem, Sequence, Value};
 use djq_session::Session;
 use djq_steps::{Ledgers, Steps};
+use djq_store::Store;
 use std::alloc::Global;
 use std::marker::Model;
 
@@ -27,17 +27,17 @@ mod load;
 #[cfg(test)]
 mod tests;
 
-/// The join machine: an engine, and the open sessions. Contracts see its state, the lines that its
+/// The join machine: a store, and the open sessions. Contracts see its state, the lines that its
 /// last step kept, and what the batch of the loaded lines holds.
 ///
 /// ```text
 /// ids:      [ 1, 4, 5 ]              rising; a session is found by binary search
 /// sessions: [ s1, s4, s5 ]           each with its bytes and its cursors by name
-/// engine:   relations, queries, and the cursors that the names stand for
+/// engine:   the store: relations, queries, unions, and the cursors that the names stand for
 /// ```
 #[derive(Drop)]
 pub struct Core {
-    engine: Engine,
+    engine: Store,
     ids: Vec<u64>,
     sessions: Vec<OpenSession>,
     stopped: bool,
@@ -82,7 +82,7 @@ impl Core {
         ensures batch { IfOk result (λ core. core.batch ≡ None) }
     {
         Ok(Core {
-            engine: Engine::new(alloc)?,
+            engine: Store::new(alloc)?,
             ids: Vec::with_capacity(alloc, SESSIONS)?,
             sessions: Vec::with_capacity(alloc, SESSIONS)?,
             stopped: false,

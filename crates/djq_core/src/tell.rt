@@ -22,12 +22,12 @@ use crate::ending::{cut_off, end_by};
 use crate::open::OpenSession;
 use crate::told::ToldAnswer;
 use bytes::BytesMut;
-use djq_engine::{CursorId, Engine, QueryId};
 use djq_lines::limits::{PENDING_BYTES, REPLY_BYTES};
 use djq_lines::{AddOutcome, DeleteOutcome, EndCause, EndLine};
 use djq_model::Name;
 use djq_reply::{put_at, put_change};
 use djq_session::Session;
+use djq_store::{CursorId, QueryId, Store};
 
 // Whether a change was accepted: rows came that weren't there, or one went with its last copy.
 fn is_accepted(outcome: &Outcome) -> bool
@@ -49,7 +49,7 @@ fn is_accepted(outcome: &Outcome) -> bool
 
 // Prints the delta of a query behind what is printed, and tells whether it is there whole: its log
 // may be lost, or there is no memory for the text.
-fn print_delta(engine: &Engine, id: QueryId, query: &Name, text: &mut BytesMut) -> bool
+fn print_delta(engine: &Store, id: QueryId, query: &Name, text: &mut BytesMut) -> bool
     requires { IsRegistered engine.now id }
     ensures { Prints engine.now id query.now result text.old.items text.new.items }
 {
@@ -67,12 +67,7 @@ fn print_delta(engine: &Engine, id: QueryId, query: &Name, text: &mut BytesMut) 
 }
 
 // A session that watches is told a delta, or ends: too much is pending, or there is no memory.
-fn tell_watcher(
-    engine: &mut Engine,
-    session: &mut Session<CursorId, Name>,
-    whole: bool,
-    text: &[u8],
-)
+fn tell_watcher(engine: &mut Store, session: &mut Session<CursorId, Name>, whole: bool, text: &[u8])
     requires own { IsOwn engine.old session.old }
     requires running { session.old.cause ≡ None }
     ensures performs { Performs (λ st s x e st'. HearsDelta whole text.now st s x e st') false
@@ -94,12 +89,7 @@ fn tell_watcher(
 }
 
 // A delta is told to all sessions that watch its query. It is printed once.
-fn tell_query(
-    engine: &mut Engine,
-    sessions: &mut Vec<OpenSession>,
-    id: QueryId,
-    text: &mut BytesMut,
-)
+fn tell_query(engine: &mut Store, sessions: &mut Vec<OpenSession>, id: QueryId, text: &mut BytesMut)
     requires sound { IsSound engine.old sessions.old.items }
     requires registered { IsRegistered engine.old id }
     ensures tells { (r : Registered) → registered_at engine.old.registered id ≡ Some r
@@ -121,7 +111,7 @@ fn tell_query(
 }
 
 // The deltas of the queries that a change affected are told, in order of registration.
-fn tell_affected(engine: &mut Engine, sessions: &mut Vec<OpenSession>, text: &mut BytesMut)
+fn tell_affected(engine: &mut Store, sessions: &mut Vec<OpenSession>, text: &mut BytesMut)
     requires sound { IsSound engine.old sessions.old.items }
     requires registered { All (IsRegistered engine.old) engine.old.affected }
     ensures tells { TellsAffected engine.old sessions.old.items engine.new sessions.new.items }
@@ -134,7 +124,7 @@ fn tell_affected(engine: &mut Engine, sessions: &mut Vec<OpenSession>, text: &mu
 }
 
 // The own session is answered, where it goes on. Behind a delta room is made anew.
-fn answer_last(engine: &mut Engine, session: &mut Session<CursorId, Name>, outcome: &Outcome)
+fn answer_last(engine: &mut Store, session: &mut Session<CursorId, Name>, outcome: &Outcome)
     requires { IsOwn engine.old session.old }
     ensures { Performs (λ st s x e st'. AnswersLast (nat_le (REPLY_BYTES + LAST_LINE_BYTES)
         session.old.room) (reply_of outcome.now engine.old.store.seq) st s x e st') false
@@ -156,7 +146,7 @@ fn answer_last(engine: &mut Engine, session: &mut Session<CursorId, Name>, outco
 
 /// Tells a change to all who watch, where it was accepted, and answers it.
 pub(crate) fn tell_change(
-    engine: &mut Engine,
+    engine: &mut Store,
     sessions: &mut Vec<OpenSession>,
     at: usize,
     outcome: &Outcome,

@@ -1,7 +1,7 @@
-use djq_engine::LentAnswer;
 use djq_model::{Answered, Lent};
+use djq_store::LentAnswer;
 
-/// An answer that the engine lends, to be told value by value.
+/// An answer that the store lends, to be told value by value.
 #[derive(Drop)]
 pub(crate) struct ToldAnswer<'a> {
     pub(crate) lent: LentAnswer<'a>,

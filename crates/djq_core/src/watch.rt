@@ -5,13 +5,13 @@ ghost use Rattle.djq_core.specs.Performs.{Executes};
 ghost use Rattle.djq_core.specs.Sound.{IsOwn, IsReady};
 ghost use Rattle.djq_core.specs.Watches.{BeginsWatch, CeasesWatch};
 
-use djq_engine::{CursorId, Engine};
 use djq_lines::Refusal;
 use djq_model::Name;
 use djq_session::Session;
+use djq_store::{CursorId, Store};
 
 /// `watch`: the session is told from now on how the answers of a query change.
-pub(crate) fn run_watch(engine: &mut Engine, session: &mut Session<CursorId, Name>, query: &Name)
+pub(crate) fn run_watch(engine: &mut Store, session: &mut Session<CursorId, Name>, query: &Name)
     requires { IsReady engine.old session.old }
     ensures { Executes (Watch query.now) false engine.old session.old engine.new session.new 0 0 }
 {
@@ -21,7 +21,7 @@ pub(crate) fn run_watch(engine: &mut Engine, session: &mut Session<CursorId, Nam
 
 // The session watches a query, where it is registered and isn't watched yet.
 fn begin_watch(
-    engine: &mut Engine,
+    engine: &mut Store,
     session: &mut Session<CursorId, Name>,
     query: &Name,
 ) -> Result<(), Refusal>
@@ -43,7 +43,7 @@ fn begin_watch(
 }
 
 /// `unwatch`: the session is told no more how the answers of a query change.
-pub(crate) fn run_unwatch(engine: &mut Engine, session: &mut Session<CursorId, Name>, query: &Name)
+pub(crate) fn run_unwatch(engine: &mut Store, session: &mut Session<CursorId, Name>, query: &Name)
     requires { IsReady engine.old session.old }
     ensures { Executes (Unwatch query.now) false engine.old session.old engine.new session.new 0 0 }
 {
@@ -53,7 +53,7 @@ pub(crate) fn run_unwatch(engine: &mut Engine, session: &mut Session<CursorId, N
 
 // The session watches a query no more, where it did.
 fn cease_watch(
-    engine: &mut Engine,
+    engine: &mut Store,
     session: &mut Session<CursorId, Name>,
     query: &Name,
 ) -> Result<(), Refusal>

@@ -71,9 +71,16 @@ impl DeltaLog {
         }
         let answer = answer.copy();
         if self.lines.push(Line { came, answer }).is_err() {
-            self.lines.clear();
-            self.lost = true;
+            self.lose();
         }
+    }
+
+    /// Loses all lines: whoever puts them in can't go on.
+    pub fn lose(&mut self)
+        ensures { self.new.lost ≡ true }
+    {
+        self.lines.clear();
+        self.lost = true;
     }
 
     /// Takes all lines out, to begin anew.

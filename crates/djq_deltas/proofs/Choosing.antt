@@ -1,8 +1,37 @@
 -- The answers of a query, each from a choice of a row for each atom.
-use Rattle.std.specs.Prelude.{ℕ, suc, List, [], ◌∷◌, ◌≡◌, ◌+◌, ◌*◌, ◌≤◌, ◌++◌, ◌⊎◌, Bool, true, false, cond, pos, length, map, All, Contains}
+use Rattle.std.specs.Prelude.{
+  ℕ,
+  suc,
+  List,
+  [],
+  ◌∷◌,
+  ◌≡◌,
+  ◌+◌,
+  ◌*◌,
+  ◌≤◌,
+  ◌++◌,
+  ◌⊎◌,
+  Bool,
+  true,
+  false,
+  cond,
+  pos,
+  length,
+  map,
+  All,
+  Any,
+  Contains,
+}
 use Rattle.std.proofs.Common.{refl, sym, ap, ap₂, ◌∙◌, subst, inl, inr, length-append, arith}
 use Rattle.std.proofs.lemmas.List.{length-map}
-use Rattle.std.proofs.lemmas.List.Elements.{All-head, All-tail, All-contains, Contains-append_left, Contains-append_right}
+use Rattle.std.proofs.lemmas.List.Elements.{
+  All-head,
+  All-tail,
+  All-weaker,
+  All-contains,
+  Contains-append_left,
+  Contains-append_right,
+}
 use Rattle.djq_model.specs.declared.value.Value.{Value}
 use Rattle.djq_model.specs.declared.value.Value.TheVariants.{Int}
 use Rattle.djq_model.specs.declared.relation.Relation.{Relation}
@@ -12,11 +41,21 @@ use Rattle.djq_model.specs.declared.query.Term.{Term}
 use Rattle.djq_model.specs.declared.query.Term.TheVariants.{Variable, Hole, Constant}
 use Rattle.djq_model.specs.Data.{Bytes, Tuple, bytes_eq, tuple_eq, rows_of, drop_first}
 use Rattle.djq_model.specs.Answer.{Assignment, StandForAll, Satisfies, IsAnswer, AreDifferent}
-use Rattle.djq_model.specs.Listed.{a_query}
+use Rattle.djq_model.specs.Listed.{a_query, a_union}
 use Rattle.djq_model.specs.Equality.{bytes_eq-decides, tuple_eq-decides}
-use Rattle.djq_deltas.specs.Bounded.{choices, AnswersAreBounded}
+use Rattle.djq_deltas.specs.Bounded.{choices, all_choices as choices_of_all, AnswersAreBounded}
 use Rattle.djq_deltas.specs.Finite.{IsBound}
-use Rattle.djq_deltas.proofs.Lists.{nothing_there, first_or_later, first_there, later_there, mapped_there, pairs_head, pairs_tail, hold_each}
+use Rattle.djq_deltas.proofs.Lists.{
+  nothing_there,
+  first_or_later,
+  first_there,
+  later_there,
+  mapped_there,
+  pairs_head,
+  pairs_tail,
+  hold_each,
+  some_one,
+}
 
 -- A list of different tuples that another contains is no longer.
 without : List Tuple → Tuple → List Tuple
@@ -190,9 +229,37 @@ is_there relations q bound t h =
     subst (λ (u : Tuple). Contains (map (answer_of q) (all_choices relations q.atoms)) u) same
     (mapped_there (answer_of q) (all_choices relations q.atoms) c.rows c.there)
 
+-- the answers of all choices, and those of queries together
+chosen_answers : List Relation → Query → List Tuple
+chosen_answers relations q = map (answer_of q) (all_choices relations q.atoms)
+
+so_many_answers : (relations : List Relation) (q : Query)
+    → length (chosen_answers relations q) ≡ choices relations q.atoms
+unfolding chosen_answers
+so_many_answers relations q = length-map (all_choices relations q.atoms) (answer_of q) ∙ so_many relations q.atoms
+
+so_many_of_all : (relations : List Relation) (qs : List Query)
+    → length (each (chosen_answers relations) qs) ≡ choices_of_all relations qs
+unfolding each
+so_many_of_all relations [] = refl
+so_many_of_all relations (q ∷ qs) = length-append (chosen_answers relations q) (each (chosen_answers relations) qs)
+    ∙ ap₂ (λ (i j : ℕ). i + j) (so_many_answers relations q) (so_many_of_all relations qs)
+
+-- Different answers that are all among so many are no more.
+no_more : (Answer : Tuple → Type 0) (all : List Tuple) (n : ℕ) → length all ≡ n
+    → ((t : Tuple) → Answer t → Contains all t)
+    → (ts : List Tuple) → AreDifferent ts → All Answer ts → length ts ≤ n
+no_more Answer all n count there ts differ answers =
+    subst (λ (m : ℕ). length ts ≤ m) count (fewer ts all differ (All-weaker Answer (Contains all) there ts answers))
+
 pub answers_are_bounded : AnswersAreBounded
-answers_are_bounded relations (a_query q) bound ts differ answers =
-    let all = map (answer_of q) (all_choices relations q.atoms) in
-    let count : length all ≡ choices relations q.atoms = length-map (all_choices relations q.atoms) (answer_of q) ∙ so_many relations q.atoms in
-    subst (λ (n : ℕ). length ts ≤ n) count
-    (fewer ts all differ (hold_each (Contains all) ts (λ t k. is_there relations q bound t (All-contains (IsAnswer relations q) ts t answers k))))
+unfolding chosen_answers
+answers_are_bounded relations (a_query q) bound =
+    no_more (IsAnswer relations q) (chosen_answers relations q) (choices relations q.atoms)
+    (so_many_answers relations q) (is_there relations q bound)
+answers_are_bounded relations (a_union name qs) bound =
+    no_more (λ t. Any (λ (q : Query). IsAnswer relations q t) qs) (each (chosen_answers relations) qs)
+    (choices_of_all relations qs) (so_many_of_all relations qs)
+    (λ t h. let o = some_one (λ (q : Query). IsAnswer relations q t) qs h in
+    each_there (chosen_answers relations) qs o.0 t o.1
+    (is_there relations o.0 (All-contains IsBound qs o.0 bound o.1) t o.2))

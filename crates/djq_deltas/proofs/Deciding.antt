@@ -1,6 +1,7 @@
--- Whether a tuple is an answer is decided: of a query, one of finitely many choices of rows shows it, or none does.
-use Rattle.std.specs.Prelude.{List, [], ◌∷◌, ◌≡◌, ◌⊎◌, Bool, true, false, cond, map, All, Contains}
-use Rattle.std.proofs.Common.{refl, sym, ap, ap₂, ◌∙◌, inl, inr}
+-- Whether a tuple is an answer is decided: of a query, one of finitely many choices of rows shows it, or none does;
+-- of a union it is decided for each member.
+use Rattle.std.specs.Prelude.{List, [], ◌∷◌, ◌≡◌, ◌⊎◌, Bool, true, false, cond, map, All, Any, Contains}
+use Rattle.std.proofs.Common.{refl, sym, ap, ap₂, ◌∙◌, subst, inl, inr}
 use Rattle.std.proofs.lemmas.List.Elements.{All-nil, All-cons, All-head, All-tail, All-contains}
 use Rattle.djq_model.specs.declared.value.Value.{Value}
 use Rattle.djq_model.specs.declared.relation.Relation.{Relation}
@@ -11,10 +12,18 @@ use Rattle.djq_model.specs.declared.query.Term.{Term}
 use Rattle.djq_model.specs.declared.query.Term.TheVariants.{Variable, Hole, Constant}
 use Rattle.djq_model.specs.Data.{Bytes, Tuple, bytes_eq, value_eq, rows_of}
 use Rattle.djq_model.specs.Answer.{Assignment, StandForAll, Satisfies, compares, HoldsOf, IsAnswer}
-use Rattle.djq_model.specs.Listed.{a_query}
+use Rattle.djq_model.specs.Listed.{a_query, a_union}
 use Rattle.djq_model.specs.Equality.{bytes_eq-decides, value_eq-decides}
 use Rattle.djq_deltas.specs.Decided.{Decided, AnswersAreDecided}
-use Rattle.djq_deltas.proofs.Lists.{nothing_there, first_or_later, first_there, later_there, hold_each}
+use Rattle.djq_deltas.proofs.Lists.{
+  nothing_there,
+  first_or_later,
+  first_there,
+  later_there,
+  hold_each,
+  some_one,
+  one_there,
+}
 use Rattle.djq_deltas.proofs.Comparing.{pick, picked_holds}
 
 decided_as : {A B : Type 0} → (A → B) → (B → A) → Decided A → Decided B
@@ -199,5 +208,22 @@ query_decided relations q t =
     (head_decided (λ f. All (Satisfies relations f) q.atoms × All (HoldsOf f) q.comparisons)
     (λ bs. atoms_decided relations q.comparisons q.atoms bs) q.head t [])
 
+-- Whether some of a list has it is decided where it is of each.
+any_decided : {A : Type 0} (P : A → Type 0) → ((x : A) → Decided (P x)) → (xs : List A) → Decided (Any P xs)
+any_decided P decided [] = inr (λ h. let o = some_one P [] h in nothing_there o.0 o.1)
+any_decided {A = A} P decided (x ∷ xs) = step (decided x) (any_decided P decided xs)
+  where
+    step : Decided (P x) → Decided (Any P xs) → Decided (Any P (x ∷ xs))
+    step (inl h) d = inl (one_there P (x ∷ xs) x (first_there x xs x refl) h)
+    step (inr never) (inl k) = let o = some_one P xs k in inl (one_there P (x ∷ xs) o.0 (later_there x xs o.0 o.1) o.2)
+    step (inr never) (inr none) =
+        inr (λ h. let o = some_one P (x ∷ xs) h in either o.0 o.2 (first_or_later x xs o.0 o.1))
+      where
+        either : (y : A) → P y → (x ≡ y) ⊎ Contains xs y → ⊥
+        either y h (inl e) = never (subst P (sym e) h)
+        either y h (inr c) = none (one_there P xs y c h)
+
 pub answers_are_decided : AnswersAreDecided
 answers_are_decided relations (a_query q) t = query_decided relations q t
+answers_are_decided relations (a_union name qs) t =
+    any_decided (λ (q : Query). IsAnswer relations q t) (λ (q : Query). query_decided relations q t) qs

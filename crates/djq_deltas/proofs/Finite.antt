@@ -1,18 +1,82 @@
--- A listing of answers, and the delta between two.
-use Rattle.std.specs.Prelude.{List, [], ◌∷◌, ◌≡◌, ◌++◌, ◌⊎◌, Bool, true, false, not, filter, map, All, Contains}
+-- A listing of answers, and the delta between two: a union lists its members' listings, each answer once.
+use Rattle.std.specs.Prelude.{List, [], ◌∷◌, ◌≡◌, ◌++◌, ◌⊎◌, Bool, true, false, not, filter, map, All, Any, Contains}
 use Rattle.std.proofs.Common.{refl, sym, ap, ◌∙◌, subst, inl, inr}
 use Rattle.std.proofs.lemmas.List.{map-append}
-use Rattle.std.proofs.lemmas.List.Elements.{All-nil, All-cons, All-head, All-tail, All-append, All-contains, Contains-append_left, Contains-append_right}
+use Rattle.std.proofs.lemmas.List.Elements.{
+  All-nil,
+  All-cons,
+  All-head,
+  All-tail,
+  All-append,
+  All-weaker,
+  All-contains,
+  Contains-append_left,
+  Contains-append_right,
+}
 use Rattle.std.proofs.lemmas.List.Kept.{AllPairs-filter}
+use Rattle.djq_model.specs.declared.relation.Relation.{Relation}
+use Rattle.djq_model.specs.declared.query.Query.{Query}
 use Rattle.djq_model.specs.Data.{Tuple, has_row}
 use Rattle.djq_model.specs.Answer.{IsAnswer, IsListing, AreDifferent}
-use Rattle.djq_model.specs.Listed.{a_query, AnswersOf}
+use Rattle.djq_model.specs.Listed.{a_query, a_union, AnswersOf}
 use Rattle.djq_lines.specs.declared.answer.Sign.{Sign}
 use Rattle.djq_lines.specs.declared.answer.Sign.TheVariants.{Came, Went}
 use Rattle.djq_machine.specs.Delta.{Change, HasChanged, IsDelta}
-use Rattle.djq_deltas.specs.Finite.{AnswersAreFinite, DeltasExist}
-use Rattle.djq_deltas.proofs.Lists.{nothing_there, first_or_later, first_there, later_there, row_found, row_there, kept_hold, kept_there, pairs_join, hold_each, once, once_hold, once_there, once_differ}
+use Rattle.djq_deltas.specs.Finite.{IsBound, AnswersAreFinite, DeltasExist}
+use Rattle.djq_deltas.proofs.Lists.{
+  nothing_there,
+  first_or_later,
+  first_there,
+  later_there,
+  row_found,
+  row_there,
+  kept_hold,
+  kept_there,
+  pairs_join,
+  hold_each,
+  some_one,
+  one_there,
+  once,
+  once_hold,
+  once_there,
+  once_differ,
+}
 use Rattle.djq_deltas.proofs.Naive.{listed, all_hold, all_there}
+
+-- the answers of queries, one query behind another
+abbrev listed_of_all : List Relation → List Query → List Tuple
+listed_of_all relations [] = []
+listed_of_all relations (q ∷ qs) = listed relations q ++ listed_of_all relations qs
+
+-- A tuple is an answer of one of these queries.
+abbrev IsAnswerOfSome : List Relation → List Query → Tuple → Type 0
+IsAnswerOfSome relations qs t = Any (λ (q : Query). IsAnswer relations q t) qs
+
+all_of_some : (relations : List Relation) (qs : List Query)
+    → All (IsAnswerOfSome relations qs) (listed_of_all relations qs)
+all_of_some relations [] = All-nil (IsAnswerOfSome relations [])
+all_of_some relations (q ∷ qs) =
+    All-append (IsAnswerOfSome relations (q ∷ qs)) (listed relations q) (listed_of_all relations qs)
+    (All-weaker (IsAnswer relations q) (IsAnswerOfSome relations (q ∷ qs))
+    (λ t h. one_there (λ (p : Query). IsAnswer relations p t) (q ∷ qs) q (first_there q qs q refl) h)
+    (listed relations q) (all_hold relations q))
+    (All-weaker (IsAnswerOfSome relations qs) (IsAnswerOfSome relations (q ∷ qs))
+    (λ t h. let o = some_one (λ (p : Query). IsAnswer relations p t) qs h in
+    one_there (λ (p : Query). IsAnswer relations p t) (q ∷ qs) o.0 (later_there q qs o.0 o.1) o.2)
+    (listed_of_all relations qs) (all_of_some relations qs))
+
+some_of_all : (relations : List Relation) (qs : List Query) (q : Query) (t : Tuple) → All IsBound qs → Contains qs q
+    → IsAnswer relations q t → Contains (listed_of_all relations qs) t
+some_of_all relations [] q t bound k h = absurd (nothing_there q k)
+some_of_all relations (p ∷ qs) q t bound k h =
+    step (first_or_later p qs q k) (λ c. some_of_all relations qs q t (All-tail IsBound p qs bound) c h)
+  where
+    step : (p ≡ q) ⊎ Contains qs q → (Contains qs q → Contains (listed_of_all relations qs) t)
+        → Contains (listed relations p ++ listed_of_all relations qs) t
+    step (inl e) more = Contains-append_left (listed relations p) (listed_of_all relations qs) t
+        (all_there relations p (All-head IsBound p qs bound) t
+        (subst (λ (r : Query). IsAnswer relations r t) (sym e) h))
+    step (inr c) more = Contains-append_right (listed relations p) (listed_of_all relations qs) t (more c)
 
 pub answers_are_finite : AnswersAreFinite
 answers_are_finite relations (a_query q) bound = (
@@ -21,6 +85,15 @@ answers_are_finite relations (a_query q) bound = (
     different = once_differ (listed relations q);
     answers = once_hold (IsAnswer relations q) (listed relations q) (all_hold relations q);
     complete = λ t h. once_there (listed relations q) t (all_there relations q bound t h);
+  },
+)
+answers_are_finite relations (a_union name qs) bound = (
+  once (listed_of_all relations qs),
+  record {
+    different = once_differ (listed_of_all relations qs);
+    answers = once_hold (IsAnswerOfSome relations qs) (listed_of_all relations qs) (all_of_some relations qs);
+    complete = λ t h. let o = some_one (λ (q : Query). IsAnswer relations q t) qs h in
+        once_there (listed_of_all relations qs) t (some_of_all relations qs o.0 t bound o.1 o.2);
   },
 )
 

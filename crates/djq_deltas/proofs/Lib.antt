@@ -4,3 +4,4 @@ pub mod Deciding
 pub mod Naive
 pub mod Finite
 pub mod Choosing
+pub mod Growing

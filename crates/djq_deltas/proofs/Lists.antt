@@ -1,7 +1,36 @@
 -- What lists contain, and lists without repeats.
-use Rattle.std.specs.Prelude.{zero, suc, List, [], ◌∷◌, ◌≡◌, ◌++◌, ◌⊎◌, Bool, true, false, cond, filter, map, All, AllPairs, Contains}
+use Rattle.std.specs.Prelude.{
+  zero,
+  suc,
+  List,
+  [],
+  ◌∷◌,
+  ◌≡◌,
+  ◌++◌,
+  ◌⊎◌,
+  Bool,
+  true,
+  false,
+  cond,
+  filter,
+  map,
+  All,
+  AllPairs,
+  Any,
+  Contains,
+}
 use Rattle.std.proofs.Common.{refl, sym, ap, ◌∙◌, subst, inl, inr, arith}
-use Rattle.std.proofs.lemmas.List.Elements.{All-nil, All-cons, All-head, All-tail, All-append, All-weaker, All-contains_itself, Contains-append_right, Contains-append_cases}
+use Rattle.std.proofs.lemmas.List.Elements.{
+  All-nil,
+  All-cons,
+  All-head,
+  All-tail,
+  All-append,
+  All-weaker,
+  All-contains_itself,
+  Contains-append_right,
+  Contains-append_cases,
+}
 use Rattle.std.proofs.lemmas.List.Kept.{AllPairs-cons}
 use Rattle.djq_model.specs.Data.{Tuple, tuple_eq, has_row}
 use Rattle.djq_model.specs.Answer.{AreDifferent}
@@ -27,6 +56,13 @@ first_there y ys x e = (0, omega arith, e)
 
 pub later_there : {A : Type 0} (y : A) (ys : List A) (x : A) → Contains ys x → Contains (y ∷ ys) x
 later_there y ys x h = Contains-append_right (y ∷ []) ys x h
+
+-- what some of a list has
+pub some_one : {A : Type 0} (P : A → Type 0) (xs : List A) → Any P xs → (x : A) × Contains xs x × P x
+some_one P xs (k, x, l, e, h) = (x, (k, l, e), h)
+
+pub one_there : {A : Type 0} (P : A → Type 0) (xs : List A) (x : A) → Contains xs x → P x → Any P xs
+one_there P xs x (k, l, e) h = (k, x, l, e, h)
 
 -- whether a row is among rows
 pub row_found : (ts : List Tuple) (t : Tuple) → Contains ts t → has_row ts t ≡ true

@@ -1,12 +1,12 @@
 -- Which queries have finitely many answers.
-use Rattle.std.specs.Prelude.{List, Contains}
+use Rattle.std.specs.Prelude.{List, All, Contains}
 use Rattle.djq_model.specs.declared.relation.Relation.{Relation}
 use Rattle.djq_model.specs.declared.query.Query.{Query}
 use Rattle.djq_model.specs.declared.query.Atom.{Atom}
 use Rattle.djq_model.specs.declared.query.Term.TheVariants.{Variable}
 use Rattle.djq_model.specs.Data.{Bytes, Tuple}
 use Rattle.djq_model.specs.Answer.{IsListing}
-use Rattle.djq_model.specs.Listed.{Listed, a_query, AnswersOf}
+use Rattle.djq_model.specs.Listed.{Listed, a_query, a_union, AnswersOf}
 use Rattle.djq_machine.specs.Delta.{Change, IsDelta}
 
 -- A variable stands in an atom of a query.
@@ -17,9 +17,10 @@ IsInBody x q = (a : Atom) × Contains q.atoms a × Contains a.terms (Variable x)
 abbrev pub IsBound : Query → Type 0
 IsBound q = (x : Bytes) → Contains q.head x → IsInBody x q
 
--- What is registered is bound where its query is.
+-- What is registered is bound where its query is, or each of its members.
 abbrev pub IsBoundListed : Listed → Type 0
 IsBoundListed (a_query q) = IsBound q
+IsBoundListed (a_union name qs) = All IsBound qs
 
 -- What is registered has a listing of its answers, where it is bound.
 abbrev pub AnswersAreFinite : Type 0

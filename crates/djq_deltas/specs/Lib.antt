@@ -1,3 +1,4 @@
 pub mod Decided
 pub mod Finite
 pub mod Bounded
+pub mod Growing

@@ -30,6 +30,8 @@
 ghost use Rattle.djq_deltas.specs.Decided.{AnswersAreDecided};
 ghost use Rattle.djq_deltas.specs.Finite.{AnswersAreFinite, DeltasExist};
 ghost use Rattle.djq_deltas.specs.Bounded.{AnswersAreBounded};
+ghost use Rattle.djq_deltas.specs.Growing.{AnswersStay, AnswersCome, AnswersGo, RowComes, RowsCome, RowGoes};
+ghost use Rattle.djq_deltas.specs.Growing.{ChangesSpareOthers, BatchesSpareOthers, AnswersRest};
 
 /// A tuple is an answer of what is registered over some relations, or it isn't.
 pub fn answers_are_decided()
@@ -37,7 +39,7 @@ pub fn answers_are_decided()
 {}
 
 /// What is registered has finitely many answers: a query, where each variable of its head stands in
-/// its body.
+/// its body, and a union where that holds of its members.
 pub fn answers_are_finite()
     ensures { AnswersAreFinite }
 {}
@@ -47,7 +49,27 @@ pub fn deltas_exist()
     ensures { DeltasExist }
 {}
 
-/// It has no more answers than there are choices of a row for each of its atoms.
+/// It has no more answers than there are choices of a row for each of its atoms; a union no more than
+/// its members together.
 pub fn answers_are_bounded()
     ensures { AnswersAreBounded }
+{}
+
+/// Where rows only come, as by a row that is added and by a batch, answers only come; where they only go,
+/// as by a row that is deleted, answers only go.
+pub fn answers_follow_rows()
+    ensures stay { AnswersStay }
+    ensures come { AnswersCome }
+    ensures go { AnswersGo }
+    ensures added { RowComes }
+    ensures batched { RowsCome }
+    ensures deleted { RowGoes }
+{}
+
+/// A change leaves the relations that it doesn't touch as they were, and so the answers of a query that
+/// reads none that it touches.
+pub fn answers_rest()
+    ensures rest { AnswersRest }
+    ensures changes { ChangesSpareOthers }
+    ensures batches { BatchesSpareOthers }
 {}

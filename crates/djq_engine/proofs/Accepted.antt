@@ -23,7 +23,8 @@ use Rattle.djq_reach.specs.Reaching.{Reach, Renews}
 use Rattle.djq_reach.specs.Tending.{AreShown, Tells, TellsWhere, TellsAt, TendedAt, Tends}
 use Rattle.djq_reach.specs.Grouping.{Leads, CostsBy, reached}
 use Rattle.djq_engine.specs.declared.parts.Parts.{Parts}
-use Rattle.djq_engine.specs.Kept.{Outdates}
+use Rattle.djq_engine.specs.Kept.{Outdates, is_tried}
+use Rattle.djq_engine.proofs.Placed.{KeepsIn, keeps_turned}
 use Rattle.djq_engine.specs.Places.{query_in, queries_in}
 use Rattle.djq_engine.specs.Outdating.{AgesAll}
 use Rattle.djq_engine.specs.Watching.{TellsChange}
@@ -112,6 +113,10 @@ module _ (old mid new : Parts) (s : IsWhole old) (t : IsTended old) (held : List
 
   pub taken_registered : (kept_in new).registered ≡ (kept_in old).registered
   taken_registered = registered_then outdater places old mid new s turned
+
+  pub taken_places : KeepsIn (is_tried (tried (batch_outcome st held (Ok count)))) old.queries.items new.queries.items
+  taken_places = subst (λ (o : RowsOutcome). KeepsIn (is_tried (tried o)) old.queries.items new.queries.items) (sym (outcome_some st held count k.some))
+      (keeps_turned outdater (is_tried (Some change)) places old mid new s (λ q. refl) turned)
 
   pub taken_cursors : Outdates (kept_in old) (tried (batch_outcome st held (Ok count))) (kept_in new)
   taken_cursors = subst (λ (o : RowsOutcome). Outdates (kept_in old) (tried o) (kept_in new)) (sym (outcome_some st held count k.some)) (cursors_then outdater places old mid new s turned)

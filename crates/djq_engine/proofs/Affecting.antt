@@ -4,12 +4,13 @@ use Rattle.std.proofs.Common.{ℕ, zero, suc, List, [], ◌∷◌, ◌+◌, ◌�
 use Rattle.std.specs.Prelude.{◌==◌, ◌&&◌, ◌||◌, Option, None, Some, is_some, cond, map, filter, sum_by, slice_index_or, All}
 use Rattle.std.proofs.lemmas.Bool.{eq-eqb, false≢true}
 use Rattle.std.proofs.lemmas.List.Sums.{sum_by-cons}
+use Rattle.djq_model.specs.declared.relation.Relation.{Relation}
 use Rattle.djq_model.specs.Data.{Bytes}
 use Rattle.djq_model.specs.Answer.{IsAnswer}
 use Rattle.djq_model.specs.Listed.{AnswersOf}
 use Rattle.djq_machine.specs.Changes.{RowsChange, accepted, out_of_memory, is_outdated}
 use Rattle.djq_machine.specs.Delta.{Change, IsDelta}
-use Rattle.djq_machine.specs.Watch.{Delta, AreDeltas, delta_steps}
+use Rattle.djq_machine.specs.Watch.{Delta, AreDeltas, ArePartsOf, delta_steps}
 use Rattle.djq_cursor.specs.Log.{Log}
 use Rattle.djq_rows.specs.Catalog.{Catalog}
 use Rattle.djq_live.specs.Live.{Live}
@@ -29,7 +30,7 @@ use Rattle.djq_engine.proofs.Told.{AlikeAt, AreAlike, told_is, told_alike_at}
 
 -- ---- lists that are made from places
 
-all_made : {A : Type 0} (P : A → Type 0) (g : ℕ → A) (xs : List ℕ) → ((i : ℕ) → is_reader xs i ≡ true → P (g i)) → All P (map g xs)
+pub all_made : {A : Type 0} (P : A → Type 0) (g : ℕ → A) (xs : List ℕ) → ((i : ℕ) → is_reader xs i ≡ true → P (g i)) → All P (map g xs)
 all_made P g [] h k d l = absurd (omega (arith, l))
 all_made P g (x ∷ xs) h zero d l = h x (ap (λ b. b || is_reader xs x) (eq-eqb x x refl))
 all_made P g (x ∷ xs) h (suc k) d l = all_made P g xs (λ i e. h i (step i (x == i) e)) k d (omega (arith, l))
@@ -43,6 +44,11 @@ both_true true b e = (refl, e)
 both_true false b e = absurd (false≢true e)
 
 -- ---- the deltas
+
+-- a query has no parts
+no_parts : (before : List Relation) (change : RowsChange) (changes : List Change) (o : Option Live) → ArePartsOf before change (record { query = query_in o; changes = changes; parts = [] })
+no_parts before change changes None = record { of_members = refl; are_deltas = λ k d low. absurd (omega (arith, low)) }
+no_parts before change changes (Some l) = record { of_members = refl; are_deltas = λ k d low. absurd (omega (arith, low)) }
 
 -- the places of the queries that a change outdates, in order of registration
 abbrev pub outdated_places : List (Option Live) → List ℕ → RowsChange → List ℕ
@@ -75,7 +81,7 @@ module _ (c : Catalog) (gs : List (Option Live)) (order : List ℕ) (readers : L
   place_outdated i t = place_is i ∙ ap (λ b. b && is_outdated change (query_in (place_at gs i))) (ap is_some t.is)
 
   abbrev delta_at : (ℕ → List Change) → ℕ → Delta
-  delta_at f i = record { query = query_in (place_at gs i); changes = f i }
+  delta_at f i = record { query = query_in (place_at gs i); changes = f i; parts = [] }
 
   abbrev pub deltas_with : (ℕ → List Change) → List Delta
   deltas_with f = map (delta_at f) watched
@@ -88,7 +94,7 @@ module _ (c : Catalog) (gs : List (Option Live)) (order : List ℕ) (readers : L
   reader_there : (i : ℕ) → is_reader places i ≡ true → There gs i
   reader_there i e = live_there gs i (both_true (is_live gs i) _ (sym (place_is i) ∙ e)).0
 
-  pub listed_with : (f : ℕ → List Change) → AreFor f → AreDeltas c.relations change.after (map (λ r. r.query) (affected_of (registered_in gs ws order) change)) (deltas_with f)
+  pub listed_with : (f : ℕ → List Change) → AreFor f → AreDeltas c.relations change (map (λ r. r.query) (affected_of (registered_in gs ws order) change)) (deltas_with f)
   listed_with f h = record {
     of_queries =
         map_mapped (λ (d : Delta). d.query) (delta_at f) watched
@@ -98,6 +104,7 @@ module _ (c : Catalog) (gs : List (Option Live)) (order : List ℕ) (readers : L
         let b = both_true (is_reader places i) (watched_at ws i) (sym (reader_filter (watched_at ws) places i) ∙ e) in
         let t = reader_there i b.0 in
         subst (λ (o : Option Live). IsDelta (AnswersOf c.relations (query_in o)) (AnswersOf change.after (query_in o)) (f i)) (sym t.is) (h i t.query b.0 b.1 t.is));
+    have_parts = all_made (ArePartsOf c.relations change) (delta_at f) watched (λ i e. no_parts c.relations change (f i) (place_at gs i));
   }
 
   -- where a cost of each place is bounded, so is that of all

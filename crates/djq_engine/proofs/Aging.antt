@@ -1,6 +1,6 @@
 -- The queries that read a relation are carried over and their cursors become stale: what is kept,
 -- and where all cursors stand.
-use Rattle.std.proofs.Common.{ℕ, zero, suc, List, [], ◌∷◌, ◌≡◌, ◌<◌, Bool, true, false, refl, sym, ap, ◌∙◌, subst, length}
+use Rattle.std.proofs.Common.{ℕ, zero, suc, List, [], ◌∷◌, ◌≡◌, ◌<◌, Bool, true, false, refl, sym, ap, ◌∙◌, subst, length, arith}
 use Rattle.std.specs.Prelude.{Option, None, Some, IsSomeAnd, is_some, option_map, map, cond, ⊤}
 use Rattle.djq_model.specs.declared.query.Query.{Query}
 use Rattle.djq_model.specs.Data.{Bytes}
@@ -127,6 +127,7 @@ module _ (c d : Catalog) (gs ks : List (Option Live)) (order : List ℕ) (reader
     listed = λ i. s.listed i ∙ sym (same_live i);
     once = s.once;
     few = s.few;
+    bounded = omega (arith, s.bounded, turns.length);
     long = s.long ∙ sym names.long;
     reading = λ r l. s.reading r (subst (λ (k : ℕ). r < k) names.long l)
         ∙ filter_members (λ i. reads_place (relation_at c.relations r).name (place_at gs i)) (λ i. reads_place (relation_at d.relations r).name (place_at ks i)) order

@@ -188,6 +188,7 @@ sound_texts c d gs order readers same stay s = record {
   listed = s.listed;
   once = s.once;
   few = s.few;
+  bounded = s.bounded;
   long = s.long ∙ ap (λ (rs : List Relation). length rs) (sym same);
   reading = λ r low. s.reading r (subst (λ (rs : List Relation). r < length rs) same low)
       ∙ ap (λ (rs : List Relation). filter (λ i. reads_place (relation_at rs r).name (place_at gs i)) order) (sym same);
@@ -203,6 +204,7 @@ sound_rows c d gs order readers long names stay s = record {
   listed = s.listed;
   once = s.once;
   few = s.few;
+  bounded = s.bounded;
   long = s.long ∙ sym long;
   reading = λ r low. s.reading r (subst (λ (n : ℕ). r < n) long low)
       ∙ ap (λ (x : Bytes). filter (λ i. reads_place x (place_at gs i)) order) (sym (names r));

@@ -1,5 +1,5 @@
 -- A query more, or a query less: what is kept, and where all cursors stand.
-use Rattle.std.proofs.Common.{ℕ, zero, suc, List, [], ◌∷◌, ◌++◌, ◌≡◌, ◌≢◌, ◌<◌, ◌≤◌, ◌⊎◌, inl, inr, Bool, true, false, refl, sym, ap, ap₂, ◌∙◌, subst, length, set, arith, length-append, append-nil}
+use Rattle.std.proofs.Common.{ℕ, zero, suc, List, [], ◌∷◌, ◌++◌, ◌≡◌, ◌≢◌, ◌<◌, ◌≤◌, ◌⊎◌, inl, inr, Bool, true, false, refl, sym, ap, ap₂, ◌∙◌, subst, length, set, length-set, arith, length-append, append-nil}
 use Rattle.std.specs.Prelude.{◌==◌, ◌&&◌, ◌||◌, not, Option, None, Some, is_some, count_by, option_map, filter, cond}
 use Rattle.std.proofs.lemmas.Bool.{cases_lt, eqb-true, eq-eqb, false≢true}
 use Rattle.std.proofs.lemmas.List.Elements.{filter-append}
@@ -36,7 +36,7 @@ none_some x o e f = cc
 module _ (c : Catalog) (gs hs : List (Option Live)) (order order' : List ℕ) (readers readers' : List (List ℕ)) (s : IsSound c gs order readers) (q : Live) (live : IsLive c q) (idle : q.cursors ≡ [])
     (place : ℕ) (vacant : place_at gs place ≡ None) (here : place_at hs place ≡ Some q) (others : (i : ℕ) → i ≢ place → place_at hs i ≡ place_at gs i)
     (last : order' ≡ order ++ place ∷ []) (joins : JoinsReaders c.relations q.query place readers readers')
-    (fresh : listed_of (queries_in gs order) q.query.name ≡ None) (few : length order < QUERIES) where
+    (fresh : listed_of (queries_in gs order) q.query.name ≡ None) (few : length order < QUERIES) (bounded : length hs ≤ QUERIES) where
   unnamed_now : (j : ℕ) (m : Live) → place_at gs j ≡ Some m → m.query.name ≡ q.query.name → ⊥
   unnamed_now j m e n = let found = query_there c gs order readers s q.query.name j m e n in let none = fresh in absurd (cc)
 
@@ -89,6 +89,7 @@ module _ (c : Catalog) (gs hs : List (Option Live)) (order order' : List ℕ) (r
     listed = listed_all;
     once = once_push order place s.once not_listed;
     few = omega (arith, few, length-append order (place ∷ []));
+    bounded = bounded;
     long = joins.long ∙ s.long;
     reading = λ r low. readers_all r low (reads q.query (relation_at c.relations r).name) refl;
   }
@@ -163,6 +164,7 @@ module _ (c : Catalog) (gs hs : List (Option Live)) (order order' : List ℕ) (r
     listed = listed_left;
     once = once_filter (λ j. not (j == at)) order s.once;
     few = omega (arith, s.few, filter_short (λ j. not (j == at)) order);
+    bounded = omega (arith, s.bounded, ap (λ (xs : List (Option Live)). length xs) is, length-set gs at None);
     long = leaves.long ∙ s.long;
     reading = λ r low. leaves.each r ∙ ap (left at) (s.reading r low)
         ∙ filter_twice (λ j. not (j == at)) (λ i. reads_place (relation_at c.relations r).name (place_at gs i)) order
@@ -200,13 +202,14 @@ module _ (c : Catalog) (gs hs : List (Option Live)) (order order' : List ℕ) (r
 
 -- ---- places and lists in which the same stands
 
-pub sound_same : (c : Catalog) (gs hs : List (Option Live)) (order : List ℕ) (readers readers' : List (List ℕ)) → SamePlaces gs hs → SameLists readers readers' → IsSound c gs order readers → IsSound c hs order readers'
-sound_same c gs hs order readers readers' e f s = record {
+pub sound_same : (c : Catalog) (gs hs : List (Option Live)) (order : List ℕ) (readers readers' : List (List ℕ)) → SamePlaces gs hs → SameLists readers readers' → length hs ≤ QUERIES → IsSound c gs order readers → IsSound c hs order readers'
+sound_same c gs hs order readers readers' e f bounded s = record {
   live = λ i l h. s.live i l (sym (e i) ∙ h);
   named = λ i j l m h k n. s.named i j l m (sym (e i) ∙ h) (sym (e j) ∙ k) n;
   listed = λ i. s.listed i ∙ sym (ap is_some (e i));
   once = s.once;
   few = s.few;
+  bounded = bounded;
   long = f.long ∙ s.long;
   reading = λ r low. f.each r ∙ s.reading r low
       ∙ filter_members (λ i. reads_place (relation_at c.relations r).name (place_at gs i)) (λ i. reads_place (relation_at c.relations r).name (place_at hs i)) order

@@ -101,7 +101,7 @@ module _ (old : Parts) (s : IsWhole old) (held : List HeldRow) (before now : Cat
     reached_outdated i e = outdated_is i ∙ ap₂ (λ (a b : Bool). a && b) (ap is_some (reached_there i e).is) (wider i e)
 
     cost_some : (f : ℕ → List Change) (i : ℕ) → There old.queries.items i → watched_at old.watchers.items i ≡ true
-        → batch_cost_at old.watchers.items old.queries.items (relations_of groups) f i ≤ delta_steps change (record { query = query_in (place_at old.queries.items i); changes = f i })
+        → batch_cost_at old.watchers.items old.queries.items (relations_of groups) f i ≤ delta_steps change (record { query = query_in (place_at old.queries.items i); changes = f i; parts = [] })
     cost_some f i y w =
         let l = y.query in
         let kept = (s.live i l y.is).kept in
@@ -110,10 +110,10 @@ module _ (old : Parts) (s : IsWhole old) (held : List HeldRow) (before now : Cat
         old.catalog (λ r. refl) (l.numbered).variables (l.query).atoms (l.numbered).atoms kept.over.asked.atoms) in
         let cost : batch_cost_at old.watchers.items old.queries.items (relations_of groups) f i ≡ batch_cost (relations_of groups) (f i) (place_at old.queries.items i)
         = ap (λ b. cond b (batch_cost (relations_of groups) (f i) (place_at old.queries.items i)) 0) w in
-        let bound : batch_cost (relations_of groups) (f i) (Some l) ≤ delta_steps change (record { query = a_query l.query; changes = f i })
+        let bound : batch_cost (relations_of groups) (f i) (Some l) ≤ delta_steps change (record { query = a_query l.query; changes = f i; parts = [] })
         = mul-le (length (f i) + length (filter (λ m. is_reader (relations_of groups) m.relation) (l.numbered).atoms)) (most_steps (length l.query.head))
         (length (f i) + length (filter (λ a. change.touches a.relation) (l.query).atoms)) (most_steps (length l.query.head)) (omega (arith, fewer)) (omega arith) in
-        let there = subst (λ (o : Option Live). batch_cost (relations_of groups) (f i) o ≤ delta_steps change (record { query = query_in o; changes = f i })) (sym y.is) bound in
+        let there = subst (λ (o : Option Live). batch_cost (relations_of groups) (f i) o ≤ delta_steps change (record { query = query_in o; changes = f i; parts = [] })) (sym y.is) bound in
         omega (arith, cost, there)
 
     -- fewer places cost no more

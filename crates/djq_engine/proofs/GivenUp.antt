@@ -44,7 +44,9 @@ use Rattle.djq_engine.proofs.Reporting.{affected_same, told_stay}
 use Rattle.djq_engine.proofs.Judged.{suited_none}
 use Rattle.djq_engine.proofs.Tending.{showable_alike, shown_more}
 use Rattle.djq_engine.proofs.Turned.{Turned, alike_then, whole_then, queries_then, cursors_then, registered_then}
-use Rattle.djq_engine.proofs.Told.{Alike, AlikeAt, AreAlike, told_is, told_empty}
+use Rattle.djq_engine.specs.Kept.{SameShape, is_tried}
+use Rattle.djq_engine.proofs.Placed.{KeepsIn, keeps_turned}
+use Rattle.djq_engine.proofs.Told.{AlikeAt, AreAlike, told_is, told_empty}
 
 -- ---- what holds before
 
@@ -139,6 +141,9 @@ module _ (old mid new : Parts) (s : IsWhole old) (t : IsTended old) (held : List
   pub given_registered : (kept_in new).registered ≡ (kept_in old).registered
   given_registered = registered_then outdater places old mid new s turned
 
+  pub given_places : KeepsIn (is_tried (Some change)) old.queries.items new.queries.items
+  given_places = keeps_turned outdater (is_tried (Some change)) places old mid new s (λ q. refl) turned
+
   -- but for texts the store is as it was
   pub given_store : (kept_in new).store ≡ record (kept_in old).store { texts = (kept_in new).store.texts }
   given_store =
@@ -170,7 +175,7 @@ module _ (old mid new : Parts) (s : IsWhole old) (t : IsTended old) (held : List
   shown_now : ShowableStays → AreShown (mid.catalog).texts new.queries.items new.logs.items
   shown_now law i m there kept = by_place (place_at old.queries.items i) refl (subst (λ (o : Option Live). AlikeAt (place_at old.queries.items i) o) there (given_alike i))
     where
-      by_reads : (l : Live) → place_at old.queries.items i ≡ Some l → Alike l m → (b : Bool) → reads_held held (place_at old.queries.items i) ≡ b
+      by_reads : (l : Live) → place_at old.queries.items i ≡ Some l → SameShape l m → (b : Bool) → reads_held held (place_at old.queries.items i) ≡ b
           → All (λ k. IsShowable (mid.catalog).texts m k.answer) (log_at new.logs.items i).lines
       by_reads l e a true f = all_none (λ k. IsShowable (mid.catalog).texts m k.answer) (log_at new.logs.items i).lines (log_emptied i f).lines
       by_reads l e a false f =

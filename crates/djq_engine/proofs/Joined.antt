@@ -1,11 +1,12 @@
 -- A row that came joins those of its relation.
-use Rattle.std.proofs.Common.{ℕ, zero, suc, List, [], ◌∷◌, ◌++◌, ◌≡◌, ◌<◌, Bool, true, false, refl, sym, ap, ap₂, ◌∙◌, subst, length, get_or, set, arith}
+use Rattle.std.proofs.Common.{ℕ, zero, suc, List, [], ◌∷◌, ◌++◌, ◌+◌, ◌≡◌, ◌<◌, Bool, true, false, refl, sym, ap, ap₂, ◌∙◌, subst, length, get_or, set, arith}
 use Rattle.std.specs.Prelude.{◌==◌, ◌||◌, None, Some, cond, find, position}
 use Rattle.std.proofs.lemmas.Bool.{eqb-true, eq-eqb, false≢true}
 use Rattle.std.proofs.lemmas.List.{map-append}
+use Rattle.std.proofs.lemmas.List.Sums.{sum_by-cons, sum_by-append}
 use Rattle.djq_reach.specs.declared.group.Group.{Group}
 use Rattle.djq_reach.specs.Places.{is_reader, AreOnce}
-use Rattle.djq_reach.specs.Grouping.{relations_of}
+use Rattle.djq_reach.specs.Grouping.{relations_of, rows_in}
 use Rattle.djq_reach.proofs.Among.{reader_more}
 use Rattle.djq_engine.specs.Finding.{IsFirst}
 use Rattle.djq_engine.specs.Putting.{JoinsGroup, rows_for}
@@ -66,6 +67,16 @@ get_rows [] k at g f is = absurd (omega (arith, f.below))
 get_rows (x ∷ groups) zero at g f is = ap (λ b. cond b x.rows (rows_for groups at)) (f.passes x) ∙ ap (λ (y : Group). y.rows) (sym is)
 get_rows (x ∷ groups) (suc k) at g f is = ap (λ b. cond b x.rows (rows_for groups at)) (f.before zero x (omega arith)) ∙ get_rows groups k at g (first_behind (is_of at) x groups k f) is
 
+-- and so many rows more
+size_with : (groups : List Group) (k : ℕ) (g : Group) (rows : List (List ℕ)) → k < length groups → g ≡ get_or groups k g → length rows ≡ length g.rows + 1 → rows_in (with_group groups k g rows) ≡ rows_in groups + 1
+size_with [] k g rows low is more = absurd (omega (arith, low))
+size_with (x ∷ groups) zero g rows low is more =
+    let same : length g.rows ≡ length x.rows = ap (λ (y : Group). length y.rows) is in
+    omega (arith, more, same, sum_by-cons (λ (y : Group). length y.rows) x groups, sum_by-cons (λ (y : Group). length y.rows) (record g { rows = rows }) groups)
+size_with (x ∷ groups) (suc k) g rows low is more =
+    let rest = size_with groups k g rows (omega (arith, low)) is more in
+    omega (arith, rest, sum_by-cons (λ (y : Group). length y.rows) x groups, sum_by-cons (λ (y : Group). length y.rows) x (with_group groups k g rows))
+
 pub joins_there : (groups : List Group) (k at : ℕ) (g : Group) (cells : List ℕ) (rows : List (List ℕ)) → Some k ≡ position (λ g. g.relation.at == at) groups → g ≡ get_or groups k g → rows ≡ g.rows ++ cells ∷ []
     → JoinsGroup at cells groups (set groups k (record g { rows = rows }))
 joins_there groups k at g cells rows e is more =
@@ -75,8 +86,13 @@ joins_there groups k at g cells rows e is more =
       differ = λ once. subst AreOnce (sym same) once;
       there = λ r. ap (λ (xs : List ℕ). is_reader xs r) same ∙ by r (at == r) refl (there_at groups k at f);
       rows = λ r. rows_with_group groups k at g rows f is r ∙ by_rows r (at == r) refl f;
+      more = size_with groups k g rows f.below is (ap (λ (xs : List (List ℕ)). length xs) more ∙ one_more g.rows);
     }
   where
+    one_more : (xs : List (List ℕ)) → length (xs ++ cells ∷ []) ≡ length xs + 1
+    one_more [] = refl
+    one_more (x ∷ xs) = let e = one_more xs in omega (arith, e)
+
     by : (r : ℕ) (b : Bool) → (at == r) ≡ b → is_reader (relations_of groups) at ≡ true → is_reader (relations_of groups) r ≡ (is_reader (relations_of groups) r || b)
     by r true h t = let u : is_reader (relations_of groups) r ≡ true = ap (is_reader (relations_of groups)) (sym (eqb-true at r h)) ∙ t in u ∙ sym (ap (λ b. b || true) u)
     by r false h t = or_none (is_reader (relations_of groups) r)
@@ -131,4 +147,5 @@ joins_new groups at cells g e is rows =
       differ = λ once. subst AreOnce (sym long) (once_push (relations_of groups) g.relation.at once none);
       there = λ r. ap (λ (xs : List ℕ). is_reader xs r) long ∙ reader_more (relations_of groups) g.relation.at r ∙ ap (λ (n : ℕ). is_reader (relations_of groups) r || (n == r)) is;
       rows = λ r. rows_more groups g r none ∙ ap₂ (λ (n : ℕ) (xs : List (List ℕ)). cond (n == r) (rows_for groups r ++ xs) (rows_for groups r)) is rows;
+      more = omega (arith, sum_by-append (λ (y : Group). length y.rows) groups (g ∷ []), sum_by-cons (λ (y : Group). length y.rows) g [], ap (λ (xs : List (List ℕ)). length xs) rows);
     }

@@ -1,7 +1,6 @@
 -- Reading a cursor leaves watches as they are.
-use Rattle.std.proofs.Common.{ℕ, List, ◌≡◌, Bool, true, false, sym, ap, ◌∙◌, subst, length, length-set}
+use Rattle.std.proofs.Common.{ℕ, List, ◌≡◌, Bool, true, false, ap, ◌∙◌, length, length-set}
 use Rattle.std.specs.Prelude.{Option, None, Some, IsSomeAnd}
-use Rattle.std.proofs.lemmas.List.{get_or-set_same, get_or-set_other}
 use Rattle.djq_machine.specs.State.{Position, open_at, stale}
 use Rattle.djq_cursor.specs.Log.{Log}
 use Rattle.djq_rows.specs.Catalog.{Catalog}
@@ -11,64 +10,59 @@ use Rattle.djq_live.specs.declared.listing.Next.TheVariants.{Given, End, Stale a
 use Rattle.djq_live.specs.Cursors.{slot_at}
 use Rattle.djq_live.specs.Live.{Live, position_of}
 use Rattle.djq_live.specs.Reading as live
+use Rattle.djq_engine.specs.Kept.{SameTables}
 use Rattle.djq_engine.specs.Moving.{Moves, OpensAt, ClosesAt, ReadsAt, TellsAt}
 use Rattle.djq_reach.specs.Places.{place_at}
 use Rattle.djq_engine.specs.Sound.{IsSound}
 use Rattle.djq_reach.specs.Tending.{AreShown}
-use Rattle.djq_reach.proofs.Reaching.{everywhere, place_below}
 use Rattle.djq_engine.proofs.Tending.{shown_alike}
-use Rattle.djq_engine.proofs.Told.{Alike, AlikeAt, AreAlike, alike_same}
+use Rattle.djq_engine.proofs.Placed.{KeepsIn, keeps_moved, moved_alike}
 
-but_cursors : (l m : Live) (cs : List (Option Progress)) → m ≡ record l { cursors = cs } → Alike l m
+but_cursors : (l m : Live) (cs : List (Option Progress)) → m ≡ record l { cursors = cs } → SameTables l m
 but_cursors l m cs e = record {
   query = ap (λ (x : Live). x.query) e;
   numbered = ap (λ (x : Live). x.numbered) e;
-  tree = ap (λ (x : Live). (x.reducts).tree) e;
+  reducts = ap (λ (x : Live). x.reducts) e;
 }
 
-same_alike : (l m : Live) → m ≡ l → Alike l m
-same_alike l m e = record {
+same_tables : (l m : Live) → m ≡ l → SameTables l m
+same_tables l m e = record {
   query = ap (λ (x : Live). x.query) e;
   numbered = ap (λ (x : Live). x.numbered) e;
-  tree = ap (λ (x : Live). (x.reducts).tree) e;
+  reducts = ap (λ (x : Live). x.reducts) e;
 }
 
-next_alike : (c : Catalog) (l m : Live) (k : ℕ) (p : Position) (result : Next) (u : List ℕ) → live.NextGivesAt c l k p result u m → Alike l m
-next_alike c l m k (open_at given ended) Given u h = but_cursors l m _ h.2.moved
-next_alike c l m k (open_at given ended) End u h = but_cursors l m _ h.1.moved
-next_alike c l m k (open_at given ended) (StaleNext r n) u h = absurd h
-next_alike c l m k (stale r n) (StaleNext relation j) u h = same_alike l m h.2
-next_alike c l m k (stale r n) Given u h = absurd h
-next_alike c l m k (stale r n) End u h = absurd h
+next_tables : (c : Catalog) (l m : Live) (k : ℕ) (p : Position) (result : Next) (u : List ℕ) → live.NextGivesAt c l k p result u m → SameTables l m
+next_tables c l m k (open_at given ended) Given u h = but_cursors l m _ h.2.moved
+next_tables c l m k (open_at given ended) End u h = but_cursors l m _ h.1.moved
+next_tables c l m k (open_at given ended) (StaleNext r n) u h = absurd h
+next_tables c l m k (stale r n) (StaleNext relation j) u h = same_tables l m h.2
+next_tables c l m k (stale r n) Given u h = absurd h
+next_tables c l m k (stale r n) End u h = absurd h
 
-more_alike : (c : Catalog) (l m : Live) (k : ℕ) (p : Position) (result : Bool) → live.MoreGivesAt c l k p result m → Alike l m
-more_alike c l m k (open_at given ended) true h = but_cursors l m _ h.1.moved
-more_alike c l m k (open_at given ended) false h = but_cursors l m _ h.1.moved
-more_alike c l m k (stale r n) result h = absurd h
+more_tables : (c : Catalog) (l m : Live) (k : ℕ) (p : Position) (result : Bool) → live.MoreGivesAt c l k p result m → SameTables l m
+more_tables c l m k (open_at given ended) true h = but_cursors l m _ h.1.moved
+more_tables c l m k (open_at given ended) false h = but_cursors l m _ h.1.moved
+more_tables c l m k (stale r n) result h = absurd h
 
 at_slot : (c : Catalog) (l : Live) (o : Option Progress) (P : Position → Type 0) (Q : Type 0) → ((p : Position) → P p → Q) → IsSomeAnd o (λ p. P (position_of c.texts l p)) → Q
 at_slot c l None P Q f h = absurd h
 at_slot c l (Some p) P Q f h = f (position_of c.texts l p) h
 
--- one query moved
-moved_alike : (Does : Live → Live → Type 0) (at : ℕ) (gs hs : List (Option Live)) → Moves Does at gs hs → ((l m : Live) → place_at gs at ≡ Some l → Does l m → Alike l m) → AreAlike gs hs
-moved_alike Does at gs hs v f =
-    everywhere (λ i. AlikeAt (place_at gs i) (place_at hs i)) at
-    (subst (λ (o : Option Live). AlikeAt o (place_at hs at)) (sym v.there)
-    (subst (λ (o : Option Live). AlikeAt (Some v.old) o) (sym (ap (λ (xs : List (Option Live)). place_at xs at) v.is ∙ get_or-set_same gs at (Some v.new) None (place_below gs at v.old v.there)))
-    (f v.old v.new v.there v.done)))
-    (λ i d. alike_same (place_at gs i) (place_at hs i) (ap (λ (xs : List (Option Live)). place_at xs i) v.is ∙ get_or-set_other gs at i (Some v.new) None d))
-
--- What is kept of an engine whose queries are alike.
+-- What is kept of an engine of which one query moved.
 pub record Kept (c : Catalog) (logs : List Log) (gs hs : List (Option Live)) : Type 0 where
   pub long : length hs ≡ length gs
   pub shown : AreShown c.texts gs logs → AreShown c.texts hs logs
+  pub places : KeepsIn (λ q. false) gs hs
 
-kept_by : (Does : Live → Live → Type 0) (at : ℕ) (c : Catalog) (logs : List Log) (gs hs : List (Option Live)) → Moves Does at gs hs → ((l m : Live) → place_at gs at ≡ Some l → Does l m → Alike l m) → Kept c logs gs hs
-kept_by Does at c logs gs hs v f = record {
-  long = ap (λ (xs : List (Option Live)). length xs) v.is ∙ length-set gs at (Some v.new);
-  shown = shown_alike c.texts gs hs logs (moved_alike Does at gs hs v f);
-}
+kept_by : (Does : Live → Live → Type 0) (at : ℕ) (c : Catalog) (logs : List Log) (gs hs : List (Option Live)) → Moves Does at gs hs → ((l m : Live) → place_at gs at ≡ Some l → Does l m → SameTables l m) → Kept c logs gs hs
+kept_by Does at c logs gs hs v f =
+    let same = f v.old v.new v.there v.done in
+    record {
+      long = ap (λ (xs : List (Option Live)). length xs) v.is ∙ length-set gs at (Some v.new);
+      shown = shown_alike c.texts gs hs logs (moved_alike at gs hs v.old v.new v.there v.is same);
+      places = keeps_moved at gs hs v.old v.new v.there v.is same (λ q. false);
+    }
 
 module _ (c : Catalog) (gs hs : List (Option Live)) (order : List ℕ) (readers : List (List ℕ)) (s : IsSound c gs order readers) (logs : List Log) (at k : ℕ) where
   pub opened_kept : Moves (OpensAt k) at gs hs → Kept c logs gs hs
@@ -79,8 +73,8 @@ module _ (c : Catalog) (gs hs : List (Option Live)) (order : List ℕ) (readers 
 
   pub read_kept : (result : Next) (u : List ℕ) (before now : ℕ) → Moves (ReadsAt k result u before now) at gs hs → Kept c logs gs hs
   read_kept result u before now v = kept_by (ReadsAt k result u before now) at c logs gs hs v
-      (λ l m e d. at_slot c l (slot_at l.cursors k) (λ p. live.NextGivesAt c l k p result u m) (Alike l m) (λ p h. next_alike c l m k p result u h) (d.gives c (s.live at l e)))
+      (λ l m e d. at_slot c l (slot_at l.cursors k) (λ p. live.NextGivesAt c l k p result u m) (SameTables l m) (λ p h. next_tables c l m k p result u h) (d.gives c (s.live at l e)))
 
   pub looked_kept : (result : Bool) (before now : ℕ) → Moves (TellsAt k result before now) at gs hs → Kept c logs gs hs
   looked_kept result before now v = kept_by (TellsAt k result before now) at c logs gs hs v
-      (λ l m e d. at_slot c l (slot_at l.cursors k) (λ p. live.MoreGivesAt c l k p result m) (Alike l m) (λ p h. more_alike c l m k p result h) (d.gives c (s.live at l e)))
+      (λ l m e d. at_slot c l (slot_at l.cursors k) (λ p. live.MoreGivesAt c l k p result m) (SameTables l m) (λ p h. more_tables c l m k p result h) (d.gives c (s.live at l e)))

@@ -38,4 +38,8 @@ pub mod Filled
 pub mod Rested
 pub mod Accepted
 pub mod Settled
+pub mod Worked
 pub mod Joined
+pub mod Placed
+pub mod Crowded
+pub mod Lawful

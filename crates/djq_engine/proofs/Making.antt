@@ -60,6 +60,7 @@ made_sound law c d gs order readers readers' r s h e f none new = subst (λ (rs 
   listed = s.listed;
   once = s.once;
   few = s.few;
+  bounded = s.bounded;
   long = length-append readers ([] ∷ []) ∙ ap (λ (n : ℕ). n + 1) s.long ∙ sym (ap (λ (rs : List Relation). length rs) e ∙ length-append c.relations (r ∷ []));
   reading = λ k low. subst (λ (rs : List Relation). readers_at (readers ++ [] ∷ []) k ≡ filter (λ i. reads_place (relation_at rs k).name (place_at gs i)) order) (sym e)
       (by_length k (cases_lt k (length c.relations)) (subst (λ (rs : List Relation). k < length rs) e low));

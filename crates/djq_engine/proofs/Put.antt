@@ -102,6 +102,7 @@ put_none st c relations texts = record {
   relations = relations;
   texts = texts;
   count = refl;
+  size = refl;
   grouped = record {
     differ = tt;
     within = λ r e. absurd (false≢true e);
@@ -146,6 +147,7 @@ module _ (st : Store) (xs : List HeldRow) (c : Catalog) (count : ℕ) (groups : 
             ∙ ap (λ (s : Store). s.relations) (sym (all_more st xs h));
         texts = m.texts ∙ p.texts ∙ sym texts_now ∙ ap (λ (s : Store). s.texts) (sym (all_more st xs h));
         count = omega (arith, p.count, count_more st xs h, ap {B = ℕ} (λ b. cond b 0 1) there);
+        size = p.size;
         grouped = record {
           differ = (p.grouped).differ;
           within = (p.grouped).within;
@@ -265,6 +267,7 @@ module _ (st : Store) (xs : List HeldRow) (c : Catalog) (count : ℕ) (groups : 
         relations = new_relations_are;
         texts = is_texts ∙ ap (λ (s : Store). s.texts) (sym (all_more st xs h));
         count = omega (arith, p.count, count_more st xs h, ap {B = ℕ} (λ b. cond b 0 1) absent);
+        size = omega (arith, p.size, j.more);
         grouped = record {
           differ = j.differ (p.grouped).differ;
           within = λ r e. by_there r (is_reader (relations_of groups) r) refl (sym (j.there r) ∙ e);

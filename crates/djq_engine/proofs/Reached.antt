@@ -35,7 +35,7 @@ same_bool false false f g = refl
 
 -- ---- readers of groups
 
-reader_append : (xs ys : List ℕ) (i : ℕ) → is_reader (xs ++ ys) i ≡ (is_reader xs i || is_reader ys i)
+pub reader_append : (xs ys : List ℕ) (i : ℕ) → is_reader (xs ++ ys) i ≡ (is_reader xs i || is_reader ys i)
 reader_append [] ys i = refl
 reader_append (x ∷ xs) ys i = by (x == i) (reader_append xs ys i)
   where

@@ -1,12 +1,13 @@
 -- What the machine says of a query that is to be registered, or dropped.
 use Rattle.std.proofs.Common.{ℕ, zero, suc, List, [], ◌∷◌, ◌++◌, ◌≡◌, ◌<◌, ◌≤◌, ◌⊎◌, inl, inr, Bool, true, false, refl, sym, ap, ap₂, ◌∙◌, subst, length, set, arith, append-nil}
-use Rattle.std.specs.Prelude.{not, filter, map, Option, None, Some, is_some, is_none, IsSomeAnd, IfSome, option_map, count_by, Result, Ok, Err, position, cond, nat_le, slice_index_or, ⊤}
+use Rattle.std.specs.Prelude.{◌||◌, not, filter, map, Option, None, Some, is_some, is_none, IsSomeAnd, IfSome, option_map, count_by, Result, Ok, Err, position, cond, nat_le, slice_index_or, ⊤}
+use Rattle.std.specs.List.{list_any}
 use Rattle.std.proofs.lemmas.Bool.{eq-eqb, eqb-true, cases_lt, le-leb, lt-leb, false≢true}
 use Rattle.std.proofs.lemmas.List.{length-map, get_or-set_other}
 use Rattle.djq_model.specs.declared.relation.Relation.{Relation}
 use Rattle.djq_model.specs.declared.query.Query.{Query}
 use Rattle.djq_model.specs.Data.{Bytes, Tuple, bytes_eq, drop_first}
-use Rattle.djq_model.specs.Listed.{Listed, a_query, listed_name, listed_of}
+use Rattle.djq_model.specs.Listed.{Listed, a_query, listed_name, listed_of, members_of}
 use Rattle.djq_model.specs.Known.{texts_in, all_learned}
 use Rattle.djq_hyper.specs.JoinTree.{IsFreeConnex}
 use Rattle.djq_dict.specs.declared.refusal.InternRefusal.{InternRefusal}
@@ -20,7 +21,7 @@ use Rattle.djq_lines.specs.QueryFault.{query_fault, query_faults}
 use Rattle.djq_lines.specs.Variables.{constants_of}
 use Rattle.djq_machine.specs.State.{Store}
 use Rattle.djq_machine.specs.Conditions.{first_of, Answers}
-use Rattle.djq_machine.specs.Store.{query_refusal, RegistersQuery, RegistersAs, RefusedLate, most_steps, LearnsAll, LearnsFirst, FindsNoPlace, drop_refusal}
+use Rattle.djq_machine.specs.Store.{query_refusal, RegistersQuery, RegistersAs, RefusedLate, most_steps, LearnsAll, LearnsFirst, FindsNoPlace, drop_refusal, is_member}
 use Rattle.djq_rows.specs.Catalog.{Catalog, IsCatalog}
 use Rattle.djq_rows.specs.Laws.{TextsStay}
 use Rattle.djq_live.specs.declared.cursors.Progress.{Progress}
@@ -190,20 +191,20 @@ module _ (mid new : Parts) (s : IsWhole mid) (l : Live) (live : IsLive mid.catal
     (fresh : listed_of (queries_in mid.queries.items mid.order) l.query.name ≡ None) (few : length mid.order < QUERIES) where
   pub enrolled_whole : IsWhole new
   enrolled_whole = subst (λ (x : Catalog). IsSound x new.queries.items new.order new.readers.items) (sym r.catalog)
-      (registered_sound mid.catalog mid.queries.items new.queries.items mid.order new.order mid.readers.items new.readers.items s l live idle r.place r.vacant r.here r.others r.last r.readers fresh few)
+      (registered_sound mid.catalog mid.queries.items new.queries.items mid.order new.order mid.readers.items new.readers.items s l live idle r.place r.vacant r.here r.others r.last r.readers fresh few r.bounded)
 
   pub enrolled_cursors : SameCursors (held_from (mid.catalog).texts zero mid.queries.items) (held_from (new.catalog).texts zero new.queries.items)
   enrolled_cursors id = ap (λ (x : Catalog). held_at (held_from x.texts zero new.queries.items) id) r.catalog
-      ∙ registered_cursors mid.catalog mid.queries.items new.queries.items mid.order new.order mid.readers.items new.readers.items s l live idle r.place r.vacant r.here r.others r.last r.readers fresh few id
+      ∙ registered_cursors mid.catalog mid.queries.items new.queries.items mid.order new.order mid.readers.items new.readers.items s l live idle r.place r.vacant r.here r.others r.last r.readers fresh few r.bounded id
 
   pub enrolled_queries : queries_in new.queries.items new.order ≡ queries_in mid.queries.items mid.order ++ a_query l.query ∷ []
-  enrolled_queries = registered_queries mid.catalog mid.queries.items new.queries.items mid.order new.order mid.readers.items new.readers.items s l live idle r.place r.vacant r.here r.others r.last r.readers fresh few
+  enrolled_queries = registered_queries mid.catalog mid.queries.items new.queries.items mid.order new.order mid.readers.items new.readers.items s l live idle r.place r.vacant r.here r.others r.last r.readers fresh few r.bounded
 
 module _ (mid new : Parts) (s : IsWhole mid) (r : SameParts mid new) where
   pub same_whole : IsWhole new
   same_whole = subst (λ (x : Catalog). IsSound x new.queries.items new.order new.readers.items) (sym r.catalog)
       (subst (λ (o : List ℕ). IsSound mid.catalog new.queries.items o new.readers.items) (sym r.order)
-      (sound_same mid.catalog mid.queries.items new.queries.items mid.order mid.readers.items new.readers.items r.queries r.readers s))
+      (sound_same mid.catalog mid.queries.items new.queries.items mid.order mid.readers.items new.readers.items r.queries r.readers r.bounded s))
 
   pub same_cursors : SameCursors (held_from (mid.catalog).texts zero mid.queries.items) (held_from (new.catalog).texts zero new.queries.items)
   same_cursors id = ap (λ (x : Catalog). held_at (held_from x.texts zero new.queries.items) id) r.catalog ∙ cursors_same (mid.catalog).texts mid.queries.items new.queries.items r.queries id
@@ -212,6 +213,15 @@ module _ (mid new : Parts) (s : IsWhole mid) (r : SameParts mid new) where
   same_queries = ap (queries_in new.queries.items) r.order ∙ queries_same mid.queries.items new.queries.items mid.order r.queries
 
 -- ---- `drop`
+
+-- a query has no members, so none of these is a member
+no_members : (name : Bytes) (o : Option Live) → list_any (λ (q : Query). bytes_eq q.name name) (members_of (query_in o)) ≡ false
+no_members name None = refl
+no_members name (Some l) = refl
+
+no_member : (gs : List (Option Live)) (name : Bytes) (xs : List ℕ) → is_member (queries_in gs xs) name ≡ false
+no_member gs name [] = refl
+no_member gs name (x ∷ xs) = ap₂ (λ (a b : Bool). a || b) (no_members name (place_at gs x)) (no_member gs name xs)
 
 query_of_held : Option Held → Bytes
 query_of_held None = []
@@ -253,7 +263,7 @@ module _ (old : Parts) (s : IsWhole old) (name : Bytes) where
       subst (λ (o : Option Enlisted). IfSome o (λ r. is_watched r ≡ false)) (sym (name_unknown old.catalog old.queries.items old.order old.readers.items old.watchers.items s name e)) tt,
     );
     store = record {
-      answer = answers_refused (drop_refusal (kept_in old).store false name) NoQuery _ _ (ap (λ (o : Option Listed). cond (is_none o) (Some NoQuery) None) (no_query_of old.catalog old.queries.items old.order old.readers.items s name e));
+      answer = answers_refused (drop_refusal (kept_in old).store false name) NoQuery _ _ (ap (λ (o : Option Listed). cond (is_none o) (Some NoQuery) (cond (is_member (queries_in old.queries.items old.order) name) (Some InUse) None)) (no_query_of old.catalog old.queries.items old.order old.readers.items s name e));
       stays = refl;
     };
     cursors = λ id. refl;
@@ -318,7 +328,7 @@ module _ (old : Parts) (s : IsWhole old) (name : Bytes) where
         used = false;
         is_used = (unused e, subst (λ (o : Option Enlisted). IfSome o (λ r. is_watched r ≡ false)) (sym enlisted_as) unwatched);
         store = record {
-          answer = answers_done (drop_refusal (kept_in old).store false name) tt _ _ (ap (λ (o : Option Listed). cond (is_none o) (Some NoQuery) None) found)
+          answer = answers_done (drop_refusal (kept_in old).store false name) tt _ _ (ap₂ (λ (o : Option Listed) (b : Bool). cond (is_none o) (Some NoQuery) (cond b (Some InUse) None)) found (no_member old.queries.items name old.order))
               (ap (λ (qs : List Listed). (let st : Store = record { relations = (old.catalog).relations; texts = (old.catalog).texts; queries = qs; seq = old.seq } in st))
               (dropped_queries old.catalog old.queries.items hs old.order order' old.readers.items readers' s at n.query n.there is places leaves
               ∙ ap (λ (x : Bytes). drop_first (λ q. bytes_eq (listed_name q) x) (queries_in old.queries.items old.order)) n.called));

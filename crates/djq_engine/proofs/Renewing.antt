@@ -1,6 +1,6 @@
 -- Queries are carried over, and the cursors of those that a change outdates become stale: what is
 -- kept, and where all cursors stand.
-use Rattle.std.proofs.Common.{ℕ, zero, List, ◌≡◌, ◌<◌, Bool, true, false, refl, sym, ap, ◌∙◌, subst}
+use Rattle.std.proofs.Common.{ℕ, zero, List, ◌≡◌, ◌<◌, Bool, true, false, refl, sym, ap, ◌∙◌, subst, length, arith}
 use Rattle.std.specs.Prelude.{Option, None, Some, is_some, option_map, map}
 use Rattle.std.proofs.lemmas.Bool.{false≢true}
 use Rattle.djq_model.specs.declared.query.Query.{Query}
@@ -106,7 +106,7 @@ module _ (c d : Catalog) (outdater : Listed → Option Bytes) (n : ℕ) (places 
       by_place true (Some l) (Some m) t a = renewed l m (place_at ks i) t (aged m (place_at ks i) (outdater (a_query m.query)) a)
 
 module _ (c d : Catalog) (gs ks : List (Option Live)) (order : List ℕ) (readers : List (List ℕ)) (s : IsSound c gs order readers)
-    (outdater : Listed → Option Bytes) (n : ℕ) (turns : (i : ℕ) → TurnsAt c d outdater n (place_at gs i) (place_at ks i)) (names : SameNames c d) where
+    (outdater : Listed → Option Bytes) (n : ℕ) (turns : (i : ℕ) → TurnsAt c d outdater n (place_at gs i) (place_at ks i)) (many : length ks ≡ length gs) (names : SameNames c d) where
   -- what doesn't see the tables of a query is as before
   same_field : {A : Type 0} (f : Option Live → A) → ((l m : Live) → m.query ≡ l.query → f (Some m) ≡ f (Some l)) → (i : ℕ) → f (place_at ks i) ≡ f (place_at gs i)
   same_field f h i = by_place (place_at gs i) (place_at ks i) (turns i)
@@ -164,6 +164,7 @@ module _ (c d : Catalog) (gs ks : List (Option Live)) (order : List ℕ) (reader
     listed = λ i. s.listed i ∙ sym (same_live i);
     once = s.once;
     few = s.few;
+    bounded = omega (arith, s.bounded, many);
     long = s.long ∙ sym names.long;
     reading = λ r l. s.reading r (subst (λ (k : ℕ). r < k) names.long l)
         ∙ filter_members (λ i. reads_place (relation_at c.relations r).name (place_at gs i)) (λ i. reads_place (relation_at d.relations r).name (place_at ks i)) order

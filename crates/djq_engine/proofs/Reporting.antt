@@ -76,7 +76,7 @@ atoms_of c at variables (a ∷ atoms) (m ∷ ms) h = step (m.relation == at) ref
     step false e false f k = k
 
 pub bound_steps : (c : Catalog) (at : ℕ) (l : Live) (changes : List Change) (after : List Relation) → IsKept c l
-    → delta_bound l at changes ≤ delta_steps (one_change (relation_at c.relations at).name after) (record { query = a_query l.query; changes = changes })
+    → delta_bound l at changes ≤ delta_steps (one_change (relation_at c.relations at).name after) (record { query = a_query l.query; changes = changes; parts = [] })
 bound_steps c at l changes after k =
     let fewer : atoms_over l at ≤ length (filter (λ a. bytes_eq a.relation (relation_at c.relations at).name) l.query.atoms) = atoms_of c at l.numbered.variables l.query.atoms l.numbered.atoms k.over.asked.atoms in
     mul-le (length changes + atoms_over l at) (most_steps (length l.query.head)) (length changes + length (filter (λ a. bytes_eq a.relation (relation_at c.relations at).name) l.query.atoms)) (most_steps (length l.query.head)) (omega (arith, fewer)) (omega arith)
@@ -234,9 +234,9 @@ module _ (old : Parts) (s : IsWhole old) (at : ℕ) (low : at < length (old.cata
       (λ i e w. ap (λ b. cond b (cost_of at (f i) (place_at old.queries.items i)) 0) w)
       (λ i e w.
       let t = live_there old.queries.items i (both_true (is_live old.queries.items i) _ (sym (reader_is old.catalog old.queries.items old.order old.readers.items s at low i) ∙ e)).0 in
-      let bound : cost_of at (f i) (place_at old.queries.items i) ≤ delta_steps one (record { query = query_in (place_at old.queries.items i); changes = f i }) =
-      subst (λ (o : Option Live). cost_of at (f i) o ≤ delta_steps one (record { query = query_in o; changes = f i })) (sym t.is)
-      (subst (λ (x : Bytes). delta_bound t.query at (f i) ≤ delta_steps (one_change x (with_rows (old.catalog).relations name rows)) (record { query = a_query t.query.query; changes = f i })) named
+      let bound : cost_of at (f i) (place_at old.queries.items i) ≤ delta_steps one (record { query = query_in (place_at old.queries.items i); changes = f i; parts = [] }) =
+      subst (λ (o : Option Live). cost_of at (f i) o ≤ delta_steps one (record { query = query_in o; changes = f i; parts = [] })) (sym t.is)
+      (subst (λ (x : Bytes). delta_bound t.query at (f i) ≤ delta_steps (one_change x (with_rows (old.catalog).relations name rows)) (record { query = a_query t.query.query; changes = f i; parts = [] })) named
       (bound_steps old.catalog at t.query (f i) (with_rows (old.catalog).relations name rows) (s.live i t.query t.is).kept)) in
       let cost : cost_at old.watchers.items old.queries.items at f i ≡ cost_of at (f i) (place_at old.queries.items i) = ap (λ b. cond b (cost_of at (f i) (place_at old.queries.items i)) 0) w in
       omega (arith, cost, bound)) in

@@ -29,7 +29,7 @@ use Rattle.djq_reach.proofs.Reaching.{reach_none}
 use Rattle.djq_reach.proofs.Chaining.{stays_by}
 use Rattle.djq_engine.specs.declared.parts.Parts.{Parts}
 use Rattle.djq_engine.specs.Changing.{KeepsRest, KeepsLogs}
-use Rattle.djq_engine.specs.Kept.{Outdates, IsUnwatched}
+use Rattle.djq_engine.specs.Kept.{Outdates, IsUnwatched, is_tried}
 use Rattle.djq_engine.specs.Outdating.{AreReaders, AreTested, GivesUp, reads_held}
 use Rattle.djq_engine.specs.Places.{query_in}
 use Rattle.djq_engine.specs.Putting.{PutsAll, RefusesAll}
@@ -41,6 +41,7 @@ use Rattle.djq_engine.proofs.Accepted.{Takes}
 use Rattle.djq_engine.proofs.Chained.{start_of, start_same, start_by, start_facts}
 use Rattle.djq_engine.proofs.Enlisted.{unwatched_readers}
 use Rattle.djq_engine.proofs.Filled.{Filled, reached_there, before_live, counts_batch}
+use Rattle.djq_engine.proofs.Placed.{KeepsIn}
 use Rattle.djq_engine.proofs.GivenUp.{
   sound_readers,
   readers_logged,
@@ -49,6 +50,7 @@ use Rattle.djq_engine.proofs.GivenUp.{
   given_tended,
   given_cursors,
   given_registered,
+  given_places,
   given_store,
   given_tells,
 }
@@ -284,6 +286,9 @@ module _ (old mid : Parts) (s : IsWhole old) (t : IsTended old) (held : List Hel
 
     pub lacks_registered : (kept_in new).registered ≡ (kept_in old).registered
     lacks_registered = given_registered old mid new s t held places k.reach k.stay k.within k.relations k.more k.texts k.rest k.logs g
+
+    pub lacks_places : KeepsIn (is_tried (Some (rows_tried (kept_in old).store held))) old.queries.items new.queries.items
+    lacks_places = given_places old mid new s t held places k.reach k.stay k.within k.relations k.more k.texts k.rest k.logs g
 
     pub lacks_refuses : RefusesAll (kept_in old).store held (mid.catalog).texts NoMemory → RefusesBatch (kept_in old).store held (kept_in new).store NoMemory
     lacks_refuses x = refuses_batch (kept_in old).store held (new.catalog).texts NoMemory

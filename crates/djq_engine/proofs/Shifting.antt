@@ -1,5 +1,5 @@
 -- The cursors of one query change: what is kept, and where all cursors stand.
-use Rattle.std.proofs.Common.{ℕ, zero, List, ◌≡◌, ◌<◌, ◌≤◌, ◌⊎◌, inl, inr, Bool, true, false, refl, sym, ap, ◌∙◌, subst, length, set, arith}
+use Rattle.std.proofs.Common.{ℕ, zero, List, ◌≡◌, ◌<◌, ◌≤◌, ◌⊎◌, inl, inr, Bool, true, false, refl, sym, ap, ◌∙◌, subst, length, set, length-set, arith}
 use Rattle.std.specs.Prelude.{◌==◌, ◌&&◌, Option, None, Some, is_some, option_map}
 use Rattle.std.proofs.lemmas.Bool.{eq-eqb, cases_lt, cases_order, false≢true}
 use Rattle.std.proofs.lemmas.List.{get_or-set_same, get_or-set_other, get_or_past}
@@ -72,6 +72,7 @@ module _ (c : Catalog) (gs : List (Option Live)) (order : List ℕ) (readers : L
     listed = λ j. s.listed j ∙ sym (live_same j);
     once = s.once;
     few = s.few;
+    bounded = omega (arith, s.bounded, length-set gs id.query.at (Some m));
     long = s.long;
     reading = λ r low. s.reading r low
         ∙ filter_members (λ i. reads_place (relation_at c.relations r).name (place_at gs i))

@@ -20,14 +20,15 @@ use Rattle.djq_reach.specs.Reaching.{AllAt}
 use Rattle.djq_reach.specs.Tending.{Tells, TellsWhere, TellsAt, Shows, AreShown, TendedAt, Tends, Empties, cost_at, Costs}
 use Rattle.djq_engine.specs.Placing.{SameLogs}
 use Rattle.djq_engine.specs.Changing.{IsDeltaWith}
-use Rattle.djq_engine.proofs.Told.{Alike, AlikeAt, AreAlike}
+use Rattle.djq_engine.specs.Kept.{SameShape}
+use Rattle.djq_engine.proofs.Told.{AlikeAt, AreAlike}
 use Rattle.djq_engine.proofs.Carrying.{readers_kept}
 use Rattle.djq_reach.proofs.Reaching.{everywhere}
 use Rattle.djq_reach.proofs.Tending.{all_none}
 
 -- ---- what can be shown
 
-pub showable_alike : (texts : List Bytes) (u : List ℕ) (l m : Live) → Alike l m → IsShowable texts l u → IsShowable texts m u
+pub showable_alike : (texts : List Bytes) (u : List ℕ) (l m : Live) → SameShape l m → IsShowable texts l u → IsShowable texts m u
 showable_alike texts u l m a s = record {
   wide = s.wide ∙ ap (λ (t : Tree). length t.head) (sym a.tree);
   stands = subst (λ (n : Numbered). AreShownAs texts n.variables (m.reducts).tree.head u n.head (shown texts n (m.reducts).tree.head u)) (sym a.numbered)

@@ -14,6 +14,7 @@ use Rattle.djq_live.specs.Shown.{shown}
 use Rattle.djq_live.specs.Live.{Live, IsShowable, ShowableStays, values_of}
 use Rattle.djq_live.specs.Updating.{change_of, IsEmpty}
 use Rattle.djq_reach.specs.Places.{place_at, is_reader, no_log, log_at}
+use Rattle.djq_engine.specs.Kept.{SameShape}
 use Rattle.djq_engine.specs.Places.{query_in, told_of, told_from}
 use Rattle.djq_reach.specs.Reaching.{DoneAt, Reach, Renews, Ages}
 
@@ -48,21 +49,16 @@ told_alike texts log l m e f = ap₂ (λ (n : Numbered) (t : Tree). told_with n 
     told_with n t = cond log.lost None (Some (map (λ (k : Line). (let x : Change = record { sign = cond k.came HasCome HasGone; answer = shown texts n t.head k.answer } in x)) log.lines))
 
 -- the queries of places, as they were and as they are
-pub record Alike (l m : Live) : Type 0 where
-  pub query : m.query ≡ l.query
-  pub numbered : m.numbered ≡ l.numbered
-  pub tree : (m.reducts).tree ≡ (l.reducts).tree
-
 abbrev pub AlikeAt : Option Live → Option Live → Type 0
 AlikeAt None None = ⊤
-AlikeAt (Some l) (Some m) = Alike l m
+AlikeAt (Some l) (Some m) = SameShape l m
 AlikeAt None (Some m) = ⊥
 AlikeAt (Some l) None = ⊥
 
 abbrev pub AreAlike : List (Option Live) → List (Option Live) → Type 0
 AreAlike gs hs = (i : ℕ) → AlikeAt (place_at gs i) (place_at hs i)
 
-pub alike_itself : (l : Live) → Alike l l
+pub alike_itself : (l : Live) → SameShape l l
 alike_itself l = record { query = refl; numbered = refl; tree = refl }
 
 pub alike_same : (o p : Option Live) → p ≡ o → AlikeAt o p
@@ -77,7 +73,7 @@ alike_then (Some l) None q a b = absurd a
 alike_then (Some l) (Some m) None a b = absurd b
 alike_then (Some l) (Some m) (Some n) a b = record { query = b.query ∙ a.query; numbered = b.numbered ∙ a.numbered; tree = b.tree ∙ a.tree }
 
-pub reach_alike : (Does : Live → Live → Type 0) (ps : List ℕ) (gs hs : List (Option Live)) → ((l m : Live) → Does l m → Alike l m) → Reach ps Does gs hs → AreAlike gs hs
+pub reach_alike : (Does : Live → Live → Type 0) (ps : List ℕ) (gs hs : List (Option Live)) → ((l m : Live) → Does l m → SameShape l m) → Reach ps Does gs hs → AreAlike gs hs
 reach_alike Does ps gs hs f r i = by_place (is_reader ps i) (place_at gs i) (place_at hs i) (r.each i)
   where
     by_place : (b : Bool) (o p : Option Live) → DoneAt Does b o p → AlikeAt o p

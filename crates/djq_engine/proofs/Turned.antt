@@ -1,5 +1,5 @@
 -- What is kept once queries were carried over to another catalog, and cursors outdated.
-use Rattle.std.proofs.Common.{ℕ, zero, List, ◌≡◌, true, false, refl, sym, ap, ap₂, ◌∙◌, subst}
+use Rattle.std.proofs.Common.{ℕ, zero, List, ◌≡◌, true, false, refl, sym, ap, ap₂, ◌∙◌, subst, length}
 use Rattle.std.specs.Prelude.{Option, Some, is_some, map}
 use Rattle.djq_model.specs.Data.{Bytes}
 use Rattle.djq_model.specs.Listed.{Listed}
@@ -37,6 +37,9 @@ module _ (outdater : Listed → Option Bytes) (places : List ℕ) (old mid new :
   turns : (i : ℕ) → TurnsAt old.catalog mid.catalog outdater new.seq (place_at old.queries.items i) (place_at new.queries.items i)
   turns = turned_all old.catalog mid.catalog outdater new.seq places old.queries.items mid.queries.items new.queries.items b.reach b.stay b.within b.ages
 
+  many : length new.queries.items ≡ length old.queries.items
+  many = b.ages.long ∙ b.reach.length
+
   pub alike_then : AreAlike old.queries.items new.queries.items
   alike_then = turned_alike old.catalog mid.catalog outdater new.seq places old.queries.items mid.queries.items new.queries.items b.reach b.stay b.within b.ages
 
@@ -45,17 +48,17 @@ module _ (outdater : Listed → Option Bytes) (places : List ℕ) (old mid new :
       subst (λ (x : Catalog). IsSound x new.queries.items new.order new.readers.items) (sym b.catalog)
       (subst (λ (o : List ℕ). IsSound mid.catalog new.queries.items o new.readers.items) (sym b.order)
       (subst (λ (rs : List (List ℕ)). IsSound mid.catalog new.queries.items old.order rs) (sym b.readers)
-      (outdated_sound old.catalog mid.catalog old.queries.items new.queries.items old.order old.readers.items s outdater new.seq turns b.names)))
+      (outdated_sound old.catalog mid.catalog old.queries.items new.queries.items old.order old.readers.items s outdater new.seq turns many b.names)))
 
   pub queries_then : queries_in new.queries.items new.order ≡ queries_in old.queries.items old.order
   queries_then = ap (queries_in new.queries.items) b.order
-      ∙ outdated_queries old.catalog mid.catalog old.queries.items new.queries.items old.order old.readers.items s outdater new.seq turns b.names
+      ∙ outdated_queries old.catalog mid.catalog old.queries.items new.queries.items old.order old.readers.items s outdater new.seq turns many b.names
 
   pub cursors_then : (id : CursorId) → held_at (kept_in new).cursors id
       ≡ held_at (map (outdated_held (queries_in old.queries.items old.order) outdater new.seq) (kept_in old).cursors) id
   cursors_then id =
       ap (λ (x : Catalog). held_at (held_from x.texts zero new.queries.items) id) b.catalog
-      ∙ outdated_cursors old.catalog mid.catalog old.queries.items new.queries.items old.order old.readers.items s outdater new.seq turns b.names id
+      ∙ outdated_cursors old.catalog mid.catalog old.queries.items new.queries.items old.order old.readers.items s outdater new.seq turns many b.names id
 
   pub registered_then : (kept_in new).registered ≡ (kept_in old).registered
   registered_then =

@@ -38,7 +38,7 @@ use Rattle.djq_engine.proofs.Reporting.{atoms_of}
 
 -- ---- sums over places
 
-sums_le : {A : Type 0} (f : ℕ → ℕ) (g : A → ℕ) (h : ℕ → A) (xs : List ℕ)
+pub sums_le : {A : Type 0} (f : ℕ → ℕ) (g : A → ℕ) (h : ℕ → A) (xs : List ℕ)
     → ((i : ℕ) → is_reader xs i ≡ true → f i ≤ g (h i)) → sum_by f xs ≤ sum_by g (map h xs)
 sums_le f g h [] k = omega arith
 sums_le f g h (x ∷ xs) k =
@@ -56,10 +56,10 @@ atoms_many c vs (a ∷ atoms) (m ∷ ms) h =
     let more = atoms_many c vs atoms ms h.1 in
     omega (arith, more)
 
-abbrev text_size : Query → ℕ
+abbrev pub text_size : Query → ℕ
 text_size q = length q.atoms + length (variables_of q.atoms)
 
-size_of_text : (c : Catalog) (l : Live) → IsKept c l
+pub size_of_text : (c : Catalog) (l : Live) → IsKept c l
     → length (l.numbered).atoms + length (l.numbered).variables ≡ text_size l.query
 size_of_text c l k =
     let asked = k.over.asked in

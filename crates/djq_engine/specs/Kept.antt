@@ -1,10 +1,13 @@
 -- What contracts see of an engine, and what its calls do to its cursors.
-use Rattle.std.specs.Prelude.{ℕ, List, [], ◌∷◌, ◌==◌, ◌≡◌, ◌≤◌, ◌+◌, ◌++◌, ◌&&◌, ◌⊎◌, Bool, true, false, not, Option, None, Some, is_none, IsSome, IsSomeAnd, IfSome, All, Result, Ok, Err, map, filter, find, nat_lt, slice_index_or, ⊤}
+use Rattle.std.specs.Prelude.{ℕ, List, [], ◌∷◌, ◌==◌, ◌≡◌, ◌≤◌, ◌+◌, ◌++◌, ◌&&◌, ◌⊎◌, Bool, true, false, not}
+use Rattle.std.specs.Prelude.{Option, None, Some, is_none, IsSome, IsSomeAnd, IfSome, All, Result, Ok, Err}
+use Rattle.std.specs.Prelude.{map, filter, find, nat_lt, slice_get, slice_index_or, slice_set, ⊤}
 use Rattle.djq_model.specs.declared.query.Query.{Query}
 use Rattle.djq_model.specs.Data.{Bytes, Tuple, bytes_eq, change_first}
-use Rattle.djq_model.specs.Listed.{Listed, a_query, listed_name, AnswersOf, listed_of}
+use Rattle.djq_model.specs.Listed.{Listed, a_query, a_union, listed_name, AnswersOf, listed_of}
 use Rattle.djq_lines.specs.declared.answer.Refusal.{Refusal}
 use Rattle.djq_lines.specs.declared.answer.Refusal.TheVariants.{NoQuery}
+use Rattle.djq_lines.specs.declared.answer.Sign.{Sign}
 use Rattle.djq_lines.specs.Hypergraph.{edges_of, head_of, variable_names}
 use Rattle.djq_tree.specs.Tree.{Tree}
 use Rattle.djq_tree.specs.Growing.{IsTreeOf}
@@ -18,7 +21,11 @@ use Rattle.djq_machine.specs.Delta.{Change}
 use Rattle.djq_reduct.specs.Answers.{IsAnswerOf}
 use Rattle.djq_live.specs.declared.listing.Next.{Next}
 use Rattle.djq_live.specs.declared.listing.Next.TheVariants.{Given, End, Stale}
-use Rattle.djq_live.specs.Live.{Live, values_of}
+use Rattle.djq_rows.specs.Catalog.{Catalog}
+use Rattle.djq_rows.specs.Cells.{StandFor}
+use Rattle.djq_live.specs.Live.{Live, IsLive, IsShowable, values_of}
+use Rattle.djq_live.specs.Member.{head_types}
+use Rattle.djq_reach.specs.Places.{place_at}
 use Rattle.djq_engine.specs.declared.cursor.CursorId.{CursorId}
 use Rattle.djq_engine.specs.declared.cursor.QueryId.{QueryId}
 
@@ -37,7 +44,7 @@ pub record Registered : Type 0 where
 -- What the engine keeps: the store of the join machine, and cursors; the registered queries, in
 -- order of registration; those that the last accepted change affected, in that order;
 -- and by place how a query's answers changed last, or that it was lost. Beside them the queries by
--- place, of which contracts speak only where an answer is lent.
+-- place.
 pub record Kept : Type 0 where
   pub store : Store
   pub cursors : List Held
@@ -157,13 +164,21 @@ pub record MovesCursor (old : Kept) (h : Held) (position : Position) (new : Kept
   pub registered : new.registered ≡ old.registered
   pub tellings : SameTellings old new
 
--- what holds of the query over which a cursor of this id is
+-- what holds of the query of an id, and of that over which a cursor of this id is
+abbrev pub AtPlace : Kept → QueryId → (Live → Type 0) → Type 0
+AtPlace k id P = IsSomeAnd (place_at k.places id.at) P
+
 abbrev pub AtQuery : Kept → CursorId → (Live → Type 0) → Type 0
-AtQuery k id P = IsSomeAnd (slice_index_or k.places id.query.at None) P
+AtQuery k id P = AtPlace k id.query P
 
 -- that an answer is one of the query over which a cursor is
 abbrev pub IsThere : Kept → CursorId → List ℕ → Type 0
 IsThere k id answer = AtQuery k id (λ l. IsAnswerOf l.reducts answer)
+
+-- that a tuple of cells can be shown by it: an answer, one that went, or one of another query with
+-- answers of the same types
+abbrev pub IsShown : Kept → CursorId → List ℕ → Type 0
+IsShown k id answer = AtQuery k id (λ l. IsShowable k.store.texts l answer)
 
 -- it stands for this tuple
 abbrev pub AnswerIs : Kept → CursorId → List ℕ → Tuple → Type 0
@@ -272,13 +287,15 @@ pub record ExplainsTree (q : Query) (lines : List ℕ) : Type 0 where
   pub named : IsTreeOf (edges_of q) (head_of q) tree
   pub are : lines ≡ explain_of (map (λ a. a.relation) q.atoms) (variable_names q) tree
 
--- They explain what is registered: a query is explained by its tree.
+-- They explain what is registered: a query is explained by its tree, and of a union nothing is said here.
 abbrev pub Explains : Listed → List ℕ → Type 0
 Explains (a_query q) lines = ExplainsTree q lines
+Explains (a_union name qs) lines = ⊤
 
 -- The choice rule names a tree of a query.
 abbrev pub HasTree : Listed → Type 0
 HasTree (a_query q) = (t : Tree) × IsTreeOf (edges_of q) (head_of q) t
+HasTree (a_union name qs) = ⊤
 
 -- What `explain` answers. A query whose lines find no memory has a tree too.
 pub record ExplainGives (st : Store) (query : Bytes) (result : Result (List ℕ) Refusal) :
@@ -286,3 +303,76 @@ pub record ExplainGives (st : Store) (query : Bytes) (result : Result (List ℕ)
   pub answer : Answers (first_of ((is_none (listed_of st.queries query), NoQuery) ∷ []))
       result (λ lines. IsSomeAnd (listed_of st.queries query) (λ q. Explains q lines))
       (OutOfMemoryWhere (IsSomeAnd (listed_of st.queries query) HasTree))
+
+-- Two queries in a place, before and behind a call, are the same query with the same tree.
+pub record SameShape (l m : Live) : Type 0 where
+  pub query : m.query ≡ l.query
+  pub numbered : m.numbered ≡ l.numbered
+  pub tree : (m.reducts).tree ≡ (l.reducts).tree
+
+-- They have the same tables, so what is an answer is one, and a cursor can go on.
+pub record SameTables (l m : Live) : Type 0 where
+  pub query : m.query ≡ l.query
+  pub numbered : m.numbered ≡ l.numbered
+  pub reducts : m.reducts ≡ l.reducts
+
+-- A query stays the one that it is; unless it is reached, its tables do too.
+pub record KeepsQuery (reached : Listed → Bool) (l m : Live) : Type 0 where
+  pub shape : SameShape l m
+  pub tables : reached (a_query l.query) ≡ false → SameTables l m
+
+-- So it is in each place that has a query.
+abbrev pub KeepsPlaces : (Listed → Bool) → Kept → Kept → Type 0
+KeepsPlaces reached old new = (i : ℕ) (l : Live) → place_at old.places i ≡ Some l
+    → IsSomeAnd (place_at new.places i) (KeepsQuery reached l)
+
+-- where no table changes
+abbrev pub KeepsTables : Kept → Kept → Type 0
+KeepsTables = KeepsPlaces (λ q. false)
+
+-- whether a change that was made or tried outdates a query, where there was one
+abbrev pub is_tried : Option RowsChange → Listed → Bool
+is_tried None q = false
+is_tried (Some change) q = is_outdated change q
+
+-- The place of a query that was dropped is vacant. Else nothing changes.
+abbrev pub DropsPlace : Kept → Bytes → Result ⊤ Refusal → Kept → Type 0
+DropsPlace old query (Ok done) new = IsSomeAnd (registered_of old.registered query)
+    (λ r. new.places ≡ slice_set old.places r.id.at None)
+DropsPlace old query (Err r) new = new.places ≡ old.places
+
+-- The queries in their places are kept over a catalog with the relations and the texts of the store.
+pub record IsOver (k : Kept) : Type 0 where
+  pub catalog : Catalog
+  pub relations : catalog.relations ≡ k.store.relations
+  pub texts : catalog.texts ≡ k.store.texts
+  pub live : (i : ℕ) (l : Live) → place_at k.places i ≡ Some l → IsLive catalog l
+
+-- A registered query stands in the place of its id.
+abbrev pub ArePlaced : Kept → Type 0
+ArePlaced k = All (λ r. AtPlace k r.id (λ l. r.query ≡ a_query l.query)) k.registered
+
+-- A query in a place is registered.
+abbrev pub AreListed : Kept → Type 0
+AreListed k = (i : ℕ) (l : Live) → place_at k.places i ≡ Some l
+    → IsSomeAnd (registered_at k.registered (record { at = i })) (λ r. r.query ≡ a_query l.query)
+
+-- A cursor is over a registered query.
+abbrev pub AreHeld : Kept → Type 0
+AreHeld k = (id : CursorId) (h : Held) → held_at k.cursors id ≡ Some h
+    → (h.id ≡ id)
+    × IsSomeAnd (registered_at k.registered id.query) (λ r. h.query ≡ listed_name r.query)
+
+-- cells in the head's order stand for the answer that a change tells
+abbrev pub CellsAre : Kept → Live → List ℕ → Change → Type 0
+CellsAre k l cells c = StandFor k.store.texts (head_types l) cells c.answer
+
+-- What is told of a query has cells in its head's order.
+abbrev pub AreTold : Kept → Type 0
+AreTold k = (id : QueryId) (changes : List Change) → told_at k id ≡ Some changes
+    → AtPlace k id (λ l. All (λ c. (cells : List ℕ) × CellsAre k l cells c) changes)
+
+-- One change that is told of a query, by its sign and the cells of its answer.
+abbrev pub TellsCells : Kept → QueryId → ℕ → Sign → List ℕ → Type 0
+TellsCells k id nth sign cells = AtPlace k id (λ l. IsSomeAnd (told_at k id)
+    (λ changes. IsSomeAnd (slice_get changes nth) (λ c. (sign ≡ c.sign) × CellsAre k l cells c)))

@@ -1,5 +1,6 @@
 -- Lists of places.
-use Rattle.std.specs.Prelude.{ℕ, List, [], ◌∷◌, ◌++◌, ◌≡◌, ◌<◌, ◌⊎◌, Option, Some, if◌then◌else◌, length}
+use Rattle.std.specs.Prelude.{ℕ, List, [], ◌∷◌, ◌++◌, ◌≡◌, ◌+◌, ◌<◌, ◌⊎◌, Option, Some, true, is_some}
+use Rattle.std.specs.Prelude.{if◌then◌else◌, length}
 use Rattle.djq_model.specs.declared.query.Query.{Query}
 use Rattle.djq_model.specs.declared.relation.Relation.{Relation}
 use Rattle.djq_machine.specs.Stale.{reads}
@@ -12,6 +13,12 @@ use Rattle.djq_engine.specs.Places.{left}
 -- What stands in each place is as before.
 abbrev pub SamePlaces : List (Option Live) → List (Option Live) → Type 0
 SamePlaces old new = (i : ℕ) → place_at new i ≡ place_at old i
+
+-- There are as many places as before, or one more where none of them was vacant.
+abbrev pub GrowsFull : List (Option Live) → List (Option Live) → Type 0
+GrowsFull old new = (length new ≡ length old)
+    ⊎ ((length new ≡ length old + 1)
+    × ((i : ℕ) → i < length old → is_some (place_at old i) ≡ true))
 
 -- Each place is watched as before.
 abbrev pub SameWatchers : List ℕ → List ℕ → Type 0

@@ -13,7 +13,7 @@ use Rattle.djq_rows.specs.Catalog.{Catalog, relation_at, counted_at, rows_at, wi
 use Rattle.djq_live.specs.Changes.{StandForRows}
 use Rattle.djq_reach.specs.declared.group.Group.{Group}
 use Rattle.djq_reach.specs.Places.{is_reader, AreOnce}
-use Rattle.djq_reach.specs.Grouping.{relations_of}
+use Rattle.djq_reach.specs.Grouping.{relations_of, rows_in}
 use Rattle.djq_engine.specs.declared.putting.Placed.{Placed}
 use Rattle.djq_engine.specs.Judging.{MayStand}
 
@@ -62,6 +62,7 @@ pub record JoinsGroup (at : ℕ) (cells : List ℕ) (old new : List Group) : Typ
   pub there : (r : ℕ) → is_reader (relations_of new) r ≡ (is_reader (relations_of old) r || at == r)
   pub rows : (r : ℕ) → rows_for new r
       ≡ (if at == r then rows_for old r ++ cells ∷ [] else rows_for old r)
+  pub more : rows_in new ≡ rows_in old + 1
 
 -- A held row went in, and is in its group where it came. This many came.
 abbrev pub PutsOne : Catalog → List Group → HeldRow → ℕ → ℕ → Catalog → List Group → Type 0
@@ -87,6 +88,7 @@ pub record PutsAll (st : Store) (held : List HeldRow) (c : Catalog) (n : ℕ) (g
   pub relations : c.relations ≡ (with_all st held).relations
   pub texts : c.texts ≡ (with_all st held).texts
   pub count : n ≡ count_came st held
+  pub size : rows_in groups ≡ n
   pub grouped : AreGrouped st.relations c groups
   pub come : (r : ℕ) → r < length st.relations
       → is_reader (relations_of groups) r ≡ has_come st held (relation_at st.relations r).name

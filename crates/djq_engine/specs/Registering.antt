@@ -1,5 +1,6 @@
 -- A query that is registered, or dropped.
 use Rattle.std.specs.Prelude.{ℕ, [], ◌∷◌, ◌++◌, ◌≡◌, ◌≢◌, ◌≤◌, None, Some, length, vec_capacity}
+use Rattle.djq_lines.specs.declared.limits.TheConstants.{QUERIES}
 use Rattle.djq_live.specs.Live.{Live}
 use Rattle.djq_live.specs.Updating.{IsEmpty}
 use Rattle.djq_engine.specs.declared.parts.Parts.{Parts}
@@ -27,6 +28,7 @@ pub record Registers (q : Live) (old new : Parts) : Type 0 where
   pub room : length new.order ≤ vec_capacity new.affected
   pub watched : length new.watchers.items ≡ length new.queries.items
   pub logged : length new.logs.items ≡ length new.queries.items
+  pub bounded : length new.queries.items ≤ QUERIES
 
 -- Nothing that is seen has changed.
 pub record SameParts (old new : Parts) : Type 0 where
@@ -41,3 +43,4 @@ pub record SameParts (old new : Parts) : Type 0 where
   pub room : length new.order ≤ vec_capacity new.affected
   pub watched : length new.watchers.items ≡ length new.queries.items
   pub logged : length new.logs.items ≡ length new.queries.items
+  pub bounded : length new.queries.items ≤ QUERIES

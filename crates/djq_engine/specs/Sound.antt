@@ -7,8 +7,8 @@ use Rattle.djq_reach.specs.Places.{place_at, reads_place, is_reader, readers_at,
 use Rattle.djq_engine.specs.Places.{is_live}
 
 -- Each registered query is kept over the catalog and its cursors can go on, and names differ. The
--- order has each place where a query is registered once, and no more than there may be. The readers
--- of a relation are the queries that read it, in that order.
+-- order has each place where a query is registered once, and no more than there may be, nor are there
+-- more places. The readers of a relation are the queries that read it, in that order.
 pub record IsSound (c : Catalog) (gs : List (Option Live)) (order : List ℕ)
     (readers : List (List ℕ)) : Type 0 where
   pub live : (i : ℕ) (l : Live) → place_at gs i ≡ Some l → IsLive c l
@@ -17,6 +17,7 @@ pub record IsSound (c : Catalog) (gs : List (Option Live)) (order : List ℕ)
   pub listed : (i : ℕ) → is_reader order i ≡ is_live gs i
   pub once : AreOnce order
   pub few : length order ≤ QUERIES
+  pub bounded : length gs ≤ QUERIES
   pub long : length readers ≡ length c.relations
   pub reading : (r : ℕ) → r < length c.relations → readers_at readers r
       ≡ filter (λ i. reads_place (relation_at c.relations r).name (place_at gs i)) order

@@ -3,7 +3,7 @@ use Rattle.std.specs.Prelude.{ℕ, List, [], ◌∷◌, ◌++◌, ◌≡◌, ◌
 use Rattle.djq_model.specs.declared.query.Query.{Query}
 use Rattle.djq_model.specs.declared.relation.Relation.{Relation}
 use Rattle.djq_model.specs.Data.{Bytes, rows_of}
-use Rattle.djq_model.specs.Listed.{Listed, a_query}
+use Rattle.djq_model.specs.Listed.{Listed, a_query, a_union}
 use Rattle.djq_lines.specs.Variables.{variables_of}
 use Rattle.djq_lines.specs.declared.answer.AddOutcome.{AddOutcome}
 use Rattle.djq_lines.specs.declared.answer.AddOutcome.TheVariants.{First, More}
@@ -12,10 +12,12 @@ use Rattle.djq_lines.specs.declared.answer.DeleteOutcome.TheVariants.{Last, Left
 use Rattle.djq_lines.specs.declared.answer.Refusal.{Refusal}
 use Rattle.djq_lines.specs.declared.answer.Refusal.TheVariants.{NoMemory}
 use Rattle.djq_lines.specs.declared.answer.Shape.TheVariants.{Flat}
+use Rattle.djq_lines.specs.declared.held.HeldRow.{HeldRow}
 use Rattle.djq_lines.specs.declared.rest.QueryOutcome.{QueryOutcome}
 use Rattle.djq_lines.specs.declared.rest.QueryOutcome.TheVariants.{Registered as HasRegistered}
 use Rattle.djq_machine.specs.Stale.{listed_reads}
 use Rattle.djq_machine.specs.Changes.{RowsChange, RowsOutcome, accepted, out_of_memory, unchanged, tried, is_outdated}
+use Rattle.djq_machine.specs.Batch.{rows_in}
 use Rattle.djq_machine.specs.Store.{IsShapeOf}
 use Rattle.djq_machine.specs.Watch.{Delta, ListsDeltas, deltas_steps}
 use Rattle.djq_engine.specs.declared.cursor.QueryId.{QueryId}
@@ -94,14 +96,17 @@ EnrolsTelling old q _ new =
 
 -- What an update of a query counts at most, where no leaf has more than n tuples before it: for each
 -- atom over a relation that changes 16(m + v)(n + 1), with m atoms and v variables, holes counted in.
+-- The updates of a union are its members'.
 abbrev pub update_steps : RowsChange → ℕ → Listed → ℕ
 update_steps change n (a_query q) = length (filter (λ a. change.touches a.relation) q.atoms)
     * (16 * ((length q.atoms + length (variables_of q.atoms)) * (n + 1)))
+update_steps change n (a_union name qs) = 0
 
 -- What an update of a flat query counts at most, whatever the rows: 16(m + v) for each such atom.
 abbrev pub flat_steps : RowsChange → Listed → ℕ
 flat_steps change (a_query q) = length (filter (λ a. change.touches a.relation) q.atoms)
     * (16 * (length q.atoms + length (variables_of q.atoms)))
+flat_steps change (a_union name qs) = 0
 
 -- What so many updates of a query count at most, as a flat one or by its rows. Of a flat query two
 -- count at most.
@@ -128,6 +133,20 @@ pub record CountsUpdates (times : ℕ) (old : Kept) (change : RowsChange) (befor
     pub counted : (n : ℕ) (as_flat : Listed → Bool) → AreBounded old change n as_flat → now ≤ before
         + sum_by (λ r. bounded_steps change times n (as_flat r.query) r.query)
         (readers_of old.registered change)
+
+-- how often, of a batch: where memory is refused, rows that were taken in are given back one by one
+abbrev pub batch_times : List HeldRow → Result ℕ Refusal → ℕ
+batch_times held (Ok n) = 1
+batch_times held (Err NoMemory) = length held + 2
+batch_times held (Err _) = 0
+
+-- A batch counts so many times at most what the updates of the queries do that read a relation of which
+-- a row comes, each of them bounded by its rows and by as many more as the batch has.
+pub record CountsBatch (times : ℕ) (old : Kept) (held : List HeldRow) (before now : ℕ) : Type 0
+  where
+    pub counted : (n : ℕ) → AreBounded old (rows_in old.store held) n (λ q. false) → now ≤ before
+        + sum_by (λ r. times * update_steps (rows_in old.store held) (n + length held) r.query)
+        (readers_of old.registered (rows_in old.store held))
 
 -- how often: a further copy of a row reaches no query; where memory is refused, rows that were taken
 -- in are given back

@@ -2,7 +2,7 @@
 ghost use Rattle.std.specs.Prelude.{◌≡◌, ◌+◌, ◌≤◌};
 ghost use Rattle.djq_model.specs.Listed.{listed_of};
 ghost use Rattle.djq_machine.specs.Store.{TellsShape, TellsWhether, has_steps};
-ghost use Rattle.djq_engine.specs.Kept.{ExplainGives, IsRegistered, IsThere, AnswerIs};
+ghost use Rattle.djq_engine.specs.Kept.{ExplainGives, IsRegistered, IsShown, AnswerIs};
 ghost use Rattle.djq_engine.specs.Lending.{LendsQuery};
 ghost use Rattle.djq_engine.specs.Whole.{kept_in, IsWhole};
 
@@ -11,7 +11,7 @@ use crate::lent::LentAnswer;
 use crate::parts::Parts;
 use crate::places::find_query;
 use djq_lines::{Refusal, Shape};
-use djq_live::{LiveQuery, answers_are_showable, answers_are_shown};
+use djq_live::{LiveQuery, answers_are_shown};
 use djq_model::{Name, Value};
 use djq_reduct::Answer;
 use djq_steps::{Ledgers, Listing, Tally};
@@ -85,13 +85,12 @@ pub fn shape_in(parts: &Parts, query: &Name) -> Result<Shape, Refusal>
     }
 }
 
-/// Lends an answer of the query that a cursor is over.
+/// Lends an answer of the query that a cursor is over, or another tuple that can be shown by it.
 pub fn answer_in<'a>(parts: &'a Parts, id: CursorId, answer: &'a Answer) -> LentAnswer<'a>
     requires whole { IsWhole parts.now }
-    requires there { IsThere (kept_in parts.now) id answer.now }
+    requires shown { IsShown (kept_in parts.now) id answer.now }
     ensures { AnswerIs (kept_in parts.now) id answer.now result }
 {
-    answers_are_showable();
     match &parts.queries[id.query.at] {
         Some(live) => LentAnswer::new(&parts.catalog, live, answer),
         None => unreachable!(),

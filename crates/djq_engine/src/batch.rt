@@ -6,11 +6,11 @@ ghost use Rattle.djq_machine.specs.Batch.{TellsSuits, SuitAll, AddsBatch, batch_
 ghost use Rattle.djq_rows.specs.Catalog.{Catalog as CatalogModel};
 ghost use Rattle.djq_reach.specs.Places.{readers_at, AreOnce};
 ghost use Rattle.djq_reach.specs.Tending.{AreUnwatched};
-ghost use Rattle.djq_reach.specs.Grouping.{CostsBy, relations_of};
+ghost use Rattle.djq_reach.specs.Grouping.{CostsBy, WorksBy, relations_of, rows_in, times_back};
 ghost use Rattle.djq_engine.specs.Changing.{KeepsRest};
-ghost use Rattle.djq_engine.specs.Kept.{IsUnwatched, Outdates};
+ghost use Rattle.djq_engine.specs.Kept.{IsUnwatched, Outdates, KeepsPlaces, is_tried};
 ghost use Rattle.djq_engine.specs.Taking.{reached_in, LeadsHere, TakesGroups, LacksGroups};
-ghost use Rattle.djq_engine.specs.Watching.{TellsChange};
+ghost use Rattle.djq_engine.specs.Watching.{CountsBatch, TellsChange, batch_times};
 ghost use Rattle.djq_engine.specs.Whole.{kept_in, IsWhole, IsTended};
 
 use crate::judge::suited;
@@ -19,7 +19,7 @@ use crate::parts::Parts;
 use crate::putting::{Came, put_all, take_back};
 use djq_deltas::deltas_exist;
 use djq_lines::{HeldRow, Refusal};
-use djq_live::{heads_are_bound, live_stays, showable_stays};
+use djq_live::{heads_are_bound, leaves_are_small, live_stays, showable_stays};
 use djq_model::{Name, NoMem, Value};
 use djq_reach::{Group, take_in_batch};
 use djq_rows::cells_stay;
@@ -56,6 +56,12 @@ fn take_groups<L: Ledgers>(
         parts.old.queries.items steps.old.listing steps.new.listing }
     ensures unlisted { AreUnwatched parts.old.watchers.items (reached_in parts.old groups.now)
         → steps.new.listing ≡ steps.old.listing }
+    ensures updates { OnOk result (WorksBy parts.old.readers.items groups.now
+        parts.old.queries.items (rows_in groups.now) (λ g. 1)
+        steps.old.update steps.new.update) }
+    ensures refusal { OnErr result (WorksBy parts.old.readers.items groups.now
+        parts.old.queries.items (rows_in groups.now) times_back
+        steps.old.update steps.new.update) }
     ensures rest { KeepsRest parts.old parts.new }
     ensures catalog { parts.new.catalog ≡ parts.old.catalog }
 {
@@ -92,9 +98,15 @@ pub fn done_in<L: Ledgers>(
         steps.old.listing steps.new.listing }
     ensures unlisted { IsUnwatched (kept_in parts.old)
         → steps.new.listing ≡ steps.old.listing }
+    ensures updates { CountsBatch (batch_times held.now result) (kept_in parts.old) held.now
+        steps.old.update steps.new.update }
+    ensures places { KeepsPlaces
+        (is_tried (tried (batch_outcome (kept_in parts.old).store held.now result)))
+        (kept_in parts.old) (kept_in parts.new) }
 {
     deltas_exist();
     heads_are_bound();
+    leaves_are_small();
     showable_stays();
     live_stays();
     cells_stay();

@@ -1,7 +1,8 @@
 /// Names a registered query of an engine, as long as that is registered.
 #[derive(Clone, Copy, Debug, PartialEq, Eq)]
 pub struct QueryId {
-    pub(crate) at: usize,
+    /// Its place among the queries.
+    pub at: usize,
 }
 
 /// Names a cursor of an engine, as long as it isn't closed.

@@ -1,20 +1,23 @@
 ghost use Rattle.std.specs.Prelude.{◌≡◌, ◌≤◌, ◌+◌, ◌-◌, ◌<◌, ◌∷◌, ◌++◌, false, [], length, map, option_map, slice_get, IfOk, IsSomeAnd, AllPairs};
 ghost use Rattle.djq_model.specs.Data.{bytes_eq, rows_of, without_row};
 ghost use Rattle.djq_model.specs.Listed.{listed_name, listed_of};
-ghost use Rattle.djq_lines.specs.declared.limits.TheConstants.{SESSIONS, HELD};
+ghost use Rattle.djq_lines.specs.declared.limits.TheConstants.{HELD, QUERIES};
 ghost use Rattle.djq_machine.specs.State.{opening};
 ghost use Rattle.djq_machine.specs.Store.{MakesRelation, AddsRow, DeletesRow, RegistersQuery};
-ghost use Rattle.djq_machine.specs.Store.{TellsShape, TellsWhether, has_steps};
+ghost use Rattle.djq_machine.specs.Store.{TellsShape, TellsWhether, has_steps, query_refusal};
 ghost use Rattle.djq_machine.specs.Changes.{row_in, row_out, add_outcome, delete_outcome, tried};
 ghost use Rattle.djq_machine.specs.Batch.{TellsSuits, SuitAll, AddsBatch, batch_outcome};
 ghost use Rattle.djq_engine.specs.Kept.{SameCursors, SameTellings, Outdates, DropGives, OpenGives, NextGives};
-ghost use Rattle.djq_engine.specs.Kept.{MoreGives, ClosesCursor, IsHeld, IsFresh, IsThere};
+ghost use Rattle.djq_engine.specs.Kept.{MoreGives, ClosesCursor, IsHeld, IsFresh, IsShown};
 ghost use Rattle.djq_engine.specs.Kept.{AnswerIs, ExplainGives, IsUnwatched};
+ghost use Rattle.djq_engine.specs.Kept.{KeepsPlaces, KeepsTables, DropsPlace, is_tried, TellsCells};
+ghost use Rattle.djq_engine.specs.Kept.{IsOver, ArePlaced, AreListed, AreHeld, AreTold};
 ghost use Rattle.djq_engine.specs.Kept.{registered_of, registered_at, same_query, IsRegistered};
 ghost use Rattle.djq_engine.specs.Kept.{with_watchers, told_at};
-ghost use Rattle.djq_engine.specs.Lending.{LendsQuery};
+ghost use Rattle.djq_engine.specs.Lending.{LendsQuery, sign_of};
 ghost use Rattle.djq_engine.specs.Watching.{TellsChange, Enrols, EnrolsTelling};
-ghost use Rattle.djq_engine.specs.Watching.{CountsUpdates, add_times, delete_times};
+ghost use Rattle.djq_engine.specs.Watching.{CountsUpdates, CountsBatch};
+ghost use Rattle.djq_engine.specs.Watching.{add_times, batch_times, delete_times};
 
 use crate::asking::{answer_in, explain_in, has_in, live_in, shape_in};
 use crate::batch::{done_in, held_ok_in};
@@ -22,16 +25,16 @@ use crate::cursor::{CursorId, QueryId};
 use crate::lent::LentAnswer;
 use crate::parts::Parts;
 use crate::reading::{close_in, more_in, next_in, open_in};
-use crate::registering::{drop_in, query_in};
+use crate::registering::{drop_in, judge_query, query_in};
 use crate::rows::{add_in, del_in, rel_in};
 use crate::watching::{
-    affected_count_in, affected_in, delta_len_in, delta_line_in, laws_in, query_id_in,
-    query_name_in, unwatch_in, watch_in, watchers_in,
+    affected_count_in, affected_in, delta_cells_in, delta_len_in, delta_line_in, laws_in,
+    query_id_in, query_name_in, unwatch_in, watch_in, watchers_in,
 };
 use djq_lines::{AddOutcome, DeleteOutcome, HeldRow, QueryOutcome, Refusal, Shape, Sign};
 use djq_live::{LiveQuery, Next};
 use djq_model::{Name, NoMem, Query, Sequence, Types, Value};
-use djq_reduct::Answer;
+use djq_reduct::{Answer, Cells};
 use djq_rows::Catalog;
 use djq_steps::{Ledgers, Listing, Steps, Tally};
 use djq_tree::Lines;
@@ -69,6 +72,7 @@ impl Engine {
         ensures registered { IfOk result (λ e. e.registered ≡ []) }
         ensures affected { IfOk result (λ e. e.affected ≡ []) }
         ensures told { IfOk result (λ e. e.told ≡ []) }
+        ensures places { IfOk result (λ e. e.places ≡ []) }
     {
         match Catalog::new(alloc) {
             Ok(catalog) => Ok(Engine {
@@ -129,21 +133,37 @@ impl Engine {
         live_in(&self.parts, id)
     }
 
+    /// The queries in their places: that of an id stands in its place, and a place without one is
+    /// vacant.
+    pub fn places(&self) -> &[Option<LiveQuery>]
+        ensures { result.now ≡ self.now.places }
+    {
+        self.parts.queries.as_slice()
+    }
+
     /// What holds of an engine between any two calls. It does nothing.
     pub fn laws(&self)
         ensures queries { map (λ r. r.query) self.now.registered ≡ self.now.store.queries }
         ensures apart { AllPairs (λ r s. same_query r.id s.id ≡ false) self.now.registered }
         ensures named { AllPairs (λ r s. bytes_eq (listed_name r.query) (listed_name s.query) ≡ false)
             self.now.registered }
+        ensures few { length self.now.places ≤ QUERIES }
+        ensures long { length self.now.told ≡ length self.now.places }
+        ensures over { IsOver self.now }
+        ensures placed { ArePlaced self.now }
+        ensures listed { AreListed self.now }
+        ensures held { AreHeld self.now }
+        ensures shown { AreTold self.now }
     {
         laws_in(&self.parts);
     }
 
-    /// A session more watches a query. Its changes are told from now on. It takes no memory.
+    /// One more watches a query: a session, or a union for those that watch it. Its changes are told
+    /// from now on. It takes no memory.
     pub fn watch(&mut self, id: QueryId)
         requires registered { IsRegistered self.old id }
         requires few { IsSomeAnd (registered_at self.old.registered id)
-            (λ r. r.watchers < SESSIONS) }
+            (λ r. r.watchers < 4294967295) }
         ensures { self.new ≡ record self.old {
           registered = with_watchers id (λ n. n + 1) self.old.registered;
         } }
@@ -151,7 +171,7 @@ impl Engine {
         watch_in(&mut self.parts, id);
     }
 
-    /// A session that watched a query does so no more. It takes no memory.
+    /// One that watched a query does so no more. It takes no memory.
     pub fn unwatch(&mut self, id: QueryId)
         requires { IsSomeAnd (registered_at self.old.registered id) (λ r. 0 < r.watchers) }
         ensures { self.new ≡ record self.old {
@@ -161,7 +181,7 @@ impl Engine {
         unwatch_in(&mut self.parts, id);
     }
 
-    /// How many sessions watch a query.
+    /// How many watch a query.
     pub fn watchers(&self, id: QueryId) -> u32
         requires { IsRegistered self.now id }
         ensures { IsSomeAnd (registered_at self.now.registered id) (λ r. result ≡ r.watchers) }
@@ -204,6 +224,15 @@ impl Engine {
         delta_line_in(&self.parts, id, nth)
     }
 
+    /// One of them, as cells in the order of the query's head: whether it came.
+    pub fn delta_cells(&self, id: QueryId, nth: usize, cells: &mut Cells) -> bool
+        requires registered { IsRegistered self.now id }
+        requires within { IsSomeAnd (told_at self.now id) (λ changes. nth < length changes) }
+        ensures { TellsCells self.now id nth (sign_of result) cells.new }
+    {
+        delta_cells_in(&self.parts, id, nth, cells)
+    }
+
     /// Makes a relation without rows, of one column at least.
     ///
     /// # Errors
@@ -217,6 +246,7 @@ impl Engine {
         ensures cursors { SameCursors self.old.cursors self.new.cursors }
         ensures registered { self.new.registered ≡ self.old.registered }
         ensures tellings { SameTellings self.old self.new }
+        ensures places { self.new.places ≡ self.old.places }
     {
         rel_in(&mut self.parts, name, types)
     }
@@ -254,6 +284,9 @@ impl Engine {
         ensures updates { CountsUpdates (add_times result) self.old
             (row_in self.old.store.relations name.now row.now)
             steps.old.update steps.new.update }
+        ensures places { KeepsPlaces (is_tried
+            (tried (add_outcome (row_in self.old.store.relations name.now row.now) result)))
+            self.old self.new }
     {
         add_in(&mut self.parts, name, row, steps)
     }
@@ -285,6 +318,9 @@ impl Engine {
         ensures updates { CountsUpdates (delete_times result) self.old
             (row_out self.old.store.relations name.now row.now)
             steps.old.update steps.new.update }
+        ensures places { KeepsPlaces (is_tried
+            (tried (delete_outcome (row_out self.old.store.relations name.now row.now) result)))
+            self.old self.new }
     {
         del_in(&mut self.parts, name, row, steps)
     }
@@ -304,14 +340,17 @@ impl Engine {
     /// Adds all rows that a batch held, at once, and tells how many of them weren't there. A row that
     /// was, or that came before it in the batch, has a further copy. Where rows came, that is one
     /// change: cursors over a query become stale by the first relation of the batch that the query
-    /// reads and of which a row came, and each watched query tells one delta.
+    /// reads and of which a row came, and each watched query tells one delta. What updates count is
+    /// bounded for each of these queries as for one row, with the rows of the batch among those of its
+    /// relations.
     ///
     /// # Errors
     ///
     /// `Limit` where a row finds no place over what the rows before it leave: its copies, its relation,
     /// the number of changes or that of known texts are at their limit. `NoMemory` out of memory, and
     /// cursors over a query are stale by the first relation of the batch that the query reads, and
-    /// nothing is told of it. Texts that became known stay so, and no row has changed.
+    /// nothing is told of it. Texts that became known stay so, and no row has changed. What the queries
+    /// took in goes out row by row then, which may count once more for each row.
     pub fn done<L: Ledgers>(
         &mut self,
         held: &[HeldRow],
@@ -326,8 +365,20 @@ impl Engine {
         ensures tells { TellsChange self.old (batch_outcome self.old.store held.now result) self.new
             steps.old.listing steps.new.listing }
         ensures unlisted { IsUnwatched self.old → steps.new.listing ≡ steps.old.listing }
+        ensures updates { CountsBatch (batch_times held.now result) self.old held.now
+            steps.old.update steps.new.update }
+        ensures places { KeepsPlaces (is_tried (tried (batch_outcome self.old.store held.now result)))
+            self.old self.new }
     {
         done_in(&mut self.parts, held, steps)
+    }
+
+    /// Why a query isn't registered, whatever its hypergraph is: its name is taken, it has a fault, or
+    /// there are as many queries as may be.
+    pub fn query_fault(&self, query: &Query) -> Option<Refusal>
+        ensures { result ≡ query_refusal self.now.store query.now }
+    {
+        judge_query(&self.parts, query)
     }
 
     /// Registers a free-connex query, and tells how many lookups and links one of its answers takes
@@ -350,6 +401,7 @@ impl Engine {
         ensures enrols { Enrols self.old.registered query result self.new.registered }
         ensures tellings { EnrolsTelling self.old query result self.new }
         ensures counted { steps.new.listing ≡ steps.old.listing }
+        ensures places { KeepsTables self.old self.new }
     {
         query_in(&mut self.parts, query, steps)
     }
@@ -362,7 +414,8 @@ impl Engine {
     /// `NoQuery` where none has the name; `InUse` where a cursor is over it, stale or not, or a
     /// session watches it. Nothing has changed.
     pub fn drop_query(&mut self, query: &Name) -> Result<(), Refusal>
-        ensures { DropGives self.old query.now result self.new }
+        ensures gives { DropGives self.old query.now result self.new }
+        ensures places { DropsPlace self.old query.now result self.new }
     {
         drop_in(&mut self.parts, query)
     }
@@ -373,7 +426,8 @@ impl Engine {
     ///
     /// `NoQuery` where none has the name; `NoMemory` out of memory. Nothing has changed.
     pub fn open(&mut self, query: &Name) -> Result<CursorId, Refusal>
-        ensures { OpenGives self.old query.now result self.new }
+        ensures gives { OpenGives self.old query.now result self.new }
+        ensures places { KeepsTables self.old self.new }
     {
         open_in(&mut self.parts, query)
     }
@@ -387,7 +441,8 @@ impl Engine {
         listing: &mut Tally<Listing<L>>,
     ) -> Next
         requires { IsHeld self.old id }
-        ensures { NextGives self.old id result answer.new self.new listing.old listing.new }
+        ensures gives { NextGives self.old id result answer.new self.new listing.old listing.new }
+        ensures places { KeepsTables self.old self.new }
     {
         next_in(&mut self.parts, id, answer, listing)
     }
@@ -396,7 +451,8 @@ impl Engine {
     /// its end. It takes no memory.
     pub fn more<L: Ledgers>(&mut self, id: CursorId, listing: &mut Tally<Listing<L>>) -> bool
         requires { IsFresh self.old id }
-        ensures { MoreGives self.old id result self.new listing.old listing.new }
+        ensures gives { MoreGives self.old id result self.new listing.old listing.new }
+        ensures places { KeepsTables self.old self.new }
     {
         more_in(&mut self.parts, id, listing)
     }
@@ -424,14 +480,16 @@ impl Engine {
     /// Gives up an open cursor. Its id may come again from [`open`](Engine::open).
     pub fn close(&mut self, id: CursorId)
         requires { IsHeld self.old id }
-        ensures { ClosesCursor self.old id self.new }
+        ensures closes { ClosesCursor self.old id self.new }
+        ensures places { KeepsTables self.old self.new }
     {
         close_in(&mut self.parts, id);
     }
 
-    /// Lends an answer that an open cursor gave, as long as no row changes.
+    /// Lends an answer that an open cursor gave, or another tuple that can be shown by the query that
+    /// the cursor is over.
     pub fn answer<'a>(&'a self, id: CursorId, answer: &'a Answer) -> LentAnswer<'a>
-        requires { IsThere self.now id answer.now }
+        requires { IsShown self.now id answer.now }
         ensures { AnswerIs self.now id answer.now result }
     {
         answer_in(&self.parts, id, answer)

@@ -51,7 +51,7 @@
 
 pub use cursor::{CursorId, QueryId};
 pub use djq_live::{LiveQuery, Next};
-pub use djq_reduct::Answer;
+pub use djq_reduct::{Answer, Cells};
 pub use engine::Engine;
 pub use lent::LentAnswer;
 

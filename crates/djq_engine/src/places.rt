@@ -2,7 +2,7 @@
 ghost use Rattle.std.specs.Prelude.{◌≡◌, ◌==◌, ◌<◌, None, not, filter, position, length, vec_capacity, IfOk};
 ghost use Rattle.djq_reach.specs.Places.{place_at, AreOnce};
 ghost use Rattle.djq_engine.specs.Places.{is_query, left};
-ghost use Rattle.djq_engine.specs.Placing.{SamePlaces, SameWatchers, SameLogs, AllOnce, LeavesAll};
+ghost use Rattle.djq_engine.specs.Placing.{GrowsFull, SamePlaces, SameWatchers, SameLogs, AllOnce, LeavesAll};
 
 use djq_cursor::DeltaLog;
 use djq_live::LiveQuery;
@@ -47,6 +47,7 @@ pub fn vacant_place(
     ensures logs { SameLogs queries.old.items logs.old.items logs.new.items }
     ensures watched { length watchers.new.items ≡ length queries.new.items }
     ensures logged { length logs.new.items ≡ length queries.new.items }
+    ensures long { GrowsFull queries.old.items queries.new.items }
 {
     if let Some(at) = queries.iter().position(|place| place.is_none()) {
         return Ok(at);

@@ -2,6 +2,7 @@
 ghost use Rattle.std.specs.Prelude.{◌≡◌, ⊤, IsSomeAnd, IfOk, OnErr};
 ghost use Rattle.djq_reach.specs.Places.{place_at};
 ghost use Rattle.djq_engine.specs.Kept.{IsHeld, IsFresh, OpenGives, NextGives, MoreGives, ClosesCursor};
+ghost use Rattle.djq_engine.specs.Kept.{KeepsTables};
 ghost use Rattle.djq_engine.specs.Moving.{Moves, IsReadable, IsFreshly, OpensAt, ClosesAt, ReadsAt, TellsAt};
 ghost use Rattle.djq_engine.specs.Whole.{kept_in, IsWhole, IsTended};
 
@@ -79,6 +80,7 @@ pub fn open_in(parts: &mut Parts, query: &Name) -> Result<CursorId, Refusal>
     ensures whole { IsWhole parts.new }
     ensures tended { IsTended parts.new }
     ensures gives { OpenGives (kept_in parts.old) query.now result (kept_in parts.new) }
+    ensures places { KeepsTables (kept_in parts.old) (kept_in parts.new) }
 {
     let Some(at) = find_query(parts.queries.as_slice(), query) else {
         return Err(Refusal::NoQuery);
@@ -100,6 +102,7 @@ pub fn close_in(parts: &mut Parts, id: CursorId)
     ensures whole { IsWhole parts.new }
     ensures tended { IsTended parts.new }
     ensures closes { ClosesCursor (kept_in parts.old) id (kept_in parts.new) }
+    ensures places { KeepsTables (kept_in parts.old) (kept_in parts.new) }
 {
     close_at(&mut parts.queries, id.query.at, id.cursor);
 }
@@ -118,6 +121,7 @@ pub fn next_in<L: Ledgers>(
     ensures tended { IsTended parts.new }
     ensures gives { NextGives (kept_in parts.old) id result answer.new (kept_in parts.new)
         listing.old listing.new }
+    ensures places { KeepsTables (kept_in parts.old) (kept_in parts.new) }
 {
     next_at(&mut parts.queries, id.query.at, id.cursor, answer, listing)
 }
@@ -131,6 +135,7 @@ pub fn more_in<L: Ledgers>(parts: &mut Parts, id: CursorId, listing: &mut Tally<
     ensures tended { IsTended parts.new }
     ensures gives { MoreGives (kept_in parts.old) id result (kept_in parts.new)
         listing.old listing.new }
+    ensures places { KeepsTables (kept_in parts.old) (kept_in parts.new) }
 {
     more_at(&mut parts.queries, id.query.at, id.cursor, listing)
 }

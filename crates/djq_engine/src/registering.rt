@@ -1,9 +1,10 @@
 //! Queries that are registered and dropped.
 ghost use Rattle.std.specs.Prelude.{◌≡◌, [], ◌∷◌, ◌++◌, ◌<◌, ⊤, Some, None, OnOk, OnErr, IsSomeAnd, IfNone, IfSome, if◌then◌else◌, length};
+ghost use Rattle.djq_lines.specs.declared.limits.TheConstants.{QUERIES};
 ghost use Rattle.djq_machine.specs.Stale.{reads};
 ghost use Rattle.djq_machine.specs.Store.{RegistersQuery, query_refusal};
 ghost use Rattle.djq_live.specs.Cursors.{are_vacant};
-ghost use Rattle.djq_engine.specs.Kept.{SameCursors, DropGives};
+ghost use Rattle.djq_engine.specs.Kept.{SameCursors, DropGives, DropsPlace, KeepsTables};
 ghost use Rattle.djq_reach.specs.Places.{place_at};
 ghost use Rattle.djq_engine.specs.Placing.{JoinsReaders, JoinsSome};
 ghost use Rattle.djq_engine.specs.Registering.{Registers, SameParts};
@@ -72,6 +73,7 @@ fn join_readers(
 fn register(parts: &mut Parts, query: LiveQuery) -> Result<(), NoMem>
     requires whole { IsWhole parts.old }
     requires tended { IsTended parts.old }
+    requires room { length parts.old.order < QUERIES }
     ensures ok { OnOk result (Registers query parts.old parts.new) }
     ensures err { OnErr result (SameParts parts.old parts.new) }
 {
@@ -101,8 +103,8 @@ fn register(parts: &mut Parts, query: LiveQuery) -> Result<(), NoMem>
     }
 }
 
-// Why a query isn't registered, whatever its hypergraph is.
-fn judge_query(parts: &Parts, query: &Query) -> Option<Refusal>
+/// Why a query isn't registered, whatever its hypergraph is.
+pub fn judge_query(parts: &Parts, query: &Query) -> Option<Refusal>
     requires { IsWhole parts.now }
     ensures { result ≡ query_refusal (kept_in parts.now).store query.now }
 {
@@ -136,6 +138,7 @@ pub fn query_in<L: Ledgers>(
         (kept_in parts.new).registered }
     ensures tellings { EnrolsTelling (kept_in parts.old) query result (kept_in parts.new) }
     ensures counted { steps.new.listing ≡ steps.old.listing }
+    ensures places { KeepsTables (kept_in parts.old) (kept_in parts.new) }
 {
     live_stays();
     texts_stay();
@@ -184,6 +187,7 @@ pub fn drop_in(parts: &mut Parts, query: &Name) -> Result<(), Refusal>
     ensures whole { IsWhole parts.new }
     ensures tended { IsTended parts.new }
     ensures gives { DropGives (kept_in parts.old) query.now result (kept_in parts.new) }
+    ensures places { DropsPlace (kept_in parts.old) query.now result (kept_in parts.new) }
 {
     let Some(at) = find_query(parts.queries.as_slice(), query) else {
         return Err(Refusal::NoQuery);

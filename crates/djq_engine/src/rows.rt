@@ -4,6 +4,7 @@ ghost use Rattle.djq_model.specs.Data.{rows_of, without_row};
 ghost use Rattle.djq_machine.specs.Store.{MakesRelation, AddsRow, DeletesRow};
 ghost use Rattle.djq_machine.specs.Changes.{row_in, row_out, add_outcome, delete_outcome, tried};
 ghost use Rattle.djq_engine.specs.Kept.{IsUnwatched, Outdates, SameCursors, SameTellings};
+ghost use Rattle.djq_engine.specs.Kept.{KeepsPlaces, is_tried};
 ghost use Rattle.djq_reach.specs.Places.{readers_at, AreOnce};
 ghost use Rattle.djq_reach.specs.Reaching.{AllAt};
 ghost use Rattle.djq_engine.specs.Changing.{AgesReaders};
@@ -72,6 +73,9 @@ pub fn add_in<L: Ledgers>(
     ensures updates { CountsUpdates (add_times result) (kept_in parts.old)
         (row_in (kept_in parts.old).store.relations name.now row.now)
         steps.old.update steps.new.update }
+    ensures places { KeepsPlaces (is_tried
+        (tried (add_outcome (row_in (kept_in parts.old).store.relations name.now row.now) result)))
+        (kept_in parts.old) (kept_in parts.new) }
 {
     names_tell();
     deltas_exist();
@@ -124,6 +128,9 @@ pub fn del_in<L: Ledgers>(
     ensures updates { CountsUpdates (delete_times result) (kept_in parts.old)
         (row_out (kept_in parts.old).store.relations name.now row.now)
         steps.old.update steps.new.update }
+    ensures places { KeepsPlaces (is_tried
+        (tried (delete_outcome (row_out (kept_in parts.old).store.relations name.now row.now) result)))
+        (kept_in parts.old) (kept_in parts.new) }
 {
     names_tell();
     deltas_exist();
@@ -158,6 +165,7 @@ pub fn rel_in(parts: &mut Parts, name: Name, types: Types) -> Result<(), Refusal
     ensures cursors { SameCursors (kept_in parts.old).cursors (kept_in parts.new).cursors }
     ensures registered { (kept_in parts.new).registered ≡ (kept_in parts.old).registered }
     ensures tellings { SameTellings (kept_in parts.old) (kept_in parts.new) }
+    ensures places { (kept_in parts.new).places ≡ (kept_in parts.old).places }
 {
     live_stays();
     if parts.catalog.id(&name).is_some() {

@@ -1,9 +1,11 @@
-//! Sessions that watch queries, and how the answers of these changed last.
-ghost use Rattle.std.specs.Prelude.{◌≡◌, ◌<◌, ◌+◌, ◌-◌, Some, IsSomeAnd, option_map, false, map, AllPairs, length, slice_get};
+//! Those that watch queries, and how the answers of these changed last.
+ghost use Rattle.std.specs.Prelude.{◌≡◌, ◌<◌, ◌≤◌, ◌+◌, ◌-◌, Some, IsSomeAnd, option_map, false};
+ghost use Rattle.std.specs.Prelude.{map, AllPairs, length, slice_get};
 ghost use Rattle.djq_model.specs.Data.{bytes_eq};
 ghost use Rattle.djq_model.specs.Listed.{listed_name};
-ghost use Rattle.djq_lines.specs.declared.limits.TheConstants.{SESSIONS};
+ghost use Rattle.djq_lines.specs.declared.limits.TheConstants.{QUERIES};
 ghost use Rattle.djq_engine.specs.Kept.{registered_of, registered_at, same_query, IsRegistered, with_watchers, told_at};
+ghost use Rattle.djq_engine.specs.Kept.{IsOver, ArePlaced, AreListed, AreHeld, AreTold, TellsCells};
 ghost use Rattle.djq_engine.specs.Lending.{sign_of};
 ghost use Rattle.djq_engine.specs.Whole.{kept_in, IsWhole, IsTended};
 
@@ -13,7 +15,9 @@ use crate::parts::Parts;
 use crate::places::find_query;
 use djq_cursor::{DeltaLog, Line};
 use djq_lines::Sign;
+use djq_live::showable_cells_stand;
 use djq_model::Name;
+use djq_reduct::Cells;
 
 /// The id of a query. `None` exactly where no query has the name.
 pub fn query_id_in(parts: &Parts, name: &Name) -> Option<QueryId>
@@ -40,23 +44,34 @@ pub fn query_name_in(parts: &Parts, id: QueryId) -> Name
     }
 }
 
-/// The registered queries are those of the store, their ids are different, and their names too. It
-/// does nothing.
+/// The registered queries are those of the store, their ids are different, and their names too. They
+/// stand in their places, kept over one catalog; cursors are over them, and what is told of them has
+/// cells. It does nothing.
 pub fn laws_in(parts: &Parts)
-    requires { IsWhole parts.now }
+    requires whole { IsWhole parts.now }
+    requires tended { IsTended parts.now }
     ensures queries { map (λ r. r.query) (kept_in parts.now).registered
         ≡ (kept_in parts.now).store.queries }
     ensures apart { AllPairs (λ r s. same_query r.id s.id ≡ false) (kept_in parts.now).registered }
     ensures named { AllPairs (λ r s. bytes_eq (listed_name r.query) (listed_name s.query) ≡ false)
         (kept_in parts.now).registered }
-{}
+    ensures few { length (kept_in parts.now).places ≤ QUERIES }
+    ensures long { length (kept_in parts.now).told ≡ length (kept_in parts.now).places }
+    ensures over { IsOver (kept_in parts.now) }
+    ensures placed { ArePlaced (kept_in parts.now) }
+    ensures listed { AreListed (kept_in parts.now) }
+    ensures held { AreHeld (kept_in parts.now) }
+    ensures shown { AreTold (kept_in parts.now) }
+{
+    showable_cells_stand();
+}
 
-/// A session more watches a query. It takes no memory.
+/// One more watches a query. It takes no memory.
 pub fn watch_in(parts: &mut Parts, id: QueryId)
     requires whole { IsWhole parts.old }
     requires tended { IsTended parts.old }
     requires few { IsSomeAnd (registered_at (kept_in parts.old).registered id)
-        (λ r. r.watchers < SESSIONS) }
+        (λ r. r.watchers < 4294967295) }
     ensures whole { IsWhole parts.new }
     ensures tended { IsTended parts.new }
     ensures watches { kept_in parts.new ≡ record (kept_in parts.old) {
@@ -66,7 +81,7 @@ pub fn watch_in(parts: &mut Parts, id: QueryId)
     parts.watchers[id.at] += 1;
 }
 
-/// A session that watched a query does so no more. It takes no memory.
+/// One that watched a query does so no more. It takes no memory.
 pub fn unwatch_in(parts: &mut Parts, id: QueryId)
     requires whole { IsWhole parts.old }
     requires tended { IsTended parts.old }
@@ -81,7 +96,7 @@ pub fn unwatch_in(parts: &mut Parts, id: QueryId)
     parts.watchers[id.at] -= 1;
 }
 
-/// How many sessions watch a query.
+/// How many watch a query.
 pub fn watchers_in(parts: &Parts, id: QueryId) -> u32
     requires whole { IsWhole parts.now }
     requires tended { IsTended parts.now }
@@ -157,6 +172,26 @@ pub fn delta_line_in(parts: &Parts, id: QueryId, nth: usize) -> (Sign, LentAnswe
             sign_of(line),
             LentAnswer::new(&parts.catalog, live, &line.answer),
         ),
+        None => unreachable!(),
+    }
+}
+
+/// One of them, as cells in the order of the query's head: whether it came.
+pub fn delta_cells_in(parts: &Parts, id: QueryId, nth: usize, cells: &mut Cells) -> bool
+    requires whole { IsWhole parts.now }
+    requires tended { IsTended parts.now }
+    requires registered { IsRegistered (kept_in parts.now) id }
+    requires within { IsSomeAnd (told_at (kept_in parts.now) id)
+        (λ changes. nth < length changes) }
+    ensures { TellsCells (kept_in parts.now) id nth (sign_of result) cells.new }
+{
+    showable_cells_stand();
+    let line = line_at(&parts.logs[id.at], nth);
+    match &parts.queries[id.at] {
+        Some(live) => {
+            live.put_in_head(&line.answer, cells);
+            line.came
+        }
         None => unreachable!(),
     }
 }

@@ -1,18 +1,15 @@
 -- The lines of a group, one after another, and where they are put.
-use Rattle.std.proofs.Common.{◌≡◌, ℕ, zero, suc, ◌+◌, ◌≤◌, List, [], ◌∷◌, ◌++◌, length, take, drop, refl, sym, ap, subst, ◌∙◌, arith, append-nil, length-append}
+use Rattle.std.proofs.Common.{◌≡◌, ℕ, zero, suc, ◌+◌, ◌≤◌, List, [], ◌∷◌, ◌++◌, length, take, drop, refl, sym, ap, ap₂, subst, ◌∙◌, arith, append_assoc, append-nil, length-append, length-take}
 use Rattle.std.specs.Prelude.{Some, None, slice_get}
 use Rattle.std.specs.List.{flat_map, AllByRecursion}
 use Rattle.std.proofs.Math.Seq.{take-suc}
 use Rattle.std.proofs.lemmas.List.{take-append-drop, drop_more}
 use Rattle.std.proofs.lemmas.Option.{slice_get_within, get_or_from_slice_get}
 use Rattle.std.proofs.lemmas.Grind.{flat_map-append}
-use Rattle.djq_disk.specs.History.{History, Writes}
-use Rattle.djq_disk.specs.declared.disk.DiskDid.TheVariants.{Done}
 use Rattle.djq_journal.specs.Format.{IsLine, body_of, record_of}
-use Rattle.djq_journal.specs.Standing.{IsIdle}
 use Rattle.djq_journal.specs.Appending.{gate_after}
-use Rattle.djq_journal.specs.Staging.{gate_before, Stages}
-use Rattle.djq_journal.proofs.Staged.{staged_more}
+use Rattle.djq_journal.specs.Staging.{gate_before, behind_gate, Gathers}
+use Rattle.djq_journal.proofs.Fronts.{behind_more, length_behind}
 
 -- a line of the group is one
 pub line_at : (lines : List (List ℕ)) (i : ℕ) (line : List ℕ) → AllByRecursion IsLine lines → Some line ≡ slice_get lines i → IsLine line
@@ -55,14 +52,58 @@ gate_most gate lines i =
     ap (λ xs. flat_map record_of xs) (sym (take-append-drop i lines)) ∙ flat_map-append record_of (take i lines) (drop i lines) in
     omega (arith, ap length all, length-append (flat_map record_of (take i lines)) (flat_map record_of (drop i lines)))
 
--- The line with this number is written behind those before it.
-pub staged_line : (group : List (List ℕ)) (i : ℕ) (line : List ℕ) (at next : ℕ) (lines : List (List ℕ)) (gate : ℕ) (old mid new : History)
-    → Some line ≡ slice_get group i → at ≡ suc (gate_after gate (take i group)) → next ≡ gate_before (drop (i + 1) group)
-    → IsIdle lines gate old.file → Stages lines (take i group) gate (gate_before (drop i group)) old mid
-    → Writes Done at (body_of line ++ next ∷ []) mid new
-    → Stages lines (take (i + 1) group) gate (gate_before (drop (i + 1) group)) old new
-staged_line group i line at next lines gate old mid new is place is_next idle stages writes =
-    let so_far : Stages lines (take i group) gate 1 old mid = subst (λ n. Stages lines (take i group) gate n old mid) (open_before group i line is) stages in
-    let wrote : Writes Done (suc (gate_after gate (take i group))) (body_of line ++ next ∷ []) mid new = subst (λ n. Writes Done n (body_of line ++ next ∷ []) mid new) place writes in
-    let more : Stages lines (take i group ++ line ∷ []) gate next old new = staged_more lines (take i group) line gate next old mid new idle so_far wrote in
-    subst (λ n. Stages lines (take (i + 1) group) gate n old new) is_next (subst (λ part. Stages lines part gate next old new) (sym (taken_line group i line is)) more)
+-- each line takes a place at least
+pub few_lines : (gate : ℕ) (lines : List (List ℕ)) → length lines ≤ gate_after gate lines
+few_lines gate [] = omega arith
+few_lines gate (line ∷ lines) = omega (arith, few_lines gate lines, length-append (record_of line) (flat_map record_of lines))
+
+-- the first bytes of a buffer end no further than it does
+pub piece_within : (n at most : ℕ) (buf : List ℕ) → at + length buf ≤ most → at + length (take n buf) ≤ most
+piece_within n at most buf within = omega (arith, length-take n buf)
+
+-- nothing is laid out yet
+pub gathers_none : (group : List (List ℕ)) (gate at : ℕ) → at ≡ suc gate → Gathers group 0 gate at [] []
+gathers_none group gate at is = record { place = omega (arith, is); are = refl }
+
+-- what is written ends no further than all will
+pub gathers_end : (group : List (List ℕ)) (i gate at : ℕ) (written gathered : List ℕ) → Gathers group i gate at written gathered
+    → at ≤ suc (gate_after gate group)
+gathers_end group i gate at written gathered g =
+    omega (arith, g.place, ap length g.are, length-append written gathered, length_behind (take i group) (gate_before (drop i group)), gate_most gate group i)
+
+-- What is gathered is written.
+pub gathers_written : (group : List (List ℕ)) (i gate at at' filled filled' : ℕ) (written buf : List ℕ) → at' ≡ at + filled → filled' ≡ 0 → filled ≤ length buf
+    → Gathers group i gate at written (take filled buf) → Gathers group i gate at' (written ++ take filled buf) (take filled' buf)
+gathers_written group i gate at at' filled filled' written buf place none within g =
+    let all = written ++ take filled buf in
+    record {
+      place = omega (arith, place, within, g.place, length-append written (take filled buf), length-take filled buf);
+      are = g.are ∙ sym (append-nil all) ∙ ap (λ n. all ++ take n buf) (sym none);
+    }
+
+-- Nothing of it is.
+pub gathers_still : (group : List (List ℕ)) (i gate at at' filled filled' : ℕ) (written buf : List ℕ) → at' ≡ at → filled' ≡ filled
+    → Gathers group i gate at written (take filled buf) → Gathers group i gate at' written (take filled' buf)
+gathers_still group i gate at at' filled filled' written buf place same g =
+    record { place = place ∙ g.place; are = g.are ∙ ap (λ n. written ++ take n buf) (sym same) }
+
+-- The line with this number is gathered behind those before it.
+pub gathers_line : (group : List (List ℕ)) (i : ℕ) (line : List ℕ) (next gate at : ℕ) (written gathered : List ℕ)
+    → Some line ≡ slice_get group i → next ≡ gate_before (drop (i + 1) group) → Gathers group i gate at written gathered
+    → Gathers group (i + 1) gate at written (gathered ++ (body_of line ++ next ∷ []))
+gathers_line group i line next gate at written gathered is is_next g =
+    let piece : List ℕ = body_of line ++ next ∷ [] in
+    let so_far : behind_gate (take i group) 1 ≡ written ++ gathered =
+    ap (λ n. behind_gate (take i group) n) (sym (open_before group i line is)) ∙ g.are in
+    record {
+      place = g.place;
+      are = ap₂ (λ (part : List (List ℕ)) (n : ℕ). behind_gate part n) (taken_line group i line is) (sym is_next)
+          ∙ behind_more (take i group) line next ∙ ap (λ (xs : List ℕ). xs ++ piece) so_far ∙ append_assoc written gathered piece;
+    }
+
+-- Behind the last line the whole of the group is laid out.
+pub gathers_all : (group : List (List ℕ)) (i gate at : ℕ) (written gathered : List ℕ) → None ≡ slice_get group i
+    → Gathers group i gate at written gathered → behind_gate group 0 ≡ written ++ gathered
+gathers_all group i gate at written gathered past g =
+    let all = past_lines group i past in
+    sym (ap₂ (λ (part : List (List ℕ)) (n : ℕ). behind_gate part n) all.0 all.1) ∙ g.are

@@ -1,5 +1,5 @@
 -- A group that is appended: its records behind the closed gate, and then the gate.
-use Rattle.std.proofs.Common.{◌≡◌, ℕ, zero, suc, ◌≤◌, inl, inr, List, [], ◌∷◌, ◌++◌, length, take, drop, get_or, refl, sym, ap, ap₂, subst, ◌∙◌, arith, append_assoc, length-append, length-take}
+use Rattle.std.proofs.Common.{◌≡◌, ℕ, zero, suc, ◌+◌, ◌≤◌, inl, inr, List, [], ◌∷◌, ◌++◌, length, take, drop, get_or, refl, sym, ap, ap₂, subst, ◌∙◌, arith, append_assoc, length-append, length-take}
 use Rattle.std.specs.List.{flat_map, AllByRecursion}
 use Rattle.std.proofs.Math.Seq.{take-append_seam, drop-append_seam}
 use Rattle.std.proofs.lemmas.List.{take-append-drop}
@@ -10,16 +10,16 @@ use Rattle.djq_disk.specs.WritingDown.{WritesDown}
 use Rattle.djq_disk.specs.declared.disk.DiskDid.{DiskDid}
 use Rattle.djq_disk.specs.declared.disk.DiskDid.TheVariants.{Done, Failed}
 use Rattle.djq_disk.proofs.Keeping.{all_append, leaves_none, leaves_move, leaves_more, leaves_so, write_keeps}
-use Rattle.djq_journal.specs.Format.{IsLine, body_of, record_of, front, OpensTo}
+use Rattle.djq_journal.specs.Format.{IsLine, record_of, front, OpensTo}
 use Rattle.djq_journal.specs.Standing.{IsIdle}
 use Rattle.djq_journal.specs.Appending.{gate_after, IsBeforeOrAfter}
 use Rattle.djq_journal.specs.Staging.{IsFirm, behind_gate, Stages, IsStaged, AppendsAt}
-use Rattle.djq_journal.proofs.Fronts.{put_there, put_one, kept_around, front_more, behind_more, length_behind, opened_gate}
+use Rattle.djq_journal.proofs.Fronts.{put_there, put_one, kept_around, front_more, opened_gate}
 use Rattle.djq_journal.proofs.Firm.{firm_long, firm_settled, firm_written, firm_synced, firm_leaves, gate_within}
 
 -- nothing is written yet
-pub staged_none : (lines : List (List ℕ)) (gate next : ℕ) (h : History) → IsIdle lines gate h.file → Stages lines [] gate next h h
-staged_none lines gate next h idle =
+pub staged_none : (lines : List (List ℕ)) (gate : ℕ) (h : History) → IsIdle lines gate h.file → Stages lines gate [] h h
+staged_none lines gate h idle =
     let firm = firm_settled (suc gate) h.file idle.still (gate_within lines gate h.file.bytes idle.opens idle.place) in
     record {
       firm = firm;
@@ -29,10 +29,10 @@ staged_none lines gate next h idle =
     }
 
 -- A write behind the gate, whatever it answers.
-pub staged_write : (did : DiskDid) (at : ℕ) (piece : List ℕ) (lines part : List (List ℕ)) (gate next : ℕ) (old mid new : History)
-    → IsIdle lines gate old.file → Stages lines part gate next old mid → suc gate ≤ at → Writes did at piece mid new
+pub staged_write : (did : DiskDid) (at : ℕ) (piece : List ℕ) (lines : List (List ℕ)) (gate : ℕ) (laid : List ℕ) (old mid new : History)
+    → IsIdle lines gate old.file → Stages lines gate laid old mid → suc gate ≤ at → Writes did at piece mid new
     → IsFirm (suc gate) old.file.bytes new.file × LeavesSince (OpensTo lines) old new
-staged_write did at piece lines part gate next old mid new idle stages behind writes =
+staged_write did at piece lines gate laid old mid new idle stages behind writes =
     let kept = write_keeps did at piece mid new writes in
     let span : Span = record { at = at; size = length piece } in
     let file : File = with_written span kept.0 mid.file in
@@ -41,22 +41,16 @@ staged_write did at piece lines part gate next old mid new idle stages behind wr
     leaves_move (OpensTo lines) old mid file stages.leaves (firm_leaves lines gate old.file.bytes file idle.opens idle.place firm) in
     subst (λ (h : History). IsFirm (suc gate) old.file.bytes h.file × LeavesSince (OpensTo lines) old h) (sym kept.2) (firm, leaves)
 
--- The next line's record is written.
-pub staged_more : (lines part : List (List ℕ)) (line : List ℕ) (gate next : ℕ) (old mid new : History)
-    → IsIdle lines gate old.file → Stages lines part gate 1 old mid
-    → Writes Done (suc (gate_after gate part)) (body_of line ++ next ∷ []) mid new → Stages lines (part ++ line ∷ []) gate next old new
-staged_more lines part line gate next old mid new idle stages writes =
-    let wrote = staged_write Done (suc (gate_after gate part)) piece lines part gate 1 old mid new idle stages (omega arith) writes in
-    record { firm = wrote.0; rest = drop (length piece) stages.rest; is = ap (λ (h : History). drop (suc gate) h.file.bytes) writes ∙ there; leaves = wrote.1 }
+-- A piece more is written behind what was.
+pub staged_more : (at : ℕ) (piece : List ℕ) (lines : List (List ℕ)) (gate : ℕ) (laid : List ℕ) (old mid new : History)
+    → IsIdle lines gate old.file → Stages lines gate laid old mid → at ≡ suc (gate + length laid) → Writes Done at piece mid new
+    → Stages lines gate (laid ++ piece) old new
+staged_more at piece lines gate laid old mid new idle stages place writes =
+    let wrote = staged_write Done at piece lines gate laid old mid new idle stages (omega (arith, place)) writes in
+    record { firm = wrote.0; rest = later; is = ap (λ (h : History). drop (suc gate) h.file.bytes) writes ∙ there; leaves = wrote.1 }
   where
-    piece : List ℕ
-    piece = body_of line ++ next ∷ []
-
     kept : List ℕ
     kept = take (suc gate) mid.file.bytes
-
-    so_far : List ℕ
-    so_far = behind_gate part 1
 
     later : List ℕ
     later = drop (length piece) stages.rest
@@ -64,24 +58,32 @@ staged_more lines part line gate next old mid new idle stages writes =
     size : length kept ≡ suc gate
     size = omega (arith, length-take (suc gate) mid.file.bytes, firm_long (suc gate) old.file.bytes mid.file stages.firm)
 
-    whole : mid.file.bytes ≡ (kept ++ so_far) ++ stages.rest
-    whole = sym (take-append-drop (suc gate) mid.file.bytes) ∙ ap (λ (xs : List ℕ). kept ++ xs) stages.is ∙ sym (append_assoc kept so_far stages.rest)
+    whole : mid.file.bytes ≡ (kept ++ laid) ++ stages.rest
+    whole = sym (take-append-drop (suc gate) mid.file.bytes) ∙ ap (λ (xs : List ℕ). kept ++ xs) stages.is ∙ sym (append_assoc kept laid stages.rest)
 
-    place : suc (gate_after gate part) ≡ length (kept ++ so_far)
-    place = omega (arith, size, length-append kept so_far, length_behind part 1)
+    behind : at ≡ length (kept ++ laid)
+    behind = omega (arith, place, size, length-append kept laid)
 
-    written : put (suc (gate_after gate part)) piece mid.file.bytes ≡ (kept ++ so_far) ++ piece ++ later
-    written = ap₂ (λ (n : ℕ) (xs : List ℕ). put n piece xs) place whole ∙ put_there (kept ++ so_far) piece stages.rest
+    written : put at piece mid.file.bytes ≡ (kept ++ laid) ++ piece ++ later
+    written = ap₂ (λ (n : ℕ) (xs : List ℕ). put n piece xs) behind whole ∙ put_there (kept ++ laid) piece stages.rest
 
-    flat : (kept ++ so_far) ++ piece ++ later ≡ kept ++ (so_far ++ piece ++ later)
-    flat = ap (λ (xs : List ℕ). xs ++ later) (append_assoc kept so_far piece) ∙ append_assoc kept (so_far ++ piece) later
+    flat : (kept ++ laid) ++ piece ++ later ≡ kept ++ (laid ++ piece ++ later)
+    flat = ap (λ (xs : List ℕ). xs ++ later) (append_assoc kept laid piece) ∙ append_assoc kept (laid ++ piece) later
 
-    there : drop (suc gate) (put (suc (gate_after gate part)) piece mid.file.bytes) ≡ behind_gate (part ++ line ∷ []) next ++ later
-    there = ap₂ (λ (n : ℕ) (xs : List ℕ). drop n xs) (sym size) (written ∙ flat) ∙ drop-append_seam kept (so_far ++ piece ++ later)
-        ∙ ap (λ (xs : List ℕ). xs ++ later) (sym (behind_more part line next))
+    there : drop (suc gate) (put at piece mid.file.bytes) ≡ laid ++ piece ++ later
+    there = ap₂ (λ (n : ℕ) (xs : List ℕ). drop n xs) (sym size) (written ∙ flat) ∙ drop-append_seam kept (laid ++ piece ++ later)
+
+-- A piece that ends what stands behind the gate, whatever the write of it answers.
+pub staged_all : (did : DiskDid) (at : ℕ) (piece : List ℕ) (lines group : List (List ℕ)) (gate : ℕ) (laid : List ℕ) (old mid new : History)
+    → IsIdle lines gate old.file → Stages lines gate laid old mid → at ≡ suc (gate + length laid) → behind_gate group 0 ≡ laid ++ piece
+    → Writes did at piece mid new → IsStaged did lines gate group old new
+staged_all Done at piece lines group gate laid old mid new idle stages place all writes =
+    subst (λ (bytes : List ℕ). Stages lines gate bytes old new) (sym all) (staged_more at piece lines gate laid old mid new idle stages place writes)
+staged_all Failed at piece lines group gate laid old mid new idle stages place all writes =
+    (staged_write Failed at piece lines gate laid old mid new idle stages (omega (arith, place)) writes).1
 
 -- What a file that was staged and synced is: the lines, the gate as it was, the group's records.
-pub staged_bytes : (lines group : List (List ℕ)) (gate : ℕ) (old new : History) → (idle : IsIdle lines gate old.file) → (stages : Stages lines group gate 0 old new)
+pub staged_bytes : (lines group : List (List ℕ)) (gate : ℕ) (old new : History) → (idle : IsIdle lines gate old.file) → (stages : Stages lines gate (behind_gate group 0) old new)
     → new.file.bytes ≡ front lines ++ idle.opens.gate ∷ (behind_gate group 0 ++ stages.rest)
 staged_bytes lines group gate old new idle stages =
     sym (take-append-drop (suc gate) new.file.bytes)

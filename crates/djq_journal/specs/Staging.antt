@@ -1,5 +1,5 @@
 -- What stands behind a gate while a group is appended there.
-use Rattle.std.specs.Prelude.{◌≡◌, ℕ, suc, ◌≤◌, List, [], ◌∷◌, ◌++◌, length, take, drop}
+use Rattle.std.specs.Prelude.{◌≡◌, ℕ, suc, ◌+◌, ◌≤◌, List, [], ◌∷◌, ◌++◌, length, take, drop}
 use Rattle.std.specs.List.{flat_map, AllByRecursion}
 use Rattle.djq_disk.specs.File.{Span, File}
 use Rattle.djq_disk.specs.History.{History}
@@ -26,18 +26,24 @@ gate_before (line ∷ lines) = 1
 abbrev pub behind_gate : List (List ℕ) → ℕ → List ℕ
 behind_gate lines next = drop 1 (flat_map record_of lines ++ next ∷ [])
 
--- The records of the first lines of a group are written behind the gate, which stays as it was. So
--- at each moment a stop leaves the lines before it.
-pub record Stages (lines part : List (List ℕ)) (gate next : ℕ) (old new : History) : Type 0 where
+-- These bytes were written behind the gate, in whatever pieces, and the gate stays as it was. So at each
+-- moment a stop leaves the lines before it.
+pub record Stages (lines : List (List ℕ)) (gate : ℕ) (laid : List ℕ) (old new : History) : Type 0 where
   pub firm : IsFirm (suc gate) old.file.bytes new.file
   pub rest : List ℕ
-  pub is : drop (suc gate) new.file.bytes ≡ behind_gate part next ++ rest
+  pub is : drop (suc gate) new.file.bytes ≡ laid ++ rest
   pub leaves : LeavesSince (OpensTo lines) old new
 
 -- the whole of the group stands behind the gate where all was written
 abbrev pub IsStaged : DiskDid → List (List ℕ) → ℕ → List (List ℕ) → History → History → Type 0
-IsStaged Done lines gate group old new = Stages lines group gate 0 old new
+IsStaged Done lines gate group old new = Stages lines gate (behind_gate group 0) old new
 IsStaged Failed lines gate group old new = LeavesSince (OpensTo lines) old new
+
+-- The first lines of a group are laid out, as what stands behind the gate so far: the bytes that were
+-- written, up to this place, and behind them those that are gathered.
+pub record Gathers (group : List (List ℕ)) (i gate at : ℕ) (written gathered : List ℕ) : Type 0 where
+  pub place : at ≡ suc (gate + length written)
+  pub are : behind_gate (take i group) (gate_before (drop i group)) ≡ written ++ gathered
 
 -- what an append at a gate leaves, done or failed
 abbrev pub AppendsAt : DiskDid → List (List ℕ) → ℕ → List (List ℕ) → History → History → Type 0

@@ -1,6 +1,6 @@
 ghost use Rattle.std.specs.Prelude.{◌≡◌, ◌+◌, ◌<◌, ◌≤◌, ℕ, List, length, take, drop, ◌++◌, [], ◌∷◌, IfSome, IfNone};
 ghost use Rattle.std.specs.List.{AllByRecursion};
-ghost use Rattle.djq_disk.specs.History.{WhereTold, Writes};
+ghost use Rattle.djq_disk.specs.History.{WhereTold};
 ghost use Rattle.djq_disk.specs.DiskFaults.{CountsDid};
 ghost use Rattle.djq_journal.specs.Format.{IsLine, body_of};
 ghost use Rattle.djq_journal.specs.Standing.{IsIdle};
@@ -8,7 +8,7 @@ ghost use Rattle.djq_journal.specs.Appending.{gate_after};
 ghost use Rattle.djq_journal.specs.Staging.{gate_before, IsStaged, AppendsAt};
 
 use crate::group::Group;
-use crate::limits::LAST_GATE;
+use crate::limits::{LAST_GATE, PIECE_BYTES};
 use djq_disk::{Disk, DiskDid, write_down};
 
 /// The place of the gate behind a group that is appended at this one, or `None` where that is past
@@ -34,33 +34,18 @@ pub(crate) fn end_of<G: Group>(gate: u64, group: &G) -> Option<u64>
     Some(end)
 }
 
-/// Lays out what stands behind a gate: the line behind its length, and the next gate. Says how many
-/// bytes that are.
-fn lay_out(buf: &mut [u8], line: &[u8], gate: u8) -> usize
-    requires room { length buf.old ≡ 4099 }
+/// Lays out what stands behind a gate, in just as many bytes: the line behind its length, and the next
+/// gate.
+fn lay_out(buf: &mut [u8], line: &[u8], gate: u8)
+    requires room { length buf.old ≡ 3 + length line.now }
     requires short { length line.now ≤ 4096 }
-    ensures size { result ≡ length line.now + 3 }
-    ensures length { length buf.new ≡ 4099 }
-    ensures laid { take result buf.new ≡ body_of line.now ++ gate ∷ [] }
+    ensures { buf.new ≡ body_of line.now ++ gate ∷ [] }
 {
     let end = 2 + line.len();
     buf[0] = (line.len() / 256) as u8;
     buf[1] = (line.len() % 256) as u8;
     buf[2..end].copy_from_slice(line);
     buf[end] = gate;
-    end + 1
-}
-
-/// Writes what stands behind a gate: a line behind its length, and the next gate.
-fn write_record<D: Disk>(disk: &mut D, at: u64, line: &[u8], gate: u8) -> DiskDid
-    requires short { length line.now ≤ 4096 }
-    requires within { at + length line.now + 3 ≤ 18446744073709551615 }
-    ensures told { WhereTold (D.told disk.old) (D.told disk.new) (Writes result at (body_of line.now ++ gate ∷ [])) }
-    ensures faults { CountsDid result (D.faults disk.old) (D.faults disk.new) }
-{
-    let mut buf = [0; 4099];
-    let size = lay_out(&mut buf, line, gate);
-    disk.write_at(at, &buf[..size])
 }
 
 /// The gate before the line with this number: open, or closed where there is no such line.
@@ -73,7 +58,8 @@ fn gate_before<G: Group>(group: &G, i: usize) -> u8
     }
 }
 
-/// Writes the records of a group behind the gate, which stays as it is.
+/// Writes the records of a group behind the gate, which stays as it is: they are gathered, and written in
+/// a piece where the next one finds no room, and at the end.
 fn write_records<D: Disk, G: Group>(disk: &mut D, gate: u64, group: &G) -> DiskDid
     requires lines { AllByRecursion IsLine (G.lines group.now) }
     requires room { gate_after gate (G.lines group.now) ≤ LAST_GATE }
@@ -81,17 +67,25 @@ fn write_records<D: Disk, G: Group>(disk: &mut D, gate: u64, group: &G) -> DiskD
         (λ o n. IsIdle lines gate o.file → IsStaged result lines gate (G.lines group.now) o n) }
     ensures faults { CountsDid result (D.faults disk.old) (D.faults disk.new) }
 {
+    let mut buf = [0; PIECE_BYTES];
     let mut at = gate + 1;
+    let mut filled = 0;
     let mut i = 0;
     while let Some(line) = group.line(i) {
-        let next = gate_before(group, i + 1);
-        match write_record(disk, at, line, next) {
-            DiskDid::Done => at += 3 + line.len() as u64,
-            DiskDid::Failed => return DiskDid::Failed,
+        let size = 3 + line.len();
+        if PIECE_BYTES - filled < size {
+            match disk.write_at(at, &buf[..filled]) {
+                DiskDid::Done => at += filled as u64,
+                DiskDid::Failed => return DiskDid::Failed,
+            }
+            filled = 0;
         }
+        let end = filled + size;
+        lay_out(&mut buf[filled..end], line, gate_before(group, i + 1));
+        filled = end;
         i += 1;
     }
-    DiskDid::Done
+    disk.write_at(at, &buf[..filled])
 }
 
 /// Appends a group at a gate for which there is room: its records are written and synced behind the

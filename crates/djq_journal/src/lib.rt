@@ -14,7 +14,9 @@
 //! A group is written behind the closed gate, its own gates open, and synced; then the gate is opened
 //! and synced. A gate is one byte, so whatever a stop leaves of it, it is open over whole records that
 //! were synced, or it isn't open. So at every moment a stop leaves the lines before, or those and the
-//! whole group; two syncs a group suffice, however many lines it has, and no call takes memory.
+//! whole group; two syncs a group suffice, however many lines it has. Its records are gathered and written
+//! in pieces of up to 16 KB, so a group of short lines takes few calls of the disk; the buffer is the
+//! call's own, and no call takes memory.
 //!
 //! What it isn't for: it never shortens a file, takes no line out, and knows nothing of what a line says.
 //!

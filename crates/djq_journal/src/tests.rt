@@ -1,4 +1,4 @@
-ghost use Rattle.std.specs.Prelude.{◌≡◌, slice_get};
+ghost use Rattle.std.specs.Prelude.{◌≡◌, ◌≤◌, length, slice_get};
 ghost use Rattle.std.specs.Option.{option_copied};
 
 use super::*;
@@ -31,6 +31,27 @@ impl Group for Three {
             1 => Some(b"bc"),
             2 => Some(b"d"),
             _ => None,
+        }
+    }
+}
+
+/// One line, so many times, kept together.
+#[derive(Drop)]
+struct Many<'a> {
+    line: &'a [u8],
+    count: usize,
+}
+
+impl<'a> Group for Many<'a> {
+    ghost use Rattle.std.specs.Prelude.{replicate};
+
+    ghost lines = { λ g. replicate g.count g.line.now };
+
+    fn line(&self, i: usize) -> Option<&[u8]> {
+        if i < self.count {
+            Some(self.line)
+        } else {
+            None
         }
     }
 }
@@ -70,6 +91,20 @@ fn keep_all(disk: &mut MemDisk) -> bool {
         return false;
     };
     match journal.append_all(disk, &Three) {
+        Appended::Done(_) => true,
+        Appended::Failed | Appended::Full => false,
+    }
+}
+
+/// Keeps a line so many times, together. Says whether all went well.
+fn keep_many(disk: &mut MemDisk, line: &[u8], count: usize) -> bool
+    requires some { 1 ≤ count }
+    requires line { (1 ≤ length line.now) × (length line.now ≤ 4096) }
+{
+    let Some(journal) = idle(disk) else {
+        return false;
+    };
+    match journal.append_all(disk, &Many { line, count }) {
         Appended::Done(_) => true,
         Appended::Failed | Appended::Full => false,
     }
@@ -228,5 +263,45 @@ fn a_call_that_fails_leaves_whole_groups(rt: HostRuntime) -> Result<(), Fail> {
             assert!(rt; leaves_groups(&rt, calls)?, "at {n}");
         }
     }
+    Ok(())
+}
+
+/// A thousand records of 20 bytes are two pieces, and so five calls with the syncs and the gate.
+#[test]
+fn a_thousand_lines_are_written_in_two_pieces(rt: HostRuntime) -> Result<(), Fail> {
+    let mut disk = MemDisk::of(rt.alloc(), b"")?;
+    assert!(rt; keep_many(&mut disk, b"add r 123456 7890", 1000));
+    let mut sizes = Vec::new(rt.alloc());
+    for call in disk.calls().ok_or("the record is lost")? {
+        if let DiskCall::Writing(_, piece, _) = call {
+            sizes.push(piece.as_slice().len())?;
+        }
+    }
+    assert_eq!(rt; sizes.as_slice(), [9, 16_380, 3_620, 1].as_slice());
+    Ok(())
+}
+
+/// Seven of the longest lines are three pieces. A stop at each call, with so many of the bytes written
+/// that weren't synced, leaves all of them or none.
+#[test]
+fn a_stop_between_pieces_leaves_all_or_none(rt: HostRuntime) -> Result<(), Fail> {
+    let mut disk = MemDisk::of(rt.alloc(), b"")?;
+    assert!(rt; keep_many(&mut disk, &[b'a'; 4096], 7));
+    let calls = disk.calls().ok_or("the record is lost")?;
+    let whole = 7 * 4097;
+    for n in 4..calls.len() {
+        for kept in [0, 1, 12_296, 12_297, 12_298, 24_594, 28_693] {
+            for other in [None, Some(1), Some(255)] {
+                let bytes = image(&rt, &calls[..n], kept, other)?;
+                let text = opened(&rt, &bytes)?.ok_or("it doesn't open")?;
+                assert!(rt;
+                    text.is_empty() || text.len() == whole,
+                    "at {n}, {kept} bytes"
+                );
+            }
+        }
+    }
+    let text = opened(&rt, disk.bytes())?.ok_or("it doesn't open")?;
+    assert_eq!(rt; text.len(), whole);
     Ok(())
 }

@@ -4,7 +4,7 @@ use Rattle.std.specs.Prelude.{Option, None, Some, is_some, IsSomeAnd, MatchOptio
 use Rattle.djq_model.specs.declared.relation.ColumnType.{ColumnType}
 use Rattle.djq_model.specs.declared.query.Query.{Query}
 use Rattle.djq_model.specs.Data.{Bytes, Tuple}
-use Rattle.djq_model.specs.Listed.{Listed, a_query, listed_of}
+use Rattle.djq_model.specs.Listed.{Listed, a_query, a_union, listed_of}
 use Rattle.djq_model.specs.Known.{texts_in}
 use Rattle.djq_lines.specs.declared.answer.Refusal.{Refusal}
 use Rattle.djq_lines.specs.declared.answer.Refusal.TheVariants.{NoQuery, NoCursor, Limit, NoMemory}
@@ -15,22 +15,90 @@ use Rattle.djq_lines.specs.declared.answer.DeleteOutcome.TheVariants.{Last, Left
 use Rattle.djq_lines.specs.declared.rest.QueryOutcome.{QueryOutcome}
 use Rattle.djq_lines.specs.declared.rest.QueryOutcome.TheVariants.{Registered, Cyclic, NotConnex}
 use Rattle.djq_lines.specs.declared.command.Command.{Command}
-use Rattle.djq_lines.specs.declared.command.Command.TheVariants.{Rel, Add, Del, Query as Register, Drop, Open, Next, Close, Has, Watch, Unwatch, Explain, Shape, Batch, Done, Abandon, Quit, Stop}
+use Rattle.djq_lines.specs.declared.command.Command.TheVariants.{
+  Rel,
+  Add,
+  Del,
+  Query as Register,
+  Union,
+  Drop,
+  Open,
+  Next,
+  Close,
+  Has,
+  Watch,
+  Unwatch,
+  Explain,
+  Shape,
+  Batch,
+  Done,
+  Abandon,
+  Quit,
+  Stop,
+}
 use Rattle.djq_lines.specs.declared.held.HeldRow.{HeldRow}
 use Rattle.djq_lines.specs.Variables.{constants_of}
 use Rattle.djq_machine.specs.Conditions.{Answers, OutOfMemoryWhere}
 use Rattle.djq_machine.specs.State.{Store, State, Session, Cursor, Position, open_at, stale, with_session, cursor_of}
-use Rattle.djq_machine.specs.Store.{RefusedByTexts, MakesRelation, add_refusal, AddsAs, AddsRow, delete_refusal, DeletesAs, DeletesRow, query_refusal, RegistersAs, RefusedLate, RegistersQuery, DropsQuery}
-use Rattle.djq_machine.specs.Batch.{is_there, with_held, with_all, store_behind, HavePlaces, StopsAt, RefusesBatch, AddsBatch}
-use Rattle.djq_machine.specs.Keeping.{Keeping, no_line, the_line, the_batch, kept_where, kept_batch, is_done, is_removal, is_registration}
+use Rattle.djq_machine.specs.Store.{
+  RefusedByTexts,
+  MakesRelation,
+  add_refusal,
+  AddsAs,
+  AddsRow,
+  delete_refusal,
+  DeletesAs,
+  DeletesRow,
+  query_refusal,
+  RegistersAs,
+  RefusedLate,
+  RegistersQuery,
+  DropsQuery,
+}
+use Rattle.djq_machine.specs.Union.{RegistersUnion}
+use Rattle.djq_machine.specs.Batch.{
+  is_there,
+  with_held,
+  with_all,
+  store_behind,
+  HavePlaces,
+  StopsAt,
+  RefusesBatch,
+  AddsBatch,
+}
+use Rattle.djq_machine.specs.Keeping.{
+  Keeping,
+  no_line,
+  the_line,
+  the_batch,
+  kept_where,
+  kept_batch,
+  is_done,
+  is_removal,
+  is_registration,
+}
 use Rattle.djq_machine.specs.Effect.{Effect, RefusedStep}
-use Rattle.djq_machine.specs.Command.{AddStep, HoldStep, DoneStep, OpensTo, BecomesWhere, NextStepAt, CloseStep, ExplainStepOf, TellsLines, explain_lines, without_batch, CommandStep}
+use Rattle.djq_machine.specs.Command.{
+  AddStep,
+  HoldStep,
+  DoneStep,
+  OpensTo,
+  BecomesWhere,
+  NextStepAt,
+  CloseStep,
+  ExplainStepOf,
+  TellsLines,
+  explain_lines,
+  union_lines,
+  without_batch,
+  CommandStep,
+}
 use Rattle.djq_laws.proofs.Finding.{some_and}
 use Rattle.djq_laws.proofs.Forms.{done_of}
 use Rattle.djq_laws.proofs.Watching.{change_store}
 use Rattle.djq_kept.specs.Kept.{AreKnown, Follows}
 use Rattle.djq_kept.proofs.Knowing.{known_refl, known_trans, all_known, first_known, full_known}
-use Rattle.djq_kept.proofs.Respecting.{Respects, rel_respects, query_respects, drop_respects}
+use Rattle.djq_kept.proofs.Respecting.{Respects, rel_respects, query_respects, union_respects, drop_respects}
 use Rattle.djq_kept.proofs.Copying.{add_respects, more_respects, delete_respects, left_respects}
 
 -- The data stay as they are, and no fewer texts are known.
@@ -113,6 +181,11 @@ module _ (a : Store) (batch : Option (List HeldRow)) (k : Keeping) (to : Store) 
       is_left e
       (grows_late a to (query_refusal a q) r (RegistersAs a q to) (RefusedLate a q to) m.answer m.stays
       (query_late q r))
+
+  union_keeps : (name : Bytes) (members : List Bytes) (r : Result ℕ Refusal) → RegistersUnion a name members r to
+      → k ≡ kept_where (is_done r) → Keeps a batch (Union name members) k to
+  union_keeps name members (Ok most) m e = is_kept e (λ b f. union_respects a b f name members most to m)
+  union_keeps name members (Err r) m e = is_left e (grows_same a to m.stays)
 
   drop_keeps : (used : Bool) (q : Bytes) (r : Result ⊤ Refusal) → DropsQuery a used q r to → k ≡ kept_where (is_done r)
       → Keeps a batch (Drop q) k to
@@ -199,6 +272,7 @@ module _ (old : State) (s : ℕ) (batch : Option (List HeldRow)) (c : Command) (
       → MatchOption o (RefusedStep old s NoQuery e new) (λ q. ExplainStepOf old s q e new) → IsKept
   explain_found None h = refused_quiet NoQuery h
   explain_found (Some (a_query q)) h = lines_quiet (explain_lines q h.tree) h.tells
+  explain_found (Some (a_union name qs)) h = lines_quiet (union_lines qs) h
 
   done_found : (o : Option (List HeldRow)) → batch ≡ o → MatchOption o ⊥ (λ held. DoneStep old s held e new) → IsKept
   done_found None is h = absurd h
@@ -243,6 +317,9 @@ module _ (old : State) (s : ℕ) (x : Session) (l : Bytes) where
   command_keeps (Register q) e new (inr h) =
       store_is old x.batch (Register q) e.kept h.store new (ap (λ (st : State). st.store) h.ends.1)
       (query_keeps old.store x.batch e.kept h.store q h.result h.done (ap (λ (f : Effect). f.kept) h.ends.0))
+  command_keeps (Union name members) e new h =
+      store_is old x.batch (Union name members) e.kept h.store new (ap (λ (st : State). st.store) h.state)
+      (union_keeps old.store x.batch e.kept h.store name members h.result h.done (ap (λ (f : Effect). f.kept) h.effect))
   command_keeps (Open c q) e new h =
       opens_quiet old s x.batch (Open c q) e new c q h.result (ap (λ (f : Effect). f.kept) h.effect) h.state
   command_keeps (Next c count) e new h = next_found old s x.batch (Next c count) e new c count (cursor_of x.cursors c) h

@@ -10,7 +10,27 @@ use Rattle.djq_lines.specs.declared.answer.AddOutcome.TheVariants.{First, More}
 use Rattle.djq_lines.specs.declared.answer.DeleteOutcome.TheVariants.{Last, Left, Absent}
 use Rattle.djq_lines.specs.declared.rest.QueryOutcome.TheVariants.{Registered, Cyclic, NotConnex}
 use Rattle.djq_lines.specs.declared.command.Command.{Command}
-use Rattle.djq_lines.specs.declared.command.Command.TheVariants.{Rel, Add, Del, Query as Register, Drop, Open, Next, Close, Has, Watch, Unwatch, Explain, Shape, Batch, Done, Abandon, Quit, Stop}
+use Rattle.djq_lines.specs.declared.command.Command.TheVariants.{
+  Rel,
+  Add,
+  Del,
+  Query as Register,
+  Union,
+  Drop,
+  Open,
+  Next,
+  Close,
+  Has,
+  Watch,
+  Unwatch,
+  Explain,
+  Shape,
+  Batch,
+  Done,
+  Abandon,
+  Quit,
+  Stop,
+}
 use Rattle.djq_lines.specs.declared.held.HeldRow.{HeldRow}
 use Rattle.djq_lines.specs.Grammar.{Reading, outside, past_limit, says as says_command, reading_of}
 use Rattle.djq_machine.specs.Conditions.{OutOfMemoryWhere}
@@ -21,12 +41,43 @@ use Rattle.djq_machine.specs.LineStep.{run}
 use Rattle.djq_machine.specs.Step.{Event, stepped}
 use Rattle.djq_machine.specs.Run.{Did, Run, Group, group_of, groups_of, lines_in}
 use Rattle.djq_machine.specs.declared.machine.Loaded.TheVariants.{Ran as ran}
-use Rattle.djq_machine.specs.Loading.{refused_by, Loading, loading, StoreLoads, CommandLoads, ReadingLoads, LoadStep, Loads}
+use Rattle.djq_machine.specs.Loading.{
+  refused_by,
+  Loading,
+  loading,
+  StoreLoads,
+  CommandLoads,
+  ReadingLoads,
+  LoadStep,
+  Loads,
+}
 use Rattle.djq_laws.proofs.Apart.{nothing_apart}
-use Rattle.djq_kept.specs.Kept.{HasRowsOnce, Follows, LoadingFollows, LoadsOn, LoadsTo, AbandonRuns, AbandonedAreLoaded, RunsReload, StoodAt, StopsReload}
-use Rattle.djq_kept.proofs.Respecting.{Respects, none_of, rel_respects, query_respects, drop_respects}
+use Rattle.djq_kept.specs.Kept.{
+  HasRowsOnce,
+  Follows,
+  LoadingFollows,
+  LoadsOn,
+  LoadsTo,
+  AbandonRuns,
+  AbandonedAreLoaded,
+  RunsReload,
+  StoodAt,
+  StopsReload,
+}
+use Rattle.djq_kept.proofs.Respecting.{Respects, none_of, rel_respects, query_respects, union_respects, drop_respects}
 use Rattle.djq_kept.proofs.Copying.{add_respects, more_respects, delete_respects, left_respects}
-use Rattle.djq_kept.proofs.Following.{holding, follows_closed, of_batch, CommandRespects, LineRespects, closed_respects, line_respects, line_moved, no_lines, one_line}
+use Rattle.djq_kept.proofs.Following.{
+  holding,
+  follows_closed,
+  of_batch,
+  CommandRespects,
+  LineRespects,
+  closed_respects,
+  line_respects,
+  line_moved,
+  no_lines,
+  one_line,
+}
 use Rattle.djq_kept.proofs.Holding.{batch_respects, hold_respects, done_respects, abandon_respects, from_closed}
 use Rattle.djq_kept.proofs.Words.{abandon_reads}
 use Rattle.djq_kept.proofs.Running.{kept_lines_load}
@@ -50,6 +101,8 @@ command_loaded a to (Register q) (Ok (Registered most), m, e) b f = query_respec
 command_loaded a to (Register q) (Ok (Cyclic rest), m, e) b f = absurd (cc (e))
 command_loaded a to (Register q) (Ok (NotConnex rest), m, e) b f = absurd (cc (e))
 command_loaded a to (Register q) (Err r, m, e) b f = absurd (not_ran r e)
+command_loaded a to (Union name members) (Ok most, m, e) b f = union_respects a b f name members most to m
+command_loaded a to (Union name members) (Err r, m, e) b f = absurd (not_ran r e)
 command_loaded a to (Drop q) (Ok u, m, e) b f = drop_respects a b f false q u to m
 command_loaded a to (Drop q) (Err r, m, e) b f = absurd (not_ran r e)
 command_loaded a to (Open c q) h b f = let e = h.0 in absurd (cc (e))

@@ -1,23 +1,58 @@
 -- A command that a run did outside a batch, done to a store that follows the one it was done to.
-use Rattle.std.proofs.Common.{ℕ, List, [], ◌∷◌, ◌++◌, ◌≡◌, ◌≤◌, ◌⊎◌, inl, inr, Bool, true, false, length, refl, sym, ap, ◌∙◌, subst}
-use Rattle.std.specs.Prelude.{Option, None, Some, is_none, is_some, Ok, Err, cond, ⊤}
+use Rattle.std.proofs.Common.{
+  ℕ,
+  List,
+  [],
+  ◌∷◌,
+  ◌++◌,
+  ◌≡◌,
+  ◌≤◌,
+  ◌⊎◌,
+  ◌||◌,
+  inl,
+  inr,
+  Bool,
+  true,
+  false,
+  length,
+  refl,
+  sym,
+  ap,
+  ap₂,
+  ◌∙◌,
+  subst,
+}
+use Rattle.std.specs.Prelude.{Option, None, Some, is_none, is_some, Ok, Err, cond, map, ⊤}
 use Rattle.std.proofs.lemmas.Bool.{false≢true}
 use Rattle.std.proofs.lemmas.List.Elements.{All-push}
 use Rattle.djq_model.specs.declared.relation.ColumnType.{ColumnType}
 use Rattle.djq_model.specs.declared.query.Query.{Query}
 use Rattle.djq_model.specs.Data.{Bytes, Tuple, bytes_eq, drop_first}
-use Rattle.djq_model.specs.Listed.{Listed, a_query, listed_name, listed_of}
+use Rattle.djq_model.specs.Listed.{Listed, a_query, a_union, listed_name, listed_of}
 use Rattle.djq_model.specs.Known.{texts_in, all_learned}
 use Rattle.djq_lines.specs.declared.limits.TheConstants.{TEXTS}
 use Rattle.djq_lines.specs.declared.answer.Refusal.{Refusal}
 use Rattle.djq_lines.specs.declared.answer.Refusal.TheVariants.{NoQuery, InUse, Limit, NoMemory}
 use Rattle.djq_lines.specs.declared.rest.QueryOutcome.TheVariants.{Registered, Cyclic, NotConnex}
 use Rattle.djq_lines.specs.declared.command.Command.{Command}
-use Rattle.djq_lines.specs.declared.command.Command.TheVariants.{Rel, Query as Register, Drop}
+use Rattle.djq_lines.specs.declared.command.Command.TheVariants.{Rel, Query as Register, Union, Drop}
 use Rattle.djq_lines.specs.Variables.{constants_of}
 use Rattle.djq_machine.specs.Conditions.{first_of, Answers, OutOfMemoryWhere}
 use Rattle.djq_machine.specs.State.{Store}
-use Rattle.djq_machine.specs.Store.{RefusedByTexts, rel_refusal, MakesRelation, query_refusal, RegistersAs, RefusedLate, RegistersQuery, drop_refusal, DropsQuery}
+use Rattle.djq_machine.specs.Store.{
+  RefusedByTexts,
+  rel_refusal,
+  MakesRelation,
+  query_refusal,
+  RegistersAs,
+  RefusedLate,
+  RegistersQuery,
+  is_member,
+  drop_refusal,
+  DropsQuery,
+  answer_steps,
+}
+use Rattle.djq_machine.specs.Union.{union_refusal, AreUnder, RegistersUnion}
 use Rattle.djq_laws.proofs.Forms.{done_of}
 use Rattle.djq_laws.proofs.Apart.{nothing_apart, texts_apart}
 use Rattle.djq_machine.specs.declared.machine.Loaded.{Loaded}
@@ -25,7 +60,7 @@ use Rattle.djq_machine.specs.declared.machine.Loaded.TheVariants.{Ran as ran, No
 use Rattle.djq_machine.specs.Loading.{refused_by, StoreLoads}
 use Rattle.djq_kept.specs.Kept.{HasRowsOnce, Follows}
 use Rattle.djq_kept.proofs.Knowing.{among_all, room_too, place_too}
-use Rattle.djq_kept.proofs.Sameness.{same_more, rel_same, query_same}
+use Rattle.djq_kept.proofs.Sameness.{same_more, rel_same, query_same, union_same}
 
 -- It is done, and what it leaves follows that store; or memory lacks.
 abbrev pub EndsWell : Loaded → Store → Store → Type 0
@@ -57,6 +92,20 @@ only_memory P _ how h e = absurd h
 pub where_memory : (P : Type 0) (r : Refusal) → OutOfMemoryWhere P r → P
 where_memory P NoMemory h = h
 where_memory P _ h = absurd h
+
+-- a union has the members that its names find
+same_first : (q p : Query) (xs ys : List (Option Listed)) → Some (a_query q) ∷ xs ≡ Some (a_query p) ∷ ys
+    → (q ≡ p) × (xs ≡ ys)
+same_first q p xs ys e = (cc, cc)
+
+same_members : (qs ps : List Query)
+    → map (λ (q : Query). Some (a_query q)) qs ≡ map (λ (q : Query). Some (a_query q)) ps → qs ≡ ps
+same_members [] [] e = refl
+same_members [] (p ∷ ps) e = absurd (cc (e))
+same_members (q ∷ qs) [] e = absurd (cc (e))
+same_members (q ∷ qs) (p ∷ ps) e =
+    let k = same_first q p (map (λ (r : Query). Some (a_query r)) qs) (map (λ (r : Query). Some (a_query r)) ps) e in
+    ap₂ (λ (r : Query) (rs : List Query). r ∷ rs) k.0 (same_members qs ps k.1)
 
 module _ (a b : Store) (f : Follows a b) where
   -- where the texts found a place before
@@ -162,6 +211,69 @@ module _ (a b : Store) (f : Follows a b) where
             absurd ((d.0.1).no_tree listed_as.0.1)
         each how n (Err r, j, e) = inr (late how n r e (late_of (query_refusal b q) r (RegistersAs b q n) (RefusedLate b q n) listed_free j.answer))
 
+  -- `union`
+  module _ (name : Bytes) (members : List Bytes) (most : ℕ) (to : Store)
+      (m : RegistersUnion a name members (Ok most) to) where
+    abbrev United : Store → Store → ℕ → Type 0
+    United st n k = (qs : List Query) × AreUnder st.queries members qs × (k ≡ answer_steps (a_union name qs))
+        × (n ≡ record st { queries = st.queries ++ a_union name qs ∷ [] })
+
+    united_as : United a to most
+    united_as = done_of (union_refusal a name members) most (United a to) (OutOfMemoryWhere ⊤) m.answer
+
+    abbrev united : Store → Store
+    united st = record st { queries = st.queries ++ a_union name united_as.0 ∷ [] }
+
+    united_free : union_refusal b name members ≡ None
+    united_free =
+        union_same a b name members f.same
+        ∙ none_of (union_refusal a name members) most (United a to) (OutOfMemoryWhere ⊤) m.answer
+
+    united_under : AreUnder b.queries members united_as.0
+    united_under = subst (λ (qs : List Listed). AreUnder qs members united_as.0) (sym f.same.queries) united_as.1
+
+    united_follows : Follows to (united b)
+    united_follows = subst (λ (st : Store). Follows st (united b)) (sym united_as.3) (record {
+      same = record {
+        relations = f.same.relations;
+        queries = ap (λ (qs : List Listed). qs ++ a_union name united_as.0 ∷ []) f.same.queries;
+        seq = f.same.seq;
+      };
+      rows = f.rows;
+      among = f.among;
+      once = f.once;
+    })
+
+    pub union_respects : Respects b (Union name members) to
+    union_respects = record {
+      can = (
+        united b,
+        (
+          Ok most,
+          record {
+            answer = give (union_refusal b name members) most (United b (united b)) (OutOfMemoryWhere ⊤) united_free
+                (united_as.0, united_under, united_as.2, refl);
+            stays = tt;
+          },
+          refl,
+        ),
+        united_follows,
+      );
+      each = each;
+    }
+      where
+        each : (how : Loaded) (n : Store) → StoreLoads b (Union name members) how n → EndsWell how to n
+        each how n (Ok k, j, e) =
+            let d = done_of (union_refusal b name members) k (United b n) (OutOfMemoryWhere ⊤) j.answer in
+            let same : d.0 ≡ united_as.0 = same_members d.0 united_as.0 (sym d.1 ∙ united_under) in
+            let is : n ≡ united b =
+            d.3 ∙ ap (λ (qs : List Query). record b { queries = b.queries ++ a_union name qs ∷ [] }) same in
+            inl (e, subst (λ (st : Store). Follows to st) (sym is) united_follows)
+        each how n (Err r, j, e) =
+            let late = late_of (union_refusal b name members) r (United b n) (OutOfMemoryWhere ⊤) united_free j.answer
+            in
+            inr (only_memory ⊤ r how late e)
+
   -- `drop`
   module _ (used : Bool) (q : Bytes) (u : ⊤) (to : Store) (m : DropsQuery a used q (Ok u) to) where
     abbrev dropped : Store → Store
@@ -172,12 +284,16 @@ module _ (a b : Store) (f : Follows a b) where
 
     dropped_free : drop_refusal b false q ≡ None
     dropped_free =
-        ap (λ (qs : List Listed). first_of ((is_none (listed_of qs q), NoQuery) ∷ (false, InUse) ∷ [])) f.same.queries
-        ∙ unused (is_none (listed_of a.queries q)) used (none_of (drop_refusal a used q) u (λ _. to ≡ dropped a) (OutOfMemoryWhere ⊥) m.answer)
+        ap (λ (qs : List Listed). first_of ((is_none (listed_of qs q), NoQuery) ∷ (is_member qs q, InUse) ∷ []))
+        f.same.queries
+        ∙ unused (is_none (listed_of a.queries q)) used (is_member a.queries q)
+        (none_of (drop_refusal a used q) u (λ _. to ≡ dropped a) (OutOfMemoryWhere ⊥) m.answer)
       where
-        unused : (x y : Bool) → cond x (Some NoQuery) (cond y (Some InUse) None) ≡ None → cond x (Some NoQuery) (cond false (Some InUse) None) ≡ None
-        unused true y h = absurd (cc (h))
-        unused false y h = refl
+        unused : (x y z : Bool) → cond x (Some NoQuery) (cond (y || z) (Some InUse) None) ≡ None
+            → cond x (Some NoQuery) (cond z (Some InUse) None) ≡ None
+        unused true y z h = absurd (cc (h))
+        unused false true z h = absurd (cc (h))
+        unused false false z h = h
 
     dropped_follows : Follows to (dropped b)
     dropped_follows = subst (λ (st : Store). Follows st (dropped b)) (sym dropped_is) (record {

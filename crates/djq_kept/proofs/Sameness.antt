@@ -1,9 +1,49 @@
 -- Stores with the same data.
-use Rattle.std.proofs.Common.{ℕ, List, [], ◌∷◌, ◌++◌, ◌≡◌, ◌||◌, Bool, true, false, cond, length, refl, sym, ap, ◌∙◌, subst, arith}
-use Rattle.std.specs.Prelude.{◌==◌, ◌&&◌, not, nat_le, nat_lt, Option, None, Some, is_some, is_none, IsPermutation, All}
+use Rattle.std.proofs.Common.{
+  ℕ,
+  List,
+  [],
+  ◌∷◌,
+  ◌++◌,
+  ◌≡◌,
+  ◌||◌,
+  Bool,
+  true,
+  false,
+  cond,
+  length,
+  map,
+  refl,
+  sym,
+  ap,
+  ap₂,
+  ◌∙◌,
+  subst,
+  arith,
+}
+use Rattle.std.specs.Prelude.{
+  ◌==◌,
+  ◌&&◌,
+  not,
+  nat_le,
+  nat_lt,
+  Option,
+  None,
+  Some,
+  is_some,
+  is_none,
+  unwrap_or,
+  IsPermutation,
+  All,
+}
 use Rattle.std.specs.List.{list_any}
 use Rattle.std.proofs.lemmas.List.Elements.{All-cons, All-head, All-tail}
-use Rattle.std.proofs.lemmas.List.Sorted.{IsPermutation-refl, IsPermutation-sym, IsPermutation-trans, length_permutation}
+use Rattle.std.proofs.lemmas.List.Sorted.{
+  IsPermutation-refl,
+  IsPermutation-sym,
+  IsPermutation-trans,
+  length_permutation,
+}
 use Rattle.djq_model.specs.declared.relation.Relation.{Relation}
 use Rattle.djq_model.specs.declared.relation.ColumnType.{ColumnType}
 use Rattle.djq_model.specs.declared.query.Query.{Query}
@@ -24,17 +64,65 @@ use Rattle.djq_model.specs.Data.{
   has_row,
 }
 use Rattle.djq_model.specs.Answer.{AreDifferent}
-use Rattle.djq_model.specs.Listed.{Listed, listed_of}
+use Rattle.djq_model.specs.Listed.{Listed, a_query, a_union, listed_of}
 use Rattle.djq_model.specs.Typed.{fits}
-use Rattle.djq_lines.specs.declared.limits.TheConstants.{COLUMNS, RELATIONS, ROWS, COPIES, LAST_SEQ, QUERIES, HELD}
+use Rattle.djq_lines.specs.declared.limits.TheConstants.{
+  COLUMNS,
+  RELATIONS,
+  ROWS,
+  COPIES,
+  LAST_SEQ,
+  QUERIES,
+  MEMBERS,
+  HELD,
+}
 use Rattle.djq_lines.specs.declared.answer.Refusal.{Refusal}
-use Rattle.djq_lines.specs.declared.answer.Refusal.TheVariants.{Taken, NoRelation, Arity, WrongType, VariableType, Unbound, HeadRepeated, HeadUnbound, Limit}
+use Rattle.djq_lines.specs.declared.answer.Refusal.TheVariants.{
+  Taken,
+  NoRelation,
+  NoQuery,
+  Arity,
+  WrongType,
+  VariableType,
+  Unbound,
+  HeadRepeated,
+  HeadUnbound,
+  Member,
+  Limit,
+}
 use Rattle.djq_lines.specs.declared.held.HeldRow.{HeldRow}
 use Rattle.djq_lines.specs.Columns.{types_of, columns_of}
-use Rattle.djq_lines.specs.QueryFault.{any_column, any_place, is_misfit, is_clash, is_miscompared, reads_unknown, has_wrong_arity, has_misfit, has_clash, compares_unbound, has_miscompared, repeats_head, has_unbound_head, is_too_large}
+use Rattle.djq_lines.specs.QueryFault.{
+  any_column,
+  any_place,
+  is_misfit,
+  is_clash,
+  is_miscompared,
+  reads_unknown,
+  has_wrong_arity,
+  has_misfit,
+  has_clash,
+  compares_unbound,
+  has_miscompared,
+  repeats_head,
+  has_unbound_head,
+  is_too_large,
+}
 use Rattle.djq_machine.specs.Conditions.{first_of}
 use Rattle.djq_machine.specs.State.{Store}
-use Rattle.djq_machine.specs.Store.{with_rows, copies_of, rel_refusal, add_refusal, delete_refusal, query_refusal}
+use Rattle.djq_machine.specs.Store.{
+  with_rows,
+  copies_of,
+  rel_refusal,
+  add_refusal,
+  delete_refusal,
+  query_refusal,
+  type_among,
+  variable_type,
+  answer_types,
+  listed_types,
+}
+use Rattle.djq_machine.specs.Union.{stands_twice, is_union, same_types, types_under, types_differ, union_refusal}
 use Rattle.djq_machine.specs.Batch.{hold_refusal}
 use Rattle.djq_machine.specs.Step.{SameRelations}
 use Rattle.djq_model.proofs.Counted.{tuples_moved, has_moved, differ_moved, copies_moved}
@@ -295,6 +383,27 @@ module _ (us bs : List Relation) (h : SameRelations us bs) where
       (λ (c : Comparison). any_place (is_miscompared c) us q.atoms) q.comparisons
       (λ c. any_place_same (is_miscompared c) (is_miscompared c) q.atoms (λ t d. refl))
 
+  -- the types of its answers
+  variable_same : (atoms : List Atom) (x : Bytes) → variable_type bs atoms x ≡ variable_type us atoms x
+  variable_same [] x = refl
+  variable_same (a ∷ more) x =
+      ap₂ (λ (cs : List ColumnType) (rest : ColumnType). unwrap_or (type_among cs a.terms x) rest)
+      (columns_same a.relation) (variable_same more x)
+
+  answers_same : (q : Query) → answer_types bs q ≡ answer_types us q
+  answers_same q = over q.head
+    where
+      over : (xs : List Bytes) → map (variable_type bs q.atoms) xs ≡ map (variable_type us q.atoms) xs
+      over [] = refl
+      over (x ∷ xs) =
+          ap₂ (λ (c : ColumnType) (cs : List ColumnType). c ∷ cs) (variable_same q.atoms x) (over xs)
+
+  listed_types_same : (o : Option Listed) → listed_types bs o ≡ listed_types us o
+  listed_types_same None = refl
+  listed_types_same (Some (a_query q)) = answers_same q
+  listed_types_same (Some (a_union name [])) = refl
+  listed_types_same (Some (a_union name (q ∷ qs))) = answers_same q
+
 abbrev query_by : List Listed → Bool → Bool → Bool → Bool → Bool → Query → Option Refusal
 query_by queries unknown arity misfits clash miscompared q = first_of (
     (is_some (listed_of queries q.name), Taken)
@@ -326,3 +435,31 @@ query_same a b q h =
     (has_miscompared bs q) q) (clash_same us bs h.relations q)
     ∙ ap (λ (x : Bool). query_by a.queries (reads_unknown us q) (has_wrong_arity us q) (has_misfit us q) (has_clash us q)
     x q) (miscompared_same us bs h.relations q)
+
+-- the conditions of a union
+under_same : (a b : Store) → IsSameStore a b → (n : Bytes) → types_under b n ≡ types_under a n
+under_same a b h n =
+    ap (λ (qs : List Listed). listed_types b.relations (listed_of qs n)) h.queries
+    ∙ listed_types_same a.relations b.relations h.relations (listed_of a.queries n)
+
+differ_same : (a b : Store) → IsSameStore a b → (ns : List Bytes) → types_differ b ns ≡ types_differ a ns
+differ_same a b h [] = refl
+differ_same a b h (n ∷ ns) =
+    any_same (λ (m : Bytes). not (same_types (types_under b n) (types_under b m)))
+    (λ (m : Bytes). not (same_types (types_under a n) (types_under a m))) ns
+    (λ m. ap₂ (λ (cs ds : List ColumnType). not (same_types cs ds)) (under_same a b h n) (under_same a b h m))
+
+abbrev union_by : List Listed → Bool → Bytes → List Bytes → Option Refusal
+union_by queries differ name members = first_of (
+    (is_some (listed_of queries name), Taken)
+    ∷ (list_any (λ n. is_none (listed_of queries n)) members, NoQuery)
+    ∷ (stands_twice members || list_any (λ n. is_union (listed_of queries n)) members || differ, Member)
+    ∷ (nat_lt MEMBERS (length members), Limit)
+    ∷ (nat_le QUERIES (length queries), Limit)
+    ∷ [])
+
+pub union_same : (a b : Store) (name : Bytes) (members : List Bytes) → IsSameStore a b
+    → union_refusal b name members ≡ union_refusal a name members
+union_same a b name members h =
+    ap (λ (qs : List Listed). union_by qs (types_differ b members) name members) h.queries
+    ∙ ap (λ (differ : Bool). union_by a.queries differ name members) (differ_same a b h members)

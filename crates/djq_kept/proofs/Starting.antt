@@ -4,7 +4,17 @@ use Rattle.std.proofs.Common.{refl, sym, subst, inl, inr, arith}
 use Rattle.std.proofs.lemmas.List.Elements.{All-nil}
 use Rattle.djq_model.specs.Data.{Bytes}
 use Rattle.djq_lines.specs.declared.command.Command.{Command}
-use Rattle.djq_lines.specs.declared.command.Command.TheVariants.{Rel, Add, Del, Query as Register, Drop, Batch, Done, Abandon}
+use Rattle.djq_lines.specs.declared.command.Command.TheVariants.{
+  Rel,
+  Add,
+  Del,
+  Query as Register,
+  Union,
+  Drop,
+  Batch,
+  Done,
+  Abandon,
+}
 use Rattle.djq_lines.specs.declared.held.HeldRow.{HeldRow}
 use Rattle.djq_lines.specs.Grammar.{Reading, outside, past_limit, says as says_command, reading_of}
 use Rattle.djq_machine.specs.Conditions.{OutOfMemoryWhere}
@@ -17,7 +27,8 @@ use Rattle.djq_machine.specs.Loading.{Loading, loading, StoreLoads, CommandLoads
 use Rattle.djq_machine.proofs.Walks.{walk_keeps}
 use Rattle.djq_laws.specs.Form.{row_comes, row_goes, rows_come}
 use Rattle.djq_laws.specs.Sound.{IsSoundStore, IsSoundBatch, IsHeldBySaying}
-use Rattle.djq_laws.proofs.Forms.{rel_stored, query_stored, drop_stored}
+use Rattle.djq_laws.proofs.Forms.{rel_stored, query_stored, union_stored, drop_stored}
+use Rattle.djq_laws.proofs.Members.{HasMembers, said_members}
 use Rattle.djq_laws.proofs.Rows.{added, deleted}
 use Rattle.djq_laws.proofs.Batches.{batched}
 use Rattle.djq_laws.proofs.Suiting.{types_moved, types_suit, batch_still, held_more}
@@ -42,26 +53,28 @@ closed_sound : (st : Store) → IsSoundStore st → IsSoundLoading (loading st)
 closed_sound st sound = record { store = sound; batch = tt }
 
 -- a command outside a batch
-command_sound : (old : Store) (c : Command) (how : Loaded) (new : Store) → StoreLoads old c how new → IsSoundStore old
-    → IsSoundStore new
-command_sound old (Rel name types) how new (r, made, e) sound =
+command_sound : (old : Store) (c : Command) → HasMembers c → (how : Loaded) (new : Store) → StoreLoads old c how new
+    → IsSoundStore old → IsSoundStore new
+command_sound old (Rel name types) two how new (r, made, e) sound =
     stored_sound (λ q. false) old new (rel_stored (λ q. false) old new name types r made) sound
-command_sound old (Register q) how new (r, made, e) sound =
+command_sound old (Register q) two how new (r, made, e) sound =
     stored_sound (λ p. false) old new (query_stored (λ p. false) old new q r made) sound
-command_sound old (Drop q) how new (r, made, e) sound =
+command_sound old (Union name members) two how new (r, made, e) sound =
+    stored_sound (λ p. false) old new (union_stored (λ p. false) old new name members r two made) sound
+command_sound old (Drop q) two how new (r, made, e) sound =
     stored_sound (λ p. false) old new (drop_stored (λ p. false) old new q r made) sound
-command_sound old (Add name row) how new (r, made, e) sound =
+command_sound old (Add name row) two how new (r, made, e) sound =
     made_sound (row_comes name row) old (add_outcome (row_in old.relations name row) r) new
     (added old name row r new made) tt sound
-command_sound old (Del name row) how new (r, made, e) sound =
+command_sound old (Del name row) two how new (r, made, e) sound =
     made_sound (row_goes name row) old (delete_outcome (row_out old.relations name row) r) new
     (deleted old name row r new made) tt sound
-command_sound old c how new h sound = stays_sound old new h.1 sound
+command_sound old c two how new h sound = stays_sound old new h.1 sound
 
-outside_sound : (old : Store) (l : Bytes) (c : Command) (how : Loaded) (new : Loading)
+outside_sound : (old : Store) (l : Bytes) (c : Command) → HasMembers c → (how : Loaded) (new : Loading)
     → CommandLoads (loading old) l c how new → IsSoundStore old
     → IsSoundLoading new
-outside_sound old l Batch how new (inl h) sound =
+outside_sound old l Batch two how new (inl h) sound =
     stays_so (holding old []) new h.1 (record {
       store = sound;
       batch = record {
@@ -70,9 +83,9 @@ outside_sound old l Batch how new (inl h) sound =
         lines = All-nil IsHeldBySaying;
       };
     })
-outside_sound old l Batch how new (inr h) sound = stays_so (loading old) new h.1 (closed_sound old sound)
-outside_sound old l c how new h sound =
-    of_batch IsSoundLoading new None h.1 (closed_sound new.store (command_sound old c how new.store h.0 sound))
+outside_sound old l Batch two how new (inr h) sound = stays_so (loading old) new h.1 (closed_sound old sound)
+outside_sound old l c two how new h sound =
+    of_batch IsSoundLoading new None h.1 (closed_sound new.store (command_sound old c two how new.store h.0 sound))
 
 -- a command where a batch is open
 within_sound : (old : Store) (held : List HeldRow) (l : Bytes) (c : Command) → reading_of l ≡ says_command c
@@ -112,7 +125,7 @@ reading_sound old l (says_command c) is how new (inl h) sound = by old.batch ref
         subst (λ (k : Option (List HeldRow)). CommandLoads (record { store = old.store; batch = k }) l c how new) e h
 
     by : (o : Option (List HeldRow)) → old.batch ≡ o → IsSoundLoading new
-    by None e = outside_sound old.store l c how new (loads None e) sound.store
+    by None e = outside_sound old.store l c (said_members l c is) how new (loads None e) sound.store
     by (Some held) e = within_sound old.store held l c is how new (loads (Some held) e) (at (Some held) e)
 
 line_sound : (old : Loading) (line : Bytes) (new : Loading) → LoadStep old line ran new → IsSoundLoading old

@@ -1,8 +1,8 @@
 //! Laws on the lines that a run of the join machine keeps: loaded, they give what the run left.
 //!
 //! Each function here is empty: its contract is the law, and its proof says nothing of code. A run
-//! keeps the lines of `rel`, `add` and `drop` that weren't refused, of `del` where a copy went, and
-//! of `query` where it was registered; and of a batch that was done `batch`, the lines that it held
+//! keeps the lines of `rel`, `add`, `union` and `drop` that weren't refused, of `del` where a copy
+//! went, and of `query` where it was registered; and of a batch that was done `batch`, the lines that it held
 //! and `done`, as one group (djq_machine, `specs/Keeping.antt`).
 //!
 //! ```text
@@ -38,8 +38,8 @@ ghost use Rattle.djq_kept.specs.Kept.{FollowersHaveCopies, RunsReload, StopsRelo
 
 /// What lines, found at a start, give is a state to start from, where they leave no batch open:
 /// relations, queries and known texts are without repeats, and so are the rows of a relation; these
-/// are of its columns' types, each with one copy at least and no more than may be; and queries are
-/// free-connex.
+/// are of its columns' types, each with one copy at least and no more than may be; queries are
+/// free-connex, and the members of unions are registered.
 pub fn found_is_start()
     ensures { FoundIsStart }
 {}

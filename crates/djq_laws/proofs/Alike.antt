@@ -1,12 +1,32 @@
 -- What a line does to the sessions: each keeps its id, its bytes, and its end cause unless the line ends it.
-use Rattle.std.specs.Prelude.{ℕ, List, [], ◌∷◌, ◌==◌, ◌≡◌, ◌++◌, ◌⊎◌, Bool, true, false, cond, Option, None, Some, IsSome, IsSomeAnd, find, map}
+use Rattle.std.specs.Prelude.{
+  ℕ,
+  List,
+  [],
+  ◌∷◌,
+  ◌==◌,
+  ◌≡◌,
+  ◌++◌,
+  ◌⊎◌,
+  Bool,
+  true,
+  false,
+  cond,
+  Option,
+  None,
+  Some,
+  IsSome,
+  IsSomeAnd,
+  find,
+  map,
+}
 use Rattle.std.proofs.Common.{refl, sym, ap, ap₂, ◌∙◌, subst, inl, inr}
 use Rattle.std.proofs.lemmas.Bool.{eqb-true}
 use Rattle.std.proofs.lemmas.Grind.{flat_map-append}
 use Rattle.djq_model.specs.Data.{Bytes, change_first}
 use Rattle.djq_lines.specs.declared.answer.EndCause.{EndCause}
 use Rattle.djq_lines.specs.declared.answer.EndCause.TheVariants.{Memory}
-use Rattle.djq_lines.specs.Grammar.{Reading}
+use Rattle.djq_lines.specs.Grammar.{reading_of}
 use Rattle.djq_lines.specs.Reply.{refusal_line}
 use Rattle.djq_machine.specs.State.{Store, State, Session, session_of, with_session, ended_by}
 use Rattle.djq_machine.specs.Stale.{outdated_cursor}
@@ -18,7 +38,24 @@ use Rattle.djq_machine.specs.LineStep.{ReadStep}
 use Rattle.djq_machine.specs.Run.{to_session, pending_in}
 use Rattle.djq_machine.specs.Call.{IsOpen, cause_in, held_in}
 use Rattle.djq_laws.specs.Moved.{EndsByRun}
-use Rattle.djq_laws.specs.Form.{form_of, Form, asking, storing, turning, changing, ending, Turn, SaysAlone, Replied, is_whole, is_cut, DoesTurn, is_turned, is_refused, Does}
+use Rattle.djq_laws.specs.Form.{
+  form_of,
+  Form,
+  asking,
+  storing,
+  turning,
+  changing,
+  ending,
+  Turn,
+  SaysAlone,
+  Replied,
+  is_whole,
+  is_cut,
+  DoesTurn,
+  is_turned,
+  is_refused,
+  Does,
+}
 use Rattle.djq_laws.proofs.Forms.{turned_one, command_does, Reads, turned_down, carried_out, line_reads}
 use Rattle.djq_laws.proofs.Doing.{closing, begun, closing_id, closing_pending, closing_held, closing_cause, rows_do}
 use Rattle.djq_laws.proofs.Told.{change_keeps}
@@ -240,9 +277,10 @@ form_keeps ending old s x e new h = (
   alone s e h.0,
 )
 
-pub read_keeps : (old : State) (s : ℕ) (x : Session) (l : Bytes) (r : Reading) (e : Effect) (new : State) → ReadStep old s x l r e new → Runs old s e new
-read_keeps old s x l r e new h = by (line_reads old s x l r e new h)
+pub read_keeps : (old : State) (s : ℕ) (x : Session) (l : Bytes) (e : Effect) (new : State)
+    → ReadStep old s x l (reading_of l) e new → Runs old s e new
+read_keeps old s x l e new h = by (line_reads old s x l (reading_of l) e new h)
   where
-    by : Reads old s x l r e new → Runs old s e new
+    by : Reads old s x l (reading_of l) e new → Runs old s e new
     by (turned_down why because k) = stays_keeps EndsByRun old s (refusal_line why) e new k.0 k.1
-    by (carried_out c is k) = form_keeps (form_of x.batch l c) old s x e new (command_does old s x l c e new k)
+    by (carried_out c is k) = form_keeps (form_of x.batch l c) old s x e new (command_does old s x l c e new is k)

@@ -1,21 +1,42 @@
 -- When what is registered has the same answers over other relations.
-use Rattle.std.specs.Prelude.{List, [], ◌∷◌, ◌≡◌, ◌++◌, ◌||◌, Bool, true, false, cond, Option, None, Some, All, Contains, IsPermutation}
+use Rattle.std.specs.Prelude.{
+  List,
+  [],
+  ◌∷◌,
+  ◌≡◌,
+  ◌++◌,
+  ◌||◌,
+  ◌⊎◌,
+  Bool,
+  true,
+  false,
+  cond,
+  Option,
+  None,
+  Some,
+  All,
+  Contains,
+  IsPermutation,
+}
 use Rattle.std.specs.List.{list_any, slice_index_or}
-use Rattle.std.proofs.Common.{refl, sym, ap, ◌∙◌, subst}
+use Rattle.std.proofs.Common.{refl, sym, ap, ◌∙◌, subst, inl, inr}
 use Rattle.std.proofs.lemmas.List.Elements.{All-nil, All-cons, Contains-get_or}
 use Rattle.std.proofs.lemmas.List.Sorted.{Contains-permutation, IsPermutation-sym, IsPermutation-refl}
 use Rattle.djq_model.specs.declared.relation.Relation.{Relation}
 use Rattle.djq_model.specs.declared.relation.ColumnType.{ColumnType}
 use Rattle.djq_model.specs.declared.relation.CountedRow.{CountedRow}
+use Rattle.djq_model.specs.declared.query.Query.{Query}
+use Rattle.djq_model.specs.Answer.{IsAnswer}
 use Rattle.djq_model.specs.Data.{Bytes, Tuple, bytes_eq, relation_of, tuples_of, counted_in, counted_of, rows_of}
-use Rattle.djq_model.specs.Listed.{Listed, a_query, AnswersOf}
+use Rattle.djq_model.specs.Listed.{Listed, a_query, a_union, AnswersOf}
 use Rattle.djq_model.specs.Equality.{bytes_eq-decides}
 use Rattle.djq_machine.specs.Store.{with_rows}
-use Rattle.djq_machine.specs.Stale.{listed_reads}
+use Rattle.djq_machine.specs.Stale.{reads, listed_reads}
 use Rattle.djq_machine.specs.Changes.{RowsChange, new_rows}
 use Rattle.djq_machine.specs.Step.{SameRelations}
 use Rattle.djq_machine.specs.Gives.{Gives}
 use Rattle.djq_machine.proofs.Reading.{reads_atom}
+use Rattle.djq_deltas.proofs.Lists.{nothing_there, first_or_later, some_one, one_there}
 use Rattle.djq_model.proofs.Counted.{tuples_moved}
 use Rattle.djq_machine.proofs.Copies.{rows_apart}
 
@@ -30,8 +51,9 @@ apart_from r name n true e ne same =
 abbrev pub RowsWithin : List Relation → List Relation → Listed → Type 0
 RowsWithin rs rs' q = (n : Bytes) → listed_reads q n ≡ true → (row : Tuple) → Contains (rows_of rs n) row → Contains (rows_of rs' n) row
 
-answer_within : (rs rs' : List Relation) (q : Listed) (t : Tuple) → RowsWithin rs rs' q → AnswersOf rs q t → AnswersOf rs' q t
-answer_within rs rs' (a_query q) t within h = record {
+query_within : (rs rs' : List Relation) (q : Query) (t : Tuple) → RowsWithin rs rs' (a_query q) → IsAnswer rs q t
+    → IsAnswer rs' q t
+query_within rs rs' q t within h = record {
   assignment = h.assignment;
   satisfies = λ k d lt.
       let s = h.satisfies k d lt in
@@ -41,6 +63,27 @@ answer_within rs rs' (a_query q) t within h = record {
   compared = h.compared;
   on_head = h.on_head;
 }
+
+-- a relation that a member reads, its union reads
+member_reads : (qs : List Query) (q : Query) (n : Bytes) → Contains qs q → reads q n ≡ true
+    → list_any (λ p. reads p n) qs ≡ true
+member_reads [] q n c h = absurd (nothing_there q c)
+member_reads (p ∷ qs) q n c h = step (reads p n) refl (first_or_later p qs q c) (λ d. member_reads qs q n d h)
+  where
+    step : (b : Bool) → reads p n ≡ b → (p ≡ q) ⊎ Contains qs q → (Contains qs q → list_any (λ r. reads r n) qs ≡ true)
+        → (b || list_any (λ r. reads r n) qs) ≡ true
+    step true e o more = refl
+    step false e (inl same) more =
+        let so : reads p n ≡ true = ap (λ (r : Query). reads r n) same ∙ h in absurd (cc (so, e))
+    step false e (inr d) more = more d
+
+answer_within : (rs rs' : List Relation) (q : Listed) (t : Tuple) → RowsWithin rs rs' q → AnswersOf rs q t
+    → AnswersOf rs' q t
+answer_within rs rs' (a_query q) t within h = query_within rs rs' q t within h
+answer_within rs rs' (a_union name qs) t within h =
+    let o = some_one (λ (q : Query). IsAnswer rs q t) qs h in
+    one_there (λ (q : Query). IsAnswer rs' q t) qs o.0 o.1
+    (query_within rs rs' o.0 t (λ n r. within n (member_reads qs o.0 n o.1 r)) o.2)
 
 -- the same answers
 pub record SameAnswers (rs rs' : List Relation) (q : Listed) : Type 0 where

@@ -9,6 +9,7 @@ use Rattle.std.specs.Prelude.{
   ◌⊎◌,
   ◌++◌,
   ◌+◌,
+  ◌||◌,
   Bool,
   true,
   false,
@@ -35,10 +36,10 @@ use Rattle.std.proofs.Common.{refl, sym, ap, ◌∙◌, subst, inl, inr, arith}
 use Rattle.djq_model.specs.declared.relation.ColumnType.{ColumnType}
 use Rattle.djq_model.specs.declared.query.Query.{Query}
 use Rattle.djq_model.specs.Data.{Bytes, Tuple, bytes_eq, drop_first, relation_of}
-use Rattle.djq_model.specs.Listed.{Listed, a_query, listed_name, listed_of}
+use Rattle.djq_model.specs.Listed.{Listed, a_query, a_union, listed_name, listed_of}
 use Rattle.djq_model.specs.Known.{texts_in}
 use Rattle.djq_lines.specs.Conditions.{first_of, Answers, OutOfMemoryWhere}
-use Rattle.djq_lines.specs.QueryFault.{query_faults}
+use Rattle.djq_lines.specs.QueryFault.{reads_unknown, query_faults}
 use Rattle.djq_lines.specs.Variables.{constants_of}
 use Rattle.djq_lines.specs.declared.limits.TheConstants.{COLUMNS, RELATIONS, QUERIES, CURSORS, TEXTS}
 use Rattle.djq_lines.specs.declared.rest.QueryOutcome.{QueryOutcome}
@@ -47,6 +48,7 @@ use Rattle.djq_lines.specs.declared.answer.EndCause.TheVariants.{Quit as SaidQui
 use Rattle.djq_lines.specs.declared.answer.Refusal.{Refusal}
 use Rattle.djq_lines.specs.declared.answer.Refusal.TheVariants.{
   Taken,
+  NoRelation,
   NoQuery,
   NoCursor,
   Limit,
@@ -61,6 +63,7 @@ use Rattle.djq_lines.specs.declared.command.Command.TheVariants.{
   Add,
   Del,
   Query as Register,
+  Union,
   Drop,
   Open,
   Next,
@@ -77,13 +80,21 @@ use Rattle.djq_lines.specs.declared.command.Command.TheVariants.{
   Stop,
 }
 use Rattle.djq_lines.specs.declared.held.HeldRow.{HeldRow}
-use Rattle.djq_lines.specs.Grammar.{Reading, outside, past_limit, says as says_command, takes_memory_to_read}
+use Rattle.djq_lines.specs.Grammar.{
+  Reading,
+  outside,
+  past_limit,
+  says as says_command,
+  reading_of,
+  takes_memory_to_read,
+}
 use Rattle.djq_lines.specs.Reply.{
   line,
   answer_line,
   refusal_line,
   ok_reply,
   query_reply,
+  union_reply,
   has_reply,
   shape_reply,
   watch_reply,
@@ -94,10 +105,35 @@ use Rattle.djq_lines.specs.Reply.{
   bye,
   end_memory,
 }
-use Rattle.djq_machine.specs.State.{Store, State, Session, Cursor, Position, open_at, stale, with_session, cursor_of, with_position}
+use Rattle.djq_machine.specs.State.{
+  Store,
+  State,
+  Session,
+  Cursor,
+  Position,
+  open_at,
+  stale,
+  with_session,
+  cursor_of,
+  with_position,
+}
 use Rattle.djq_machine.specs.Keeping.{Keeping, no_line, kept_where, is_registration}
 use Rattle.djq_machine.specs.Effect.{Effect, says, answers, RefusedStep}
-use Rattle.djq_machine.specs.Store.{RefusedByTexts, RefusedLate, RegistersAs, MakesRelation, RegistersQuery, DropsQuery, rel_refusal, query_refusal, drop_refusal, has_steps}
+use Rattle.djq_machine.specs.Store.{
+  RefusedByTexts,
+  RefusedLate,
+  RegistersAs,
+  MakesRelation,
+  RegistersQuery,
+  DropsQuery,
+  rel_refusal,
+  query_refusal,
+  drop_refusal,
+  is_member,
+  has_steps,
+  answer_steps,
+}
+use Rattle.djq_machine.specs.Union.{union_refusal, AreUnder, RegistersUnion}
 use Rattle.djq_machine.specs.Command.{
   open_refusal,
   OpensTo,
@@ -120,6 +156,7 @@ use Rattle.djq_machine.specs.Command.{
   ExplainStepOf,
   TellsLines,
   explain_lines,
+  union_lines,
 }
 use Rattle.djq_machine.specs.Batch.{hold_refusal}
 use Rattle.djq_machine.specs.LineStep.{ReadStep, past_limit_refusal}
@@ -156,6 +193,8 @@ use Rattle.djq_laws.specs.Form.{
   Does,
 }
 use Rattle.djq_laws.proofs.Finding.{some_and}
+use Rattle.djq_laws.proofs.Answering.{none_or}
+use Rattle.djq_laws.proofs.Members.{said_members, may_unite}
 
 -- ---- what the conditions of a command tell, where it is done
 
@@ -267,15 +306,35 @@ module _ (used : Bytes → Bool) (old new : Store) where
       registers (a_query q)
       (none_found (listed_of old.queries q.name)
       (none_first (is_some (listed_of old.queries q.name)) Taken
-      (first_of (query_faults old.relations q ++ (nat_le QUERIES (length old.queries), Limit) ∷ [])) none))
-      d.0 (λ _. d.2) d.3
+      (first_of (query_faults old.relations q ++ (nat_le QUERIES (length old.queries), Limit) ∷ [])) none)) (
+        d.0,
+        none_second (is_some (listed_of old.queries q.name)) (reads_unknown old.relations q) Taken NoRelation _ none,
+      )
+      (λ _. d.2) d.3
+
+  pub union_stored : (name : Bytes) (members : List Bytes) (r : Result ℕ Refusal) → 2 ≤ length members
+      → RegistersUnion old name members r new → Stored used old new
+  union_stored name members (Err r) two h = keeps_store h.stays
+  union_stored name members (Ok most) two h =
+      let D = λ (most : ℕ). (qs : List Query) × AreUnder old.queries members qs
+      × (most ≡ answer_steps (a_union name qs))
+      × (new ≡ record old { queries = old.queries ++ a_union name qs ∷ [] }) in
+      let none = none_holds (union_refusal old name members) most D (OutOfMemoryWhere ⊤) h.answer in
+      let d = done_of (union_refusal old name members) most D (OutOfMemoryWhere ⊤) h.answer in
+      registers (a_union name d.0)
+      (none_found (listed_of old.queries name) (none_first (is_some (listed_of old.queries name)) Taken _ none))
+      (may_unite old name members d.0 two none d.1)
+      (λ few. subst (λ (st : Store). length st.texts ≤ TEXTS) (sym d.3) few) d.3
 
   pub drop_stored : (name : Bytes) (r : Result ⊤ Refusal) → DropsQuery old (used name) name r new → Stored used old new
   drop_stored name (Err r) h = keeps_store h.stays
   drop_stored name (Ok u) h =
       let D = λ (_ : ⊤). new ≡ record old { queries = drop_first (λ q. bytes_eq (listed_name q) name) old.queries } in
       let none = none_holds (drop_refusal old (used name) name) u D (OutOfMemoryWhere ⊥) h.answer in
-      drops_query name (none_second (is_none (listed_of old.queries name)) (used name) NoQuery InUse None none)
+      let free = none_or (used name) (is_member old.queries name)
+      (none_second (is_none (listed_of old.queries name)) (used name || is_member old.queries name) NoQuery InUse None
+      none) in
+      drops_query name free.0 free.1
       (done_of (drop_refusal old (used name) name) u D (OutOfMemoryWhere ⊥) h.answer)
 
 -- ---- commands of the store
@@ -321,6 +380,7 @@ explain_does : (old : State) (s : ℕ) (o : Option Listed) (e : Effect) (new : S
     → SaysAlone s e × Replied s old new
 explain_does old s None e new h = refused_replied old s NoQuery e new h
 explain_does old s (Some (a_query q)) e new h = lines_replied old s (explain_lines q h.tree) e new h.tells
+explain_does old s (Some (a_union name qs)) e new h = lines_replied old s (union_lines qs) e new h
 
 -- ---- commands of the session
 
@@ -518,47 +578,51 @@ turned_one old s x closes_batch new h = record {
 -- ---- all commands
 
 pub command_does : (old : State) (s : ℕ) (x : Session) (l : Bytes) (c : Command) (e : Effect) (new : State)
-    → CommandStep old s x l c e new → Does (form_of x.batch l c) old s x e new
-command_does old s x l (Rel name types) e new h =
+    → reading_of l ≡ says_command c → CommandStep old s x l c e new → Does (form_of x.batch l c) old s x e new
+command_does old s x l (Rel name types) e new said h =
     stored_whole old s (ok_reply (codes "ok") h.result) _ h.store e new h.effect
     (rel_stored (in_use old) old.store h.store name types h.result h.done) h.state
-command_does old s x l (Register q) e new h = query_does old s q e new h
-command_does old s x l (Drop q) e new h =
+command_does old s x l (Register q) e new said h = query_does old s q e new h
+command_does old s x l (Union name members) e new said h =
+    stored_whole old s (union_reply h.result) _ h.store e new h.effect
+    (union_stored (in_use old) old.store h.store name members h.result
+    (said_members l (Union name members) said) h.done) h.state
+command_does old s x l (Drop q) e new said h =
     stored_whole old s (ok_reply (codes "ok") h.result) _ h.store e new h.effect
     (drop_stored (in_use old) old.store h.store q h.result h.done) h.state
-command_does old s x l (Add name row) e new h = add_does old s x l name row e new x.batch refl h
-command_does old s x l (Del name row) e new h = h
-command_does old s x l (Open c q) e new h = (
+command_does old s x l (Add name row) e new said h = add_does old s x l name row e new x.batch refl h
+command_does old s x l (Del name row) e new said h = h
+command_does old s x l (Open c q) e new said h = (
   says_alone s (ok_reply (codes "ok open") h.result) e h.effect,
   open_does old s x c q h.result new h.answer h.state,
 )
-command_does old s x l (Next c count) e new h = next_does old s x c count (cursor_of x.cursors c) e new refl h
-command_does old s x l (Close c) e new h = close_does old s x c (cursor_of x.cursors c) e new h
-command_does old s x l (Watch q) e new h = (
+command_does old s x l (Next c count) e new said h = next_does old s x c count (cursor_of x.cursors c) e new refl h
+command_does old s x l (Close c) e new said h = close_does old s x c (cursor_of x.cursors c) e new h
+command_does old s x l (Watch q) e new said h = (
   says_alone s (watch_reply h.result old.store.seq) e h.effect,
   watch_does old s x q _ h.result new h.answer h.state,
 )
-command_does old s x l (Unwatch q) e new h = (
+command_does old s x l (Unwatch q) e new said h = (
   says_alone s (ok_reply (codes "ok") h.result) e h.effect,
   unwatch_does old s x q h.result new h.state,
 )
-command_does old s x l (Has q row) e new h = (
+command_does old s x l (Has q row) e new said h = (
   text_alone s (has_reply h.result) (has_steps (listed_of old.store.queries q)) no_line e h.effect,
   is_whole h.state,
 )
-command_does old s x l (Explain q) e new h = explain_does old s (listed_of old.store.queries q) e new h
-command_does old s x l (Shape q) e new h = (says_alone s (shape_reply h.result) e h.effect, is_whole h.state)
-command_does old s x l Batch e new h = (
+command_does old s x l (Explain q) e new said h = explain_does old s (listed_of old.store.queries q) e new h
+command_does old s x l (Shape q) e new said h = (says_alone s (shape_reply h.result) e h.effect, is_whole h.state)
+command_does old s x l Batch e new said h = (
   says_alone s (ok_reply (codes "ok batch") h.result) e h.effect,
   batch_does old s x h.result new h.state,
 )
-command_does old s x l Done e new h = done_does old s x e new x.batch h
-command_does old s x l Abandon e new h = (says_alone s (line (codes "ok")) e h.0, is_turned h.1)
-command_does old s x l Quit e new h = (
+command_does old s x l Done e new said h = done_does old s x e new x.batch h
+command_does old s x l Abandon e new said h = (says_alone s (line (codes "ok")) e h.0, is_turned h.1)
+command_does old s x l Quit e new said h = (
   says_alone s bye e h.0,
   record { cause = SaidQuit; may = tt; stopped = old.stopped; state = h.1 },
 )
-command_does old s x l Stop e new h = (
+command_does old s x l Stop e new said h = (
   says_alone s bye e h.0,
   record { cause = SaidStop; may = tt; stopped = true; state = h.1 },
 )

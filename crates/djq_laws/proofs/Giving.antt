@@ -1,5 +1,30 @@
 -- What open cursors have given, along any run: different answers of their queries over the present rows, and all of them where the end was told.
-use Rattle.std.specs.Prelude.{ℕ, List, [], ◌∷◌, ◌==◌, ◌≡◌, ◌<◌, ◌+◌, ◌++◌, ◌⊎◌, Bool, true, false, not, cond, length, Option, None, Some, IsSome, MatchOption, option_map, map, All}
+use Rattle.std.specs.Prelude.{
+  ℕ,
+  List,
+  [],
+  ◌∷◌,
+  ◌==◌,
+  ◌≡◌,
+  ◌<◌,
+  ◌+◌,
+  ◌++◌,
+  ◌⊎◌,
+  Bool,
+  true,
+  false,
+  not,
+  cond,
+  length,
+  Option,
+  None,
+  Some,
+  IsSome,
+  MatchOption,
+  option_map,
+  map,
+  All,
+}
 use Rattle.std.specs.List.{list_any, slice_index_or}
 use Rattle.std.proofs.Common.{refl, sym, ap, ◌∙◌, subst, inl, inr, arith}
 use Rattle.std.proofs.lemmas.List.Elements.{All-nil, All-append, All-push, All-weaker, All-filter}
@@ -9,9 +34,23 @@ use Rattle.djq_model.specs.Listed.{Listed, listed_name, AnswersOf, listed_of}
 use Rattle.djq_lines.specs.declared.answer.EndCause.{EndCause}
 use Rattle.djq_lines.specs.declared.answer.EndCause.TheVariants.{Input, Memory}
 use Rattle.djq_lines.specs.declared.limits.TheConstants.{SESSIONS}
-use Rattle.djq_lines.specs.Grammar.{Reading, reading_of}
+use Rattle.djq_lines.specs.Grammar.{reading_of}
 use Rattle.djq_lines.specs.Reply.{end_memory}
-use Rattle.djq_machine.specs.State.{Store, State, Session, Cursor, Position, open_at, stale, fresh, session_of, with_session, cursor_of, with_position, ended_by}
+use Rattle.djq_machine.specs.State.{
+  Store,
+  State,
+  Session,
+  Cursor,
+  Position,
+  open_at,
+  stale,
+  fresh,
+  session_of,
+  with_session,
+  cursor_of,
+  with_position,
+  ended_by,
+}
 use Rattle.djq_machine.specs.Store.{TellsAnswers}
 use Rattle.djq_machine.specs.Stale.{outdated, outdater_of, outdated_cursor, outdated_sessions}
 use Rattle.djq_machine.specs.Changes.{RowsOutcome, accepted, out_of_memory, unchanged, tried, changed}
@@ -19,7 +58,21 @@ use Rattle.djq_machine.specs.Watch.{Telling, ChangeStep}
 use Rattle.djq_machine.specs.Effect.{Effect, nothing, EndsWith, queue_all, queue}
 use Rattle.djq_machine.specs.Command.{uses, with_cursor, with_watch, without_watch, with_batch, without_batch}
 use Rattle.djq_machine.specs.LineStep.{LineOutcome, long, blank, slow, no_room, run, ReadStep, FrontStep, behind_line}
-use Rattle.djq_machine.specs.Step.{Event, opened, fed, stepped, took, ended, closed, FedStep, TookStep, EndedStep, Acts, with_relations, Step}
+use Rattle.djq_machine.specs.Step.{
+  Event,
+  opened,
+  fed,
+  stepped,
+  took,
+  ended,
+  closed,
+  FedStep,
+  TookStep,
+  EndedStep,
+  Acts,
+  with_relations,
+  Step,
+}
 use Rattle.djq_machine.specs.Run.{Did}
 use Rattle.djq_machine.specs.Gives.{Gives, PositionGives, CursorsGive}
 use Rattle.djq_machine.proofs.Walks.{walk_keeps}
@@ -66,7 +119,16 @@ use Rattle.djq_laws.proofs.Forms.{command_does, Reads, turned_down, carried_out,
 use Rattle.djq_laws.proofs.Rows.{RowsMade}
 use Rattle.djq_laws.proofs.Doing.{closing, begun, closing_cursors, rows_do}
 use Rattle.djq_laws.proofs.Changing.{all_changed, all_found, all_dropped, all_mapped}
-use Rattle.djq_laws.proofs.Answering.{SameAnswers, gives_kept, rows_same, new_relation_same, reordered_same, apart_from, none_or, none_pass}
+use Rattle.djq_laws.proofs.Answering.{
+  SameAnswers,
+  gives_kept,
+  rows_same,
+  new_relation_same,
+  reordered_same,
+  apart_from,
+  none_or,
+  none_pass,
+}
 
 -- a cursor gives what it should, over these relations and queries
 abbrev pub CursorGives : List Relation → List Listed → Cursor → Type 0
@@ -184,10 +246,10 @@ stored_gives old store (makes_relation name types none e) g =
     (relations_give old.store.relations
     (old.store.relations ++ record { name = name; types = types; rows = [] } ∷ []) old.store.queries old.sessions
     (new_relation_same old.store.relations name types) g)
-stored_gives old store (registers q none connex few e) g =
+stored_gives old store (registers q none may few e) g =
     subst (λ (st : Store). CursorsGive (record old { store = st })) (sym e)
     (registered_give old.store.relations old.store.queries q old.sessions g)
-stored_gives old store (drops_query q unused e) g =
+stored_gives old store (drops_query q unused free e) g =
     subst (λ (st : Store). CursorsGive (record old { store = st })) (sym e)
     (dropped_give old.store.relations old.store.queries q old.sessions unused g)
 
@@ -313,13 +375,14 @@ form_gives ending old s x e new found h g =
     ends_gives (record old { stopped = h.1.stopped }) s h.1.cause new h.1.state g
 
 -- The front of a session's bytes.
-read_gives : (old : State) (s : ℕ) (x : Session) (l : Bytes) (r : Reading) (e : Effect) (new : State) → session_of old s ≡ Some x → ReadStep old s x l r e new → CursorsGive old → CursorsGive new
-read_gives old s x l r e new found h g = by (line_reads old s x l r e new h)
+read_gives : (old : State) (s : ℕ) (x : Session) (l : Bytes) (e : Effect) (new : State) → session_of old s ≡ Some x
+    → ReadStep old s x l (reading_of l) e new → CursorsGive old → CursorsGive new
+read_gives old s x l e new found h g = by (line_reads old s x l (reading_of l) e new h)
   where
-    by : Reads old s x l r e new → CursorsGive new
+    by : Reads old s x l (reading_of l) e new → CursorsGive new
     by (turned_down why because k) = same_gives old new k.1 g
     by (carried_out c is k) =
-        form_gives (form_of x.batch l c) old s x e new found (command_does old s x l c e new k) g
+        form_gives (form_of x.batch l c) old s x e new found (command_does old s x l c e new is k) g
 
 without_line_gives : (old : State) (s : ℕ) (rest : Bytes) → CursorsGive old → CursorsGive (with_session old s (behind_line rest))
 without_line_gives old s rest g = cursors_stay old (with_session old s (behind_line rest)) s (behind_line rest) (λ x. refl) refl g
@@ -333,7 +396,8 @@ front_gives old s x (run l) e new found h g =
     let rest = h.2.rest in
     let here : session_of (with_session old s (behind_line rest)) s ≡ Some (behind_line rest x) =
     session_changed old s (behind_line rest) (λ y. refl) ∙ ap (λ o. option_map (behind_line rest) o) found in
-    read_gives (with_session old s (behind_line rest)) s (behind_line rest x) l (reading_of l) e new here h.2.then (without_line_gives old s rest g)
+    read_gives (with_session old s (behind_line rest)) s (behind_line rest x) l e new here h.2.then
+    (without_line_gives old s rest g)
 
 -- The events.
 opened_gives : (old mid : State) (s : ℕ) → ((length old.sessions < SESSIONS) × (mid ≡ record old { sessions = old.sessions ++ fresh s ∷ [] })) ⊎ (mid ≡ old) → CursorsGive old → CursorsGive mid

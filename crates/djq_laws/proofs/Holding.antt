@@ -33,7 +33,7 @@ use Rattle.std.specs.List.{AllByRecursion}
 use Rattle.std.proofs.Common.{refl, sym, ap, ◌∙◌, subst, inl, inr, arith}
 use Rattle.std.proofs.lemmas.List.Elements.{All-nil, All-head, All-tail, All-push, All-filter}
 use Rattle.djq_model.specs.Data.{Bytes, Tuple}
-use Rattle.djq_model.specs.Listed.{Listed, a_query, listed_of}
+use Rattle.djq_model.specs.Listed.{Listed, a_query, a_union, listed_of}
 use Rattle.djq_lines.specs.declared.limits.TheConstants.{SESSIONS, LINE_BYTES}
 use Rattle.djq_lines.specs.declared.held.HeldRow.{HeldRow}
 use Rattle.djq_lines.specs.declared.answer.EndCause.{EndCause}
@@ -46,6 +46,7 @@ use Rattle.djq_lines.specs.declared.command.Command.TheVariants.{
   Add,
   Del,
   Query as Register,
+  Union,
   Drop,
   Open,
   Next,
@@ -91,6 +92,7 @@ use Rattle.djq_machine.specs.Command.{
   ExplainStepOf,
   TellsLines,
   explain_lines,
+  union_lines,
   without_batch,
   CommandStep,
 }
@@ -250,12 +252,13 @@ form_says batch l c is = tt
 
 -- ---- behind a step
 
-held_read : (old : State) (s : ℕ) (x : Session) (l : Bytes) (r : Reading) (e : Effect) (new : State)
-    → session_of old s ≡ Some x → IsLine l → Reads old s x l r e new
+held_read : (old : State) (s : ℕ) (x : Session) (l : Bytes) (e : Effect) (new : State)
+    → session_of old s ≡ Some x → IsLine l → Reads old s x l (reading_of l) e new
     → HoldLines old → HoldLines new
-held_read old s x l r e new found is (turned_down why because h) k = held_same old new h.1 k
-held_read old s x l r e new found is (carried_out c says h) k =
-    held_form (form_of x.batch l c) old s x e new found (form_says x.batch l c is) (command_does old s x l c e new h) k
+held_read old s x l e new found is (turned_down why because h) k = held_same old new h.1 k
+held_read old s x l e new found is (carried_out c says h) k =
+    held_form (form_of x.batch l c) old s x e new found (form_says x.batch l c is)
+    (command_does old s x l c e new says h) k
 
 held_behind : (old : State) (s : ℕ) (rest : Bytes) → HoldLines old → HoldLines (with_session old s (behind_line rest))
 held_behind old s rest k =
@@ -280,7 +283,7 @@ held_front old s x (run l) e new found is h k =
     let rest = h.2.rest in
     let here : session_of (with_session old s (behind_line rest)) s ≡ Some (behind_line rest x) =
     session_changed old s (behind_line rest) (λ y. refl) ∙ ap (λ o. option_map (behind_line rest) o) found in
-    held_read (with_session old s (behind_line rest)) s (behind_line rest x) l (reading_of l) e new here is
+    held_read (with_session old s (behind_line rest)) s (behind_line rest x) l e new here is
     (line_reads (with_session old s (behind_line rest)) s (behind_line rest x) l (reading_of l) e new h.2.then) (held_behind old s rest k)
 
 runs_line : (old : State) (s : ℕ) (outcome : LineOutcome) (e : Effect) (mid : State)
@@ -413,6 +416,7 @@ keeps_explained : (old : State) (s : ℕ) (e : Effect) (new : State) (o : Option
     → MatchOption o (RefusedStep old s NoQuery e new) (λ k. ExplainStepOf old s k e new) → KeepsLines e.kept
 keeps_explained old s e new None h = keeps_nothing s _ 0 e h.0
 keeps_explained old s e new (Some (a_query q)) h = keeps_told old s (explain_lines q h.tree) e new h.tells
+keeps_explained old s e new (Some (a_union name qs)) h = keeps_told old s (union_lines qs) e new h
 
 keeps_command : (old : State) (s : ℕ) (x : Session) (l : Bytes) (c : Command) (e : Effect) (new : State) → Holds x
     → CommandStep old s x l c e new → KeepsLines e.kept
@@ -421,6 +425,7 @@ keeps_command old s x l (Add name row) e new holds h = keeps_add old s l name ro
 keeps_command old s x l (Del name row) e new holds h = keeps_as e _ h.kept (keeps_where _)
 keeps_command old s x l (Register q) e new holds (inl h) = keeps_answer s _ _ e h.effect
 keeps_command old s x l (Register q) e new holds (inr h) = keeps_answer s _ _ e h.ends.0
+keeps_command old s x l (Union name members) e new holds h = keeps_answer s _ _ e h.effect
 keeps_command old s x l (Drop q) e new holds h = keeps_answer s _ _ e h.effect
 keeps_command old s x l (Open c q) e new holds h = keeps_nothing s _ 0 e h.effect
 keeps_command old s x l (Next c count) e new holds h = keeps_asked old s c count e new (cursor_of x.cursors c) h

@@ -2,6 +2,7 @@ pub mod Finding
 pub mod Queueing
 mod Told
 pub mod Changing
+pub mod Members
 pub mod Forms
 pub mod Suiting
 pub mod Rows
@@ -29,6 +30,7 @@ pub mod Watched
 pub mod Staying
 pub mod Live
 pub mod Apart
+pub mod Registered
 pub mod Storing
 pub mod Sounding
 pub mod Listing

@@ -63,12 +63,20 @@ use Rattle.djq_lines.specs.declared.answer.Refusal.TheVariants.{
   Limit,
   NoMemory,
   InUse,
+  Member,
   Misplaced,
 }
 use Rattle.djq_lines.specs.declared.held.HeldRow.{HeldRow}
 use Rattle.djq_lines.specs.declared.command.Command.{Command}
 use Rattle.djq_lines.specs.declared.command.Command.TheVariants.{Add, Done, Open, Next}
-use Rattle.djq_lines.specs.Grammar.{Reading, outside, past_limit, says as says_command, reading_of, takes_memory_to_read}
+use Rattle.djq_lines.specs.Grammar.{
+  Reading,
+  outside,
+  past_limit,
+  says as says_command,
+  reading_of,
+  takes_memory_to_read,
+}
 use Rattle.djq_lines.specs.Reply.{line, refusal_line, ok_reply, text_of, listing_lines, end_memory}
 use Rattle.djq_machine.specs.State.{
   Store,
@@ -314,6 +322,7 @@ not_opened Unbound = refl
 not_opened Limit = refl
 not_opened NoMemory = refl
 not_opened InUse = refl
+not_opened Member = refl
 not_opened Misplaced = refl
 
 -- a listing isn't the refusal of a misplaced command
@@ -509,10 +518,11 @@ module _ (s : ℕ) (c : Bytes) where
       back_then old mid new (λ given finished at. at) (back_ends mid new t h.1.cause h.1.state)
 
   back_command : (old : State) (t : ℕ) (x : Session) (l : Bytes) (k : Command) (e : Effect) (new : State)
-      → AreKept old → ((t == s) ≡ true → is_of (form_of x.batch l k) ≡ false) → CommandStep old t x l k e new
+      → AreKept old → ((t == s) ≡ true → is_of (form_of x.batch l k) ≡ false) → reading_of l ≡ says_command k
+      → CommandStep old t x l k e new
       → Back old new
-  back_command old t x l k e new kept apart h =
-      back_form (form_of x.batch l k) old t x e new kept apart (command_does old t x l k e new h)
+  back_command old t x l k e new kept apart is h =
+      back_form (form_of x.batch l k) old t x e new kept apart (command_does old t x l k e new is h)
 
   -- rows open and move no cursor, held or not
   adds_none : (batch : Option (List HeldRow)) (l name : Bytes) (row : Tuple)
@@ -648,18 +658,19 @@ module _ (s : ℕ) (c : Bytes) where
       finished at
 
   command_told : (old : State) (x : Session) (l : Bytes) (k : Command) (e : Effect) (new : State)
-      (replies : List Bytes) → session_of old s ≡ Some x → AreKept old → CommandStep old s x l k e new
+      (replies : List Bytes) → session_of old s ≡ Some x → AreKept old → reading_of l ≡ says_command k
+      → CommandStep old s x l k e new
       → Tell old replies → Tell new (replies_behind c replies (says_command k) (to_session s e.queued))
-  command_told old x l (Open d q) e new replies found kept h tell = open_told old x d q h.result e new replies
+  command_told old x l (Open d q) e new replies found kept is h tell = open_told old x d q h.result e new replies
       (bytes_eq d c) refl found h.answer h.effect h.state tell
-  command_told old x l (Next d count) e new replies found kept h tell = next_told old x d count (cursor_of x.cursors d)
-      e new replies (bytes_eq d c) refl found kept refl h tell
-  command_told old x l (Add name row) e new replies found kept h tell = tell_back old new replies
-      (back_command old s x l (Add name row) e new kept (λ same. adds_none x.batch l name row) h) tell
-  command_told old x l Done e new replies found kept h tell = tell_back old new replies
-      (back_command old s x l Done e new kept (λ same. done_none x.batch) h) tell
-  command_told old x l k e new replies found kept h tell = tell_back old new replies
-      (back_command old s x l k e new kept (λ same. refl) h) tell
+  command_told old x l (Next d count) e new replies found kept is h tell =
+      next_told old x d count (cursor_of x.cursors d) e new replies (bytes_eq d c) refl found kept refl h tell
+  command_told old x l (Add name row) e new replies found kept is h tell = tell_back old new replies
+      (back_command old s x l (Add name row) e new kept (λ same. adds_none x.batch l name row) is h) tell
+  command_told old x l Done e new replies found kept is h tell = tell_back old new replies
+      (back_command old s x l Done e new kept (λ same. done_none x.batch) is h) tell
+  command_told old x l k e new replies found kept is h tell = tell_back old new replies
+      (back_command old s x l k e new kept (λ same. refl) is h) tell
 
   -- a line that is refused as it is read
   refused_told : (r : Reading) (replies : List Bytes) (why : Refusal)
@@ -680,29 +691,30 @@ module _ (s : ℕ) (c : Bytes) where
       by (inr takes) = absurd cc
   refused_told (says_command k) replies why because = refl
 
-  read_told : (old : State) (x : Session) (l : Bytes) (r : Reading) (e : Effect) (new : State) (replies : List Bytes)
-      → session_of old s ≡ Some x → AreKept old → ReadStep old s x l r e new
-      → Tell old replies → Tell new (replies_behind c replies r (to_session s e.queued))
-  read_told old x l r e new replies found kept h tell = by (line_reads old s x l r e new h)
+  read_told : (old : State) (x : Session) (l : Bytes) (e : Effect) (new : State) (replies : List Bytes)
+      → session_of old s ≡ Some x → AreKept old → ReadStep old s x l (reading_of l) e new
+      → Tell old replies → Tell new (replies_behind c replies (reading_of l) (to_session s e.queued))
+  read_told old x l e new replies found kept h tell = by (line_reads old s x l (reading_of l) e new h)
     where
-      by : Reads old s x l r e new → Tell new (replies_behind c replies r (to_session s e.queued))
+      by : Reads old s x l (reading_of l) e new
+          → Tell new (replies_behind c replies (reading_of l) (to_session s e.queued))
       by (turned_down why because d) =
           subst (λ rs. Tell new rs)
-          (sym (ap (λ t. replies_behind c replies r t) (said s (refusal_line why) e d.0)
-          ∙ refused_told r replies why because))
+          (sym (ap (λ t. replies_behind c replies (reading_of l) t) (said s (refusal_line why) e d.0)
+          ∙ refused_told (reading_of l) replies why because))
           (tell_back old new replies (back_same old new d.1) tell)
       by (carried_out k is d) =
           subst (λ w. Tell new (replies_behind c replies w (to_session s e.queued))) (sym is)
-          (command_told old x l k e new replies found kept d tell)
+          (command_told old x l k e new replies found kept is d tell)
 
   -- a line of another session
-  back_read : (old : State) (t : ℕ) (x : Session) (l : Bytes) (r : Reading) (e : Effect) (new : State)
-      → (t == s) ≡ false → AreKept old → ReadStep old t x l r e new → Back old new
-  back_read old t x l r e new ne kept h = by (line_reads old t x l r e new h)
+  back_read : (old : State) (t : ℕ) (x : Session) (l : Bytes) (e : Effect) (new : State)
+      → (t == s) ≡ false → AreKept old → ReadStep old t x l (reading_of l) e new → Back old new
+  back_read old t x l e new ne kept h = by (line_reads old t x l (reading_of l) e new h)
     where
-      by : Reads old t x l r e new → Back old new
+      by : Reads old t x l (reading_of l) e new → Back old new
       by (turned_down why because d) = back_same old new d.1
-      by (carried_out k is d) = back_command old t x l k e new kept (λ same. absurd (cc (same, ne))) d
+      by (carried_out k is d) = back_command old t x l k e new kept (λ same. absurd (cc (same, ne))) is d
 
   back_line : (old : State) (t : ℕ) (rest : Bytes) → Back old (with_session old t (behind_line rest))
   back_line old t rest = back_kept old (with_session old t (behind_line rest)) t (behind_line rest) (λ x. refl)
@@ -730,7 +742,7 @@ module _ (s : ℕ) (c : Bytes) where
   front_told old t x (run l) e mid replies false same found kept h tell =
       let rest = h.2.rest in
       let between = with_session old t (behind_line rest) in
-      let back = back_read between t (behind_line rest x) l (reading_of l) e mid same
+      let back = back_read between t (behind_line rest x) l e mid same
       (without_line_kept old t rest kept) h.2.then in
       subst (λ k. Tell mid (cond k (replies_behind c replies (reading_of l) (to_session s e.queued)) replies))
       (sym same)
@@ -747,7 +759,7 @@ module _ (s : ℕ) (c : Bytes) where
       h.2.then in
       subst (λ k. Tell mid (cond k (replies_behind c replies (reading_of l) (to_session s e.queued)) replies))
       (sym same)
-      (read_told between (behind_line rest x) l (reading_of l) e mid replies here (without_line_kept old s rest kept) read
+      (read_told between (behind_line rest x) l e mid replies here (without_line_kept old s rest kept) read
       (tell_back old between replies (back_line old s rest) tell))
 
   opened_cursors : (o : Option Session) (t : ℕ) (given : List Tuple) (finished : Bool) (b : Bool)

@@ -8,7 +8,6 @@ use Rattle.djq_model.specs.Data.{Bytes, change_first}
 use Rattle.djq_lines.specs.declared.answer.EndCause.{EndCause}
 use Rattle.djq_lines.specs.declared.limits.TheConstants.{SESSIONS}
 use Rattle.djq_lines.specs.declared.answer.EndCause.TheVariants.{Memory}
-use Rattle.djq_lines.specs.Grammar.{reading_of}
 use Rattle.djq_lines.specs.Reply.{end_memory}
 use Rattle.djq_machine.specs.State.{State, Session, fresh, session_of, with_session, ended_by}
 use Rattle.djq_machine.specs.Effect.{Effect, nothing, EndsWith, queue, queue_all}
@@ -63,7 +62,7 @@ front_ids old s x (slow l) e mid h = line_ids old s h.2.rest mid (ended_ids (wit
 front_ids old s x (no_room l) e mid h = line_ids old s h.2.rest mid (ended_ids (with_session old s (behind_line h.2.rest)) mid s _ _ e h.2.then)
 front_ids old s x (run l) e mid h =
     let between = with_session old s (behind_line h.2.rest) in
-    let kept = read_keeps between s (behind_line h.2.rest x) l (reading_of l) e mid h.2.then in
+    let kept = read_keeps between s (behind_line h.2.rest x) l e mid h.2.then in
     line_ids old s h.2.rest mid (alike_ids EndsByRun between.sessions mid.sessions kept.0)
 
 -- a session that opens comes last

@@ -10,7 +10,7 @@ use Rattle.djq_model.specs.Listed.{listed_name}
 use Rattle.djq_lines.specs.declared.answer.EndCause.{EndCause}
 use Rattle.djq_lines.specs.declared.answer.EndCause.TheVariants.{Input, Memory}
 use Rattle.djq_lines.specs.declared.limits.TheConstants.{SESSIONS}
-use Rattle.djq_lines.specs.Grammar.{Reading, reading_of}
+use Rattle.djq_lines.specs.Grammar.{reading_of}
 use Rattle.djq_lines.specs.Reply.{refusal_line, end_memory, input_cut}
 use Rattle.djq_machine.specs.State.{Store, State, Session, fresh, session_of, with_session, ended_by, ids_of}
 use Rattle.djq_machine.specs.Stale.{outdated_cursor}
@@ -202,14 +202,15 @@ module _ (s : ℕ) where
       (deaf_other old t (closing c) (closing_id c) apart deaf)
   form_quiet ending old t x e new h apart deaf = quiet_alone t e apart h.0
 
-  read_quiet : (old : State) (t : ℕ) (x : Session) (l : Bytes) (r : Reading) (e : Effect) (new : State)
-      → ReadStep old t x l r e new → (t == s) ≡ false → Deaf (session_of old s) → to_session s e.queued ≡ []
-  read_quiet old t x l r e new h apart deaf = by (line_reads old t x l r e new h)
+  read_quiet : (old : State) (t : ℕ) (x : Session) (l : Bytes) (e : Effect) (new : State)
+      → ReadStep old t x l (reading_of l) e new → (t == s) ≡ false → Deaf (session_of old s)
+      → to_session s e.queued ≡ []
+  read_quiet old t x l e new h apart deaf = by (line_reads old t x l (reading_of l) e new h)
     where
-      by : Reads old t x l r e new → to_session s e.queued ≡ []
+      by : Reads old t x l (reading_of l) e new → to_session s e.queued ≡ []
       by (turned_down why because k) = quiet_says t (refusal_line why) e apart k.0
       by (carried_out c is k) =
-          form_quiet (form_of x.batch l c) old t x e new (command_does old t x l c e new k) apart deaf
+          form_quiet (form_of x.batch l c) old t x e new (command_does old t x l c e new is k) apart deaf
 
   front_quiet : (old : State) (t : ℕ) (x : Session) (outcome : LineOutcome) (e : Effect) (mid : State)
       → FrontStep old t x outcome e mid → (t == s) ≡ false → Deaf (session_of old s) → to_session s e.queued ≡ []
@@ -218,7 +219,7 @@ module _ (s : ℕ) where
   front_quiet old t x (slow l) e mid h apart deaf = quiet_says t _ e apart h.2.then.0
   front_quiet old t x (no_room l) e mid h apart deaf = quiet_says t _ e apart h.2.then.0
   front_quiet old t x (run l) e mid h apart deaf =
-      read_quiet (with_session old t (behind_line h.2.rest)) t (behind_line h.2.rest x) l (reading_of l) e mid h.2.then
+      read_quiet (with_session old t (behind_line h.2.rest)) t (behind_line h.2.rest x) l e mid h.2.then
       apart (deaf_other old t (behind_line h.2.rest) (λ y. refl) apart deaf)
 
   -- ---- the events

@@ -73,6 +73,7 @@ use Rattle.djq_machine.specs.Step.{
 use Rattle.djq_machine.specs.Run.{Did}
 use Rattle.djq_machine.proofs.Walks.{walk_keeps}
 use Rattle.djq_laws.specs.Sound.{
+  IsSoundListed,
   IsConnex,
   AreApart,
   IsSoundStore,
@@ -379,13 +380,13 @@ stored_kept old store h k = (
         subst (λ (st : Store). All (IsSoundSession st) old.sessions) (sym e)
         (all_another old.store (record old.store { relations = old.store.relations ++ more ∷ [] }) old.sessions
         (λ name there. there) (more_suits old.store more) k.1)
-    by (registers q none connex few e) =
+    by (registers q none may few e) =
         subst (λ (st : Store). All (IsSoundSession st) old.sessions) (sym e)
         (all_another old.store (record old.store {
           texts = all_learned old.store.texts (listed_texts q);
           queries = old.store.queries ++ q ∷ [];
         }) old.sessions (λ name there. in_front old.store.queries q name there) (λ name row h. h) k.1)
-    by (drops_query q unused e) =
+    by (drops_query q unused free e) =
         let none = none_pass (uses q) old.sessions unused in
         subst (λ (st : Store). All (IsSoundSession st) old.sessions) (sym e)
         (λ i d lt. not_used old.store q (slice_index_or old.sessions i d) (none i d lt) (k.1 i d lt))
@@ -542,7 +543,7 @@ read_kept old s x l e new found runs h k = by (line_reads old s x l (reading_of 
     by (turned_down why because d) = same_kept old new d.1 k
     by (carried_out c is d) =
         form_kept (form_of x.batch l c) old s x e new found runs (form_for x x.batch l c refl is)
-        (command_does old s x l c e new d) k
+        (command_does old s x l c e new is d) k
 
 pub without_line_kept : (old : State) (s : ℕ) (rest : Bytes) → AreKept old
     → AreKept (with_session old s (behind_line rest))
@@ -702,6 +703,7 @@ opening_is_start = record {
     few = omega arith;
     queries = nothing_apart (λ a b. a ≢ b);
     connex = All-nil IsConnex;
+    listed = All-nil (IsSoundListed [] []);
   };
   none = refl;
   going = refl;

@@ -1,5 +1,28 @@
 -- A session that watches a registered query does so as long as it goes on and doesn't unwatch it.
-use Rattle.std.specs.Prelude.{ℕ, List, [], ◌∷◌, ◌==◌, ◌≡◌, ◌<◌, ◌++◌, ◌⊎◌, ◌||◌, Bool, true, false, cond, length, Option, None, Some, MatchOption, option_map, find, All}
+use Rattle.std.specs.Prelude.{
+  ℕ,
+  List,
+  [],
+  ◌∷◌,
+  ◌==◌,
+  ◌≡◌,
+  ◌<◌,
+  ◌++◌,
+  ◌⊎◌,
+  ◌||◌,
+  Bool,
+  true,
+  false,
+  cond,
+  length,
+  Option,
+  None,
+  Some,
+  MatchOption,
+  option_map,
+  find,
+  All,
+}
 use Rattle.std.specs.List.{list_any}
 use Rattle.std.proofs.Common.{refl, sym, ap, ◌∙◌, subst, inl, inr}
 use Rattle.std.proofs.lemmas.Bool.{eqb-true}
@@ -13,7 +36,7 @@ use Rattle.djq_lines.specs.declared.command.Command.{Command}
 use Rattle.djq_lines.specs.declared.command.Command.TheVariants.{Add, Done, Unwatch}
 use Rattle.djq_lines.specs.declared.held.HeldRow.{HeldRow}
 use Rattle.djq_lines.specs.declared.limits.TheConstants.{SESSIONS}
-use Rattle.djq_lines.specs.Grammar.{Reading, says as says_command, reading_of}
+use Rattle.djq_lines.specs.Grammar.{says as says_command, reading_of}
 use Rattle.djq_lines.specs.Reply.{end_memory}
 use Rattle.djq_machine.specs.State.{Store, State, Session, Cursor, fresh, session_of, with_session, ended_by}
 use Rattle.djq_machine.specs.Changes.{RowsChange, RowsOutcome, tried, changed}
@@ -21,10 +44,34 @@ use Rattle.djq_machine.specs.Watch.{is_watching, Telling, ChangeStep}
 use Rattle.djq_machine.specs.Effect.{Effect, nothing, EndsWith}
 use Rattle.djq_machine.specs.Command.{uses, with_cursor, with_watch, without_watch, with_batch, without_batch}
 use Rattle.djq_machine.specs.LineStep.{LineOutcome, long, blank, slow, no_room, run, ReadStep, FrontStep, behind_line}
-use Rattle.djq_machine.specs.Step.{Event, opened, fed, stepped, took, ended, closed, FedStep, TookStep, EndedStep, Acts, with_relations, Step}
+use Rattle.djq_machine.specs.Step.{
+  Event,
+  opened,
+  fed,
+  stepped,
+  took,
+  ended,
+  closed,
+  FedStep,
+  TookStep,
+  EndedStep,
+  Acts,
+  with_relations,
+  Step,
+}
 use Rattle.djq_machine.specs.Run.{Did, Run, to_session}
 use Rattle.djq_machine.specs.Call.{IsOpen, cause_of, cause_in}
-use Rattle.djq_laws.specs.Moved.{EndsByRun, Spares, Comes, is_held, out_of_memory, is_dropped, Ends, input_ends, had_ended}
+use Rattle.djq_laws.specs.Moved.{
+  EndsByRun,
+  Spares,
+  Comes,
+  is_held,
+  out_of_memory,
+  is_dropped,
+  Ends,
+  input_ends,
+  had_ended,
+}
 use Rattle.djq_laws.specs.Watched.{IsWatcher, WatchesAlong}
 use Rattle.djq_laws.specs.Staying.{GoesOn, KeepsWatch, WatchersStay}
 use Rattle.djq_laws.specs.Form.{
@@ -172,9 +219,9 @@ module _ (q : Listed) (s : ℕ) (old : State) (registered : listed_of old.store.
   still_registered : (store : Store) → Stored (in_use old) old.store store → listed_of store.queries (listed_name q) ≡ Some q
   still_registered store (learns_texts h) = same_queries store (ap (λ (st : Store). st.queries) h.store)
   still_registered store (makes_relation name types none e) = same_queries store (ap (λ (st : Store). st.queries) e)
-  still_registered store (registers p none connex few e) =
+  still_registered store (registers p none may few e) =
       ap (λ (st : Store). listed_of st.queries (listed_name q)) e ∙ found_in_front old.store.queries p (listed_name q) q registered
-  still_registered store (drops_query p unused e) =
+  still_registered store (drops_query p unused free e) =
       ap (λ (st : Store). listed_of st.queries (listed_name q)) e
       ∙ dropped_query old.store.queries p (listed_name q) (other (bytes_eq (listed_name q) p) refl) ∙ registered
     where
@@ -257,16 +304,17 @@ module _ (q : Listed) (s : ℕ) (old : State) (registered : listed_of old.store.
   is_unwatch (Some held) l Done p e = absurd cc
   is_unwatch batch l c p e = absurd cc
 
-  by_reading : (t : ℕ) (x : Session) (l : Bytes) (r : Reading) (e : Effect) (new : State) → IsOpen old t → ((t == s) ≡ true → r ≡ says_command (Unwatch (listed_name q)) → ⊥)
-      → ReadStep old t x l r e new → Stays q s new
-  by_reading t x l r e new there not_it h = by (line_reads old t x l r e new h)
+  by_reading : (t : ℕ) (x : Session) (l : Bytes) (e : Effect) (new : State) → IsOpen old t
+      → ((t == s) ≡ true → reading_of l ≡ says_command (Unwatch (listed_name q)) → ⊥)
+      → ReadStep old t x l (reading_of l) e new → Stays q s new
+  by_reading t x l e new there not_it h = by (line_reads old t x l (reading_of l) e new h)
     where
-      by : Reads old t x l r e new → Stays q s new
+      by : Reads old t x l (reading_of l) e new → Stays q s new
       by (turned_down why because k) = by_none q s old registered watches new k.1
       by (carried_out c is k) =
           by_form (form_of x.batch l c) t x e new there
           (λ here same. not_it here (is ∙ ap (λ w. says_command w) (is_unwatch x.batch l c (listed_name q) same)))
-          (command_does old t x l c e new k)
+          (command_does old t x l c e new is k)
 
 -- The front of a session's bytes.
 open_behind : (old : State) (t : ℕ) (rest : Bytes) (x : Session) → session_of old t ≡ Some x → IsOpen (with_session old t (behind_line rest)) t
@@ -287,7 +335,7 @@ by_front q s old registered watches t x (no_room l) e new found keeps h = ends_b
 by_front q s old registered watches t x (run l) e new found keeps h =
     by_reading q s (with_session old t (behind_line h.2.rest)) registered
     (watches_with (listed_name q) old t (behind_line h.2.rest) s (t == s) refl (λ y. refl) (λ b y k. k) watches)
-    t (behind_line h.2.rest x) l (reading_of l) e new (open_behind old t h.2.rest x found) keeps h.2.then
+    t (behind_line h.2.rest x) l e new (open_behind old t h.2.rest x found) keeps h.2.then
 
 -- The events.
 find_front : (p : Session → Bool) (xs : List Session) (y x : Session) → find p xs ≡ Some x → find p (xs ++ y ∷ []) ≡ Some x

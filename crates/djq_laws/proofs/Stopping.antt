@@ -9,7 +9,7 @@ use Rattle.djq_lines.specs.declared.answer.EndCause.TheVariants.{Memory}
 use Rattle.djq_lines.specs.declared.command.Command.{Command}
 use Rattle.djq_lines.specs.declared.command.Command.TheVariants.{Add, Done, Quit, Stop}
 use Rattle.djq_lines.specs.declared.held.HeldRow.{HeldRow}
-use Rattle.djq_lines.specs.Grammar.{Reading, reading_of}
+use Rattle.djq_lines.specs.Grammar.{says as says_command, reading_of}
 use Rattle.djq_lines.specs.Reply.{end_memory}
 use Rattle.djq_machine.specs.State.{Store, State, Session, fresh, session_of, with_session, ended_by}
 use Rattle.djq_machine.specs.Keeping.{no_line}
@@ -18,7 +18,21 @@ use Rattle.djq_machine.specs.Changes.{RowsOutcome}
 use Rattle.djq_machine.specs.Watch.{Telling, ChangeStep}
 use Rattle.djq_machine.specs.Command.{CommandStep}
 use Rattle.djq_machine.specs.LineStep.{LineOutcome, long, blank, slow, no_room, run, behind_line, FrontStep, ReadStep}
-use Rattle.djq_machine.specs.Step.{Event, opened, fed, stepped, took, ended, closed, FedStep, TookStep, EndedStep, Acts, Step, with_relations}
+use Rattle.djq_machine.specs.Step.{
+  Event,
+  opened,
+  fed,
+  stepped,
+  took,
+  ended,
+  closed,
+  FedStep,
+  TookStep,
+  EndedStep,
+  Acts,
+  Step,
+  with_relations,
+}
 use Rattle.djq_laws.specs.Form.{Form, asking, storing, turning, changing, ending, form_of}
 use Rattle.djq_laws.specs.Form.{Turn, Replied, is_whole, is_cut, DoesTurn, is_turned, is_refused, Does}
 use Rattle.djq_laws.specs.Stopping.{KeptSaysNoStop}
@@ -124,24 +138,25 @@ no_ending_done None l = tt
 no_ending_done (Some held) l = tt
 
 command_stopped : (old : State) (s : ℕ) (x : Session) (l : Bytes) (c : Command) (e : Effect) (new : State)
-    → CommandStep old s x l c e new → e.kept ≢ no_line → new.stopped ≡ old.stopped
-command_stopped old s x l Quit e new h kept = absurd (kept (said_unkept s _ e h.0))
-command_stopped old s x l Stop e new h kept = absurd (kept (said_unkept s _ e h.0))
-command_stopped old s x l (Add name row) e new h kept =
+    → reading_of l ≡ says_command c → CommandStep old s x l c e new → e.kept ≢ no_line → new.stopped ≡ old.stopped
+command_stopped old s x l Quit e new said h kept = absurd (kept (said_unkept s _ e h.0))
+command_stopped old s x l Stop e new said h kept = absurd (kept (said_unkept s _ e h.0))
+command_stopped old s x l (Add name row) e new said h kept =
     form_stopped (form_of x.batch l (Add name row)) old s x e new (no_ending_add x.batch l name row)
-    (command_does old s x l (Add name row) e new h)
-command_stopped old s x l Done e new h kept =
-    form_stopped (form_of x.batch l Done) old s x e new (no_ending_done x.batch l) (command_does old s x l Done e new h)
-command_stopped old s x l c e new h kept =
-    form_stopped (form_of x.batch l c) old s x e new tt (command_does old s x l c e new h)
+    (command_does old s x l (Add name row) e new said h)
+command_stopped old s x l Done e new said h kept =
+    form_stopped (form_of x.batch l Done) old s x e new (no_ending_done x.batch l)
+    (command_does old s x l Done e new said h)
+command_stopped old s x l c e new said h kept =
+    form_stopped (form_of x.batch l c) old s x e new tt (command_does old s x l c e new said h)
 
-read_stopped : (old : State) (s : ℕ) (x : Session) (l : Bytes) (r : Reading) (e : Effect) (new : State)
-    → ReadStep old s x l r e new → e.kept ≢ no_line → new.stopped ≡ old.stopped
-read_stopped old s x l r e new h kept = by (line_reads old s x l r e new h)
+read_stopped : (old : State) (s : ℕ) (x : Session) (l : Bytes) (e : Effect) (new : State)
+    → ReadStep old s x l (reading_of l) e new → e.kept ≢ no_line → new.stopped ≡ old.stopped
+read_stopped old s x l e new h kept = by (line_reads old s x l (reading_of l) e new h)
   where
-    by : Reads old s x l r e new → new.stopped ≡ old.stopped
+    by : Reads old s x l (reading_of l) e new → new.stopped ≡ old.stopped
     by (turned_down why because k) = ap (λ (st : State). st.stopped) k.1
-    by (carried_out c is k) = command_stopped old s x l c e new k kept
+    by (carried_out c is k) = command_stopped old s x l c e new is k kept
 
 front_stopped : (old : State) (s : ℕ) (x : Session) (outcome : LineOutcome) (e : Effect) (mid : State)
     → FrontStep old s x outcome e mid → e.kept ≢ no_line → mid.stopped ≡ old.stopped
@@ -150,7 +165,7 @@ front_stopped old s x (blank l) e mid h kept = ap (λ (st : State). st.stopped) 
 front_stopped old s x (slow l) e mid h kept = ap (λ (st : State). st.stopped) h.2.then.1
 front_stopped old s x (no_room l) e mid h kept = ap (λ (st : State). st.stopped) h.2.then.1
 front_stopped old s x (run l) e mid h kept =
-    read_stopped (with_session old s (behind_line h.2.rest)) s (behind_line h.2.rest x) l (reading_of l) e mid
+    read_stopped (with_session old s (behind_line h.2.rest)) s (behind_line h.2.rest x) l e mid
     h.2.then kept
 
 kept_stopped : (old : State) (event : Event) (e : Effect) (mid : State) → Acts old event e mid → e.kept ≢ no_line

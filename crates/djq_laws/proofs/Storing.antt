@@ -27,6 +27,8 @@ use Rattle.djq_model.proofs.Counted.{tuples_moved, differ_moved}
 use Rattle.djq_laws.proofs.Changing.{all_dropped}
 use Rattle.djq_laws.proofs.Apart.{names_push, names_dropped, texts_apart, nothing_apart}
 use Rattle.djq_laws.proofs.Rows.{RowsSuit, RowsMade}
+use Rattle.djq_laws.proofs.Suiting.{types_moved}
+use Rattle.djq_laws.proofs.Registered.{same_types_sound, more_sound, registered_sound, may_connex, dropped_sound}
 
 -- Where no more than texts become known.
 learned_sound : (old new : Store) → LearnsTexts old new → IsSoundStore old → IsSoundStore new
@@ -37,6 +39,7 @@ learned_sound old new h s = subst IsSoundStore (sym h.store) (record {
   few = subst (λ (st : Store). length st.texts ≤ TEXTS) h.store (h.few s.few);
   queries = s.queries;
   connex = s.connex;
+  listed = s.listed;
 })
 
 -- What a command of the store makes of it.
@@ -56,16 +59,18 @@ stored_sound used old new (makes_relation name types none e) s =
       few = s.few;
       queries = s.queries;
       connex = s.connex;
+      listed = more_sound old.relations made old.queries s.listed;
     })
-stored_sound used old new (registers q none connex few e) s = subst IsSoundStore (sym e) (record {
+stored_sound used old new (registers q none may few e) s = subst IsSoundStore (sym e) (record {
   relations = s.relations;
   rows = s.rows;
   texts = texts_apart old.texts (listed_texts q) s.texts;
   few = subst (λ (st : Store). length st.texts ≤ TEXTS) e (few s.few);
   queries = names_push listed_name old.queries q s.queries none;
-  connex = All-push IsConnex old.queries q s.connex connex;
+  connex = All-push IsConnex old.queries q s.connex (may_connex old q may s.connex);
+  listed = registered_sound old q may s.listed;
 })
-stored_sound used old new (drops_query name unused e) s = subst IsSoundStore (sym e) (record {
+stored_sound used old new (drops_query name unused free e) s = subst IsSoundStore (sym e) (record {
   relations = s.relations;
   rows = s.rows;
   texts = s.texts;
@@ -73,6 +78,7 @@ stored_sound used old new (drops_query name unused e) s = subst IsSoundStore (sy
   queries = names_dropped listed_name (λ n. bytes_eq n name) old.queries s.queries;
   connex = all_dropped IsConnex (λ (x : Listed). bytes_eq (listed_name x) name)
       old.queries s.connex;
+  listed = dropped_sound old.relations old.queries name free s.listed;
 })
 
 -- What a command of rows makes of it.
@@ -85,6 +91,7 @@ made_sound c old (accepted change) new h suit s = subst IsSoundStore (sym h.stor
   few = subst (λ (st : Store). length st.texts ≤ TEXTS) h.store (h.few s.few);
   queries = s.queries;
   connex = s.connex;
+  listed = same_types_sound old.relations change.after h.types old.queries s.listed;
 })
 made_sound c old (out_of_memory change) new h suit s = learned_sound old new h s
 made_sound c old unchanged new h suit s = subst IsSoundStore (sym h.store) (record {
@@ -94,6 +101,7 @@ made_sound c old unchanged new h suit s = subst IsSoundStore (sym h.store) (reco
   few = subst (λ (st : Store). length st.texts ≤ TEXTS) h.store (h.few s.few);
   queries = s.queries;
   connex = s.connex;
+  listed = same_types_sound old.relations h.relations h.types old.queries s.listed;
 })
 
 -- The rows in another order.
@@ -128,4 +136,5 @@ moved_store old relations h s = record {
   few = s.few;
   queries = s.queries;
   connex = s.connex;
+  listed = same_types_sound old.relations relations (types_moved old.relations relations h) old.queries s.listed;
 }

@@ -55,6 +55,40 @@ types_at rs name = option_map IsOfTypes (relation_of rs name)
 abbrev pub SameTypes : List Relation → List Relation → Type 0
 SameTypes rs rs' = (n : Bytes) → types_at rs' n ≡ types_at rs n
 
+-- The types of a relation that is found, and that it is found.
+types_in : (o p : Option Relation) → option_map IsOfTypes p ≡ option_map IsOfTypes o → types_of p ≡ types_of o
+types_in None None e = refl
+types_in (Some r) (Some s) e = cc
+types_in None (Some s) e = absurd cc
+types_in (Some r) None e = absurd cc
+
+pub types_found : (rs rs' : List Relation) (n : Bytes) → types_at rs' n ≡ types_at rs n
+    → types_of (relation_of rs' n) ≡ types_of (relation_of rs n)
+types_found rs rs' n e = types_in (relation_of rs n) (relation_of rs' n) e
+
+there_in : (o p : Option Relation) → option_map IsOfTypes p ≡ option_map IsOfTypes o → is_none o ≡ false
+    → is_none p ≡ false
+there_in None p e h = absurd cc
+there_in (Some r) (Some s) e h = refl
+there_in (Some r) None e h = absurd cc
+
+pub there_still : (rs rs' : List Relation) (n : Bytes) → types_at rs' n ≡ types_at rs n
+    → is_none (relation_of rs n) ≡ false → is_none (relation_of rs' n) ≡ false
+there_still rs rs' n e h = there_in (relation_of rs n) (relation_of rs' n) e h
+
+-- a relation more leaves those that are there
+pub more_types : (rs : List Relation) (more : Relation) (n : Bytes) → is_none (relation_of rs n) ≡ false
+    → types_at (rs ++ more ∷ []) n ≡ types_at rs n
+more_types [] more n h = absurd cc
+more_types (r ∷ rs) more n h = by (bytes_eq r.name n) h (λ k. more_types rs more n k)
+  where
+    by : (b : Bool) → is_none (cond b (Some r) (relation_of rs n)) ≡ false
+        → (is_none (relation_of rs n) ≡ false → types_at (rs ++ more ∷ []) n ≡ types_at rs n)
+        → option_map IsOfTypes (cond b (Some r) (relation_of (rs ++ more ∷ []) n))
+        ≡ option_map IsOfTypes (cond b (Some r) (relation_of rs n))
+    by true k rest = refl
+    by false k rest = rest k
+
 -- It is so of other rows in one relation,
 pub types_with_rows : (rs : List Relation) (name : Bytes) (rows : List CountedRow)
     → SameTypes rs (with_rows rs name rows)

@@ -1,12 +1,27 @@
 -- What an event of one session makes of it and of the others.
-use Rattle.std.specs.Prelude.{ℕ, [], ◌∷◌, ◌==◌, ◌≡◌, ◌++◌, ◌⊎◌, true, false, Option, None, Some, IsSomeAnd, MatchOption, option_map}
+use Rattle.std.specs.Prelude.{
+  ℕ,
+  [],
+  ◌∷◌,
+  ◌==◌,
+  ◌≡◌,
+  ◌++◌,
+  ◌⊎◌,
+  true,
+  false,
+  Option,
+  None,
+  Some,
+  IsSomeAnd,
+  MatchOption,
+  option_map,
+}
 use Rattle.std.proofs.Common.{refl, sym, ap, ◌∙◌, subst, append-nil, inl, inr}
 use Rattle.std.proofs.lemmas.Bool.{eq-eqb}
 use Rattle.djq_model.specs.Data.{Bytes}
 use Rattle.djq_lines.specs.declared.answer.EndCause.{EndCause}
 use Rattle.djq_lines.specs.declared.answer.EndCause.TheVariants.{Input, Long, Slow, Memory}
 use Rattle.djq_lines.specs.Line.{a_line}
-use Rattle.djq_lines.specs.Grammar.{reading_of}
 use Rattle.djq_lines.specs.Reply.{end_long, end_slow, end_memory, input_cut}
 use Rattle.djq_machine.specs.State.{State, Session, session_of, with_session, ended_by}
 use Rattle.djq_machine.specs.Keeping.{no_line}
@@ -16,7 +31,17 @@ use Rattle.djq_machine.specs.Step.{is_dry, FedStep, TookStep, EndedStep}
 use Rattle.djq_machine.specs.Run.{to_session}
 use Rattle.djq_laws.specs.Moved.{EndsByRun, CausedBy, LeavesHeld}
 use Rattle.djq_laws.proofs.Queueing.{session_changed, session_other}
-use Rattle.djq_laws.proofs.Alike.{ToOpen, alone_nothing, alone_text, CauseKept, SameBytes, AlikeFound, KeepsAlike, alike_found, read_keeps}
+use Rattle.djq_laws.proofs.Alike.{
+  ToOpen,
+  alone_nothing,
+  alone_text,
+  CauseKept,
+  SameBytes,
+  AlikeFound,
+  KeepsAlike,
+  alike_found,
+  read_keeps,
+}
 
 -- sessions may end by any cause
 abbrev pub AnyCause : EndCause → Type 0
@@ -275,7 +300,8 @@ is_stepped old s x (slow l) e mid found running h = ends_behind old s x (slow l)
 is_stepped old s x (no_room l) e mid found running h = ends_behind old s x (no_room l) h.2.rest end_memory Memory e mid found h.2.then h.2.front refl
 is_stepped old s x (run l) e mid found running h =
     let rest = h.2.rest in
-    let b = behind EndsByRun old s x (behind_line rest) e mid found (λ y. refl) (read_keeps (with_session old s (behind_line rest)) s (behind_line rest x) l (reading_of l) e mid h.2.then) in
+    let b = behind EndsByRun old s x (behind_line rest) e mid found (λ y. refl)
+    (read_keeps (with_session old s (behind_line rest)) s (behind_line rest x) l e mid h.2.then) in
     record {
       session = b.session;
       touches = b.touches;

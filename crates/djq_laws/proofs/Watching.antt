@@ -129,9 +129,9 @@ module _ (q : Listed) (s : ℕ) (queued : List (ℕ × Bytes)) (changes : Bool) 
       is_quiet
       (subst (λ (rs : List Relation). SameAnswers old.relations rs q) (sym (ap (λ (st : Store). st.relations) e)) (new_relation_same old.relations name types q))
       (inl (ap (λ (st : Store). st.seq) e))
-  stored_stays used old new (registers p none connex few e) =
+  stored_stays used old new (registers p none may few e) =
       stays old new (ap (λ (st : Store). st.relations) e) (ap (λ (st : Store). st.seq) e)
-  stored_stays used old new (drops_query name unused e) =
+  stored_stays used old new (drops_query name unused free e) =
       stays old new (ap (λ (st : Store). st.relations) e) (ap (λ (st : Store). st.seq) e)
 
   turn_stays : (old : State) (t : ℕ) (x : Session) (turn : Turn) (new : State) → DoesTurn old t x turn new
@@ -199,19 +199,19 @@ module _ (q : Listed) (s : ℕ) (old : State) (registered : listed_of old.store.
   form_tells ending t x e new running h =
       same_store q s e.queued false old new (ap (λ (st : State). st.store) h.1.state)
 
-  read_tells : (t : ℕ) (x : Session) (l : Bytes) (r : Reading) (e : Effect) (new : State) → cause_of new s ≡ None
-      → ReadStep old t x l r e new
-      → StepTells q s old.store new.store e.queued (is_some (line_outdater old.store x.batch r q))
-  read_tells t x l r e new running h = by (line_reads old t x l r e new h)
+  read_tells : (t : ℕ) (x : Session) (l : Bytes) (e : Effect) (new : State) → cause_of new s ≡ None
+      → ReadStep old t x l (reading_of l) e new
+      → StepTells q s old.store new.store e.queued (is_some (line_outdater old.store x.batch (reading_of l) q))
+  read_tells t x l e new running h = by (line_reads old t x l (reading_of l) e new h)
     where
-      by : Reads old t x l r e new
-          → StepTells q s old.store new.store e.queued (is_some (line_outdater old.store x.batch r q))
+      by : Reads old t x l (reading_of l) e new
+          → StepTells q s old.store new.store e.queued (is_some (line_outdater old.store x.batch (reading_of l) q))
       by (turned_down why because k) =
-          same_state q s e.queued (is_some (line_outdater old.store x.batch r q)) old new k.1
+          same_state q s e.queued (is_some (line_outdater old.store x.batch (reading_of l) q)) old new k.1
       by (carried_out c is k) =
           subst (λ (o : Option Bytes). StepTells q s old.store new.store e.queued (is_some o))
           (outdated_alike old.store x.batch l c q ∙ ap (λ (w : Reading). line_outdater old.store x.batch w q) (sym is))
-          (form_tells (form_of x.batch l c) t x e new running (command_does old t x l c e new k))
+          (form_tells (form_of x.batch l c) t x e new running (command_does old t x l c e new is k))
 
 front_tells : (q : Listed) (s : ℕ) (old : State) → listed_of old.store.queries (listed_name q) ≡ Some q → Watches (listed_name q) (session_of old s)
     → (t : ℕ) (x : Session) (outcome : LineOutcome) (e : Effect) (new : State) → session_of old t ≡ Some x
@@ -229,7 +229,7 @@ front_tells q s old registered watches t x (run l) e new found running h =
     subst (λ (o : Option Session). StepTells q s old.store new.store e.queued (is_some (line_outdater old.store (batch_in o) (reading_of l) q))) (sym found)
     (read_tells q s taken registered
     (watches_with (listed_name q) old t (behind_line h.2.rest) s (t == s) refl (λ y. refl) (λ b y k. k) watches)
-    t (behind_line h.2.rest x) l (reading_of l) e new running h.2.then)
+    t (behind_line h.2.rest x) l e new running h.2.then)
 
 -- the events
 fed_stays : (q : Listed) (s : ℕ) (old : State) (t : ℕ) (bytes : Bytes) (e : Effect) (mid : State) (c : Option EndCause)

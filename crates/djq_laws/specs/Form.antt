@@ -18,7 +18,7 @@ use Rattle.std.specs.Prelude.{
 use Rattle.std.specs.List.{list_any}
 use Rattle.djq_model.specs.declared.relation.ColumnType.{ColumnType}
 use Rattle.djq_model.specs.Data.{Bytes, Tuple, bytes_eq, drop_first, relation_of}
-use Rattle.djq_model.specs.Listed.{Listed, a_query, listed_name, AnswersOf, listed_of}
+use Rattle.djq_model.specs.Listed.{Listed, a_query, a_union, listed_name, AnswersOf, listed_of}
 use Rattle.djq_model.specs.Known.{all_learned, texts_in}
 use Rattle.djq_lines.specs.declared.limits.TheConstants.{TEXTS}
 use Rattle.djq_lines.specs.declared.answer.EndCause.{EndCause}
@@ -30,6 +30,7 @@ use Rattle.djq_lines.specs.declared.command.Command.TheVariants.{
   Add,
   Del,
   Query as Register,
+  Union,
   Drop,
   Open,
   Next,
@@ -49,7 +50,7 @@ use Rattle.djq_lines.specs.Variables.{constants_of}
 use Rattle.djq_machine.specs.State.{Store, Session, Cursor, open_at, State, with_session, cursor_of, with_position, ended_by}
 use Rattle.djq_machine.specs.Keeping.{Keeping}
 use Rattle.djq_machine.specs.Effect.{Effect}
-use Rattle.djq_machine.specs.Store.{TellsAnswers}
+use Rattle.djq_machine.specs.Store.{TellsAnswers, is_member}
 use Rattle.djq_machine.specs.Command.{
   uses,
   with_cursor,
@@ -63,7 +64,7 @@ use Rattle.djq_machine.specs.Command.{
 }
 use Rattle.djq_machine.specs.Batch.{hold_refusal}
 use Rattle.djq_laws.specs.Moved.{EndsByRun}
-use Rattle.djq_laws.specs.Sound.{IsConnex}
+use Rattle.djq_laws.specs.Sound.{IsConnex, IsSoundListed}
 
 -- What a command may make of the session that says it.
 pub data Turn : Type 0 where
@@ -116,6 +117,7 @@ done_form (Some held) = changing (rows_come held)
 abbrev pub form_of : Option (List HeldRow) → Bytes → Command → Form
 form_of batch l (Rel name types) = storing
 form_of batch l (Register q) = storing
+form_of batch l (Union name members) = storing
 form_of batch l (Drop q) = storing
 form_of batch l (Add name row) = add_form batch l name row
 form_of batch l (Del name row) = changing (row_goes name row)
@@ -151,9 +153,16 @@ pub record LearnsTexts (old new : Store) : Type 0 where
   pub few : length old.texts ≤ TEXTS → length new.texts ≤ TEXTS
   pub store : new ≡ record old { texts = all_learned old.texts texts }
 
--- the texts of what is registered: those of a query's constants
+-- the texts that what is registered brings: those of a query's constants; a union brings none
 abbrev pub listed_texts : Listed → List Bytes
 listed_texts (a_query q) = texts_in (constants_of q)
+listed_texts (a_union name qs) = []
+
+-- What may be registered: a free-connex query that reads relations that are there, or a sound union.
+abbrev pub MayRegister : Store → Listed → Type 0
+MayRegister st (a_query q) =
+    IsConnex (a_query q) × IsSoundListed st.relations st.queries (a_query q)
+MayRegister st (a_union name qs) = IsSoundListed st.relations st.queries (a_union name qs)
 
 -- What a command of the store makes of it, where some queries are in use.
 pub data Stored (used : Bytes → Bool) (old new : Store) : Type 0 where
@@ -164,15 +173,15 @@ pub data Stored (used : Bytes → Bool) (old new : Store) : Type 0 where
       → new ≡ record old {
         relations = old.relations ++ record { name = name; types = types; rows = [] } ∷ [];
       } → Stored used old new
-  -- what is free-connex and of a new name is registered, and its texts become known
-  registers : (q : Listed) → listed_of old.queries (listed_name q) ≡ None → IsConnex q
+  -- what may be, and is of a new name, is registered, and its texts become known
+  registers : (q : Listed) → listed_of old.queries (listed_name q) ≡ None → MayRegister old q
       → (length old.texts ≤ TEXTS → length new.texts ≤ TEXTS)
       → new ≡ record old {
         texts = all_learned old.texts (listed_texts q);
         queries = old.queries ++ q ∷ [];
       } → Stored used old new
-  -- a query that isn't in use is registered no more
-  drops_query : (name : Bytes) → used name ≡ false
+  -- a query that isn't in use, nor a member of a union, is registered no more
+  drops_query : (name : Bytes) → used name ≡ false → is_member old.queries name ≡ false
       → new ≡ record old { queries = drop_first (λ q. bytes_eq (listed_name q) name) old.queries }
       → Stored used old new
 

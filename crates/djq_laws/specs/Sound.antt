@@ -1,17 +1,36 @@
 -- What holds of every state that the machine comes to.
-use Rattle.std.specs.Prelude.{ℕ, List, [], ◌≡◌, ◌≢◌, ◌≤◌, true, false, None, IsSome, IfSome, length, map, All, AllPairs}
+use Rattle.std.specs.Prelude.{
+  ℕ,
+  List,
+  [],
+  ◌≡◌,
+  ◌≢◌,
+  ◌≤◌,
+  true,
+  false,
+  None,
+  Some,
+  IsSome,
+  IfSome,
+  length,
+  map,
+  All,
+  AllPairs,
+}
 use Rattle.djq_model.specs.declared.relation.Relation.{Relation}
+use Rattle.djq_model.specs.declared.query.Query.{Query}
 use Rattle.djq_model.specs.Data.{Bytes, tuples_in}
 use Rattle.djq_model.specs.Answer.{AreDifferent}
-use Rattle.djq_model.specs.Listed.{Listed, a_query, listed_name, listed_of}
+use Rattle.djq_model.specs.Listed.{Listed, a_query, a_union, listed_name, listed_of}
 use Rattle.djq_model.specs.Typed.{fits}
-use Rattle.djq_lines.specs.declared.limits.TheConstants.{SESSIONS, TEXTS, COPIES, HELD}
+use Rattle.djq_lines.specs.declared.limits.TheConstants.{SESSIONS, TEXTS, COPIES, HELD, MEMBERS}
 use Rattle.djq_lines.specs.declared.held.HeldRow.{HeldRow}
 use Rattle.djq_lines.specs.declared.command.Command.TheVariants.{Add}
 use Rattle.djq_lines.specs.Grammar.{says as says_command, reading_of}
 use Rattle.djq_lines.specs.Hypergraph.{edges_of, head_of}
+use Rattle.djq_lines.specs.QueryFault.{reads_unknown}
 use Rattle.djq_machine.specs.Batch.{SuitAll}
-use Rattle.djq_machine.specs.Store.{IsFreeConnex}
+use Rattle.djq_machine.specs.Store.{IsFreeConnex, answer_types, listed_types}
 use Rattle.djq_machine.specs.State.{Store, State, Session, Cursor, Position, open_at, stale, opening}
 use Rattle.djq_machine.specs.Run.{Did, Run}
 use Rattle.djq_laws.specs.Rising.{AreRising}
@@ -30,12 +49,30 @@ pub record IsSoundRelation (r : Relation) : Type 0 where
   pub once : AreDifferent (tuples_in r)
   pub copies : All (λ c. IsCopyCount c.copies) r.rows
 
--- What is registered is free-connex.
+-- What is registered is free-connex: a query is, and so is each member of a union.
 abbrev pub IsConnex : Listed → Type 0
 IsConnex (a_query q) = IsFreeConnex (edges_of q) (head_of q)
+IsConnex (a_union name qs) = All (λ q. IsFreeConnex (edges_of q) (head_of q)) qs
 
--- Relations have names of their own, and queries, each of which is free-connex; and each known text
--- is known once, and no more are than may be.
+-- A union has two members at least and no more than may be. Each is registered, none twice, and the
+-- answers of each are of the union's types.
+pub record IsSoundUnion (relations : List Relation) (queries : List Listed) (name : Bytes)
+    (members : List Query) : Type 0 where
+  pub two : 2 ≤ length members
+  pub few : length members ≤ MEMBERS
+  pub registered : All (λ q. listed_of queries q.name ≡ Some (a_query q)) members
+  pub apart : AreApart (map (λ q. q.name) members)
+  pub types : All
+      (λ q. answer_types relations q ≡ listed_types relations (Some (a_union name members))) members
+
+-- Beside these relations and what else is registered, a query reads relations that are there, and a
+-- union is sound.
+abbrev pub IsSoundListed : List Relation → List Listed → Listed → Type 0
+IsSoundListed relations queries (a_query q) = reads_unknown relations q ≡ false
+IsSoundListed relations queries (a_union name qs) = IsSoundUnion relations queries name qs
+
+-- Relations have names of their own, and what is registered, each of which is free-connex and sound;
+-- and each known text is known once, and no more are than may be.
 pub record IsSoundStore (st : Store) : Type 0 where
   pub relations : AreApart (map (λ r. r.name) st.relations)
   pub rows : All IsSoundRelation st.relations
@@ -43,6 +80,7 @@ pub record IsSoundStore (st : Store) : Type 0 where
   pub few : length st.texts ≤ TEXTS
   pub queries : AreApart (map listed_name st.queries)
   pub connex : All IsConnex st.queries
+  pub listed : All (IsSoundListed st.relations st.queries) st.queries
 
 -- An open cursor has given no answer twice.
 abbrev pub GaveOnce : Position → Type 0

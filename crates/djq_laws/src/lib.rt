@@ -74,11 +74,12 @@ pub fn line_is_taken()
 
 /// Each state that a run comes to from a state to start from is sound: relations, queries, known
 /// texts, the rows of a relation and the answers that an open cursor has given are without repeats;
-/// rows are of their columns' types, each with one copy at least, and queries free-connex; cursors
-/// and watches are of registered queries; the rows that a batch holds suit their relations, each said
-/// by its line; a session that has ended has none of them; and copies, texts, held rows and sessions
-/// are within their limits, sessions by rising id. Every run keeps it so. The state in which nothing
-/// has happened is one to start from.
+/// rows are of their columns' types, each with one copy at least; queries read relations that are
+/// there, and are free-connex; the members of a union are registered queries, two at least, none
+/// twice, with answers of the same types; cursors and watches are of what is registered; the rows
+/// that a batch holds suit their relations, each said by its line; a session that has ended has none
+/// of them; and copies, texts, held rows and sessions are within their limits, sessions by rising id.
+/// Every run keeps it so. The state in which nothing has happened is one to start from.
 pub fn states_are_sound()
     ensures kept { RunsKeepSound }
     ensures opening { OpeningIsStart }

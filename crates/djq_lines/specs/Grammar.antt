@@ -3,6 +3,7 @@
 --     line  = "rel" name type *type           type = "int" | "text"
 --           | "add" name literal *literal     | "del" name literal *literal
 --           | "query" query                   | "drop" name
+--           | "union" name name name *name
 --           | "open" name name                | "next" name count
 --           | "close" name                    | "has" name *literal
 --           | "watch" name                    | "unwatch" name
@@ -69,6 +70,7 @@ use Rattle.djq_lines.specs.declared.keyword.Keyword.TheVariants.{
   Add as AddWord,
   Del as DelWord,
   Query as QueryWord,
+  Union as UnionWord,
   Drop as DropWord,
   Open as OpenWord,
   Next as NextWord,
@@ -90,6 +92,7 @@ use Rattle.djq_lines.specs.declared.command.Command.TheVariants.{
   Add,
   Del,
   Query as Register,
+  Union,
   Drop,
   Open,
   Next,
@@ -261,6 +264,11 @@ abbrev pub named_some : {A : Type 0} → (Token → Option A) → List Token →
 named_some item (word n ∷ t ∷ ts) = named_any item (word n ∷ t ∷ ts)
 named_some item _ = None
 
+-- a name, and names of which there are two at least, to the line's end
+abbrev pub name_and_members : List Token → Option (Bytes × List Bytes)
+name_and_members (n ∷ a ∷ b ∷ ts) = named_some name_of (n ∷ a ∷ b ∷ ts)
+name_and_members _ = None
+
 -- one name
 abbrev pub one_name : List Token → Option Bytes
 one_name (word n ∷ []) = if is_name n then Some n else None
@@ -299,6 +307,7 @@ keyword_of w =
     else (if bytes_eq w (codes "add") then Some AddWord
     else (if bytes_eq w (codes "del") then Some DelWord
     else (if bytes_eq w (codes "query") then Some QueryWord
+    else (if bytes_eq w (codes "union") then Some UnionWord
     else (if bytes_eq w (codes "drop") then Some DropWord
     else (if bytes_eq w (codes "open") then Some OpenWord
     else (if bytes_eq w (codes "next") then Some NextWord
@@ -313,7 +322,7 @@ keyword_of w =
     else (if bytes_eq w (codes "abandon") then Some AbandonWord
     else (if bytes_eq w (codes "quit") then Some QuitWord
     else (if bytes_eq w (codes "stop") then Some StopWord
-    else None)))))))))))))))))
+    else None))))))))))))))))))
 
 -- the command that stands behind a keyword
 abbrev pub command_behind : Keyword → List Token → Option Command
@@ -321,6 +330,7 @@ command_behind RelWord ts = option_map (λ p. Rel p.0 p.1) (named_some type_of t
 command_behind AddWord ts = option_map (λ p. Add p.0 p.1) (named_some literal_of ts)
 command_behind DelWord ts = option_map (λ p. Del p.0 p.1) (named_some literal_of ts)
 command_behind QueryWord ts = option_map (λ q. Register q) (query_in ts)
+command_behind UnionWord ts = option_map (λ p. Union p.0 p.1) (name_and_members ts)
 command_behind DropWord ts = option_map (λ q. Drop q) (one_name ts)
 command_behind OpenWord ts = option_map (λ p. Open p.0 p.1) (two_names ts)
 command_behind NextWord ts = option_map (λ p. Next p.0 p.1) (name_and_count ts)
@@ -375,6 +385,7 @@ takes_memory_to_read (Add n row) = true
 takes_memory_to_read (Del n row) = true
 takes_memory_to_read (Has q row) = true
 takes_memory_to_read (Register q) = true
+takes_memory_to_read (Union n qs) = true
 takes_memory_to_read _ = false
 
 -- What a line says.

@@ -36,6 +36,7 @@ use Rattle.djq_lines.specs.declared.answer.Refusal.TheVariants.{
   NoMemory,
   InUse,
   Unbound,
+  Member,
   Misplaced,
 }
 use Rattle.djq_lines.specs.declared.answer.EndLine.{EndLine}
@@ -50,7 +51,7 @@ use Rattle.djq_lines.specs.declared.answer.AddOutcome.TheVariants.{First, More}
 use Rattle.djq_lines.specs.declared.answer.DeleteOutcome.{DeleteOutcome}
 use Rattle.djq_lines.specs.declared.answer.DeleteOutcome.TheVariants.{Last, Left, Absent}
 use Rattle.djq_lines.specs.declared.answer.Shape.{Shape}
-use Rattle.djq_lines.specs.declared.answer.Shape.TheVariants.{Flat, Linear}
+use Rattle.djq_lines.specs.declared.answer.Shape.TheVariants.{Flat, Linear, Union}
 
 -- a text, ended by LF
 abbrev pub line : Bytes → Bytes
@@ -76,6 +77,7 @@ refusal_line Limit = line (codes "err 11 limit")
 refusal_line NoMemory = line (codes "err 12 memory")
 refusal_line InUse = line (codes "err 14 in use")
 refusal_line Unbound = line (codes "err 16 unbound")
+refusal_line Member = line (codes "err 17 member")
 refusal_line Misplaced = line (codes "err 18 batch")
 
 -- the lines that end a session, and the one that says that input ended within a line
@@ -167,6 +169,15 @@ query_reply (Ok (Cyclic rest)) = rest_line (codes "no cyclic") rest
 query_reply (Ok (NotConnex rest)) = rest_line (codes "no connex") rest
 query_reply (Err r) = refusal_line r
 
+-- what `union` answers where it registers: the most lookups and links for one of its answers
+abbrev pub union_reply : Result ℕ Refusal → Bytes
+union_reply (Ok most) = numbered (codes "ok union ") most
+union_reply (Err r) = refusal_line r
+
+-- a line that explains a union: one of its members
+abbrev pub member_line : Bytes → Bytes
+member_line name = line (codes "m " ++ name)
+
 -- what `has` answers
 abbrev pub has_reply : Result Bool Refusal → Bytes
 has_reply (Ok true) = line (codes "yes")
@@ -177,6 +188,7 @@ has_reply (Err r) = refusal_line r
 abbrev pub shape_reply : Result Shape Refusal → Bytes
 shape_reply (Ok Flat) = line (codes "flat")
 shape_reply (Ok Linear) = line (codes "linear")
+shape_reply (Ok Union) = line (codes "union")
 shape_reply (Err r) = refusal_line r
 
 -- what `watch` answers, at a number of changes

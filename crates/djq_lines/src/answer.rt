@@ -30,6 +30,8 @@ pub enum Refusal {
     InUse,
     /// 16: a comparison's variable is in no atom.
     Unbound,
+    /// 17: a union's member stands twice or is a union, or members' answers are of other types.
+    Member,
     /// 18: a batch is open, and the command isn't one for a batch; or none is, and it is.
     Misplaced,
 }
@@ -61,6 +63,8 @@ pub enum Shape {
     Flat,
     /// One in proportion to the rows, and none that knows no rows is promised.
     Linear,
+    /// That of each of its members: it is a union.
+    Union,
 }
 
 /// Which line ends a session against its will.

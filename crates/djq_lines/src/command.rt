@@ -1,4 +1,4 @@
-use djq_model::{Name, Query, Row, Types};
+use djq_model::{Name, Names, Query, Row, Types};
 
 /// A command, as a line says it.
 #[derive(Debug, Drop)]
@@ -28,6 +28,13 @@ pub enum Command {
     Query {
         /// The query.
         query: Query,
+    },
+    /// `union NAME QUERY QUERY ..`: the union of some queries is registered.
+    Union {
+        /// The union.
+        name: Name,
+        /// Its members, two at least.
+        members: Names,
     },
     /// `drop QUERY`: a query is given up.
     Drop {

@@ -9,6 +9,8 @@ pub enum Keyword {
     Del,
     /// `query`.
     Query,
+    /// `union`.
+    Union,
     /// `drop`.
     Drop,
     /// `open`.

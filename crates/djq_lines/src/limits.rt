@@ -12,8 +12,11 @@ pub const COLUMNS: usize = 16;
 /// The most relations.
 pub const RELATIONS: usize = 256;
 
-/// The most registered queries.
+/// The most registered queries and unions.
 pub const QUERIES: usize = 256;
+
+/// The most members of a union.
+pub const MEMBERS: usize = 8;
 
 /// The most atoms of a query.
 pub const ATOMS: usize = 32;

@@ -126,6 +126,7 @@ asked_later c d q n l h = record {
   one = h.one;
   fresh = h.fresh;
   head = h.head;
+  once = h.once;
 }
 
 -- the atom that an atom by number stands for

@@ -52,3 +52,5 @@ pub mod Batches
 pub mod Crowding
 pub mod InHead
 pub mod Standing
+pub mod InTree
+pub mod AtPlaces

@@ -35,6 +35,8 @@ use Rattle.djq_live.specs.Member.{
   HadCellsStand,
   AnswersHaveCells,
   CellsTellValues,
+  HeadTypesAre,
+  ShowableCellsStand,
 }
 use Rattle.djq_live.specs.Shown.{AreShownAs}
 use Rattle.djq_live.proofs.Asking.{shown_have, types_are}
@@ -61,6 +63,20 @@ cells_stand c l kept u is =
       of = ap (λ (types : List ColumnType). fits types (values_of c.texts l u))
           (types_are c l.query n l.patterns l.reducts over)
           ∙ shown_fits c.texts n.variables F u n.head (values_of c.texts l u) shows;
+      have = have.0;
+      are = have.1;
+    }
+
+pub head_are : HeadTypesAre
+head_are c l kept = sym (types_are c l.query l.numbered l.patterns l.reducts kept.over)
+
+pub showable_stand : ShowableCellsStand
+showable_stand texts l u h =
+    let n = l.numbered in
+    let F = l.reducts.tree.head in
+    let have = shown_have texts n.variables F u n.head (values_of texts l u) h.stands in
+    record {
+      of = shown_fits texts n.variables F u n.head (values_of texts l u) h.stands;
       have = have.0;
       are = have.1;
     }

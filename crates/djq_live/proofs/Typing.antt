@@ -62,10 +62,21 @@ use Rattle.djq_lines.specs.QueryFault.{
   reads_unknown,
   has_wrong_arity,
   has_misfit,
+  has_clash,
+  compares_unbound,
+  has_miscompared,
+  repeats_head,
   query_fault,
 }
 use Rattle.djq_lines.specs.declared.answer.Refusal.{Refusal}
-use Rattle.djq_lines.specs.declared.answer.Refusal.TheVariants.{NoRelation, Arity, WrongType}
+use Rattle.djq_lines.specs.declared.answer.Refusal.TheVariants.{
+  NoRelation,
+  Arity,
+  WrongType,
+  VariableType,
+  Unbound,
+  HeadRepeated,
+}
 use Rattle.djq_lines.specs.Variables.{Label, is_known, is_variable, stands_in, with_term, with_atom}
 use Rattle.djq_query.specs.declared.numbered.Variable.{Variable}
 use Rattle.djq_query.specs.declared.numbered.NumberedTerm.{NumberedTerm}
@@ -526,6 +537,17 @@ no_misfit rs q e =
     let b = peel (has_wrong_arity rs q) Arity _ a.1 in
     (peel (has_misfit rs q) WrongType _ b.1).0
 
+-- no variable stands in the head twice
+no_repeat : (rs : List Relation) (q : Query) → query_fault rs q ≡ None → repeats_head q ≡ false
+no_repeat rs q e =
+    let a = peel (reads_unknown rs q) NoRelation _ e in
+    let b = peel (has_wrong_arity rs q) Arity _ a.1 in
+    let d = peel (has_misfit rs q) WrongType _ b.1 in
+    let f = peel (has_clash rs q) VariableType _ d.1 in
+    let g = peel (compares_unbound q) Unbound _ f.1 in
+    let h = peel (has_miscompared rs q) WrongType _ g.1 in
+    (peel (repeats_head q) HeadRepeated _ h.1).0
+
 pub numbered_asked : NumberedIsAsked
 numbered_asked c q n catalog fault h have compared =
     let rs = c.relations in
@@ -548,4 +570,5 @@ numbered_asked c q n catalog fault h have compared =
       one = s.one;
       fresh = s.fresh;
       head = s.head;
+      once = no_repeat rs q fault;
     }

@@ -6,6 +6,7 @@ use Rattle.std.specs.Prelude.{
   ◌<◌,
   Bool,
   true,
+  false,
   List,
   [],
   ◌∷◌,
@@ -24,7 +25,7 @@ use Rattle.djq_model.specs.declared.query.Atom.{Atom}
 use Rattle.djq_model.specs.declared.query.Comparison.{Comparison}
 use Rattle.djq_model.specs.Data.{Bytes, Tuple}
 use Rattle.djq_model.specs.Typed.{is_of}
-use Rattle.djq_lines.specs.QueryFault.{query_fault, has_order}
+use Rattle.djq_lines.specs.QueryFault.{query_fault, has_order, repeats_head}
 use Rattle.djq_lines.specs.Variables.{variables_of}
 use Rattle.djq_query.specs.declared.numbered.Variable.{Variable}
 use Rattle.djq_query.specs.declared.numbered.NumberedTerm.{NumberedTerm}
@@ -101,7 +102,7 @@ AreComparisonsOf texts variables ms (k ∷ ks) [] = ⊥
 -- A query over numbers stands for a query over a catalog: its variables are those of its body in
 -- the order in which they first stand; atom by atom, each name has one number, each hole has one of
 -- its own, comparison by comparison it is of the number of its variable, and the head's numbers
--- have the head's names.
+-- have the head's names, of which none stands there twice.
 pub record IsAsked (c : Catalog) (q : Query) (n : Numbered) : Type 0 where
   pub catalog : IsCatalog c
   pub variables : labels n.variables ≡ variables_of q.atoms
@@ -111,6 +112,7 @@ pub record IsAsked (c : Catalog) (q : Query) (n : Numbered) : Type 0 where
       → number_of (labels n.variables) name ≡ x
   pub fresh : Rise 0 (holes_in q.atoms n.atoms)
   pub head : map (slice_get (labels n.variables)) n.head ≡ map (λ x. Some (Some x)) q.head
+  pub once : repeats_head q ≡ false
 
 -- constants have cells
 abbrev pub HasConstant : List Bytes → NumberedTerm → Type 0

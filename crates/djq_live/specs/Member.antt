@@ -1,6 +1,29 @@
 -- A query that is kept, as a member of a union: its answers are cells in the order of its head.
-use Rattle.std.specs.Prelude.{◌≡◌, ◌↔◌, ℕ, Bool, true, List, map}
-use Rattle.djq_model.specs.Data.{Tuple}
+use Rattle.std.specs.Prelude.{
+  ◌≡◌,
+  ◌↔◌,
+  ⊤,
+  ℕ,
+  ◌≤◌,
+  Bool,
+  true,
+  List,
+  [],
+  ◌∷◌,
+  ◌++◌,
+  length,
+  map,
+  All,
+  Option,
+  None,
+  Some,
+  IsSomeAnd,
+  option_to_list,
+  slice_index_or,
+}
+use Rattle.std.specs.List.{AllByRecursion}
+use Rattle.djq_model.specs.declared.relation.ColumnType.{ColumnType}
+use Rattle.djq_model.specs.Data.{Bytes, Tuple}
 use Rattle.djq_model.specs.Answer.{IsAnswer}
 use Rattle.djq_machine.specs.Store.{answer_types}
 use Rattle.djq_reduct.specs.Reducts.{Reducts}
@@ -12,12 +35,21 @@ use Rattle.djq_cursor.specs.Walk.{all_given}
 use Rattle.djq_cursor.specs.Given.{has_root, given, Fits}
 use Rattle.djq_rows.specs.Cells.{StandFor}
 use Rattle.djq_rows.specs.Catalog.{Catalog}
-use Rattle.djq_live.specs.Live.{Live, IsKept, IsKeptSomewhere, values_of}
+use Rattle.djq_live.specs.Asked.{column_of}
+use Rattle.djq_live.specs.Live.{Live, IsKept, IsKeptSomewhere, IsShowable, values_of}
 use Rattle.djq_live.specs.Order.{reading}
 
 -- the cells of a tuple of the tree, in the head's order
 abbrev pub in_head : Live → List ℕ → List ℕ
 in_head l u = map (reading (l.reducts).tree.head u) (l.numbered).head
+
+-- cells in the head's order, as a tuple of the tree
+abbrev pub in_tree : Live → List ℕ → List ℕ
+in_tree l t = map (reading (l.numbered).head t) (l.reducts).tree.head
+
+-- the types of the cells of its answers, in the head's order
+abbrev pub head_types : Live → List ColumnType
+head_types l = map (column_of (l.numbered).variables) (l.numbered).head
 
 -- all answers of reducts, in the order in which a cursor gives them
 unfoldable pub all_answers : Reducts → List (List ℕ)
@@ -64,3 +96,43 @@ CellsTellValues = (c : Catalog) (l m : Live)
     → answer_types c.relations l.query ≡ answer_types c.relations m.query
     → (t u : List ℕ) (v w : Tuple) → StandFor c.texts (answer_types c.relations l.query) t v
     → StandFor c.texts (answer_types c.relations m.query) u w → (t ≡ u) ↔ (v ≡ w)
+
+-- Of a query that is kept the types of the answers' cells are those of its answers.
+abbrev pub HeadTypesAre : Type 0
+HeadTypesAre = (c : Catalog) (l : Live) → IsKept c l
+    → head_types l ≡ answer_types c.relations l.query
+
+-- cells in the head's order can be shown, as a tuple of the tree, and show this tuple
+pub record IsShownInTree (texts : List Bytes) (l : Live) (t : List ℕ) (v : Tuple) : Type 0 where
+  pub showable : IsShowable texts l (in_tree l t)
+  pub shows : values_of texts l (in_tree l t) ≡ v
+
+-- Cells of these types that stand for a tuple show it, answer or not.
+abbrev pub CellsInTreeStand : Type 0
+CellsInTreeStand = (c : Catalog) (l : Live) → IsKept c l → (t : List ℕ) (v : Tuple)
+    → StandFor c.texts (head_types l) t v → IsShownInTree c.texts l t v
+
+-- The cells of what can be shown, in the head's order, stand for the values that it shows.
+abbrev pub ShowableCellsStand : Type 0
+ShowableCellsStand = (texts : List Bytes) (l : Live) (u : List ℕ) → IsShowable texts l u
+    → StandFor texts (head_types l) (in_head l u) (values_of texts l u)
+
+-- the query in a place, where there is one
+abbrev pub query_at : List (Option Live) → ℕ → Option Live
+query_at qs k = slice_index_or qs k None
+
+-- the queries in these places, in this order
+abbrev pub queries_at : List (Option Live) → List ℕ → List Live
+queries_at qs [] = []
+queries_at qs (k ∷ ks) = option_to_list (query_at qs k) ++ queries_at qs ks
+
+-- Each of these places has a query, and there are at most eight.
+pub record HaveQueries (qs : List (Option Live)) (ks : List ℕ) : Type 0 where
+  pub few : length ks ≤ 8
+  pub each : AllByRecursion (λ k. IsSomeAnd (query_at qs k) (λ l. ⊤)) ks
+
+-- Where the queries in places are kept over some catalog, these are.
+abbrev pub QueriesAreKept : Type 0
+QueriesAreKept = (qs : List (Option Live))
+    → ((k : ℕ) (l : Live) → query_at qs k ≡ Some l → IsKeptSomewhere l)
+    → (ks : List ℕ) → All IsKeptSomewhere (queries_at qs ks)

@@ -48,7 +48,8 @@ pub use laws::{
 pub use listing::Next;
 pub use live::LiveQuery;
 pub use member::{
-    answers_are_had, answers_have_cells, cells_in_head_stand, cells_tell_values, had_cells_stand,
+    QueriesAt, answers_are_had, answers_have_cells, cells_in_head_stand, cells_in_tree_stand,
+    cells_tell_values, had_cells_stand, head_types_are, queries_are_kept, showable_cells_stand,
 };
 pub use plan::{PlannedQuery, Unplanned, plan_query};
 pub use staying::{came_all_passes, came_passes, live_stays, went_passes};

@@ -164,10 +164,12 @@ impl LiveQuery {
         has_cells(&self.reducts, self.numbered.head(), &cells, listing)
     }
 
-    /// How many values an answer has.
+    /// How many values an answer has, which its cells have room for.
     pub fn width(&self) -> usize
-        ensures { result ≡ length self.now.query.head }
+        ensures width { result ≡ length self.now.query.head }
+        ensures few { IsKeptSomewhere self.now → result ≤ 16 }
     {
+        self.numbered.within();
         self.query.head.len()
     }
 

@@ -59,7 +59,7 @@ fn place_of(head: &[usize], variable: usize) -> usize
 }
 
 /// The cells of a head's variables in rising order.
-fn rising_cells(set: VarSet, head: &[usize], cells: &Cells) -> Answer
+pub(crate) fn rising_cells(set: VarSet, head: &[usize], cells: &Cells) -> Answer
     requires long { length cells.now ≡ length head.now }
     requires few { length set ≤ 16 }
     requires within { (x : ℕ) → member x set ≡ true → member x head.now ≡ true }

@@ -1,6 +1,10 @@
 //! A query as a member of a union: what it lists and is asked for are cells in its head's order.
-ghost use Rattle.std.specs.Prelude.{◌≡◌, ◌≤◌, ℕ, true, length, map};
+ghost use Rattle.std.specs.Prelude.{◌≡◌, ◌≤◌, ⊤, ℕ, true, nat_lt, length, map, Some, IsSomeAnd};
+ghost use Rattle.std.specs.List.{list_all};
 ghost use Rattle.djq_hyper.specs.Hypergraph.{member};
+ghost use Rattle.djq_machine.specs.Union.{same_type, same_types};
+ghost use Rattle.djq_live.specs.Asked.{column_of};
+ghost use Rattle.djq_live.specs.Live.{IsKeptSomewhere};
 ghost use Rattle.djq_live.specs.Order.{reading};
 ghost use Rattle.djq_live.specs.Member.{
   CellsInHeadStand,
@@ -8,14 +12,24 @@ ghost use Rattle.djq_live.specs.Member.{
   HadCellsStand,
   AnswersHaveCells,
   CellsTellValues,
+  QueriesAreKept,
+  HeadTypesAre,
+  CellsInTreeStand,
+  ShowableCellsStand,
+  head_types,
+  in_head,
+  in_tree,
+  query_at,
 };
 
 use crate::live::LiveQuery;
-use crate::lookup::has_cells;
+use crate::lookup::{column_at, has_cells, rising_cells};
 use djq_cursor::Cursor;
+use djq_model::ColumnType;
+use djq_query::Variable;
 use djq_reduct::{Answer, Cells, Reducts};
 use djq_steps::Tally;
-use djq_union::Listing;
+use djq_union::{Listing, Members};
 use std::sync::ledger::Ledger;
 
 /// Writes an answer of the tree as cells in a head's order.
@@ -28,6 +42,79 @@ fn put_in_order(reducts: &Reducts, head: &[usize], answer: &Answer, cells: &mut 
     cells.clear();
     for variable in head {
         cells.push(answer.as_slice()[reducts.column(*variable)]);
+    }
+}
+
+// Whether two columns are of one type.
+fn same_type(column: ColumnType, other: ColumnType) -> bool
+    ensures { result ≡ same_type column other }
+{
+    match (column, other) {
+        (ColumnType::Int, ColumnType::Int) => true,
+        (ColumnType::Text, ColumnType::Text) => true,
+        _ => false,
+    }
+}
+
+// Whether the variables of two heads are of the same types, one by one.
+fn same_columns(
+    variables: &[Variable],
+    head: &[usize],
+    others: &[Variable],
+    other_head: &[usize],
+) -> bool
+    requires within { list_all (λ x. nat_lt x (length variables.now)) head.now ≡ true }
+    requires others { list_all (λ x. nat_lt x (length others.now)) other_head.now ≡ true }
+    ensures { result ≡ same_types (map (column_of variables.now) head.now)
+        (map (column_of others.now) other_head.now) }
+{
+    if head.len() != other_head.len() {
+        return false;
+    }
+    for at in 0..head.len() {
+        if !same_type(
+            column_at(variables, head[at]),
+            column_at(others, other_head[at]),
+        ) {
+            return false;
+        }
+    }
+    true
+}
+
+impl LiveQuery {
+    /// Writes an answer of the tree, or one that went, as cells in the head's order.
+    pub fn put_in_head(&self, answer: &Answer, cells: &mut Cells)
+        requires kept { IsKeptSomewhere self.now }
+        requires wide { length answer.now ≡ length self.now.reducts.tree.head }
+        ensures { cells.new ≡ in_head self.now answer.now }
+    {
+        self.numbered.within();
+        put_in_order(&self.reducts, self.numbered.head(), answer, cells);
+    }
+
+    /// Writes cells in the head's order as a tuple of the tree.
+    pub fn put_in_tree(&self, cells: &Cells, answer: &mut Answer)
+        requires kept { IsKeptSomewhere self.now }
+        requires long { length cells.now ≡ length self.now.query.head }
+        ensures { answer.new ≡ in_tree self.now cells.now }
+    {
+        self.reducts.laws();
+        *answer = rising_cells(self.reducts.tree().head(), self.numbered.head(), cells);
+    }
+
+    /// Whether the answers of another query have cells of the same types, as the members of a union do.
+    pub fn is_alike(&self, other: &LiveQuery) -> bool
+        ensures { result ≡ same_types (head_types self.now) (head_types other.now) }
+    {
+        self.numbered.within();
+        other.numbered.within();
+        same_columns(
+            self.numbered.variables(),
+            self.numbered.head(),
+            other.numbered.variables(),
+            other.numbered.head(),
+        )
     }
 }
 
@@ -82,6 +169,44 @@ impl Listing for LiveQuery {
     }
 }
 
+/// The queries in some places, at most eight, as the members of a union, in this order.
+#[derive(Clone, Copy)]
+pub struct QueriesAt<'a> {
+    /// What is in each place.
+    pub queries: &'a [Option<LiveQuery>],
+    /// Places that have a query.
+    pub places: &'a [usize],
+}
+
+/// The query in a place.
+fn lent(queries: &[Option<LiveQuery>], place: usize) -> &LiveQuery
+    requires { IsSomeAnd (query_at queries.now place) (λ l. ⊤) }
+    ensures { query_at queries.now place ≡ Some result.now }
+{
+    match &queries[place] {
+        Some(query) => query,
+        None => unreachable!(),
+    }
+}
+
+impl<'a> Members for QueriesAt<'a> {
+    ghost use Rattle.djq_live.specs.Member.{queries_at, HaveQueries};
+
+    type Member = LiveQuery;
+
+    ghost members = { λ g. queries_at g.queries.now g.places.now };
+
+    ghost sound = { λ g. HaveQueries g.queries.now g.places.now };
+
+    fn count(&self) -> usize {
+        self.places.len()
+    }
+
+    fn member(&self, i: usize) -> &LiveQuery {
+        lent(self.queries, self.places[i])
+    }
+}
+
 /// The cells of an answer of the tree, in the head's order, stand for the values that it shows.
 pub fn cells_in_head_stand()
     ensures { CellsInHeadStand }
@@ -106,4 +231,24 @@ pub fn answers_have_cells()
 /// values, and different ones for different ones.
 pub fn cells_tell_values()
     ensures { CellsTellValues }
+{}
+
+/// Where the queries in places are kept over some catalog, so are those of a union.
+pub fn queries_are_kept()
+    ensures { QueriesAreKept }
+{}
+
+/// Of a query that is kept the types of the answers' cells are those of its answers.
+pub fn head_types_are()
+    ensures { HeadTypesAre }
+{}
+
+/// Cells of these types that stand for a tuple show it as a tuple of the tree, answer or not.
+pub fn cells_in_tree_stand()
+    ensures { CellsInTreeStand }
+{}
+
+/// The cells of what can be shown, in the head's order, stand for the values that it shows.
+pub fn showable_cells_stand()
+    ensures { ShowableCellsStand }
 {}

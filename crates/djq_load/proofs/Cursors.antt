@@ -1,5 +1,33 @@
 -- What the lines that open and read a cursor make of it, and what they are answered.
-use Rattle.std.specs.Prelude.{List, [], ◌∷◌, ◌++◌, ◌≡◌, ◌<◌, ◌≤◌, ◌⊎◌, Bool, true, false, cond, Option, None, Some, is_some, IsSome, IsSomeAnd, MatchOption, option_map, Result, Ok, Err, length, codes, slice_index, ⊤}
+use Rattle.std.specs.Prelude.{
+  List,
+  [],
+  ◌∷◌,
+  ◌++◌,
+  ◌≡◌,
+  ◌<◌,
+  ◌≤◌,
+  ◌⊎◌,
+  Bool,
+  true,
+  false,
+  cond,
+  Option,
+  None,
+  Some,
+  is_some,
+  IsSome,
+  IsSomeAnd,
+  MatchOption,
+  option_map,
+  Result,
+  Ok,
+  Err,
+  length,
+  codes,
+  slice_index,
+  ⊤,
+}
 use Rattle.std.specs.List.{list_all}
 use Rattle.std.specs.Str.{IsAscii, is_utf8}
 use Rattle.std.proofs.Common.{refl, sym, ap, ◌∙◌, subst, inl, inr, arith, leb}
@@ -11,26 +39,77 @@ use Rattle.djq_model.specs.Listed.{Listed, AnswersOf, listed_of}
 use Rattle.djq_lines.specs.declared.answer.EndCause.{EndCause}
 use Rattle.djq_lines.specs.declared.answer.EndCause.TheVariants.{Memory}
 use Rattle.djq_lines.specs.declared.answer.Refusal.{Refusal}
-use Rattle.djq_lines.specs.declared.answer.Refusal.TheVariants.{Syntax, Taken, NoRelation, NoQuery, NoCursor, Arity, WrongType, HeadUnbound, HeadRepeated, VariableType, Unbound, Limit, NoMemory, InUse, Misplaced}
+use Rattle.djq_lines.specs.declared.answer.Refusal.TheVariants.{
+  Syntax,
+  Taken,
+  NoRelation,
+  NoQuery,
+  NoCursor,
+  Arity,
+  WrongType,
+  HeadUnbound,
+  HeadRepeated,
+  VariableType,
+  Unbound,
+  Limit,
+  NoMemory,
+  InUse,
+  Member,
+  Misplaced,
+}
 use Rattle.djq_lines.specs.declared.held.HeldRow.{HeldRow}
 use Rattle.djq_lines.specs.declared.command.Command.{Command}
 use Rattle.djq_lines.specs.declared.command.Command.TheVariants.{Open, Next}
 use Rattle.djq_lines.specs.Line.{Front, dry, too_long, a_line, front_of, is_blank}
-use Rattle.djq_lines.specs.Grammar.{Reading, says as says_command, reading_of, reading_in, command_of, command_in, takes_memory_to_read}
+use Rattle.djq_lines.specs.Grammar.{
+  Reading,
+  says as says_command,
+  reading_of,
+  reading_in,
+  command_of,
+  command_in,
+  takes_memory_to_read,
+}
 use Rattle.djq_lines.specs.Conditions.{Answers}
 use Rattle.djq_lines.specs.Reply.{refusal_line, end_memory, listing_lines, text_of, ok_reply}
 use Rattle.djq_value.specs.Token.{tokens}
-use Rattle.djq_machine.specs.State.{Store, State, Session, Cursor, open_at, session_of, with_session, cursor_of, with_position, ended_by}
+use Rattle.djq_machine.specs.State.{
+  Store,
+  State,
+  Session,
+  Cursor,
+  open_at,
+  session_of,
+  with_session,
+  cursor_of,
+  with_position,
+  ended_by,
+}
 use Rattle.djq_machine.specs.Store.{IsLeft}
 use Rattle.djq_machine.specs.Effect.{Effect, nothing, says, EndsWith, RefusedStep}
-use Rattle.djq_machine.specs.Command.{open_refusal, with_cursor, OpensTo, NextStep, NextCutStep, NextStepAt, CommandStep, is_misplaced}
+use Rattle.djq_machine.specs.Command.{
+  open_refusal,
+  with_cursor,
+  OpensTo,
+  NextStep,
+  NextCutStep,
+  NextStepAt,
+  CommandStep,
+  is_misplaced,
+}
 use Rattle.djq_machine.specs.LineStep.{blank, run, FrontStep, ReadStep, behind_line}
 use Rattle.djq_machine.specs.Step.{Event, fed, stepped, took, FedStep, TookStep, Step}
 use Rattle.djq_machine.specs.Run.{to_session, pending_of, pending_in}
 use Rattle.djq_machine.specs.Call.{IsOpen, Makes, RanStep, Counts, cause_of, cause_in, held_of, held_in}
 use Rattle.djq_laws.specs.Watched.{batch_in}
 use Rattle.djq_laws.proofs.Finding.{some_and, find_changed}
-use Rattle.djq_laws.proofs.Queueing.{gaining, session_changed, stepped as session_stepped, stepped_cause, stepped_pending}
+use Rattle.djq_laws.proofs.Queueing.{
+  gaining,
+  session_changed,
+  stepped as session_stepped,
+  stepped_cause,
+  stepped_pending,
+}
 use Rattle.djq_laws.proofs.Touching.{says_to, is_stepped}
 use Rattle.djq_load.specs.Lines.{IsIdle, LineRuns, TakesAll, cursors_in, cursor_at, Stands}
 use Rattle.djq_load.specs.Totals.{HasLeft, open_line, next_line}
@@ -354,6 +433,7 @@ first_letter Unbound = refl
 first_letter Limit = refl
 first_letter NoMemory = refl
 first_letter InUse = refl
+first_letter Member = refl
 first_letter Misplaced = refl
 
 not_refused : (r : Refusal) → refusal_line r ≡ codes "ok open\n" → ⊥

@@ -1,5 +1,35 @@
 -- What a step leaves of it that no query but the load's is registered.
-use Rattle.std.specs.Prelude.{ℕ, suc, List, [], ◌∷◌, ◌++◌, ◌≡◌, ◌==◌, ◌≤◌, ◌<◌, ◌⊎◌, ◌&&◌, Bool, true, false, cond, not, nat_le, Option, None, Some, is_none, MatchOption, Result, Ok, Err, All, length, ⊤}
+use Rattle.std.specs.Prelude.{
+  ℕ,
+  suc,
+  List,
+  [],
+  ◌∷◌,
+  ◌++◌,
+  ◌≡◌,
+  ◌==◌,
+  ◌≤◌,
+  ◌<◌,
+  ◌⊎◌,
+  ◌&&◌,
+  Bool,
+  true,
+  false,
+  cond,
+  not,
+  nat_le,
+  Option,
+  None,
+  Some,
+  is_none,
+  MatchOption,
+  Result,
+  Ok,
+  Err,
+  All,
+  length,
+  ⊤,
+}
 use Rattle.std.proofs.Common.{refl, sym, ap, ◌∙◌, subst, inl, inr, length-append, arith}
 use Rattle.std.proofs.lemmas.Bool.{leb-false}
 use Rattle.std.proofs.lemmas.List.{length-map}
@@ -9,7 +39,22 @@ use Rattle.djq_model.specs.declared.relation.ColumnType.{ColumnType}
 use Rattle.djq_model.specs.declared.relation.Relation.{Relation}
 use Rattle.djq_model.specs.declared.relation.CountedRow.{CountedRow}
 use Rattle.djq_model.specs.declared.query.Query.{Query}
-use Rattle.djq_model.specs.Data.{Bytes, Tuple, bytes_eq, tuple_eq, relation_of, rows_of, counted_in, counted_of, has_row, change_first, drop_first, with_row, with_copies, without_copies}
+use Rattle.djq_model.specs.Data.{
+  Bytes,
+  Tuple,
+  bytes_eq,
+  tuple_eq,
+  relation_of,
+  rows_of,
+  counted_in,
+  counted_of,
+  has_row,
+  change_first,
+  drop_first,
+  with_row,
+  with_copies,
+  without_copies,
+}
 use Rattle.djq_model.specs.Listed.{Listed, a_query, listed_name}
 use Rattle.djq_model.specs.Typed.{fits}
 use Rattle.djq_lines.specs.Columns.{types_of}
@@ -26,7 +71,27 @@ use Rattle.djq_lines.specs.declared.rest.QueryOutcome.TheVariants.{Registered, C
 use Rattle.djq_lines.specs.declared.limits.TheConstants.{ROWS, COPIES, LAST_SEQ}
 use Rattle.djq_lines.specs.declared.command.Command.{Command}
 use Rattle.djq_lines.specs.declared.held.HeldRow.{HeldRow}
-use Rattle.djq_lines.specs.declared.command.Command.TheVariants.{Rel, Add, Del, Query as Register, Drop, Open, Next, Close, Has, Watch, Unwatch, Explain, Shape, Batch, Done, Abandon, Quit, Stop}
+use Rattle.djq_lines.specs.declared.command.Command.TheVariants.{
+  Rel,
+  Add,
+  Del,
+  Query as Register,
+  Union,
+  Drop,
+  Open,
+  Next,
+  Close,
+  Has,
+  Watch,
+  Unwatch,
+  Explain,
+  Shape,
+  Batch,
+  Done,
+  Abandon,
+  Quit,
+  Stop,
+}
 use Rattle.djq_lines.specs.Conditions.{first_of, OutOfMemoryWhere}
 use Rattle.djq_lines.specs.Grammar.{says as says_command, reading_of}
 use Rattle.djq_lines.specs.Reply.{end_memory}
@@ -34,14 +99,77 @@ use Rattle.djq_lines.specs.Variables.{constants_of}
 use Rattle.djq_model.specs.Known.{texts_in}
 use Rattle.djq_machine.specs.State.{Store, State, Session, session_of, with_session}
 use Rattle.djq_machine.specs.Effect.{Effect, nothing, EndsWith}
-use Rattle.djq_machine.specs.Store.{with_rows, copies_of, with_copies_of, MakesRelation, RegistersQuery, DropsQuery, AddsRow, AddsAs, DeletesRow, DeletesAs, RefusedByTexts, RefusedLate, RegistersAs, rel_refusal, add_refusal, delete_refusal, query_refusal, drop_refusal}
+use Rattle.djq_machine.specs.Store.{
+  with_rows,
+  copies_of,
+  with_copies_of,
+  MakesRelation,
+  RegistersQuery,
+  DropsQuery,
+  AddsRow,
+  AddsAs,
+  DeletesRow,
+  DeletesAs,
+  RefusedByTexts,
+  RefusedLate,
+  RegistersAs,
+  rel_refusal,
+  add_refusal,
+  delete_refusal,
+  query_refusal,
+  drop_refusal,
+}
 use Rattle.djq_machine.specs.Command.{AddStep, BecomesWhere, CommandStep, HoldStep, QueryStep, QueryCutStep, with_batch}
 use Rattle.djq_machine.specs.LineStep.{LineOutcome, long, blank, slow, no_room, run, FrontStep, behind_line}
-use Rattle.djq_machine.specs.Step.{Event, opened, fed, stepped, took, ended, closed, FedStep, TookStep, EndedStep, Acts, SameRelations, with_relations, Step}
-use Rattle.djq_laws.specs.Form.{Form, asking, storing, turning, changing, ending, form_of, Replied, is_whole, is_cut, LearnsTexts, DoesTurn, is_turned, is_refused, Does, Turn}
+use Rattle.djq_machine.specs.Step.{
+  Event,
+  opened,
+  fed,
+  stepped,
+  took,
+  ended,
+  closed,
+  FedStep,
+  TookStep,
+  EndedStep,
+  Acts,
+  SameRelations,
+  with_relations,
+  Step,
+}
+use Rattle.djq_laws.specs.Form.{
+  Form,
+  asking,
+  storing,
+  turning,
+  changing,
+  ending,
+  form_of,
+  Replied,
+  is_whole,
+  is_cut,
+  LearnsTexts,
+  DoesTurn,
+  is_turned,
+  is_refused,
+  Does,
+  Turn,
+}
 use Rattle.djq_laws.proofs.Changing.{all_changed, all_dropped}
 use Rattle.djq_laws.proofs.Finding.{some_and}
-use Rattle.djq_laws.proofs.Forms.{done_of, none_holds, refused_learned, late_learned, stays_learned, turned_one, command_does, Reads, turned_down, carried_out, line_reads}
+use Rattle.djq_laws.proofs.Forms.{
+  done_of,
+  none_holds,
+  refused_learned,
+  late_learned,
+  stays_learned,
+  turned_one,
+  command_does,
+  Reads,
+  turned_down,
+  carried_out,
+  line_reads,
+}
 use Rattle.djq_laws.proofs.Watching.{change_store, queued_store}
 use Rattle.djq_load.specs.Joins.{join, IsWithin, IsJoin, Joins}
 
@@ -207,9 +335,10 @@ form_same (turning t) old s x e new apart h = turn_same old s x t new h.1
 form_same (changing c) old s x e new apart h = absurd cc
 form_same ending old s x e new apart h = ap (λ (st : State). st.store) h.1.state
 
--- A command registers no query but the load's, and is no `done`.
+-- A command registers no query but the load's and no union, and is no `done`.
 abbrev pub IsHarmless : Command → Type 0
 IsHarmless (Register q) = q ≡ join
+IsHarmless (Union name members) = ⊥
 IsHarmless Done = ⊥
 IsHarmless c = Unit {0}
 
@@ -240,35 +369,37 @@ add_command_joins old s (Some held) l name row e new h j =
 
 -- a command that isn't of the store
 apart_joins : (old : State) (s : ℕ) (x : Session) (l : Bytes) (c : Command) (e : Effect) (new : State)
-    → is_apart (form_of x.batch l c) ≡ true → CommandStep old s x l c e new → Joins old.store → Joins new.store
-apart_joins old s x l c e new apart h j =
+    → reading_of l ≡ says_command c → is_apart (form_of x.batch l c) ≡ true → CommandStep old s x l c e new
+    → Joins old.store → Joins new.store
+apart_joins old s x l c e new says apart h j =
     same_joins old.store new.store
-    (form_same (form_of x.batch l c) old s x e new apart (command_does old s x l c e new h)) j
+    (form_same (form_of x.batch l c) old s x e new apart (command_does old s x l c e new says h)) j
 
 command_joins : (old : State) (s : ℕ) (x : Session) (l : Bytes) (c : Command) (e : Effect) (new : State)
-    → IsHarmless c → CommandStep old s x l c e new → Joins old.store → Joins new.store
+    → reading_of l ≡ says_command c → IsHarmless c → CommandStep old s x l c e new → Joins old.store → Joins new.store
 unfolding is_apart
-command_joins old s x l (Rel name types) e new fine h j =
+command_joins old s x l (Rel name types) e new says fine h j =
     store_joins old new h.store h.state (rel_joins old.store name types h.result h.store h.done j)
-command_joins old s x l (Register q) e new fine h j = asked_joins old s q e new fine h j
-command_joins old s x l (Drop q) e new fine h j =
+command_joins old s x l (Register q) e new says fine h j = asked_joins old s q e new fine h j
+command_joins old s x l (Union name members) e new says fine h j = absurd fine
+command_joins old s x l (Drop q) e new says fine h j =
     store_joins old new h.store h.state (drop_joins old.store _ q h.result h.store h.done j)
-command_joins old s x l (Add name row) e new fine h j = add_command_joins old s x.batch l name row e new h j
-command_joins old s x l (Del name row) e new fine h j =
+command_joins old s x l (Add name row) e new says fine h j = add_command_joins old s x.batch l name row e new h j
+command_joins old s x l (Del name row) e new says fine h j =
     same_joins h.store new.store (change_store old s _ h.store _ e new h.change) (delete_joins old.store name row h.result h.store h.done j)
-command_joins old s x l (Open c q) e new fine h j = apart_joins old s x l (Open c q) e new refl h j
-command_joins old s x l (Next c n) e new fine h j = apart_joins old s x l (Next c n) e new refl h j
-command_joins old s x l (Close c) e new fine h j = apart_joins old s x l (Close c) e new refl h j
-command_joins old s x l (Has q row) e new fine h j = apart_joins old s x l (Has q row) e new refl h j
-command_joins old s x l (Watch q) e new fine h j = apart_joins old s x l (Watch q) e new refl h j
-command_joins old s x l (Unwatch q) e new fine h j = apart_joins old s x l (Unwatch q) e new refl h j
-command_joins old s x l (Explain q) e new fine h j = apart_joins old s x l (Explain q) e new refl h j
-command_joins old s x l (Shape q) e new fine h j = apart_joins old s x l (Shape q) e new refl h j
-command_joins old s x l Batch e new fine h j = apart_joins old s x l Batch e new refl h j
-command_joins old s x l Done e new fine h j = absurd fine
-command_joins old s x l Abandon e new fine h j = apart_joins old s x l Abandon e new refl h j
-command_joins old s x l Quit e new fine h j = apart_joins old s x l Quit e new refl h j
-command_joins old s x l Stop e new fine h j = apart_joins old s x l Stop e new refl h j
+command_joins old s x l (Open c q) e new says fine h j = apart_joins old s x l (Open c q) e new says refl h j
+command_joins old s x l (Next c n) e new says fine h j = apart_joins old s x l (Next c n) e new says refl h j
+command_joins old s x l (Close c) e new says fine h j = apart_joins old s x l (Close c) e new says refl h j
+command_joins old s x l (Has q row) e new says fine h j = apart_joins old s x l (Has q row) e new says refl h j
+command_joins old s x l (Watch q) e new says fine h j = apart_joins old s x l (Watch q) e new says refl h j
+command_joins old s x l (Unwatch q) e new says fine h j = apart_joins old s x l (Unwatch q) e new says refl h j
+command_joins old s x l (Explain q) e new says fine h j = apart_joins old s x l (Explain q) e new says refl h j
+command_joins old s x l (Shape q) e new says fine h j = apart_joins old s x l (Shape q) e new says refl h j
+command_joins old s x l Batch e new says fine h j = apart_joins old s x l Batch e new says refl h j
+command_joins old s x l Done e new says fine h j = absurd fine
+command_joins old s x l Abandon e new says fine h j = apart_joins old s x l Abandon e new says refl h j
+command_joins old s x l Quit e new says fine h j = apart_joins old s x l Quit e new says refl h j
+command_joins old s x l Stop e new says fine h j = apart_joins old s x l Stop e new says refl h j
 
 -- A line.
 abbrev pub LeavesJoin : Bytes → Type 0
@@ -278,7 +409,7 @@ read_joins : (old : State) (s : ℕ) (x : Session) (l : Bytes) (e : Effect) (new
     → Reads old s x l (reading_of l) e new → Joins old.store → Joins new.store
 read_joins old s x l e new fine (turned_down why may h) j =
     same_joins old.store new.store (ap (λ (st : State). st.store) h.1) j
-read_joins old s x l e new fine (carried_out c is h) j = command_joins old s x l c e new (fine c is) h j
+read_joins old s x l e new fine (carried_out c is h) j = command_joins old s x l c e new is (fine c is) h j
 
 abbrev pub IsFine : Event → Type 0
 IsFine (stepped s (run l)) = LeavesJoin l

@@ -37,7 +37,7 @@ use Rattle.std.specs.List.{list_any}
 use Rattle.djq_model.specs.declared.query.Query.{Query}
 use Rattle.djq_model.specs.Data.{Bytes, Tuple, bytes_eq, drop_first}
 use Rattle.djq_model.specs.Answer.{AreDifferent}
-use Rattle.djq_model.specs.Listed.{Listed, a_query, AnswersOf, listed_of}
+use Rattle.djq_model.specs.Listed.{Listed, a_query, a_union, AnswersOf, listed_of}
 use Rattle.djq_lines.specs.declared.limits.TheConstants.{CURSORS, REPLY_BYTES}
 use Rattle.djq_lines.specs.declared.answer.Refusal.{Refusal}
 use Rattle.djq_lines.specs.declared.answer.Refusal.TheVariants.{Taken, NoQuery, NoCursor, Limit}
@@ -57,6 +57,7 @@ use Rattle.djq_lines.specs.declared.command.Command.TheVariants.{
   Add,
   Del,
   Query as Register,
+  Union,
   Drop,
   Open,
   Next,
@@ -83,6 +84,8 @@ use Rattle.djq_lines.specs.Reply.{
   add_reply,
   delete_reply,
   query_reply,
+  union_reply,
+  member_line,
   has_reply,
   shape_reply,
   watch_reply,
@@ -123,6 +126,7 @@ use Rattle.djq_machine.specs.Store.{
   IsLeft,
   answer_steps,
 }
+use Rattle.djq_machine.specs.Union.{RegistersUnion}
 use Rattle.djq_machine.specs.Changes.{row_in, row_out, add_outcome, delete_outcome}
 use Rattle.djq_machine.specs.Watch.{is_watching, ChangeStep}
 use Rattle.djq_machine.specs.Batch.{hold_refusal, AddsBatch, batch_outcome}
@@ -175,6 +179,15 @@ pub record QueryCutStep (old : State) (s : ℕ) (q : Query) (e : Effect) (new : 
   pub above : REPLY_BYTES < length (query_reply result)
   pub ends : EndsAnswering end_memory Memory (is_registration result) (record old { store = store }) s
       e new
+
+-- `union`: a union of queries is registered.
+pub record UnionStep (old : State) (s : ℕ) (name : Bytes) (members : List Bytes) (e : Effect)
+    (new : State) : Type 0 where
+  pub result : Result ℕ Refusal
+  pub store : Store
+  pub done : RegistersUnion old.store name members result store
+  pub effect : e ≡ answers s (union_reply result) (is_done result)
+  pub state : new ≡ record old { store = store }
 
 -- whether a session uses a query: a cursor of it, stale or not, is over the query, or it watches
 -- the query
@@ -341,9 +354,14 @@ pub record ShapeStep (old : State) (s : ℕ) (q : Bytes) (e : Effect) (new : Sta
   pub effect : e ≡ says s (shape_reply result)
   pub state : new ≡ old
 
--- `explain`, by what is registered: a query is explained by its tree.
+-- The lines that explain a union: one for each member, in its order, and the end.
+abbrev pub union_lines : List Query → List Bytes
+union_lines qs = map (λ q. member_line q.name) qs ++ line (codes "end") ∷ []
+
+-- `explain`, by what is registered: a query is explained by its tree, a union by its members.
 abbrev pub ExplainStepOf : State → ℕ → Listed → Effect → State → Type 0
 ExplainStepOf old s (a_query q) e new = ExplainStep old s q e new
+ExplainStepOf old s (a_union name qs) e new = TellsLines old s (union_lines qs) e new
 
 -- a session that has a batch open, which holds these rows
 abbrev pub with_batch : List HeldRow → Session → Session
@@ -404,6 +422,7 @@ CommandStep old s x l (Add name row) e new = MatchOption x.batch
     (λ held. HoldStep old s held l name row e new)
 CommandStep old s x l (Del name row) e new = DeleteStep old s name row e new
 CommandStep old s x l (Register q) e new = QueryStep old s q e new ⊎ QueryCutStep old s q e new
+CommandStep old s x l (Union name members) e new = UnionStep old s name members e new
 CommandStep old s x l (Open c q) e new = OpenStep old s x c q e new
 CommandStep old s x l (Next c count) e new = MatchOption (cursor_of x.cursors c)
     (RefusedStep old s NoCursor e new)

@@ -20,7 +20,7 @@ abbrev pub kept_where : Bool → Keeping
 kept_where true = the_line
 kept_where false = no_line
 
--- The lines of `rel`, `add` and `drop` are kept wherever they aren't refused; of `add` also where it
+-- The lines of `rel`, `add`, `union` and `drop` are kept wherever they aren't refused; of `add` also where it
 -- makes a further copy.
 abbrev pub is_done : {A : Type 0} → Result A Refusal → Bool
 is_done (Ok a) = true

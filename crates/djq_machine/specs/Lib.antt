@@ -1,6 +1,7 @@
 pub mod State
 pub mod Conditions
 pub mod Store
+pub mod Union
 pub mod Stale
 pub mod Changes
 pub mod Keeping

@@ -1,5 +1,24 @@
 -- What loading lines that were kept does to a store in which no session is open.
-use Rattle.std.specs.Prelude.{ℕ, List, [], ◌∷◌, ◌++◌, ◌≡◌, ◌⊎◌, Bool, true, false, Option, None, Some, Result, Ok, Err, if◌then◌else◌, ⊤}
+use Rattle.std.specs.Prelude.{
+  ℕ,
+  List,
+  [],
+  ◌∷◌,
+  ◌++◌,
+  ◌≡◌,
+  ◌⊎◌,
+  Bool,
+  true,
+  false,
+  Option,
+  None,
+  Some,
+  Result,
+  Ok,
+  Err,
+  if◌then◌else◌,
+  ⊤,
+}
 use Rattle.djq_model.specs.declared.relation.Relation.{Relation}
 use Rattle.djq_model.specs.Data.{Bytes, Tuple}
 use Rattle.djq_lines.specs.declared.answer.Refusal.{Refusal}
@@ -8,14 +27,32 @@ use Rattle.djq_lines.specs.declared.answer.AddOutcome.{AddOutcome}
 use Rattle.djq_lines.specs.declared.answer.DeleteOutcome.{DeleteOutcome}
 use Rattle.djq_lines.specs.declared.rest.QueryOutcome.{QueryOutcome}
 use Rattle.djq_lines.specs.declared.command.Command.{Command}
-use Rattle.djq_lines.specs.declared.command.Command.TheVariants.{Rel, Add, Del, Query as Register, Drop, Batch, Done, Abandon}
-use Rattle.djq_lines.specs.Grammar.{Reading, outside, past_limit, says as says_command, reading_of, takes_memory_to_read}
+use Rattle.djq_lines.specs.declared.command.Command.TheVariants.{
+  Rel,
+  Add,
+  Del,
+  Query as Register,
+  Union,
+  Drop,
+  Batch,
+  Done,
+  Abandon,
+}
+use Rattle.djq_lines.specs.Grammar.{
+  Reading,
+  outside,
+  past_limit,
+  says as says_command,
+  reading_of,
+  takes_memory_to_read,
+}
 use Rattle.djq_machine.specs.declared.machine.Loaded.{Loaded}
 use Rattle.djq_machine.specs.declared.machine.Loaded.TheVariants.{Ran as ran, Refused as refused, NoMem as no_memory}
 use Rattle.djq_lines.specs.declared.held.HeldRow.{HeldRow}
 use Rattle.djq_machine.specs.State.{Store}
 use Rattle.djq_machine.specs.Conditions.{Answers, OutOfMemoryWhere}
 use Rattle.djq_machine.specs.Store.{MakesRelation, AddsRow, DeletesRow, RegistersQuery, DropsQuery}
+use Rattle.djq_machine.specs.Union.{RegistersUnion}
 use Rattle.djq_machine.specs.Batch.{hold_refusal, AddsBatch}
 use Rattle.djq_machine.specs.Command.{is_misplaced}
 use Rattle.djq_machine.specs.Keeping.{is_done, is_removal, is_registration}
@@ -52,6 +89,8 @@ StoreLoads old (Del name row) how new = (r : Result DeleteOutcome Refusal)
     × DeletesRow old name row r new × (how ≡ loaded_by is_removal r)
 StoreLoads old (Register q) how new = (r : Result QueryOutcome Refusal)
     × RegistersQuery old q r new × (how ≡ loaded_by is_registration r)
+StoreLoads old (Union name members) how new = (r : Result ℕ Refusal)
+    × RegistersUnion old name members r new × (how ≡ loaded_by is_done r)
 StoreLoads old (Drop q) how new = (r : Result ⊤ Refusal)
     × DropsQuery old false q r new × (how ≡ loaded_by is_done r)
 StoreLoads old _ how new = (how ≡ refused) × (new ≡ old)

@@ -3,16 +3,17 @@ use Rattle.std.specs.Prelude.{ℕ, List, Bool, Option, None, Some, if◌then◌e
 use Rattle.std.specs.List.{list_any}
 use Rattle.djq_model.specs.declared.query.Query.{Query}
 use Rattle.djq_model.specs.Data.{Bytes, bytes_eq}
-use Rattle.djq_model.specs.Listed.{Listed, a_query, listed_of}
+use Rattle.djq_model.specs.Listed.{Listed, a_query, a_union, listed_of}
 use Rattle.djq_machine.specs.State.{Position, open_at, stale, Cursor, Session}
 
 -- whether a query reads a relation
 abbrev pub reads : Query → Bytes → Bool
 reads q relation = list_any (λ a. bytes_eq a.relation relation) q.atoms
 
--- whether what is registered does
+-- whether what is registered does: a union reads what its members read
 abbrev pub listed_reads : Listed → Bytes → Bool
 listed_reads (a_query q) relation = reads q relation
+listed_reads (a_union name qs) relation = list_any (λ q. reads q relation) qs
 
 -- An open cursor that a relation outdates becomes stale by its change; a stale one keeps the change that made it so.
 abbrev pub outdated : Option Bytes → ℕ → Position → Position

@@ -8,10 +8,12 @@ use Rattle.std.specs.Prelude.{
   ◌≡◌,
   ◌+◌,
   ◌*◌,
+  ◌-◌,
   ◌++◌,
   ◌≤◌,
   ◌⊎◌,
   ◌&&◌,
+  ◌||◌,
   Bool,
   true,
   false,
@@ -34,6 +36,7 @@ use Rattle.std.specs.Prelude.{
   Contains,
   ⊤,
 }
+use Rattle.std.specs.List.{list_any}
 use Rattle.djq_model.specs.declared.relation.ColumnType.{ColumnType}
 use Rattle.djq_model.specs.declared.relation.ColumnType.TheVariants.{Int as IntColumn}
 use Rattle.djq_model.specs.declared.relation.Relation.{Relation}
@@ -58,7 +61,7 @@ use Rattle.djq_model.specs.Data.{
   without_copies,
 }
 use Rattle.djq_model.specs.Answer.{AreDifferent}
-use Rattle.djq_model.specs.Listed.{Listed, a_query, listed_name, AnswersOf, listed_of}
+use Rattle.djq_model.specs.Listed.{Listed, a_query, a_union, listed_name, members_of, AnswersOf, listed_of}
 pub use Rattle.djq_model.specs.Typed.{is_of, fits}
 use Rattle.djq_model.specs.Known.{knows, texts_in, all_learned}
 use Rattle.djq_lines.specs.declared.limits.TheConstants.{COLUMNS, RELATIONS, ROWS, COPIES, LAST_SEQ, TEXTS}
@@ -78,7 +81,7 @@ use Rattle.djq_lines.specs.declared.answer.AddOutcome.TheVariants.{First, More}
 use Rattle.djq_lines.specs.declared.answer.DeleteOutcome.{DeleteOutcome}
 use Rattle.djq_lines.specs.declared.answer.DeleteOutcome.TheVariants.{Last, Left, Absent}
 use Rattle.djq_lines.specs.declared.answer.Shape.{Shape}
-use Rattle.djq_lines.specs.declared.answer.Shape.TheVariants.{Flat, Linear}
+use Rattle.djq_lines.specs.declared.answer.Shape.TheVariants.{Flat, Linear, Union}
 use Rattle.djq_lines.specs.declared.rest.QueryOutcome.{QueryOutcome}
 use Rattle.djq_lines.specs.declared.rest.QueryOutcome.TheVariants.{Registered, Cyclic, NotConnex}
 pub use Rattle.djq_lines.specs.Columns.{types_of}
@@ -236,9 +239,22 @@ query_refusal st q = whole_query_refusal st.relations st.queries q
 abbrev pub most_steps : ℕ → ℕ
 most_steps h = 2 * h + 1
 
--- the most that one answer of what is registered takes, and the end too
+-- how many variables the heads of a union's members have: as many as that of the first
+abbrev pub width_of : List Query → ℕ
+width_of [] = 0
+width_of (q ∷ qs) = length q.head
+
+-- how many atoms queries have together
+abbrev pub atoms_of : List Query → ℕ
+atoms_of [] = 0
+atoms_of (q ∷ qs) = length q.atoms + atoms_of qs
+
+-- the most that one answer of what is registered takes, and the end too: of a union what each of its
+-- members takes, and for each but the last a test of whether the others have it
 abbrev pub answer_steps : Listed → ℕ
 answer_steps (a_query q) = most_steps (length q.head)
+answer_steps (a_union name qs) =
+    length qs * most_steps (width_of qs) + (length qs - 1) * atoms_of qs
 
 -- A free-connex query is registered behind the others, and its texts are known. Of another one a
 -- rest is told that shows what it lacks, and nothing changes.
@@ -272,13 +288,17 @@ pub record RegistersQuery (old : Store) (q : Query) (result : Result QueryOutcom
 
 -- `drop`
 
+-- whether the query of a name is a member of a union
+abbrev pub is_member : List Listed → Bytes → Bool
+is_member queries name = list_any (λ l. list_any (λ q. bytes_eq q.name name) (members_of l)) queries
+
 abbrev pub drop_refusal : Store → Bool → Bytes → Option Refusal
 drop_refusal st used name = first_of (
     (is_none (listed_of st.queries name), NoQuery)
-    ∷ (used, InUse)
+    ∷ (used || is_member st.queries name, InUse)
     ∷ [])
 
--- A query that isn't used is registered no more, and the others stay in their order. It takes no
+-- What isn't used, nor a member of a union, is registered no more, and the others stay in their order. It takes no
 -- memory.
 pub record DropsQuery (old : Store) (used : Bool) (name : Bytes) (result : Result ⊤ Refusal)
     (new : Store) : Type 0 where
@@ -313,6 +333,8 @@ answer_types relations q = map (variable_type relations q.atoms) q.head
 abbrev pub listed_types : List Relation → Option Listed → List ColumnType
 listed_types relations None = []
 listed_types relations (Some (a_query q)) = answer_types relations q
+listed_types relations (Some (a_union name [])) = []
+listed_types relations (Some (a_union name (q ∷ qs))) = answer_types relations q
 
 -- why a tuple doesn't suit columns of these types
 abbrev pub misfit : List ColumnType → Tuple → Option Refusal
@@ -341,17 +363,22 @@ pub record TellsWhether (st : Store) (name : Bytes) (t : Tuple)
       (λ yes. IsSomeAnd (listed_of st.queries name) (λ q. Tells (AnswersOf st.relations q t) yes))
       (OutOfMemoryWhere ⊥)
 
--- the most lookups that it takes: one for each atom
+-- the most lookups that it takes: one for each atom, of a union of each of its members
 abbrev pub has_steps : Option Listed → ℕ
 has_steps None = 0
 has_steps (Some (a_query q)) = length q.atoms
+has_steps (Some (a_union name qs)) = atoms_of qs
 
 -- `shape`
 
--- What is told of its updates, by what is registered: those of a query are flat exactly where the query is.
+-- What is told of its updates, by what is registered: those of a query are flat exactly where the query
+-- is, and those of a union are its members'.
 abbrev pub IsShapeOf : Listed → Shape → Type 0
 IsShapeOf (a_query q) Flat = IsFlat (edges_of q) (head_of q)
 IsShapeOf (a_query q) Linear = IsFlat (edges_of q) (head_of q) → ⊥
+IsShapeOf (a_query q) Union = ⊥
+IsShapeOf (a_union name qs) Union = ⊤
+IsShapeOf (a_union name qs) _ = ⊥
 
 -- The shape of what is registered is told. It takes no memory.
 pub record TellsShape (st : Store) (name : Bytes) (result : Result Shape Refusal) : Type 0 where

@@ -7,11 +7,67 @@ use Rattle.djq_model.specs.Data.{Bytes}
 use Rattle.djq_lines.specs.declared.answer.EndLine.{EndLine}
 use Rattle.djq_lines.specs.declared.answer.EndLine.TheVariants.{Long, Slow, Memory, Full}
 use Rattle.djq_lines.specs.declared.answer.Refusal.{Refusal}
-use Rattle.djq_lines.specs.declared.answer.Refusal.TheVariants.{Syntax, Taken, NoRelation, NoQuery, NoCursor, Arity, WrongType, HeadUnbound, HeadRepeated, VariableType, Limit, NoMemory, InUse, Unbound, Misplaced}
-use Rattle.djq_lines.specs.declared.answer.Shape.TheVariants.{Flat, Linear}
+use Rattle.djq_lines.specs.declared.answer.Refusal.TheVariants.{
+  Syntax,
+  Taken,
+  NoRelation,
+  NoQuery,
+  NoCursor,
+  Arity,
+  WrongType,
+  HeadUnbound,
+  HeadRepeated,
+  VariableType,
+  Limit,
+  NoMemory,
+  InUse,
+  Unbound,
+  Member,
+  Misplaced,
+}
+use Rattle.djq_lines.specs.declared.answer.Shape.TheVariants.{Flat, Linear, Union}
 use Rattle.djq_lines.specs.Reply.{line, cells_text, sign_text}
 use Rattle.djq_tree.specs.Explaining.{end_text}
-use Rattle.djq_mirror.specs.Replies.{Node, leaf, trim, meet, Reply, done, opened, added, removed, absent, batch_opened, row_held, batch_done, registered, cyclic, not_connex, answer, more, last, stale, had, shaped, watched, changed, counted, explained, refused, ended, cut, bye, IsPrinted, IsReply, joined, label_text, node_text, reply_text}
+use Rattle.djq_mirror.specs.Replies.{
+  Node,
+  leaf,
+  trim,
+  meet,
+  Reply,
+  done,
+  opened,
+  added,
+  removed,
+  absent,
+  batch_opened,
+  row_held,
+  batch_done,
+  registered,
+  cyclic,
+  not_connex,
+  answer,
+  more,
+  last,
+  stale,
+  united,
+  member,
+  had,
+  shaped,
+  watched,
+  changed,
+  counted,
+  explained,
+  refused,
+  ended,
+  cut,
+  bye,
+  IsPrinted,
+  IsReply,
+  joined,
+  label_text,
+  node_text,
+  reply_text,
+}
 use Rattle.djq_mirror.proofs.Parting.{spaced}
 
 abbrev pub refused_words : Refusal → Bytes
@@ -29,6 +85,7 @@ refused_words Limit = codes "err 11 limit"
 refused_words NoMemory = codes "err 12 memory"
 refused_words InUse = codes "err 14 in use"
 refused_words Unbound = codes "err 16 unbound"
+refused_words Member = codes "err 17 member"
 refused_words Misplaced = codes "err 18 batch"
 
 abbrev pub ended_words : EndLine → Bytes
@@ -68,10 +125,13 @@ body (answer t) = 61 ∷ cells_text t
 body more = codes "more"
 body last = codes "end"
 body (stale c r n) = codes "stale" ++ spaced 32 (c ∷ r ∷ decimal n ∷ [])
+body (united n) = codes "ok" ++ spaced 32 (codes "union" ∷ decimal n ∷ [])
+body (member n) = codes "m" ++ spaced 32 (n ∷ [])
 body (had true) = codes "yes"
 body (had false) = codes "no"
 body (shaped Flat) = codes "flat"
 body (shaped Linear) = codes "linear"
+body (shaped Union) = codes "union"
 body (watched n) = codes "ok" ++ spaced 32 (codes "watch" ∷ decimal n ∷ [])
 body (changed s q t) = sign_text s ++ (q ++ cells_text t)
 body (counted q n) = codes "at" ++ spaced 32 (q ∷ decimal n ∷ [])
@@ -101,6 +161,7 @@ refused_text Limit = refl
 refused_text NoMemory = refl
 refused_text InUse = refl
 refused_text Unbound = refl
+refused_text Member = refl
 refused_text Misplaced = refl
 
 ended_text : (e : EndLine) → reply_text (ended e) ≡ line (ended_words e)
@@ -174,10 +235,13 @@ text_is (answer t) = refl
 text_is more = refl
 text_is last = refl
 text_is (stale c r n) = ap line (three_parts (codes "stale ") c r (decimal n))
+text_is (united n) = ap line (one_part (codes "ok union ") (decimal n))
+text_is (member n) = ap line (one_part (codes "m ") n)
 text_is (had true) = refl
 text_is (had false) = refl
 text_is (shaped Flat) = refl
 text_is (shaped Linear) = refl
+text_is (shaped Union) = refl
 text_is (watched n) = ap line (one_part (codes "ok watch ") (decimal n))
 text_is (changed s q t) = ap line (append_assoc (sign_text s) q (cells_text t))
 text_is (counted q n) = ap line (two_parts (codes "at ") q (decimal n))

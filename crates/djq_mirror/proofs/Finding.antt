@@ -1,5 +1,31 @@
 -- What is read of a line is told by a form that the line has.
-use Rattle.std.proofs.Common.{◌≡◌, ℕ, Bool, true, false, cond, ◌&&◌, ◌||◌, [], ◌∷◌, ◌++◌, List, Option, Some, None, length, drop, refl, sym, ap, subst, ◌∙◌, codes, inl, inr}
+use Rattle.std.proofs.Common.{
+  ◌≡◌,
+  ℕ,
+  Bool,
+  true,
+  false,
+  cond,
+  ◌&&◌,
+  ◌||◌,
+  [],
+  ◌∷◌,
+  ◌++◌,
+  List,
+  Option,
+  Some,
+  None,
+  length,
+  drop,
+  refl,
+  sym,
+  ap,
+  subst,
+  ◌∙◌,
+  codes,
+  inl,
+  inr,
+}
 use Rattle.std.specs.List.{list_all, list_any}
 use Rattle.std.specs.Fmt.{decimal}
 use Rattle.std.proofs.lemmas.List.{append-nil, drop_at}
@@ -7,15 +33,107 @@ use Rattle.std.proofs.lemmas.Bool.{and_parts, and_from, or_cases}
 use Rattle.djq_model.specs.Data.{Bytes, bytes_eq}
 use Rattle.djq_value.specs.Literal.{is_name}
 use Rattle.djq_lines.specs.declared.answer.EndLine.TheVariants.{Long, Slow, Memory, Full}
-use Rattle.djq_lines.specs.declared.answer.Refusal.TheVariants.{Syntax, Taken, NoRelation, NoQuery, NoCursor, Arity, WrongType, HeadUnbound, HeadRepeated, VariableType, Limit, NoMemory, InUse, Unbound, Misplaced}
-use Rattle.djq_lines.specs.declared.answer.Shape.TheVariants.{Flat, Linear}
+use Rattle.djq_lines.specs.declared.answer.Refusal.TheVariants.{
+  Syntax,
+  Taken,
+  NoRelation,
+  NoQuery,
+  NoCursor,
+  Arity,
+  WrongType,
+  HeadUnbound,
+  HeadRepeated,
+  VariableType,
+  Limit,
+  NoMemory,
+  InUse,
+  Unbound,
+  Member,
+  Misplaced,
+}
+use Rattle.djq_lines.specs.declared.answer.Shape.TheVariants.{Flat, Linear, Union}
 use Rattle.djq_lines.specs.declared.answer.Sign.{Sign}
 use Rattle.djq_lines.specs.declared.answer.Sign.TheVariants.{Came, Went}
 use Rattle.djq_lines.specs.Reply.{sign_text}
 use Rattle.djq_mirror.specs.Cells.{are_cells_in}
 use Rattle.djq_mirror.specs.Parts.{before, behind, parts_left}
-use Rattle.djq_mirror.specs.Reading.{News, opens, lists, goes_on, ends, makes_stale, changes, counts, nothing, news_of, change_told, count_told, fixed_lines, is_counted, is_edge_word, is_fixed, is_label_end, is_label_word, is_leaf_told, is_meet_told, is_node_kind, is_node_told, is_number, is_rest_told, is_stale_told, is_trim_told, is_worded, line_told, told_if, told_in, word_told, words_told}
-use Rattle.djq_mirror.specs.Replies.{Node, leaf, trim, meet, Reply, done, opened, added, removed, absent, batch_opened, row_held, batch_done, registered, cyclic, not_connex, answer, more, last, stale, had, shaped, watched, changed, counted, explained, refused, ended, cut, bye, IsNode, IsPrinted, IsReply, is_edge, is_label, is_rest, joined, label_text}
+use Rattle.djq_mirror.specs.Reading.{
+  News,
+  opens,
+  lists,
+  goes_on,
+  ends,
+  makes_stale,
+  changes,
+  counts,
+  nothing,
+  news_of,
+  change_told,
+  count_told,
+  fixed_lines,
+  is_counted,
+  is_edge_word,
+  is_fixed,
+  is_label_end,
+  is_label_word,
+  is_leaf_told,
+  is_meet_told,
+  is_member_told,
+  is_node_kind,
+  is_node_told,
+  is_number,
+  is_rest_told,
+  is_stale_told,
+  is_trim_told,
+  is_worded,
+  line_told,
+  told_if,
+  told_in,
+  word_told,
+  words_told,
+}
+use Rattle.djq_mirror.specs.Replies.{
+  Node,
+  leaf,
+  trim,
+  meet,
+  Reply,
+  done,
+  opened,
+  added,
+  removed,
+  absent,
+  batch_opened,
+  row_held,
+  batch_done,
+  registered,
+  cyclic,
+  not_connex,
+  answer,
+  more,
+  last,
+  stale,
+  united,
+  member,
+  had,
+  shaped,
+  watched,
+  changed,
+  counted,
+  explained,
+  refused,
+  ended,
+  cut,
+  bye,
+  IsNode,
+  IsPrinted,
+  IsReply,
+  is_edge,
+  is_label,
+  is_rest,
+  joined,
+  label_text,
+}
 use Rattle.djq_mirror.proofs.Bodies.{body, edge_words, node_words, out_words, reply_from}
 use Rattle.djq_mirror.proofs.Celling.{cells_are}
 use Rattle.djq_mirror.proofs.Numerals.{number_is, same_bytes}
@@ -56,7 +174,94 @@ among l (k ∷ ks) all h = elim (or_cases (bytes_eq k l) (list_any (λ known. by
 ]
 
 all_fixed : AllTold fixed_lines
-all_fixed = (fixed (codes "ok") done tt refl refl, (fixed (codes "ok batch") batch_opened tt refl refl, (fixed (codes "yes") (had true) tt refl refl, (fixed (codes "no") (had false) tt refl refl, (fixed (codes "flat") (shaped Flat) tt refl refl, (fixed (codes "linear") (shaped Linear) tt refl refl, (fixed (codes "bye") bye tt refl refl, (fixed (codes "end long") (ended Long) tt refl refl, (fixed (codes "end slow") (ended Slow) tt refl refl, (fixed (codes "end memory") (ended Memory) tt refl refl, (fixed (codes "end full") (ended Full) tt refl refl, (fixed (codes "err 1 syntax") (refused Syntax) tt refl refl, (fixed (codes "err 2 taken") (refused Taken) tt refl refl, (fixed (codes "err 3 no relation") (refused NoRelation) tt refl refl, (fixed (codes "err 4 no query") (refused NoQuery) tt refl refl, (fixed (codes "err 5 no cursor") (refused NoCursor) tt refl refl, (fixed (codes "err 6 arity") (refused Arity) tt refl refl, (fixed (codes "err 7 type") (refused WrongType) tt refl refl, (fixed (codes "err 8 head unbound") (refused HeadUnbound) tt refl refl, (fixed (codes "err 9 head repeated") (refused HeadRepeated) tt refl refl, (fixed (codes "err 10 variable type") (refused VariableType) tt refl refl, (fixed (codes "err 11 limit") (refused Limit) tt refl refl, (fixed (codes "err 12 memory") (refused NoMemory) tt refl refl, (fixed (codes "err 13 cut") cut tt refl refl, (fixed (codes "err 14 in use") (refused InUse) tt refl refl, (fixed (codes "err 16 unbound") (refused Unbound) tt refl refl, (fixed (codes "err 18 batch") (refused Misplaced) tt refl refl, tt)))))))))))))))))))))))))))
+all_fixed = (
+  fixed (codes "ok") done tt refl refl,
+  (
+    fixed (codes "ok batch") batch_opened tt refl refl,
+    (
+      fixed (codes "yes") (had true) tt refl refl,
+      (
+        fixed (codes "no") (had false) tt refl refl,
+        (
+          fixed (codes "flat") (shaped Flat) tt refl refl,
+          (
+            fixed (codes "linear") (shaped Linear) tt refl refl,
+            (
+              fixed (codes "union") (shaped Union) tt refl refl,
+              (
+                fixed (codes "bye") bye tt refl refl,
+                (
+                  fixed (codes "end long") (ended Long) tt refl refl,
+                  (
+                    fixed (codes "end slow") (ended Slow) tt refl refl,
+                    (
+                      fixed (codes "end memory") (ended Memory) tt refl refl,
+                      (
+                        fixed (codes "end full") (ended Full) tt refl refl,
+                        (
+                          fixed (codes "err 1 syntax") (refused Syntax) tt refl refl,
+                          (
+                            fixed (codes "err 2 taken") (refused Taken) tt refl refl,
+                            (
+                              fixed (codes "err 3 no relation") (refused NoRelation) tt refl refl,
+                              (
+                                fixed (codes "err 4 no query") (refused NoQuery) tt refl refl,
+                                (
+                                  fixed (codes "err 5 no cursor") (refused NoCursor) tt refl refl,
+                                  (
+                                    fixed (codes "err 6 arity") (refused Arity) tt refl refl,
+                                    (
+                                      fixed (codes "err 7 type") (refused WrongType) tt refl refl,
+                                      (
+                                        fixed (codes "err 8 head unbound") (refused HeadUnbound) tt refl refl,
+                                        (
+                                          fixed (codes "err 9 head repeated") (refused HeadRepeated) tt refl refl,
+                                          (
+                                            fixed (codes "err 10 variable type") (refused VariableType) tt refl refl,
+                                            (
+                                              fixed (codes "err 11 limit") (refused Limit) tt refl refl,
+                                              (
+                                                fixed (codes "err 12 memory") (refused NoMemory) tt refl refl,
+                                                (
+                                                  fixed (codes "err 13 cut") cut tt refl refl,
+                                                  (
+                                                    fixed (codes "err 14 in use") (refused InUse) tt refl refl,
+                                                    (
+                                                      fixed (codes "err 16 unbound") (refused Unbound) tt refl refl,
+                                                      (
+                                                        fixed (codes "err 17 member") (refused Member) tt refl refl,
+                                                        (
+                                                          fixed (codes "err 18 batch") (refused Misplaced) tt refl refl,
+                                                          tt,
+                                                        ),
+                                                      ),
+                                                    ),
+                                                  ),
+                                                ),
+                                              ),
+                                            ),
+                                          ),
+                                        ),
+                                      ),
+                                    ),
+                                  ),
+                                ),
+                              ),
+                            ),
+                          ),
+                        ),
+                      ),
+                    ),
+                  ),
+                ),
+              ),
+            ),
+          ),
+        ),
+      ),
+    ),
+  ),
+)
 
 -- Lines of words. A line is a first word and others, each behind a space.
 
@@ -75,16 +280,32 @@ counted_found : (l : Bytes) (ws : List Bytes) → l ≡ codes "ok" ++ spaced 32 
 counted_found l [] e h = absurd (cc)
 counted_found l (w ∷ []) e h = absurd (cc)
 counted_found l (w ∷ n ∷ []) e h =
-    let both = and_parts (bytes_eq w (codes "absent") || bytes_eq w (codes "held") || bytes_eq w (codes "query") || bytes_eq w (codes "watch")) (is_number n) h in
+    let both = and_parts
+    (bytes_eq w (codes "absent") || bytes_eq w (codes "held") || bytes_eq w (codes "query")
+    || bytes_eq w (codes "union") || bytes_eq w (codes "watch")) (is_number n) h in
     let k = number_is n both.1 in
-    elim (or_cases (bytes_eq w (codes "absent") || bytes_eq w (codes "held") || bytes_eq w (codes "query")) (bytes_eq w (codes "watch")) both.0) [
-      | inl front ↦ elim (or_cases (bytes_eq w (codes "absent") || bytes_eq w (codes "held")) (bytes_eq w (codes "query")) front) [
-        | inl first ↦ elim (or_cases (bytes_eq w (codes "absent")) (bytes_eq w (codes "held")) first) [
-          | inl is ↦ by_body l nothing (absent k.0) k.1 (words_are l (codes "ok") _ _ e (two_words (codes "absent") w k.0 (same_bytes w _ is) n k.2)) refl
-          | inr is ↦ by_body l nothing (row_held k.0) k.1 (words_are l (codes "ok") _ _ e (two_words (codes "held") w k.0 (same_bytes w _ is) n k.2)) refl
-        ]
-        | inr is ↦ by_body l nothing (registered k.0) k.1 (words_are l (codes "ok") _ _ e (two_words (codes "query") w k.0 (same_bytes w _ is) n k.2)) refl
-      ]
+    elim (or_cases
+    (bytes_eq w (codes "absent") || bytes_eq w (codes "held") || bytes_eq w (codes "query")
+    || bytes_eq w (codes "union"))
+    (bytes_eq w (codes "watch")) both.0) [
+      | inl front ↦ elim (or_cases
+          (bytes_eq w (codes "absent") || bytes_eq w (codes "held") || bytes_eq w (codes "query"))
+          (bytes_eq w (codes "union")) front) [
+            | inl second ↦ elim (or_cases (bytes_eq w (codes "absent") || bytes_eq w (codes "held"))
+                (bytes_eq w (codes "query")) second) [
+                  | inl first ↦ elim (or_cases (bytes_eq w (codes "absent")) (bytes_eq w (codes "held")) first) [
+                    | inl is ↦ by_body l nothing (absent k.0) k.1
+                        (words_are l (codes "ok") _ _ e
+                        (two_words (codes "absent") w k.0 (same_bytes w _ is) n k.2)) refl
+                    | inr is ↦ by_body l nothing (row_held k.0) k.1
+                        (words_are l (codes "ok") _ _ e (two_words (codes "held") w k.0 (same_bytes w _ is) n k.2)) refl
+                  ]
+                  | inr is ↦ by_body l nothing (registered k.0) k.1
+                      (words_are l (codes "ok") _ _ e (two_words (codes "query") w k.0 (same_bytes w _ is) n k.2)) refl
+                ]
+            | inr is ↦ by_body l nothing (united k.0) k.1
+                (words_are l (codes "ok") _ _ e (two_words (codes "union") w k.0 (same_bytes w _ is) n k.2)) refl
+          ]
       | inr is ↦ by_body l nothing (watched k.0) k.1 (words_are l (codes "ok") _ _ e (two_words (codes "watch") w k.0 (same_bytes w _ is) n k.2)) refl
     ]
 counted_found l (w ∷ n ∷ m ∷ []) e h =
@@ -264,19 +485,29 @@ count_found l (q ∷ n ∷ []) w e h =
     by_body l w (counted q k.0) (both.0, k.1) (words_are l (codes "at") _ _ e (ap (λ x. q ∷ x ∷ []) k.2)) said.1
 count_found l (q ∷ n ∷ o ∷ ws) w e h = absurd (cc)
 
+member_found : (l : Bytes) (ws : List Bytes) → l ≡ codes "m" ++ spaced 32 ws → is_member_told ws ≡ true
+    → IsTold l nothing
+member_found l [] e h = absurd (cc)
+member_found l (n ∷ []) e h = by_body l nothing (member n) h e refl
+member_found l (n ∷ o ∷ ws) e h = absurd (cc)
+
 -- a line that tells nothing
 first_is : (l first v : Bytes) (ws : List Bytes) → l ≡ first ++ spaced 32 ws → bytes_eq first v ≡ true → l ≡ v ++ spaced 32 ws
 first_is l first v ws e h = e ∙ ap (λ (p : Bytes). p ++ spaced 32 ws) (same_bytes first v h)
 
 worded_found : (l first : Bytes) (ws : List Bytes) → l ≡ first ++ spaced 32 ws → is_worded first ws ≡ true → IsTold l nothing
-worded_found l first ws e h = by (bytes_eq first (codes "ok")) (bytes_eq first (codes "no")) (bytes_eq first (codes "n")) refl refl refl h
+worded_found l first ws e h = by (bytes_eq first (codes "ok")) (bytes_eq first (codes "no"))
+    (bytes_eq first (codes "n")) (bytes_eq first (codes "m")) refl refl refl refl h
   where
-    by : (x y z : Bool) → bytes_eq first (codes "ok") ≡ x → bytes_eq first (codes "no") ≡ y → bytes_eq first (codes "n") ≡ z
-        → cond x (is_counted ws) (cond y (is_rest_told ws) (z && is_node_told ws)) ≡ true → IsTold l nothing
-    by true y z f g k t = counted_found l ws (first_is l first _ ws e f) t
-    by false true z f g k t = rest_found l ws (first_is l first _ ws e g) t
-    by false false true f g k t = node_found l ws (first_is l first _ ws e k) t
-    by false false false f g k t = absurd (cc)
+    by : (x y z m : Bool) → bytes_eq first (codes "ok") ≡ x → bytes_eq first (codes "no") ≡ y
+        → bytes_eq first (codes "n") ≡ z → bytes_eq first (codes "m") ≡ m
+        → cond x (is_counted ws) (cond y (is_rest_told ws) (cond z (is_node_told ws) (m && is_member_told ws))) ≡ true
+        → IsTold l nothing
+    by true y z m f g k j t = counted_found l ws (first_is l first _ ws e f) t
+    by false true z m f g k j t = rest_found l ws (first_is l first _ ws e g) t
+    by false false true m f g k j t = node_found l ws (first_is l first _ ws e k) t
+    by false false false true f g k j t = member_found l ws (first_is l first _ ws e j) t
+    by false false false false f g k j t = absurd (cc)
 
 nothing_found : (l first : Bytes) (ws : List Bytes) → l ≡ first ++ spaced 32 ws → (is_fixed l || is_worded first ws) ≡ true → IsTold l nothing
 nothing_found l first ws e h = elim (or_cases (is_fixed l) (is_worded first ws) h) [

@@ -1,5 +1,27 @@
 -- A line of a form is read as what it tells.
-use Rattle.std.proofs.Common.{◌≡◌, ℕ, ◌<◌, ◌^◌, Bool, true, false, ◌&&◌, [], ◌∷◌, ◌++◌, List, Some, length, drop, refl, sym, ap, ◌∙◌, arith, codes}
+use Rattle.std.proofs.Common.{
+  ◌≡◌,
+  ℕ,
+  ◌<◌,
+  ◌^◌,
+  Bool,
+  true,
+  false,
+  ◌&&◌,
+  [],
+  ◌∷◌,
+  ◌++◌,
+  List,
+  Some,
+  length,
+  drop,
+  refl,
+  sym,
+  ap,
+  ◌∙◌,
+  arith,
+  codes,
+}
 use Rattle.std.specs.List.{list_all}
 use Rattle.std.specs.Fmt.{decimal}
 use Rattle.std.proofs.lemmas.List.{append-nil, drop_at}
@@ -9,15 +31,97 @@ use Rattle.djq_value.specs.Literal.{is_name}
 use Rattle.djq_lines.specs.declared.answer.EndLine.{EndLine}
 use Rattle.djq_lines.specs.declared.answer.EndLine.TheVariants.{Long, Slow, Memory, Full}
 use Rattle.djq_lines.specs.declared.answer.Refusal.{Refusal}
-use Rattle.djq_lines.specs.declared.answer.Refusal.TheVariants.{Syntax, Taken, NoRelation, NoQuery, NoCursor, Arity, WrongType, HeadUnbound, HeadRepeated, VariableType, Limit, NoMemory, InUse, Unbound, Misplaced}
-use Rattle.djq_lines.specs.declared.answer.Shape.TheVariants.{Flat, Linear}
+use Rattle.djq_lines.specs.declared.answer.Refusal.TheVariants.{
+  Syntax,
+  Taken,
+  NoRelation,
+  NoQuery,
+  NoCursor,
+  Arity,
+  WrongType,
+  HeadUnbound,
+  HeadRepeated,
+  VariableType,
+  Limit,
+  NoMemory,
+  InUse,
+  Unbound,
+  Member,
+  Misplaced,
+}
+use Rattle.djq_lines.specs.declared.answer.Shape.TheVariants.{Flat, Linear, Union}
 use Rattle.djq_lines.specs.declared.answer.Sign.{Sign}
 use Rattle.djq_lines.specs.declared.answer.Sign.TheVariants.{Came, Went}
 use Rattle.djq_lines.specs.Reply.{cells_text}
 use Rattle.djq_mirror.specs.Cells.{are_cells_in}
 use Rattle.djq_mirror.specs.Parts.{before, parts}
-use Rattle.djq_mirror.specs.Reading.{News, lists, makes_stale, changes, counts, nothing, news_of, change_told, count_told, is_counted, is_edge_word, is_label_end, is_label_word, is_node_kind, is_node_told, is_number, is_rest_told, is_stale_told, is_trim_told, told_if, told_in}
-use Rattle.djq_mirror.specs.Replies.{Node, leaf, trim, meet, Reply, done, opened, added, removed, absent, batch_opened, row_held, batch_done, registered, cyclic, not_connex, answer, more, last, stale, had, shaped, watched, changed, counted, explained, refused, ended, cut, bye, IsNode, IsPrinted, IsReply, are_cells, is_edge, is_label, is_rest, joined, label_text}
+use Rattle.djq_mirror.specs.Reading.{
+  News,
+  lists,
+  makes_stale,
+  changes,
+  counts,
+  nothing,
+  news_of,
+  change_told,
+  count_told,
+  is_counted,
+  is_edge_word,
+  is_label_end,
+  is_label_word,
+  is_member_told,
+  is_node_kind,
+  is_node_told,
+  is_number,
+  is_rest_told,
+  is_stale_told,
+  is_trim_told,
+  told_if,
+  told_in,
+}
+use Rattle.djq_mirror.specs.Replies.{
+  Node,
+  leaf,
+  trim,
+  meet,
+  Reply,
+  done,
+  opened,
+  added,
+  removed,
+  absent,
+  batch_opened,
+  row_held,
+  batch_done,
+  registered,
+  cyclic,
+  not_connex,
+  answer,
+  more,
+  last,
+  stale,
+  united,
+  member,
+  had,
+  shaped,
+  watched,
+  changed,
+  counted,
+  explained,
+  refused,
+  ended,
+  cut,
+  bye,
+  IsNode,
+  IsPrinted,
+  IsReply,
+  are_cells,
+  is_edge,
+  is_label,
+  is_rest,
+  joined,
+  label_text,
+}
 use Rattle.djq_mirror.proofs.Bodies.{body, body_of, edge_words, ended_words, node_words, out_words, refused_words}
 use Rattle.djq_mirror.proofs.Celling.{cells_read}
 use Rattle.djq_mirror.proofs.Numerals.{number_printed}
@@ -131,6 +235,13 @@ count_is_told q n h l =
     ap count_told (behind_word q (decimal n ∷ []) (name_lacks 32 (omega arith) q h) (one_lacks (decimal n) (number_lacks n l)))
     ∙ cond-true _ _ _ (and_from (is_name q) (is_number (decimal n)) h (number_printed n l))
 
+member_is_told : (n : Bytes) → is_name n ≡ true
+    → told_if (is_member_told (parts 32 (n ++ spaced 32 []))) nothing ≡ Some nothing
+member_is_told n h =
+    ap (λ (ws : List Bytes). told_if (is_member_told ws) nothing)
+    (behind_word n [] (name_lacks 32 (omega arith) n h) refl)
+    ∙ told_true (is_member_told (n ∷ [])) nothing h
+
 -- changes
 
 query_front : (q : Bytes) (t : Tuple) → lacks 32 q ≡ true → before 32 (q ++ cells_text t) ≡ q
@@ -164,6 +275,7 @@ refused_told Limit = refl
 refused_told NoMemory = refl
 refused_told InUse = refl
 refused_told Unbound = refl
+refused_told Member = refl
 refused_told Misplaced = refl
 
 ended_told : (e : EndLine) → told_in (ended_words e) ≡ Some nothing
@@ -189,10 +301,13 @@ body_told (answer (v ∷ t)) h = told_true _ (lists (cells_text (v ∷ t))) (cel
 body_told more h = refl
 body_told last h = refl
 body_told (stale c r n) h = stale_told c r n h.0 h.1 h.2
+body_told (united n) h = ok_one (codes "union") n h refl (number_printed n h)
+body_told (member n) h = member_is_told n h
 body_told (had true) h = refl
 body_told (had false) h = refl
 body_told (shaped Flat) h = refl
 body_told (shaped Linear) h = refl
+body_told (shaped Union) h = refl
 body_told (watched n) h = ok_one (codes "watch") n h refl (number_printed n h)
 body_told (changed Came q t) h = change_is_told Came q t h.0 h.1
 body_told (changed Went q t) h = change_is_told Went q t h.0 h.1

@@ -10,7 +10,36 @@ use Rattle.djq_mirror.specs.declared.mirror.MirrorRefusal.TheVariants.{Outside, 
 use Rattle.djq_mirror.specs.Acting.{LineEnds, Turns}
 use Rattle.djq_mirror.specs.Mirror.{Act, Follows, Held, IsOutside, Seen, Turned, may_turn, turn_of}
 use Rattle.djq_mirror.specs.Reading.{News, news_of, told_in, turn_by}
-use Rattle.djq_mirror.specs.Replies.{Reply, done, opened, added, removed, absent, batch_opened, row_held, batch_done, registered, cyclic, not_connex, answer, more, last, stale, had, shaped, watched, changed, counted, explained, refused, ended, cut, bye}
+use Rattle.djq_mirror.specs.Replies.{
+  Reply,
+  done,
+  opened,
+  added,
+  removed,
+  absent,
+  batch_opened,
+  row_held,
+  batch_done,
+  registered,
+  cyclic,
+  not_connex,
+  answer,
+  more,
+  last,
+  stale,
+  united,
+  member,
+  had,
+  shaped,
+  watched,
+  changed,
+  counted,
+  explained,
+  refused,
+  ended,
+  cut,
+  bye,
+}
 use Rattle.djq_mirror.proofs.Finding.{told_found}
 use Rattle.djq_mirror.proofs.Telling.{reply_told}
 
@@ -37,6 +66,8 @@ turn_same name Idle last = refl
 turn_same name Listing last = refl
 turn_same name Live last = refl
 turn_same name mode (stale c r n) = refl
+turn_same name mode (united n) = refl
+turn_same name mode (member n) = refl
 turn_same name mode (had b) = refl
 turn_same name mode (shaped s) = refl
 turn_same name mode (watched n) = refl

@@ -99,7 +99,7 @@ is_label_word w = bytes_eq w (codes "-") || is_edge_word w
 abbrev pub is_counted : List Bytes → Bool
 is_counted (w ∷ n ∷ []) =
     (bytes_eq w (codes "absent") || bytes_eq w (codes "held") || bytes_eq w (codes "query")
-    || bytes_eq w (codes "watch")) && is_number n
+    || bytes_eq w (codes "union") || bytes_eq w (codes "watch")) && is_number n
 is_counted (w ∷ n ∷ m ∷ []) =
     (bytes_eq w (codes "added") || bytes_eq w (codes "removed") || bytes_eq w (codes "done"))
     && (is_number n && is_number m)
@@ -142,6 +142,11 @@ abbrev pub is_node_told : List Bytes → Bool
 is_node_told [] = false
 is_node_told (j ∷ ws) = is_number j && is_node_kind ws
 
+-- behind `m`
+abbrev pub is_member_told : List Bytes → Bool
+is_member_told (n ∷ []) = is_name n
+is_member_told ws = false
+
 -- behind `stale`
 abbrev pub is_stale_told : List Bytes → Bool
 is_stale_told (c ∷ r ∷ n ∷ []) = is_name c && (is_name r && is_number n)
@@ -156,12 +161,12 @@ count_told ws = None
 abbrev pub fixed_lines : List Bytes
 fixed_lines =
     codes "ok" ∷ codes "ok batch" ∷ codes "yes" ∷ codes "no" ∷ codes "flat" ∷ codes "linear"
-    ∷ codes "bye" ∷ codes "end long" ∷ codes "end slow" ∷ codes "end memory" ∷ codes "end full"
+    ∷ codes "union" ∷ codes "bye" ∷ codes "end long" ∷ codes "end slow" ∷ codes "end memory" ∷ codes "end full"
     ∷ codes "err 1 syntax" ∷ codes "err 2 taken" ∷ codes "err 3 no relation"
     ∷ codes "err 4 no query" ∷ codes "err 5 no cursor" ∷ codes "err 6 arity" ∷ codes "err 7 type"
     ∷ codes "err 8 head unbound" ∷ codes "err 9 head repeated" ∷ codes "err 10 variable type"
     ∷ codes "err 11 limit" ∷ codes "err 12 memory" ∷ codes "err 13 cut" ∷ codes "err 14 in use"
-    ∷ codes "err 16 unbound" ∷ codes "err 18 batch" ∷ []
+    ∷ codes "err 16 unbound" ∷ codes "err 17 member" ∷ codes "err 18 batch" ∷ []
 
 abbrev pub is_fixed : Bytes → Bool
 is_fixed line = list_any (λ fixed. bytes_eq fixed line) fixed_lines
@@ -175,7 +180,8 @@ abbrev pub is_worded : Bytes → List Bytes → Bool
 is_worded first ws =
     if bytes_eq first (codes "ok") then is_counted ws
     else (if bytes_eq first (codes "no") then is_rest_told ws
-    else (bytes_eq first (codes "n") && is_node_told ws))
+    else (if bytes_eq first (codes "n") then is_node_told ws
+    else (bytes_eq first (codes "m") && is_member_told ws)))
 
 -- a line of words alone, where it is none of a listing
 abbrev pub word_told : Bytes → Bytes → List Bytes → Option News

@@ -12,7 +12,23 @@ use Rattle.djq_lines.specs.declared.answer.EndLine.{EndLine}
 use Rattle.djq_lines.specs.declared.answer.Refusal.{Refusal}
 use Rattle.djq_lines.specs.declared.answer.Shape.{Shape}
 use Rattle.djq_lines.specs.declared.answer.Sign.{Sign}
-use Rattle.djq_lines.specs.Reply.{line, numbered, numbered_twice, answer_line, last_line, stale_line, has_reply, shape_reply, change_line, at_line, refusal_line, end_line, input_cut, bye as bye_line}
+use Rattle.djq_lines.specs.Reply.{
+  line,
+  numbered,
+  numbered_twice,
+  answer_line,
+  last_line,
+  stale_line,
+  member_line,
+  has_reply,
+  shape_reply,
+  change_line,
+  at_line,
+  refusal_line,
+  end_line,
+  input_cut,
+  bye as bye_line,
+}
 use Rattle.djq_tree.specs.Explaining.{end_text}
 
 -- what an explained node is: a leaf over a relation, a trim of a node, or a meet of two nodes
@@ -43,6 +59,9 @@ pub data Reply : Type 0 where
   more : Reply
   last : Reply
   stale : Bytes → Bytes → ℕ → Reply
+  -- a union: the most that an answer of it costs; and one of its members
+  united : ℕ → Reply
+  member : Bytes → Reply
   -- whether a tuple is an answer, and the shape of a query
   had : Bool → Reply
   shaped : Shape → Reply
@@ -94,6 +113,8 @@ reply_text (answer t) = answer_line t
 reply_text more = last_line false
 reply_text last = last_line true
 reply_text (stale cursor relation n) = stale_line cursor relation n
+reply_text (united most) = numbered (codes "ok union ") most
+reply_text (member name) = member_line name
 reply_text (had found) = has_reply (Ok found)
 reply_text (shaped s) = shape_reply (Ok s)
 reply_text (watched n) = numbered (codes "ok watch ") n
@@ -156,6 +177,8 @@ IsPrinted (cyclic edges) = is_rest edges ≡ true
 IsPrinted (not_connex edges) = is_rest edges ≡ true
 IsPrinted (answer t) = are_cells t ≡ true
 IsPrinted (stale cursor relation n) = (is_name cursor ≡ true) × (is_name relation ≡ true) × IsNumber n
+IsPrinted (united most) = IsNumber most
+IsPrinted (member name) = is_name name ≡ true
 IsPrinted (watched n) = IsNumber n
 IsPrinted (changed s query t) = (is_name query ≡ true) × (are_cells t ≡ true)
 IsPrinted (counted query n) = (is_name query ≡ true) × IsNumber n

@@ -5,7 +5,7 @@ ghost use Rattle.djq_model.specs.Data.{bytes_eq};
 ghost use Rattle.djq_mirror.specs.Reading.{is_counted as is_counted_of, is_edge_word};
 ghost use Rattle.djq_mirror.specs.Reading.{is_fixed as is_fixed_of, is_label_end};
 ghost use Rattle.djq_mirror.specs.Reading.{is_meet_told, is_node_kind, is_node_told};
-ghost use Rattle.djq_mirror.specs.Reading.{is_rest_told, is_trim_told, is_leaf_told};
+ghost use Rattle.djq_mirror.specs.Reading.{is_rest_told, is_trim_told, is_leaf_told, is_member_told};
 ghost use Rattle.djq_mirror.specs.Reading.{is_worded as is_worded_of};
 
 use crate::parts::Parts;
@@ -16,13 +16,14 @@ use djq_value::{is_name, is_text};
 pub(crate) fn is_fixed(line: &[u8]) -> bool
     ensures { result ≡ is_fixed_of line.now }
 {
-    let lines: [&[u8]; 27] = [
+    let lines: [&[u8]; 29] = [
         b"ok",
         b"ok batch",
         b"yes",
         b"no",
         b"flat",
         b"linear",
+        b"union",
         b"bye",
         b"end long",
         b"end slow",
@@ -43,6 +44,7 @@ pub(crate) fn is_fixed(line: &[u8]) -> bool
         b"err 13 cut",
         b"err 14 in use",
         b"err 16 unbound",
+        b"err 17 member",
         b"err 18 batch",
     ];
     lines.contains(&line)
@@ -58,6 +60,8 @@ pub(crate) fn is_worded(first: &[u8], words: &mut Parts<'_>) -> bool
         is_rest(words)
     } else if is_text(first, b"n") {
         is_node(words)
+    } else if is_text(first, b"m") {
+        is_member(words)
     } else {
         false
     }
@@ -85,11 +89,13 @@ fn is_counted(words: &mut Parts<'_>) -> bool
 // Whether one number is told behind a word.
 fn has_one(word: &[u8]) -> bool
     ensures { result ≡ (bytes_eq word.now (codes "absent") || bytes_eq word.now (codes "held")
-        || bytes_eq word.now (codes "query") || bytes_eq word.now (codes "watch")) }
+        || bytes_eq word.now (codes "query") || bytes_eq word.now (codes "union")
+        || bytes_eq word.now (codes "watch")) }
 {
     is_text(word, b"absent")
         || is_text(word, b"held")
         || is_text(word, b"query")
+        || is_text(word, b"union")
         || is_text(word, b"watch")
 }
 
@@ -195,5 +201,18 @@ fn is_labelled(words: &mut Parts<'_>) -> bool
             let last = words.next().is_none();
             last && is_label(label) && is_text(out, b"out")
         }
+    }
+}
+
+// Whether words are the one behind `m`, where a member of a union is told.
+fn is_member(words: &mut Parts<'_>) -> bool
+    ensures { result ≡ is_member_told words.old }
+{
+    match words.next() {
+        Some(name) => {
+            let last = words.next().is_none();
+            last && is_name(name)
+        }
+        None => false,
     }
 }

@@ -64,7 +64,7 @@ fn refuses_what_may_not_come(rt: HostRuntime) {
 
 #[test]
 fn knows_the_forms(rt: HostRuntime) {
-    let forms: [&[u8]; 16] = [
+    let forms: [&[u8]; 20] = [
         b"=",
         b"= -9223372036854775808 \"\\\"\\n\"",
         b"ok added 7 2",
@@ -81,8 +81,12 @@ fn knows_the_forms(rt: HostRuntime) {
         b"ok batch",
         b"ok held 1000",
         b"ok done 7 2",
+        b"ok union 8",
+        b"union",
+        b"m a",
+        b"err 17 member",
     ];
-    let others: [&[u8]; 19] = [
+    let others: [&[u8]; 21] = [
         b"",
         b"ok ",
         b"OK",
@@ -102,6 +106,8 @@ fn knows_the_forms(rt: HostRuntime) {
         b"ok batch 1",
         b"ok held",
         b"ok done 7",
+        b"m",
+        b"m a b",
     ];
     let mut mirror = Mirror::new(rt.alloc(), Name::new(b"q"));
     for line in forms {

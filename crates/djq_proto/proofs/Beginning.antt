@@ -1,12 +1,44 @@
 -- By its first byte, a line may begin with no row's keyword.
-use Rattle.std.proofs.Common.{◌≡◌, ◌||◌, ℕ, Bool, true, false, cond, [], ◌∷◌, Option, None, Some, is_some, refl, ap, ◌∙◌, codes, eqb}
+use Rattle.std.proofs.Common.{
+  ◌≡◌,
+  ◌||◌,
+  ℕ,
+  Bool,
+  true,
+  false,
+  [],
+  ◌∷◌,
+  Option,
+  None,
+  Some,
+  is_some,
+  refl,
+  ap,
+  ◌∙◌,
+  codes,
+  eqb,
+}
 use Rattle.std.proofs.lemmas.Bool.{both_ways, cond-false, cond_both, eq-eqb, false_from_ne_true}
 use Rattle.djq_model.specs.Data.{Bytes, bytes_eq}
 use Rattle.djq_model.specs.Equality.{bytes_eq-decides}
-use Rattle.djq_value.specs.Token.{Token, text, stray, and_then, greater_front, less_front, may_end, not_front, text_front, text_in, token_front, tokens, word_front}
+use Rattle.djq_value.specs.Token.{
+  Token,
+  text,
+  stray,
+  and_then,
+  greater_front,
+  less_front,
+  may_end,
+  not_front,
+  text_front,
+  text_in,
+  token_front,
+  tokens,
+  word_front,
+}
 use Rattle.djq_value.proofs.Lexes.{tokens-none, tokens-step}
 use Rattle.djq_lines.specs.Grammar.{keyword_of}
-use Rattle.djq_lines.specs.declared.keyword.Keyword.TheVariants.{Rel, Add, Del, Query, Drop, Open, Next, Close, Has, Watch, Unwatch, Explain, Shape, Batch, Done, Abandon, Quit, Stop}
+use Rattle.djq_lines.specs.declared.keyword.Keyword.{Keyword}
 use Rattle.djq_proto.specs.RowReading.{begins_row, may_begin, row_word_of}
 
 neither : (p q : Bool) → (p || q) ≡ false → (p ≡ false) × (q ≡ false)
@@ -20,35 +52,32 @@ other_first b c bs cs e = false_from_ne_true (bytes_eq (b ∷ bs) (c ∷ cs)) (�
     apart : b ∷ bs ≡ c ∷ cs → ⊥
     apart f = let first : b ≡ c = cc in both_ways (eqb b c) e (eq-eqb b c first)
 
--- the keyword that a word is, by its tests, where those of a row's keywords fail
-other_key : (p0 p1 p2 p3 p4 p5 p6 p7 p8 p9 p10 p11 p12 p13 p14 p15 p16 p17 : Bool) → p1 ≡ false → p2 ≡ false
-    → is_some (row_word_of (cond p0 (Some Rel) (cond p1 (Some Add) (cond p2 (Some Del) (cond p3 (Some Query) (cond p4 (Some Drop) (cond p5 (Some Open) (cond p6 (Some Next) (cond p7 (Some Close) (cond p8 (Some Has) (cond p9 (Some Watch) (cond p10 (Some Unwatch) (cond p11 (Some Explain) (cond p12 (Some Shape) (cond p13 (Some Batch) (cond p14 (Some Done) (cond p15 (Some Abandon) (cond p16 (Some Quit) (cond p17 (Some Stop) None))))))))))))))))))) ≡ false
-other_key true p1 p2 p3 p4 p5 p6 p7 p8 p9 p10 p11 p12 p13 p14 p15 p16 p17 add del = refl
-other_key false true p2 p3 p4 p5 p6 p7 p8 p9 p10 p11 p12 p13 p14 p15 p16 p17 add del = absurd (cc)
-other_key false false true p3 p4 p5 p6 p7 p8 p9 p10 p11 p12 p13 p14 p15 p16 p17 add del = absurd (cc)
-other_key false false false true p4 p5 p6 p7 p8 p9 p10 p11 p12 p13 p14 p15 p16 p17 add del = refl
-other_key false false false false true p5 p6 p7 p8 p9 p10 p11 p12 p13 p14 p15 p16 p17 add del = refl
-other_key false false false false false true p6 p7 p8 p9 p10 p11 p12 p13 p14 p15 p16 p17 add del = refl
-other_key false false false false false false true p7 p8 p9 p10 p11 p12 p13 p14 p15 p16 p17 add del = refl
-other_key false false false false false false false true p8 p9 p10 p11 p12 p13 p14 p15 p16 p17 add del = refl
-other_key false false false false false false false false true p9 p10 p11 p12 p13 p14 p15 p16 p17 add del = refl
-other_key false false false false false false false false false true p10 p11 p12 p13 p14 p15 p16 p17 add del = refl
-other_key false false false false false false false false false false true p11 p12 p13 p14 p15 p16 p17 add del = refl
-other_key false false false false false false false false false false false true p12 p13 p14 p15 p16 p17 add del = refl
-other_key false false false false false false false false false false false false true p13 p14 p15 p16 p17 add del = refl
-other_key false false false false false false false false false false false false false true p14 p15 p16 p17 add del = refl
-other_key false false false false false false false false false false false false false false true p15 p16 p17 add del = refl
-other_key false false false false false false false false false false false false false false false true p16 p17 add del = refl
-other_key false false false false false false false false false false false false false false false false true p17 add del = refl
-other_key false false false false false false false false false false false false false false false false false true add del = refl
-other_key false false false false false false false false false false false false false false false false false false add del = refl
+-- no keyword of a row
+abbrev IsNoRow : Option Keyword → Type 0
+IsNoRow o = is_some (row_word_of o) ≡ false
 
 -- a word that is neither keyword of a row
-other_word : (w : Bytes) → bytes_eq w (codes "add") ≡ false → bytes_eq w (codes "del") ≡ false → is_some (row_word_of (keyword_of w)) ≡ false
+other_word : (w : Bytes) → bytes_eq w (codes "add") ≡ false → bytes_eq w (codes "del") ≡ false → IsNoRow (keyword_of w)
 other_word w add del =
-    let is = λ (key : Bytes). bytes_eq w key in
-    other_key (is (codes "rel")) (is (codes "add")) (is (codes "del")) (is (codes "query")) (is (codes "drop")) (is (codes "open")) (is (codes "next")) (is (codes "close"))
-    (is (codes "has")) (is (codes "watch")) (is (codes "unwatch")) (is (codes "explain")) (is (codes "shape")) (is (codes "batch")) (is (codes "done")) (is (codes "abandon")) (is (codes "quit")) (is (codes "stop")) add del
+    cond_both (bytes_eq w (codes "rel")) _ _ IsNoRow (λ _. refl) (λ _.
+    cond_both (bytes_eq w (codes "add")) _ _ IsNoRow (λ is. absurd (cc (is, add))) (λ _.
+    cond_both (bytes_eq w (codes "del")) _ _ IsNoRow (λ is. absurd (cc (is, del))) (λ _.
+    cond_both (bytes_eq w (codes "query")) _ _ IsNoRow (λ _. refl) (λ _.
+    cond_both (bytes_eq w (codes "union")) _ _ IsNoRow (λ _. refl) (λ _.
+    cond_both (bytes_eq w (codes "drop")) _ _ IsNoRow (λ _. refl) (λ _.
+    cond_both (bytes_eq w (codes "open")) _ _ IsNoRow (λ _. refl) (λ _.
+    cond_both (bytes_eq w (codes "next")) _ _ IsNoRow (λ _. refl) (λ _.
+    cond_both (bytes_eq w (codes "close")) _ _ IsNoRow (λ _. refl) (λ _.
+    cond_both (bytes_eq w (codes "has")) _ _ IsNoRow (λ _. refl) (λ _.
+    cond_both (bytes_eq w (codes "watch")) _ _ IsNoRow (λ _. refl) (λ _.
+    cond_both (bytes_eq w (codes "unwatch")) _ _ IsNoRow (λ _. refl) (λ _.
+    cond_both (bytes_eq w (codes "explain")) _ _ IsNoRow (λ _. refl) (λ _.
+    cond_both (bytes_eq w (codes "shape")) _ _ IsNoRow (λ _. refl) (λ _.
+    cond_both (bytes_eq w (codes "batch")) _ _ IsNoRow (λ _. refl) (λ _.
+    cond_both (bytes_eq w (codes "done")) _ _ IsNoRow (λ _. refl) (λ _.
+    cond_both (bytes_eq w (codes "abandon")) _ _ IsNoRow (λ _. refl) (λ _.
+    cond_both (bytes_eq w (codes "quit")) _ _ IsNoRow (λ _. refl) (λ _.
+    cond_both (bytes_eq w (codes "stop")) _ _ IsNoRow (λ _. refl) (λ _. refl)))))))))))))))))))
 
 -- tokens of which the first is no row's keyword
 abbrev pub IsOther : Token × Bytes → Type 0

@@ -1,12 +1,31 @@
 -- From what was read behind a keyword to the command.
-use Rattle.std.proofs.Common.{true, List, Option, Some, None, option_map, Ok, Err, refl, sym, ap, ◌∙◌}
+use Rattle.std.proofs.Common.{
+  ◌≡◌,
+  true,
+  false,
+  List,
+  [],
+  ◌∷◌,
+  Option,
+  Some,
+  None,
+  option_map,
+  Ok,
+  Err,
+  refl,
+  sym,
+  ap,
+  ◌∙◌,
+}
 use Rattle.std.specs.List.{list_all}
 use Rattle.std.proofs.lemmas.Bool.{true≢false}
 use Rattle.djq_model.specs.Data.{Bytes}
 use Rattle.djq_model.specs.declared.relation.ColumnType.{ColumnType}
 use Rattle.djq_model.specs.declared.query.Query.{Query}
-use Rattle.djq_lines.specs.declared.command.Command.TheVariants.{Rel, Query as Register}
-use Rattle.djq_proto.specs.Reading.{Gives, ReadsAs, is_small_query}
+use Rattle.djq_lines.specs.declared.command.Command.TheVariants.{Rel, Query as Register, Union}
+use Rattle.djq_value.specs.Token.{Token}
+use Rattle.djq_lines.specs.Grammar.{name_of, named_some, name_and_members}
+use Rattle.djq_proto.specs.Reading.{Gives, ReadsAs, has_three, is_small_query}
 use Rattle.djq_proto.specs.declared.refusal.LineRefusal.{LineRefusal}
 use Rattle.djq_proto.specs.declared.refusal.LineRefusal.TheVariants.{Syntax, Range, NoMem}
 use Rattle.djq_proto.proofs.Listing.{all_true}
@@ -17,6 +36,27 @@ rel_refused None e h = (cc, tt)
 rel_refused (Some p) Syntax h = absurd h
 rel_refused (Some p) Range h = absurd (true≢false (sym (all_true p.1) ∙ h))
 rel_refused (Some p) NoMem h = (refl, refl)
+
+-- a union that is refused
+pub union_refused : (o : Option (Bytes × List Bytes)) (e : LineRefusal)
+    → ReadsAs (λ p. list_all (λ _. true) p.1) o (Err e) → Gives (option_map (λ p. Union p.0 p.1) o) (Err e)
+union_refused None e h = (cc, tt)
+union_refused (Some p) Syntax h = absurd h
+union_refused (Some p) Range h = absurd (true≢false (sym (all_true p.1) ∙ h))
+union_refused (Some p) NoMem h = (refl, refl)
+
+-- names, two at least, behind a name: where there are three tokens
+pub none_of_few : (ts : List Token) → has_three ts ≡ false → name_and_members ts ≡ None
+none_of_few [] h = refl
+none_of_few (a ∷ []) h = refl
+none_of_few (a ∷ b ∷ []) h = refl
+none_of_few (a ∷ b ∷ c ∷ ts) h = absurd (cc)
+
+pub some_of_three : (ts : List Token) → has_three ts ≡ true → name_and_members ts ≡ named_some name_of ts
+some_of_three [] h = absurd (cc)
+some_of_three (a ∷ []) h = absurd (cc)
+some_of_three (a ∷ b ∷ []) h = absurd (cc)
+some_of_three (a ∷ b ∷ c ∷ ts) h = refl
 
 -- a query that is refused
 pub query_refused : (o : Option Query) (e : LineRefusal) → ReadsAs is_small_query o (Err e) → Gives (option_map (λ q. Register q) o) (Err e)

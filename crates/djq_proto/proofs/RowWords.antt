@@ -4,7 +4,27 @@ use Rattle.std.specs.Str.{is_utf8}
 use Rattle.djq_model.specs.Data.{Bytes}
 use Rattle.djq_value.specs.Token.{Token, tokens}
 use Rattle.djq_lines.specs.declared.command.Command.{Command}
-use Rattle.djq_lines.specs.declared.command.Command.TheVariants.{Rel, Add, Del, Query as Register, Drop, Open, Next, Close, Has, Watch, Unwatch, Explain, Shape, Batch, Done, Abandon, Quit, Stop}
+use Rattle.djq_lines.specs.declared.command.Command.TheVariants.{
+  Rel,
+  Add,
+  Del,
+  Query as Register,
+  Union,
+  Drop,
+  Open,
+  Next,
+  Close,
+  Has,
+  Watch,
+  Unwatch,
+  Explain,
+  Shape,
+  Batch,
+  Done,
+  Abandon,
+  Quit,
+  Stop,
+}
 use Rattle.djq_lines.specs.Grammar.{command_in, command_of}
 use Rattle.djq_proto.specs.RowReading.{row_word_in}
 use Rattle.djq_proto.specs.Saying.{Says}
@@ -24,6 +44,7 @@ said_by (Rel n cs) ts s = ap row_word_in s.4
 said_by (Add n vs) ts s = ap row_word_in s.1.3
 said_by (Del n vs) ts s = ap row_word_in s.1.3
 said_by (Register q) ts s = ap row_word_in s.2
+said_by (Union n ms) ts s = ap row_word_in s.4
 said_by (Drop q) ts s = ap row_word_in s.1
 said_by (Open c q) ts s = ap row_word_in s.2
 said_by (Next c k) ts s = ap row_word_in s.5

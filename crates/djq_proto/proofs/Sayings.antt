@@ -1,5 +1,34 @@
 -- Tokens are read as a command exactly where they say it.
-use Rattle.std.proofs.Common.{◌≡◌, ℕ, zero, suc, ◌<◌, true, ◌&&◌, List, [], ◌∷◌, ◌++◌, length, Option, Some, None, option_map, refl, sym, ap, ap₂, subst, ◌∙◌, arith, leb, ◌↔◌, codes, append-nil}
+use Rattle.std.proofs.Common.{
+  ◌≡◌,
+  ℕ,
+  zero,
+  suc,
+  ◌<◌,
+  ◌≤◌,
+  true,
+  ◌&&◌,
+  List,
+  [],
+  ◌∷◌,
+  ◌++◌,
+  length,
+  Option,
+  Some,
+  None,
+  option_map,
+  refl,
+  sym,
+  ap,
+  ap₂,
+  subst,
+  ◌∙◌,
+  arith,
+  leb,
+  ◌↔◌,
+  codes,
+  append-nil,
+}
 use Rattle.std.specs.List.{AllZip}
 use Rattle.std.proofs.lemmas.Bool.{cond-true, and_parts, and_from, leb-true, le-leb}
 use Rattle.djq_model.specs.Data.{Bytes, Tuple, bytes_eq}
@@ -11,16 +40,124 @@ use Rattle.djq_model.specs.declared.query.Operator.{Operator}
 use Rattle.djq_model.specs.declared.query.Comparison.{Comparison}
 use Rattle.djq_model.specs.declared.query.Query.{Query}
 use Rattle.djq_lines.specs.declared.command.Command.{Command}
-use Rattle.djq_lines.specs.declared.command.Command.TheVariants.{Rel, Add, Del, Query as Register, Drop, Open, Next, Close, Has, Watch, Unwatch, Explain, Shape, Batch, Done, Abandon, Quit, Stop}
+use Rattle.djq_lines.specs.declared.command.Command.TheVariants.{
+  Rel,
+  Add,
+  Del,
+  Query as Register,
+  Union,
+  Drop,
+  Open,
+  Next,
+  Close,
+  Has,
+  Watch,
+  Unwatch,
+  Explain,
+  Shape,
+  Batch,
+  Done,
+  Abandon,
+  Quit,
+  Stop,
+}
 use Rattle.djq_lines.specs.declared.keyword.Keyword.{Keyword}
-use Rattle.djq_lines.specs.declared.keyword.Keyword.TheVariants.{Rel as RelWord, Add as AddWord, Del as DelWord, Query as QueryWord, Drop as DropWord, Open as OpenWord, Next as NextWord, Close as CloseWord, Has as HasWord, Watch as WatchWord, Unwatch as UnwatchWord, Explain as ExplainWord, Shape as ShapeWord, Batch as BatchWord, Done as DoneWord, Abandon as AbandonWord, Quit as QuitWord, Stop as StopWord}
+use Rattle.djq_lines.specs.declared.keyword.Keyword.TheVariants.{
+  Rel as RelWord,
+  Add as AddWord,
+  Del as DelWord,
+  Query as QueryWord,
+  Union as UnionWord,
+  Drop as DropWord,
+  Open as OpenWord,
+  Next as NextWord,
+  Close as CloseWord,
+  Has as HasWord,
+  Watch as WatchWord,
+  Unwatch as UnwatchWord,
+  Explain as ExplainWord,
+  Shape as ShapeWord,
+  Batch as BatchWord,
+  Done as DoneWord,
+  Abandon as AbandonWord,
+  Quit as QuitWord,
+  Stop as StopWord,
+}
 use Rattle.djq_value.specs.Token.{Token, word, text, open_paren, close_paren, comma, arrow, operator, stray}
 use Rattle.djq_value.specs.Literal.{is_name, literal_of, natural_of}
-use Rattle.djq_lines.specs.Grammar.{all_of, Body, Item, atom, comparison, atom_in, atom_over, behind_item, body_in, command_behind, command_in, command_with, compared, comparison_of, count_of, is_count, item_in, items_in, items_within, past_item, put_item, with_atoms, keyword_of, list_in, name_and_count, name_of, named_any, named_some, nothing, one_name, query_in, query_of, term_of, two_names, type_of}
-use Rattle.djq_proto.specs.Saying.{IsName, Says, SaysAtom, SaysBody, SaysItem, SaysItems, SaysName, SaysOne, SaysQuery, SaysRow, SaysTerm, SaysType, SaysValue, atoms_among, comparisons_among, list_tokens}
+use Rattle.djq_lines.specs.Grammar.{
+  all_of,
+  Body,
+  Item,
+  atom,
+  comparison,
+  atom_in,
+  atom_over,
+  behind_item,
+  body_in,
+  command_behind,
+  command_in,
+  command_with,
+  compared,
+  comparison_of,
+  count_of,
+  is_count,
+  item_in,
+  items_in,
+  items_within,
+  past_item,
+  put_item,
+  with_atoms,
+  keyword_of,
+  list_in,
+  name_and_count,
+  name_and_members,
+  name_of,
+  named_any,
+  named_some,
+  nothing,
+  one_name,
+  query_in,
+  query_of,
+  term_of,
+  two_names,
+  type_of,
+}
+use Rattle.djq_proto.specs.Saying.{
+  IsName,
+  Says,
+  SaysAtom,
+  SaysBody,
+  SaysItem,
+  SaysItems,
+  SaysName,
+  SaysOne,
+  SaysQuery,
+  SaysRow,
+  SaysTerm,
+  SaysType,
+  SaysValue,
+  atoms_among,
+  comparisons_among,
+  list_tokens,
+}
 use Rattle.djq_proto.proofs.Bodies.{items_in-step}
 use Rattle.djq_proto.proofs.Numerals.{guard_some, map_some, numeral_from, numeral_said}
-use Rattle.djq_proto.proofs.Lists.{all_from, all_said, list_from, list_said, name_from, name_said, pick, term_from, term_said, type_from, type_said, value_from, value_said}
+use Rattle.djq_proto.proofs.Lists.{
+  all_from,
+  all_said,
+  list_from,
+  list_said,
+  name_from,
+  name_said,
+  pick,
+  term_from,
+  term_said,
+  type_from,
+  type_said,
+  value_from,
+  value_said,
+}
 
 pair_same : {A B : Type 0} (x y : A × B) → Some x ≡ Some y → (x.0 ≡ y.0) × (x.1 ≡ y.1)
 pair_same {A} {B} x y e =
@@ -317,6 +454,43 @@ some_from of says item n [] us named some h = absurd (omega (arith, some))
 some_from of says item n (x ∷ xs) [] named some h = absurd h
 some_from of says item n (x ∷ xs) (u ∷ us) named some h = any_from of says item n (x ∷ xs) (u ∷ us) named h
 
+-- A name, and names of which there are two at least.
+
+zip_two : (xs : List Bytes) (t u : Token) (ts : List Token) → AllZip SaysName xs (t ∷ u ∷ ts) → 2 ≤ length xs
+zip_two [] t u ts h = absurd h
+zip_two (x ∷ []) t u ts h = absurd h.1
+zip_two (x ∷ y ∷ xs) t u ts h = omega arith
+
+members_said : (ts : List Token) (p : Bytes × List Bytes) → name_and_members ts ≡ Some p
+    → IsNamed SaysName p.0 p.1 ts × (2 ≤ length p.1)
+members_said [] p e = absurd (cc)
+members_said (n ∷ []) p e = absurd (cc)
+members_said (n ∷ a ∷ []) p e = absurd (cc)
+members_said (word n ∷ a ∷ b ∷ ts) p e =
+    let named = any_said name_of SaysName name_said (word n ∷ a ∷ b ∷ ts) p e in
+    (named, more named.items named.say named.split)
+  where
+    more : (us : List Token) → AllZip SaysName p.1 us → word n ∷ a ∷ b ∷ ts ≡ word p.0 ∷ us → 2 ≤ length p.1
+    more [] h s = absurd (cc)
+    more (u ∷ []) h s = absurd (cc)
+    more (u ∷ v ∷ us) h s = zip_two p.1 u v us h
+members_said (text t ∷ a ∷ b ∷ ts) p e = absurd (cc)
+members_said (open_paren ∷ a ∷ b ∷ ts) p e = absurd (cc)
+members_said (close_paren ∷ a ∷ b ∷ ts) p e = absurd (cc)
+members_said (comma ∷ a ∷ b ∷ ts) p e = absurd (cc)
+members_said (arrow ∷ a ∷ b ∷ ts) p e = absurd (cc)
+members_said (operator o ∷ a ∷ b ∷ ts) p e = absurd (cc)
+members_said (stray ∷ a ∷ b ∷ ts) p e = absurd (cc)
+
+members_from : (n : Bytes) (xs : List Bytes) (us : List Token) → IsName n → 2 ≤ length xs → AllZip SaysName xs us
+    → name_and_members (word n ∷ us) ≡ Some (n, xs)
+members_from n [] us named two h = absurd (omega (arith, two))
+members_from n (x ∷ []) us named two h = absurd (omega (arith, two))
+members_from n (x ∷ y ∷ xs) [] named two h = absurd h
+members_from n (x ∷ y ∷ xs) (u ∷ []) named two h = absurd h.1
+members_from n (x ∷ y ∷ xs) (u ∷ v ∷ us) named two h =
+    any_from name_of SaysName name_from n (x ∷ y ∷ xs) (u ∷ v ∷ us) named h
+
 -- One name, two names, a count.
 
 one_said : (ts : List Token) (n : Bytes) → one_name ts ≡ Some n → IsName n × (ts ≡ word n ∷ [])
@@ -362,6 +536,7 @@ keyword_text RelWord = codes "rel"
 keyword_text AddWord = codes "add"
 keyword_text DelWord = codes "del"
 keyword_text QueryWord = codes "query"
+keyword_text UnionWord = codes "union"
 keyword_text DropWord = codes "drop"
 keyword_text OpenWord = codes "open"
 keyword_text NextWord = codes "next"
@@ -384,7 +559,8 @@ keyword_said w k e =
     pick (bytes_eq w (codes "add")) (Some AddWord) _ (Some k) e1 (λ is h. text_is w AddWord k is h) (λ _ e2.
     pick (bytes_eq w (codes "del")) (Some DelWord) _ (Some k) e2 (λ is h. text_is w DelWord k is h) (λ _ e3.
     pick (bytes_eq w (codes "query")) (Some QueryWord) _ (Some k) e3 (λ is h. text_is w QueryWord k is h) (λ _ e4.
-    pick (bytes_eq w (codes "drop")) (Some DropWord) _ (Some k) e4 (λ is h. text_is w DropWord k is h) (λ _ e5.
+    pick (bytes_eq w (codes "union")) (Some UnionWord) _ (Some k) e4 (λ is h. text_is w UnionWord k is h) (λ _ f4.
+    pick (bytes_eq w (codes "drop")) (Some DropWord) _ (Some k) f4 (λ is h. text_is w DropWord k is h) (λ _ e5.
     pick (bytes_eq w (codes "open")) (Some OpenWord) _ (Some k) e5 (λ is h. text_is w OpenWord k is h) (λ _ e6.
     pick (bytes_eq w (codes "next")) (Some NextWord) _ (Some k) e6 (λ is h. text_is w NextWord k is h) (λ _ e7.
     pick (bytes_eq w (codes "close")) (Some CloseWord) _ (Some k) e7 (λ is h. text_is w CloseWord k is h) (λ _ e8.
@@ -398,7 +574,7 @@ keyword_said w k e =
     pick (bytes_eq w (codes "abandon")) (Some AbandonWord) _ (Some k) e15 (λ is h. text_is w AbandonWord k is h) (λ _ e16.
     pick (bytes_eq w (codes "quit")) (Some QuitWord) _ (Some k) e16 (λ is h. text_is w QuitWord k is h) (λ _ e17.
     pick (bytes_eq w (codes "stop")) (Some StopWord) None (Some k) e17 (λ is h. text_is w StopWord k is h) (λ _ e18.
-    absurd (cc)))))))))))))))))))
+    absurd (cc))))))))))))))))))))
   where
     text_is : (w : Bytes) (here k : Keyword) → bytes_eq w (keyword_text here) ≡ true → Some here ≡ Some k → w ≡ keyword_text k
     text_is w here k is h = let same : here ≡ k = cc in (bytes_eq-decides w (keyword_text here)).0 is ∙ ap keyword_text same
@@ -436,6 +612,11 @@ behind_said DelWord ts c e =
 behind_said QueryWord ts c e =
     let found = map_some (λ q. Register q) (query_in ts) c e in
     subst (λ (d : Command). Says d (word (codes "query") ∷ ts)) found.2 (ts, query_said ts found.0 found.1, refl)
+behind_said UnionWord ts c e =
+    let found = map_some (λ (p : Bytes × List Bytes). Union p.0 p.1) (name_and_members ts) c e in
+    let some = members_said ts found.0 found.1 in
+    subst (λ (d : Command). Says d (word (codes "union") ∷ ts)) found.2
+    (some.0.items, some.0.named, some.1, some.0.say, ap (λ us. word (codes "union") ∷ us) some.0.split)
 behind_said DropWord ts c e = named_one (codes "drop") (λ q. Drop q) ts c (λ n us s. s) e
 behind_said OpenWord ts c e =
     let found = map_some (λ (p : Bytes × Bytes). Open p.0 p.1) (two_names ts) c e in
@@ -478,6 +659,9 @@ said_read (Rel n cs) ts s = ap command_in s.4 ∙ ap (option_map (λ (p : Bytes 
 said_read (Add n vs) ts s = ap command_in s.1.3 ∙ ap (option_map (λ (p : Bytes × Tuple). Add p.0 p.1)) (some_from literal_of SaysValue value_from n vs s.1.0 s.1.1 s.0 s.1.2)
 said_read (Del n vs) ts s = ap command_in s.1.3 ∙ ap (option_map (λ (p : Bytes × Tuple). Del p.0 p.1)) (some_from literal_of SaysValue value_from n vs s.1.0 s.1.1 s.0 s.1.2)
 said_read (Register q) ts s = ap command_in s.2 ∙ ap (option_map (λ p. Register p)) (query_from q s.0 s.1)
+said_read (Union n ms) ts s =
+    ap command_in s.4
+    ∙ ap (option_map (λ (p : Bytes × List Bytes). Union p.0 p.1)) (members_from n ms s.0 s.1 s.2 s.3)
 said_read (Drop q) ts s = ap command_in s.1 ∙ ap (option_map (λ n. Drop n)) (cond-true _ _ _ s.0)
 said_read (Open c q) ts s = ap command_in s.2 ∙ ap (option_map (λ (p : Bytes × Bytes). Open p.0 p.1)) (cond-true _ _ _ (and_from (is_name c) (is_name q) s.0 s.1))
 said_read (Next c k) ts s =

@@ -14,13 +14,45 @@ use Rattle.djq_model.specs.declared.query.Comparison.{Comparison}
 use Rattle.djq_model.specs.declared.query.Term.{Term}
 use Rattle.djq_model.specs.declared.query.Term.TheVariants.{Variable, Hole, Constant}
 use Rattle.djq_lines.specs.declared.command.Command.{Command}
-use Rattle.djq_lines.specs.declared.command.Command.TheVariants.{Rel, Add, Del, Query as Register, Drop, Open, Next, Close, Has, Watch, Unwatch, Explain, Shape, Batch, Done, Abandon, Quit, Stop}
+use Rattle.djq_lines.specs.declared.command.Command.TheVariants.{
+  Rel,
+  Add,
+  Del,
+  Query as Register,
+  Union,
+  Drop,
+  Open,
+  Next,
+  Close,
+  Has,
+  Watch,
+  Unwatch,
+  Explain,
+  Shape,
+  Batch,
+  Done,
+  Abandon,
+  Quit,
+  Stop,
+}
 use Rattle.djq_value.specs.Token.{Token, word, text, open_paren, close_paren, comma, arrow, operator, stray, tokens}
 use Rattle.djq_value.specs.Spelling.{HasNoStray}
 use Rattle.djq_value.proofs.Spellings.{tokens_are_spelled}
 use Rattle.djq_lines.specs.Grammar.{Item, atom, comparison, command_in, command_of, past_item}
 use Rattle.djq_proto.specs.Laws.{Spells}
-use Rattle.djq_proto.specs.Saying.{Says, SaysAtom, SaysComparison, SaysItem, SaysItems, SaysName, SaysTerm, SaysType, SaysValue, list_tokens, more_tokens}
+use Rattle.djq_proto.specs.Saying.{
+  Says,
+  SaysAtom,
+  SaysComparison,
+  SaysItem,
+  SaysItems,
+  SaysName,
+  SaysTerm,
+  SaysType,
+  SaysValue,
+  list_tokens,
+  more_tokens,
+}
 use Rattle.djq_proto.proofs.Numerals.{guard_some}
 use Rattle.djq_proto.proofs.Sayings.{commands_are_said}
 use Rattle.djq_proto.proofs.Utf8.{utf8_yes}
@@ -109,6 +141,7 @@ says_real (Del n vs) ts s = as_real ts _ s.1.3 (items_real SaysValue value_real 
 says_real (Register q) ts s =
     let r = s.1 in
     as_real ts _ s.2 (as_real s.0 _ r.5 (append_real (list_tokens r.0) (arrow ∷ r.1) (list_real SaysName name_real q.head r.0 r.3) (body_real 0 r.4.0 r.1 r.4.1)))
+says_real (Union n ms) ts s = as_real ts _ s.4 (items_real SaysName name_real ms s.0 s.3)
 says_real (Drop q) ts s = as_real ts _ s.1 tt
 says_real (Open c q) ts s = as_real ts _ s.2 tt
 says_real (Next c k) ts s = as_real ts _ s.5 tt

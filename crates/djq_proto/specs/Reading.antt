@@ -1,5 +1,5 @@
 -- What reading a line, or a part of it, answers.
-use Rattle.std.specs.Prelude.{◌≡◌, ◌&&◌, List, Bool, true, false, Option, None, Some, Result, Ok, Err}
+use Rattle.std.specs.Prelude.{◌≡◌, ◌&&◌, List, ◌∷◌, Bool, true, false, Option, None, Some, Result, Ok, Err}
 use Rattle.std.specs.List.{list_all}
 use Rattle.djq_model.specs.Data.{Bytes}
 use Rattle.djq_model.specs.declared.query.Query.{Query}
@@ -38,6 +38,11 @@ is_small_query q = is_small_body (q.atoms, q.comparisons)
 abbrev pub is_comma : Token → Bool
 is_comma comma = true
 is_comma _ = false
+
+-- whether three tokens are there
+abbrev pub has_three : List Token → Bool
+has_three (a ∷ b ∷ c ∷ ts) = true
+has_three _ = false
 
 -- whether something is outside the grammar
 abbrev pub is_outside : {A : Type 0} → Result A LineRefusal → Bool

@@ -1,5 +1,25 @@
 -- What tokens say a command: the grammar as a relation, told without reading.
-use Rattle.std.specs.Prelude.{◌≡◌, ℕ, ℤ, pos, ◌-◌, ◌+◌, ◌*◌, ◌^◌, ◌<◌, ◌≤◌, ◌⊎◌, neg_ℤ, List, [], ◌∷◌, ◌++◌, true, codes, length}
+use Rattle.std.specs.Prelude.{
+  ◌≡◌,
+  ℕ,
+  ℤ,
+  pos,
+  ◌-◌,
+  ◌+◌,
+  ◌*◌,
+  ◌^◌,
+  ◌<◌,
+  ◌≤◌,
+  ◌⊎◌,
+  neg_ℤ,
+  List,
+  [],
+  ◌∷◌,
+  ◌++◌,
+  true,
+  codes,
+  length,
+}
 use Rattle.std.specs.List.{AllZip, list_all}
 use Rattle.djq_model.specs.Data.{Bytes, Tuple}
 use Rattle.djq_model.specs.declared.value.Value.{Value}
@@ -13,7 +33,27 @@ use Rattle.djq_model.specs.declared.query.Comparison.{Comparison}
 use Rattle.djq_model.specs.declared.query.Query.{Query}
 use Rattle.djq_lines.specs.declared.limits.TheConstants.{NEXT_COUNT}
 use Rattle.djq_lines.specs.declared.command.Command.{Command}
-use Rattle.djq_lines.specs.declared.command.Command.TheVariants.{Rel, Add, Del, Query as Register, Drop, Open, Next, Close, Has, Watch, Unwatch, Explain, Shape, Batch, Done, Abandon, Quit, Stop}
+use Rattle.djq_lines.specs.declared.command.Command.TheVariants.{
+  Rel,
+  Add,
+  Del,
+  Query as Register,
+  Union,
+  Drop,
+  Open,
+  Next,
+  Close,
+  Has,
+  Watch,
+  Unwatch,
+  Explain,
+  Shape,
+  Batch,
+  Done,
+  Abandon,
+  Quit,
+  Stop,
+}
 use Rattle.djq_value.specs.Token.{Token, word, text, open_paren, close_paren, comma, arrow, operator}
 use Rattle.djq_value.specs.Literal.{is_digit, is_name}
 use Rattle.djq_lines.specs.Grammar.{Item, atom, comparison, past_item}
@@ -126,6 +166,8 @@ Says (Rel n cs) ts = (us : List Token) × IsName n × (0 < length cs) × AllZip 
 Says (Add n vs) ts = (0 < length vs) × SaysRow (codes "add") n vs ts
 Says (Del n vs) ts = (0 < length vs) × SaysRow (codes "del") n vs ts
 Says (Register q) ts = (us : List Token) × SaysQuery q us × (ts ≡ word (codes "query") ∷ us)
+Says (Union n ms) ts = (us : List Token) × IsName n × (2 ≤ length ms) × AllZip SaysName ms us
+    × (ts ≡ word (codes "union") ∷ word n ∷ us)
 Says (Drop q) ts = SaysOne (codes "drop") q ts
 Says (Open c q) ts = IsName c × IsName q × (ts ≡ word (codes "open") ∷ word c ∷ word q ∷ [])
 Says (Next c k) ts = (ds : Bytes) × IsName c × IsNumeral ds k × (1 ≤ k) × (k ≤ NEXT_COUNT) × (ts ≡ word (codes "next") ∷ word c ∷ word ds ∷ [])

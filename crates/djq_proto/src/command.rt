@@ -5,7 +5,8 @@ ghost use Rattle.djq_proto.specs.Reading.{Gives, Reads};
 
 use crate::keyword::read_keyword;
 use crate::parts::{
-    read_count, read_named_any, read_named_some, read_nothing, read_one_name, read_two_names,
+    read_count, read_members, read_named_any, read_named_some, read_nothing, read_one_name,
+    read_two_names,
 };
 use crate::query::read_query;
 use crate::refusal::LineRefusal;
@@ -20,7 +21,8 @@ use std::str;
 /// # Errors
 ///
 /// `Syntax` exactly where the line is outside the grammar. Else `Range` exactly where a literal is
-/// past its limit. `NoMem` only for a line that is in range and holds types, literals or a query.
+/// past its limit. `NoMem` only for a line that is in range and holds types, literals, a query or
+/// members of a union.
 pub fn read_command(alloc: Global, line: &[u8]) -> Result<Command, LineRefusal>
     ensures { Reads line.now result }
 {
@@ -75,6 +77,10 @@ fn read_behind(
         Keyword::Query => {
             let query = read_query(alloc, lexer)?;
             Ok(Command::Query { query })
+        }
+        Keyword::Union => {
+            let (name, members) = read_members(alloc, lexer)?;
+            Ok(Command::Union { name, members })
         }
         Keyword::Open => {
             let (cursor, query) = read_two_names(lexer)?;

@@ -17,6 +17,8 @@ pub(crate) fn read_keyword(word: &[u8]) -> Option<Keyword>
         Some(Keyword::Del)
     } else if is_text(word, b"query") {
         Some(Keyword::Query)
+    } else if is_text(word, b"union") {
+        Some(Keyword::Union)
     } else if is_text(word, b"drop") {
         Some(Keyword::Drop)
     } else if is_text(word, b"open") {

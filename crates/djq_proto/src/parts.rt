@@ -1,11 +1,11 @@
 // What stands behind a keyword, to the line's end.
-ghost use Rattle.std.specs.Prelude.{◌≡◌, Err, Ok};
+ghost use Rattle.std.specs.Prelude.{◌≡◌, true, Err, Ok};
 ghost use Rattle.std.specs.List.{list_all};
 ghost use Rattle.std.specs.Option.{ok_or};
 ghost use Rattle.djq_value.specs.Literal.{natural_of};
 ghost use Rattle.djq_lines.specs.Grammar.{count_of, name_and_count, named_any, named_some, nothing};
-ghost use Rattle.djq_lines.specs.Grammar.{one_name, two_names};
-ghost use Rattle.djq_proto.specs.Reading.{ReadsAs};
+ghost use Rattle.djq_lines.specs.Grammar.{name_and_members, one_name, two_names};
+ghost use Rattle.djq_proto.specs.Reading.{has_three as has_three_of, ReadsAs};
 ghost use Rattle.djq_proto.specs.declared.refusal.LineRefusal.TheVariants.{Syntax};
 
 use crate::item::Item;
@@ -13,7 +13,7 @@ use crate::items::read_all;
 use crate::refusal::LineRefusal;
 use djq_lines::Command;
 use djq_lines::limits::NEXT_COUNT;
-use djq_model::{Name, Sequence};
+use djq_model::{Name, Names, Sequence};
 use djq_value::{Lexer, next_name, next_word, read_natural};
 use std::alloc::Global;
 
@@ -48,6 +48,27 @@ pub(crate) fn read_named_any<T: Item>(
     };
     let items = read_all(alloc, lexer)?;
     Ok((name, items))
+}
+
+// A name, and names of which there are two at least.
+pub(crate) fn read_members(
+    alloc: Global,
+    lexer: &mut Lexer<'_>,
+) -> Result<(Name, Names), LineRefusal>
+    ensures { ReadsAs (λ p. list_all (λ _. true) p.1) (name_and_members lexer.old) result }
+{
+    if !has_three(lexer) {
+        return Err(LineRefusal::Syntax);
+    }
+    read_named_some::<Name>(alloc, lexer)
+}
+
+// Whether three tokens are left.
+fn has_three(lexer: &Lexer<'_>) -> bool
+    ensures { result ≡ has_three_of lexer.now }
+{
+    let mut ahead = lexer.fork();
+    ahead.next().is_some() && ahead.next().is_some() && ahead.next().is_some()
 }
 
 // One name.

@@ -11,6 +11,7 @@ fn command_letter(command: &Command) -> char {
         Command::Add { .. } => 'a',
         Command::Del { .. } => 'd',
         Command::Query { .. } => 'q',
+        Command::Union { .. } => 'm',
         Command::Open { .. } => 'o',
         Command::Next { .. } => 'n',
         Command::Close { .. } => 'c',
@@ -138,8 +139,14 @@ fn reads_lines(rt: HostRuntime) {
     }
 }
 
-// Lines of queries, likewise.
-const QUERIES: [(&[u8], char); 54] = [
+// Lines of queries and unions, likewise.
+const QUERIES: [(&[u8], char); 60] = [
+    (b"union u a b", 'm'),
+    (b"union union a a b c d e f g h i", 'm'),
+    (b"union u a", 'S'),
+    (b"union u", 'S'),
+    (b"union u a 1", 'S'),
+    (b"union u a, b", 'S'),
     (b"query q(x, y) <- r(y, x)", 'q'),
     (b"query q ( ) <-r()", 'q'),
     (b"query q(x)<-r(x)", 'q'),

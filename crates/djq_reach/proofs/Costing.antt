@@ -72,7 +72,7 @@ sums_one a b x p (y ∷ ys) all one e = step (y == p) refl e (λ h. sums_one a b
         omega (arith, more, all y, sum_by-cons a y ys, sum_by-cons b y ys)
 
 -- different places, among others
-sums_within : (f : ℕ → ℕ) (places ys : List ℕ) → AreOnce places → ((i : ℕ) → is_reader places i ≡ true → is_reader ys i ≡ true)
+pub sums_within : (f : ℕ → ℕ) (places ys : List ℕ) → AreOnce places → ((i : ℕ) → is_reader places i ≡ true → is_reader ys i ≡ true)
     → sum_by f places ≤ sum_by (λ i. cond (is_reader places i) (f i) 0) ys
 sums_within f [] ys once inside = omega arith
 sums_within f (p ∷ places) ys once inside =

@@ -6,7 +6,7 @@
 ghost use Rattle.std.specs.Prelude.{◌≡◌, ◌≤◌, ◌++◌, codes, length};
 ghost use Rattle.djq_lines.specs.Reply.{answer_line, at_line, cells_text, change_line, last_line};
 ghost use Rattle.djq_lines.specs.Reply.{line};
-ghost use Rattle.djq_lines.specs.Reply.{sign_text as sign_text_of};
+ghost use Rattle.djq_lines.specs.Reply.{member_line, sign_text as sign_text_of};
 ghost use Rattle.djq_reply.specs.Adding.{Adds};
 ghost use Rattle.djq_reply.specs.Taking.{IsTaken};
 ghost use Rattle.djq_value.specs.Output.{Puts};
@@ -206,7 +206,23 @@ pub fn put_explained(lines: &[u8], out: &mut BytesMut) -> Result<(), NoMem>
     Ok(())
 }
 
-/// Appends the last line of a listing.
+/// Appends the line that explains one member of a union.
+///
+/// # Errors
+///
+/// `NoMem` comes only where the room is too small and can't grow; the output is then as before.
+pub fn put_member(name: &Name, out: &mut BytesMut) -> Result<(), NoMem>
+    ensures { Puts out.old out.new (member_line name.now) result }
+{
+    let name = name.as_bytes();
+    out.reserve(name.len() + 3 + KEPT)?;
+    out.extend_reserved(b"m ");
+    out.extend_reserved(name);
+    out.extend_reserved(b"\n");
+    Ok(())
+}
+
+/// Appends the last line of a listing, or of what explains a union.
 ///
 /// # Errors
 ///

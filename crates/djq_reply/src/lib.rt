@@ -11,9 +11,11 @@
 //! put_registered Registered(5)                ok query 5
 //! say_held       Ok(()), with 3 rows held     ok held 3
 //! say_batch_done Ok(2), at 9 changes          ok done 9 2
+//! say_union      Ok(20)                       ok union 20
 //! put_answer     the answer (1, "a")          = 1 "a"
 //! put_change     Came, q, the same            + q 1 "a"
 //! put_at         q, 7                         at q 7
+//! put_member     q                            m q
 //! say_end        EndLine::Slow                end slow
 //! ```
 //!
@@ -31,11 +33,11 @@
 #![tactic(auto)]
 
 pub use ending::{end_bytes, say_cut, say_end};
-pub use growing::{put_answer, put_at, put_change, put_explained, put_last};
+pub use growing::{put_answer, put_at, put_change, put_explained, put_last, put_member};
 pub use registered::put_registered;
 pub use short::{
     say_added, say_batch, say_batch_done, say_bye, say_deleted, say_done, say_has, say_held,
-    say_opened, say_refused, say_shape, say_stale, say_watched,
+    say_opened, say_refused, say_shape, say_stale, say_union, say_watched,
 };
 
 mod ending;

@@ -23,6 +23,7 @@ pub(crate) fn refusal_words(refusal: Refusal) -> &'static [u8]
         Refusal::NoMemory => b"err 12 memory",
         Refusal::InUse => b"err 14 in use",
         Refusal::Unbound => b"err 16 unbound",
+        Refusal::Member => b"err 17 member",
         Refusal::Misplaced => b"err 18 batch",
     }
 }

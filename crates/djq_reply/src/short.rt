@@ -3,7 +3,8 @@ ghost use Rattle.std.specs.Prelude.{◌≡◌, ◌+◌, ◌<◌, ◌≤◌, ◌+
 ghost use Rattle.std.specs.Fmt.{decimal};
 ghost use Rattle.djq_lines.specs.Reply.{add_reply, bye, delete_reply, done_reply, has_reply};
 ghost use Rattle.djq_lines.specs.Reply.{held_reply, line, numbered, numbered_twice, ok_reply};
-ghost use Rattle.djq_lines.specs.Reply.{refusal_line, shape_reply, stale_line, watch_reply};
+ghost use Rattle.djq_lines.specs.Reply.{refusal_line, shape_reply, stale_line, union_reply};
+ghost use Rattle.djq_lines.specs.Reply.{watch_reply};
 ghost use Rattle.djq_lines.specs.declared.limits.TheConstants.{LAST_LINE_BYTES, REPLY_BYTES};
 ghost use Rattle.djq_value.specs.Output.{Says};
 
@@ -149,6 +150,19 @@ pub fn say_shape(out: &mut BytesMut, outcome: Result<Shape, Refusal>)
     match outcome {
         Ok(Shape::Flat) => say(out, b"flat"),
         Ok(Shape::Linear) => say(out, b"linear"),
+        Ok(Shape::Union) => say(out, b"union"),
+        Err(refusal) => say_refused(out, refusal),
+    }
+}
+
+/// Answers `union`, by the most lookups and links for one of its answers.
+pub fn say_union(out: &mut BytesMut, outcome: Result<u64, Refusal>)
+    requires room { REPLY_BYTES + LAST_LINE_BYTES ≤ out.old.spare }
+    ensures kept { LAST_LINE_BYTES ≤ out.new.spare }
+    ensures says { Says out.old out.new (union_reply outcome) }
+{
+    match outcome {
+        Ok(most) => say_number(out, b"ok union ", most),
         Err(refusal) => say_refused(out, refusal),
     }
 }

@@ -11,7 +11,7 @@ use std::test::Fail;
 
 #[test]
 fn refusals_have_their_words(rt: HostRuntime) -> Result<(), Fail> {
-    let cases: [(Refusal, &[u8]); 15] = [
+    let cases: [(Refusal, &[u8]); 16] = [
         (Refusal::Syntax, b"err 1 syntax\n"),
         (Refusal::Taken, b"err 2 taken\n"),
         (Refusal::NoRelation, b"err 3 no relation\n"),
@@ -26,6 +26,7 @@ fn refusals_have_their_words(rt: HostRuntime) -> Result<(), Fail> {
         (Refusal::NoMemory, b"err 12 memory\n"),
         (Refusal::InUse, b"err 14 in use\n"),
         (Refusal::Unbound, b"err 16 unbound\n"),
+        (Refusal::Member, b"err 17 member\n"),
         (Refusal::Misplaced, b"err 18 batch\n"),
     ];
     for (refusal, want) in cases {
@@ -65,6 +66,10 @@ fn answers_commands(rt: HostRuntime) -> Result<(), Fail> {
     out.reserve(REPLY_BYTES + LAST_LINE_BYTES)?;
     say_shape(&mut out, Ok(Shape::Linear));
     out.reserve(REPLY_BYTES + LAST_LINE_BYTES)?;
+    say_shape(&mut out, Ok(Shape::Union));
+    out.reserve(REPLY_BYTES + LAST_LINE_BYTES)?;
+    say_union(&mut out, Ok(20));
+    out.reserve(REPLY_BYTES + LAST_LINE_BYTES)?;
     say_watched(&mut out, Ok(()), 33);
     out.reserve(REPLY_BYTES + LAST_LINE_BYTES)?;
     say_stale(&mut out, &Name::new(b"c"), &Name::new(b"rel"), 5);
@@ -78,7 +83,11 @@ fn answers_commands(rt: HostRuntime) -> Result<(), Fail> {
     say_bye(&mut out);
     assert_eq!(rt;
         out.as_slice(),
-        b"ok\nok open\nok added 18446744073709551615 1\nok added 0 4294967295\nok removed 3 0\nok removed 3 12\nok absent 3\nok query 5\nyes\nno\nflat\nlinear\nok watch 33\nstale c rel 5\nok batch\nok held 1000\nok done 18446744073709551615 2\nbye\n".as_slice()
+        b"ok\nok open\nok added 18446744073709551615 1\nok added 0 4294967295\n\
+            ok removed 3 0\nok removed 3 12\nok absent 3\nok query 5\nyes\nno\n\
+            flat\nlinear\nunion\nok union 20\nok watch 33\nstale c rel 5\nok batch\n\
+            ok held 1000\nok done 18446744073709551615 2\nbye\n"
+            .as_slice()
     );
     Ok(())
 }
@@ -215,5 +224,15 @@ fn prints_what_explains_a_tree(rt: HostRuntime) -> Result<(), Fail> {
         out.as_slice(),
         b"n 0 leaf r x out\nn 1 trim 0 - out\nend\n".as_slice()
     );
+    Ok(())
+}
+
+#[test]
+fn prints_what_explains_a_union(rt: HostRuntime) -> Result<(), Fail> {
+    let mut out = BytesMut::new(rt.alloc());
+    put_member(&Name::new(b"near"), &mut out)?;
+    put_member(&Name::new(b"far"), &mut out)?;
+    put_last(true, &mut out)?;
+    assert_eq!(rt; out.as_slice(), b"m near\nm far\nend\n".as_slice());
     Ok(())
 }

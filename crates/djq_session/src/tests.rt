@@ -186,6 +186,10 @@ fn answers_queries(session: &mut Numbered) -> Result<(), NoMem> {
     session.keep(REPLY_BYTES)?;
     session.answer_registered(&Ok(QueryOutcome::Registered(5)))?;
     session.keep(REPLY_BYTES)?;
+    session.answer_united(Ok(12));
+    session.keep(REPLY_BYTES)?;
+    session.answer_united(Err(Refusal::Member));
+    session.keep(REPLY_BYTES)?;
     session.answer_opened(Ok(()));
     session.keep(REPLY_BYTES)?;
     session.answer_opened(Err(Refusal::NoQuery));
@@ -206,7 +210,7 @@ fn commands_are_answered(rt: HostRuntime) -> Result<(), Fail> {
     answers_queries(&mut session)?;
     assert_eq!(rt;
         session.pending(),
-        b"ok query 5\nok open\nerr 4 no query\nstale c rel 3\n".as_slice()
+        b"ok query 5\nok union 12\nerr 17 member\nok open\nerr 4 no query\nstale c rel 3\n".as_slice()
     );
     Ok(())
 }

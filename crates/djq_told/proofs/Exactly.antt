@@ -1,10 +1,38 @@
 -- A session that watches a query is told its deltas, and no other line of these forms.
-use Rattle.std.specs.Prelude.{ℕ, List, [], ◌∷◌, ◌++◌, ◌==◌, ◌≡◌, ◌≢◌, ◌⊎◌, ◌&&◌, Bool, true, false, cond, filter, Some, map, All, AllPairs, Contains}
+use Rattle.std.specs.Prelude.{
+  ℕ,
+  List,
+  [],
+  ◌∷◌,
+  ◌++◌,
+  ◌==◌,
+  ◌≡◌,
+  ◌≢◌,
+  ◌⊎◌,
+  ◌&&◌,
+  Bool,
+  true,
+  false,
+  cond,
+  filter,
+  Some,
+  map,
+  All,
+  AllPairs,
+  Contains,
+}
 use Rattle.std.specs.List.{list_any}
 use Rattle.std.proofs.Common.{refl, sym, ap, ap₂, ◌∙◌, subst, inl, inr, arith, append-nil}
-use Rattle.std.proofs.lemmas.List.Elements.{All-nil, All-cons, All-head, All-tail, All-contains, All-weaker, filter-append}
+use Rattle.std.proofs.lemmas.List.Elements.{
+  All-nil,
+  All-cons,
+  All-head,
+  All-tail,
+  All-contains,
+  All-weaker,
+  filter-append,
+}
 use Rattle.std.proofs.lemmas.List.Kept.{AllPairs-cons, AllPairs-filter}
-use Rattle.djq_model.specs.declared.relation.Relation.{Relation}
 use Rattle.djq_model.specs.Data.{Bytes, bytes_eq}
 use Rattle.djq_model.specs.Equality.{bytes_eq-decides}
 use Rattle.djq_model.specs.Listed.{Listed, listed_name, AnswersOf, listed_of}
@@ -13,7 +41,17 @@ use Rattle.djq_machine.specs.State.{State, Session, session_of}
 use Rattle.djq_machine.specs.Delta.{Change, IsDelta}
 use Rattle.djq_machine.specs.Changes.{RowsChange, is_outdated}
 use Rattle.djq_machine.specs.Watch.{is_watching, affected, Delta, AreDeltas}
-use Rattle.djq_deltas.proofs.Lists.{nothing_there, first_or_later, first_there, later_there, kept_there, mapped_there, hold_each, pairs_head, pairs_tail}
+use Rattle.djq_deltas.proofs.Lists.{
+  nothing_there,
+  first_or_later,
+  first_there,
+  later_there,
+  kept_there,
+  mapped_there,
+  hold_each,
+  pairs_head,
+  pairs_tail,
+}
 use Rattle.djq_laws.proofs.Containing.{found_there, any_there, mapped_from}
 use Rattle.djq_told.specs.Told.{is_told_of, delta_replies}
 use Rattle.djq_told.proofs.Hearing.{heard, all_heard}
@@ -134,9 +172,9 @@ of_one ws n (k ∷ ds) d apart c watched =
 
 -- ---- the deltas of a change
 
-module _ (old : State) (change : RowsChange) (after : List Relation) (ds : List Delta)
+module _ (old : State) (change : RowsChange) (ds : List Delta)
     (apart : AllPairs (λ a b. listed_name a ≢ listed_name b) old.store.queries)
-    (deltas : AreDeltas old.store.relations after (affected old change) ds) where
+    (deltas : AreDeltas old.store.relations change (affected old change) ds) where
   deltas_apart : AllPairs (λ a b. listed_name a.query ≢ listed_name b.query) ds
   deltas_apart =
       pairs_unmapped (λ a b. listed_name a ≢ listed_name b) (λ (d : Delta). d.query) ds
@@ -167,7 +205,7 @@ module _ (old : State) (change : RowsChange) (after : List Relation) (ds : List 
   pub told_one : (q : Listed) (s : ℕ) (x : Session) (n : ℕ) → session_of old s ≡ Some x
       → listed_of old.store.queries (listed_name q) ≡ Some q → is_outdated change q ≡ true
       → list_any (λ w. bytes_eq w (listed_name q)) x.watches ≡ true
-      → (changes : List Change) × IsDelta (AnswersOf old.store.relations q) (AnswersOf after q) changes
+      → (changes : List Change) × IsDelta (AnswersOf old.store.relations q) (AnswersOf change.after q) changes
       × (filter (is_told_of (listed_name q)) (all_heard x.watches n ds)
       ≡ delta_replies (listed_name q) (record { number = n; changes = changes }))
   told_one q s x n is registered outdated watching =
@@ -180,10 +218,11 @@ module _ (old : State) (change : RowsChange) (after : List Relation) (ds : List 
       let d = mapped_from (λ (k : Delta). k.query) ds q
       (subst (λ (qs : List Listed). Contains qs q) (sym deltas.of_queries) among) in
       let delta = All-contains
-      (λ (k : Delta). IsDelta (AnswersOf old.store.relations k.query) (AnswersOf after k.query) k.changes) ds d.0
+      (λ (k : Delta). IsDelta (AnswersOf old.store.relations k.query) (AnswersOf change.after k.query) k.changes) ds d.0
       deltas.are_deltas d.1 in (
         (d.0).changes,
-        subst (λ (p : Listed). IsDelta (AnswersOf old.store.relations p) (AnswersOf after p) (d.0).changes) d.2 delta,
+        subst (λ (p : Listed). IsDelta (AnswersOf old.store.relations p) (AnswersOf change.after p) (d.0).changes) d.2
+            delta,
         subst (λ (p : Listed). filter (is_told_of (listed_name p)) (all_heard x.watches n ds)
             ≡ delta_replies (listed_name p) (record { number = n; changes = (d.0).changes })) d.2
             (of_one x.watches n ds d.0 deltas_apart d.1

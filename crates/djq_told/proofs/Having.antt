@@ -236,16 +236,17 @@ module _ (s : ℕ) (name : Bytes) (P : List Tuple → Bool → Type 0) where
   calm_form (Some held) l Done calm = tt
   calm_form batch l c calm = tt
 
-  pub has_read : (old : State) (t : ℕ) (x : Session) (l : Bytes) (r : Reading) (e : Effect) (new : State)
-      → ((t == s) ≡ true → ReadsCalm r) → ReadStep old t x l r e new → Has s name P old → Has s name P new
-  has_read old t x l r e new calm h k = by (line_reads old t x l r e new h)
+  pub has_read : (old : State) (t : ℕ) (x : Session) (l : Bytes) (e : Effect) (new : State)
+      → ((t == s) ≡ true → ReadsCalm (reading_of l)) → ReadStep old t x l (reading_of l) e new → Has s name P old
+      → Has s name P new
+  has_read old t x l e new calm h k = by (line_reads old t x l (reading_of l) e new h)
     where
-      by : Reads old t x l r e new → Has s name P new
+      by : Reads old t x l (reading_of l) e new → Has s name P new
       by (turned_down why because d) = has_same old new d.1 k
       by (carried_out c is d) =
           has_form (form_of x.batch l c) old t x e new
           (λ same. calm_form x.batch l c (subst (λ (w : Reading). ReadsCalm w) is (calm same)))
-          (command_does old t x l c e new d) k
+          (command_does old t x l c e new is d) k
 
   pub has_line : (old : State) (t : ℕ) (rest : Bytes) → Has s name P old → Has s name P (with_session old t (behind_line rest))
   has_line old t rest h = has_kept old (with_session old t (behind_line rest)) t (behind_line rest) (λ x. refl) (λ x. refl) refl h
@@ -266,7 +267,7 @@ module _ (s : ℕ) (name : Bytes) (P : List Tuple → Bool → Type 0) where
   has_front old t x (no_room l) e new calm h k =
       has_ends (with_session old t (behind_line h.2.rest)) new t _ h.2.then.1 (has_line old t h.2.rest k)
   has_front old t x (run l) e new calm h k =
-      has_read (with_session old t (behind_line h.2.rest)) t (behind_line h.2.rest x) l (reading_of l) e new calm h.2.then
+      has_read (with_session old t (behind_line h.2.rest)) t (behind_line h.2.rest x) l e new calm h.2.then
       (has_line old t h.2.rest k)
 
   has_fed : (old : State) (t : ℕ) (bytes : Bytes) (e : Effect) (mid : State) (c : Option EndCause)

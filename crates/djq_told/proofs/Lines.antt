@@ -1,5 +1,32 @@
 -- Printed replies are lines of their own.
-use Rattle.std.specs.Prelude.{ℕ, pos, negsuc, suc, zero, List, [], ◌∷◌, ◌++◌, ◌==◌, ◌≡◌, ◌≢◌, ◌≤◌, ◌+◌, ◌*◌, ◌&&◌, ◌||◌, Bool, true, false, not, cond, length, map, codes, decimal}
+use Rattle.std.specs.Prelude.{
+  ℕ,
+  pos,
+  negsuc,
+  suc,
+  zero,
+  List,
+  [],
+  ◌∷◌,
+  ◌++◌,
+  ◌==◌,
+  ◌≡◌,
+  ◌≢◌,
+  ◌≤◌,
+  ◌+◌,
+  ◌*◌,
+  ◌&&◌,
+  ◌||◌,
+  Bool,
+  true,
+  false,
+  not,
+  cond,
+  length,
+  map,
+  codes,
+  decimal,
+}
 use Rattle.std.specs.List.{list_all, flat_map}
 use Rattle.std.specs.Int.Digits.{digits_of}
 use Rattle.std.proofs.Common.{refl, sym, ap, ◌∙◌, subst, arith}
@@ -15,7 +42,7 @@ use Rattle.djq_model.specs.Equality.{bytes_eq-decides}
 use Rattle.djq_value.specs.Literal.{is_lower, is_digit, is_name, is_small_value}
 use Rattle.djq_value.specs.ValueText.{escaped, value_text}
 use Rattle.djq_lines.specs.declared.answer.EndLine.TheVariants.{Long, Slow, Memory, Full}
-use Rattle.djq_lines.specs.declared.answer.Shape.TheVariants.{Flat, Linear}
+use Rattle.djq_lines.specs.declared.answer.Shape.TheVariants.{Flat, Linear, Union}
 use Rattle.djq_lines.specs.declared.answer.Sign.{Sign}
 use Rattle.djq_lines.specs.declared.answer.Sign.TheVariants.{Came, Went}
 use Rattle.djq_lines.specs.declared.answer.Refusal.TheVariants.{
@@ -33,6 +60,7 @@ use Rattle.djq_lines.specs.declared.answer.Refusal.TheVariants.{
   NoMemory,
   InUse,
   Unbound,
+  Member,
   Misplaced,
 }
 use Rattle.djq_lines.specs.Reply.{line, cells_text, sign_text}
@@ -55,6 +83,8 @@ use Rattle.djq_mirror.specs.Replies.{
   more,
   last,
   stale,
+  united,
+  member,
   had,
   shaped,
   watched,
@@ -300,10 +330,16 @@ printed_are_lines (stale c r n) p few =
     (name_plain r p.1)) space in
     let most = words.1 in
     words_number (stale c r n) (codes "stale " ++ c ++ codes " " ++ r ++ codes " ") n refl words.0 (omega (arith, most)) p.2
+printed_are_lines (united n) p few =
+    words_number (united n) (codes "ok union ") n refl (plain_bytes (codes "ok union ") refl) (omega arith) p
+printed_are_lines (member n) p few =
+    the_line (member n) (codes "m " ++ n) 34 refl
+    (behind (codes "m ") n 2 32 (plain_bytes (codes "m ") refl, omega arith) (name_plain n p)) (omega arith)
 printed_are_lines (had true) p few = fixed (had true) (codes "yes") refl refl (omega arith)
 printed_are_lines (had false) p few = fixed (had false) (codes "no") refl refl (omega arith)
 printed_are_lines (shaped Flat) p few = fixed (shaped Flat) (codes "flat") refl refl (omega arith)
 printed_are_lines (shaped Linear) p few = fixed (shaped Linear) (codes "linear") refl refl (omega arith)
+printed_are_lines (shaped Union) p few = fixed (shaped Union) (codes "union") refl refl (omega arith)
 printed_are_lines (watched n) p few =
     words_number (watched n) (codes "ok watch ") n refl (plain_bytes (codes "ok watch ") refl) (omega arith) p
 printed_are_lines (changed s q t) p few =
@@ -333,6 +369,7 @@ printed_are_lines (refused Limit) p few = fixed (refused Limit) (codes "err 11 l
 printed_are_lines (refused NoMemory) p few = fixed (refused NoMemory) (codes "err 12 memory") refl refl (omega arith)
 printed_are_lines (refused InUse) p few = fixed (refused InUse) (codes "err 14 in use") refl refl (omega arith)
 printed_are_lines (refused Unbound) p few = fixed (refused Unbound) (codes "err 16 unbound") refl refl (omega arith)
+printed_are_lines (refused Member) p few = fixed (refused Member) (codes "err 17 member") refl refl (omega arith)
 printed_are_lines (refused Misplaced) p few = fixed (refused Misplaced) (codes "err 18 batch") refl refl (omega arith)
 printed_are_lines (ended Long) p few = fixed (ended Long) (codes "end long") refl refl (omega arith)
 printed_are_lines (ended Slow) p few = fixed (ended Slow) (codes "end slow") refl refl (omega arith)

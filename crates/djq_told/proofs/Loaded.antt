@@ -5,7 +5,17 @@ use Rattle.std.proofs.lemmas.List.Elements.{All-nil, All-push}
 use Rattle.djq_model.specs.Data.{Bytes, Tuple}
 use Rattle.djq_lines.specs.declared.answer.Refusal.{Refusal}
 use Rattle.djq_lines.specs.declared.command.Command.{Command}
-use Rattle.djq_lines.specs.declared.command.Command.TheVariants.{Rel, Add, Del, Query as Register, Drop, Batch, Done, Abandon}
+use Rattle.djq_lines.specs.declared.command.Command.TheVariants.{
+  Rel,
+  Add,
+  Del,
+  Query as Register,
+  Union,
+  Drop,
+  Batch,
+  Done,
+  Abandon,
+}
 use Rattle.djq_lines.specs.declared.held.HeldRow.{HeldRow}
 use Rattle.djq_lines.specs.Grammar.{Reading, outside, past_limit, says as says_command, reading_of}
 use Rattle.djq_machine.specs.State.{Store, opening}
@@ -17,7 +27,16 @@ use Rattle.djq_told.specs.Loaded.{LoadedAreSayable}
 use Rattle.djq_told.specs.Sayable.{IsName, IsSayableRow, IsSayableStore, IsSayableHeld}
 use Rattle.djq_told.proofs.Reading.{IsSayableCommand, read_sayable}
 use Rattle.djq_told.proofs.Sayable.{opening_is_sayable}
-use Rattle.djq_told.proofs.Storing.{rel_sayable, add_sayable, del_sayable, query_sayable, drop_sayable, done_sayable, moved_store_sayable}
+use Rattle.djq_told.proofs.Storing.{
+  rel_sayable,
+  add_sayable,
+  del_sayable,
+  query_sayable,
+  union_sayable,
+  drop_sayable,
+  done_sayable,
+  moved_store_sayable,
+}
 
 -- The store is such, and the rows that the batch holds.
 record IsSayableLoading (l : Loading) : Type 0 where
@@ -33,6 +52,7 @@ store_loads old (Rel name types) how new h said k = rel_sayable old name types h
 store_loads old (Add name row) how new h said k = add_sayable old name row h.0 new h.1 said.1 k
 store_loads old (Del name row) how new h said k = del_sayable old name row h.0 new h.1 k
 store_loads old (Register q) how new h said k = query_sayable old q h.0 new h.1 said k
+store_loads old (Union name members) how new h said k = union_sayable old name members h.0 new h.1 said.0 k
 store_loads old (Drop q) how new h said k = drop_sayable old _ q h.0 new h.1 k
 store_loads old c how new h said k = subst IsSayableStore (sym h.1) k
 

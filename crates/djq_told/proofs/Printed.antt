@@ -3,12 +3,14 @@ use Rattle.std.specs.Prelude.{ℕ, List, [], ◌∷◌, ◌≡◌, ◌≤◌, tr
 use Rattle.std.proofs.Common.{refl, ap, ◌∙◌, arith}
 use Rattle.std.proofs.lemmas.Bool.{leb-false}
 use Rattle.std.proofs.lemmas.List.{length-map}
-use Rattle.std.proofs.lemmas.List.Elements.{All-nil, All-cons, All-head, All-tail}
+use Rattle.std.proofs.lemmas.List.Elements.{All-nil, All-cons, All-head, All-tail, All-contains}
 use Rattle.djq_model.specs.declared.value.Value.{Value}
 use Rattle.djq_model.specs.declared.value.Value.TheVariants.{Int, Text}
 use Rattle.djq_model.specs.declared.relation.Relation.{Relation}
+use Rattle.djq_model.specs.declared.query.Query.{Query}
 use Rattle.djq_model.specs.Data.{Bytes, Tuple, relation_of, counted_of}
-use Rattle.djq_model.specs.Listed.{Listed, a_query, listed_name, AnswersOf}
+use Rattle.djq_model.specs.Answer.{IsAnswer}
+use Rattle.djq_model.specs.Listed.{Listed, a_query, a_union, listed_name, AnswersOf}
 use Rattle.djq_model.proofs.Counted.{copies_hold}
 use Rattle.djq_lines.specs.Conditions.{OutOfMemoryWhere}
 use Rattle.djq_lines.specs.declared.limits.TheConstants.{LAST_SEQ, COPIES}
@@ -20,6 +22,7 @@ use Rattle.djq_machine.specs.State.{Store}
 use Rattle.djq_machine.specs.Store.{AddsRow, AddsAs, DeletesRow, DeletesAs, copies_of, add_refusal, delete_refusal}
 use Rattle.djq_machine.specs.Delta.{Change, HasChanged}
 use Rattle.djq_mirror.specs.Replies.{Reply, answer, changed, counted, is_cell, are_cells, IsNumber, IsPrinted}
+use Rattle.djq_deltas.proofs.Lists.{some_one}
 use Rattle.djq_laws.specs.Sound.{IsCopyCount, IsSoundStore}
 use Rattle.djq_laws.proofs.Forms.{done_of, none_holds}
 use Rattle.djq_laws.proofs.Rows.{counted_sound}
@@ -52,12 +55,19 @@ cells_fine (v ∷ t) h =
     rw first rest
 
 -- an answer of what is registered is printed, and has few cells
-pub answer_fine : (rs : List Relation) → All IsSayableRelation rs → (q : Listed) → IsSayableListed q → (t : Tuple)
-    → AnswersOf rs q t → IsFine (answer t)
-answer_fine rs h (a_query q) k t a =
+query_answer_fine : (rs : List Relation) → All IsSayableRelation rs → (q : Query) → IsSayableListed (a_query q)
+    → (t : Tuple) → IsAnswer rs q t → IsFine (answer t)
+query_answer_fine rs h q k t a =
     let few = k.1.few in
     let same = ap length a.on_head ∙ length-map q.head a.assignment in
     (cells_fine t (answer_sayable rs h (a_query q) k t a), omega (arith, few, same))
+
+pub answer_fine : (rs : List Relation) → All IsSayableRelation rs → (q : Listed) → IsSayableListed q → (t : Tuple)
+    → AnswersOf rs q t → IsFine (answer t)
+answer_fine rs h (a_query q) k t a = query_answer_fine rs h q k t a
+answer_fine rs h (a_union name qs) k t a =
+    let o = some_one (λ (q : Query). IsAnswer rs q t) qs a in
+    query_answer_fine rs h o.0 (All-contains (λ (q : Query). IsSayableListed (a_query q)) qs o.0 k.1 o.1) t o.2
 
 pub answers_fine : (rs : List Relation) → All IsSayableRelation rs → (q : Listed) → IsSayableListed q → (ts : List Tuple)
     → All (AnswersOf rs q) ts → All IsFine (map (λ t. answer t) ts)
@@ -70,6 +80,7 @@ answers_fine rs h q k (t ∷ ts) a =
 
 name_fine : (q : Listed) → IsSayableListed q → IsPrinted (counted (listed_name q) 0)
 name_fine (a_query q) k = (k.0.name, omega arith)
+name_fine (a_union name qs) k = (k.0, omega arith)
 
 pub delta_fine : (before after : List Relation) → All IsSayableRelation before → All IsSayableRelation after → (q : Listed)
     → IsSayableListed q → (n : ℕ) → IsNumber n → (changes : List Change)

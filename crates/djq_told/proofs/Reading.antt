@@ -1,5 +1,23 @@
 -- What a command says that a line is read as.
-use Rattle.std.specs.Prelude.{ℕ, List, [], ◌∷◌, ◌++◌, ◌≡◌, ◌≤◌, ◌&&◌, Bool, true, false, cond, length, Option, None, Some, All}
+use Rattle.std.specs.Prelude.{
+  ℕ,
+  List,
+  [],
+  ◌∷◌,
+  ◌++◌,
+  ◌≡◌,
+  ◌≤◌,
+  ◌&&◌,
+  Bool,
+  true,
+  false,
+  cond,
+  length,
+  Option,
+  None,
+  Some,
+  All,
+}
 use Rattle.std.specs.List.{AllZip, list_all}
 use Rattle.std.proofs.Common.{refl, sym, ap, ◌∙◌, subst, arith}
 use Rattle.std.proofs.lemmas.Bool.{and_parts}
@@ -22,6 +40,7 @@ use Rattle.djq_lines.specs.declared.command.Command.TheVariants.{
   Add,
   Del,
   Query as Register,
+  Union,
   Drop,
   Open,
   Next,
@@ -37,10 +56,44 @@ use Rattle.djq_lines.specs.declared.command.Command.TheVariants.{
   Quit,
   Stop,
 }
-use Rattle.djq_lines.specs.Grammar.{Item, atom, comparison, past_item, is_small_term, is_small_atom, is_in_range, command_of, past_limit, says as says_command, reading_in, reading_of}
-use Rattle.djq_proto.specs.Saying.{Says, SaysAtom, SaysComparison, SaysItem, SaysItems, SaysName, SaysTerm, SaysValue, list_tokens, more_tokens, atoms_among, comparisons_among}
+use Rattle.djq_lines.specs.Grammar.{
+  Item,
+  atom,
+  comparison,
+  past_item,
+  is_small_term,
+  is_small_atom,
+  is_in_range,
+  command_of,
+  past_limit,
+  says as says_command,
+  reading_in,
+  reading_of,
+}
+use Rattle.djq_proto.specs.Saying.{
+  Says,
+  SaysAtom,
+  SaysComparison,
+  SaysItem,
+  SaysItems,
+  SaysName,
+  SaysTerm,
+  SaysValue,
+  list_tokens,
+  more_tokens,
+  atoms_among,
+  comparisons_among,
+}
 use Rattle.djq_proto.proofs.Spelled.{commands_are_spelled}
-use Rattle.djq_told.specs.Sayable.{IsName, IsSayableValue, IsSayableRow, IsSayableTerm, IsSayableAtom, IsSayableComparison, IsSayableQuery}
+use Rattle.djq_told.specs.Sayable.{
+  IsName,
+  IsSayableValue,
+  IsSayableRow,
+  IsSayableTerm,
+  IsSayableAtom,
+  IsSayableComparison,
+  IsSayableQuery,
+}
 use Rattle.djq_told.proofs.Lengths.{query_weight, query_less}
 use Rattle.djq_told.proofs.Utf8.{HaveUtf8, texts_have_utf8}
 
@@ -50,6 +103,7 @@ IsSayableCommand (Rel name types) = IsName name
 IsSayableCommand (Add name row) = IsName name × IsSayableRow row
 IsSayableCommand (Del name row) = IsName name × IsSayableRow row
 IsSayableCommand (Register q) = IsSayableQuery q
+IsSayableCommand (Union name members) = IsName name × All IsName members
 IsSayableCommand (Drop q) = IsName q
 IsSayableCommand (Open c q) = IsName c × IsName q
 IsSayableCommand (Next c count) = IsName c
@@ -178,6 +232,7 @@ said_sayable (Rel name types) ts s h small = s.1
 said_sayable (Add name row) ts s h small = (s.1.1, row_said row s.1.0 s.1.2 (subst HaveUtf8 s.1.3 h).1.1 small)
 said_sayable (Del name row) ts s h small = (s.1.1, row_said row s.1.0 s.1.2 (subst HaveUtf8 s.1.3 h).1.1 small)
 said_sayable (Register q) ts s h small = query_said q ts s h small
+said_sayable (Union name members) ts s h small = (s.1, names_said members s.0 s.3)
 said_sayable (Drop q) ts s h small = s.0
 said_sayable (Open c q) ts s h small = (s.0, s.1)
 said_sayable (Next c count) ts s h small = s.1

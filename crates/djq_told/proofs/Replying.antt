@@ -38,7 +38,7 @@ use Rattle.std.proofs.lemmas.Bool.{leb-false}
 use Rattle.std.proofs.lemmas.List.Elements.{All-nil, All-cons, All-head, All-tail, All-append}
 use Rattle.djq_model.specs.declared.query.Query.{Query}
 use Rattle.djq_model.specs.Data.{Bytes, Tuple, bytes_eq}
-use Rattle.djq_model.specs.Listed.{Listed, a_query, listed_name, AnswersOf, listed_of}
+use Rattle.djq_model.specs.Listed.{Listed, a_query, a_union, listed_name, AnswersOf, listed_of}
 use Rattle.djq_hyper.specs.Hypergraph.{numbers_below}
 use Rattle.djq_hyper.specs.Naming.{name_at, edge_text, listed}
 use Rattle.djq_tree.specs.Labels.{label_at}
@@ -63,6 +63,7 @@ use Rattle.djq_lines.specs.declared.command.Command.TheVariants.{
   Add,
   Del,
   Query as Register,
+  Union,
   Drop,
   Open,
   Next,
@@ -94,6 +95,8 @@ use Rattle.djq_lines.specs.Reply.{
   add_reply,
   delete_reply,
   query_reply,
+  union_reply,
+  member_line,
   has_reply,
   shape_reply,
   watch_reply,
@@ -124,6 +127,8 @@ use Rattle.djq_mirror.specs.Replies.{
   more,
   last,
   stale as gone_stale,
+  united,
+  member,
   had,
   shaped,
   watched,
@@ -153,6 +158,7 @@ use Rattle.djq_machine.specs.Command.{
   ExplainStepOf,
   TellsLines,
   explain_lines,
+  union_lines,
   CommandStep,
 }
 use Rattle.djq_laws.specs.Sound.{IsSoundStore}
@@ -162,14 +168,21 @@ use Rattle.djq_laws.proofs.Finding.{some_and}
 use Rattle.djq_mirror.specs.declared.mode.Mode.{Mode}
 use Rattle.djq_mirror.specs.declared.mode.Mode.TheVariants.{Idle, Listing, Live}
 use Rattle.djq_mirror.specs.Mirror.{Act, keep, turn_of, turn_of_change, turn_of_count}
-use Rattle.djq_told.specs.Sayable.{IsSayableQuery, IsSayableListed, IsSayableStore, IsSayablePosition, IsSayableCursor, IsSayableSession}
+use Rattle.djq_told.specs.Sayable.{
+  IsSayableQuery,
+  IsSayableListed,
+  IsSayableStore,
+  IsSayablePosition,
+  IsSayableCursor,
+  IsSayableSession,
+}
 use Rattle.djq_told.specs.Told.{replies_text, is_told_of}
 use Rattle.djq_told.proofs.Hearing.{text_append}
 use Rattle.djq_told.proofs.Printed.{IsFine, number_small, answers_fine}
 use Rattle.djq_told.proofs.Lengths.{query_weight}
 use Rattle.djq_told.proofs.Reading.{IsSayableCommand, IsShortCommand}
 use Rattle.djq_told.proofs.Resting.{rest_short, cyclic_light, connex_light, cyclic_below, connex_below}
-use Rattle.djq_told.proofs.Storing.{all_fail, came_few, query_few}
+use Rattle.djq_told.proofs.Storing.{all_fail, came_few, query_few, union_small}
 
 -- A reply tells of no delta.
 abbrev pub IsPlain : Reply → Type 0
@@ -318,6 +331,11 @@ query_form (Ok (Cyclic rest)) few no_tree no_root =
 query_form (Ok (NotConnex rest)) few no_tree no_root =
     of_form _ (not_connex (named_edges rest)) (rest_is (codes "no connex") rest) (λ name. refl) (no_root rest refl)
 query_form (Err r) few no_tree no_root = of_form _ (refused r) refl (λ name. refl) (λ u. (tt, tt))
+
+union_form : {U : Type 0} (result : Result ℕ Refusal) → ((most : ℕ) → result ≡ Ok most → U → IsNumber most)
+    → OfForm (union_reply result) false U
+union_form (Ok most) few = of_form _ (united most) refl (λ name. refl) (λ u. (few most refl u, tt))
+union_form (Err r) few = of_form _ (refused r) refl (λ name. refl) (λ u. (tt, tt))
 
 has_form : {U : Type 0} (result : Result Bool Refusal) → OfForm (has_reply result) false U
 has_form (Ok found) = of_form _ (had found) refl (λ name. refl) (λ u. (tt, tt))
@@ -494,6 +512,17 @@ lines_replies old s lines e new rs plain none are (inr (told, lacking, rest, par
     ∙ ap (λ bytes. replies_text first.some ++ bytes) (sym (append-nil end_memory))
     ∙ sym (text_append first.some (is_ended Memory ∷ []))))
 
+-- the members of a union
+members_plain : (qs : List Query) → All IsPlain (map (λ (q : Query). member q.name) qs)
+members_plain [] = All-nil IsPlain
+members_plain (q ∷ qs) =
+    All-cons IsPlain (member q.name) (map (λ (p : Query). member p.name) qs) (λ name. refl) (members_plain qs)
+
+members_are : (qs : List Query)
+    → map (λ (q : Query). member_line q.name) qs ≡ map reply_text (map (λ (q : Query). member q.name) qs)
+members_are [] = refl
+members_are (q ∷ qs) = ap (λ (xs : List Bytes). member_line q.name ∷ xs) (members_are qs)
+
 explain_replies : {U : Type 0} (old : State) (s : ℕ) (o : Option Listed) (e : Effect) (new : State) → (U → ⊥)
     → MatchOption o (RefusedStep old s NoQuery e new) (λ q. ExplainStepOf old s q e new) → Replies s e.queued true U
 explain_replies old s None e new none h =
@@ -509,6 +538,13 @@ explain_replies old s (Some (a_query q)) e new none h =
     (ap (λ xs. xs ++ line (codes "end") ∷ []) (nodes_are atoms names h.tree js)
     ∙ sym (map_append (map (node_reply atoms names h.tree) js) (last ∷ [])))
     h.tells
+explain_replies old s (Some (a_union name qs)) e new none h =
+    lines_replies old s (union_lines qs) e new (map (λ q. member q.name) qs ++ last ∷ [])
+    (All-append IsPlain (map (λ q. member q.name) qs) (last ∷ []) (members_plain qs)
+    (All-cons IsPlain last [] (λ name. refl) (All-nil IsPlain))) none
+    (ap (λ xs. xs ++ line (codes "end") ∷ []) (members_are qs)
+    ∙ sym (map_append (map (λ q. member q.name) qs) (last ∷ [])))
+    h
 
 -- ---- commands
 
@@ -653,6 +689,10 @@ command_replies s old t x l (Del name row) e new rowless h = absurd rowless
 command_replies s old t x l (Register q) e new rowless (inl h) = register_replies s old t x q e new h
 command_replies s old t x l (Register q) e new rowless (inr h) =
     one_line t end_memory e.queued _ memory_form (ap (λ (y : Effect). y.queued) h.ends.0)
+command_replies s old t x l (Union name members) e new rowless h =
+    one_line t _ e.queued _ (union_form h.result
+    (λ most k u. union_small old.store name members h.result h.store h.done u.0.before most k))
+    (ap (λ (y : Effect). y.queued) h.effect)
 command_replies s old t x l (Drop q) e new rowless h =
     one_line t _ e.queued _ (ok_form (codes "ok") done refl (λ name. refl) (tt, tt) h.result) (ap (λ (y : Effect). y.queued) h.effect)
 command_replies s old t x l (Open c q) e new rowless h =

@@ -61,6 +61,7 @@ use Rattle.djq_lines.specs.declared.command.Command.TheVariants.{
   Add,
   Del,
   Query as Register,
+  Union,
   Drop,
   Open,
   Next,
@@ -77,11 +78,33 @@ use Rattle.djq_lines.specs.declared.command.Command.TheVariants.{
   Stop,
 }
 use Rattle.djq_lines.specs.declared.held.HeldRow.{HeldRow}
-use Rattle.djq_lines.specs.Grammar.{reading_of}
+use Rattle.djq_lines.specs.Grammar.{says as says_command, reading_of}
 use Rattle.djq_lines.specs.Reply.{end_memory}
-use Rattle.djq_machine.specs.State.{Store, State, Session, Cursor, Position, open_at, stale, fresh, session_of, with_session, with_position, ended_by}
+use Rattle.djq_machine.specs.State.{
+  Store,
+  State,
+  Session,
+  Cursor,
+  Position,
+  open_at,
+  stale,
+  fresh,
+  session_of,
+  with_session,
+  with_position,
+  ended_by,
+}
 use Rattle.djq_machine.specs.Stale.{outdated, outdater_of, outdated_cursor, by_relation, listed_reads}
-use Rattle.djq_machine.specs.Changes.{RowsChange, RowsOutcome, tried, changed, row_in, row_out, add_outcome, delete_outcome}
+use Rattle.djq_machine.specs.Changes.{
+  RowsChange,
+  RowsOutcome,
+  tried,
+  changed,
+  row_in,
+  row_out,
+  add_outcome,
+  delete_outcome,
+}
 use Rattle.djq_machine.specs.Watch.{is_watching, Telling, ChangeStep}
 use Rattle.djq_machine.specs.Effect.{Effect, nothing, EndsWith, queue, queue_all}
 use Rattle.djq_machine.specs.Command.{
@@ -98,7 +121,21 @@ use Rattle.djq_machine.specs.Command.{
 }
 use Rattle.djq_machine.specs.Batch.{has_come, first_read, batch_outcome}
 use Rattle.djq_machine.specs.LineStep.{LineOutcome, long, blank, slow, no_room, run, ReadStep, FrontStep, behind_line}
-use Rattle.djq_machine.specs.Step.{Event, opened, fed, stepped, took, ended, closed, FedStep, TookStep, EndedStep, Acts, with_relations, Step}
+use Rattle.djq_machine.specs.Step.{
+  Event,
+  opened,
+  fed,
+  stepped,
+  took,
+  ended,
+  closed,
+  FedStep,
+  TookStep,
+  EndedStep,
+  Acts,
+  with_relations,
+  Step,
+}
 use Rattle.djq_machine.specs.Run.{Did}
 use Rattle.djq_machine.proofs.Walks.{walk_keeps}
 use Rattle.djq_laws.specs.Sound.{IsStart}
@@ -149,6 +186,7 @@ use Rattle.djq_told.proofs.Storing.{
   del_sayable,
   done_sayable,
   query_sayable,
+  union_sayable,
   drop_sayable,
   moved_store_sayable,
 }
@@ -418,51 +456,54 @@ done_kept old s x e new (Some held) is h k found =
     (λ y g. record { cursors = g.cursors; watches = g.watches; batch = tt }) k))
 
 command_kept : (old : State) (s : ℕ) (x : Session) (l : Bytes) (c : Command) (e : Effect) (new : State)
-    → CommandStep old s x l c e new → IsSayableCommand c → IsSayableState old → session_of old s ≡ Some x
+    → reading_of l ≡ says_command c → CommandStep old s x l c e new → IsSayableCommand c → IsSayableState old
+    → session_of old s ≡ Some x
     → IsSayableState new
-command_kept old s x l (Rel name types) e new h said k found =
+command_kept old s x l (Rel name types) e new is h said k found =
     store_kept old h.store new h.state (rel_sayable old.store name types h.result h.store h.done said k.store) k
-command_kept old s x l (Register q) e new (inl h) said k found =
+command_kept old s x l (Register q) e new is (inl h) said k found =
     store_kept old h.store new h.state (query_sayable old.store q h.result h.store h.done said k.store) k
-command_kept old s x l (Register q) e new (inr h) said k found =
+command_kept old s x l (Register q) e new is (inr h) said k found =
     ends_kept (record old { store = h.store }) s Memory new h.ends.1
     (store_kept old h.store (record old { store = h.store }) refl
     (query_sayable old.store q h.result h.store h.done said k.store) k)
-command_kept old s x l (Drop q) e new h said k found =
+command_kept old s x l (Union name members) e new is h said k found =
+    store_kept old h.store new h.state (union_sayable old.store name members h.result h.store h.done said.0 k.store) k
+command_kept old s x l (Drop q) e new is h said k found =
     store_kept old h.store new h.state
     (drop_sayable old.store (list_any (uses q) old.sessions) q h.result h.store h.done k.store) k
-command_kept old s x l (Add name row) e new h said k found =
+command_kept old s x l (Add name row) e new is h said k found =
     add_kept old s x l name row e new x.batch refl h said k found
-command_kept old s x l (Del name row) e new h said k found =
+command_kept old s x l (Del name row) e new is h said k found =
     let change = row_out old.store.relations name row in
     let outcome = delete_outcome change h.result in
     change_kept old s outcome h.store _ e new h.change
     (changed_kept old (tried outcome) h.store
     (del_named change (λ qs q. relation_named name said.0 qs q) h.result)
     (del_sayable old.store name row h.result h.store h.done k.store) k)
-command_kept old s x l (Open c q) e new h said k found =
-    turn_kept old s x (opens_cursor c q) new found said (command_does old s x l (Open c q) e new h).1 k
-command_kept old s x l (Next c count) e new h said k found =
-    turn_kept old s x (moves_cursor c) new found tt (command_does old s x l (Next c count) e new h).1 k
-command_kept old s x l (Close c) e new h said k found =
-    turn_kept old s x (closes_cursor c) new found tt (command_does old s x l (Close c) e new h).1 k
-command_kept old s x l (Watch q) e new h said k found =
-    turn_kept old s x (starts_watching q) new found said (command_does old s x l (Watch q) e new h).1 k
-command_kept old s x l (Unwatch q) e new h said k found =
-    turn_kept old s x (stops_watching q) new found tt (command_does old s x l (Unwatch q) e new h).1 k
-command_kept old s x l (Has q row) e new h said k found =
-    replied_kept s old new (command_does old s x l (Has q row) e new h).1 k
-command_kept old s x l (Explain q) e new h said k found =
-    replied_kept s old new (command_does old s x l (Explain q) e new h).1 k
-command_kept old s x l (Shape q) e new h said k found =
-    replied_kept s old new (command_does old s x l (Shape q) e new h).1 k
-command_kept old s x l Batch e new h said k found =
-    turn_kept old s x opens_batch new found tt (command_does old s x l Batch e new h).1 k
-command_kept old s x l Done e new h said k found = done_kept old s x e new x.batch refl h k found
-command_kept old s x l Abandon e new h said k found =
-    turn_kept old s x closes_batch new found tt (command_does old s x l Abandon e new h).1 k
-command_kept old s x l Quit e new h said k found = ends_kept old s _ new h.1 k
-command_kept old s x l Stop e new h said k found =
+command_kept old s x l (Open c q) e new is h said k found =
+    turn_kept old s x (opens_cursor c q) new found said (command_does old s x l (Open c q) e new is h).1 k
+command_kept old s x l (Next c count) e new is h said k found =
+    turn_kept old s x (moves_cursor c) new found tt (command_does old s x l (Next c count) e new is h).1 k
+command_kept old s x l (Close c) e new is h said k found =
+    turn_kept old s x (closes_cursor c) new found tt (command_does old s x l (Close c) e new is h).1 k
+command_kept old s x l (Watch q) e new is h said k found =
+    turn_kept old s x (starts_watching q) new found said (command_does old s x l (Watch q) e new is h).1 k
+command_kept old s x l (Unwatch q) e new is h said k found =
+    turn_kept old s x (stops_watching q) new found tt (command_does old s x l (Unwatch q) e new is h).1 k
+command_kept old s x l (Has q row) e new is h said k found =
+    replied_kept s old new (command_does old s x l (Has q row) e new is h).1 k
+command_kept old s x l (Explain q) e new is h said k found =
+    replied_kept s old new (command_does old s x l (Explain q) e new is h).1 k
+command_kept old s x l (Shape q) e new is h said k found =
+    replied_kept s old new (command_does old s x l (Shape q) e new is h).1 k
+command_kept old s x l Batch e new is h said k found =
+    turn_kept old s x opens_batch new found tt (command_does old s x l Batch e new is h).1 k
+command_kept old s x l Done e new is h said k found = done_kept old s x e new x.batch refl h k found
+command_kept old s x l Abandon e new is h said k found =
+    turn_kept old s x closes_batch new found tt (command_does old s x l Abandon e new is h).1 k
+command_kept old s x l Quit e new is h said k found = ends_kept old s _ new h.1 k
+command_kept old s x l Stop e new is h said k found =
     ends_kept (record old { stopped = true }) s _ new h.1
     (record { store = k.store; sessions = k.sessions })
 
@@ -474,7 +515,7 @@ read_kept old s x l e new found h k = by (line_reads old s x l (reading_of l) e 
   where
     by : Reads old s x l (reading_of l) e new → IsSayableState new
     by (turned_down why because d) = same_kept old new d.1 k
-    by (carried_out c is d) = command_kept old s x l c e new d (read_sayable l c is) k found
+    by (carried_out c is d) = command_kept old s x l c e new is d (read_sayable l c is) k found
 
 without_line_kept : (old : State) (s : ℕ) (rest : Bytes) → IsSayableState old
     → IsSayableState (with_session old s (behind_line rest))

@@ -4,6 +4,9 @@ use Rattle.std.specs.Prelude.{
   zero,
   suc,
   ◌+◌,
+  ◌-◌,
+  ◌*◌,
+  ◌^◌,
   ◌<◌,
   ◌≢◌,
   List,
@@ -28,6 +31,7 @@ use Rattle.std.specs.Prelude.{
   None,
   Some,
   is_some,
+  is_none,
   Result,
   Ok,
   Err,
@@ -39,8 +43,9 @@ use Rattle.std.specs.Prelude.{
 use Rattle.std.specs.List.{list_any}
 use Rattle.std.proofs.Common.{refl, sym, ap, ◌∙◌, subst, inl, inr, arith}
 use Rattle.std.proofs.lemmas.Bool.{eq-eqb, leb-false, ltb-false}
-use Rattle.std.proofs.lemmas.List.Elements.{All-nil, All-cons, All-head, All-tail, All-push, All-contains}
+use Rattle.std.proofs.lemmas.List.Elements.{All-nil, All-cons, All-head, All-tail, All-push, All-contains, All-weaker}
 use Rattle.std.proofs.lemmas.List.Sorted.{All-permutation}
+use Rattle.std.proofs.lemmas.List.{length-map}
 use Rattle.djq_model.specs.declared.value.Value.{Value}
 use Rattle.djq_model.specs.declared.relation.ColumnType.{ColumnType}
 use Rattle.djq_model.specs.declared.relation.Relation.{Relation}
@@ -49,28 +54,79 @@ use Rattle.djq_model.specs.declared.query.Query.{Query}
 use Rattle.djq_model.specs.declared.query.Atom.{Atom}
 use Rattle.djq_model.specs.declared.query.Term.{Term}
 use Rattle.djq_model.specs.declared.query.Term.TheVariants.{Variable, Hole, Constant}
-use Rattle.djq_model.specs.Data.{Bytes, Tuple, bytes_eq, tuple_eq, drop_first, relation_of, tuples_in, tuples_of, counted_in, counted_of, rows_of, has_row, with_row, with_copies, without_copies}
+use Rattle.djq_model.specs.Data.{
+  Bytes,
+  Tuple,
+  bytes_eq,
+  tuple_eq,
+  drop_first,
+  relation_of,
+  tuples_in,
+  tuples_of,
+  counted_in,
+  counted_of,
+  rows_of,
+  has_row,
+  with_row,
+  with_copies,
+  without_copies,
+}
 use Rattle.djq_model.specs.Equality.{bytes_eq-decides}
-use Rattle.djq_model.specs.Answer.{Assignment, StandsFor, StandForAll, Satisfies}
-use Rattle.djq_model.specs.Listed.{Listed, a_query, listed_name, AnswersOf, listed_of}
+use Rattle.djq_model.specs.Answer.{Assignment, StandsFor, StandForAll, Satisfies, IsAnswer}
+use Rattle.djq_model.specs.Listed.{Listed, a_query, a_union, listed_name, AnswersOf, listed_of}
 use Rattle.djq_model.specs.Known.{texts_in, all_learned}
 use Rattle.djq_model.proofs.Counted.{tuples_with_row, tuples_with_copies, tuples_without, tuples_moved}
 use Rattle.djq_lines.specs.Conditions.{first_of, OutOfMemoryWhere}
 use Rattle.djq_lines.specs.QueryFault.{is_too_large, query_faults}
 use Rattle.djq_lines.specs.Variables.{constants_of, is_variable, stands_in, variables_of}
-use Rattle.djq_lines.specs.declared.limits.TheConstants.{LAST_SEQ, COPIES, ROWS, QUERIES, ATOMS, VARIABLES, HEAD_VARIABLES, COMPARISONS}
+use Rattle.djq_lines.specs.declared.limits.TheConstants.{
+  LAST_SEQ,
+  COPIES,
+  ROWS,
+  QUERIES,
+  MEMBERS,
+  ATOMS,
+  VARIABLES,
+  HEAD_VARIABLES,
+  COMPARISONS,
+}
 use Rattle.djq_lines.specs.declared.rest.QueryOutcome.{QueryOutcome}
 use Rattle.djq_lines.specs.declared.rest.QueryOutcome.TheVariants.{Registered, Cyclic, NotConnex}
 use Rattle.djq_lines.specs.declared.answer.Refusal.{Refusal}
-use Rattle.djq_lines.specs.declared.answer.Refusal.TheVariants.{Taken, Limit}
+use Rattle.djq_lines.specs.declared.answer.Refusal.TheVariants.{Taken, NoQuery, Member, Limit}
 use Rattle.djq_lines.specs.declared.answer.AddOutcome.{AddOutcome}
 use Rattle.djq_lines.specs.declared.answer.AddOutcome.TheVariants.{First, More}
 use Rattle.djq_lines.specs.declared.answer.DeleteOutcome.{DeleteOutcome}
 use Rattle.djq_lines.specs.declared.answer.DeleteOutcome.TheVariants.{Last, Left, Absent}
 use Rattle.djq_deltas.specs.Finite.{IsBound}
-use Rattle.djq_deltas.proofs.Lists.{nothing_there, first_or_later, first_there, later_there, hold_each}
+use Rattle.djq_deltas.proofs.Lists.{nothing_there, first_or_later, first_there, later_there, hold_each, some_one}
 use Rattle.djq_machine.specs.State.{Store}
-use Rattle.djq_machine.specs.Store.{RefusedByTexts, RefusedLate, RegistersAs, MakesRelation, RegistersQuery, DropsQuery, AddsRow, AddsAs, DeletesRow, DeletesAs, with_rows, with_copies_of, copies_of, row_refusals, rel_refusal, query_refusal, drop_refusal, add_refusal, delete_refusal}
+use Rattle.djq_machine.specs.Store.{
+  RefusedByTexts,
+  RefusedLate,
+  RegistersAs,
+  MakesRelation,
+  RegistersQuery,
+  DropsQuery,
+  AddsRow,
+  AddsAs,
+  DeletesRow,
+  DeletesAs,
+  with_rows,
+  with_copies_of,
+  copies_of,
+  row_refusals,
+  rel_refusal,
+  query_refusal,
+  drop_refusal,
+  add_refusal,
+  delete_refusal,
+  answer_steps,
+  most_steps,
+  width_of,
+  atoms_of,
+}
+use Rattle.djq_machine.specs.Union.{stands_twice, is_union, types_differ, union_refusal, AreUnder, RegistersUnion}
 use Rattle.djq_machine.specs.Batch.{is_there, with_held, with_all, count_came, HavePlaces, AddsBatch}
 use Rattle.djq_machine.specs.Step.{SameRelations}
 use Rattle.djq_lines.specs.declared.held.HeldRow.{HeldRow}
@@ -79,6 +135,7 @@ use Rattle.djq_laws.proofs.Forms.{done_of, none_holds, stays_learned, late_learn
 use Rattle.djq_laws.proofs.Batches.{all_gain, is_behind, not_batched}
 use Rattle.djq_laws.proofs.Changing.{all_changed, all_found, all_dropped}
 use Rattle.djq_laws.proofs.Answering.{none_pass}
+use Rattle.djq_laws.proofs.Members.{under_names, under_registered}
 use Rattle.djq_laws.proofs.Apart.{without_dropped}
 use Rattle.djq_laws.proofs.Containing.{mapped_from}
 use Rattle.djq_told.specs.Sayable.{
@@ -136,9 +193,9 @@ rows_sayable rs name h = by (relation_of rs name) refl
     by None e = All-nil IsSayableRow
     by (Some x) e = (all_found IsSayableRelation (λ (r : Relation). bytes_eq r.name name) rs x h e).rows
 
-pub answer_sayable : (rs : List Relation) → All IsSayableRelation rs → (q : Listed) → IsSayableListed q → (t : Tuple)
-    → AnswersOf rs q t → IsSayableRow t
-answer_sayable rs h (a_query q) k t a =
+query_answer_sayable : (rs : List Relation) → All IsSayableRelation rs → (q : Query) → IsSayableListed (a_query q)
+    → (t : Tuple) → IsAnswer rs q t → IsSayableRow t
+query_answer_sayable rs h q k t a =
     subst IsSayableRow (sym a.on_head)
     (hold_each IsSayableValue (map a.assignment q.head) (λ v c.
     let x = mapped_from a.assignment q.head v c in
@@ -147,6 +204,13 @@ answer_sayable rs h (a_query q) k t a =
     subst IsSayableValue x.2
     (cell_there IsSayableValue a.assignment (m.0).terms s.row x.0 s.stands m.2
     (All-contains IsSayableRow (rows_of rs (m.0).relation) s.row (rows_sayable rs (m.0).relation h) s.is_there))))
+
+pub answer_sayable : (rs : List Relation) → All IsSayableRelation rs → (q : Listed) → IsSayableListed q → (t : Tuple)
+    → AnswersOf rs q t → IsSayableRow t
+answer_sayable rs h (a_query q) k t a = query_answer_sayable rs h q k t a
+answer_sayable rs h (a_union name qs) k t a =
+    let o = some_one (λ (q : Query). IsAnswer rs q t) qs a in
+    query_answer_sayable rs h o.0 (All-contains (λ (q : Query). IsSayableListed (a_query q)) qs o.0 k.1 o.1) t o.2
 
 -- ---- stores
 
@@ -355,6 +419,50 @@ came_few st (h ∷ hs) = by (is_there st h) (came_few (with_held st h) hs)
     by true k = omega (arith, k)
     by false k = omega (arith, k)
 
+-- ---- unions
+
+abbrev union_conditions : Store → Bytes → List Bytes → List (Bool × Refusal)
+union_conditions st name members =
+    (is_some (listed_of st.queries name), Taken)
+    ∷ (list_any (λ n. is_none (listed_of st.queries n)) members, NoQuery)
+    ∷ (
+      stands_twice members || list_any (λ n. is_union (listed_of st.queries n)) members
+          || types_differ st members,
+      Member,
+    )
+    ∷ (nat_lt MEMBERS (length members), Limit)
+    ∷ (nat_le QUERIES (length st.queries), Limit)
+    ∷ []
+
+-- registered queries are such, whatever their names
+members_sayable : (old : Store) (members : List Bytes) (qs : List Query) → IsSayableStore old
+    → AreUnder old.queries members qs → All (λ (q : Query). IsSayableListed (a_query q)) qs
+members_sayable old members qs s under =
+    All-weaker (λ (q : Query). listed_of old.queries q.name ≡ Some (a_query q))
+    (λ (q : Query). IsSayableListed (a_query q))
+    (λ q is. all_found IsSayableListed (λ (l : Listed). bytes_eq (listed_name l) q.name) old.queries (a_query q)
+    s.queries is)
+    qs (under_registered old.queries members qs under)
+
+width_small : (qs : List Query) → All (λ (q : Query). IsSayableListed (a_query q)) qs → width_of qs ≤ HEAD_VARIABLES
+width_small [] all = omega arith
+width_small (q ∷ qs) all = (All-head (λ (p : Query). IsSayableListed (a_query p)) q qs all).1.few
+
+atoms_small : (qs : List Query) → All (λ (q : Query). IsSayableListed (a_query q)) qs → atoms_of qs ≤ 32 * length qs
+atoms_small [] all = omega arith
+atoms_small (q ∷ qs) all =
+    let first = (All-head (λ (p : Query). IsSayableListed (a_query p)) q qs all).1.atoms in
+    let rest = atoms_small qs (All-tail (λ (p : Query). IsSayableListed (a_query p)) q qs all) in
+    omega (arith, first, rest)
+
+-- as many times as may be, so much at most
+times_small : (n x k b : ℕ) → n ≤ k → x ≤ b → n * x ≤ k * b
+times_small zero x k b few small = omega arith
+times_small (suc n) x zero b few small = absurd (omega (arith, few))
+times_small (suc n) x (suc k) b few small =
+    let rest = times_small n x k b (omega (arith, few)) small in
+    omega (arith, rest, small)
+
 -- each variable of the head of a query that isn't refused stands in its body
 some_pass : {A : Type 0} (p : A → Bool) (xs : List A) → list_any p xs ≡ true → (x : A) × Contains xs x × (p x ≡ true)
 some_pass p [] e = absurd cc
@@ -379,8 +487,8 @@ bound_where q e x c =
     let t = some_pass (is_variable x) (a.0).terms a.2 in
     (a.0, a.1, subst (λ (u : Term). Contains (a.0).terms u) (variable_is x t.0 t.2) t.1)
 
-few_where : (a b c d : Bool) → (a || (b || (c || d))) ≡ false → c ≡ false
-few_where false false false d e = refl
+few_where : (a b c d : Bool) → (a || (b || (c || d))) ≡ false → (a ≡ false) × (c ≡ false)
+few_where false false false d e = (refl, refl)
 few_where true b c d e = absurd cc
 few_where false true c d e = absurd cc
 few_where false false true d e = absurd cc
@@ -390,8 +498,9 @@ askable_where : (q : Query) → list_any (λ x. not (stands_in q.atoms x)) q.hea
 askable_where q unbound large =
     let few = few_where (nat_lt ATOMS (length q.atoms)) (nat_lt VARIABLES (length (variables_of q.atoms)))
     (nat_lt HEAD_VARIABLES (length q.head)) (nat_lt COMPARISONS (length q.comparisons)) large in
-    let most = ltb-false HEAD_VARIABLES (length q.head) few in
-    record { bound = bound_where q unbound; few = omega (arith, most) }
+    let most = ltb-false HEAD_VARIABLES (length q.head) few.1 in
+    let atoms = ltb-false ATOMS (length q.atoms) few.0 in
+    record { bound = bound_where q unbound; few = omega (arith, most); atoms = omega (arith, atoms) }
 
 -- a head has few variables, where its query is registered
 pub query_few : (old : Store) (q : Query) (most : ℕ) (new : Store) → RegistersQuery old q (Ok (Registered most)) new
@@ -429,6 +538,44 @@ query_sayable old q (Err r) new h said s =
     by : RefusedLate old q new r → LearnsTexts old new
     by (inl k) = late_learned old (texts_in (constants_of q)) new r k.1
     by (inr k) = stays_learned old new k.1
+
+-- a union of registered queries
+pub union_sayable : (old : Store) (name : Bytes) (members : List Bytes) (r : Result ℕ Refusal) (new : Store)
+    → RegistersUnion old name members r new → IsName name → IsSayableStore old → IsSayableStore new
+union_sayable old name members (Err r) new h named s = subst IsSayableStore (sym h.stays) s
+union_sayable old name members (Ok most) new h named s =
+    let D = λ (most : ℕ). (qs : List Query) × AreUnder old.queries members qs × (most ≡ answer_steps (a_union name qs))
+    × (new ≡ record old { queries = old.queries ++ a_union name qs ∷ [] }) in
+    let d = done_of (union_refusal old name members) most D (OutOfMemoryWhere ⊤) h.answer in
+    subst IsSayableStore (sym d.3) (record {
+      relations = s.relations;
+      queries = All-push IsSayableListed old.queries (a_union name d.0) s.queries
+          (named, members_sayable old members d.0 s d.1);
+      seq = s.seq;
+    })
+
+-- D of it is a number
+pub union_small : (old : Store) (name : Bytes) (members : List Bytes) (r : Result ℕ Refusal) (new : Store)
+    → RegistersUnion old name members r new → IsSayableStore old → (most : ℕ) → r ≡ Ok most → most < 2 ^ 64
+union_small old name members r new h s most e =
+    let k = subst (λ (z : Result ℕ Refusal). RegistersUnion old name members z new) e h in
+    let D = λ (most : ℕ). (qs : List Query) × AreUnder old.queries members qs × (most ≡ answer_steps (a_union name qs))
+    × (new ≡ record old { queries = old.queries ++ a_union name qs ∷ [] }) in
+    let d = done_of (union_refusal old name members) most D (OutOfMemoryWhere ⊤) k.answer in
+    let none = none_holds (union_refusal old name members) most D (OutOfMemoryWhere ⊤) k.answer in
+    let fails = all_fail (union_conditions old name members) none in
+    let few = ltb-false MEMBERS (length members) fails.1.1.1.0 in
+    let names = under_names old.queries members d.0 d.1 in
+    let long : length d.0 ≡ length members = sym (length-map d.0 (λ (q : Query). q.name)) ∙ ap length names in
+    let all = members_sayable old members d.0 s d.1 in
+    let wide = width_small d.0 all in
+    let atoms = atoms_small d.0 all in
+    let first : length d.0 * most_steps (width_of d.0) ≤ 8 * 33 =
+    times_small (length d.0) (most_steps (width_of d.0)) 8 33 (omega (arith, few, long)) (omega (arith, wide)) in
+    let second : (length d.0 - 1) * atoms_of d.0 ≤ 8 * 256 =
+    times_small (length d.0 - 1) (atoms_of d.0) 8 256 (omega (arith, few, long)) (omega (arith, atoms, few, long)) in
+    let is = d.2 in
+    omega (arith, is, first, second)
 
 pub drop_sayable : (old : Store) (used : Bool) (name : Bytes) (r : Result ⊤ Refusal) (new : Store)
     → DropsQuery old used name r new → IsSayableStore old → IsSayableStore new

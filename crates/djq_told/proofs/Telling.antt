@@ -380,11 +380,13 @@ module _ (q : Listed) (s : ℕ) (old : State) (x : Session) (is : session_of old
               → StepTold q old.store new (is_some (change.outdater q))
               (filter (is_told_of (listed_name q)) (all_heard x.watches store.seq k.deltas))
           outdates None nothing_of (is_quiet answers so) =
-              tells_none (told_none old change change.after k.deltas apart k.listed q x.watches store.seq registered (ap is_some nothing_of))
+              tells_none
+              (told_none old change k.deltas apart k.listed q x.watches store.seq registered (ap is_some nothing_of))
               answers (inr (more, ap is_some nothing_of))
           outdates None nothing_of (is_told delta so counts) = let none : is_some (change.outdater q) ≡ false = ap is_some nothing_of in absurd (cc (none, counts))
           outdates (Some relation) does tells =
-              let one = told_one old change change.after k.deltas apart k.listed q s x store.seq is registered (ap is_some does) watching in
+              let one =
+              told_one old change k.deltas apart k.listed q s x store.seq is registered (ap is_some does) watching in
               tells_delta one.0
               (same_delta old.store.relations change.after new.relations q one.0
               (subst (λ (rs : List Relation). SameAnswers rs new.relations q) (ap (λ (st : Store). st.relations) m.store) same) one.1)

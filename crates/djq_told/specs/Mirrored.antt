@@ -9,6 +9,7 @@ use Rattle.djq_lines.specs.declared.command.Command.TheVariants.{
   Add,
   Del,
   Query as Register,
+  Union,
   Open,
   Next,
   Close,
@@ -55,6 +56,7 @@ MayBeSaid name x (Rel relation types) = Unit {0}
 MayBeSaid name x (Add relation row) = Unit {0}
 MayBeSaid name x (Del relation row) = Unit {0}
 MayBeSaid name x (Register q) = Unit {0}
+MayBeSaid name x (Union u members) = Unit {0}
 MayBeSaid name x (Open c q) = (q ≡ name) × All (λ k. k.name ≡ c) x.cursors
 MayBeSaid name x (Next c count) = Unit {0}
 MayBeSaid name x (Close c) = Unit {0}

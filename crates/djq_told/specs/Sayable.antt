@@ -10,9 +10,9 @@ use Rattle.djq_model.specs.declared.query.Atom.{Atom}
 use Rattle.djq_model.specs.declared.query.Comparison.{Comparison}
 use Rattle.djq_model.specs.declared.query.Query.{Query}
 use Rattle.djq_model.specs.Data.{Bytes, Tuple, tuples_in}
-use Rattle.djq_model.specs.Listed.{Listed, a_query}
+use Rattle.djq_model.specs.Listed.{Listed, a_query, a_union}
 use Rattle.djq_value.specs.Literal.{is_name, is_small_value}
-use Rattle.djq_lines.specs.declared.limits.TheConstants.{LAST_SEQ, HEAD_VARIABLES}
+use Rattle.djq_lines.specs.declared.limits.TheConstants.{LAST_SEQ, ATOMS, HEAD_VARIABLES}
 use Rattle.djq_lines.specs.declared.held.HeldRow.{HeldRow}
 use Rattle.djq_deltas.specs.Finite.{IsBound}
 use Rattle.djq_machine.specs.State.{Store, State, Session, Cursor, Position, open_at, stale, opening}
@@ -64,14 +64,17 @@ pub record IsSayableQuery (q : Query) : Type 0 where
   pub atoms : All IsSayableAtom q.atoms
   pub comparisons : All IsSayableComparison q.comparisons
 
--- A query's head is bound by its body, and has no more variables than it may have.
+-- A query's head is bound by its body, and it has no more variables there and no more atoms than it
+-- may have.
 pub record IsAskable (q : Query) : Type 0 where
   pub bound : IsBound q
   pub few : length q.head ≤ HEAD_VARIABLES
+  pub atoms : length q.atoms ≤ ATOMS
 
--- What is registered is such a query, and can be asked.
+-- What is registered is such a query, and can be asked; or a union of such under a name.
 abbrev pub IsSayableListed : Listed → Type 0
 IsSayableListed (a_query q) = IsSayableQuery q × IsAskable q
+IsSayableListed (a_union name qs) = IsName name × All (λ q. IsSayableQuery q × IsAskable q) qs
 
 -- The relations and the queries are such, and changes are counted as far as may be.
 pub record IsSayableStore (st : Store) : Type 0 where

@@ -37,8 +37,8 @@ ghost use Rattle.djq_told.specs.Whole.{SessionsAreReadBack, OpenedAreReadBack, H
 
 /// Along every run from a state to start from whose names and values lines can say, all names are
 /// names, all values are within their limits and their texts of UTF-8, and each variable of a
-/// registered query's head stands in its body: of relations, queries, cursors and watches, of rows
-/// and constants, of what cursors have given, and of what batches hold. What lines that are loaded come
+/// registered query's head stands in its body: of relations, queries, unions, cursors and watches, of
+/// rows and constants, of what cursors have given, and of what batches hold. What lines that are loaded come
 /// to is such a state to start from.
 pub fn states_are_sayable()
     ensures kept { RunsKeepSayable }
@@ -47,18 +47,18 @@ pub fn states_are_sayable()
     ensures loaded { LoadedAreSayable }
 {}
 
-/// What is queued to a session that watches a query is whole reply lines, and those among them that
+/// What is queued to a session that watches a query or a union is whole reply lines, and those among them that
 /// tell of the query are its deltas, one after the other, and no others. They add up to the answers
 /// over the present rows.
 pub fn watchers_are_told_exactly()
     ensures { WatchersAreToldExactly }
 {}
 
-/// A mirror of a query, of what a session was sent that begins to watch the query and then reads it
-/// through one cursor at a time, refuses nothing; and where it is live, it holds the query's answers
-/// over the present rows, or those that there were as the session's input ended or it was closed.
-/// Said of replies by their forms, and, from a start whose names and values lines can say, of the whole
-/// of the bytes that the session was sent, and behind its end: to the last step of the run, whatever comes
+/// A mirror of a query or a union, of what a session was sent that begins to watch it and then reads
+/// it through one cursor at a time, refuses nothing; and where it is live, it holds the answers over
+/// the present rows, or those that there were as the session's input ended or it was closed. Said of
+/// replies by their forms, and, from a start whose names and values lines can say, of the whole of the
+/// bytes that the session was sent, and behind its end: to the last step of the run, whatever comes
 /// behind that end.
 pub fn readers_are_mirrored()
     ensures watching { WatchersAreMirrored }

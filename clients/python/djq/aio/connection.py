@@ -12,7 +12,7 @@ from ..batch import Collected
 from ..errors import Disconnected, Error, NoCursor, NotWatched, Refused, SomeRefused, Unanswered
 from ..listing import CLOSE, MOST_PAGES, WITHIN, Listing, Said
 from ..protocol import FIRST_REFUSALS, MOST_ANSWERS, Added, Answer, Change, Done, Page, Pending, Protocol, Rows, Update
-from ..protocol import Value, checked, column_type, fitting, spell_line
+from ..protocol import Value, checked, column_type, fitting, spell_line, spell_union
 
 if TYPE_CHECKING:
     from .live import Live, Lives
@@ -100,8 +100,13 @@ class Connection:
         """Registers a query. Gives the most steps that one answer costs."""
         return await self._do(fitting(f"query {text}"), protocol.READ_QUERY)
 
+    async def union(self, name: str, *members: str) -> int:
+        """Registers the union of two to eight queries, whose answers are of the same types: it has the answers that any
+        of them has, each once, and its name is used as a query's. Gives the most steps that one answer costs."""
+        return await self._do(spell_union(name, members), protocol.READ_UNION)
+
     async def drop(self, query: str) -> None:
-        """Takes a query out that no cursor and no watch is on."""
+        """Takes a query or a union out that no cursor and no watch is on, and that is no union's member."""
         await self._do(spell_line("drop", query), protocol.READ_OK)
 
     async def has(self, query: str, *values: Value) -> bool:
@@ -109,11 +114,12 @@ class Connection:
         return await self._do(spell_line("has", query, values), protocol.READ_HAS)
 
     async def explain(self, query: str) -> list[str]:
-        """The query's join tree, a line a node."""
+        """The query's join tree, a line a node; or a union's members, a line `m NAME` each."""
         return await self._do(spell_line("explain", query), protocol.read_tree)
 
     async def shape(self, query: str) -> str:
-        """`flat` where no change of a row costs the query more as rows grow in number; else `linear`."""
+        """`flat` where no change of a row costs the query more as rows grow in number, else `linear`; `union` of a
+        union, whose members have shapes of their own."""
         return await self._do(spell_line("shape", query), protocol.READ_SHAPE)
 
     async def watch(self, query: str) -> int:
@@ -516,6 +522,10 @@ class Pipeline:
     async def query(self, text: str) -> Pending[int]:
         """Registers a query."""
         return await self._say(fitting(f"query {text}"), protocol.READ_QUERY)
+
+    async def union(self, name: str, *members: str) -> Pending[int]:
+        """Registers a union."""
+        return await self._say(spell_union(name, members), protocol.READ_UNION)
 
     async def _say(self, line: str, read: Callable[[list[str]], T | None]) -> Pending[T]:
         own = self._connection

@@ -7,7 +7,7 @@ import re
 from typing import Callable
 
 from ..errors import NotFreeConnex, Refused, Stale
-from ..protocol import MOST_ANSWERS, MOST_HELD
+from ..protocol import MOST_ANSWERS, MOST_HELD, MOST_MEMBERS
 from .names import Names
 from .queries import MOST_ATOMS, MOST_COLUMNS, MOST_HEAD, Query, cures, read_query, ring
 
@@ -19,6 +19,7 @@ FORMS = {
     "done": "done                              puts the rows of the batch in",
     "abandon": "abandon                           drops the rows of the batch",
     "query": "query NAME(x,y) <- REL(x,z), REL(z,y,3), x >= 5",
+    "union": f"union NAME QUERY QUERY ..         2 to {MOST_MEMBERS} queries",
     "drop": "drop QUERY",
     "open": "open CURSOR QUERY                 then: next CURSOR 20",
     "next": f"next CURSOR COUNT                 1 to {MOST_ANSWERS} answers",
@@ -36,7 +37,9 @@ LIMITS = {
     "rel": f"a relation has at most {MOST_COLUMNS} columns, and a server 256 relations",
     "add": "a row has at most 4,294,967,295 copies, a relation as many rows, and a server as many texts",
     "query": f"a query has at most {MOST_ATOMS} atoms, 128 variables with each _ counted, {MOST_HEAD} variables in its"
-    " head, and 32 comparisons; a server has 256 queries: drop one that nobody needs",
+    " head, and 32 comparisons; a server has 256 queries and unions: drop one that nobody needs",
+    "union": f"a union has at most {MOST_MEMBERS} members; a server has 256 queries and unions: drop one that isn't"
+    " needed",
     "open": "a session has at most 16 cursors: close one",
 }
 LIMITS["done"] = f"no row of the batch came: {LIMITS['add']}"
@@ -74,6 +77,8 @@ def advice(error: Exception, line: str, names: Names, columns: Columns) -> list[
     if error.number == 12:
         more = "the server has no memory left: delete rows, drop queries, or give its machine more"
         return ["no row of the batch came"] * (command == "done") + [more]
+    if error.number == 17:
+        return _of_members(words[2:], names)
     if error.number == 18:
         return _of_batch(names)
     return []
@@ -84,6 +89,18 @@ def _of_batch(names: Names) -> list[str]:
         return ["batch opens one"]
     rows = f"{names.held:,} {'row' if names.held == 1 else 'rows'}"
     return [f"it holds {rows}: done puts them in, abandon drops them; add holds a further one"]
+
+
+def _of_members(members: list[str], names: Names) -> list[str]:
+    twice = [member for place, member in enumerate(members) if member in members[:place]]
+    if twice:
+        return [f"name {twice[0]} once"]
+    inner = [member for member in members if member in names.unions]
+    if inner:
+        return [f"{inner[0]} is a union itself: name its members, {' '.join(names.unions[inner[0]])}"]
+    known = [query for member in members if (query := names.queries.get(member)) is not None]
+    heads = ", ".join(f"{query.name}({','.join(query.head)})" for query in known)
+    return ["all heads have as many variables, of the same types in order" + (f": {heads}" if heads else "")]
 
 
 def _of_ring(error: NotFreeConnex, line: str) -> list[str]:
@@ -133,8 +150,10 @@ def _of_syntax(line: str, command: str) -> list[str]:
 def _of_names(number: int, command: str, line: str, names: Names) -> list[str]:
     wanted = re.split(r"[ (]+", line.strip())
     name = wanted[2] if command == "open" and number == 4 and len(wanted) > 2 else wanted[1] if len(wanted) > 1 else ""
+    if command == "union" and number == 4:
+        name = next((member for member in wanted[2:] if member not in names.queries), wanted[2])
     if number == 2:
-        if command == "query":
+        if command in ("query", "union"):
             return [f"drop {name} first, or take another name"]
         if command == "open":
             return [f"close {name} first, or take another name"]
@@ -142,7 +161,9 @@ def _of_names(number: int, command: str, line: str, names: Names) -> list[str]:
     if number == 14:
         mine = [cursor for cursor, query in names.cursors.items() if query == name]
         own = [f"close {cursor}" for cursor in mine] + ([f"unwatch {name}"] if name in names.watched else [])
-        return [", ".join(own) + " first" if own else "another session has a cursor or a watch on it"]
+        own += [f"drop {union}" for union, members in names.unions.items() if name in members]
+        others = "another session has a cursor or a watch on it, or it is a union's member"
+        return [", ".join(own) + " first" if own else others]
     if number == 3:
         if command == "query":
             query = read_query(line.strip()[len("query") :])

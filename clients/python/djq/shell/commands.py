@@ -28,12 +28,14 @@ done, abandon                     puts all that are held in at once, or none whe
 query NAME(x,y) <- REL(x,z), REL(z,y,3), x >= 5, z != "a"
                                   registers a query: equal names stand for equal values, _ for any; a variable is
                                   compared with a constant by < <= > >= = !=, a text by = and != alone
+union NAME QUERY QUERY ..         registers the union of 2 to 8 queries: the answers that any of them has, each once;
+                                  its name is used as a query's
 watch QUERY, unwatch QUERY        tells what comes (+) and goes (-) as rows change, or no more
 has QUERY 1 "a text" ..           whether that is an answer
 open CURSOR QUERY, next CURSOR 20, close CURSOR
                                   answers, page by page
-explain QUERY, drop QUERY         how a query is kept; gives it up
-shape QUERY                       flat where a change costs the same however many rows there are; else linear
+explain QUERY, drop QUERY         how a query is kept, or a union's members; gives it up
+shape QUERY                       flat where a change costs the same however many rows there are, else linear; or union
 quit, stop                        ends this session; ends the whole server
 
 \\show QUERY [COUNT]               answers of one moment, as a table
@@ -209,9 +211,16 @@ class Shell:
             self.screen.line(told.reply[0])
             self._tell_rows(told.reply[0])
         elif command == "explain":
-            self.screen.line("\n".join(tree(told.reply[:-1])))
+            self._tell_tree(told)
         else:
             self.screen.line(told.reply[0])
+
+    def _tell_tree(self, told: Said) -> None:
+        """Draws a query's tree, or a union's members, which are seen by that."""
+        lines = told.reply[:-1]
+        if lines[0].startswith("m "):
+            self.names.saw_union(told.line.split()[1], [line.removeprefix("m ") for line in lines])
+        self.screen.line("\n".join(tree(lines)))
 
     def _tell_copies(self, reply: str) -> None:
         """Says why no answer has changed, where the row was there before and is still."""
@@ -300,7 +309,10 @@ class Shell:
         for relation in sorted(names.relations):
             self.screen.line(f"rel {relation} {' '.join(self.columns(relation) or ('?',))}")
         for query, known in sorted(names.queries.items()):
-            self.screen.line(f"query {known if known is not None else query}" + " *" * (query in names.watched))
+            told = f"query {known if known is not None else query}"
+            if query in names.unions:
+                told = " ".join(["union", query, *names.unions[query]])
+            self.screen.line(told + " *" * (query in names.watched))
         for cursor, query in sorted(names.cursors.items()):
             self.screen.line(f"cursor {cursor} of {query}")
         if names.watched:
@@ -320,7 +332,7 @@ class Shell:
     def _explain(self, query: str) -> None:
         told = self.session.ask(f"explain {query}")[0]
         self._reply_or_raise(told)
-        self.screen.line("\n".join(tree(told.reply[:-1])))
+        self._tell_tree(told)
 
     def _reply_or_raise(self, told: Said) -> None:
         error = told.lost or told.refused(self.names.columns)

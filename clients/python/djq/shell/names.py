@@ -19,7 +19,8 @@ class Names:
     def __init__(self) -> None:
         self.columns: dict[str, tuple[str, ...]] = {}  # of relations
         self.relations: set[str] = set()
-        self.queries: dict[str, Query | None] = {}
+        self.queries: dict[str, Query | None] = {}  # for a union one of its members, by whose head its answers are told
+        self.unions: dict[str, tuple[str, ...]] = {}  # each union's members
         self.cursors: dict[str, str] = {}  # each cursor's query
         self.watched: set[str] = set()
         self.held: int | None = None  # how many rows the open batch holds; none where no batch is open
@@ -35,11 +36,20 @@ class Names:
             query = read_query(line.strip()[len("query") :])
             if query is not None:
                 self.queries[query.name] = query
+                self.unions.pop(query.name, None)  # which another session has dropped
                 self.relations.update(atom.relation for atom in query.atoms)
         elif command in ("add", "del"):
             self.relations.add(name)
+        elif command == "union":
+            self.saw_union(name, words[2:])
         else:
             self._saw_of_query(command, name, words[2] if len(words) > 2 else "")
+
+    def saw_union(self, name: str, members: list[str]) -> None:
+        """Takes which members a union has."""
+        known = [query for member in members if (query := self.queries.setdefault(member, None)) is not None]
+        self.unions[name] = tuple(members)
+        self.queries[name] = known[0] if known else None
 
     def _saw_of_query(self, command: str, name: str, further: str) -> None:
         if command == "open":
@@ -49,6 +59,7 @@ class Names:
             self.cursors.pop(name, None)
         elif command == "drop":
             self.queries.pop(name, None)
+            self.unions.pop(name, None)
         elif command in ("watch", "has", "explain", "shape"):
             self.queries.setdefault(name, None)
             if command == "watch":

@@ -139,7 +139,11 @@ class Progress:
 
 
 def tree(lines: list[str]) -> list[str]:
-    """The tree of `explain`, the root on top, with what each node keeps."""
+    """The tree of `explain`, the root on top, with what each node keeps; or a union above its members."""
+    if lines[0].startswith("m "):
+        members = [line.removeprefix("m ") for line in lines]
+        branches = ["├── "] * (len(members) - 1) + ["└── "]
+        return ["union of", *(branch + member for branch, member in zip(branches, members))]
     nodes = {}
     for line in lines:
         words = line.split(" ")

@@ -12,7 +12,7 @@ from ..errors import Error
 from ..protocol import Change, fitting, refusal
 
 MOST_MOVES = 16  # of bytes, before what came is told
-MORE = ("= ", "n ")  # what begins a line behind which the reply goes on
+MORE = ("= ", "n ", "m ")  # what begins a line behind which the reply goes on
 
 
 class Said:

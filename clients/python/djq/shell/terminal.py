@@ -200,6 +200,8 @@ class Names(Completer):
             return [*{*names.relations, *VARIABLE.findall(front)}] if "<-" in front else []
         if command == "rel":
             return ["int", "text"] if place > 1 else []
+        if command == "union":
+            return [name for name in names.queries if name not in (*names.unions, *words)] if place > 1 else []
         if command in OF_RELATIONS and place == 1 or (command == "\\load" and place == 2):
             return list(names.relations)
         if command in OF_QUERIES and place == 1 or (command == "open" and place == 2):

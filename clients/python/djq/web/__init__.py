@@ -35,7 +35,8 @@ A page file names its panels, from left to right and down the page:
     rows = 20                           # that are shown; else 15
     wide = true                         # takes the page's whole width
 
-Columns are named in the order of the query's head. The page only reads: it registers no query, and waits where one
+Columns are named in the order of the query's head, of a union in that of its members' heads: its name stands where a
+query's may. The page only reads: it registers no query, and waits where one
 isn't there yet. `page` reads the file, `board` holds what the page shows, `follow` keeps it up to date, `render` and
 `serve` bring it to browsers, and `demo` moves a small factory.
 """

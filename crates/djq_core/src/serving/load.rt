@@ -11,12 +11,12 @@ use crate::change::is_removal;
 use crate::commands::is_registered;
 use crate::held::new_row;
 use crate::reading::{BatchLine, read_in_batch};
-use djq_engine::Engine;
 use djq_lines::{Command, HeldRow, Refusal};
 use djq_machine::Loaded;
 use djq_model::{Name, Sequence, Value};
 use djq_proto::{LineRefusal, read_command};
 use djq_steps::{Ledgers, Steps};
+use djq_store::Store;
 use std::alloc::Global;
 
 impl Core {
@@ -62,7 +62,7 @@ impl Core {
 // Loads a line where no batch is open; and the batch that it opens, where it does.
 fn load_alone<L: Ledgers>(
     alloc: Global,
-    engine: &mut Engine,
+    engine: &mut Store,
     line: &[u8],
     steps: &mut Steps<L>,
 ) -> (Loaded, Option<Sequence<HeldRow>>)
@@ -91,7 +91,7 @@ fn is_batch(command: &Command) -> bool
 }
 
 // Does a command of a kind that is kept by itself, and refuses any other.
-fn load_command<L: Ledgers>(engine: &mut Engine, command: Command, steps: &mut Steps<L>) -> Loaded
+fn load_command<L: Ledgers>(engine: &mut Store, command: Command, steps: &mut Steps<L>) -> Loaded
     requires idle { IsIdle engine.old }
     requires runnable { IsRunnable command }
     ensures loads { StoreLoads engine.old.store command result engine.new.store }
@@ -115,6 +115,10 @@ fn load_command<L: Ledgers>(engine: &mut Engine, command: Command, steps: &mut S
             let outcome = engine.query(query, steps);
             loaded(&outcome, is_registered(&outcome))
         }
+        Command::Union { name, members } => {
+            let outcome = engine.add_union(name, members.as_slice());
+            loaded(&outcome, outcome.is_ok())
+        }
         Command::Drop { query } => {
             let outcome = engine.drop_query(&query);
             loaded(&outcome, outcome.is_ok())
@@ -126,7 +130,7 @@ fn load_command<L: Ledgers>(engine: &mut Engine, command: Command, steps: &mut S
 // Loads a line where a batch is open, which holds these rows; and the batch that is open then.
 fn load_in_batch<L: Ledgers>(
     alloc: Global,
-    engine: &mut Engine,
+    engine: &mut Store,
     held: Sequence<HeldRow>,
     line: &[u8],
     row: &mut Vec<Value>,

@@ -7,6 +7,7 @@ use std::marker::Brand;
 
 mod batches;
 mod kept;
+mod unions;
 
 // Whether a session is open.
 fn is_open(core: &Core, id: u64) -> bool

@@ -3,7 +3,7 @@ ghost use Rattle.std.specs.Prelude.{◌+◌, ◌≤◌, ◌++◌, codes};
 ghost use Rattle.djq_lines.specs.Reply.{add_reply, answer_line, at_line, change_line};
 ghost use Rattle.djq_lines.specs.Reply.{delete_reply, done_reply, has_reply, held_reply, last_line};
 ghost use Rattle.djq_lines.specs.Reply.{ok_reply, query_reply, refusal_line, shape_reply};
-ghost use Rattle.djq_lines.specs.Reply.{stale_line, watch_reply};
+ghost use Rattle.djq_lines.specs.Reply.{stale_line, union_reply, watch_reply};
 ghost use Rattle.djq_lines.specs.declared.limits.TheConstants.{LAST_LINE_BYTES, REPLY_BYTES};
 ghost use Rattle.djq_session.specs.Dialog.{MayQueue, Replies};
 
@@ -13,7 +13,7 @@ use djq_model::{Answered, Name, NoMem};
 use djq_reply::{
     put_answer, put_at, put_change, put_explained, put_last, put_registered, say_added, say_batch,
     say_batch_done, say_deleted, say_done, say_has, say_held, say_opened, say_refused, say_shape,
-    say_stale, say_watched,
+    say_stale, say_union, say_watched,
 };
 
 impl<C: Copy, Q: Copy + PartialEq> Session<C, Q> {
@@ -97,6 +97,14 @@ impl<C: Copy, Q: Copy + PartialEq> Session<C, Q> {
         put_registered(outcome, &mut self.output)
     }
 
+    /// `union` is answered, by the most lookups and links for one of its answers.
+    pub fn answer_united(&mut self, outcome: Result<u64, Refusal>)
+        requires { REPLY_BYTES + LAST_LINE_BYTES ≤ self.old.room }
+        ensures { Replies self.old self.new (union_reply outcome) }
+    {
+        say_union(&mut self.output, outcome);
+    }
+
     /// `has` is answered.
     pub fn answer_has(&mut self, outcome: Result<bool, Refusal>)
         requires { REPLY_BYTES + LAST_LINE_BYTES ≤ self.old.room }
@@ -170,7 +178,8 @@ impl<C: Copy, Q: Copy + PartialEq> Session<C, Q> {
         put_at(query, seq, &mut self.output)
     }
 
-    /// The lines that explain the tree of a query are queued, and `end` behind them.
+    /// The lines that explain the tree of a query or the members of a union are queued, and `end` behind
+    /// them.
     ///
     /// # Errors
     ///

@@ -1,24 +1,17 @@
-use Rattle.std.proofs.Common.{◌++◌, codes, Err, sym, subst}
-use Rattle.djq_model.specs.Data.{Bytes}
+use Rattle.std.proofs.Common.{Err, sym, subst}
 use Rattle.djq_lines.specs.declared.answer.Refusal.{Refusal}
-use Rattle.djq_session.specs.Dialog.{Queues}
-use Rattle.djq_engine.specs.Kept.{ExplainGives}
-use Rattle.djq_core.proofs.Cutting.{does_explain_lacking, does_explain_cut, does_explain_whole, does_explain_refused}
-use Rattle.djq_core.proofs.Telling.{was_lacking, was_queued}
+use Rattle.djq_store.specs.Explaining.{ExplainGives}
+use Rattle.djq_core.proofs.Explaining.{does_explain_lacking, does_explain_cut, does_explain_whole, does_explain_refused}
 use Rattle.djq_core.proofs.commands.run_explain.Goals as goal
 
 pub returns-then-is_err : goal.returns-then-is_err
 returns-then-is_err c =
-    does_explain_cut c.args.engine.now c.cut_off.new.engine c.args.session.now c.queue_explained.new.self c.cut_off.new.session c.args.query.now c.in-Ok.lines (c.as_bytes.result.now ++ codes "end\n")
-    c.in-Ok.ensures
-    (was_lacking c.args.session.now c.queue_explained.new.self (c.as_bytes.result.now ++ codes "end\n") c.queue_explained.result (sym c.if-is_err.ensures.value) c.queue_explained.ensures)
-    c.cut_off.ensures
+    does_explain_cut c.args.engine.now c.cut_off.new.engine c.args.session.now c.queue_explained.new.session c.cut_off.new.session c.args.query.now c.queue_explained.result
+    (sym c.if-is_err.ensures.value) c.queue_explained.ensures c.cut_off.ensures
 
 pub returns-in-Ok : goal.returns-in-Ok
 returns-in-Ok c =
-    does_explain_whole c.args.engine.now c.args.session.now c.queue_explained.new.self c.args.query.now c.in-Ok.lines c.in-Ok.ensures
-    (subst (λ (bs : Bytes). Queues c.args.session.now c.queue_explained.new.self (bs ++ codes "end\n")) c.as_bytes.ensures
-    (was_queued c.args.session.now c.queue_explained.new.self (c.as_bytes.result.now ++ codes "end\n") c.queue_explained.result (sym c.if-is_err.ensures.value) c.queue_explained.ensures))
+    does_explain_whole c.args.engine.now c.args.session.now c.queue_explained.new.session c.args.query.now c.queue_explained.result (sym c.if-is_err.ensures.value) c.queue_explained.ensures
 
 pub returns-in-NoMemory : goal.returns-in-NoMemory
 returns-in-NoMemory c =

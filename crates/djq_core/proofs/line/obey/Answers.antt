@@ -78,6 +78,11 @@ returns-in-Rel g c =
     subst (λ (command : Command). ExecutesKeeping command c.run_rel.result false c.args.engine.now c.args.session.now c.run_rel.new.engine c.run_rel.new.session c.args.steps.now.listing c.args.steps.now.listing) (sym c.in-Rel.is)
     (counting _ false c.args.engine.now c.args.session.now c.run_rel.new.engine c.run_rel.new.session c.args.steps.now.listing c.args.steps.now.listing (omega arith) c.run_rel.ensures)
 
+pub returns-in-Union : goal.returns-in-Union
+returns-in-Union g c =
+    subst (λ (command : Command). ExecutesKeeping command c.run_union.result false c.args.engine.now c.args.session.now c.run_union.new.engine c.run_union.new.session c.args.steps.now.listing c.args.steps.now.listing) (sym c.in-Union.is)
+    (counting _ false c.args.engine.now c.args.session.now c.run_union.new.engine c.run_union.new.session c.args.steps.now.listing c.args.steps.now.listing (omega arith) c.run_union.ensures)
+
 pub returns-in-Drop : goal.returns-in-Drop
 returns-in-Drop g c =
     subst (λ (command : Command). ExecutesKeeping command c.run_drop.result false c.args.engine.now c.args.session.now c.run_drop.new.engine c.run_drop.new.session c.args.steps.now.listing c.args.steps.now.listing) (sym c.in-Drop.is)

@@ -59,9 +59,15 @@ fn lends_what_is_kept<L: Ledgers>(rt: &HostRuntime, blanks: Blanks) -> Result<bo
     let absent = core.accepted(0).is_none();
     say_one(&mut core, &mut steps, 1, b"query q(x) <- r(x)\n");
     let registered = is_lent(&core, b"query q(x) <- r(x)");
+    say_one(&mut core, &mut steps, 1, b"query p(y) <- r(y)\n");
+    say_one(&mut core, &mut steps, 1, b"union u q p\n");
+    let united = is_lent(&core, b"union u q p");
+    say_one(&mut core, &mut steps, 1, b"union v q u\n");
+    let refused = core.accepted(0).is_none();
     say_one(&mut core, &mut steps, 1, b"open c q\n");
     let opens = core.accepted(0).is_none();
-    Ok(opened && made && added && copied && absent && registered && opens)
+    let changed = made && added && copied && absent;
+    Ok(opened && changed && registered && united && refused && opens)
 }
 
 #[test]
@@ -79,6 +85,9 @@ fn loads_kept<L: Ledgers>(core: &mut Core, steps: &mut Steps<L>) -> bool {
         && loads(core, steps, b"del r 1 \"a\"", Loaded::Ran)
         && loads(core, steps, b"query q(x,t) <- r(x,t)", Loaded::Ran)
         && loads(core, steps, b"query p(x) <- r(x,\"a\")", Loaded::Ran)
+        && loads(core, steps, b"query o(x) <- r(x,_)", Loaded::Ran)
+        && loads(core, steps, b"union u o p", Loaded::Ran)
+        && loads(core, steps, b"drop u", Loaded::Ran)
         && loads(core, steps, b"drop p", Loaded::Ran)
 }
 
@@ -88,6 +97,7 @@ fn refuses_others<L: Ledgers>(core: &mut Core, steps: &mut Steps<L>) -> bool {
         && loads(core, steps, b"add r 1", Loaded::Refused)
         && loads(core, steps, b"del r 3 \"a\"", Loaded::Refused)
         && loads(core, steps, b"drop p", Loaded::Refused)
+        && loads(core, steps, b"union u o q", Loaded::Refused)
         && loads(core, steps, b"has q 1 \"a\"", Loaded::Refused)
         && loads(core, steps, b"stop", Loaded::Refused)
         && loads(core, steps, b"", Loaded::Refused)

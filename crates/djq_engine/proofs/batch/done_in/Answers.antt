@@ -1,4 +1,4 @@
-use Rattle.std.proofs.Common.{◌≡◌, ◌∙◌, ◌+◌, ◌⊎◌, inl, inr, ℕ, List, [], refl, sym, ap, subst, arith, length}
+use Rattle.std.proofs.Common.{◌≤◌, ◌≡◌, ◌∙◌, ◌+◌, ◌⊎◌, inl, inr, ℕ, List, [], refl, sym, ap, subst, arith, length}
 use Rattle.std.specs.Prelude.{Some, filter}
 use Rattle.djq_model.specs.declared.relation.Relation.{Relation}
 use Rattle.djq_model.specs.Data.{Bytes}
@@ -16,19 +16,21 @@ use Rattle.djq_live.specs.Body.{HeadsAreBound}
 use Rattle.djq_live.specs.Live.{Live}
 use Rattle.djq_reach.specs.declared.group.Group.{Group}
 use Rattle.djq_reach.specs.Places.{place_at, is_reader}
-use Rattle.djq_reach.specs.Grouping.{reached}
+use Rattle.djq_reach.specs.Grouping.{reached, rows_in, times_back}
 use Rattle.djq_engine.specs.declared.parts.Parts.{Parts}
 use Rattle.djq_engine.specs.Places.{queries_in}
 use Rattle.djq_engine.specs.Putting.{IsStoreOf, PutsAll, RefusesAll, WentInAll}
 use Rattle.djq_engine.specs.Whole.{kept_in, IsWhole}
-use Rattle.djq_engine.proofs.Accepted.{Settles, taken_whole, taken_registered, taken_cursors, taken_adds, taken_tended, taken_tells}
+use Rattle.djq_engine.proofs.Accepted.{Settles, taken_whole, taken_registered, taken_places, taken_cursors, taken_adds, taken_tended, taken_tells}
 use Rattle.djq_engine.proofs.Chained.{same_none}
 use Rattle.djq_engine.proofs.GivenUp.{sound_readers}
+use Rattle.djq_engine.proofs.Placed.{keeps_equal}
 use Rattle.djq_engine.proofs.Put.{refused_kind}
 use Rattle.djq_engine.proofs.Rested.{rests_whole, rests_tended, rests_cursors, rests_tells, no_groups, none_adds, refuses_batch}
-use Rattle.djq_engine.proofs.Settled.{start_here, begun, leads_here, came_within, came_here, came_tested, came_found, came_seq, filled_mid, came_takes, came_readers, unwatched_reached, lacks_rows, lacks_groups, lacks_readers, lacks_logged, lacks_found, lacks_whole, lacks_tended, lacks_cursors, lacks_registered, lacks_refuses, lacks_tells, lacks_last, lacks_counts}
+use Rattle.djq_engine.proofs.Settled.{start_here, begun, leads_here, came_within, came_here, came_tested, came_found, came_seq, filled_mid, came_takes, came_readers, unwatched_reached, lacks_rows, lacks_groups, lacks_readers, lacks_logged, lacks_found, lacks_whole, lacks_tended, lacks_cursors, lacks_registered, lacks_places, lacks_refuses, lacks_tells, lacks_last, lacks_counts}
 use Rattle.djq_engine.proofs.Storing.{same_rows}
 use Rattle.djq_engine.proofs.TakenBack.{catalog_counted}
+use Rattle.djq_engine.proofs.Worked.{came_few, counts_all, rows_each}
 use Rattle.djq_engine.proofs.batch.done_in.Goals as goal
 
 -- the store of the engine is that of its catalog
@@ -153,6 +155,8 @@ returns-in_default g c =
       watches = refl;
       tells = rests_tells old c.requires.whole c.requires.tended d same long names c.live_stays.ensures c.showable_stays.ensures c.args.steps.now.listing c.args.steps.now.listing (omega arith);
       unlisted = λ none. refl;
+      updates = record { counted = λ n few. omega arith };
+      places = keeps_equal _ old.queries.items old.queries.items refl;
     }
 
 pub returns-then-count-eq0-clause-whole : goal.returns-then-count-eq0-clause-whole
@@ -731,3 +735,105 @@ returns-clause-unlisted g c none =
     let count = c.in-Ok.came.count in
     let p = as_slice (kept_in old).store held d count c.in-Ok.came.groups.items groups c.as_slice-came.ensures.value (c.in-Ok.ensures.put (kept_in old).store (agrees old)) in
     c.take_groups.ensures.unlisted (unwatched_reached old c.requires.whole none groups (came_within old c.requires.whole held d groups count c.cells_stay.ensures c.laws.ensures c.laws-2.ensures c.requires.suit p learned.0 learned.1))
+
+pub returns-in-Err-take_groups-clause-updates : goal.returns-in-Err-take_groups-clause-updates
+returns-in-Err-take_groups-clause-updates g c =
+    let old = c.args.parts.now in
+    let held = c.args.held.now in
+    let d = c.put_all-put.new.catalog in
+    let learned = c.put_all-put.ensures.learned in
+    let groups = c.as_slice-came.result.now in
+    let count = c.in-Ok.came.count in
+    let p = as_slice (kept_in old).store held d count c.in-Ok.came.groups.items groups c.as_slice-came.ensures.value (c.in-Ok.ensures.put (kept_in old).store (agrees old)) in
+    let few = came_few (kept_in old).store held in
+    let fits : rows_in groups ≤ length held = omega (arith, few, p.size, p.count) in
+    record {
+      counted = counts_all old c.requires.whole held (start_here old c.requires.whole held d groups count c.cells_stay.ensures c.laws.ensures c.laws-2.ensures c.requires.suit p learned.0 learned.1) d groups count (begun old c.requires.whole held d groups count c.cells_stay.ensures c.laws.ensures c.laws-2.ensures c.requires.suit p learned.0 learned.1 (λ e. omega (arith, e, c.if-count-eq0.false))) c.leaves_are_small.ensures fits
+          (length held + 2) times_back (rows_each groups (length held) fits) c.args.steps.now.update c.take_groups.new.steps.update c.in-Err-take_groups.ensures.refusal;
+    }
+
+pub returns-clause-updates : goal.returns-clause-updates
+returns-clause-updates g c =
+    let old = c.args.parts.now in
+    let held = c.args.held.now in
+    let d = c.put_all-put.new.catalog in
+    let learned = c.put_all-put.ensures.learned in
+    let groups = c.as_slice-came.result.now in
+    let count = c.in-Ok.came.count in
+    let p = as_slice (kept_in old).store held d count c.in-Ok.came.groups.items groups c.as_slice-came.ensures.value (c.in-Ok.ensures.put (kept_in old).store (agrees old)) in
+    let few = came_few (kept_in old).store held in
+    let fits : rows_in groups ≤ length held = omega (arith, few, p.size, p.count) in
+    record {
+      counted = counts_all old c.requires.whole held (start_here old c.requires.whole held d groups count c.cells_stay.ensures c.laws.ensures c.laws-2.ensures c.requires.suit p learned.0 learned.1) c.take_groups.new.parts.catalog groups count (filled_mid old c.requires.whole held d groups count c.cells_stay.ensures c.laws.ensures c.laws-2.ensures c.requires.suit p learned.0 learned.1 c.live_stays.ensures (λ e. omega (arith, e, c.if-count-eq0.false)) c.take_groups.new.parts c.in-Ok-take_groups.ensures.taken c.take_groups.ensures.catalog) c.leaves_are_small.ensures fits
+          1 (λ x. 1) (λ k e low. omega arith) c.args.steps.now.update c.take_groups.new.steps.update c.in-Ok-take_groups.ensures.updates;
+    }
+
+pub returns-in-NoMemory-clause-updates : goal.returns-in-NoMemory-clause-updates
+returns-in-NoMemory-clause-updates g c = record { counted = λ n few. omega arith }
+
+pub returns-then-count-eq0-clause-updates : goal.returns-then-count-eq0-clause-updates
+returns-then-count-eq0-clause-updates g c = record { counted = λ n few. omega arith }
+
+pub returns-in-NoMemory-clause-places : goal.returns-in-NoMemory-clause-places
+returns-in-NoMemory-clause-places g c =
+    let old = c.args.parts.now in
+    let held = c.args.held.now in
+    let d = c.put_all-put.new.catalog in
+    let learned = c.put_all-put.ensures.learned in
+    let mid : Parts = record old { catalog = d } in
+    let k = lacks_rows old c.requires.whole held d c.live_stays.ensures c.laws-2.ensures c.in-Err.ensures.stays learned.0 learned.1 in
+    lacks_places old mid c.requires.whole c.requires.tended held [] k c.give_up.new.parts c.give_up.ensures
+
+pub returns-in-Err-take_groups-clause-places : goal.returns-in-Err-take_groups-clause-places
+returns-in-Err-take_groups-clause-places g c =
+    let old = c.args.parts.now in
+    let held = c.args.held.now in
+    let d = c.put_all-put.new.catalog in
+    let learned = c.put_all-put.ensures.learned in
+    let groups = c.as_slice-came.result.now in
+    let count = c.in-Ok.came.count in
+    let p = as_slice (kept_in old).store held d count c.in-Ok.came.groups.items groups c.as_slice-came.ensures.value (c.in-Ok.ensures.put (kept_in old).store (agrees old)) in
+    let w : WentInAll (kept_in old).store held c.take_groups.new.parts.catalog.relations = record {
+      suits = c.requires.suit;
+      counted = catalog_counted old.catalog c.laws.ensures;
+      are = ap (λ (x : Catalog). x.relations) c.take_groups.ensures.catalog ∙ p.relations;
+    } in
+    let after = c.take_back.new.catalog in
+    let mid : Parts = record c.take_groups.new.parts { catalog = after } in
+    let places = reached old.readers.items groups in
+    let start = start_here old c.requires.whole held d groups count c.cells_stay.ensures c.laws.ensures c.laws-2.ensures c.requires.suit p learned.0 learned.1 in
+    let same = c.take_back.ensures.texts ∙ ap (λ (x : Catalog). x.texts) c.take_groups.ensures.catalog in
+    let k = lacks_groups old c.requires.whole held start d groups count (begun old c.requires.whole held d groups count c.cells_stay.ensures c.laws.ensures c.laws-2.ensures c.requires.suit p learned.0 learned.1 (λ e. omega (arith, e, c.if-count-eq0.false)))
+    c.take_groups.new.parts c.in-Err-take_groups.ensures.given c.take_groups.ensures.rest (leads_here old c.requires.whole held d groups count c.cells_stay.ensures c.laws.ensures c.laws-2.ensures c.requires.suit p learned.0 learned.1 c.live_stays.ensures (λ e. omega (arith, e, c.if-count-eq0.false)))
+    c.live_stays.ensures after c.laws-in-Err-take_groups.ensures (c.take_back.ensures.back (kept_in old).store w) same learned.0 learned.1 in
+    lacks_places old mid c.requires.whole c.requires.tended held places k c.give_up-in-Err-take_groups.new.parts c.give_up-in-Err-take_groups.ensures
+
+pub returns-clause-places : goal.returns-clause-places
+returns-clause-places g c =
+    let old = c.args.parts.now in
+    let held = c.args.held.now in
+    let d = c.put_all-put.new.catalog in
+    let learned = c.put_all-put.ensures.learned in
+    let groups = c.as_slice-came.result.now in
+    let count = c.in-Ok.came.count in
+    let p = as_slice (kept_in old).store held d count c.in-Ok.came.groups.items groups c.as_slice-came.ensures.value (c.in-Ok.ensures.put (kept_in old).store (agrees old)) in
+    let mid = c.take_groups.new.parts in
+    let start = start_here old c.requires.whole held d groups count c.cells_stay.ensures c.laws.ensures c.laws-2.ensures c.requires.suit p learned.0 learned.1 in
+    let new : Parts = record mid { seq = mid.seq + 1; affected = c.affect_reached.new.affected; queries = c.outdate_came.new.queries } in
+    let x : Settles old held groups mid new = record {
+      ages = c.outdate_came.ensures (has_come (kept_in old).store held) (came_tested old c.requires.whole held d groups count c.cells_stay.ensures c.laws.ensures c.laws-2.ensures c.requires.suit p learned.0 learned.1 mid.catalog c.take_groups.ensures.catalog);
+      catalog = refl;
+      logs = refl;
+      readers = c.take_groups.ensures.rest.readers;
+      order = c.take_groups.ensures.rest.order;
+      watchers = c.take_groups.ensures.rest.watchers;
+      seq = ap (λ (n : ℕ). n + 1) c.take_groups.ensures.rest.seq;
+      affected = c.affect_reached.ensures.items
+          ∙ ap (λ (rs : List (List ℕ)). filter (is_reader (reached rs groups)) c.as_slice-order.result.now) c.take_groups.ensures.rest.readers
+          ∙ ap (λ (xs : List ℕ). filter (is_reader (reached old.readers.items groups)) xs) (c.as_slice-order.ensures ∙ c.take_groups.ensures.rest.order);
+      room = omega (arith, c.requires.tended.room, c.take_groups.ensures.rest.room, c.affect_reached.ensures.room);
+    } in
+    taken_places old mid new c.requires.whole c.requires.tended held start groups count (filled_mid old c.requires.whole held d groups count c.cells_stay.ensures c.laws.ensures c.laws-2.ensures c.requires.suit p learned.0 learned.1 c.live_stays.ensures (λ e. omega (arith, e, c.if-count-eq0.false)) mid c.in-Ok-take_groups.ensures.taken c.take_groups.ensures.catalog) (came_takes old c.requires.whole held d groups count c.cells_stay.ensures c.laws.ensures c.laws-2.ensures c.requires.suit p learned.0 learned.1 c.live_stays.ensures (λ e. omega (arith, e, c.if-count-eq0.false)) mid c.in-Ok-take_groups.ensures.taken c.take_groups.ensures.catalog) x c.live_stays.ensures c.showable_stays.ensures
+
+pub returns-then-count-eq0-clause-places : goal.returns-then-count-eq0-clause-places
+returns-then-count-eq0-clause-places g c = keeps_equal _ c.args.parts.now.queries.items c.args.parts.now.queries.items refl

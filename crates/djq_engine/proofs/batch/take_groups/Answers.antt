@@ -4,7 +4,7 @@ use Rattle.djq_live.specs.Live.{IsKept}
 use Rattle.djq_reach.specs.Places.{readers_at, AreOnce}
 use Rattle.djq_reach.specs.Reaching.{AllAt, Reach, Renews}
 use Rattle.djq_reach.specs.Tending.{AreUnwatched, TellsAt, Tends, Empties}
-use Rattle.djq_reach.specs.Grouping.{CanComeBy, CostsBy, Leads, reached}
+use Rattle.djq_reach.specs.Grouping.{CanComeBy, CostsBy, Leads, WorksBy, reached, rows_in, times_back}
 use Rattle.djq_engine.proofs.batch.take_groups.Goals as goal
 
 on_ok : {X E : Type 0} {A B C : Type 0} (r : Result X E) → (A → B → C) → OnOk r A → OnOk r B → OnOk r C
@@ -87,3 +87,13 @@ returns-clause-rest g c = record {
   room = refl;
   long = either c.take_in_batch.result (λ t. t.long) (λ e. e.long) c.take_in_batch.ensures.tells c.take_in_batch.ensures.emptied;
 }
+
+pub returns-clause-updates : goal.returns-clause-updates
+returns-clause-updates g c =
+    subst (λ (rs : List (List ℕ)). OnOk c.take_in_batch.result (WorksBy rs c.args.groups.now c.args.parts.now.queries.items (rows_in c.args.groups.now) (λ x. 1) c.args.steps.now.update c.take_in_batch.new.steps.update))
+    c.as_slice-readers.ensures.value c.take_in_batch.ensures.updates
+
+pub returns-clause-refusal : goal.returns-clause-refusal
+returns-clause-refusal g c =
+    subst (λ (rs : List (List ℕ)). OnErr c.take_in_batch.result (WorksBy rs c.args.groups.now c.args.parts.now.queries.items (rows_in c.args.groups.now) times_back c.args.steps.now.update c.take_in_batch.new.steps.update))
+    c.as_slice-readers.ensures.value c.take_in_batch.ensures.refusal

@@ -35,3 +35,9 @@ returns-clause-tended c =
       room = c.requires.tended.room;
       shown = k.shown c.requires.tended.shown;
     }
+
+pub returns-clause-places : goal.returns-clause-places
+returns-clause-places c =
+    let old = c.args.parts.now in
+    let k = closed_kept old.catalog old.queries.items c.close_at.new.queries.items old.order old.readers.items c.requires.whole old.logs.items c.args.id.query.at c.args.id.cursor c.close_at.ensures in
+    k.places

@@ -35,3 +35,9 @@ returns-clause-tended g c =
       room = c.requires.tended.room;
       shown = k.shown c.requires.tended.shown;
     }
+
+pub returns-clause-places : goal.returns-clause-places
+returns-clause-places g c =
+    let old = c.args.parts.now in
+    let k = looked_kept old.catalog old.queries.items c.more_at.new.queries.items old.order old.readers.items c.requires.whole old.logs.items c.args.id.query.at c.args.id.cursor c.more_at.result c.args.listing.now c.more_at.new.listing c.more_at.ensures in
+    k.places

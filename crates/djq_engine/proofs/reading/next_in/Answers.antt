@@ -35,3 +35,9 @@ returns-clause-tended g c =
       room = c.requires.tended.room;
       shown = k.shown c.requires.tended.shown;
     }
+
+pub returns-clause-places : goal.returns-clause-places
+returns-clause-places g c =
+    let old = c.args.parts.now in
+    let k = read_kept old.catalog old.queries.items c.next_at.new.queries.items old.order old.readers.items c.requires.whole old.logs.items c.args.id.query.at c.args.id.cursor c.next_at.result c.next_at.new.answer c.args.listing.now c.next_at.new.listing c.next_at.ensures in
+    k.places

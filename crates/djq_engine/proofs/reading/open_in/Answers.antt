@@ -1,4 +1,4 @@
-use Rattle.std.proofs.Common.{ap, subst, sym, ◌∙◌, List, length}
+use Rattle.std.proofs.Common.{ap, refl, subst, sym, ◌∙◌, List, length, false}
 use Rattle.std.specs.Prelude.{position, IsSomeAnd, Option, ⊤}
 use Rattle.djq_live.specs.Live.{Live}
 use Rattle.djq_engine.specs.Places.{is_query}
@@ -7,6 +7,7 @@ use Rattle.djq_engine.proofs.Naming.{first_query}
 use Rattle.djq_engine.proofs.Cursors.{open_refused, open_lacks, open_gives}
 use Rattle.djq_reach.specs.Tending.{AreShown}
 use Rattle.djq_engine.proofs.Keeping.{opened_kept}
+use Rattle.djq_engine.proofs.Placed.{keeps_equal}
 use Rattle.djq_engine.proofs.reading.open_in.Goals as goal
 
 pub returns-in_default-clause-gives : goal.returns-in_default-clause-gives
@@ -54,3 +55,16 @@ returns-in-Err-clause-tended c =
       room = c.requires.tended.room;
       shown = subst (λ (gs : List (Option Live)). AreShown old.catalog.texts gs old.logs.items) (sym e) c.requires.tended.shown;
     }
+
+pub returns-in-Ok-clause-places : goal.returns-in-Ok-clause-places
+returns-in-Ok-clause-places c =
+    let old = c.args.parts.now in
+    let k = opened_kept old.catalog old.queries.items c.open_at.new.queries.items old.order old.readers.items c.requires.whole old.logs.items c.in-Some.at c.in-Ok.cursor c.in-Ok.ensures.ok in
+    k.places
+
+pub returns-in_default-clause-places : goal.returns-in_default-clause-places
+returns-in_default-clause-places c = keeps_equal (λ q. false) c.args.parts.now.queries.items c.args.parts.now.queries.items refl
+
+pub returns-in-Err-clause-places : goal.returns-in-Err-clause-places
+returns-in-Err-clause-places c =
+    keeps_equal (λ q. false) c.args.parts.now.queries.items c.open_at.new.queries.items c.in-Err.ensures.err

@@ -5,6 +5,8 @@ use Rattle.djq_live.specs.Live.{Live}
 use Rattle.djq_reach.specs.Places.{place_at, watched_at}
 use Rattle.djq_engine.specs.Places.{is_query}
 use Rattle.djq_engine.proofs.Enrolling.{lists_once}
+use Rattle.djq_engine.specs.Kept.{Registered}
+use Rattle.djq_engine.proofs.Enlisted.{name_found}
 use Rattle.djq_engine.proofs.Naming.{first_query}
 use Rattle.djq_reach.proofs.Reaching.{place_below}
 use Rattle.djq_engine.proofs.Refusing.{drop_done, drop_in_use, drop_unknown, drop_watched, idle_as}
@@ -81,3 +83,10 @@ returns-clause-tended c =
       room = omega (arith, c.requires.tended.room, c.unaffect.ensures.room, filter_few (λ i. not (i == c.in-Some.at)) old.order, ap (λ (xs : List ℕ). length xs) c.leave_out.ensures);
       shown = shown_dropped old.catalog.texts old.queries.items old.logs.items c.in-Some.at c.clear.new.self (place_below old.queries.items c.in-Some.at n.query n.there) c.clear.ensures.lines c.requires.tended.shown;
     }
+
+pub returns-clause-places : goal.returns-clause-places
+returns-clause-places c =
+    let old = c.args.parts.now in
+    let n = first_query old.queries.items c.args.query.now c.in-Some.at (c.in-Some.ensures ∙ ap (position (is_query c.args.query.now)) c.as_slice.ensures.value) in
+    subst (λ (o : Option Registered). IsSomeAnd o (λ r. set old.queries.items c.in-Some.at None ≡ set old.queries.items r.id.at None))
+    (sym (name_found old.catalog old.queries.items old.order old.readers.items old.watchers.items c.requires.whole c.args.query.now c.in-Some.at n)) refl

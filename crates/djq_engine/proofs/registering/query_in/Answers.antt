@@ -1,4 +1,4 @@
-use Rattle.std.proofs.Common.{◌≤◌, length, ◌∙◌, ap, refl, sym, subst, ℕ, ◌+◌, ◌*◌, ◌∷◌, ◌++◌, [], List}
+use Rattle.std.proofs.Common.{false, ◌≤◌, length, ◌∙◌, ap, refl, sym, subst, ℕ, ◌+◌, ◌*◌, ◌∷◌, ◌++◌, [], List}
 use Rattle.djq_model.specs.declared.relation.Relation.{Relation}
 use Rattle.djq_model.specs.Known.{texts_in}
 use Rattle.djq_lines.specs.QueryFault.{query_fault}
@@ -21,6 +21,7 @@ use Rattle.djq_engine.proofs.Enlisted.{enlisted, name_found, registered_none, re
 use Rattle.djq_engine.proofs.Tending.{shown_enrolled, shown_places}
 use Rattle.djq_engine.proofs.Refusing.{mid_shown, mid_told, all_first, constants_stay, enrolled_cursors, enrolled_queries, enrolled_whole, passes_of, query_done, query_lacks, same_cursors, same_queries, same_whole}
 use Rattle.djq_engine.proofs.Lasting.{other_place}
+use Rattle.djq_engine.proofs.Placed.{keeps_added, keeps_equal, keeps_same}
 use Rattle.djq_engine.proofs.Told.{alike_same, told_empty, told_is}
 use Rattle.djq_engine.proofs.registering.query_in.Goals as goal
 
@@ -290,3 +291,26 @@ returns-in-Err-register-clause-tellings g c =
       λ id. ap (λ (x : Catalog). slice_index_or (told_from x.texts new.queries.items new.logs.items) id.at None) r.catalog
           ∙ mid_told c.showable_stays.ensures c.texts_stay.ensures old.catalog.texts c.intern_constants-known.new.catalog.texts (constants_of c.args.query) c.intern_constants-known.result c.intern_constants-known.ensures.interns old.queries.items new.queries.items old.logs.items new.logs.items c.requires.tended.shown r.logs id.at (r.queries id.at),
     )
+
+pub register-requires-clause-room : goal.register-requires-clause-room
+register-requires-clause-room g c =
+    let old = c.args.parts.now in
+    (passes_of old.catalog old.queries.items old.order old.readers.items old.seq c.requires.whole c.args.query (sym c.in_default.ensures)).few
+
+pub returns-in-Ok-register-clause-places : goal.returns-in-Ok-register-clause-places
+returns-in-Ok-register-clause-places g c =
+    let r = c.in-Ok-register.ensures.ok in
+    keeps_added (λ q. false) c.args.parts.now.queries.items c.register.new.parts.queries.items r.place r.vacant r.others
+
+pub returns-in-Err-register-clause-places : goal.returns-in-Err-register-clause-places
+returns-in-Err-register-clause-places g c =
+    keeps_same (λ q. false) c.args.parts.now.queries.items c.register.new.parts.queries.items c.in-Err-register.ensures.err.queries
+
+pub returns-in-Err-Full-clause-places : goal.returns-in-Err-Full-clause-places
+returns-in-Err-Full-clause-places g c = keeps_equal (λ q. false) c.args.parts.now.queries.items c.args.parts.now.queries.items refl
+
+pub returns-in-Err-NoMem-known-clause-places : goal.returns-in-Err-NoMem-known-clause-places
+returns-in-Err-NoMem-known-clause-places g c = keeps_equal (λ q. false) c.args.parts.now.queries.items c.args.parts.now.queries.items refl
+
+pub returns-in-Err-clause-places : goal.returns-in-Err-clause-places
+returns-in-Err-clause-places g c = keeps_equal (λ q. false) c.args.parts.now.queries.items c.args.parts.now.queries.items refl

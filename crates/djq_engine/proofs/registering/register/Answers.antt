@@ -6,6 +6,7 @@ use Rattle.djq_cursor.specs.Log.{Log}
 use Rattle.djq_live.specs.Updating.{IsEmpty}
 use Rattle.djq_reach.specs.Places.{no_log}
 use Rattle.djq_engine.specs.Placing.{JoinsReaders}
+use Rattle.djq_engine.proofs.Crowded.{room_bounds}
 use Rattle.djq_engine.proofs.Lists.{logs_cleared}
 use Rattle.djq_engine.proofs.Enrolling.{lists_once, lists_without, joined_once, joined_left}
 use Rattle.djq_engine.proofs.Unseating.{remove_last, last_place}
@@ -44,6 +45,7 @@ returns-in-Err-join_readers-clause-err c =
       room = omega (arith, c.requires.tended.room, c.reserve.ensures.capacity, ap (λ (xs : List ℕ). length xs) same);
       watched = c.vacant_place.ensures.watched;
       logged = c.vacant_place.ensures.logged;
+      bounded = room_bounds old.catalog old.queries.items c.vacant_place.new.queries.items old.order old.readers.items c.requires.whole c.requires.room c.vacant_place.ensures.long;
     }
 
 -- the context is too long for `search` to find the parts of what is registered
@@ -77,4 +79,46 @@ returns-in-Ok-join_readers-clause-ok c =
           omega (arith, long, c.in_ok-reserve.ensures.ok, c.len-listed.ensures, ap (λ (xs : List ℕ). length xs) c.in-Ok-push.ensures.ok));
       watched = length-set ws at 0 ∙ c.in-Ok.ensures.watched ∙ sym (length-set gs at (Some q));
       logged = length-set ls at c.clear.new.self ∙ c.in-Ok.ensures.logged ∙ sym (length-set gs at (Some q));
+      bounded = omega (
+        arith,
+        room_bounds c.args.parts.now.catalog c.args.parts.now.queries.items gs c.args.parts.now.order c.args.parts.now.readers.items
+            c.requires.whole c.requires.room c.vacant_place.ensures.long,
+        length-set gs at (Some q),
+      );
+    }
+
+pub returns-in-Err-push-clause-err : goal.returns-in-Err-push-clause-err
+returns-in-Err-push-clause-err c =
+    let old = c.args.parts.now in
+    record {
+      queries = c.vacant_place.ensures.same;
+      readers = record { long = refl; each = λ r. refl };
+      order = c.in-Err-push.ensures.err;
+      catalog = refl;
+      seq = refl;
+      watchers = c.vacant_place.ensures.watchers;
+      logs = c.vacant_place.ensures.logs;
+      affected = c.reserve.ensures.items;
+      room = omega (arith, c.requires.tended.room, c.reserve.ensures.capacity, ap (λ (xs : List ℕ). length xs) (c.in-Err-push.ensures.err));
+      watched = c.vacant_place.ensures.watched;
+      logged = c.vacant_place.ensures.logged;
+      bounded = room_bounds old.catalog old.queries.items c.vacant_place.new.queries.items old.order old.readers.items c.requires.whole c.requires.room c.vacant_place.ensures.long;
+    }
+
+pub returns-in-Err-clause-err : goal.returns-in-Err-clause-err
+returns-in-Err-clause-err c =
+    let old = c.args.parts.now in
+    record {
+      queries = c.vacant_place.ensures.same;
+      readers = record { long = refl; each = λ r. refl };
+      order = refl;
+      catalog = refl;
+      seq = refl;
+      watchers = c.vacant_place.ensures.watchers;
+      logs = c.vacant_place.ensures.logs;
+      affected = c.reserve.ensures.items;
+      room = omega (arith, c.requires.tended.room, c.reserve.ensures.capacity);
+      watched = c.vacant_place.ensures.watched;
+      logged = c.vacant_place.ensures.logged;
+      bounded = room_bounds old.catalog old.queries.items c.vacant_place.new.queries.items old.order old.readers.items c.requires.whole c.requires.room c.vacant_place.ensures.long;
     }

@@ -1,4 +1,4 @@
-use Rattle.std.proofs.Common.{ℕ, List, ◌+◌, ◌≤◌, ◌∙◌, ap, arith, subst, sym, rules, ◌≡◌}
+use Rattle.std.proofs.Common.{ℕ, List, ◌+◌, ◌≤◌, ◌∙◌, ap, arith, refl, subst, sym, rules, ◌≡◌}
 use Rattle.std.specs.Prelude.{IfErr, Some, Ok, Err}
 use Rattle.djq_model.specs.Data.{with_row}
 use Rattle.djq_lines.specs.declared.answer.Refusal.{Refusal}
@@ -6,6 +6,7 @@ use Rattle.djq_lines.specs.declared.answer.AddOutcome.{AddOutcome}
 use Rattle.djq_machine.specs.Store.{add_refusal}
 use Rattle.djq_dict.specs.declared.refusal.InternRefusal.{InternRefusal}
 use Rattle.djq_rows.specs.Catalog.{counted_at}
+use Rattle.djq_machine.specs.Changes.{row_in}
 use Rattle.djq_engine.specs.Judging.{bare}
 use Rattle.djq_engine.specs.Changing.{
   AddsTo,
@@ -56,6 +57,7 @@ use Rattle.djq_engine.proofs.Reporting.{
   tended_now,
   tended_still,
 }
+use Rattle.djq_engine.proofs.Placed.{keeps_changed, keeps_equal}
 use Rattle.djq_cursor.specs.Log.{Log}
 use Rattle.djq_reach.specs.Places.{readers_at}
 use Rattle.djq_reach.specs.Tending.{Empties, HaveLogs}
@@ -377,3 +379,30 @@ pub affect-requires-clause-room : goal.affect-requires-clause-room
 affect-requires-clause-room g c =
     readers_few c.args.parts.now c.put_row.new.parts c.requires.whole c.in_ok-id.id.at c.in_ok-id.ensures.ok.relation.below
     c.put_row.ensures.rest c.requires.tended
+
+pub returns-in_err-id-clause-places : goal.returns-in_err-id-clause-places
+returns-in_err-id-clause-places g c = keeps_equal _ c.args.parts.now.queries.items c.args.parts.now.queries.items refl
+
+pub returns-in-Err-Full-clause-places : goal.returns-in-Err-Full-clause-places
+returns-in-Err-Full-clause-places g c =
+    keeps_equal _ c.args.parts.now.queries.items c.put_row.new.parts.queries.items
+    (subst (λ (r : InternRefusal). AddsTo c.in_ok-id.id.at c.args.row.now c.args.parts.now (Err r) c.put_row.new.parts) c.in-Err-Full.field-0-is c.in-Err-Full.ensures.adds).rests.queries
+
+pub returns-in-Err-NoMem-clause-places : goal.returns-in-Err-NoMem-clause-places
+returns-in-Err-NoMem-clause-places g c =
+    keeps_changed c.args.parts.now (record c.put_row.new.parts { logs = c.empty_logs.new.logs }) c.age_readers.new.parts c.requires.whole
+    c.in_ok-id.id.at c.args.name.now (row_in c.args.parts.now.catalog.relations c.args.name.now c.args.row.now).after c.in_ok-id.ensures.ok.relation.below c.in_ok-id.ensures.ok.relation.named
+    (subst (λ (r : InternRefusal). AddsTo c.in_ok-id.id.at c.args.row.now c.args.parts.now (Err r) c.put_row.new.parts) c.in-Err-NoMem.field-0-is c.in-Err-NoMem.ensures.adds).1.carries
+    c.put_row.ensures.rest.readers c.age_readers.ensures
+
+pub returns-in-Ok-More-clause-places : goal.returns-in-Ok-More-clause-places
+returns-in-Ok-More-clause-places g c =
+    keeps_equal _ c.args.parts.now.queries.items c.put_row.new.parts.queries.items
+    (subst (λ (o : AddOutcome). AddsTo c.in_ok-id.id.at c.args.row.now c.args.parts.now (Ok o) c.put_row.new.parts) c.in-Ok-More.field-0-is c.in-Ok-More.ensures.adds).has.queries
+
+pub returns-clause-places : goal.returns-clause-places
+returns-clause-places g c =
+    keeps_changed c.args.parts.now (record c.put_row.new.parts { seq = c.put_row.new.parts.seq + 1; affected = c.affect.new.affected }) c.age_readers-2.new.parts c.requires.whole
+    c.in_ok-id.id.at c.args.name.now (row_in c.args.parts.now.catalog.relations c.args.name.now c.args.row.now).after c.in_ok-id.ensures.ok.relation.below c.in_ok-id.ensures.ok.relation.named
+    (subst (λ (o : AddOutcome). AddsTo c.in_ok-id.id.at c.args.row.now c.args.parts.now (Ok o) c.put_row.new.parts) c.in-Ok-First.field-0-is c.in-Ok-First.ensures.adds).1.has.carries
+    c.put_row.ensures.rest.readers c.age_readers-2.ensures

@@ -4,6 +4,8 @@ use Rattle.djq_model.specs.Data.{Tuple, without_copies}
 use Rattle.djq_lines.specs.declared.answer.DeleteOutcome.{DeleteOutcome}
 use Rattle.djq_rows.specs.Catalog.{Catalog, StandForRow, counted_at}
 use Rattle.djq_live.specs.Live.{Live}
+use Rattle.djq_machine.specs.Changes.{row_out}
+use Rattle.djq_engine.proofs.Placed.{keeps_changed, keeps_equal}
 use Rattle.djq_engine.specs.declared.judge.Deletion.{Deletion}
 use Rattle.djq_engine.specs.Kept.{held_at}
 use Rattle.djq_reach.specs.Places.{readers_at}
@@ -284,3 +286,30 @@ affect-requires-clause-room g c =
     let may = subst (λ (j : Option Deletion). JudgesDelete c.args.parts.now.catalog c.args.name.now c.args.row.now c.args.parts.now.seq j) c.in-Some.is c.in_ok-judged.ensures.ok in
     readers_few c.args.parts.now c.drop_cells.new.parts c.requires.whole c.in-Some.found.relation.at may.relation.below
     c.drop_cells.ensures.rest c.requires.tended
+
+pub returns-in_err-judged-clause-places : goal.returns-in_err-judged-clause-places
+returns-in_err-judged-clause-places g c = keeps_equal _ c.args.parts.now.queries.items c.args.parts.now.queries.items refl
+
+pub returns-in_default-clause-places : goal.returns-in_default-clause-places
+returns-in_default-clause-places g c = keeps_equal _ c.args.parts.now.queries.items c.args.parts.now.queries.items refl
+
+pub returns-in-Left-clause-places : goal.returns-in-Left-clause-places
+returns-in-Left-clause-places g c =
+    let gone = (subst (λ (o : DeleteOutcome). DeletesFrom c.in-Some.found.relation.at c.args.row.now c.args.parts.now o c.drop_cells.new.parts) c.in-Left.is (c.drop_cells.ensures.deletes c.args.row.now (subst (λ (cells : List ℕ). StandForRow c.args.parts.now.catalog c.in-Some.found.relation.at cells c.args.row.now) (sym c.as_slice.ensures)
+    (stands c.args.parts.now c.args.name.now c.args.row.now c.in-Some.found (subst (λ (j : Option Deletion). JudgesDelete c.args.parts.now.catalog c.args.name.now c.args.row.now c.args.parts.now.seq j) c.in-Some.is c.in_ok-judged.ensures.ok))))) in
+    keeps_equal _ c.args.parts.now.queries.items c.drop_cells.new.parts.queries.items gone.3.queries
+
+pub returns-in-Absent-clause-places : goal.returns-in-Absent-clause-places
+returns-in-Absent-clause-places g c =
+    let gone = (subst (λ (o : DeleteOutcome). DeletesFrom c.in-Some.found.relation.at c.args.row.now c.args.parts.now o c.drop_cells.new.parts) c.in-Absent.is (c.drop_cells.ensures.deletes c.args.row.now (subst (λ (cells : List ℕ). StandForRow c.args.parts.now.catalog c.in-Some.found.relation.at cells c.args.row.now) (sym c.as_slice.ensures)
+    (stands c.args.parts.now c.args.name.now c.args.row.now c.in-Some.found (subst (λ (j : Option Deletion). JudgesDelete c.args.parts.now.catalog c.args.name.now c.args.row.now c.args.parts.now.seq j) c.in-Some.is c.in_ok-judged.ensures.ok))))) in
+    keeps_equal _ c.args.parts.now.queries.items c.drop_cells.new.parts.queries.items gone.2
+
+pub returns-clause-places : goal.returns-clause-places
+returns-clause-places g c =
+    let may = subst (λ (j : Option Deletion). JudgesDelete c.args.parts.now.catalog c.args.name.now c.args.row.now c.args.parts.now.seq j) c.in-Some.is c.in_ok-judged.ensures.ok in
+    let stand = subst (λ (cells : List ℕ). StandForRow c.args.parts.now.catalog c.in-Some.found.relation.at cells c.args.row.now) (sym c.as_slice.ensures) (stands c.args.parts.now c.args.name.now c.args.row.now c.in-Some.found may) in
+    let went = subst (λ (o : DeleteOutcome). DeletesFrom c.in-Some.found.relation.at c.args.row.now c.args.parts.now o c.drop_cells.new.parts) c.in-Last.is (c.drop_cells.ensures.deletes c.args.row.now stand) in
+    keeps_changed c.args.parts.now (record c.drop_cells.new.parts { seq = c.drop_cells.new.parts.seq + 1; affected = c.affect.new.affected }) c.age_readers.new.parts c.requires.whole
+    c.in-Some.found.relation.at c.args.name.now (row_out c.args.parts.now.catalog.relations c.args.name.now c.args.row.now).after may.relation.below may.relation.named went.2.has.carries
+    c.drop_cells.ensures.rest.readers c.age_readers.ensures

@@ -1,12 +1,12 @@
-use Rattle.std.proofs.Common.{◌≡◌, ◌+◌, ◌-◌, ◌/◌, ◌%◌, ◌<◌, ◌≤◌, ℕ, List, [], ◌∷◌, ◌++◌, length, take, drop, slice_set, refl, ap, ap₂, ◌∙◌, arith, length-append, length-take, length-drop}
+use Rattle.std.proofs.Common.{◌≡◌, ◌+◌, ◌-◌, ◌/◌, ◌%◌, ◌<◌, ◌≤◌, ℕ, List, [], ◌∷◌, ◌++◌, length, take, drop, slice_set, refl, sym, ap, ap₂, ◌∙◌, arith, length-append, length-take, length-drop}
 use borrow.Rule.Slice.PartMut.{put_mid}
 use Rattle.std.proofs.lemmas.Slice.{take-put_mid}
 use Rattle.std.proofs.lemmas.Grind.{take-set_at}
-use Rattle.std.proofs.lemmas.List.{length-set}
+use Rattle.std.proofs.lemmas.List.{length-set, take_all}
 use Rattle.djq_journal.proofs.appending.lay_out.Goals as goal
 
-pub returns-clause-laid : goal.returns-clause-laid
-returns-clause-laid c =
+pub returns : goal.returns
+returns c =
     let buf = c.args.buf.now in
     let line = c.args.line.now in
     let one = slice_set buf 0 (length line / 256) in
@@ -15,13 +15,14 @@ returns-clause-laid c =
     let end = 2 + length line in
     let laid = put_mid 2 (end - 2) two got in
     let size : end ≡ 2 + length got = omega (arith, ap length c.copy_from_slice.ensures.after) in
-    let one_long : length one ≡ 4099 = length-set buf 0 (length line / 256) ∙ c.requires.room in
-    let two_long : length two ≡ 4099 = length-set one 1 (length line % 256) ∙ one_long in
-    let in_one : 1 < length one = omega (arith, one_long) in
-    let in_two : 2 ≤ length two = omega (arith, two_long) in
+    let one_long : length one ≡ length buf = length-set buf 0 (length line / 256) in
+    let two_long : length two ≡ length buf = length-set one 1 (length line % 256) ∙ one_long in
+    let in_one : 1 < length one = omega (arith, one_long, c.requires.room) in
+    let in_two : 2 ≤ length two = omega (arith, two_long, c.requires.room) in
     let rest = drop (end - 2) (drop 2 two) in
-    let long : end < length laid = omega (arith, c.requires.short, two_long, size, length-append (take 2 two) (got ++ rest), length-append got rest, length-take 2 two, length-drop (end - 2) (drop 2 two), length-drop 2 two) in
-    take-set_at laid end (end + 1) c.args.gate refl long
+    let long : length laid ≡ end + 1 = omega (arith, c.requires.room, two_long, size, length-append (take 2 two) (got ++ rest), length-append got rest, length-take 2 two, length-drop (end - 2) (drop 2 two), length-drop 2 two) in
+    sym (take_all (end + 1) (slice_set laid end c.args.gate) (omega (arith, long, length-set laid end c.args.gate)))
+    ∙ take-set_at laid end (end + 1) c.args.gate refl (omega (arith, long))
     ∙ ap (λ (xs : List ℕ). xs ++ c.args.gate ∷ [])
     (take-put_mid 2 (end - 2) two got end size in_two
     ∙ ap₂ (λ (xs ys : List ℕ). xs ++ ys)

@@ -1,17 +1,20 @@
-use Rattle.std.proofs.Common.{◌≡◌, ◌-◌, ◌≤◌, suc, ℕ, List, length, take, drop}
+use Rattle.std.proofs.Common.{◌≡◌, ◌-◌, ◌≤◌, ℕ, List, length, take}
 use Rattle.djq_disk.specs.History.{WhereTold}
 use Rattle.djq_journal.specs.Standing.{IsIdle}
-use Rattle.djq_journal.specs.Appending.{gate_after}
-use Rattle.djq_journal.specs.Staging.{Stages, gate_before}
+use Rattle.djq_journal.specs.Staging.{Stages, Gathers}
+use Rattle.djq_journal.specs.declared.limits.TheConstants.{PIECE_BYTES}
 use Rattle.djq_journal.proofs.appending.write_records.Given as goal
 
--- The records of the lines so far stand behind the gate, and no fault was met.
+-- The lines so far are laid out, as bytes that were written behind the gate and bytes that are gathered,
+-- and no fault was met.
 abbrev pub invariant-loop-line : goal.invariant-loop-line
 invariant-loop-line g l = record {
-  at : l.at ≡ suc (gate_after l.gate (take l.i (g.G.Group.lines l.group)));
-  few : l.i ≤ l.at;
+  size : length l.buf ≡ PIECE_BYTES;
+  within : l.filled ≤ PIECE_BYTES;
+  written : List ℕ;
+  gathers : Gathers (g.G.Group.lines l.group) l.i l.gate l.at written (take l.filled l.buf);
   told : (lines : List (List ℕ)) → WhereTold (g.D.Disk.told l.fn.disk) (g.D.Disk.told l.disk)
-      (λ o n. IsIdle lines l.gate o.file → Stages lines (take l.i (g.G.Group.lines l.group)) l.gate (gate_before (drop l.i (g.G.Group.lines l.group))) o n);
+      (λ o n. IsIdle lines l.gate o.file → Stages lines l.gate written o n);
   faults : g.D.Disk.faults l.disk ≡ g.D.Disk.faults l.fn.disk;
 }
 

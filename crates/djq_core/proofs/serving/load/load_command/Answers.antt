@@ -1,10 +1,11 @@
-use Rattle.std.proofs.Common.{◌∙◌, subst, sym}
-use Rattle.djq_model.specs.Data.{Tuple}
+use Rattle.std.proofs.Common.{◌∙◌, List, subst, sym}
+use Rattle.djq_model.specs.Data.{Bytes, Tuple}
 use Rattle.djq_lines.specs.declared.command.Command.{Command}
 use Rattle.djq_machine.specs.Keeping.{is_done, is_removal}
 use Rattle.djq_machine.specs.Loading.{StoreLoads}
 use Rattle.djq_machine.specs.Store.{DeletesRow}
-use Rattle.djq_core.proofs.Loading.{comes_by, drops_unused, idle_dropped, idle_enrolled, idle_outdated}
+use Rattle.djq_machine.specs.Union.{RegistersUnion}
+use Rattle.djq_core.proofs.Loading.{comes_by, drops_unused, idle_dropped, idle_enrolled, idle_outdated, idle_united}
 use Rattle.djq_core.proofs.Replying.{ok_done}
 use Rattle.djq_core.proofs.serving.load.load_command.Goals as goal
 
@@ -27,6 +28,18 @@ returns-in-Del-clause-idle g c =
 pub returns-in-Query-clause-idle : goal.returns-in-Query-clause-idle
 returns-in-Query-clause-idle g c =
     idle_enrolled c.args.engine.now c.query-outcome.new.self c.in-Query.query c.query-outcome.result c.requires.idle c.query-outcome.ensures.cursors c.query-outcome.ensures.enrols
+
+pub returns-in-Union-clause-loads : goal.returns-in-Union-clause-loads
+returns-in-Union-clause-loads g c =
+    subst (λ (k : Command). StoreLoads (c.args.engine.now).store k c.loaded-in-Union.result (c.add_union-outcome.new.self).store) (sym c.in-Union.is) (
+      c.add_union-outcome.result,
+      subst (λ (members : List Bytes). RegistersUnion (c.args.engine.now).store c.in-Union.name members c.add_union-outcome.result (c.add_union-outcome.new.self).store) c.as_slice-in-Union.ensures c.add_union-outcome.ensures.registers,
+      comes_by is_done c.add_union-outcome.result c.loaded-in-Union.result c.is_ok-in-Union.result (c.is_ok-in-Union.ensures.value ∙ ok_done c.add_union-outcome.result) c.loaded-in-Union.ensures,
+    )
+
+pub returns-in-Union-clause-idle : goal.returns-in-Union-clause-idle
+returns-in-Union-clause-idle g c =
+    idle_united c.args.engine.now c.add_union-outcome.new.self c.in-Union.name _ c.add_union-outcome.result c.requires.idle c.add_union-outcome.ensures.cursors c.add_union-outcome.ensures.enrols
 
 pub returns-in-Drop-clause-loads : goal.returns-in-Drop-clause-loads
 returns-in-Drop-clause-loads g c =

@@ -1,0 +1,11 @@
+use Rattle.djq_deltas.proofs.Growing.{answers_rest, one_spares, batch_spares}
+use Rattle.djq_deltas.proofs.answers_rest.Goals as goal
+
+pub returns-clause-rest : goal.returns-clause-rest
+returns-clause-rest c = answers_rest
+
+pub returns-clause-changes : goal.returns-clause-changes
+returns-clause-changes c = one_spares
+
+pub returns-clause-batches : goal.returns-clause-batches
+returns-clause-batches c = batch_spares

@@ -1,0 +1,303 @@
+-- What the lines that are told mean: the delta of the members' union.
+use Rattle.std.proofs.Common.{
+  ◌≡◌,
+  ℕ,
+  ◌<◌,
+  Bool,
+  true,
+  false,
+  List,
+  [],
+  length,
+  refl,
+  sym,
+  ap,
+  ◌∙◌,
+  subst,
+  inl,
+  inr,
+  arith,
+}
+use Rattle.std.specs.Prelude.{◌↔◌, cond, Option, None, Some, unwrap_or, All, Contains, slice_get, slice_index_or}
+use Rattle.std.proofs.lemmas.Bool.{cases_order}
+use Rattle.std.proofs.lemmas.Option.{slice_get-get_or, slice_get_within, same_Some}
+use Rattle.std.proofs.lemmas.List.{length-map, get_or-map}
+use Rattle.std.proofs.lemmas.List.Elements.{All-contains}
+use Rattle.djq_model.specs.declared.relation.Relation.{Relation}
+use Rattle.djq_model.specs.declared.relation.ColumnType.{ColumnType}
+use Rattle.djq_model.specs.Data.{Bytes, Tuple}
+use Rattle.djq_model.specs.Answer.{IsAnswer}
+use Rattle.djq_machine.specs.Delta.{Change}
+use Rattle.djq_rows.specs.Cells.{cells_of, StandFor}
+use Rattle.djq_live.specs.Live.{Live, IsKept, values_of}
+use Rattle.djq_live.specs.Member.{
+  head_types,
+  has_cells,
+  in_tree,
+  query_at,
+  queries_at,
+  HaveQueries,
+  HeadTypesAre,
+  CellsInTreeStand,
+  AnswersAreHad,
+  CellsTellValues,
+  IsShownInTree,
+}
+use Rattle.djq_live.proofs.AtPlaces.{as_many}
+use Rattle.djq_engine.specs.Kept.{Kept, IsOver, CellsAre}
+use Rattle.djq_engine.specs.Kept.{AreTold as AreShown}
+use Rattle.djq_gains.specs.Told.{StandsIn}
+use Rattle.djq_gains.specs.Gains.{AreAlike, told_in, changes_in}
+use Rattle.djq_gains.specs.Gathered.{Gain, Stand, AreApart, StandSomewhere, cells_in}
+use Rattle.djq_gains.specs.Gathering.{is_among, cells_told, Gathers}
+use Rattle.djq_gains.proofs.Lists.{image_of, mapped}
+use Rattle.djq_gains.proofs.Taking.{some_at}
+use Rattle.djq_gains.proofs.Members.{member_at, got}
+
+-- What is gathered of the members, and the laws of those that keep them.
+pub record Setting (k : Kept) (members touched : List ℕ) (gains : List Gain) (first : Live) : Type 0
+  where
+    pub have : HaveQueries k.places members
+    pub alike : AreAlike (queries_at k.places members)
+    pub is_first : slice_get (queries_at k.places members) 0 ≡ Some first
+    pub over : IsOver k
+    pub shown : AreShown k
+    pub gathers : Gathers k members touched gains
+    pub apart : AreApart gains
+    pub somewhere : StandSomewhere gains
+    pub types : HeadTypesAre
+    pub shows : CellsInTreeStand
+    pub had : AnswersAreHad
+    pub tell : CellsTellValues
+
+-- the member at a place
+pub record IsAt (k : Kept) (members : List ℕ) (n place : ℕ) : Type 0 where
+  pub live : Live
+  pub at : query_at k.places place ≡ Some live
+  pub nth : slice_get (queries_at k.places members) n ≡ Some live
+
+pub at_place : (k : Kept) (members : List ℕ) (n place : ℕ) → HaveQueries k.places members
+    → slice_get members n ≡ Some place → IsAt k members n place
+at_place k members n place have is =
+    let low = slice_get_within members n place is in
+    let m = member_at k members n have low in
+    let same = same_Some (slice_index_or members n 0) place
+    (sym (slice_get-get_or members n 0 low) ∙ is) in
+    record { live = m.live; at = ap (query_at k.places) (sym same) ∙ m.at; nth = m.nth }
+
+pub nth_of : (members : List ℕ) (place : ℕ) (n : ℕ) → n < length members
+    → slice_index_or members n place ≡ place → slice_get members n ≡ Some place
+nth_of members place n low is = slice_get-get_or members n place low ∙ ap Some is
+
+pub kept_at : (k : Kept) (over : IsOver k) (i : ℕ) (l : Live) → query_at k.places i ≡ Some l
+    → IsKept over.catalog l
+kept_at k over i l is = (over.live i l is).kept
+
+-- what is told of a query stands for what it tells
+told_stands : (k : Kept) (i : ℕ) (l : Live) (c : Change) → AreShown k → query_at k.places i ≡ Some l
+    → Contains (changes_in k i) c
+    → StandFor (k.store).texts (head_types l) (cells_of (k.store).texts c.answer) c.answer
+told_stands k i l c shown is there = by (told_in k i) refl there
+  where
+    texts : List Bytes
+    texts = (k.store).texts
+
+    by : (o : Option (List Change)) → told_in k i ≡ o → Contains (unwrap_or o []) c
+        → StandFor texts (head_types l) (cells_of texts c.answer) c.answer
+    by None eq h = absurd (let low = h.1 in omega arith)
+    by (Some cs) eq h =
+        let each = some_at (query_at k.places i)
+        (λ m. All (λ d. (cells : List ℕ) × CellsAre k m cells d) cs) l is
+        (shown (record { at = i }) cs eq) in
+        let s = All-contains (λ d. (cells : List ℕ) × CellsAre k l cells d) cs c each h in
+        subst (λ (u : List ℕ). StandFor texts (head_types l) u c.answer) (s.1).are s.1
+
+-- a query has cells that stand for a tuple exactly where the tuple is an answer
+pub has_is : (k : Kept) (over : IsOver k) (l : Live) → AnswersAreHad → HeadTypesAre → IsKept over.catalog l
+    → (u : List ℕ) (v : Tuple) → StandFor (k.store).texts (head_types l) u v
+    → (has_cells l u ≡ true) ↔ IsAnswer (k.store).relations l.query v
+has_is k over l had types kept u v stand =
+    subst (λ (rs : List Relation). (has_cells l u ≡ true) ↔ IsAnswer rs l.query v) over.relations
+    (had over.catalog l kept u v
+    (subst (λ (ts : List ColumnType). StandFor over.catalog.texts ts u v) (types over.catalog l kept)
+    (subst (λ (ts : List Bytes). StandFor ts (head_types l) u v) (sym over.texts) stand)))
+
+-- cells that stand for a tuple show it
+shows_it : (k : Kept) (over : IsOver k) (l : Live) → CellsInTreeStand → IsKept over.catalog l
+    → (u : List ℕ) (v : Tuple) → StandFor (k.store).texts (head_types l) u v
+    → IsShownInTree (k.store).texts l u v
+shows_it k over l law kept u v stand =
+    subst (λ (ts : List Bytes). IsShownInTree ts l u v) over.texts
+    (law over.catalog l kept u v
+    (subst (λ (ts : List Bytes). StandFor ts (head_types l) u v) (sym over.texts) stand))
+
+-- they stand for one tuple
+pub one_value : (k : Kept) (over : IsOver k) (l : Live) → CellsTellValues → HeadTypesAre
+    → IsKept over.catalog l → (u : List ℕ) (v w : Tuple)
+    → StandFor (k.store).texts (head_types l) u v → StandFor (k.store).texts (head_types l) u w → v ≡ w
+one_value k over l tell types kept u v w a b =
+    let c = over.catalog in
+    let moved = λ (t : Tuple) (s : StandFor (k.store).texts (head_types l) u t).
+    subst (λ (ts : List ColumnType). StandFor c.texts ts u t) (types c l kept)
+    (subst (λ (ts : List Bytes). StandFor ts (head_types l) u t) (sym over.texts) s) in
+    (tell c l l refl u u v w (moved v a) (moved w b)).0 refl
+
+-- a tuple that is gathered, as one of a member's delta
+pub record IsFor (k : Kept) (members touched : List ℕ) (first : Live) (m : ℕ) (u : List ℕ) : Type 0
+  where
+    pub place : ℕ
+    pub member : slice_get members m ≡ Some place
+    pub among : is_among touched place ≡ true
+    pub change : Change
+    pub there : Contains (changes_in k place) change
+    pub stand : StandFor (k.store).texts (head_types first) u change.answer
+
+alike_stand : (k : Kept) (members touched : List ℕ) (gains : List Gain) (first : Live)
+    → Setting k members touched gains first → (m place : ℕ) → slice_get members m ≡ Some place
+    → (c : Change) → Contains (changes_in k place) c
+    → StandFor (k.store).texts (head_types first) (cells_of (k.store).texts c.answer) c.answer
+alike_stand k members touched gains first s m place is c there =
+    let a = at_place k members m place s.have is in
+    let ls = queries_at k.places members in
+    subst (λ (ts : List ColumnType). StandFor (k.store).texts ts (cells_of (k.store).texts c.answer) c.answer)
+    (s.alike a.live first (got ls m a.live a.nth) (got ls 0 first s.is_first))
+    (told_stands k place a.live c s.shown a.at there)
+
+pub is_for : (k : Kept) (members touched : List ℕ) (gains : List Gain) (first : Live)
+    → Setting k members touched gains first → (m : ℕ) (u : List ℕ) → Stand gains m u
+    → IsFor k members touched first m u
+is_for k members touched gains first s m u stand =
+    let texts = (k.store).texts in
+    let o = (s.gathers.stand m u).0 stand in
+    let i = image_of (λ (c : Change). cells_of texts c.answer) (changes_in k o.place) u o.told in
+    record {
+      place = o.place;
+      member = o.member;
+      among = o.touched_it;
+      change = i.from;
+      there = i.there;
+      stand = subst (λ (cells : List ℕ). StandFor texts (head_types first) cells (i.from).answer) i.is
+          (alike_stand k members touched gains first s m o.place o.member i.from i.there);
+    }
+
+-- what a member's delta is
+abbrev pub delta_at : Kept → List ℕ → ℕ → List Change
+delta_at k touched i = cond (is_among touched i) (changes_in k i) []
+
+pub delta_yes : (k : Kept) (touched : List ℕ) (i : ℕ) → is_among touched i ≡ true
+    → delta_at k touched i ≡ changes_in k i
+delta_yes k touched i among = ap (λ (b : Bool). cond b (changes_in k i) []) among
+
+pub delta_no : (k : Kept) (touched : List ℕ) (i : ℕ) → is_among touched i ≡ false
+    → delta_at k touched i ≡ []
+delta_no k touched i among = ap (λ (b : Bool). cond b (changes_in k i) []) among
+
+pub stands_for : (k : Kept) (touched : List ℕ) (i : ℕ) (c : Change) → is_among touched i ≡ true
+    → Contains (changes_in k i) c → StandsIn (delta_at k touched i) c.answer
+stands_for k touched i c among there =
+    subst (λ (cs : List Change). StandsIn cs c.answer) (sym (delta_yes k touched i among))
+    (mapped (λ (d : Change). d.answer) (changes_in k i) c there)
+
+-- what stands in a member's delta is gathered
+pub record IsGathered (k : Kept) (gains : List Gain) (first : Live) (m : ℕ) (t : Tuple) : Type 0 where
+  pub stand : Stand gains m (cells_of (k.store).texts t)
+  pub cells : StandFor (k.store).texts (head_types first) (cells_of (k.store).texts t) t
+
+nothing_in : (t : Tuple) → StandsIn [] t → ⊥
+nothing_in t h = let low = h.1 in omega arith
+
+pub is_gathered : (k : Kept) (members touched : List ℕ) (gains : List Gain) (first : Live)
+    → Setting k members touched gains first → (m i : ℕ) (t : Tuple) → slice_get members m ≡ Some i
+    → StandsIn (delta_at k touched i) t → IsGathered k gains first m t
+is_gathered k members touched gains first s m i t is stands = by (is_among touched i) refl
+  where
+    texts : List Bytes
+    texts = (k.store).texts
+
+    by : (b : Bool) → is_among touched i ≡ b → IsGathered k gains first m t
+    by false out = absurd (nothing_in t
+        (subst (λ (cs : List Change). StandsIn cs t) (delta_no k touched i out) stands))
+    by true among =
+        let image = image_of (λ (d : Change). d.answer) (changes_in k i) t
+        (subst (λ (cs : List Change). StandsIn cs t) (delta_yes k touched i among) stands) in
+        record {
+          stand = (s.gathers.stand m (cells_of texts t)).1 (record {
+            place = i;
+            member = is;
+            touched_it = among;
+            told = subst (λ (v : Tuple). Contains (cells_told k i) (cells_of texts v)) image.is
+                (mapped (λ (d : Change). cells_of texts d.answer) (changes_in k i) image.from image.there);
+          });
+          cells = subst (λ (v : Tuple). StandFor texts (head_types first) (cells_of texts v) v) image.is
+              (alike_stand k members touched gains first s m i is image.from image.there);
+        }
+
+-- equal cells are of one tuple
+pub same_gain : (gains : List Gain) → AreApart gains → (g h : Gain) → Contains gains g → Contains gains h
+    → g.cells ≡ h.cells → g ≡ h
+same_gain gains apart g h at_g at_h same = elim (cases_order at_g.0 at_h.0) [
+  | inl here ↦ sym at_g.2 ∙ index at_g.0 at_h.0 here at_g.1 ∙ at_h.2
+  | inr off ↦ elim off [
+    | inl less ↦ absurd (unlike at_g.0 at_h.0 g h less at_h.1 at_g.2 at_h.2 same)
+    | inr more ↦ absurd (unlike at_h.0 at_g.0 h g more at_g.1 at_h.2 at_g.2 (sym same))
+  ]
+]
+  where
+    long : length (cells_in gains) ≡ length gains
+    long = length-map gains (λ (x : Gain). x.cells)
+
+    cells_at : (n : ℕ) (x : Gain) → n < length gains → slice_index_or gains n x ≡ x
+        → slice_index_or (cells_in gains) n [] ≡ x.cells
+    cells_at n x low is = get_or-map (λ (y : Gain). y.cells) gains n x [] low ∙ ap (λ (y : Gain). y.cells) is
+
+    unlike : (m n : ℕ) (x y : Gain) → m < n → n < length gains → slice_index_or gains m x ≡ x
+        → slice_index_or gains n y ≡ y → x.cells ≡ y.cells → ⊥
+    unlike m n x y less low is_x is_y e =
+        apart m n [] less (omega (arith, long, low))
+        (cells_at m x (omega (arith, less, low)) is_x ∙ e ∙ sym (cells_at n y low is_y))
+
+    index : (m n : ℕ) → m ≡ n → m < length gains → slice_index_or gains m g ≡ slice_index_or gains n h
+    index m n e low =
+        same_Some (slice_index_or gains m g) (slice_index_or gains n h)
+        (sym (slice_get-get_or gains m g low) ∙ ap (slice_get gains) e
+        ∙ slice_get-get_or gains n h (omega (arith, e, low)))
+
+-- the value that a tuple shows by the first member
+abbrev pub value : Kept → Live → Gain → Tuple
+value k first g = values_of (k.store).texts first (in_tree first g.cells)
+
+-- what is known of a tuple that is gathered
+pub record IsKnown (k : Kept) (members touched : List ℕ) (first : Live) (g : Gain) : Type 0 where
+  pub m : ℕ
+  pub of_member : IsFor k members touched first m g.cells
+  pub shows : IsShownInTree (k.store).texts first g.cells (of_member.change).answer
+  pub is : value k first g ≡ (of_member.change).answer
+  pub cells : StandFor (k.store).texts (head_types first) g.cells (value k first g)
+
+pub first_kept : (k : Kept) (members touched : List ℕ) (gains : List Gain) (first : Live)
+    → (s : Setting k members touched gains first) → IsKept (s.over).catalog first
+first_kept k members touched gains first s =
+    let ls = queries_at k.places members in
+    let many = as_many k.places members s.have.each in
+    let low = slice_get_within ls 0 first s.is_first in
+    let m = member_at k members 0 s.have (omega arith) in
+    kept_at k s.over (slice_index_or members 0 0) first
+    (m.at ∙ ap Some (same_Some m.live first (sym m.nth ∙ s.is_first)))
+
+pub known : (k : Kept) (members touched : List ℕ) (gains : List Gain) (first : Live)
+    → Setting k members touched gains first → (g : Gain) → Contains gains g
+    → IsKnown k members touched first g
+known k members touched gains first s g there =
+    let by = s.somewhere g there in
+    let f = is_for k members touched gains first s by.0 g.cells
+    (record { gain = g; there = there; is = refl; marked = by.1 }) in
+    let shows = shows_it k s.over first s.shows (first_kept k members touched gains first s) g.cells
+    (f.change).answer f.stand in
+    record {
+      m = by.0;
+      of_member = f;
+      shows = shows;
+      is = shows.shows;
+      cells = subst (λ (v : Tuple). StandFor (k.store).texts (head_types first) g.cells v)
+          (sym shows.shows) f.stand;
+    }

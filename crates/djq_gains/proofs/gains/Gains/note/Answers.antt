@@ -1,0 +1,43 @@
+use Rattle.std.proofs.Common.{◌≡◌, ℕ, ◌<◌, List, length, subst, sym, arith}
+use Rattle.std.specs.Prelude.{◌↔◌, ◌⊎◌}
+use Rattle.djq_gains.specs.Gathered.{Gain, Gathered, AreApart, StandSomewhere, Stand, gains_in, marked_in, marks_at}
+use Rattle.djq_gains.proofs.Noting.{IsNoted, row_below, noted}
+use Rattle.djq_gains.proofs.gains.Gains.note.Goals as goal
+
+pub mark-requires-clause-slot : goal.mark-requires-clause-slot
+mark-requires-clause-slot c =
+    let low = row_below c.seat.new.tuples.rows c.in_ok-slot.slot c.as_slice.result.now
+    c.seat.new.tuples.room c.laws.ensures.below c.in_ok-slot.ensures.rows in
+    omega (arith, c.seat.ensures.room)
+
+is_noted : (c : goal.After-mark) → IsNoted (gains_in c.self.inside.marks.items c.self.inside.tuples.rows)
+    c.args.nth c.as_slice.result.now
+    (marked_in c.in_ok-slot.slot c.args.nth (gains_in c.seat.new.marks.items c.seat.new.tuples.rows))
+is_noted c =
+    let low : c.args.nth < length (marks_at c.seat.new.marks.items c.in_ok-slot.slot) =
+    omega (arith, c.mark.ensures.eight, c.requires.nth) in
+    noted c.self.inside.marks.items c.seat.new.marks.items c.self.inside.tuples.rows
+    c.seat.new.tuples.rows c.in_ok-slot.slot c.args.nth c.as_slice.result.now
+    c.laws.ensures.different c.in_ok-slot.ensures.rows low
+    c.self.invariant.1 c.self.invariant.2 c.in_ok-slot.ensures.seated
+
+pub invariant_of-self-2 : goal.invariant_of-self-2
+invariant_of-self-2 c =
+    let n = is_noted c in
+    let is = sym (c.mark.ensures.marked c.seat.new.tuples.rows) in (
+      omega (arith, c.seat.ensures.room, c.mark.ensures.long),
+      subst AreApart is n.apart,
+      subst StandSomewhere is n.some,
+    )
+
+pub returns-clause-stand : goal.returns-clause-stand
+returns-clause-stand c k t =
+    let new = gains_in c.mark.new.marks.items c.seat.new.tuples.rows in
+    let is = sym (c.mark.ensures.marked c.seat.new.tuples.rows) in
+    let old = gains_in c.self.inside.marks.items c.self.inside.tuples.rows in
+    subst (λ (u : List ℕ). Stand new k t
+    ↔ (Stand c.args.self.now.gains k t ⊎ ((k ≡ c.args.nth) × (t ≡ u)))) c.as_slice.ensures
+    (subst (λ (a : Gathered). Stand new k t
+    ↔ (Stand a.gains k t ⊎ ((k ≡ c.args.nth) × (t ≡ c.as_slice.result.now)))) c.self.view_is
+    (subst (λ (gs : List Gain). Stand gs k t
+    ↔ (Stand old k t ⊎ ((k ≡ c.args.nth) × (t ≡ c.as_slice.result.now)))) is ((is_noted c).stand k t)))

@@ -1,0 +1,79 @@
+-- How the answers of a union changed, whose members stand in places of an engine.
+use Rattle.std.specs.Prelude.{
+  ◌≡◌,
+  ◌↔◌,
+  ℕ,
+  Bool,
+  List,
+  [],
+  Option,
+  Some,
+  IsSomeAnd,
+  unwrap_or,
+  length,
+  map,
+  All,
+  Contains,
+  slice_get,
+}
+use Rattle.djq_model.specs.declared.relation.Relation.{Relation}
+use Rattle.djq_model.specs.declared.query.Query.{Query}
+use Rattle.djq_model.specs.Data.{Bytes, Tuple}
+use Rattle.djq_model.specs.Answer.{IsAnswer}
+use Rattle.djq_model.specs.Listed.{a_union, AnswersOf}
+use Rattle.djq_machine.specs.Delta.{Change, IsDelta}
+use Rattle.djq_cursor.specs.declared.log.Line.{Line}
+use Rattle.djq_live.specs.Live.{Live, IsShowable}
+use Rattle.djq_live.specs.Updating.{change_of}
+use Rattle.djq_live.specs.Member.{head_types, query_at, queries_at}
+use Rattle.djq_engine.specs.Kept.{Kept, told_at}
+use Rattle.djq_gains.specs.Told.{GoOneWay}
+
+-- The answers of these queries have the same types.
+abbrev pub AreAlike : List Live → Type 0
+AreAlike ls = (l m : Live) → Contains ls l → Contains ls m → head_types l ≡ head_types m
+
+-- the queries of the members in these places, in this order
+abbrev pub members_at : Kept → List ℕ → List Query
+members_at k members = map (λ l. l.query) (queries_at k.places members)
+
+-- what holds of the first of them
+abbrev pub AtFirst : Kept → List ℕ → (Live → Type 0) → Type 0
+AtFirst k members P = IsSomeAnd (slice_get (queries_at k.places members) 0) P
+
+-- what is told of the query in a place, if that wasn't lost
+abbrev pub told_in : Kept → ℕ → Option (List Change)
+told_in k i = told_at k (record { at = i })
+
+-- the answers that it tells, and how many they are
+abbrev pub changes_in : Kept → ℕ → List Change
+changes_in k i = unwrap_or (told_in k i) []
+
+abbrev pub count_in : Kept → ℕ → ℕ
+count_in k i = length (changes_in k i)
+
+-- Members changed one way, from these relations to those of the engine. What is told of one that was
+-- touched is its delta; the answers of the others are the same.
+pub record HaveChanged (before : List Relation) (k : Kept) (members touched : List ℕ)
+    (came : Bool) : Type 0 where
+  pub one_way : (i : ℕ) (l : Live) → Contains members i → query_at k.places i ≡ Some l
+      → GoOneWay came (IsAnswer before l.query) (IsAnswer (k.store).relations l.query)
+  pub told : (i : ℕ) (l : Live) (changes : List Change) → Contains touched i
+      → query_at k.places i ≡ Some l → told_in k i ≡ Some changes
+      → IsDelta (IsAnswer before l.query) (IsAnswer (k.store).relations l.query) changes
+  pub others : (i : ℕ) (l : Live) → Contains members i → (Contains touched i → ⊥)
+      → query_at k.places i ≡ Some l
+      → (t : Tuple) → IsAnswer before l.query t ↔ IsAnswer (k.store).relations l.query t
+
+-- These changes are the delta of the members' union, whatever relations the members changed from.
+abbrev pub IsUnionDelta : Kept → List ℕ → List ℕ → Bool → List Change → Type 0
+IsUnionDelta k members touched came changes = (before : List Relation)
+    → HaveChanged before k members touched came → (name : Bytes)
+    → IsDelta (AnswersOf before (a_union name (members_at k members)))
+    (AnswersOf (k.store).relations (a_union name (members_at k members))) changes
+
+-- Lines tell the delta of a union by its first member, which can show each of them.
+pub record TellUnion (k : Kept) (members touched : List ℕ) (came : Bool) (lines : List Line)
+    (first : Live) : Type 0 where
+  pub delta : IsUnionDelta k members touched came (map (change_of (k.store).texts first) lines)
+  pub shown : All (λ line. IsShowable (k.store).texts first line.answer) lines

@@ -1,0 +1,4 @@
+pub mod Told
+pub mod Gains
+pub mod Gathered
+pub mod Gathering

@@ -1,0 +1,215 @@
+ghost use Rattle.std.specs.Prelude.{
+  ◌≡◌,
+  ◌↔◌,
+  ◌⊎◌,
+  ℕ,
+  ◌+◌,
+  ◌<◌,
+  ◌≤◌,
+  List,
+  [],
+  ◌∷◌,
+  ◌++◌,
+  length,
+  map,
+  slice_set,
+  vec_len,
+  vec_capacity,
+  IfOk,
+  OnErr,
+  Contains,
+};
+ghost use Rattle.djq_arena.specs.Chains.{first_of};
+ghost use Rattle.djq_arena.specs.Rows.{Row, AreRows, IsAbsent, IsRow, slots};
+ghost use Rattle.djq_gains.specs.Gathered.{
+  Gain,
+  Stand,
+  AreApart,
+  StandSomewhere,
+  marks_at,
+  unmarked,
+  gains_in,
+  slots_in,
+  is_by,
+  marked_in,
+  IsIn,
+  AtSlot,
+  Seats,
+};
+
+use djq_arena::Arena;
+use djq_reduct::Cells;
+use std::alloc::{AllocError, Global};
+use std::marker::Model;
+
+/// The different tuples of up to eight deltas, each with the deltas in which it stands.
+#[derive(Drop)]
+pub struct Gains {
+    tuples: Arena,
+    // by slot
+    marks: Vec<[bool; 8]>,
+}
+
+impl Model for Gains {
+    ghost use Rattle.djq_gains.specs.Gathered.{Gathered};
+
+    ghost Value = { Gathered };
+
+    ghost use Rattle.std.specs.Prelude.{◌≤◌, length};
+    ghost use Rattle.djq_gains.specs.Gathered.{gains_in, AreApart, StandSomewhere};
+
+    ghost view = { λ g. record { width = g.tuples.width; gains = gains_in g.marks.items g.tuples.rows } };
+
+    ghost invariant = { λ g. (g.tuples.room ≤ length g.marks.items)
+        × AreApart (gains_in g.marks.items g.tuples.rows)
+        × StandSomewhere (gains_in g.marks.items g.tuples.rows) };
+}
+
+// Makes sure that a slot has marks, and takes them away.
+fn unmark(marks: &mut Vec<[bool; 8]>, slot: u32)
+    requires slot { slot ≤ length marks.old.items }
+    requires room { slot < length marks.old.items ⊎ vec_len marks.old < vec_capacity marks.old }
+    ensures none { marks_at marks.new.items slot ≡ unmarked }
+    ensures covered { slot < length marks.new.items }
+    ensures longer { length marks.old.items ≤ length marks.new.items }
+    ensures others { (k : ℕ) → (k ≡ slot → ⊥) → marks_at marks.new.items k ≡ marks_at marks.old.items k }
+{
+    if slot as usize == marks.len() {
+        marks.push_reserved([false; 8]);
+    } else {
+        marks[slot as usize] = [false; 8];
+    }
+}
+
+// Lays a tuple into a slot, which has no mark. Where there is no memory, all stays as it was.
+fn lay(tuples: &mut Arena, marks: &mut Vec<[bool; 8]>, cells: &[u64]) -> Result<u32, AllocError>
+    requires wide { length cells.now ≡ tuples.old.width }
+    requires room { tuples.old.room ≤ length marks.old.items }
+    ensures width { tuples.new.width ≡ tuples.old.width }
+    ensures room { tuples.new.room ≤ length marks.new.items }
+    ensures laid { IfOk result (λ slot. tuples.new.rows
+        ≡ tuples.old.rows ++ record { slot = slot; cells = cells.now } ∷ []) }
+    ensures gained { IfOk result (λ slot. gains_in marks.new.items tuples.new.rows
+        ≡ gains_in marks.old.items tuples.old.rows
+        ++ record { slot = slot; cells = cells.now; by = unmarked } ∷ []) }
+    ensures refused { OnErr result (gains_in marks.new.items tuples.new.rows
+        ≡ gains_in marks.old.items tuples.old.rows) }
+{
+    if tuples.len() >= 4294967295 {
+        return Err(AllocError);
+    }
+    marks.reserve(1)?;
+    let slot = tuples.push(cells)?;
+    tuples.laws();
+    unmark(marks, slot);
+    Ok(slot)
+}
+
+// The slot where a tuple lies; it is laid where there is none.
+fn seat(tuples: &mut Arena, marks: &mut Vec<[bool; 8]>, cells: &[u64]) -> Result<u32, AllocError>
+    requires wide { length cells.now ≡ tuples.old.width }
+    requires room { tuples.old.room ≤ length marks.old.items }
+    ensures width { tuples.new.width ≡ tuples.old.width }
+    ensures room { tuples.new.room ≤ length marks.new.items }
+    ensures rows { IfOk result (λ slot. IsRow tuples.new.rows slot cells.now) }
+    ensures seated { IfOk result (λ slot. Seats tuples.old.rows
+        (gains_in marks.old.items tuples.old.rows) slot cells.now
+        (gains_in marks.new.items tuples.new.rows)) }
+    ensures refused { OnErr result (gains_in marks.new.items tuples.new.rows
+        ≡ gains_in marks.old.items tuples.old.rows) }
+{
+    match tuples.find(cells) {
+        Some(slot) => Ok(slot),
+        None => lay(tuples, marks, cells),
+    }
+}
+
+// Marks a slot's tuple as one of the nth delta.
+fn mark(marks: &mut Vec<[bool; 8]>, slot: u32, nth: usize)
+    requires slot { slot < length marks.old.items }
+    requires nth { nth < 8 }
+    ensures marked { (rows : List Row) → gains_in marks.new.items rows
+        ≡ marked_in slot nth (gains_in marks.old.items rows) }
+    ensures eight { length (marks_at marks.old.items slot) ≡ 8 }
+    ensures long { length marks.new.items ≡ length marks.old.items }
+{
+    marks[slot as usize][nth] = true;
+}
+
+impl Gains {
+    /// No tuples, of this width. It fails only out of memory.
+    pub fn new(alloc: Global, width: usize) -> Result<Gains, AllocError>
+        ensures { IfOk result (λ g. g ≡ record { width = width; gains = [] }) }
+    {
+        let tuples = Arena::new(alloc, width)?;
+        Ok(Gains {
+            tuples,
+            marks: Vec::new(alloc),
+        })
+    }
+
+    /// What holds of all that is gathered. It does nothing.
+    pub fn laws(&self)
+        ensures apart { AreApart self.now.gains }
+        ensures some { StandSomewhere self.now.gains }
+        ensures wide { (g : Gain) → Contains self.now.gains g → length g.cells ≡ self.now.width }
+    {
+        self.tuples.laws();
+    }
+
+    /// How many different tuples there are.
+    pub fn len(&self) -> usize
+        ensures { result ≡ length self.now.gains }
+    {
+        self.tuples.len()
+    }
+
+    /// Takes in a tuple of the nth delta. It fails only out of memory.
+    pub fn note(&mut self, nth: usize, cells: &Cells) -> Result<(), AllocError>
+        requires nth { nth < 8 }
+        requires wide { length cells.now ≡ self.old.width }
+        ensures width { self.new.width ≡ self.old.width }
+        ensures stand { IfOk result (λ _. (k : ℕ) (t : List ℕ) → Stand self.new.gains k t
+            ↔ (Stand self.old.gains k t ⊎ ((k ≡ nth) × (t ≡ cells.now)))) }
+        ensures few { IfOk result (λ _. length self.new.gains ≤ length self.old.gains + 1) }
+    {
+        let slot = seat(&mut self.tuples, &mut self.marks, cells.as_slice())?;
+        self.tuples.laws();
+        mark(&mut self.marks, slot, nth);
+        Ok(())
+    }
+
+    /// The slot of the first tuple.
+    pub fn first(&self) -> Option<u32>
+        ensures { result ≡ first_of (slots_in self.now.gains) }
+    {
+        self.tuples.first()
+    }
+
+    /// The slot of the tuple behind the one in a slot.
+    pub fn next(&self, slot: u32) -> Option<u32>
+        requires { IsIn self.now.gains slot }
+        ensures { (xs : List Gain) (g : Gain) (ys : List Gain) → self.now.gains ≡ xs ++ g ∷ ys → g.slot ≡ slot
+            → result ≡ first_of (slots_in ys) }
+    {
+        self.tuples.next(slot)
+    }
+
+    /// The cells of the tuple in a slot.
+    pub fn cells(&self, slot: u32) -> &[u64]
+        requires { IsIn self.now.gains slot }
+        ensures { AtSlot self.now.gains slot (λ g. result.now ≡ g.cells) }
+    {
+        self.tuples.cells(slot)
+    }
+
+    /// Whether the tuple in a slot stands in the nth delta.
+    pub fn stands_in(&self, slot: u32, nth: usize) -> bool
+        requires slot { IsIn self.now.gains slot }
+        requires nth { nth < 8 }
+        ensures { AtSlot self.now.gains slot (λ g. result ≡ is_by g nth) }
+    {
+        self.tuples.laws();
+        self.marks[slot as usize][nth]
+    }
+}

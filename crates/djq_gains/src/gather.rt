@@ -1,0 +1,96 @@
+ghost use Rattle.std.specs.Prelude.{
+  ◌≡◌,
+  ◌↔◌,
+  ◌⊎◌,
+  ◌+◌,
+  ◌<◌,
+  ◌≤◌,
+  ℕ,
+  List,
+  None,
+  IfOk,
+  IsSomeAnd,
+  Contains,
+  length,
+  slice_get,
+};
+ghost use Rattle.djq_live.specs.Member.{head_types, query_at, queries_at, HaveQueries};
+ghost use Rattle.djq_gains.specs.Gains.{AreAlike, AtFirst, told_in, count_in};
+ghost use Rattle.djq_gains.specs.Gathered.{Stand};
+ghost use Rattle.djq_gains.specs.Gathering.{cells_told, is_among, Gathers};
+
+use crate::gains::Gains;
+use djq_engine::{Cells, Engine, QueryId};
+use djq_live::{QueriesAt, head_types_are};
+use djq_union::Members;
+use std::alloc::{AllocError, Global};
+
+// Whether a place is among these.
+fn is_among(places: &[usize], place: usize) -> bool
+    ensures { result ≡ is_among places.now place }
+{
+    places.contains(&place)
+}
+
+// Takes in what is told of the query in a place, as the nth delta. It fails where that is lost, or out
+// of memory.
+fn gather_from(
+    engine: &Engine,
+    place: usize,
+    nth: usize,
+    gains: &mut Gains,
+) -> Result<(), AllocError>
+    requires nth { nth < 8 }
+    requires query { IsSomeAnd (query_at engine.now.places place)
+        (λ l. length (head_types l) ≡ gains.old.width) }
+    ensures width { gains.new.width ≡ gains.old.width }
+    ensures told { IfOk result (λ _. told_in engine.now place ≡ None → ⊥) }
+    ensures gathered { IfOk result (λ _. (k : ℕ) (t : List ℕ) → Stand gains.new.gains k t
+        ↔ (Stand gains.old.gains k t
+        ⊎ ((k ≡ nth) × Contains (cells_told engine.now place) t))) }
+    ensures few { IfOk result
+        (λ _. length gains.new.gains ≤ length gains.old.gains + count_in engine.now place) }
+{
+    engine.laws();
+    let id = QueryId { at: place };
+    let Some(len) = engine.delta_len(id) else {
+        return Err(AllocError);
+    };
+    let mut cells = Cells::new(0);
+    for line in 0..len {
+        engine.delta_cells(id, line, &mut cells);
+        gains.note(nth, &cells)?;
+    }
+    Ok(())
+}
+
+/// Gathers the different answers that are told of the members that were touched. It fails where what is
+/// told of one is lost, or out of memory.
+pub fn gather(
+    alloc: Global,
+    engine: &Engine,
+    members: &[usize],
+    touched: &[usize],
+) -> Result<Gains, AllocError>
+    requires queries { HaveQueries engine.now.places members.now }
+    requires some { 0 < length members.now }
+    requires alike { AreAlike (queries_at engine.now.places members.now) }
+    ensures width { IfOk result (λ g. AtFirst engine.now members.now
+        (λ l. g.width ≡ length l.query.head)) }
+    ensures narrow { IfOk result (λ g. g.width ≤ 16) }
+    ensures gathers { IfOk result (λ g. Gathers engine.now members.now touched.now g.gains) }
+{
+    head_types_are();
+    engine.laws();
+    let group = QueriesAt {
+        queries: engine.places(),
+        places: members,
+    };
+    let mut gains = Gains::new(alloc, group.member(0).width())?;
+    for nth in 0..members.len() {
+        if is_among(touched, members[nth]) {
+            gather_from(engine, members[nth], nth, &mut gains)?;
+        }
+    }
+    Ok(gains)
+}

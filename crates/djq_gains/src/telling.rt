@@ -1,0 +1,175 @@
+ghost use Rattle.std.specs.Prelude.{
+  ◌≡◌,
+  ◌+◌,
+  ◌*◌,
+  ◌<◌,
+  ◌≤◌,
+  ◌++◌,
+  ◌∷◌,
+  [],
+  ℕ,
+  true,
+  false,
+  None,
+  All,
+  AllPairs,
+  Contains,
+  length,
+  sum_by,
+};
+ghost use Rattle.djq_machine.specs.Store.{atoms_of};
+ghost use Rattle.djq_live.specs.Live.{IsKeptSomewhere};
+ghost use Rattle.djq_live.specs.Member.{queries_at, HaveQueries};
+ghost use Rattle.djq_gains.specs.Gains.{AreAlike, AtFirst, TellUnion, members_at, told_in, count_in};
+ghost use Rattle.djq_gains.specs.Gathered.{IsIn, AtSlot};
+ghost use Rattle.djq_gains.specs.Gathering.{is_told, lines_of, asks_of, IsFirst};
+
+use crate::gains::Gains;
+use crate::gather::gather;
+use djq_cursor::DeltaLog;
+use djq_engine::{Answer, Cells, Engine};
+use djq_live::{
+    QueriesAt, answers_are_had, cells_in_tree_stand, cells_tell_values, head_types_are,
+};
+use djq_steps::Tally;
+use djq_union::{Listing, Members};
+use std::alloc::Global;
+use std::sync::ledger::Ledger;
+
+// Whether each member has a tuple in its delta, or doesn't have it now. It asks as far as one that has
+// it.
+fn is_alone<L: Ledger>(
+    group: &QueriesAt,
+    gains: &Gains,
+    slot: u32,
+    cells: &Cells,
+    listing: &mut Tally<L>,
+) -> bool
+    requires queries { HaveQueries group.now.queries.now group.now.places.now }
+    requires ready { All IsKeptSomewhere (queries_at group.now.queries.now group.now.places.now) }
+    requires lies { IsIn gains.now.gains slot }
+    requires cells { AtSlot gains.now.gains slot (λ g. cells.now ≡ g.cells) }
+    ensures told { AtSlot gains.now.gains slot (λ g. result
+        ≡ is_told (queries_at group.now.queries.now group.now.places.now) g) }
+    ensures counted { listing.new ≤ listing.old
+        + sum_by asks_of (queries_at group.now.queries.now group.now.places.now) }
+{
+    for nth in 0..group.count() {
+        if !gains.stands_in(slot, nth) && Listing::has(group.member(nth), cells, listing) {
+            return false;
+        }
+    }
+    true
+}
+
+// Lists the tuple in a slot into the log, where it is to be told.
+fn tell_one<L: Ledger>(
+    group: &QueriesAt,
+    gains: &Gains,
+    slot: u32,
+    came: bool,
+    log: &mut DeltaLog,
+    listing: &mut Tally<L>,
+)
+    requires queries { HaveQueries group.now.queries.now group.now.places.now }
+    requires some { 0 < length group.now.places.now }
+    requires ready { All IsKeptSomewhere (queries_at group.now.queries.now group.now.places.now) }
+    requires wide { IsFirst (queries_at group.now.queries.now group.now.places.now)
+        (λ l. length l.query.head ≡ gains.now.width) }
+    requires narrow { gains.now.width ≤ 16 }
+    requires lies { IsIn gains.now.gains slot }
+    ensures told { log.new.lost ≡ false
+        → IsFirst (queries_at group.now.queries.now group.now.places.now) (λ l.
+        AtSlot gains.now.gains slot (λ g. log.new.lines ≡ log.old.lines
+        ++ lines_of came (queries_at group.now.queries.now group.now.places.now) l (g ∷ []))) }
+    ensures lost { log.old.lost ≡ true → log.new.lost ≡ true }
+    ensures counted { listing.new ≤ listing.old
+        + sum_by asks_of (queries_at group.now.queries.now group.now.places.now) }
+{
+    gains.laws();
+    let cells = Cells::from_slice(gains.cells(slot));
+    if is_alone(group, gains, slot, &cells, listing) {
+        let mut answer = Answer::new(0);
+        group.member(0).put_in_tree(&cells, &mut answer);
+        log.push(came, &answer);
+    }
+}
+
+// Lists into the log what is to be told of all that is gathered.
+fn tell<L: Ledger>(
+    group: &QueriesAt,
+    gains: &Gains,
+    came: bool,
+    log: &mut DeltaLog,
+    listing: &mut Tally<L>,
+)
+    requires queries { HaveQueries group.now.queries.now group.now.places.now }
+    requires some { 0 < length group.now.places.now }
+    requires ready { All IsKeptSomewhere (queries_at group.now.queries.now group.now.places.now) }
+    requires wide { IsFirst (queries_at group.now.queries.now group.now.places.now)
+        (λ l. length l.query.head ≡ gains.now.width) }
+    requires narrow { gains.now.width ≤ 16 }
+    requires clear { log.old.lines ≡ [] }
+    ensures told { log.new.lost ≡ false
+        → IsFirst (queries_at group.now.queries.now group.now.places.now) (λ l. log.new.lines
+        ≡ lines_of came (queries_at group.now.queries.now group.now.places.now) l gains.now.gains) }
+    ensures counted { listing.new ≤ listing.old + length gains.now.gains
+        * sum_by asks_of (queries_at group.now.queries.now group.now.places.now) }
+{
+    let mut at = gains.first();
+    for _done in 0..gains.len() {
+        match at {
+            None => return,
+            Some(slot) => {
+                tell_one(group, gains, slot, came, log, listing);
+                at = gains.next(slot);
+            }
+        }
+    }
+}
+
+/// Tells how a union's answers changed, from how its members' did: lists into the log, which is cleared
+/// first, the answers of the union that came, or those that went. The members are named by their
+/// places, and so are those of them that were touched, as they read a relation that changed.
+///
+/// Where the log of one of these is lost, or memory is refused, the union's log is lost. It counts at
+/// most one test with all members for each answer that came to one of them, or went.
+pub fn tell_gains<L: Ledger>(
+    alloc: Global,
+    engine: &Engine,
+    members: &[usize],
+    touched: &[usize],
+    came: bool,
+    log: &mut DeltaLog,
+    listing: &mut Tally<L>,
+)
+    requires queries { HaveQueries engine.now.places members.now }
+    requires some { 0 < length members.now }
+    requires differ { AllPairs (λ j k. j ≡ k → ⊥) members.now }
+    requires alike { AreAlike (queries_at engine.now.places members.now) }
+    requires among { All (Contains members.now) touched.now }
+    ensures tells { log.new.lost ≡ false → AtFirst engine.now members.now
+        (TellUnion engine.now members.now touched.now came log.new.lines) }
+    ensures lost { (i : ℕ) → Contains touched.now i → told_in engine.now i ≡ None
+        → log.new.lost ≡ true }
+    ensures counted { listing.new ≤ listing.old + sum_by (count_in engine.now) touched.now
+        * atoms_of (members_at engine.now members.now) }
+{
+    head_types_are();
+    cells_in_tree_stand();
+    answers_are_had();
+    cells_tell_values();
+    engine.laws();
+    log.clear();
+    let group = QueriesAt {
+        queries: engine.places(),
+        places: members,
+    };
+    match gather(alloc, engine, members, touched) {
+        Ok(gains) => {
+            gains.laws();
+            tell(&group, &gains, came, log, listing);
+        }
+        Err(_) => log.lose(),
+    }
+}

@@ -1,0 +1,5 @@
+use Rattle.djq_live.proofs.InTree.{tree_stand}
+use Rattle.djq_live.proofs.member.cells_in_tree_stand.Goals as goal
+
+pub returns : goal.returns
+returns c = tree_stand

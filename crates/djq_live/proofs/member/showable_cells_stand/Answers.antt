@@ -1,0 +1,5 @@
+use Rattle.djq_live.proofs.Standing.{showable_stand}
+use Rattle.djq_live.proofs.member.showable_cells_stand.Goals as goal
+
+pub returns : goal.returns
+returns c = showable_stand

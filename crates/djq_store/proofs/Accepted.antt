@@ -1,0 +1,207 @@
+-- What unions tell of a change that was made, and what that counts.
+use Rattle.std.specs.Prelude.{ℕ, zero, suc, List, [], ◌∷◌, ◌≡◌, ◌↔◌, ◌+◌, ◌*◌, ◌<◌, ◌≤◌, ◌&&◌, ◌⊎◌, nat_lt, Bool, true, false, cond, Option, None, Some, is_some, IsSomeAnd, filter, find, map, length, sum_by, slice_get, unwrap_or, option_to_list, ◌++◌, All, Contains}
+use Rattle.std.specs.List.{list_any}
+use Rattle.std.proofs.Common.{refl, sym, ap, ap₂, ◌∙◌, subst, inl, inr, arith}
+use Rattle.std.proofs.lemmas.Bool.{false≢true, lt-ltb, ltb-true}
+use Rattle.std.proofs.lemmas.Nat.{mul-le}
+use Rattle.std.proofs.lemmas.List.Elements.{All-contains}
+use Rattle.djq_model.specs.declared.relation.Relation.{Relation}
+use Rattle.djq_model.specs.declared.query.Query.{Query}
+use Rattle.djq_model.specs.Data.{Bytes, Tuple}
+use Rattle.djq_model.specs.Answer.{IsAnswer}
+use Rattle.djq_model.specs.Listed.{Listed, a_query, a_union, AnswersOf}
+use Rattle.djq_lines.specs.declared.limits.TheConstants.{QUERIES}
+use Rattle.djq_machine.specs.Stale.{reads}
+use Rattle.djq_machine.specs.Store.{atoms_of}
+use Rattle.djq_machine.specs.Changes.{RowsChange, is_outdated}
+use Rattle.djq_machine.specs.Delta.{Change, IsDelta}
+use Rattle.djq_machine.specs.Watch.{Delta, is_touched, AreDeltas}
+use Rattle.djq_live.specs.Live.{Live}
+use Rattle.djq_live.specs.Member.{query_at, queries_at}
+use Rattle.djq_live.specs.Updating.{change_of}
+use Rattle.djq_reach.specs.Places.{is_reader}
+use Rattle.djq_cursor.specs.declared.log.Line.{Line}
+use Rattle.djq_engine.specs.Kept.{Kept, Registered, SameShape, affected_of, told_at}
+use Rattle.djq_engine.specs.Places.{told_of}
+use Rattle.djq_engine.specs.Watching.{LogsTell}
+use Rattle.djq_united.specs.United.{IsUnited, union_of, first_of}
+use Rattle.djq_gains.specs.Told.{GoOneWay}
+use Rattle.djq_gains.specs.Gains.{members_at, count_in, HaveChanged, IsUnionDelta, TellUnion}
+use Rattle.djq_deltas.specs.Growing.{HaveRows, SparesOthers}
+use Rattle.djq_deltas.proofs.Growing.{answer_stays, answers_rest}
+use Rattle.djq_deltas.proofs.Lists.{first_there, later_there, kept_there, hold_each}
+use Rattle.djq_store.specs.declared.joined.Joined.{Joined}
+use Rattle.djq_store.specs.declared.settling.Turn.{Turn}
+use Rattle.djq_store.specs.declared.settling.Turn.TheVariants.{Came, Went, Lacked}
+use Rattle.djq_store.specs.Places.{joined_at, first_member, told_in}
+use Rattle.djq_store.specs.Settling.{first_read, touched_in, TellsUnion, asking_steps}
+use Rattle.djq_store.specs.Whole.{IsListed, IsCounted}
+use Rattle.djq_store.proofs.Behind.{Behind, grows, member_there, member_same, union_is}
+use Rattle.djq_store.proofs.Counting.{mapped_was}
+use Rattle.djq_store.proofs.Deltas.{changes_in, ByPlace}
+use Rattle.djq_store.proofs.ReadBy.{the_query, all_queries, touched_are, filter_same}
+use Rattle.djq_store.proofs.Summing.{sum_times, sum_fewer, sum_same, kept_was}
+use Rattle.djq_store.proofs.Wanted.{ers, places, q_at, f, by_places, deltas, member_listed}
+
+-- rows came, or they went
+abbrev pub GoRows : Bool → List Relation → List Relation → Type 0
+GoRows true before after = HaveRows before after
+GoRows false before after = HaveRows after before
+
+map_same : {A B : Type 0} (g h : A → B) (xs : List A) → ((x : A) → Contains xs x → g x ≡ h x) → map g xs ≡ map h xs
+map_same g h [] same = refl
+map_same g h (x ∷ xs) same =
+    ap₂ (λ y ys. y ∷ ys) (same x (first_there x xs x refl)) (map_same g h xs (λ y c. same y (later_there x xs y c)))
+
+some_there : {A : Type 0} (o : Option A) (P : A → Type 0) → IsSomeAnd o P → (x : A) × (o ≡ Some x) × P x
+some_there None P k = absurd k
+some_there (Some x) P k = (x, refl, k)
+
+module _ (change : RowsChange) (relations : List Bytes) (turn : Turn) (e e' : Kept) (us us' : List (Option Joined))
+    (b : Behind (Some change) relations turn e e' us us') (order : List ℕ) (w : IsListed e us order)
+    (sessions : List ℕ) (c : IsCounted e us sessions) (eds : List Delta)
+    (are : AreDeltas (e.store).relations change (map (λ (r : Registered). r.query) (affected_of e.registered change)) eds)
+    (spares : SparesOthers (e.store).relations change)
+    (out : (q : Query) → is_touched change q ≡ true → is_outdated change (a_query q) ≡ true)
+    (hits : (q : Query) → is_touched change q ≡ list_any (reads q) relations)
+    (after : (e'.store).relations ≡ change.after)
+    (came : Bool) (way : GoRows came (e.store).relations change.after)
+    (logs : LogsTell e' (affected_of e.registered change) eds) where
+  -- what is told of a query that is listed
+  pub told_place : (m : ℕ) → Contains (places change relations turn e e' us us' b order w sessions c eds are spares out) m
+      → (told_at e' (record { at = m }) ≡ None)
+      ⊎ (told_at e' (record { at = m }) ≡ Some (f change relations turn e e' us us' b order w sessions c eds are spares out m))
+  told_place m k =
+      let fs = f change relations turn e e' us us' b order w sessions c eds are spares out in
+      let r = mapped_was (λ (s : Registered). s.id.at) (affected_of e.registered change) m k in
+      subst (λ (i : ℕ). (told_at e' (record { at = i }) ≡ None) ⊎ (told_at e' (record { at = i }) ≡ Some (fs i))) r.2
+      (All-contains (λ (s : Registered). (told_at e' s.id ≡ None) ⊎ (told_at e' s.id ≡ Some (fs s.id.at)))
+      (affected_of e.registered change) r.0
+      ((by_places change relations turn e e' us us' b order w sessions c eds are spares out).logs logs) r.1)
+
+  -- one union that a session watches
+
+  module _ (k : ℕ) (j : Joined) (there : joined_at us k ≡ Some j) (some : 0 < j.watchers) where
+    abbrev ms : List ℕ
+    ms = j.union.members
+
+    united : IsUnited e.places j.union
+    united = w.united k j there
+
+    abbrev qs : ℕ → Query
+    qs m = the_query (query_at e.places m)
+
+    same_query : (m : ℕ) → Contains ms m → the_query (query_at e'.places m) ≡ qs m
+    same_query = member_same (Some change) relations turn e e' us us' b j.union united
+
+    -- the members that are told of
+    pub touched_now : touched_in e'.places relations ms ≡ filter (λ m. is_touched change (qs m)) ms
+    touched_now =
+        touched_are e'.places qs ms same_query relations
+        ∙ filter_same (λ m. list_any (reads (qs m)) relations) (λ m. is_touched change (qs m)) ms
+        (λ m d. sym (hits (qs m)))
+
+    listed : (m : ℕ) → Contains (filter (λ i. is_touched change (qs i)) ms) m
+        → Contains (places change relations turn e e' us us' b order w sessions c eds are spares out) m
+    listed m d = member_listed change relations turn e e' us us' b order w sessions c eds are spares out k j there some m d
+
+    -- its members now
+    pub members_now : members_at e' ms ≡ map qs ms
+    members_now = all_now ms (λ m d. d)
+      where
+        one : (m : ℕ) → Contains ms m → (rest : List ℕ)
+            → map (λ (l : Live). l.query) (queries_at e'.places rest) ≡ map qs rest
+            → map (λ (l : Live). l.query) (queries_at e'.places (m ∷ rest)) ≡ map qs (m ∷ rest)
+        one m d rest more =
+            let l = member_there (Some change) relations turn e e' us us' b j.union united m d in
+            let n = some_there (query_at e'.places m) (SameShape l.0)
+            ((grows (Some change) relations turn e e' us us' b).shapes m l.0 l.1) in
+            ap (λ (o : Option Live). map (λ (l : Live). l.query) (option_to_list o ++ queries_at e'.places rest)) n.1
+            ∙ ap₂ (λ (q : Query) (more : List Query). q ∷ more) (n.2.query ∙ sym (ap the_query l.1)) more
+
+        all_now : (xs : List ℕ) → ((m : ℕ) → Contains xs m → Contains ms m)
+            → map (λ (l : Live). l.query) (queries_at e'.places xs) ≡ map qs xs
+        all_now [] within = refl
+        all_now (m ∷ xs) within =
+            one m (within m (first_there m xs m refl)) xs (all_now xs (λ i d. within i (later_there m xs i d)))
+
+    -- its members changed one way
+    pub changed : HaveChanged (e.store).relations e' ms (touched_in e'.places relations ms) came
+    changed = record {
+      one_way = λ i l d at. way_of came way l.query;
+      told = λ i l changes d at says.
+          let mine : Contains (filter (λ m. is_touched change (qs m)) ms) i =
+          subst (λ (xs : List ℕ). Contains xs i) touched_now d in
+          let within = (kept_was (λ m. is_touched change (qs m)) ms i mine).0 in
+          let query : qs i ≡ l.query = sym (same_query i within) ∙ ap the_query at in
+          let fs = f change relations turn e e' us us' b order w sessions c eds are spares out in
+          let is : changes ≡ fs i = only (told_place i (listed i mine)) says in
+          subst (λ (rs : List Relation). IsDelta (IsAnswer (e.store).relations l.query) (IsAnswer rs l.query) changes)
+          (sym after)
+          (subst (λ (cs : List Change). IsDelta (IsAnswer (e.store).relations l.query) (IsAnswer change.after l.query) cs)
+          (sym is)
+          (subst (λ (q : Query). IsDelta (IsAnswer (e.store).relations q) (IsAnswer change.after q) (fs i)) query
+          (deltas change relations turn e e' us us' b order w sessions c eds are spares out i (listed i mine))));
+      others = λ i l d miss at t.
+          let query : qs i ≡ l.query = sym (same_query i d) ∙ ap the_query at in
+          let none : is_touched change (qs i) ≡ false = untouched i d miss (is_touched change (qs i)) refl in
+          subst (λ (rs : List Relation). IsAnswer (e.store).relations l.query t ↔ IsAnswer rs l.query t) (sym after)
+          (subst (λ (q : Query). IsAnswer (e.store).relations q t ↔ IsAnswer change.after q t) query
+          (answers_rest (e.store).relations change (qs i) spares none t));
+    }
+      where
+        way_of : (x : Bool) → GoRows x (e.store).relations change.after → (q : Query)
+            → GoOneWay x (IsAnswer (e.store).relations q) (IsAnswer (e'.store).relations q)
+        way_of true rows q = λ t h. subst (λ (rs : List Relation). IsAnswer rs q t) (sym after)
+            (answer_stays (e.store).relations change.after (a_query q) t rows h)
+        way_of false rows q = λ t h. answer_stays change.after (e.store).relations (a_query q) t rows
+            (subst (λ (rs : List Relation). IsAnswer rs q t) after h)
+
+        only : {x : Option (List Change)} {ys zs : List Change} → (x ≡ None) ⊎ (x ≡ Some ys) → x ≡ Some zs → zs ≡ ys
+        only (inl e) f = absurd (let g = sym e ∙ f in cc)
+        only (inr e) f = let g = sym e ∙ f in cc
+
+        untouched : (i : ℕ) → Contains ms i → (Contains (touched_in e'.places relations ms) i → ⊥) → (x : Bool)
+            → is_touched change (qs i) ≡ x → x ≡ false
+        untouched i d miss false e = refl
+        untouched i d miss true e = absurd (miss (subst (λ (xs : List ℕ). Contains xs i) (sym touched_now)
+            (kept_there (λ m. is_touched change (qs m)) ms i e d)))
+
+    -- so what its log tells is its delta
+    pub union_delta : (lines : List Line) (l : Live)
+        → TellUnion e' ms (touched_in e'.places relations ms) came lines l
+        → IsDelta (AnswersOf (e.store).relations (union_of e.places j.union))
+        (AnswersOf change.after (union_of e.places j.union)) (map (change_of (e'.store).texts l) lines)
+    union_delta lines l tells =
+        let d = tells.delta (e.store).relations changed j.union.name in
+        let is : a_union j.union.name (members_at e' ms) ≡ union_of e.places j.union =
+        ap (a_union j.union.name) members_now
+        ∙ sym (union_is (Some change) relations turn e e' us us' b j.union united) in
+        subst (λ (rs : List Relation). IsDelta (AnswersOf (e.store).relations (union_of e.places j.union))
+        (AnswersOf rs (union_of e.places j.union)) (map (change_of (e'.store).texts l) lines)) after
+        (subst (λ (q : Listed). IsDelta (AnswersOf (e.store).relations q) (AnswersOf (e'.store).relations q)
+        (map (change_of (e'.store).texts l) lines)) is d)
+
+    -- and what it counts is no more than is asked
+    pub asked_few : asking_steps e' relations ms
+        ≤ sum_by (λ m. length (f change relations turn e e' us us' b order w sessions c eds are spares out m)
+        * atoms_of (map qs ms)) (filter (λ m. is_touched change (qs m)) ms)
+    asked_few =
+        let n = atoms_of (map qs ms) in
+        let hit = filter (λ m. is_touched change (qs m)) ms in
+        let fs = f change relations turn e e' us us' b order w sessions c eds are spares out in
+        let is : asking_steps e' relations ms ≡ sum_by (count_in e') hit * n =
+        ap₂ (λ (xs : List ℕ) (qs : List Query). sum_by (count_in e') xs * atoms_of qs) touched_now members_now in
+        let each = sum_times (count_in e') n hit in
+        let fewer = sum_fewer (λ m. count_in e' m * n) (λ m. length (fs m) * n) hit
+        (hold_each (λ m. count_in e' m * n ≤ length (fs m) * n) hit
+        (λ m d. mul-le (count_in e' m) n (length (fs m)) n (count_few m (told_place m (listed m d))) (omega arith))) in
+        omega (arith, is, each, fewer)
+      where
+        count_few : (m : ℕ) → (told_at e' (record { at = m }) ≡ None)
+            ⊎ (told_at e' (record { at = m }) ≡ Some (f change relations turn e e' us us' b order w sessions c eds are spares out m))
+            → count_in e' m ≤ length (f change relations turn e e' us us' b order w sessions c eds are spares out m)
+        count_few m (inl none) =
+            let e : count_in e' m ≡ 0 = ap (λ (o : Option (List Change)). length (unwrap_or o [])) none in omega (arith, e)
+        count_few m (inr is) =
+            let e = ap (λ (o : Option (List Change)). length (unwrap_or o [])) is in omega (arith, e)

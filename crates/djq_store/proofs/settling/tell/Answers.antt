@@ -1,0 +1,9 @@
+use Rattle.std.proofs.Common.{sym, ap, ◌∙◌, take}
+use Rattle.djq_store.specs.Settling.{touched_in}
+use Rattle.djq_store.proofs.Walking.{touched_among}
+use Rattle.djq_store.proofs.settling.tell.Goals as goal
+
+pub tell_gains-requires-clause-among : goal.tell_gains-requires-clause-among
+tell_gains-requires-clause-among g c =
+    touched_among c.places.result.now c.args.relations.now c.members-members.result.now
+    (take c.touched_members-count.result c.touched_members-count.new.touched) c.touched_members-count.ensures.touched

@@ -1,0 +1,55 @@
+use Rattle.std.proofs.Common.{◌≡◌, subst}
+use Rattle.djq_machine.specs.Store.{MakesRelation}
+use Rattle.djq_engine.specs.Kept.{Kept, SameCursors, SameTellings}
+use Rattle.djq_store.specs.Places.{kept_in}
+use Rattle.djq_store.proofs.Given.{whole_over}
+use Rattle.djq_store.proofs.Related.{made_rests, store_makes}
+use Rattle.djq_store.proofs.Staying.{cursors_over, registered_over, tellings_over}
+use Rattle.djq_store.proofs.store.Store.rel.Goals as goal
+
+pub invariant_of-self : goal.invariant_of-self
+invariant_of-self c =
+    let p = c.self.inside.parts in
+    let e' = c.rel-made.new.self in
+    let rests = made_rests p.engine e' c.args.name c.args.types c.rel-made.result c.engine_laws.ensures.engine
+    c.engine_laws-2.ensures.engine c.engine_laws.ensures.staying c.rel-made.ensures.makes c.rel-made.ensures.places in
+    whole_over p e' rests c.rel-made.ensures.registered c.self.invariant
+
+pub returns-clause-makes : goal.returns-clause-makes
+returns-clause-makes c =
+    let p = c.self.inside.parts in
+    let e' = c.rel-made.new.self in
+    let rests = made_rests p.engine e' c.args.name c.args.types c.rel-made.result c.engine_laws.ensures.engine
+    c.engine_laws-2.ensures.engine c.engine_laws.ensures.staying c.rel-made.ensures.makes c.rel-made.ensures.places in
+    subst (λ (k : Kept). MakesRelation k.store c.args.name c.args.types c.rel-made.result (kept_in (record p { engine = e' })).store)
+    c.self.view_is
+    (store_makes p e' c.args.name c.args.types c.rel-made.result rests c.self.invariant c.rel-made.ensures.makes)
+
+pub returns-clause-cursors : goal.returns-clause-cursors
+returns-clause-cursors c =
+    let p = c.self.inside.parts in
+    let e' = c.rel-made.new.self in
+    let rests = made_rests p.engine e' c.args.name c.args.types c.rel-made.result c.engine_laws.ensures.engine
+    c.engine_laws-2.ensures.engine c.engine_laws.ensures.staying c.rel-made.ensures.makes c.rel-made.ensures.places in
+    subst (λ (k : Kept). SameCursors k.cursors (kept_in (record p { engine = e' })).cursors) c.self.view_is
+    (cursors_over p.engine e' rests p.unions.items p.order.items p.sessions.items p.affected.items c.self.invariant.listed
+    c.rel-made.ensures.cursors)
+
+pub returns-clause-registered : goal.returns-clause-registered
+returns-clause-registered c =
+    let p = c.self.inside.parts in
+    let e' = c.rel-made.new.self in
+    let rests = made_rests p.engine e' c.args.name c.args.types c.rel-made.result c.engine_laws.ensures.engine
+    c.engine_laws-2.ensures.engine c.engine_laws.ensures.staying c.rel-made.ensures.makes c.rel-made.ensures.places in
+    subst (λ (k : Kept). (kept_in (record p { engine = e' })).registered ≡ k.registered) c.self.view_is
+    (registered_over p.engine e' rests p.unions.items p.order.items p.sessions.items p.affected.items c.self.invariant.listed)
+
+pub returns-clause-tellings : goal.returns-clause-tellings
+returns-clause-tellings c =
+    let p = c.self.inside.parts in
+    let e' = c.rel-made.new.self in
+    let rests = made_rests p.engine e' c.args.name c.args.types c.rel-made.result c.engine_laws.ensures.engine
+    c.engine_laws-2.ensures.engine c.engine_laws.ensures.staying c.rel-made.ensures.makes c.rel-made.ensures.places in
+    subst (λ (k : Kept). SameTellings k (kept_in (record p { engine = e' }))) c.self.view_is
+    (tellings_over p.engine e' rests p.unions.items p.order.items p.sessions.items p.affected.items c.self.invariant.listed
+    c.rel-made.ensures.tellings)

@@ -1,0 +1,77 @@
+-- What the unions of a store, and the affected, are behind a change of rows.
+use Rattle.std.specs.Prelude.{ℕ, zero, suc, List, ◌≡◌, ◌≤◌, ◌⊎◌, false, Option, None, Some, Result, Ok, Err, filter, length, map, sum_by, vec_capacity, ⊤}
+use Rattle.std.specs.List.{list_any}
+use Rattle.djq_model.specs.Data.{Bytes}
+use Rattle.djq_lines.specs.declared.answer.AddOutcome.{AddOutcome}
+use Rattle.djq_lines.specs.declared.answer.AddOutcome.TheVariants.{First, More}
+use Rattle.djq_lines.specs.declared.answer.DeleteOutcome.{DeleteOutcome}
+use Rattle.djq_lines.specs.declared.answer.DeleteOutcome.TheVariants.{Last, Left, Absent}
+use Rattle.djq_lines.specs.declared.answer.Refusal.{Refusal}
+use Rattle.djq_lines.specs.declared.answer.Refusal.TheVariants.{NoMemory}
+use Rattle.djq_engine.specs.Kept.{Kept}
+use Rattle.djq_store.specs.declared.joined.Joined.{Joined}
+use Rattle.djq_store.specs.declared.parts.Parts.{Parts}
+use Rattle.djq_store.specs.declared.settling.Turn.{Turn}
+use Rattle.djq_store.specs.declared.settling.Turn.TheVariants.{Came, Went, Lacked}
+use Rattle.djq_store.specs.Affecting.{is_reached, is_affected}
+use Rattle.djq_store.specs.Places.{joined_at}
+use Rattle.djq_store.specs.Settling.{SettlesAt, is_settled, settling_steps}
+
+-- what holds where rows changed
+abbrev pub IfMade : Option Turn → Type 0 → Type 0
+IfMade None Holds = ⊤
+IfMade (Some Lacked) Holds = ⊤
+IfMade (Some turn) Holds = Holds
+
+-- The affected are those of the order that the engine's change affects, or unions of them. Where no union
+-- reads a relation that changed, they are the engine's, which are in that order.
+abbrev pub AffectsAll : List Bytes → Parts → Parts → Type 0
+AffectsAll relations old new =
+    (new.affected.items ≡ filter (is_affected (is_reached old.engine.affected) new.unions.items) old.order.items)
+    ⊎ ((list_any (is_settled old.engine relations) old.unions.items ≡ false)
+    × (new.affected.items ≡ map (λ id. id.at) old.engine.affected))
+
+-- Where the change was made, they are known; where memory was refused, they stay.
+abbrev pub FollowsAffected : Turn → List Bytes → Parts → Parts → Type 0
+FollowsAffected Lacked relations old new = new.affected ≡ old.affected
+FollowsAffected _ relations old new = AffectsAll relations old new
+
+-- The unions are settled behind a change of these relations, and nothing else changes.
+pub record Follows (relations : List Bytes) (turn : Turn) (old new : Parts) : Type 0 where
+  pub engine : new.engine ≡ old.engine
+  pub long : length new.unions.items ≡ length old.unions.items
+  pub unions : (k : ℕ) → SettlesAt old.engine relations (old.engine.store).seq turn
+      (joined_at old.unions.items k) (joined_at new.unions.items k)
+  pub order : new.order ≡ old.order
+  pub sessions : new.sessions ≡ old.sessions
+  pub affected : FollowsAffected turn relations old new
+  pub room : vec_capacity old.affected ≤ vec_capacity new.affected
+
+-- Where there was no change, nothing does.
+abbrev pub FollowsBy : Option Turn → List Bytes → Parts → Parts → Type 0
+FollowsBy None relations old new = new ≡ old
+FollowsBy (Some turn) relations old new = Follows relations turn old new
+
+-- what it counts at most
+abbrev pub following_steps : Option Turn → Kept → List Bytes → List (Option Joined) → ℕ
+following_steps None e relations us = 0
+following_steps (Some turn) e relations us = sum_by (settling_steps e relations turn) us
+
+-- how rows changed, by what came of a command
+abbrev pub add_turn : Result AddOutcome Refusal → Option Turn
+add_turn (Ok First) = Some Came
+add_turn (Ok (More copies)) = None
+add_turn (Err NoMemory) = Some Lacked
+add_turn (Err _) = None
+
+abbrev pub delete_turn : Result DeleteOutcome Refusal → Option Turn
+delete_turn (Ok Last) = Some Went
+delete_turn (Ok (Left copies)) = None
+delete_turn (Ok Absent) = None
+delete_turn (Err _) = None
+
+abbrev pub batch_turn : Result ℕ Refusal → Option Turn
+batch_turn (Ok zero) = None
+batch_turn (Ok (suc n)) = Some Came
+batch_turn (Err NoMemory) = Some Lacked
+batch_turn (Err _) = None

@@ -1,0 +1,116 @@
+-- Queries and unions in their places, and what contracts see of them.
+use Rattle.std.specs.Prelude.{ℕ, zero, suc, List, [], ◌∷◌, ◌++◌, ◌+◌, ◌-◌, nat_lt, Option, None, Some, option_map, if◌then◌else◌, length, map, slice_index_or}
+use Rattle.djq_model.specs.Data.{Bytes}
+use Rattle.djq_model.specs.Listed.{Listed}
+use Rattle.djq_lines.specs.declared.limits.TheConstants.{QUERIES}
+use Rattle.djq_machine.specs.Delta.{Change}
+use Rattle.djq_live.specs.Live.{Live}
+use Rattle.djq_live.specs.Member.{query_at}
+use Rattle.djq_engine.specs.declared.cursor.CursorId.{CursorId}
+use Rattle.djq_engine.specs.Kept.{Held, Registered, Kept}
+use Rattle.djq_engine.specs.Places.{no_query, query_in, id_at, told_of}
+use Rattle.djq_united.specs.declared.cursors.Progress.{Progress}
+use Rattle.djq_united.specs.Slots.{slot_at}
+use Rattle.djq_united.specs.United.{United, members_in, first_of, union_of, position_of}
+use Rattle.djq_store.specs.declared.joined.Joined.{Joined}
+use Rattle.djq_store.specs.declared.parts.Parts.{Parts}
+
+-- What stands in places: in those of queries, which are so many, and behind them in those of unions.
+unfoldable pub vacant : {A : Type 0} → ℕ → List (Option A)
+vacant zero = []
+vacant (suc n) = None ∷ vacant n
+
+unfoldable pub in_places : {A : Type 0} → List (Option A) → List (Option A) → List (Option A)
+in_places queries unions = queries ++ (vacant (QUERIES - length queries) ++ unions)
+
+-- what a place has: of a query by its place, of a union by its slot
+abbrev pub by_place : {A : Type 0} → ℕ → (ℕ → A) → (ℕ → A) → A
+by_place at of_query of_union = if nat_lt at QUERIES then of_query at else of_union (at - QUERIES)
+
+-- the union in a slot, where there is one
+abbrev pub joined_at : List (Option Joined) → ℕ → Option Joined
+joined_at us k = slice_index_or us k None
+
+-- the first member of a union, by whose tree its answers are given and lent
+abbrev pub first_member : List (Option Live) → United → Option Live
+first_member gs u = first_of (members_in gs u)
+
+-- the union in a slot, as it is registered
+abbrev pub listed_in : List (Option Live) → Option Joined → Listed
+listed_in gs None = no_query
+listed_in gs (Some j) = union_of gs j.union
+
+-- what is registered in a place
+abbrev pub listed_at : List (Option Live) → List (Option Joined) → ℕ → Listed
+listed_at gs us at = by_place at (λ i. query_in (query_at gs i)) (λ k. listed_in gs (joined_at us k))
+
+-- how many sessions watch it
+abbrev pub union_watchers : Option Joined → ℕ
+union_watchers None = 0
+union_watchers (Some j) = j.watchers
+
+abbrev pub sessions_at : List (Option Joined) → List ℕ → ℕ → ℕ
+sessions_at us sessions at =
+    by_place at (λ i. slice_index_or sessions i 0) (λ k. union_watchers (joined_at us k))
+
+-- what contracts see of it
+abbrev pub registered_as : List (Option Live) → List (Option Joined) → List ℕ → ℕ → Registered
+registered_as gs us sessions at = record {
+  id = id_at at;
+  query = listed_at gs us at;
+  watchers = sessions_at us sessions at;
+}
+
+-- a cursor of a union, as contracts see it
+abbrev pub held_as : List Bytes → List (Option Live) → United → CursorId → Progress → Held
+held_as texts gs u id p =
+    record { id = id; query = u.name; position = position_of texts (members_in gs u) p }
+
+-- the cursors in slots from this one on, of the union in a place
+abbrev pub held_in : List Bytes → List (Option Live) → United → ℕ → ℕ → List (Option Progress) → List Held
+held_in texts gs u at k [] = []
+held_in texts gs u at k (None ∷ slots) = held_in texts gs u at (suc k) slots
+held_in texts gs u at k (Some p ∷ slots) =
+    held_as texts gs u (record { query = id_at at; cursor = k }) p
+    ∷ held_in texts gs u at (suc k) slots
+
+-- the cursors of all unions from this place on
+abbrev pub held_from : List Bytes → List (Option Live) → ℕ → List (Option Joined) → List Held
+held_from texts gs at [] = []
+held_from texts gs at (None ∷ us) = held_from texts gs (suc at) us
+held_from texts gs at (Some j ∷ us) =
+    held_in texts gs j.union at zero j.union.cursors ++ held_from texts gs (suc at) us
+
+-- the cursor of an id over the union in its slot
+abbrev pub held_of : List Bytes → List (Option Live) → CursorId → Option Joined → Option Held
+held_of texts gs id None = None
+held_of texts gs id (Some j) =
+    option_map (held_as texts gs j.union id) (slot_at j.union.cursors id.cursor)
+
+-- what the log of a union tells
+abbrev pub told_in : List Bytes → List (Option Live) → Option Joined → Option (List Change)
+told_in texts gs None = None
+told_in texts gs (Some j) = told_of texts (first_member gs j.union) j.log
+
+-- by whom an answer of the union in a slot is lent
+abbrev pub lender_in : List (Option Live) → Option Joined → Option Live
+lender_in gs None = None
+lender_in gs (Some j) = first_member gs j.union
+
+-- the cursors of queries and of unions
+abbrev pub cursors_in : Kept → List (Option Joined) → List Held
+cursors_in e us = e.cursors ++ held_from (e.store).texts e.places QUERIES us
+
+-- what contracts see, of an engine, unions in slots, the order, the sessions that watch each query, and the affected places
+abbrev pub seen : Kept → List (Option Joined) → List ℕ → List ℕ → List ℕ → Kept
+seen e us order sessions affected = record {
+  store = record e.store { queries = map (listed_at e.places us) order };
+  cursors = cursors_in e us;
+  registered = map (registered_as e.places us sessions) order;
+  affected = map id_at affected;
+  told = in_places e.told (map (told_in (e.store).texts e.places) us);
+  places = in_places e.places (map (lender_in e.places) us);
+}
+
+abbrev pub kept_in : Parts → Kept
+kept_in p = seen p.engine p.unions.items p.order.items p.sessions.items p.affected.items

@@ -1,0 +1,31 @@
+-- A query or union that is registered.
+use Rattle.std.specs.Prelude.{ℕ, List, [], ◌∷◌, ◌++◌, ◌≡◌, Bool, true, false, None, Some, IsSomeAnd, Result, Ok, Err}
+use Rattle.djq_model.specs.declared.query.Query.{Query}
+use Rattle.djq_model.specs.Data.{Bytes}
+use Rattle.djq_model.specs.Listed.{a_union}
+use Rattle.djq_lines.specs.declared.rest.QueryOutcome.{QueryOutcome}
+use Rattle.djq_lines.specs.declared.rest.QueryOutcome.TheVariants.{Registered as HasRegistered}
+use Rattle.djq_lines.specs.declared.answer.Refusal.{Refusal}
+use Rattle.djq_machine.specs.Union.{AreUnder}
+use Rattle.djq_engine.specs.declared.cursor.QueryId.{QueryId}
+use Rattle.djq_engine.specs.Kept.{Kept, SameTellings, TellsOf, registered_at, registered_of}
+
+-- whether a query was registered
+abbrev pub is_registered : Result QueryOutcome Refusal → Bool
+is_registered (Ok (HasRegistered most)) = true
+is_registered _ = false
+
+-- A union of the queries under these names is enrolled last, unwatched, where it was registered.
+abbrev pub EnrolsUnion : Kept → Bytes → List Bytes → Result ℕ Refusal → Kept → Type 0
+EnrolsUnion old name members (Ok most) new =
+    (id : QueryId) × (qs : List Query) × AreUnder (old.store).queries members qs
+    × (registered_at old.registered id ≡ None)
+    × (new.registered ≡ old.registered ++ record { id = id; query = a_union name qs; watchers = 0 } ∷ [])
+EnrolsUnion old name members (Err r) new = new.registered ≡ old.registered
+
+-- Of a union that was registered no change is told yet. Else what is told of each is as before; and so are
+-- the affected.
+abbrev pub EnrolsUnionTelling : Kept → Bytes → Result ℕ Refusal → Kept → Type 0
+EnrolsUnionTelling old name (Ok most) new = (new.affected ≡ old.affected)
+    × IsSomeAnd (registered_of new.registered name) (λ r. TellsOf old r.id (Some []) new)
+EnrolsUnionTelling old name (Err r) new = SameTellings old new

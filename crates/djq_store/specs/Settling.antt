@@ -1,0 +1,107 @@
+-- What a change of rows does to unions.
+use Rattle.std.specs.Prelude.{ℕ, List, [], ◌≡◌, ◌*◌, ◌&&◌, nat_lt, Bool, true, false, Option, None, Some, is_some, find, filter, if◌then◌else◌, sum_by, ⊤}
+use Rattle.std.specs.List.{list_any}
+use Rattle.djq_model.specs.Data.{Bytes}
+use Rattle.djq_machine.specs.Store.{atoms_of}
+use Rattle.djq_cursor.specs.Log.{Log}
+use Rattle.djq_live.specs.Live.{Live}
+use Rattle.djq_live.specs.Member.{query_at}
+use Rattle.djq_reach.specs.Places.{reads_place}
+use Rattle.djq_engine.specs.Kept.{Kept}
+use Rattle.djq_united.specs.Slots.{outdated_slots}
+use Rattle.djq_united.specs.Staying.{KeepMembers, HasSameShape}
+use Rattle.djq_united.specs.United.{United, IsUnited}
+use Rattle.djq_gains.specs.Gains.{AtFirst, TellUnion, members_at, count_in}
+use Rattle.djq_store.specs.declared.joined.Joined.{Joined}
+use Rattle.djq_store.specs.declared.settling.Turn.{Turn}
+use Rattle.djq_store.specs.Places.{joined_at}
+use Rattle.djq_store.specs.declared.settling.Turn.TheVariants.{Came, Went, Lacked}
+
+-- ---- which relations are read
+
+-- whether the query in a place reads one of these relations
+abbrev pub reads_some : List Bytes → Option Live → Bool
+reads_some relations o = list_any (λ name. reads_place name o) relations
+
+-- whether one of the queries in these places reads a relation
+abbrev pub some_read : List (Option Live) → List ℕ → Bytes → Bool
+some_read gs members name = list_any (λ i. reads_place name (query_at gs i)) members
+
+-- the first of these relations that one of them reads
+abbrev pub first_read : List (Option Live) → List Bytes → List ℕ → Option Bytes
+first_read gs relations members = find (some_read gs members) relations
+
+-- those of the places whose queries read one of these relations
+abbrev pub touched_in : List (Option Live) → List Bytes → List ℕ → List ℕ
+touched_in gs relations members = filter (λ i. reads_some relations (query_at gs i)) members
+
+-- ---- what becomes of a union
+
+-- its open cursors become stale by a relation, if there is one
+abbrev pub outdated_union : Option Bytes → ℕ → United → United
+outdated_union None n u = u
+outdated_union (Some relation) n u =
+    record u { cursors = outdated_slots relation n u.cursors }
+
+-- A log tells how the answers of a union changed, unless that is lost.
+abbrev pub TellsUnion : Kept → List Bytes → Bool → Joined → Log → Type 0
+TellsUnion e relations came j log = log.lost ≡ false → AtFirst e j.union.members
+    (TellUnion e j.union.members (touched_in e.places relations j.union.members) came log.lines)
+
+-- It does so where a session watches the union; else it stays.
+abbrev pub TellsWatched : Bool → Kept → List Bytes → Bool → Joined → Log → Type 0
+TellsWatched true e relations came j log = TellsUnion e relations came j log
+TellsWatched false e relations came j log = log ≡ j.log
+
+-- The log of a union that a change outdates tells of nothing where memory was refused.
+abbrev pub SettlesLog : Kept → List Bytes → Turn → Joined → Log → Type 0
+SettlesLog e relations Came j log = TellsWatched (nat_lt 0 j.watchers) e relations true j log
+SettlesLog e relations Went j log = TellsWatched (nat_lt 0 j.watchers) e relations false j log
+SettlesLog e relations Lacked j log = (log.lines ≡ []) × (log.lost ≡ false)
+
+-- The log of one that no relation outdates stays.
+abbrev pub SettlesLogBy : Option Bytes → Kept → List Bytes → Turn → Joined → Log → Type 0
+SettlesLogBy None e relations turn j log = log ≡ j.log
+SettlesLogBy (Some relation) e relations turn j log = SettlesLog e relations turn j log
+
+-- A union behind a change of these relations, of this number.
+pub record Settles (e : Kept) (relations : List Bytes) (n : ℕ) (turn : Turn) (j k : Joined) : Type 0 where
+  pub union : k.union ≡ outdated_union (first_read e.places relations j.union.members) n j.union
+  -- outdated, it goes with whatever tables its members have
+  pub united : is_some (first_read e.places relations j.union.members) ≡ true
+      → (old new : List (Option Live)) → IsUnited old j.union
+      → KeepMembers HasSameShape old new j.union.members → IsUnited new k.union
+  pub watchers : k.watchers ≡ j.watchers
+  pub log : SettlesLogBy (first_read e.places relations j.union.members) e relations turn j k.log
+
+abbrev pub SettlesAt : Kept → List Bytes → ℕ → Turn → Option Joined → Option Joined → Type 0
+SettlesAt e relations n turn None new = new ≡ None
+SettlesAt e relations n turn (Some j) None = ⊥
+SettlesAt e relations n turn (Some j) (Some k) = Settles e relations n turn j k
+
+-- whether one of these relations outdates the union in a slot
+abbrev pub is_settled : Kept → List Bytes → Option Joined → Bool
+is_settled e relations None = false
+is_settled e relations (Some j) = is_some (first_read e.places relations j.union.members)
+
+-- ---- what it counts
+
+-- the tests that are asked of the members for what is told of them
+abbrev pub asking_steps : Kept → List Bytes → List ℕ → ℕ
+asking_steps e relations members =
+    sum_by (count_in e) (touched_in e.places relations members) * atoms_of (members_at e members)
+
+-- what telling of a union counts at most
+abbrev pub telling_steps : Kept → List Bytes → Turn → Joined → ℕ
+telling_steps e relations Lacked j = 0
+telling_steps e relations _ j = if nat_lt 0 j.watchers then asking_steps e relations j.union.members else 0
+
+-- what the union in a slot counts, where it is outdated
+abbrev pub settling_steps : Kept → List Bytes → Turn → Option Joined → ℕ
+settling_steps e relations turn None = 0
+settling_steps e relations turn (Some j) =
+    if is_settled e relations (Some j) then telling_steps e relations turn j else 0
+
+-- no session watches a union
+abbrev pub AreUnionsUnwatched : List (Option Joined) → Type 0
+AreUnionsUnwatched us = (k : ℕ) (j : Joined) → joined_at us k ≡ Some j → j.watchers ≡ 0

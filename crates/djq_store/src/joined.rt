@@ -1,0 +1,13 @@
+use djq_cursor::DeltaLog;
+use djq_united::LiveUnion;
+
+/// A registered union.
+#[derive(Drop)]
+pub struct Joined {
+    /// Its members, and its cursors.
+    pub union: LiveUnion,
+    /// How many sessions watch it.
+    pub watchers: u32,
+    /// How its answers changed last, while it was watched.
+    pub log: DeltaLog,
+}

@@ -1,0 +1,159 @@
+//! Whether a union may be registered, and what it is made of.
+ghost use Rattle.std.specs.Prelude.{◌≡◌, ◌||◌, true, false, All, IfOk, IsSome, is_none, is_some};
+ghost use Rattle.std.specs.List.{list_any};
+ghost use Rattle.djq_model.specs.Data.{bytes_eq};
+ghost use Rattle.djq_model.specs.Listed.{listed_of};
+ghost use Rattle.djq_machine.specs.Union.{union_refusal, stands_twice, types_differ, types_under, is_union};
+ghost use Rattle.djq_live.specs.Member.{head_types};
+ghost use Rattle.djq_engine.specs.Kept.{registered_of};
+ghost use Rattle.djq_store.specs.Places.{kept_in};
+ghost use Rattle.djq_store.specs.Judging.{AreQueries, ArePlacesOf};
+ghost use Rattle.djq_store.specs.Whole.{IsWhole};
+
+use crate::below::engine_laws;
+use crate::finding::find_union;
+use crate::parts::Parts;
+use djq_engine::Engine;
+use djq_lines::Refusal;
+use djq_lines::limits::{MEMBERS, QUERIES};
+use djq_live::{LiveQuery, head_types_are};
+use djq_model::{Name, NoMem, Sequence};
+use std::alloc::Global;
+
+// Whether nothing is registered under a name.
+fn is_unknown(parts: &Parts, name: &Name) -> bool
+    requires { IsWhole parts.now }
+    ensures { result ≡ is_none (listed_of (kept_in parts.now).store.queries name.now) }
+{
+    engine_laws(&parts.engine);
+    find_union(parts.unions.as_slice(), name).is_none() && parts.engine.query_id(name).is_none()
+}
+
+// Whether a union is registered under a name.
+fn is_union(parts: &Parts, name: &Name) -> bool
+    requires { IsWhole parts.now }
+    ensures { result ≡ is_union (listed_of (kept_in parts.now).store.queries name.now) }
+{
+    engine_laws(&parts.engine);
+    find_union(parts.unions.as_slice(), name).is_some()
+}
+
+// Whether one of these names is registered nowhere.
+fn any_unknown(parts: &Parts, names: &[Name]) -> bool
+    requires { IsWhole parts.now }
+    ensures { result ≡ list_any (λ n. is_none (listed_of (kept_in parts.now).store.queries n)) names.now }
+{
+    names.iter().any(|name| is_unknown(parts, name))
+}
+
+// Whether a union is registered under one of these names.
+fn any_union(parts: &Parts, names: &[Name]) -> bool
+    requires { IsWhole parts.now }
+    ensures { result ≡ list_any (λ n. is_union (listed_of (kept_in parts.now).store.queries n)) names.now }
+{
+    names.iter().any(|name| is_union(parts, name))
+}
+
+// Whether a name stands among these.
+fn stands_among(name: &Name, names: &[Name]) -> bool
+    ensures { result ≡ list_any (λ m. bytes_eq m name.now) names.now }
+{
+    names.iter().any(|other| *other == *name)
+}
+
+// Whether a name stands among these twice.
+fn stands_twice(names: &[Name]) -> bool
+    ensures { result ≡ stands_twice names.now }
+{
+    for nth in 0..names.len() {
+        if stands_among(&names[nth], &names[nth + 1..]) {
+            return true;
+        }
+    }
+    false
+}
+
+// The query that is registered under a name.
+fn query_of<'a>(parts: &'a Parts, name: &Name) -> &'a LiveQuery
+    requires whole { IsWhole parts.now }
+    requires known { is_some (listed_of (kept_in parts.now).store.queries name.now) ≡ true }
+    requires query { is_union (listed_of (kept_in parts.now).store.queries name.now) ≡ false }
+    ensures { head_types result.now ≡ types_under (kept_in parts.now).store name.now }
+{
+    engine_laws(&parts.engine);
+    head_types_are();
+    match parts.engine.query_id(name) {
+        Some(id) => parts.engine.live(id),
+        None => unreachable!(),
+    }
+}
+
+// Whether the answers of some of these queries have other types than those of the first.
+fn types_differ(parts: &Parts, names: &[Name]) -> bool
+    requires whole { IsWhole parts.now }
+    requires queries { AreQueries (kept_in parts.now).store names.now }
+    ensures { result ≡ types_differ (kept_in parts.now).store names.now }
+{
+    for nth in 1..names.len() {
+        if !query_of(parts, &names[0]).is_alike(query_of(parts, &names[nth])) {
+            return true;
+        }
+    }
+    false
+}
+
+// Whether the members of a union stand there twice, are unions, or have answers of different types.
+fn are_misfit(parts: &Parts, members: &[Name]) -> bool
+    requires whole { IsWhole parts.now }
+    requires known { list_any (λ n. is_none (listed_of (kept_in parts.now).store.queries n)) members.now ≡ false }
+    ensures { result ≡ (stands_twice members.now
+        || list_any (λ n. is_union (listed_of (kept_in parts.now).store.queries n)) members.now
+        || types_differ (kept_in parts.now).store members.now) }
+{
+    if stands_twice(members) {
+        return true;
+    }
+    if any_union(parts, members) {
+        return true;
+    }
+    types_differ(parts, members)
+}
+
+/// Why a union isn't registered.
+pub fn judge_union(parts: &Parts, name: &Name, members: &[Name]) -> Option<Refusal>
+    requires { IsWhole parts.now }
+    ensures { result ≡ union_refusal (kept_in parts.now).store name.now members.now }
+{
+    if !is_unknown(parts, name) {
+        return Some(Refusal::Taken);
+    }
+    if any_unknown(parts, members) {
+        return Some(Refusal::NoQuery);
+    }
+    if are_misfit(parts, members) {
+        return Some(Refusal::Member);
+    }
+    if members.len() > MEMBERS || parts.order.len() >= QUERIES {
+        return Some(Refusal::Limit);
+    }
+    None
+}
+
+/// The places of the queries of these names.
+///
+/// # Errors
+///
+/// `NoMem` out of memory.
+pub fn places_of(alloc: Global, engine: &Engine, names: &[Name]) -> Result<Sequence<usize>, NoMem>
+    requires { All (λ n. IsSome (registered_of engine.now.registered n)) names.now }
+    ensures { IfOk result (ArePlacesOf engine.now names.now) }
+{
+    let mut places = Sequence::new(alloc);
+    for nth in 0..names.len() {
+        let Some(id) = engine.query_id(&names[nth]) else {
+            unreachable!()
+        };
+        places.push(id.at)?;
+    }
+    Ok(places)
+}

@@ -1,0 +1,188 @@
+//! Cursors over queries and unions: opening, reading and closing them, and lending what they give.
+ghost use Rattle.std.specs.Prelude.{◌≡◌, ⊤, IsSome, IsSomeAnd, IfOk, OnErr};
+ghost use Rattle.djq_rows.specs.Catalog.{Catalog as CatalogModel};
+ghost use Rattle.djq_united.specs.Slots.{slot_at};
+ghost use Rattle.djq_united.specs.United.{AreKept};
+ghost use Rattle.djq_store.specs.Places.{joined_at};
+ghost use Rattle.djq_store.specs.Moving.{MovesUnion, OpensUnion, ClosesUnion, ReadsUnion, TellsUnion};
+ghost use Rattle.djq_store.specs.Moving.{IsReadable, IsFreshly};
+ghost use Rattle.djq_engine.specs.Kept.{OpenGives, MoreGives, ClosesCursor, IsHeld, IsFresh, IsShown, AnswerIs};
+ghost use Rattle.djq_store.specs.Reading.{NextGives};
+
+use crate::below::engine_laws;
+use crate::finding::{find_union, joined_in};
+use crate::joined::Joined;
+use crate::store::Store;
+use djq_engine::{Answer, CursorId, LentAnswer, Next, QueryId};
+use djq_lines::Refusal;
+use djq_lines::limits::QUERIES;
+use djq_live::LiveQuery;
+use djq_model::{Name, NoMem};
+use djq_steps::{Ledgers, Listing, Tally};
+
+// Opens a cursor over the union in a slot.
+fn open_at(unions: &mut Vec<Option<Joined>>, slot: usize) -> Result<usize, NoMem>
+    requires { IsSomeAnd (joined_at unions.old.items slot) (λ j. ⊤) }
+    ensures ok { IfOk result (λ k. MovesUnion (OpensUnion k) slot unions.old.items unions.new.items) }
+    ensures err { OnErr result (unions.new.items ≡ unions.old.items) }
+{
+    match &mut unions[slot] {
+        Some(joined) => joined.union.open(),
+        None => unreachable!(),
+    }
+}
+
+// Closes one.
+fn close_at(unions: &mut Vec<Option<Joined>>, slot: usize, cursor: usize)
+    requires { IsSomeAnd (joined_at unions.old.items slot)
+        (λ j. IsSome (slot_at j.union.cursors cursor)) }
+    ensures { MovesUnion (ClosesUnion cursor) slot unions.old.items unions.new.items }
+{
+    match &mut unions[slot] {
+        Some(joined) => joined.union.close(cursor),
+        None => unreachable!(),
+    }
+}
+
+// Reads one.
+fn next_at<L: Ledgers>(
+    unions: &mut Vec<Option<Joined>>,
+    slot: usize,
+    cursor: usize,
+    queries: &[Option<LiveQuery>],
+    answer: &mut Answer,
+    listing: &mut Tally<Listing<L>>,
+) -> Next
+    requires readable { IsSomeAnd (joined_at unions.old.items slot) (IsReadable queries.now cursor) }
+    requires kept { (c : CatalogModel) × AreKept c queries.now }
+    ensures { MovesUnion (ReadsUnion queries.now cursor result answer.new listing.old listing.new)
+        slot unions.old.items unions.new.items }
+{
+    match &mut unions[slot] {
+        Some(joined) => joined.union.next(cursor, queries, answer, listing),
+        None => unreachable!(),
+    }
+}
+
+// Tells whether an answer is left for one.
+fn more_at<L: Ledgers>(
+    unions: &mut Vec<Option<Joined>>,
+    slot: usize,
+    cursor: usize,
+    queries: &[Option<LiveQuery>],
+    listing: &mut Tally<Listing<L>>,
+) -> bool
+    requires fresh { IsSomeAnd (joined_at unions.old.items slot) (IsFreshly queries.now cursor) }
+    requires kept { (c : CatalogModel) × AreKept c queries.now }
+    ensures { MovesUnion (TellsUnion queries.now cursor result listing.old listing.new)
+        slot unions.old.items unions.new.items }
+{
+    match &mut unions[slot] {
+        Some(joined) => joined.union.more(cursor, queries, listing),
+        None => unreachable!(),
+    }
+}
+
+impl Store {
+    /// Opens a cursor in front of the answers of a query or union.
+    ///
+    /// # Errors
+    ///
+    /// `NoQuery` where none has the name; `NoMemory` out of memory. Nothing has changed.
+    pub fn open(&mut self, name: &Name) -> Result<CursorId, Refusal>
+        ensures { OpenGives self.old name.now result self.new }
+    {
+        engine_laws(&self.parts.engine);
+        let Some(slot) = find_union(self.parts.unions.as_slice(), name) else {
+            let opened = self.parts.engine.open(name);
+            engine_laws(&self.parts.engine);
+            return opened;
+        };
+        let Ok(cursor) = open_at(&mut self.parts.unions, slot) else {
+            return Err(Refusal::NoMemory);
+        };
+        Ok(CursorId {
+            query: QueryId { at: QUERIES + slot },
+            cursor,
+        })
+    }
+
+    /// Reads an open cursor: gives a further answer, or says that none is left, or what made it
+    /// stale. It takes no memory.
+    pub fn next<L: Ledgers>(
+        &mut self,
+        id: CursorId,
+        answer: &mut Answer,
+        listing: &mut Tally<Listing<L>>,
+    ) -> Next
+        requires { IsHeld self.old id }
+        ensures { NextGives self.old id result answer.new self.new listing.old listing.new }
+    {
+        engine_laws(&self.parts.engine);
+        if id.query.at < QUERIES {
+            let next = self.parts.engine.next(id, answer, listing);
+            engine_laws(&self.parts.engine);
+            return next;
+        }
+        let slot = id.query.at - QUERIES;
+        let queries = self.parts.engine.places();
+        next_at(
+            &mut self.parts.unions,
+            slot,
+            id.cursor,
+            queries,
+            answer,
+            listing,
+        )
+    }
+
+    /// Whether a further answer is left for a cursor that isn't stale; where none is, it stands at
+    /// its end. It takes no memory.
+    pub fn more<L: Ledgers>(&mut self, id: CursorId, listing: &mut Tally<Listing<L>>) -> bool
+        requires { IsFresh self.old id }
+        ensures { MoreGives self.old id result self.new listing.old listing.new }
+    {
+        engine_laws(&self.parts.engine);
+        if id.query.at < QUERIES {
+            let more = self.parts.engine.more(id, listing);
+            engine_laws(&self.parts.engine);
+            return more;
+        }
+        let slot = id.query.at - QUERIES;
+        let queries = self.parts.engine.places();
+        more_at(&mut self.parts.unions, slot, id.cursor, queries, listing)
+    }
+
+    /// Gives up an open cursor. Its id may come again from [`open`](Store::open).
+    pub fn close(&mut self, id: CursorId)
+        requires { IsHeld self.old id }
+        ensures { ClosesCursor self.old id self.new }
+    {
+        engine_laws(&self.parts.engine);
+        if id.query.at < QUERIES {
+            self.parts.engine.close(id);
+            engine_laws(&self.parts.engine);
+            return;
+        }
+        close_at(&mut self.parts.unions, id.query.at - QUERIES, id.cursor);
+    }
+
+    /// Lends an answer that an open cursor gave, as long as no row changes.
+    pub fn answer<'a>(&'a self, id: CursorId, answer: &'a Answer) -> LentAnswer<'a>
+        requires { IsShown self.now id answer.now }
+        ensures { AnswerIs self.now id answer.now result }
+    {
+        engine_laws(&self.parts.engine);
+        if id.query.at < QUERIES {
+            return self.parts.engine.answer(id, answer);
+        }
+        let joined = joined_in(self.parts.unions.as_slice(), id.query.at - QUERIES);
+        let first = CursorId {
+            query: QueryId {
+                at: joined.union.members()[0],
+            },
+            cursor: id.cursor,
+        };
+        self.parts.engine.answer(first, answer)
+    }
+}

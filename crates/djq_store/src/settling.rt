@@ -1,0 +1,236 @@
+//! What a change of rows does to unions: their cursors, and what is told of them.
+ghost use Rattle.std.specs.Prelude.{◌≡◌, ◌+◌, ◌≤◌, ℕ, Some, length, take, sum_by};
+ghost use Rattle.std.specs.List.{list_any};
+ghost use Rattle.djq_lines.specs.declared.limits.TheConstants.{MEMBERS};
+ghost use Rattle.djq_machine.specs.Stale.{reads};
+ghost use Rattle.djq_live.specs.Member.{query_at};
+ghost use Rattle.djq_reach.specs.Places.{reads_place};
+ghost use Rattle.djq_united.specs.United.{AreMembers};
+ghost use Rattle.djq_store.specs.declared.joined.Joined.{Joined as JoinedModel};
+ghost use Rattle.djq_store.specs.Places.{joined_at, union_watchers};
+ghost use Rattle.djq_store.specs.Settling.{reads_some, some_read, first_read, touched_in, SettlesLog, Settles};
+ghost use Rattle.djq_store.specs.Settling.{SettlesAt, telling_steps, settling_steps, is_settled};
+ghost use Rattle.djq_store.specs.Settling.{AreUnionsUnwatched};
+
+use crate::joined::Joined;
+use djq_engine::{Engine, LiveQuery};
+use djq_gains::tell_gains;
+use djq_lines::limits::MEMBERS;
+use djq_model::{Name, Query};
+use djq_steps::Tally;
+use std::alloc::Global;
+use std::sync::ledger::Ledger;
+
+/// How rows changed, or were to.
+#[derive(Clone, Copy, Debug)]
+pub enum Turn {
+    /// They came.
+    Came,
+    /// They went.
+    Went,
+    /// They were to come, and memory was refused.
+    Lacked,
+}
+
+// Whether a query reads a relation.
+fn reads(query: &Query, relation: &Name) -> bool
+    ensures { result ≡ reads query.now relation.now }
+{
+    query
+        .atoms
+        .as_slice()
+        .iter()
+        .any(|atom| atom.relation == *relation)
+}
+
+// Whether the query in a place does.
+fn reads_place(queries: &[Option<LiveQuery>], place: usize, relation: &Name) -> bool
+    ensures { result ≡ reads_place relation.now (query_at queries.now place) }
+{
+    match queries.get(place) {
+        Some(Some(live)) => reads(live.query(), relation),
+        _ => false,
+    }
+}
+
+// Whether it reads one of these relations.
+fn reads_some(queries: &[Option<LiveQuery>], place: usize, relations: &[Name]) -> bool
+    ensures { result ≡ reads_some relations.now (query_at queries.now place) }
+{
+    relations
+        .iter()
+        .any(|relation| reads_place(queries, place, relation))
+}
+
+// Whether a member reads a relation.
+fn some_read(queries: &[Option<LiveQuery>], members: &[usize], relation: &Name) -> bool
+    ensures { result ≡ some_read queries.now members.now relation.now }
+{
+    members
+        .iter()
+        .any(|place| reads_place(queries, *place, relation))
+}
+
+// The first of these relations that a member reads.
+fn first_read(queries: &[Option<LiveQuery>], members: &[usize], relations: &[Name]) -> Option<Name>
+    ensures { result ≡ first_read queries.now relations.now members.now }
+{
+    for relation in relations {
+        if some_read(queries, members, relation) {
+            return Some(*relation);
+        }
+    }
+    None
+}
+
+// Puts the members that read one of these relations to the front, and tells how many they are.
+fn touched_members(
+    queries: &[Option<LiveQuery>],
+    members: &[usize],
+    relations: &[Name],
+    touched: &mut [usize; MEMBERS],
+) -> usize
+    requires { length members.now ≤ MEMBERS }
+    ensures few { result ≤ MEMBERS }
+    ensures long { length touched.new ≡ MEMBERS }
+    ensures touched { take result touched.new ≡ touched_in queries.now relations.now members.now }
+{
+    let mut count = 0;
+    for place in members {
+        if reads_some(queries, *place, relations) {
+            touched[count] = *place;
+            count += 1;
+        }
+    }
+    count
+}
+
+// Tells of a union that a change outdates: how its answers changed, where a session watches it; and of nothing
+// where memory was refused.
+fn tell<L: Ledger>(
+    alloc: Global,
+    engine: &Engine,
+    joined: &mut Joined,
+    relations: &[Name],
+    turn: Turn,
+    listing: &mut Tally<L>,
+)
+    requires { AreMembers engine.now.places joined.old.union.members }
+    ensures union { joined.new.union ≡ joined.old.union }
+    ensures watchers { joined.new.watchers ≡ joined.old.watchers }
+    ensures log { SettlesLog engine.now relations.now turn joined.old joined.new.log }
+    ensures counted { listing.new ≤ listing.old
+        + telling_steps engine.now relations.now turn joined.old }
+    ensures unlisted { joined.old.watchers ≡ 0 → listing.new ≡ listing.old }
+{
+    let came = match turn {
+        Turn::Came => true,
+        Turn::Went => false,
+        Turn::Lacked => {
+            joined.log.clear();
+            return;
+        }
+    };
+    if joined.watchers == 0 {
+        return;
+    }
+    let mut touched = [0; MEMBERS];
+    let members = joined.union.members();
+    let count = touched_members(engine.places(), members, relations, &mut touched);
+    tell_gains(
+        alloc,
+        engine,
+        members,
+        &touched[..count],
+        came,
+        &mut joined.log,
+        listing,
+    );
+}
+
+// Settles a union: where a member reads one of these relations, its cursors become stale, and its log tells of
+// the change. Whether one does is told.
+fn settle<L: Ledger>(
+    alloc: Global,
+    engine: &Engine,
+    joined: &mut Joined,
+    relations: &[Name],
+    seq: u64,
+    turn: Turn,
+    listing: &mut Tally<L>,
+) -> bool
+    requires { AreMembers engine.now.places joined.old.union.members }
+    ensures settles { Settles engine.now relations.now seq turn joined.old joined.new }
+    ensures read { result ≡ is_settled engine.now relations.now (Some joined.old) }
+    ensures counted { listing.new ≤ listing.old
+        + settling_steps engine.now relations.now turn (Some joined.old) }
+    ensures unlisted { joined.old.watchers ≡ 0 → listing.new ≡ listing.old }
+{
+    match first_read(engine.places(), joined.union.members(), relations) {
+        Some(relation) => {
+            joined.union.outdate(relation, seq);
+            tell(alloc, engine, joined, relations, turn, listing);
+            true
+        }
+        None => false,
+    }
+}
+
+// Settles the union in a slot, if there is one.
+fn settle_slot<L: Ledger>(
+    alloc: Global,
+    engine: &Engine,
+    slot: &mut Option<Joined>,
+    relations: &[Name],
+    seq: u64,
+    turn: Turn,
+    listing: &mut Tally<L>,
+) -> bool
+    requires { (j : JoinedModel) → slot.old ≡ Some j → AreMembers engine.now.places j.union.members }
+    ensures settles { SettlesAt engine.now relations.now seq turn slot.old slot.new }
+    ensures read { result ≡ is_settled engine.now relations.now slot.old }
+    ensures counted { listing.new ≤ listing.old
+        + settling_steps engine.now relations.now turn slot.old }
+    ensures unlisted { union_watchers slot.old ≡ 0 → listing.new ≡ listing.old }
+{
+    match slot {
+        Some(joined) => settle(alloc, engine, joined, relations, seq, turn, listing),
+        None => false,
+    }
+}
+
+/// Settles all unions behind a change of these relations, of this number. Whether it outdates one is told.
+pub fn settle_all<L: Ledger>(
+    alloc: Global,
+    engine: &Engine,
+    unions: &mut Vec<Option<Joined>>,
+    relations: &[Name],
+    seq: u64,
+    turn: Turn,
+    listing: &mut Tally<L>,
+) -> bool
+    requires { (k : ℕ) (j : JoinedModel) → joined_at unions.old.items k ≡ Some j
+        → AreMembers engine.now.places j.union.members }
+    ensures long { length unions.new.items ≡ length unions.old.items }
+    ensures settles { (k : ℕ) → SettlesAt engine.now relations.now seq turn
+        (joined_at unions.old.items k) (joined_at unions.new.items k) }
+    ensures read { result ≡ list_any (is_settled engine.now relations.now) unions.old.items }
+    ensures counted { listing.new ≤ listing.old
+        + sum_by (settling_steps engine.now relations.now turn) unions.old.items }
+    ensures unlisted { AreUnionsUnwatched unions.old.items → listing.new ≡ listing.old }
+{
+    let mut read = false;
+    for slot in 0..unions.len() {
+        let settled = settle_slot(
+            alloc,
+            engine,
+            &mut unions[slot],
+            relations,
+            seq,
+            turn,
+            listing,
+        );
+        read |= settled;
+    }
+    read
+}

@@ -1,0 +1,151 @@
+//! Sessions that watch queries and unions.
+ghost use Rattle.std.specs.Prelude.{◌≡◌, ◌<◌, ◌≤◌, ◌+◌, ◌-◌, length, All, AllPairs, IsSomeAnd};
+ghost use Rattle.djq_lines.specs.declared.limits.TheConstants.{QUERIES, SESSIONS};
+ghost use Rattle.djq_engine.specs.Kept.{registered_at, IsRegistered, with_watchers};
+ghost use Rattle.djq_engine.specs.Places.{id_at};
+ghost use Rattle.djq_store.specs.Counting.{HasWatchers, with_all};
+ghost use Rattle.djq_store.specs.Places.{joined_at, kept_in};
+ghost use Rattle.djq_store.specs.Whole.{IsWhole};
+
+use crate::below::engine_laws;
+use crate::finding::joined_in;
+use crate::joined::Joined;
+use crate::parts::Parts;
+use crate::store::Store;
+use djq_engine::{Engine, QueryId};
+use djq_lines::limits::QUERIES;
+
+// Each of these queries is watched by one more.
+fn watch_members(engine: &mut Engine, members: &[usize])
+    requires { All (λ at. IsSomeAnd (registered_at engine.old.registered (id_at at))
+        (λ r. r.watchers + length members.now ≤ 4294967295)) members.now }
+    ensures { engine.new ≡ record engine.old {
+      registered = with_all (λ n. n + 1) members.now engine.old.registered;
+    } }
+{
+    for nth in 0..members.len() {
+        engine.watch(QueryId { at: members[nth] });
+    }
+}
+
+// Each of these queries is watched by one less.
+fn unwatch_members(engine: &mut Engine, members: &[usize])
+    requires apart { AllPairs (λ j k. j ≡ k → ⊥) members.now }
+    requires watched { All (λ at. IsSomeAnd (registered_at engine.old.registered (id_at at))
+        (λ r. 0 < r.watchers)) members.now }
+    ensures { engine.new ≡ record engine.old {
+      registered = with_all (λ n. n - 1) members.now engine.old.registered;
+    } }
+{
+    for nth in 0..members.len() {
+        engine.unwatch(QueryId { at: members[nth] });
+    }
+}
+
+// One more watches the union in a slot.
+fn listen(unions: &mut Vec<Option<Joined>>, slot: usize)
+    requires { IsSomeAnd (joined_at unions.old.items slot) (λ j. j.watchers < 4294967295) }
+    ensures { HasWatchers (λ n. n + 1) slot unions.old.items unions.new.items }
+{
+    match &mut unions[slot] {
+        Some(joined) => joined.watchers += 1,
+        None => unreachable!(),
+    }
+}
+
+// One less watches it.
+fn ignore(unions: &mut Vec<Option<Joined>>, slot: usize)
+    requires { IsSomeAnd (joined_at unions.old.items slot) (λ j. 0 < j.watchers) }
+    ensures { HasWatchers (λ n. n - 1) slot unions.old.items unions.new.items }
+{
+    match &mut unions[slot] {
+        Some(joined) => joined.watchers -= 1,
+        None => unreachable!(),
+    }
+}
+
+// A session more watches the union in a slot. The first one watches its members through it.
+fn watch_union(parts: &mut Parts, slot: usize)
+    requires whole { IsWhole parts.old }
+    requires few { IsSomeAnd (joined_at parts.old.unions.items slot) (λ j. j.watchers < SESSIONS) }
+    ensures whole { IsWhole parts.new }
+    ensures watches { kept_in parts.new ≡ record (kept_in parts.old) {
+      registered = with_watchers (id_at (QUERIES + slot)) (λ n. n + 1) (kept_in parts.old).registered;
+    } }
+{
+    engine_laws(&parts.engine);
+    let joined = joined_in(parts.unions.as_slice(), slot);
+    if joined.watchers > 0 {
+        listen(&mut parts.unions, slot);
+        return;
+    }
+    watch_members(&mut parts.engine, joined.union.members());
+    listen(&mut parts.unions, slot);
+}
+
+// A session that watched the union in a slot does so no more. The last one leaves its members.
+fn unwatch_union(parts: &mut Parts, slot: usize)
+    requires whole { IsWhole parts.old }
+    requires some { IsSomeAnd (joined_at parts.old.unions.items slot) (λ j. 0 < j.watchers) }
+    ensures whole { IsWhole parts.new }
+    ensures watches { kept_in parts.new ≡ record (kept_in parts.old) {
+      registered = with_watchers (id_at (QUERIES + slot)) (λ n. n - 1) (kept_in parts.old).registered;
+    } }
+{
+    engine_laws(&parts.engine);
+    let joined = joined_in(parts.unions.as_slice(), slot);
+    if joined.watchers > 1 {
+        ignore(&mut parts.unions, slot);
+        return;
+    }
+    unwatch_members(&mut parts.engine, joined.union.members());
+    ignore(&mut parts.unions, slot);
+}
+
+impl Store {
+    /// A session more watches a query or union. Its changes are told from now on. It takes no memory.
+    pub fn watch(&mut self, id: QueryId)
+        requires registered { IsRegistered self.old id }
+        requires few { IsSomeAnd (registered_at self.old.registered id)
+            (λ r. r.watchers < SESSIONS) }
+        ensures { self.new ≡ record self.old {
+          registered = with_watchers id (λ n. n + 1) self.old.registered;
+        } }
+    {
+        engine_laws(&self.parts.engine);
+        if id.at < QUERIES {
+            self.parts.engine.watch(id);
+            self.parts.sessions[id.at] += 1;
+            return;
+        }
+        watch_union(&mut self.parts, id.at - QUERIES);
+    }
+
+    /// A session that watched a query or union does so no more. It takes no memory.
+    pub fn unwatch(&mut self, id: QueryId)
+        requires { IsSomeAnd (registered_at self.old.registered id) (λ r. 0 < r.watchers) }
+        ensures { self.new ≡ record self.old {
+          registered = with_watchers id (λ n. n - 1) self.old.registered;
+        } }
+    {
+        engine_laws(&self.parts.engine);
+        if id.at < QUERIES {
+            self.parts.engine.unwatch(id);
+            self.parts.sessions[id.at] -= 1;
+            return;
+        }
+        unwatch_union(&mut self.parts, id.at - QUERIES);
+    }
+
+    /// How many sessions watch a query or union.
+    pub fn watchers(&self, id: QueryId) -> u32
+        requires { IsRegistered self.now id }
+        ensures { IsSomeAnd (registered_at self.now.registered id) (λ r. result ≡ r.watchers) }
+    {
+        engine_laws(&self.parts.engine);
+        if id.at < QUERIES {
+            return self.parts.sessions[id.at];
+        }
+        joined_in(self.parts.unions.as_slice(), id.at - QUERIES).watchers
+    }
+}

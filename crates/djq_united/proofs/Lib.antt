@@ -1,0 +1,8 @@
+mod Lists
+mod Slots
+mod Placed
+mod Heads
+mod Values
+mod Advancing
+mod Counting
+mod Staying

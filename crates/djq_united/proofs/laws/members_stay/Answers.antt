@@ -1,0 +1,5 @@
+use Rattle.djq_united.proofs.Staying.{members_stayed}
+use Rattle.djq_united.proofs.laws.members_stay.Goals as goal
+
+pub returns : goal.returns
+returns c = members_stayed

@@ -1,0 +1,5 @@
+use Rattle.djq_united.proofs.Staying.{unions_stayed}
+use Rattle.djq_united.proofs.laws.unions_stay.Goals as goal
+
+pub returns : goal.returns
+returns c = unions_stayed

@@ -1,0 +1,74 @@
+-- A cursor that was read is still in its slot.
+use Rattle.std.proofs.Common.{◌≡◌, ℕ, List, length, refl, ap, sym, subst, ◌∙◌, inl, inr, arith}
+use Rattle.std.specs.Prelude.{Option, None, Some, IsSome, IsSomeAnd, is_some}
+use Rattle.std.proofs.lemmas.Bool.{cases_lt}
+use Rattle.std.proofs.lemmas.List.{get_or_past, get_or-set_same}
+use Rattle.djq_machine.specs.State.{Position}
+use Rattle.djq_rows.specs.Catalog.{Catalog}
+use Rattle.djq_live.specs.declared.listing.Next.{Next}
+use Rattle.djq_live.specs.declared.listing.Next.TheVariants.{Given, End, Stale as IsStale}
+use Rattle.djq_live.specs.Live.{Live}
+use Rattle.djq_united.specs.declared.cursors.Progress.{Progress}
+use Rattle.djq_united.specs.declared.cursors.Progress.TheVariants.{Open, Stale}
+use Rattle.djq_united.specs.Slots.{slot_at}
+use Rattle.djq_united.specs.United.{United, members_in, IsUnited, position_of}
+use Rattle.djq_united.specs.Reading.{MovesTo, NextGivesAt}
+use Rattle.djq_united.proofs.tests.next_pair.Goals as goal
+
+record Stays (qs : List (Option Live)) (k : ℕ) (new : United) : Type 0 where
+  pub united : IsUnited qs new
+  pub there : IsSome (slot_at new.cursors k)
+
+moved_stays : (c : Catalog) (qs : List (Option Live)) (old new : United) (k : ℕ) (p : Progress)
+    (position : Position) → slot_at old.cursors k ≡ Some p → MovesTo c qs old k position new
+    → Stays qs k new
+moved_stays c qs old new k p position e m = record {
+  united = m.united;
+  there = elim (cases_lt k (length old.cursors)) [
+    | inl low ↦ ap (λ (u : United). is_some (slot_at u.cursors k)) m.moved
+        ∙ ap is_some (get_or-set_same old.cursors k (Some m.progress) None low)
+    | inr past ↦
+        let none : slot_at old.cursors k ≡ None = get_or_past old.cursors k None (omega arith) in
+        absurd cc
+  ];
+}
+
+stays_at : (c : Catalog) (qs : List (Option Live)) (old new : United) (k : ℕ) (p : Progress)
+    (n : Next) (t : List ℕ) → IsUnited qs old → slot_at old.cursors k ≡ Some p
+    → NextGivesAt c qs old k (position_of c.texts (members_in qs old) p) n t new → Stays qs k new
+stays_at c qs old new k (Open cursor ended) Given t united e h =
+    moved_stays c qs old new k (Open cursor ended) _ e h.3
+stays_at c qs old new k (Open cursor ended) End t united e h =
+    moved_stays c qs old new k (Open cursor ended) _ e h.1
+stays_at c qs old new k (Open cursor ended) (IsStale relation n) t united e h = absurd h
+stays_at c qs old new k (Stale q m) Given t united e h = absurd h
+stays_at c qs old new k (Stale q m) End t united e h = absurd h
+stays_at c qs old new k (Stale q m) (IsStale relation n) t united e h =
+    subst (λ (u : United). Stays qs k u) (sym h.2)
+    (record { united = united; there = ap is_some e })
+
+stays : (c : Catalog) (qs : List (Option Live)) (old new : United) (k : ℕ) (o : Option Progress)
+    (n : Next) (t : List ℕ) → IsUnited qs old → slot_at old.cursors k ≡ o
+    → IsSomeAnd o (λ p. NextGivesAt c qs old k (position_of c.texts (members_in qs old) p) n t new)
+    → Stays qs k new
+stays c qs old new k None n t united e h = absurd h
+stays c qs old new k (Some p) n t united e h = stays_at c qs old new k p n t united e h
+
+pub returns-in-Given-clause-united : goal.returns-in-Given-clause-united
+returns-in-Given-clause-united g c =
+    (stays c.args.catalog.now c.args.queries.now c.args.union.now c.next.new.self c.args.slot _
+    c.next.result c.next.new.answer c.requires.united refl
+    (c.next.ensures.gives c.args.catalog.now c.requires.kept)).united
+
+pub returns-in-Given-clause-there : goal.returns-in-Given-clause-there
+returns-in-Given-clause-there g c =
+    (stays c.args.catalog.now c.args.queries.now c.args.union.now c.next.new.self c.args.slot _
+    c.next.result c.next.new.answer c.requires.united refl
+    (c.next.ensures.gives c.args.catalog.now c.requires.kept)).there
+
+pub returns-in_default : goal.returns-in_default
+returns-in_default g c =
+    let s = stays c.args.catalog.now c.args.queries.now c.args.union.now c.next.new.self
+    c.args.slot _ c.next.result c.next.new.answer c.requires.united refl
+    (c.next.ensures.gives c.args.catalog.now c.requires.kept) in
+    record { united = s.united; there = s.there }

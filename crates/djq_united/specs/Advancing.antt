@@ -1,0 +1,97 @@
+-- What reads of one cursor do, in cells of its union's answers.
+use Rattle.std.specs.Prelude.{
+  ◌≡◌,
+  ◌≤◌,
+  ℕ,
+  List,
+  length,
+  [],
+  ◌∷◌,
+  ◌++◌,
+  Bool,
+  true,
+  false,
+  map,
+  Option,
+  None,
+  Some,
+  slice_set,
+}
+use Rattle.djq_model.specs.Listed.{a_union}
+use Rattle.djq_machine.specs.Store.{answer_steps}
+use Rattle.djq_cursor.specs.declared.cursor.Cursor.{Cursor}
+use Rattle.djq_union.specs.Answers.{AreSome, AreAll, IsListing}
+use Rattle.djq_union.specs.Union.{some_has, union_given}
+use Rattle.djq_live.specs.declared.listing.Next.{Next}
+use Rattle.djq_live.specs.declared.listing.Next.TheVariants.{Given, End, Stale as IsStale}
+use Rattle.djq_live.specs.Live.{Live}
+use Rattle.djq_live.specs.Member.{has_cells, cells_given, in_tree}
+use Rattle.djq_united.specs.declared.cursors.Progress.{Progress}
+use Rattle.djq_united.specs.declared.cursors.Progress.TheVariants.{Open, Stale}
+use Rattle.djq_united.specs.Slots.{slot_at, SetsSlot}
+use Rattle.djq_united.specs.United.{FitsMembers, AtFirst}
+
+-- the cells that a cursor has given, in the head's order
+abbrev pub union_cells : List Live → List (Option Cursor) → List (List ℕ)
+union_cells ls cursor = union_given has_cells cells_given ls cursor
+
+-- A cursor goes on by one answer that it hasn't given, and the first member has it as a tuple of its
+-- tree.
+pub record Advances (ls : List Live) (old : List (Option Cursor)) (answer : List ℕ)
+    (new : List (Option Cursor)) : Type 0 where
+  pub fits : FitsMembers ls new
+  pub cells : List ℕ
+  pub gives : union_cells ls new ≡ union_cells ls old ++ cells ∷ []
+  pub some : AreSome (some_has has_cells ls) (union_cells ls new)
+  pub turned : AtFirst ls (λ l. answer ≡ in_tree l cells)
+
+-- A cursor has given each answer, and stays there.
+pub record Ends (ls : List Live) (old new : List (Option Cursor)) : Type 0 where
+  pub fits : FitsMembers ls new
+  pub gives : union_cells ls new ≡ union_cells ls old
+  pub all : IsListing (some_has has_cells ls) (union_cells ls old)
+
+-- What a read gives: one answer that is left, the end exactly where none is, or what made the
+-- cursor stale.
+abbrev pub Reads : List Live → Progress → Next → List ℕ → Progress → Type 0
+Reads ls (Open old ended) Given answer (Open new e) = Advances ls old answer new × (e ≡ false)
+Reads ls (Open old ended) End answer (Open new e) = Ends ls old new × (e ≡ true)
+Reads ls (Stale q m) (IsStale relation n) answer new =
+    (relation ≡ q) × (n ≡ m) × (new ≡ Stale q m)
+Reads ls _ _ answer _ = ⊥
+
+-- A look at whether an answer is left: the cursor has given what it had given before.
+abbrev pub Looks : List Live → Progress → Bool → Progress → Type 0
+Looks ls (Open old ended) true new =
+    (new ≡ Open old false) × (AreAll (some_has has_cells ls) (union_cells ls old) → ⊥)
+Looks ls (Open old ended) false new =
+    (new ≡ Open old true) × AreAll (some_has has_cells ls) (union_cells ls old)
+Looks ls (Stale q m) left new = ⊥
+
+-- the cursor in a slot is read so, and the others are as before
+pub record InSlot (Read : Progress → Progress → Type 0) (old : List (Option Progress)) (k : ℕ)
+    (new : List (Option Progress)) : Type 0 where
+  pub before : Progress
+  pub there : slot_at old k ≡ Some before
+  pub after : Progress
+  pub read : Read before after
+  pub is : new ≡ slice_set old k (Some after)
+
+-- A cursor that has given nothing, which fits any members, stands in a slot where none was, and all
+-- others are as before.
+pub record OpensSlot (old : List (Option Progress)) (k : ℕ) (new : List (Option Progress)) :
+    Type 0 where
+  pub free : slot_at old k ≡ None
+  pub cursor : List (Option Cursor)
+  pub none : (ls : List Live) → union_cells ls cursor ≡ []
+  pub fits : (ls : List Live) → length ls ≤ 8 → FitsMembers ls cursor
+  pub sets : SetsSlot old k (Some (Open cursor false)) new
+
+-- what an answer of the union of these counts at most, and the end too
+abbrev pub most_of : List Live → ℕ
+most_of ls = answer_steps (a_union [] (map (λ l. l.query) ls))
+
+-- what a read counts at most: a stale cursor costs nothing
+abbrev pub call_steps : Next → List Live → ℕ
+call_steps (IsStale relation n) ls = 0
+call_steps _ ls = most_of ls

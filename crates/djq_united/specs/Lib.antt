@@ -1,0 +1,5 @@
+pub mod Slots
+pub mod United
+pub mod Advancing
+pub mod Reading
+pub mod Staying

@@ -1,0 +1,93 @@
+-- What opening and reading the cursors of a union do.
+use Rattle.std.specs.Prelude.{
+  ◌≡◌,
+  ℕ,
+  List,
+  [],
+  ◌∷◌,
+  ◌++◌,
+  Bool,
+  true,
+  false,
+  Option,
+  None,
+  Some,
+  IsSomeAnd,
+  slice_set,
+}
+use Rattle.djq_model.specs.Data.{Bytes, Tuple}
+use Rattle.djq_model.specs.Listed.{Listed, AnswersOf}
+use Rattle.djq_machine.specs.State.{Position, open_at, stale}
+use Rattle.djq_machine.specs.Store.{IsLeft, AreAll, answer_steps}
+use Rattle.djq_rows.specs.Catalog.{Catalog}
+use Rattle.djq_live.specs.declared.listing.Next.{Next}
+use Rattle.djq_live.specs.declared.listing.Next.TheVariants.{Given, End, Stale}
+use Rattle.djq_live.specs.Live.{Live, IsShowable, values_of}
+use Rattle.djq_united.specs.declared.cursors.Progress.{Progress}
+use Rattle.djq_united.specs.Slots.{slot_at, SetsSlot}
+use Rattle.djq_united.specs.United.{United, members_in, union_of, AtFirst, IsUnited, position_of}
+
+-- A cursor that has given nothing stands in a slot where none was, and nothing else has changed.
+pub record OpensIn (old : United) (k : ℕ) (new : United) : Type 0 where
+  pub free : slot_at old.cursors k ≡ None
+  pub progress : Progress
+  pub stands : (texts : List Bytes) (ls : List Live)
+      → position_of texts ls progress ≡ open_at [] false
+  pub sets : SetsSlot old.cursors k (Some progress) new.cursors
+  pub others : new ≡ record old { cursors = new.cursors }
+
+-- The cursor in a slot is moved, and nothing else.
+pub record MovesTo (c : Catalog) (qs : List (Option Live)) (old : United) (k : ℕ)
+    (position : Position) (new : United) : Type 0 where
+  pub progress : Progress
+  pub moved : new ≡ record old { cursors = slice_set old.cursors k (Some progress) }
+  pub stands : position_of c.texts (members_in qs old) progress ≡ position
+  pub united : IsUnited qs new
+
+-- The first member shows this tuple.
+pub record IsShownBy (texts : List Bytes) (l : Live) (answer : List ℕ) (t : Tuple) : Type 0 where
+  pub showable : IsShowable texts l answer
+  pub is : t ≡ values_of texts l answer
+
+-- What a read gives at a position: one answer that is left, as a tuple of the first member's tree;
+-- the end exactly where none is; or what made the cursor stale.
+abbrev pub NextGivesAt : Catalog → List (Option Live) → United → ℕ → Position → Next → List ℕ
+    → United → Type 0
+NextGivesAt c qs old k (open_at given ended) Given answer new =
+    (t : Tuple) × IsLeft (AnswersOf c.relations (union_of qs old)) given t
+    × AtFirst (members_in qs old) (λ l. IsShownBy c.texts l answer t)
+    × MovesTo c qs old k (open_at (given ++ t ∷ []) false) new
+NextGivesAt c qs old k (open_at given ended) End answer new =
+    AreAll (AnswersOf c.relations (union_of qs old)) given
+    × MovesTo c qs old k (open_at given true) new
+NextGivesAt c qs old k (open_at given ended) (Stale relation n) answer new = ⊥
+NextGivesAt c qs old k (stale r m) (Stale relation n) answer new =
+    (relation ≡ r) × (n ≡ m) × (new ≡ old)
+NextGivesAt c qs old k (stale r m) _ answer new = ⊥
+
+-- A read of the cursor in a slot.
+abbrev pub NextGives : Catalog → List (Option Live) → United → ℕ → Next → List ℕ → United
+    → Type 0
+NextGives c qs old k result answer new = IsSomeAnd (slot_at old.cursors k)
+    (λ p. NextGivesAt c qs old k (position_of c.texts (members_in qs old) p) result answer new)
+
+-- What is known at a position of whether an answer is left: a cursor to which none is left stands
+-- at its end.
+abbrev pub MoreGivesAt : Catalog → List (Option Live) → United → ℕ → Position → Bool → United
+    → Type 0
+MoreGivesAt c qs old k (open_at given ended) true new =
+    ((t : Tuple) × IsLeft (AnswersOf c.relations (union_of qs old)) given t)
+    × MovesTo c qs old k (open_at given false) new
+MoreGivesAt c qs old k (open_at given ended) false new =
+    AreAll (AnswersOf c.relations (union_of qs old)) given
+    × MovesTo c qs old k (open_at given true) new
+MoreGivesAt c qs old k (stale r m) more new = ⊥
+
+abbrev pub MoreGives : Catalog → List (Option Live) → United → ℕ → Bool → United → Type 0
+MoreGives c qs old k result new = IsSomeAnd (slot_at old.cursors k)
+    (λ p. MoreGivesAt c qs old k (position_of c.texts (members_in qs old) p) result new)
+
+-- what a read counts at most: a stale cursor costs nothing
+abbrev pub read_steps : Next → Listed → ℕ
+read_steps (Stale relation n) listed = 0
+read_steps _ listed = answer_steps listed

@@ -1,0 +1,65 @@
+-- What becomes of unions as the queries in their places change.
+use Rattle.std.specs.Prelude.{◌≡◌, ℕ, List, ◌++◌, Contains, Option, Some, IsSomeAnd}
+use Rattle.djq_model.specs.Data.{Bytes}
+use Rattle.djq_machine.specs.Stale.{outdated}
+use Rattle.djq_rows.specs.Catalog.{Catalog}
+use Rattle.djq_live.specs.Live.{Live}
+use Rattle.djq_live.specs.Member.{query_at}
+use Rattle.djq_united.specs.declared.cursors.Progress.{Progress}
+use Rattle.djq_united.specs.Slots.{slot_at, outdated_progress}
+use Rattle.djq_united.specs.United.{
+  United,
+  members_in,
+  union_of,
+  AreMembers,
+  IsUnited,
+  AreKept,
+  position_of,
+}
+
+-- A query is the same with the same tables.
+pub record HasSameTables (l m : Live) : Type 0 where
+  pub query : m.query ≡ l.query
+  pub numbered : m.numbered ≡ l.numbered
+  pub reducts : m.reducts ≡ l.reducts
+
+-- A query is the same with the same tree; its tables may differ.
+pub record HasSameShape (l m : Live) : Type 0 where
+  pub query : m.query ≡ l.query
+  pub numbered : m.numbered ≡ l.numbered
+  pub tree : (m.reducts).tree ≡ (l.reducts).tree
+
+-- The query in each of these places is still there, and is the same in this sense.
+pub record KeepMembers (Same : Live → Live → Type 0) (old new : List (Option Live))
+    (ks : List ℕ) : Type 0 where
+  pub each : (k : ℕ) (l : Live) → Contains ks k → query_at old k ≡ Some l
+      → IsSomeAnd (query_at new k) (Same l)
+
+-- Queries that are the same can be a union's members as they could, and are what is registered.
+abbrev pub MembersStay : Type 0
+MembersStay = (old new : List (Option Live)) (u : United)
+    → KeepMembers HasSameShape old new u.members → AreMembers old u.members
+    → AreMembers new u.members × (union_of new u ≡ union_of old u)
+
+-- The tables of its members are the same, over catalogs with the same texts and maybe more.
+pub record AreUntouched (c d : Catalog) (old new : List (Option Live)) (ks : List ℕ) : Type 0
+  where
+    pub before : AreKept c old
+    pub after : AreKept d new
+    pub more : List Bytes
+    pub texts : d.texts ≡ c.texts ++ more
+    pub keep : KeepMembers HasSameTables old new ks
+
+-- So a union's cursors go on, where they stood.
+abbrev pub UnionsStay : Type 0
+UnionsStay = (c d : Catalog) (old new : List (Option Live)) (u : United)
+    → AreUntouched c d old new u.members → IsUnited old u
+    → IsUnited new u × ((k : ℕ) (p : Progress) → slot_at u.cursors k ≡ Some p
+    → position_of d.texts (members_in new u) p ≡ position_of c.texts (members_in old u) p)
+
+-- A cursor that a change makes stale stands where the machine says, whatever its members are.
+abbrev pub StaleStand : Type 0
+StaleStand = (texts more : List Bytes) (ls ms : List Live) (relation : Bytes) (n : ℕ)
+    (p : Progress)
+    → position_of more ms (outdated_progress relation n p)
+    ≡ outdated (Some relation) n (position_of texts ls p)

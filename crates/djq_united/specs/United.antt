@@ -1,0 +1,119 @@
+-- The union of some registered queries, over the queries in their places.
+use Rattle.std.specs.Prelude.{
+  ◌≡◌,
+  ⊤,
+  ℕ,
+  ◌≤◌,
+  Bool,
+  false,
+  not,
+  List,
+  [],
+  ◌∷◌,
+  length,
+  map,
+  AllPairs,
+  Contains,
+  Option,
+  None,
+  Some,
+  IsSomeAnd,
+}
+use Rattle.std.specs.List.{list_any}
+use Rattle.djq_model.specs.Data.{Bytes, Tuple}
+use Rattle.djq_model.specs.Listed.{Listed, a_union}
+use Rattle.djq_machine.specs.State.{Position, open_at, stale}
+use Rattle.djq_machine.specs.Union.{same_types}
+use Rattle.djq_cursor.specs.declared.cursor.Cursor.{Cursor}
+use Rattle.djq_union.specs.Union.{union_given, UnionFits}
+use Rattle.djq_rows.specs.Catalog.{Catalog}
+use Rattle.djq_live.specs.Live.{Live, IsKept, values_of}
+use Rattle.djq_live.specs.Member.{
+  has_cells,
+  cells_given,
+  FitsKept,
+  query_at,
+  queries_at,
+  HaveQueries,
+  head_types,
+  in_tree,
+}
+use Rattle.djq_united.specs.declared.cursors.Progress.{Progress}
+use Rattle.djq_united.specs.declared.cursors.Progress.TheVariants.{Open, Stale}
+use Rattle.djq_united.specs.Slots.{slot_at}
+
+-- Its name, the places of its members in its order, and its cursors in slots.
+pub record United : Type 0 where
+  pub name : Bytes
+  pub members : List ℕ
+  pub cursors : List (Option Progress)
+
+-- its members, of the queries in their places
+abbrev pub members_in : List (Option Live) → United → List Live
+members_in qs u = queries_at qs u.members
+
+-- what is registered
+abbrev pub union_of : List (Option Live) → United → Listed
+union_of qs u = a_union u.name (map (λ l. l.query) (members_in qs u))
+
+-- the first of some members, where there is one
+abbrev pub first_of : List Live → Option Live
+first_of [] = None
+first_of (l ∷ ls) = Some l
+
+-- something holds of the first member
+abbrev pub AtFirst : List Live → (Live → Type 0) → Type 0
+AtFirst ls P = IsSomeAnd (first_of ls) P
+
+-- whether the answers of some of these have other types than those of the first
+abbrev pub heads_differ : List Live → Bool
+heads_differ [] = false
+heads_differ (l ∷ ls) = list_any (λ m. not (same_types (head_types l) (head_types m))) ls
+
+-- the answers of all have the same types
+pub record AreAlike (ls : List Live) : Type 0 where
+  pub each : (l m : Live) → Contains ls l → Contains ls m → head_types l ≡ head_types m
+
+-- The queries in these places can be the members of a union.
+pub record AreMembers (qs : List (Option Live)) (ks : List ℕ) : Type 0 where
+  pub have : HaveQueries qs ks
+  pub several : 2 ≤ length ks
+  pub differ : AllPairs (λ j k. j ≡ k → ⊥) ks
+  pub alike : AreAlike (queries_at qs ks)
+
+-- the states of the members' listings fit them
+abbrev pub FitsMembers : List Live → List (Option Cursor) → Type 0
+FitsMembers ls cursor = UnionFits has_cells cells_given FitsKept ls cursor
+
+-- an open cursor fits the members
+abbrev pub FitsOver : List Live → Progress → Type 0
+FitsOver ls (Open cursor ended) = FitsMembers ls cursor
+FitsOver ls (Stale relation n) = ⊤
+
+-- The cursors in slots that are open fit the members.
+pub record FitAll (ls : List Live) (slots : List (Option Progress)) : Type 0 where
+  pub each : (k : ℕ) (p : Progress) → slot_at slots k ≡ Some p → FitsOver ls p
+
+-- It is the union of queries in these places, and its open cursors can go on.
+pub record IsUnited (qs : List (Option Live)) (u : United) : Type 0 where
+  pub members : AreMembers qs u.members
+  pub fits : FitAll (members_in qs u) u.cursors
+
+-- Each query in a place is kept over one catalog.
+pub record AreKept (c : Catalog) (qs : List (Option Live)) : Type 0 where
+  pub each : (k : ℕ) (l : Live) → query_at qs k ≡ Some l → IsKept c l
+
+-- the values that cells in the head's order stand for, as the first member shows them
+abbrev pub shown_cells : List Bytes → List Live → List ℕ → Tuple
+shown_cells texts [] t = []
+shown_cells texts (l ∷ ls) t = values_of texts l (in_tree l t)
+
+-- the answers that a cursor has given
+abbrev pub given_by : List Bytes → List Live → List (Option Cursor) → List Tuple
+given_by texts ls cursor =
+    map (shown_cells texts ls) (union_given has_cells cells_given ls cursor)
+
+-- where a cursor stands
+abbrev pub position_of : List Bytes → List Live → Progress → Position
+position_of texts ls (Open cursor ended) = open_at (given_by texts ls cursor) ended
+position_of texts ls (Stale r n) = stale r n

@@ -1,0 +1,37 @@
+//! The union of some registered queries: its members, its cursors, and what they give.
+//!
+//! A [`LiveUnion`] keeps a name, the places of its members, and cursors in slots. It has no tables
+//! of its own, and no queries: each call that needs them is lent the places of all queries, where
+//! the members stand. A cursor lists by djq_union what the members list by djq_live.
+//!
+//! ```text
+//! places    0 a(x,y)   1 -   2 b(u,v)   3 c(x)
+//! union u   members 0, 2
+//! a read    gives an answer of a or b, as a tuple of a's tree
+//! ```
+//!
+//! What surprises: members have numbers of their own for their variables, so a cell means nothing
+//! between them but in the order of the head. That is the coin: cells in the head's order of two
+//! members are equal exactly where they stand for equal values, since one dictionary gave all texts
+//! their numbers and the heads have the same types. What is given is then turned into the order of
+//! the first member's tree, so that whoever lends an answer of a query lends one of a union.
+//!
+//! It is no snapshot: cursors go on only while no member's tables change. Whoever changes them calls
+//! [`LiveUnion::outdate`]; what leaves them as they are leaves the cursors where they stand
+//! ([`unions_stay`]).
+//!
+//! To read first: `specs/United.antt`, what a union is over queries in places, and where its cursors
+//! stand; then `specs/Reading.antt`, what reads give.
+#![tactic(auto)]
+
+mod alike;
+mod cursors;
+mod laws;
+#[cfg(test)]
+mod tests;
+mod union;
+
+pub use alike::heads_differ;
+pub use cursors::Progress;
+pub use laws::{members_stay, stale_stand, unions_stay};
+pub use union::LiveUnion;
