@@ -1,7 +1,7 @@
 -- How chains change.
 use Rattle.std.proofs.Common.{◌≡◌, ◌≢◌, ℕ, ◌<◌, List, [], ◌∷◌, ◌++◌, length, slice_set, Option, Some, None, refl, ap, sym, ◌∙◌, length-set, get_or-set_same, get_or-set_other}
 use Rattle.djq_arena.specs.declared.chain.Pair.{Pair}
-use Rattle.djq_arena.specs.Chains.{pair_at, first_or, last_from, first_of, last_of, Linked, IsOut, AreDifferent, AreBelow, set_prev, set_next, entered, left, Differs, Avoids, Agree, trail}
+use Rattle.djq_arena.specs.Chains.{pair_at, first_or, last_from, first_of, last_of, Linked, Onward, IsOut, AreDifferent, AreBelow, set_prev, set_next, entered, left, Differs, Avoids, Agree, trail}
 use Rattle.djq_arena.proofs.Lists.{first_append, different_front, different_back, different_out, different_swap, below_out, below_front, below_back, last_differs, last_avoids, first_avoids, avoids_none}
 
 pub pair_same : (links : List Pair) (i : ℕ) (p : Pair) → i < length links → pair_at (slice_set links i p) i ≡ p
@@ -47,6 +47,27 @@ pub agree_set : (links : List Pair) (i : ℕ) (p : Pair) (xs : List ℕ) → IsO
 unfolding Agree IsOut
 agree_set links i p [] h = tt
 agree_set links i p (x ∷ xs) h = (pair_other links i x p h.0, agree_set links i p xs h.1)
+
+pub onward_same : (ls ms : List Pair) (xs : List ℕ) → Agree ls ms xs → Onward ls xs → Onward ms xs
+unfolding Onward Agree
+onward_same ls ms [] a h = tt
+onward_same ls ms (x ∷ xs) a h = (ap (λ (p : Pair). p.next) a.0 ∙ h.0, onward_same ls ms xs a.1 h.1)
+
+-- another slot before the first one
+pub onward_in : (links : List Pair) (xs : List ℕ) (i : ℕ) → IsOut i xs → i < length links → Onward links xs → Onward (set_next (Some i) (first_of xs) links) (i ∷ xs)
+unfolding Onward
+onward_in links xs i out within h =
+    let to : Pair = record { prev = (pair_at links i).prev; next = first_of xs } in
+    (ap (λ (p : Pair). p.next) (pair_same links i to within), onward_same links (slice_set links i to) xs (agree_set links i to xs out) h)
+
+-- the first one goes
+pub onward_next : (links : List Pair) (x : ℕ) (xs : List ℕ) → Onward links (x ∷ xs) → (pair_at links x).next ≡ first_of xs
+unfolding Onward
+onward_next links x xs h = h.0
+
+pub onward_rest : (links : List Pair) (x : ℕ) (xs : List ℕ) → Onward links (x ∷ xs) → Onward links xs
+unfolding Onward
+onward_rest links x xs h = h.1
 
 pub agree_trans : (ls ms ns : List Pair) (xs : List ℕ) → Agree ls ms xs → Agree ms ns xs → Agree ls ns xs
 unfolding Agree
@@ -187,3 +208,8 @@ pub trail_is : (links : List Pair) (o : Option ℕ) (xs : List ℕ) → Linked l
 unfolding Linked trail
 trail_is links o [] h = refl
 trail_is links o (x ∷ xs) h = rw h.1 (ap (λ (zs : List ℕ). x ∷ zs) (trail_is links (Some x) xs h.2))
+
+pub onward_trail : (links : List Pair) (xs : List ℕ) → Onward links xs → trail (length xs) links (first_of xs) ≡ xs
+unfolding Onward trail
+onward_trail links [] h = refl
+onward_trail links (x ∷ xs) h = rw h.0 (ap (λ (zs : List ℕ). x ∷ zs) (onward_trail links xs h.1))

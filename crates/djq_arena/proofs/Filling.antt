@@ -1,17 +1,19 @@
 -- Rows that are written into slots.
-use Rattle.std.proofs.Common.{◌≡◌, ◌≢◌, ℕ, ◌+◌, ◌-◌, ◌*◌, ◌≤◌, ◌<◌, ◌==◌, Bool, true, false, cond, List, [], ◌∷◌, ◌++◌, length, take, drop, Option, Some, None, refl, ap, ap₂, subst, sym, ◌∙◌, arith, length-append, append_assoc, inl, inr, length-take, length-drop, rules, Result, Ok, Err}
+use Rattle.std.proofs.Common.{◌≡◌, ◌≢◌, ℕ, ◌+◌, ◌-◌, ◌*◌, ◌≤◌, ◌<◌, List, [], ◌∷◌, ◌++◌, length, take, drop, Option, Some, None, refl, ap, ap₂, subst, sym, ◌∙◌, arith, length-append, inl, inr, length-take, length-drop, rules, Result, Ok, Err}
 use Rattle.std.specs.Result.{OnErr}
-use Rattle.std.proofs.lemmas.List.{append-nil, take_all, drop_at, drop-append-le, take-append-le, places, get_or_append_left, same_lists}
-use Rattle.std.proofs.lemmas.Bool.{cases_order}
+use Rattle.std.proofs.lemmas.List.{take_all, drop_at, drop-append-le, take-append-le, places, get_or_append_left, same_lists}
+use Rattle.std.proofs.lemmas.Bool.{cases_order, cases_eq}
 use Rattle.djq_arena.specs.declared.chain.Pair.{Pair}
-use Rattle.djq_arena.specs.declared.chain.Ends.{Ends}
 use Rattle.djq_arena.specs.declared.store.Store.{Store}
-use Rattle.djq_arena.specs.Chains.{pair_at, last_of, Linked, IsOut, AreDifferent, AreBelow, Agree, left, IsWithin, Avoids}
+use Rattle.djq_arena.specs.Chains.{pair_at, IsOut, AreBelow, Agree}
 use Rattle.djq_arena.specs.Rows.{Row}
-use Rattle.djq_arena.specs.Store.{chosen, is_of, class, cells_at, AreBuckets, ends_of, shrunk, IsStore, live_of, free_of, IsSound, rows_in, rows_of, IsSame, IsPrepared}
-use Rattle.djq_arena.proofs.Lists.{out_front, different_back, different_out, different_here, different_swap, below_front, below_back, below_here, below_more, below_unlike, last_avoids, avoids_none, last_within, ends_with}
-use Rattle.djq_arena.proofs.Chaining.{linked_same, left_linked, left_agree, length-left, prev_here, next_here}
-use Rattle.djq_arena.proofs.Storing.{live_is, free_is, sound, shrunk_is, some_last}
+use Rattle.djq_arena.specs.Store.{class, cells_at, bucket_of, IsStore, live_of, free_of, IsSound, rows_in, rows_of, IsSame, IsPrepared}
+use Rattle.djq_arena.specs.Buckets.{AreBuckets}
+use Rattle.djq_arena.proofs.Lists.{out_front, different_out, different_here, below_front, below_back, below_here, below_out, below_more, below_unlike, starts_with, starts_empty, below_at}
+use Rattle.djq_arena.proofs.Chaining.{linked_same, onward_same, onward_next, onward_rest}
+use Rattle.djq_arena.proofs.Following.{Keeps, keeps_append, keeps_self}
+use Rattle.djq_arena.proofs.Bucketing.{buckets_kept}
+use Rattle.djq_arena.proofs.Storing.{live_is, free_is, sound}
 
 -- the cells of a row fit before the end
 pub row_fits : (x n w : ℕ) → x < n → x * w + w ≤ n * w
@@ -22,50 +24,37 @@ unfoldable pub Alike : ℕ → List ℕ → List ℕ → List ℕ → Type 0
 Alike w old new [] = Unit {0}
 Alike w old new (x ∷ xs) = (cells_at w new x ≡ cells_at w old x) × Alike w old new xs
 
-alike_cond : (b c : Bool) (x : ℕ) (ys zs : List ℕ) → b ≡ c → ys ≡ zs → cond b (x ∷ ys) ys ≡ cond c (x ∷ zs) zs
-alike_cond b c x ys zs h k = rw (h, k) refl
+alike_both : (w : ℕ) (old new : List ℕ) (x : ℕ) (xs : List ℕ) → Alike w old new (x ∷ xs) → (cells_at w new x ≡ cells_at w old x) × Alike w old new xs
+unfolding Alike
+alike_both w old new x xs h = h
 
-pub chosen_alike : (m w : ℕ) (old new : List ℕ) (k : ℕ) (xs : List ℕ) → Alike w old new xs → chosen (is_of m w new k) xs ≡ chosen (is_of m w old k) xs
-unfolding Alike chosen is_of
-chosen_alike m w old new k [] h = refl
-chosen_alike m w old new k (x ∷ xs) h = alike_cond (is_of m w new k x) (is_of m w old k x) x (chosen (is_of m w new k) xs) (chosen (is_of m w old k) xs) (ap (λ (u : List ℕ). class m u == k) h.0) (chosen_alike m w old new k xs h.1)
+pub alike_at : (w : ℕ) (old new : List ℕ) (xs : List ℕ) (i : ℕ) → Alike w old new xs → (IsOut i xs → ⊥) → cells_at w new i ≡ cells_at w old i
+unfolding IsOut
+alike_at w old new [] i h held = absurd (held tt)
+alike_at w old new (x ∷ xs) i h held =
+    elim (cases_eq x i) [
+      | inl same ↦ subst (λ n. cells_at w new n ≡ cells_at w old n) same (alike_both w old new x xs h).0
+      | inr other ↦ alike_at w old new xs i (alike_both w old new x xs h).1 (λ out. held (other, out))
+    ]
 
 pub rows_alike : (w : ℕ) (old new : List ℕ) (xs : List ℕ) → Alike w old new xs → rows_in w new xs ≡ rows_in w old xs
 unfolding Alike rows_in
 rows_alike w old new [] h = refl
 rows_alike w old new (x ∷ xs) h = ap₂ (λ (u : List ℕ) (rs : List Row). record { slot = x; cells = u } ∷ rs) h.0 (rows_alike w old new xs h.1)
 
-agree_cond : (b : Bool) (ls ms : List Pair) (x : ℕ) (xs : List ℕ) → pair_at ms x ≡ pair_at ls x → Agree ls ms xs → Agree ls ms (cond b (x ∷ xs) xs)
-unfolding Agree
-agree_cond true ls ms x xs h k = (h, k)
-agree_cond false ls ms x xs h k = k
-
-pub agree_chosen : (p : ℕ → Bool) (ls ms : List Pair) (xs : List ℕ) → Agree ls ms xs → Agree ls ms (chosen p xs)
-unfolding Agree chosen
-agree_chosen p ls ms [] h = tt
-agree_chosen p ls ms (x ∷ xs) h = agree_cond (p x) ls ms x (chosen p xs) h.0 (agree_chosen p ls ms xs h.1)
-
 pub agree_append : (ls : List Pair) (p : Pair) (xs : List ℕ) → AreBelow (length ls) xs → Agree ls (ls ++ p ∷ []) xs
 unfolding Agree AreBelow
 agree_append ls p [] h = tt
 agree_append ls p (x ∷ xs) h = (get_or_append_left ls (p ∷ []) (record { prev = None; next = None }) x h.0, agree_append ls p xs h.1)
 
-pub agree_self : (ls : List Pair) (xs : List ℕ) → Agree ls ls xs
-unfolding Agree
-agree_self ls [] = tt
-agree_self ls (x ∷ xs) = (refl, agree_self ls xs)
-
-pub buckets_moved : (m w : ℕ) (old new : List ℕ) (bucket more : List Pair) (heads : List (Option ℕ)) (xs : List ℕ) → AreBuckets m w old bucket heads xs → Alike w old new xs → Agree bucket more xs → AreBuckets m w new more heads xs
-buckets_moved m w old new bucket more heads xs b h a = record {
-  long = b.long;
-  chained = λ k inside. rw (chosen_alike m w old new k xs h) (linked_same bucket more None (chosen (is_of m w old k) xs) None (agree_chosen (is_of m w old k) bucket more xs a) (b.chained k inside));
-  headed = λ k inside. rw (chosen_alike m w old new k xs h) (b.headed k inside);
-}
+pub buckets_moved : (m w : ℕ) (old new : List ℕ) (bucket more heads : List (Option ℕ)) (xs : List ℕ) → AreBuckets (bucket_of m w old) bucket heads xs → Alike w old new xs → Keeps bucket more xs → AreBuckets (bucket_of m w new) more heads xs
+buckets_moved m w old new bucket more heads xs b h k =
+    buckets_kept (bucket_of m w old) (bucket_of m w new) bucket more heads xs b (λ i held. ap (class m) (alike_at w old new xs i h held)) k
 
 -- a new slot
 pub record Extends (a b : Store) (u : List ℕ) : Type 0 where
   pub pair : Pair
-  pub other : Pair
+  pub other : Option ℕ
   pub width : b.width ≡ a.width
   pub cells : b.cells.items ≡ a.cells.items ++ u
   pub order : b.order.items ≡ a.order.items ++ pair ∷ []
@@ -100,12 +89,12 @@ extend_store a b xs fs u h e wide room = record {
   apart = h.apart;
   below = subst (λ n. AreBelow n (xs ++ fs)) (sym longer) (below_more (length a.order.items) (length a.order.items + 1) (xs ++ fs) (omega arith) h.below);
   order = rw e.order (linked_same a.order.items (a.order.items ++ e.pair ∷ []) None xs None (agree_append a.order.items e.pair xs (below_front (length a.order.items) xs fs h.below)) h.order);
-  rest = rw e.order (linked_same a.order.items (a.order.items ++ e.pair ∷ []) None fs None (agree_append a.order.items e.pair fs (below_back (length a.order.items) xs fs h.below)) h.rest);
+  rest = rw e.order (onward_same a.order.items (a.order.items ++ e.pair ∷ []) fs (agree_append a.order.items e.pair fs (below_back (length a.order.items) xs fs h.below)) h.rest);
   buckets = rw (e.heads, e.width, e.cells, e.bucket) (buckets_moved (length a.heads.items) a.width a.cells.items (a.cells.items ++ u) a.bucket.items (a.bucket.items ++ e.other ∷ []) a.heads.items xs h.buckets
       (rows_stay a.width a.cells.items u (length a.order.items) xs h.cells (below_front (length a.order.items) xs fs h.below))
-      (agree_append a.bucket.items e.other xs (rw h.pairs (below_front (length a.order.items) xs fs h.below))));
+      (keeps_append a.bucket.items e.other xs (λ i held. below_at (length a.bucket.items) i xs (rw h.pairs (below_front (length a.order.items) xs fs h.below)) held)));
   some = rw e.heads h.some;
-  pairs = ap (λ (ls : List Pair). length ls) e.bucket ∙ length-append a.bucket.items (e.other ∷ []) ∙ ap (λ (n : ℕ). n + 1) h.pairs ∙ sym longer;
+  pairs = ap (λ (os : List (Option ℕ)). length os) e.bucket ∙ length-append a.bucket.items (e.other ∷ []) ∙ ap (λ (n : ℕ). n + 1) h.pairs ∙ sym longer;
   cells = ap (λ (ls : List ℕ). length ls) e.cells ∙ length-append a.cells.items u ∙ grown ∙ sym (ap₂ (λ (n w : ℕ). n * w) longer e.width);
   room = omega (arith, h.room, longer, e.len, e.spare);
   numbers = omega (arith, longer, room);
@@ -207,11 +196,11 @@ part_here cells from u w h k = same_lists _ _ (search (rules, places)) (λ i d l
 pub record Reuses (a b : Store) (i : ℕ) (u : List ℕ) : Type 0 where
   pub width : b.width ≡ a.width
   pub cells : b.cells.items ≡ take (i * a.width) a.cells.items ++ u ++ drop (i * a.width + length u) a.cells.items
-  pub order : b.order.items ≡ left (pair_at a.order.items i) a.order.items
+  pub order : b.order.items ≡ a.order.items
   pub live : b.live ≡ a.live
   pub bucket : b.bucket.items ≡ a.bucket.items
   pub heads : b.heads.items ≡ a.heads.items
-  pub free : b.free ≡ shrunk (pair_at a.order.items i) a.free
+  pub free : b.free ≡ (pair_at a.order.items i).next
   pub len : b.len ≡ a.len
   pub spare : b.spare ≡ a.spare - 1
 
@@ -240,33 +229,18 @@ written_is : (cells : List ℕ) (from : ℕ) (u : List ℕ) → written cells fr
 unfolding written
 written_is cells from u = refl
 
-module _ (a b : Store) (xs gs : List ℕ) (i : ℕ) (u : List ℕ) (h : IsStore a xs (gs ++ i ∷ [])) (r : Reuses a b i u) (wide : length u ≡ a.width) where
+module _ (a b : Store) (xs gs : List ℕ) (i : ℕ) (u : List ℕ) (h : IsStore a xs (i ∷ gs)) (r : Reuses a b i u) (wide : length u ≡ a.width) where
   reuse_cells : b.cells.items ≡ written a.cells.items (i * a.width) u
   reuse_cells = r.cells ∙ sym (written_is a.cells.items (i * a.width) u)
 
-  reuse_apart : AreDifferent ((xs ++ gs) ++ i ∷ [])
-  reuse_apart = subst AreDifferent (sym (append_assoc xs gs (i ∷ []))) h.apart
-
-  reuse_below : AreBelow (length a.order.items) ((xs ++ gs) ++ i ∷ [])
-  reuse_below = subst (AreBelow (length a.order.items)) (sym (append_assoc xs gs (i ∷ []))) h.below
-
   reuse_within : i < length a.order.items
-  reuse_within = below_here (length a.order.items) (xs ++ gs) i [] reuse_below
+  reuse_within = below_here (length a.order.items) xs i gs h.below
 
   reuse_out : IsOut i (xs ++ gs)
-  reuse_out = subst (IsOut i) (append-nil (xs ++ gs)) (different_here (xs ++ gs) i [] reuse_apart)
-
-  reuse_different : AreDifferent (xs ++ gs)
-  reuse_different = subst AreDifferent (append-nil (xs ++ gs)) (different_out (xs ++ gs) i [] reuse_apart)
+  reuse_out = different_here xs i gs h.apart
 
   reuse_inside : AreBelow (length a.order.items) (xs ++ gs)
-  reuse_inside = below_front (length a.order.items) (xs ++ gs) (i ∷ []) reuse_below
-
-  reuse_prev : (pair_at a.order.items i).prev ≡ last_of gs
-  reuse_prev = prev_here a.order.items gs i [] h.rest
-
-  reuse_next : (pair_at a.order.items i).next ≡ None
-  reuse_next = next_here a.order.items gs i [] h.rest
+  reuse_inside = below_out (length a.order.items) xs i gs h.below
 
   reuse_alike : Alike a.width a.cells.items (written a.cells.items (i * a.width) u) xs
   reuse_alike = rows_kept a.width a.cells.items i u (length a.order.items) xs h.cells wide reuse_within (below_front (length a.order.items) xs gs reuse_inside) (out_front i xs gs reuse_out)
@@ -277,22 +251,19 @@ module _ (a b : Store) (xs gs : List ℕ) (i : ℕ) (u : List ℕ) (h : IsStore 
   reuse_store : IsStore b xs gs
   reuse_store = record {
     live = r.live ∙ h.live;
-    free = r.free ∙ ap (shrunk (pair_at a.order.items i)) h.free ∙ shrunk_is (pair_at a.order.items i) gs i [] reuse_prev reuse_next ∙ ap ends_of (append-nil gs);
+    free = r.free ∙ onward_next a.order.items i gs h.rest;
     count = h.count ∙ sym r.len;
-    spare = omega (arith, h.spare, length-append gs (i ∷ []), r.spare);
-    apart = reuse_different;
-    below = rw (r.order, length-left) reuse_inside;
-    order = rw r.order (linked_same a.order.items (left (pair_at a.order.items i) a.order.items) None xs None
-        (left_agree a.order.items (pair_at a.order.items i) xs (subst (λ o. Avoids o xs) (sym reuse_prev) (last_avoids None gs xs (avoids_none xs) (different_swap xs gs reuse_different))) (subst (λ o. Avoids o xs) (sym reuse_next) (avoids_none xs)))
-        h.order);
-    rest = rw r.order (subst (λ zs. Linked (left (pair_at a.order.items i) a.order.items) None zs None) (append-nil gs)
-        (left_linked a.order.items gs i [] (different_back xs (gs ++ i ∷ []) h.apart) (below_back (length a.order.items) xs (gs ++ i ∷ []) h.below) h.rest));
-    buckets = rw (r.heads, r.width, reuse_cells, r.bucket) (buckets_moved (length a.heads.items) a.width a.cells.items (written a.cells.items (i * a.width) u) a.bucket.items a.bucket.items a.heads.items xs h.buckets reuse_alike (agree_self a.bucket.items xs));
+    spare = omega (arith, h.spare, r.spare);
+    apart = different_out xs i gs h.apart;
+    below = rw r.order reuse_inside;
+    order = rw r.order h.order;
+    rest = rw r.order (onward_rest a.order.items i gs h.rest);
+    buckets = rw (r.heads, r.width, reuse_cells, r.bucket) (buckets_moved (length a.heads.items) a.width a.cells.items (written a.cells.items (i * a.width) u) a.bucket.items a.bucket.items a.heads.items xs h.buckets reuse_alike (keeps_self a.bucket.items xs));
     some = rw r.heads h.some;
-    pairs = rw (r.bucket, r.order, length-left) h.pairs;
-    cells = rw (reuse_cells, r.width, r.order, length-left, reuse_long) h.cells;
-    room = rw (r.len, r.spare, r.order, length-left) (omega (arith, h.room));
-    numbers = rw (r.order, length-left) h.numbers;
+    pairs = rw (r.bucket, r.order) h.pairs;
+    cells = rw (reuse_cells, r.width, r.order, reuse_long) h.cells;
+    room = rw (r.len, r.spare, r.order) (omega (arith, h.room));
+    numbers = rw r.order h.numbers;
   }
 
   reuse_rows : live_of b ≡ live_of a → live_of a ≡ xs → rows_of b ≡ rows_of a
@@ -307,36 +278,31 @@ module _ (a b : Store) (xs gs : List ℕ) (i : ℕ) (u : List ℕ) (h : IsStore 
         sound = sound b xs gs reuse_store;
         loose = record {
           out = rw (live_is b xs gs reuse_store, free_is b xs gs reuse_store) reuse_out;
-          within = rw (r.order, length-left) reuse_within;
-          room = rw (r.len, r.spare, r.order, length-left) (omega (arith, h.room, h.spare, length-append gs (i ∷ [])));
+          within = rw r.order reuse_within;
+          room = rw (r.len, r.spare, r.order) (omega (arith, h.room, h.spare));
         };
         live = live;
         width = r.width;
         here = rw (r.width, reuse_cells) (row_written a.width a.cells.items i u (length a.order.items) h.cells wide reuse_within);
         rows = reuse_rows live is;
-        slots = ap (λ (ls : List Pair). length ls) r.order ∙ length-left a.order.items (pair_at a.order.items i) ∙ omega (arith, reuse_within);
+        slots = ap (λ (ls : List Pair). length ls) r.order ∙ omega (arith, reuse_within);
         fits = omega (arith, reuse_within);
-        alone = λ tidy. ap (λ (ls : List Pair). length ls) r.order ∙ length-left a.order.items (pair_at a.order.items i) ∙ omega (arith, tidy, r.len, r.spare, h.spare, length-append gs (i ∷ []));
+        alone = λ tidy. ap (λ (ls : List Pair). length ls) r.order ∙ omega (arith, tidy, r.len, r.spare, h.spare);
       }
 
-pub reuses : (a b : Store) (i : ℕ) (u : List ℕ) → IsSound a → a.free.last ≡ Some i → Reuses a b i u → length u ≡ a.width → IsPrepared a b i u
+pub reuses : (a b : Store) (i : ℕ) (u : List ℕ) → IsSound a → a.free ≡ Some i → Reuses a b i u → length u ≡ a.width → IsPrepared a b i u
 reuses a b i u h newest r wide =
-    let e = ends_with (free_of a) i (ap (λ (v : Ends). v.last) (sym h.store.free) ∙ newest) in
-    reuse_prepared a b (live_of a) e.front i u (subst (IsStore a (live_of a)) e.is h.store) r wide refl
+    let e = starts_with (free_of a) i (sym h.store.free ∙ newest) in
+    reuse_prepared a b (live_of a) e.back i u (subst (IsStore a (live_of a)) e.is h.store) r wide refl
 
 -- what is asked of the newest free slot
-pub newest_free : (a : Store) (i : ℕ) → IsSound a → a.free.last ≡ Some i → (i < length a.order.items) × IsWithin (length a.order.items) (pair_at a.order.items i).prev × IsWithin (length a.order.items) (pair_at a.order.items i).next
+pub newest_free : (a : Store) (i : ℕ) → IsSound a → a.free ≡ Some i → i < length a.order.items
 newest_free a i h newest =
-    let e = ends_with (free_of a) i (ap (λ (v : Ends). v.last) (sym h.store.free) ∙ newest) in
-    let s = subst (IsStore a (live_of a)) e.is h.store in
-    let below = below_back (length a.order.items) (live_of a) (e.front ++ i ∷ []) s.below in (
-      below_here (length a.order.items) e.front i [] below,
-      rw (prev_here a.order.items e.front i [] s.rest) (last_within (length a.order.items) None e.front tt (below_front (length a.order.items) e.front (i ∷ []) below)),
-      rw (next_here a.order.items e.front i [] s.rest) tt,
-    )
+    let e = starts_with (free_of a) i (sym h.store.free ∙ newest) in
+    below_here (length a.order.items) (live_of a) i e.back (subst (λ fs. AreBelow (length a.order.items) (live_of a ++ fs)) e.is h.store.below)
 
-pub newest_fits : (a : Store) (i : ℕ) (u : List ℕ) → IsSound a → a.free.last ≡ Some i → length u ≡ a.width → i * a.width + length u ≤ length a.cells.items
-newest_fits a i u h newest wide = omega (arith, row_fits i (length a.order.items) a.width (newest_free a i h newest).0, h.store.cells, wide)
+pub newest_fits : (a : Store) (i : ℕ) (u : List ℕ) → IsSound a → a.free ≡ Some i → length u ≡ a.width → i * a.width + length u ≤ length a.cells.items
+newest_fits a i u h newest wide = omega (arith, row_fits i (length a.order.items) a.width (newest_free a i h newest), h.store.cells, wide)
 
 -- what holds anyway holds on an error
 pub on_err : {T E : Type 0} (r : Result T E) (P : Type 0) → P → OnErr r P
@@ -347,9 +313,5 @@ pub extends_at : (a b : Store) (u : List ℕ) (n : ℕ) → length a.order.items
 extends_at a b u n long h e wide room = subst (λ m. IsPrepared a b m u) long (extends a b u h e wide (omega (arith, long, room)))
 
 -- where no slot is free, each one holds a row
-pub none_free : (a : Store) → IsSound a → a.free.last ≡ None → a.spare ≡ 0
-none_free a h none = sym h.store.spare ∙ no_last (free_of a) (sym (ap (λ (e : Ends). e.last) h.store.free) ∙ none)
-  where
-    no_last : (xs : List ℕ) → last_of xs ≡ None → length xs ≡ 0
-    no_last [] l = refl
-    no_last (x ∷ xs) l = absurd (some_last x xs l)
+pub none_free : (a : Store) → IsSound a → a.free ≡ None → a.spare ≡ 0
+none_free a h none = sym h.store.spare ∙ ap (λ (xs : List ℕ). length xs) (starts_empty (free_of a) (sym h.store.free ∙ none))

@@ -1,6 +1,7 @@
 pub mod Lists
 pub mod Chaining
-pub mod Choosing
+pub mod Following
+pub mod Bucketing
 pub mod Storing
 pub mod Filling
 pub mod Growing

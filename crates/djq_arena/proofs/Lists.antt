@@ -1,6 +1,8 @@
 -- Lists of slots: who stands in them, and who stands first and last.
-use Rattle.std.proofs.Common.{◌≡◌, ℕ, ◌≤◌, ◌<◌, List, [], ◌∷◌, ◌++◌, Option, Some, None, refl, ap, sym, arith}
+use Rattle.std.proofs.Common.{◌≡◌, ◌⊎◌, ℕ, ◌≤◌, ◌<◌, List, [], ◌∷◌, ◌++◌, length, Option, Some, None, refl, ap, subst, sym, arith, inl, inr, length-append}
+use Rattle.std.proofs.lemmas.Bool.{cases_eq}
 use Rattle.djq_arena.specs.Chains.{first_or, last_from, first_of, last_of, IsOut, AreDifferent, AreBelow, IsWithin, Differs, Avoids, AreOut}
+use Rattle.djq_arena.specs.Store.{Holds}
 
 pub first_append : (xs ys : List ℕ) (o : Option ℕ) → first_or (xs ++ ys) o ≡ first_or xs (first_or ys o)
 first_append [] ys o = refl
@@ -68,11 +70,11 @@ unfolding AreDifferent IsOut
 different_here [] y ys h = h.0
 different_here (x ∷ xs) y ys h = ((λ k. unlike_middle x xs y ys h.0 (sym k)), different_here xs y ys h.1)
 
-out_first : (x : ℕ) (xs : List ℕ) (y : ℕ) → IsOut y (x ∷ xs) → x ≡ y → ⊥
+pub out_first : (x : ℕ) (xs : List ℕ) (y : ℕ) → IsOut y (x ∷ xs) → x ≡ y → ⊥
 unfolding IsOut
 out_first x xs y h = h.0
 
-out_rest : (x : ℕ) (xs : List ℕ) (y : ℕ) → IsOut y (x ∷ xs) → IsOut y xs
+pub out_rest : (x : ℕ) (xs : List ℕ) (y : ℕ) → IsOut y (x ∷ xs) → IsOut y xs
 unfolding IsOut
 out_rest x xs y h = h.1
 
@@ -206,13 +208,14 @@ pub ends_with : (xs : List ℕ) (i : ℕ) → last_of xs ≡ Some i → Ending x
 ends_with [] i h = absurd cc
 ends_with (x ∷ xs) i h = ending xs i x h
 
-some_last : (x : ℕ) (xs : List ℕ) → last_from (Some x) xs ≡ None → ⊥
-some_last x [] h = cc
-some_last x (y ∷ xs) h = some_last y xs h
+-- a list that starts with i
+pub record Starting (xs : List ℕ) (i : ℕ) : Type 0 where
+  pub back : List ℕ
+  pub is : xs ≡ i ∷ back
 
-pub ends_empty : (xs : List ℕ) → last_of xs ≡ None → xs ≡ []
-ends_empty [] h = refl
-ends_empty (x ∷ xs) h = absurd (some_last x xs h)
+pub starts_with : (xs : List ℕ) (i : ℕ) → first_of xs ≡ Some i → Starting xs i
+starts_with [] i h = cc
+starts_with (x ∷ xs) i h = record { back = xs; is = cc }
 
 pub starts_empty : (xs : List ℕ) → first_of xs ≡ None → xs ≡ []
 starts_empty [] h = refl
@@ -226,3 +229,58 @@ pub without_middle : (xs ys zs : List ℕ) → AreDifferent (xs ++ (ys ++ zs)) �
 unfolding AreDifferent
 without_middle [] ys zs h = different_back ys zs h
 without_middle (x ∷ xs) ys zs h = (out_middles x xs ys zs h.0, without_middle xs ys zs h.1)
+
+-- a slot is in a list, or out of it
+holds_more : (x : ℕ) (xs : List ℕ) (i : ℕ) → Holds xs i → Holds (x ∷ xs) i
+holds_more x xs i h = record { front = x ∷ h.front; back = h.back; is = ap (λ (zs : List ℕ). x ∷ zs) h.is }
+
+pub in_or_out : (i : ℕ) (xs : List ℕ) → Holds xs i ⊎ IsOut i xs
+unfolding IsOut
+in_or_out i [] = inr tt
+in_or_out i (x ∷ xs) =
+    elim (cases_eq x i) [
+      | inl here ↦ inl (record { front = []; back = xs; is = ap (λ (n : ℕ). n ∷ xs) here })
+      | inr other ↦ elim (in_or_out i xs) [ inl later ↦ inl (holds_more x xs i later) | inr out ↦ inr (other, out) ]
+    ]
+
+pub holds_in : (i : ℕ) (xs : List ℕ) → (IsOut i xs → ⊥) → Holds xs i
+holds_in i xs h = elim (in_or_out i xs) [ inl held ↦ held | inr out ↦ absurd (h out) ]
+
+pub held_not_out : (i : ℕ) (xs : List ℕ) → Holds xs i → IsOut i xs → ⊥
+held_not_out i xs held out = out_here i held.front held.back (subst (IsOut i) held.is out)
+
+pub not_first_out : (x : ℕ) (xs : List ℕ) → IsOut x (x ∷ xs) → ⊥
+unfolding IsOut
+not_first_out x xs h = h.0 refl
+
+pub out_more : (i x : ℕ) (xs : List ℕ) → (x ≡ i → ⊥) → IsOut i xs → IsOut i (x ∷ xs)
+unfolding IsOut
+out_more i x xs h k = (h, k)
+
+pub below_at : (n i : ℕ) (xs : List ℕ) → AreBelow n xs → (IsOut i xs → ⊥) → i < n
+below_at n i xs b h = let held = holds_in i xs h in below_here n held.front i held.back (subst (AreBelow n) held.is b)
+
+pub all_below : (n : ℕ) (zs xs : List ℕ) → ((i : ℕ) → IsOut i xs → IsOut i zs) → AreBelow n xs → AreBelow n zs
+unfolding AreBelow IsOut
+all_below n [] xs h b = tt
+all_below n (z ∷ zs) xs h b = (below_at n z xs b (λ out. (h z out).0 refl), all_below n zs xs (λ i out. (h i out).1) b)
+
+-- a list without repeats is no longer than one that has all of it
+pub no_longer : (zs ys : List ℕ) → AreDifferent zs → ((i : ℕ) → IsOut i ys → IsOut i zs) → length zs ≤ length ys
+unfolding AreDifferent IsOut
+no_longer [] ys d h = omega arith
+no_longer (z ∷ zs) ys d h =
+    let held = holds_in z ys (λ out. (h z out).0 refl) in
+    let rest = no_longer zs (held.front ++ held.back) d.1 (λ i out.
+    elim (cases_eq z i) [
+      | inl same ↦ subst (λ n. IsOut n zs) same d.0
+      | inr other ↦ (h i (subst (IsOut i) (sym held.is) (out_middle i held.front z held.back other out))).1
+    ]) in
+    omega (arith, rest, ap (λ (xs : List ℕ). length xs) held.is, length-append held.front (z ∷ held.back), length-append held.front held.back)
+
+-- out of a list, wherever one of it stands
+pub out_last : (j i : ℕ) (xs : List ℕ) → IsOut j (i ∷ xs) → IsOut j (xs ++ i ∷ [])
+out_last j i xs h = out_swap j (i ∷ []) xs h
+
+pub out_to_front : (j : ℕ) (xs : List ℕ) (i : ℕ) (ys : List ℕ) → IsOut j (xs ++ i ∷ ys) → IsOut j (i ∷ (xs ++ ys))
+out_to_front j xs i ys h = out_more j i (xs ++ ys) (out_first i ys j (out_back j xs (i ∷ ys) h)) (out_less j xs i ys h)

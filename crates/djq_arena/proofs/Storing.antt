@@ -1,13 +1,15 @@
 -- How a store changes.
-use Rattle.std.proofs.Common.{◌≡◌, ℕ, ◌+◌, ◌-◌, ◌<◌, List, [], ◌∷◌, ◌++◌, length, slice_set, slice_index_or, Option, Some, None, refl, ap, ap₂, subst, sym, ◌∙◌, arith, length-append, length-set, append_assoc}
-use Rattle.std.proofs.lemmas.List.{append-nil, get_or_default}
+use Rattle.std.proofs.Common.{◌≡◌, ℕ, ◌+◌, ◌-◌, ◌<◌, List, [], ◌∷◌, ◌++◌, length, slice_set, Option, Some, None, refl, ap, ap₂, subst, sym, ◌∙◌, arith, length-append, length-set, append_assoc}
+use Rattle.std.proofs.lemmas.List.{append-nil}
 use Rattle.djq_arena.specs.declared.chain.Pair.{Pair}
+use Rattle.djq_arena.specs.declared.chain.Ends.{Ends}
 use Rattle.djq_arena.specs.declared.store.Store.{Store}
-use Rattle.djq_arena.specs.Chains.{pair_at, last_from, first_of, last_of, Linked, IsOut, AreDifferent, AreBelow, entered, left, IsWithin, Avoids}
-use Rattle.djq_arena.specs.Store.{class, cells_at, AreBuckets, unheaded, ends_of, extended, shrunk, beside, IsStore, live_of, free_of, IsSound, IsLoose, IsLinked, IsUnlinked, IsReleased, Holds}
-use Rattle.djq_arena.proofs.Lists.{last_append, out_front, out_back, different_front, different_back, different_out, different_in, different_here, different_swap, below_front, below_back, below_out, below_in, below_here, last_avoids, avoids_none, first_avoids, last_within, first_within, without_middle}
-use Rattle.djq_arena.proofs.Chaining.{linked_same, entered_linked, entered_agree, left_linked, left_agree, length-entered, length-left, prev_here, next_here, trail_is}
-use Rattle.djq_arena.proofs.Choosing.{entered_buckets, left_buckets, length-unheaded, its_prev, its_head}
+use Rattle.djq_arena.specs.Chains.{pair_at, last_from, first_of, last_of, Linked, Onward, IsOut, AreDifferent, AreBelow, set_next, entered, left, IsWithin, Avoids}
+use Rattle.djq_arena.specs.Store.{class, cells_at, bucket_of, ends_of, extended, shrunk, beside, IsStore, live_of, free_of, IsSound, IsLoose, IsLinked, IsUnlinked, IsReleased, IsRenewed, Holds}
+use Rattle.djq_arena.specs.Buckets.{link_at, AreBuckets, Stands, IsUnlisted}
+use Rattle.djq_arena.proofs.Lists.{last_append, out_front, out_back, out_swap, out_last, out_to_front, out_middle, out_first, out_rest, held_not_out, different_front, different_back, different_out, different_in, different_here, below_front, below_back, below_out, below_in, below_here, last_avoids, avoids_none, avoids_some, first_avoids, last_within, first_within, without_middle}
+use Rattle.djq_arena.proofs.Chaining.{linked_same, entered_linked, entered_agree, left_linked, left_agree, length-entered, length-left, length-set_next, agree_next, prev_here, next_here, trail_is, onward_same, onward_in, onward_trail}
+use Rattle.djq_arena.proofs.Bucketing.{buckets_same, listed_buckets, bucket_stands, unlisted_links, unlisted_heads, unlisted_buckets}
 
 -- the lists that a store's fields show are its lists
 pub live_is : (s : Store) (xs fs : List ℕ) → IsStore s xs fs → live_of s ≡ xs
@@ -16,7 +18,7 @@ live_is s xs fs h = rw (h.live, ← h.count) (trail_is s.order.items None xs h.o
 
 pub free_is : (s : Store) (xs fs : List ℕ) → IsStore s xs fs → free_of s ≡ fs
 unfolding free_of
-free_is s xs fs h = rw (h.free, ← h.spare) (trail_is s.order.items None fs h.rest)
+free_is s xs fs h = rw (h.free, ← h.spare) (onward_trail s.order.items fs h.rest)
 
 pub sound : (s : Store) (xs fs : List ℕ) → IsStore s xs fs → IsSound s
 sound s xs fs h = record { store = subst (λ ys. IsStore s ys (free_of s)) (sym (live_is s xs fs h)) (subst (IsStore s xs) (sym (free_is s xs fs h)) h) }
@@ -32,7 +34,7 @@ pub record Relinks (a b : Store) (i k : ℕ) : Type 0 where
   pub cells : b.cells.items ≡ a.cells.items
   pub order : b.order.items ≡ entered a.live.last i a.order.items
   pub live : b.live ≡ extended i a.live
-  pub bucket : b.bucket.items ≡ entered (slice_index_or a.heads.items k None) i a.bucket.items
+  pub bucket : b.bucket.items ≡ slice_set a.bucket.items i (link_at a.heads.items k)
   pub heads : b.heads.items ≡ slice_set a.heads.items k (Some i)
   pub free : b.free ≡ a.free
   pub len : b.len ≡ a.len + 1
@@ -48,20 +50,26 @@ link_store a b xs fs i k h r out within room inside its = record {
   apart = rw append_assoc (different_in xs i fs h.apart out);
   below = rw (r.order, length-entered, append_assoc) (below_in (length a.order.items) xs i fs within h.below);
   order = rw (r.order, h.live) (entered_linked a.order.items xs i (different_front xs fs h.apart) (below_front (length a.order.items) xs fs h.below) (out_front i xs fs out) within h.order);
-  rest = rw (r.order, h.live) (linked_same a.order.items (entered (last_of xs) i a.order.items) None fs None (entered_agree a.order.items (last_of xs) i fs (last_avoids None xs fs (avoids_none fs) h.apart) (out_back i xs fs out)) h.rest);
+  rest = rw (r.order, h.live) (onward_same a.order.items (entered (last_of xs) i a.order.items) fs (entered_agree a.order.items (last_of xs) i fs (last_avoids None xs fs (avoids_none fs) h.apart) (out_back i xs fs out)) h.rest);
   buckets = buckets_are;
   some = rw (r.heads, length-set) h.some;
-  pairs = rw (r.bucket, r.order, length-entered, length-entered) h.pairs;
+  pairs = rw (r.bucket, r.order, length-entered, length-set) h.pairs;
   cells = rw (r.cells, r.width, r.order, length-entered) h.cells;
   room = rw (r.len, r.spare, r.order, length-entered) (omega (arith, room));
   numbers = rw (r.order, length-entered) h.numbers;
 }
   where
-    pairs_below : AreBelow (length a.bucket.items) xs
-    pairs_below = rw h.pairs (below_front (length a.order.items) xs fs h.below)
+    falls : ℕ → ℕ
+    falls = bucket_of (length a.heads.items) a.width a.cells.items
 
-    buckets_are : AreBuckets (length b.heads.items) b.width b.cells.items b.bucket.items b.heads.items (xs ++ i ∷ [])
-    buckets_are = rw (r.heads, length-set, r.width, r.cells, r.bucket) (entered_buckets (length a.heads.items) a.width a.cells.items a.bucket.items a.heads.items xs i k h.buckets (different_front xs fs h.apart) pairs_below (out_front i xs fs out) (rw h.pairs within) inside its)
+    length_heads : length b.heads.items ≡ length a.heads.items
+    length_heads = ap (λ (os : List (Option ℕ)). length os) r.heads ∙ length-set a.heads.items k (Some i)
+
+    listed : AreBuckets falls b.bucket.items b.heads.items (i ∷ xs)
+    listed = rw (r.bucket, r.heads) (listed_buckets falls a.bucket.items a.heads.items xs i k h.buckets (out_front i xs fs out) (rw h.pairs within) inside (sym its))
+
+    buckets_are : AreBuckets (bucket_of (length b.heads.items) b.width b.cells.items) b.bucket.items b.heads.items (xs ++ i ∷ [])
+    buckets_are = rw (length_heads, r.width, r.cells) (buckets_same falls b.bucket.items b.heads.items (i ∷ xs) (xs ++ i ∷ []) listed (λ j away. out_last j i xs away) (λ j away. out_swap j xs (i ∷ []) away))
 
 pub links : (a b : Store) (i k : ℕ) → IsSound a → IsLoose a i → Relinks a b i k → k < length a.heads.items → k ≡ class (length a.heads.items) (cells_at a.width a.cells.items i) → IsLinked a b i
 links a b i k h l r inside its =
@@ -76,9 +84,6 @@ links a b i k h l r inside its =
 -- what is asked where a slot comes in
 pub last_in_order : (a : Store) → IsSound a → IsWithin (length a.order.items) a.live.last
 last_in_order a h = rw h.store.live (last_within (length a.order.items) None (live_of a) tt (below_front (length a.order.items) (live_of a) (free_of a) h.store.below))
-
-pub last_in_free : (a : Store) → IsSound a → IsWithin (length a.order.items) a.free.last
-last_in_free a h = rw h.store.free (last_within (length a.order.items) None (free_of a) tt (below_back (length a.order.items) (live_of a) (free_of a) h.store.below))
 
 beside_some : (o n e : Option ℕ) → (o ≡ None → ⊥) → beside o n e ≡ e
 beside_some None n e h = absurd (h refl)
@@ -105,8 +110,7 @@ pub record Unlinks (a b : Store) (i k : ℕ) : Type 0 where
   pub cells : b.cells.items ≡ a.cells.items
   pub order : b.order.items ≡ left (pair_at a.order.items i) a.order.items
   pub live : b.live ≡ shrunk (pair_at a.order.items i) a.live
-  pub bucket : b.bucket.items ≡ left (pair_at a.bucket.items i) a.bucket.items
-  pub heads : b.heads.items ≡ unheaded (pair_at a.bucket.items i) k a.heads.items
+  pub bucket : IsUnlisted a.bucket.items b.bucket.items a.heads.items b.heads.items k i
   pub free : b.free ≡ a.free
   pub len : b.len ≡ a.len - 1
   pub spare : b.spare ≡ a.spare
@@ -121,12 +125,12 @@ unlink_store a b xs i ys fs k h u inside its = record {
   apart = rw append_assoc (different_out xs i (ys ++ fs) apart_all);
   below = rw (u.order, length-left, append_assoc) (below_out (length a.order.items) xs i (ys ++ fs) below_all);
   order = rw u.order (left_linked a.order.items xs i ys (different_front (xs ++ i ∷ ys) fs h.apart) (below_front (length a.order.items) (xs ++ i ∷ ys) fs h.below) h.order);
-  rest = rw u.order (linked_same a.order.items (left (pair_at a.order.items i) a.order.items) None fs None
+  rest = rw u.order (onward_same a.order.items (left (pair_at a.order.items i) a.order.items) fs
       (left_agree a.order.items (pair_at a.order.items i) fs (subst (λ o. Avoids o fs) (sym prev) (last_avoids None xs fs (avoids_none fs) apart_front)) (subst (λ o. Avoids o fs) (sym next) (first_avoids ys fs apart_back)))
       h.rest);
   buckets = buckets_are;
-  some = rw (u.heads, length-unheaded) h.some;
-  pairs = rw (u.bucket, u.order, length-left (a.bucket.items), length-left (a.order.items)) h.pairs;
+  some = rw length_heads h.some;
+  pairs = rw (unlisted_links a.bucket.items b.bucket.items a.heads.items b.heads.items k i u.bucket, u.order, length-left) h.pairs;
   cells = rw (u.cells, u.width, u.order, length-left) h.cells;
   room = rw (u.len, u.spare, u.order, length-left) (omega (arith, h.room));
   numbers = rw (u.order, length-left) h.numbers;
@@ -153,8 +157,18 @@ unlink_store a b xs i ys fs k h u inside its = record {
     apart_front : AreDifferent (xs ++ fs)
     apart_front = without_middle xs ys fs (different_out xs i (ys ++ fs) apart_all)
 
-    buckets_are : AreBuckets (length b.heads.items) b.width b.cells.items b.bucket.items b.heads.items (xs ++ ys)
-    buckets_are = rw (u.heads, length-unheaded, u.width, u.cells, u.bucket) (left_buckets (length a.heads.items) a.width a.cells.items a.bucket.items a.heads.items xs i ys k h.buckets (different_front (xs ++ i ∷ ys) fs h.apart) (rw h.pairs (below_front (length a.order.items) (xs ++ i ∷ ys) fs h.below)) inside its)
+    falls : ℕ → ℕ
+    falls = bucket_of (length a.heads.items) a.width a.cells.items
+
+    length_heads : length b.heads.items ≡ length a.heads.items
+    length_heads = unlisted_heads a.bucket.items b.bucket.items a.heads.items b.heads.items k i u.bucket
+
+    first : AreBuckets falls a.bucket.items a.heads.items (i ∷ (xs ++ ys))
+    first = buckets_same falls a.bucket.items a.heads.items (xs ++ i ∷ ys) (i ∷ (xs ++ ys)) h.buckets (λ j away. out_to_front j xs i ys away) (λ j away. out_middle j xs i ys (out_first i (xs ++ ys) j away) (out_rest i (xs ++ ys) j away))
+
+    buckets_are : AreBuckets (bucket_of (length b.heads.items) b.width b.cells.items) b.bucket.items b.heads.items (xs ++ ys)
+    buckets_are = rw (length_heads, u.width, u.cells)
+        (unlisted_buckets falls a.bucket.items b.bucket.items a.heads.items b.heads.items (xs ++ ys) i k first (different_here xs i ys (different_front (xs ++ i ∷ ys) fs h.apart)) inside (sym its) u.bucket)
 
 pub unlinks : (a b : Store) (i k : ℕ) → IsSound a → Holds (live_of a) i → Unlinks a b i k → k < length a.heads.items → k ≡ class (length a.heads.items) (cells_at a.width a.cells.items i) → IsUnlinked a b i
 unlinks a b i k h held u inside its =
@@ -190,54 +204,152 @@ held_next a i h held =
 pub record Releases (a b : Store) (i : ℕ) : Type 0 where
   pub width : b.width ≡ a.width
   pub cells : b.cells.items ≡ a.cells.items
-  pub order : b.order.items ≡ entered a.free.last i a.order.items
+  pub order : b.order.items ≡ set_next (Some i) a.free a.order.items
   pub live : b.live ≡ a.live
   pub bucket : b.bucket.items ≡ a.bucket.items
   pub heads : b.heads.items ≡ a.heads.items
-  pub free : b.free ≡ extended i a.free
+  pub free : b.free ≡ Some i
   pub len : b.len ≡ a.len
   pub spare : b.spare ≡ a.spare + 1
 
-release_store : (a b : Store) (xs fs : List ℕ) (i : ℕ) → IsStore a xs fs → Releases a b i → IsOut i (xs ++ fs) → i < length a.order.items → a.len + a.spare < length a.order.items → IsStore b xs (fs ++ i ∷ [])
+release_store : (a b : Store) (xs fs : List ℕ) (i : ℕ) → IsStore a xs fs → Releases a b i → IsOut i (xs ++ fs) → i < length a.order.items → a.len + a.spare < length a.order.items → IsStore b xs (i ∷ fs)
 release_store a b xs fs i h r out within room = record {
   live = r.live ∙ h.live;
-  free = r.free ∙ ap (extended i) h.free ∙ extended_is fs i;
+  free = r.free;
   count = h.count ∙ sym r.len;
-  spare = length-append fs (i ∷ []) ∙ omega (arith, h.spare, r.spare);
-  apart = subst AreDifferent (append_assoc xs fs (i ∷ [])) (different_in (xs ++ fs) i [] (rw append-nil h.apart) (rw append-nil out));
-  below = rw (r.order, length-entered) (subst (AreBelow (length a.order.items)) (append_assoc xs fs (i ∷ [])) (below_in (length a.order.items) (xs ++ fs) i [] within (rw append-nil h.below)));
-  order = rw (r.order, h.free) (linked_same a.order.items (entered (last_of fs) i a.order.items) None xs None (entered_agree a.order.items (last_of fs) i xs (last_avoids None fs xs (avoids_none xs) (different_swap xs fs h.apart)) (out_front i xs fs out)) h.order);
-  rest = rw (r.order, h.free) (entered_linked a.order.items fs i (different_back xs fs h.apart) (below_back (length a.order.items) xs fs h.below) (out_back i xs fs out) within h.rest);
+  spare = omega (arith, h.spare, r.spare);
+  apart = different_in xs i fs h.apart out;
+  below = rw (r.order, length-set_next) (below_in (length a.order.items) xs i fs within h.below);
+  order = rw r.order (linked_same a.order.items (set_next (Some i) a.free a.order.items) None xs None (agree_next (Some i) a.free a.order.items xs (avoids_some i xs (out_front i xs fs out))) h.order);
+  rest = rw (r.order, h.free) (onward_in a.order.items fs i (out_back i xs fs out) within h.rest);
   buckets = rw (r.heads, r.width, r.cells, r.bucket) h.buckets;
   some = rw r.heads h.some;
-  pairs = rw (r.bucket, r.order, length-entered) h.pairs;
-  cells = rw (r.cells, r.width, r.order, length-entered) h.cells;
-  room = rw (r.len, r.spare, r.order, length-entered) (omega (arith, room));
-  numbers = rw (r.order, length-entered) h.numbers;
+  pairs = rw (r.bucket, r.order, length-set_next) h.pairs;
+  cells = rw (r.cells, r.width, r.order, length-set_next) h.cells;
+  room = rw (r.len, r.spare, r.order, length-set_next) (omega (arith, room));
+  numbers = rw (r.order, length-set_next) h.numbers;
 }
 
 pub releases : (a b : Store) (i : ℕ) → IsSound a → IsLoose a i → Releases a b i → IsReleased a b
 releases a b i h l r =
     let s = release_store a b (live_of a) (free_of a) i h.store r l.out l.within l.room in
     record {
-      alike = record { sound = sound b (live_of a) (free_of a ++ i ∷ []) s; width = r.width; cells = r.cells; slots = ap (λ (ls : List Pair). length ls) r.order ∙ length-entered a.order.items a.free.last i };
-      live = live_is b (live_of a) (free_of a ++ i ∷ []) s;
+      alike = record { sound = sound b (live_of a) (i ∷ free_of a) s; width = r.width; cells = r.cells; slots = ap (λ (ls : List Pair). length ls) r.order ∙ length-set_next (Some i) a.free a.order.items };
+      live = live_is b (live_of a) (i ∷ free_of a) s;
       len = r.len;
       spare = r.spare;
     }
 
-pub head_within : (a : Store) (k : ℕ) → IsSound a → k < length a.heads.items → IsWithin (length a.bucket.items) (slice_index_or a.heads.items k None)
-head_within a k h inside =
-    its_head (length a.heads.items) a.width a.cells.items a.bucket.items a.heads.items (live_of a) k (length a.bucket.items) h.store.buckets
-    (rw h.store.pairs (below_front (length a.order.items) (live_of a) (free_of a) h.store.below)) inside
-
-pub held_in_bucket : (a : Store) (i k : ℕ) → IsSound a → Holds (live_of a) i → k < length a.heads.items → k ≡ class (length a.heads.items) (cells_at a.width a.cells.items i)
-    → IsWithin (length a.bucket.items) (pair_at a.bucket.items i).prev × IsWithin (length a.bucket.items) (pair_at a.bucket.items i).next
+-- a held slot stands in its bucket
+pub held_in_bucket : (a : Store) (i k : ℕ) → IsSound a → Holds (live_of a) i → k < length a.heads.items → k ≡ class (length a.heads.items) (cells_at a.width a.cells.items i) → Stands a.bucket.items (link_at a.heads.items k) i
 held_in_bucket a i k h held inside its =
-    its_prev (length a.heads.items) a.width a.cells.items a.bucket.items a.heads.items held.front i held.back k (length a.bucket.items)
-    (subst (AreBuckets (length a.heads.items) a.width a.cells.items a.bucket.items a.heads.items) held.is h.store.buckets)
-    (rw h.store.pairs (subst (AreBelow (length a.order.items)) held.is (below_front (length a.order.items) (live_of a) (free_of a) h.store.below))) inside its
+    bucket_stands (bucket_of (length a.heads.items) a.width a.cells.items) k a.bucket.items (link_at a.heads.items k) (live_of a) i (h.store.buckets.each k inside) (held_not_out i (live_of a) held) (sym its)
+    (rw h.store.pairs (below_front (length a.order.items) (live_of a) (free_of a) h.store.below))
+    (omega (arith, h.store.count, h.store.room, h.store.pairs))
 
--- what `v[i]` gave
-pub read_link : (heads : List (Option ℕ)) (k : ℕ) (o : Option ℕ) → k < length heads → o ≡ slice_index_or heads k o → o ≡ slice_index_or heads k None
-read_link heads k o inside h = h ∙ get_or_default heads k o None inside
+-- what putting a row behind all others does to a store's fields
+pub record Renews (a b : Store) (i : ℕ) : Type 0 where
+  pub width : b.width ≡ a.width
+  pub cells : b.cells.items ≡ a.cells.items
+  pub order : b.order.items ≡ entered (shrunk (pair_at a.order.items i) a.live).last i (left (pair_at a.order.items i) a.order.items)
+  pub live : b.live ≡ extended i (shrunk (pair_at a.order.items i) a.live)
+  pub bucket : b.bucket.items ≡ a.bucket.items
+  pub heads : b.heads.items ≡ a.heads.items
+  pub free : b.free ≡ a.free
+  pub len : b.len ≡ a.len
+  pub spare : b.spare ≡ a.spare
+
+module _ (a b : Store) (xs : List ℕ) (i : ℕ) (ys fs : List ℕ) (h : IsStore a (xs ++ i ∷ ys) fs) (r : Renews a b i) where
+  renew_prev : (pair_at a.order.items i).prev ≡ last_of xs
+  renew_prev = prev_here a.order.items xs i ys h.order
+
+  renew_next : (pair_at a.order.items i).next ≡ first_of ys
+  renew_next = next_here a.order.items xs i ys h.order
+
+  renew_ends : shrunk (pair_at a.order.items i) a.live ≡ ends_of (xs ++ ys)
+  renew_ends = ap (shrunk (pair_at a.order.items i)) h.live ∙ shrunk_is (pair_at a.order.items i) xs i ys renew_prev renew_next
+
+  renew_order : b.order.items ≡ entered (last_of (xs ++ ys)) i (left (pair_at a.order.items i) a.order.items)
+  renew_order = r.order ∙ ap (λ (e : Ends). entered e.last i (left (pair_at a.order.items i) a.order.items)) renew_ends
+
+  renew_apart_all : AreDifferent (xs ++ i ∷ (ys ++ fs))
+  renew_apart_all = subst AreDifferent (append_assoc xs (i ∷ ys) fs) h.apart
+
+  renew_apart : AreDifferent ((xs ++ ys) ++ fs)
+  renew_apart = rw append_assoc (different_out xs i (ys ++ fs) renew_apart_all)
+
+  renew_out : IsOut i ((xs ++ ys) ++ fs)
+  renew_out = rw append_assoc (different_here xs i (ys ++ fs) renew_apart_all)
+
+  renew_below_all : AreBelow (length a.order.items) (xs ++ i ∷ (ys ++ fs))
+  renew_below_all = subst (AreBelow (length a.order.items)) (append_assoc xs (i ∷ ys) fs) h.below
+
+  renew_below : AreBelow (length a.order.items) ((xs ++ ys) ++ fs)
+  renew_below = rw append_assoc (below_out (length a.order.items) xs i (ys ++ fs) renew_below_all)
+
+  renew_within : i < length a.order.items
+  renew_within = below_here (length a.order.items) xs i (ys ++ fs) renew_below_all
+
+  renew_long : length b.order.items ≡ length a.order.items
+  renew_long = ap (λ (ls : List Pair). length ls) renew_order ∙ length-entered (left (pair_at a.order.items i) a.order.items) (last_of (xs ++ ys)) i ∙ length-left a.order.items (pair_at a.order.items i)
+
+  renew_gone : Linked (left (pair_at a.order.items i) a.order.items) None (xs ++ ys) None
+  renew_gone = left_linked a.order.items xs i ys (different_front (xs ++ i ∷ ys) fs h.apart) (below_front (length a.order.items) (xs ++ i ∷ ys) fs h.below) h.order
+
+  renew_linked : Linked b.order.items None ((xs ++ ys) ++ i ∷ []) None
+  renew_linked = rw renew_order (entered_linked (left (pair_at a.order.items i) a.order.items) (xs ++ ys) i (different_front (xs ++ ys) fs renew_apart)
+      (rw length-left (below_front (length a.order.items) (xs ++ ys) fs renew_below)) (out_front i (xs ++ ys) fs renew_out) (rw length-left renew_within) renew_gone)
+
+  renew_rest_left : Onward (left (pair_at a.order.items i) a.order.items) fs
+  renew_rest_left = onward_same a.order.items (left (pair_at a.order.items i) a.order.items) fs
+      (left_agree a.order.items (pair_at a.order.items i) fs
+      (subst (λ o. Avoids o fs) (sym renew_prev) (last_avoids None xs fs (avoids_none fs) (without_middle xs ys fs (subst AreDifferent (append_assoc xs ys fs) renew_apart))))
+      (subst (λ o. Avoids o fs) (sym renew_next) (first_avoids ys fs (different_back xs (ys ++ fs) (subst AreDifferent (append_assoc xs ys fs) renew_apart)))))
+      h.rest
+
+  renew_rest : Onward b.order.items fs
+  renew_rest = rw renew_order (onward_same (left (pair_at a.order.items i) a.order.items) (entered (last_of (xs ++ ys)) i (left (pair_at a.order.items i) a.order.items)) fs
+      (entered_agree (left (pair_at a.order.items i) a.order.items) (last_of (xs ++ ys)) i fs (last_avoids None (xs ++ ys) fs (avoids_none fs) renew_apart) (out_back i (xs ++ ys) fs renew_out))
+      renew_rest_left)
+
+  renew_there : (j : ℕ) → IsOut j (xs ++ i ∷ ys) → IsOut j ((xs ++ ys) ++ i ∷ [])
+  renew_there j away = let k = out_to_front j xs i ys away in out_last j i (xs ++ ys) k
+
+  renew_back : (j : ℕ) → IsOut j ((xs ++ ys) ++ i ∷ []) → IsOut j (xs ++ i ∷ ys)
+  renew_back j away = let k = out_swap j (xs ++ ys) (i ∷ []) away in out_middle j xs i ys (out_first i (xs ++ ys) j k) (out_rest i (xs ++ ys) j k)
+
+  renew_store : IsStore b ((xs ++ ys) ++ i ∷ []) fs
+  renew_store = record {
+    live = r.live ∙ ap (extended i) renew_ends ∙ extended_is (xs ++ ys) i;
+    free = r.free ∙ h.free;
+    count = length-append (xs ++ ys) (i ∷ []) ∙ omega (arith, h.count, length-append xs ys, length-append xs (i ∷ ys), r.len);
+    spare = h.spare ∙ sym r.spare;
+    apart = rw append_assoc (different_in (xs ++ ys) i fs renew_apart renew_out);
+    below = rw (renew_long, append_assoc) (below_in (length a.order.items) (xs ++ ys) i fs renew_within renew_below);
+    order = renew_linked;
+    rest = renew_rest;
+    buckets = rw (r.heads, r.width, r.cells, r.bucket) (buckets_same (bucket_of (length a.heads.items) a.width a.cells.items) a.bucket.items a.heads.items (xs ++ i ∷ ys) ((xs ++ ys) ++ i ∷ []) h.buckets renew_there renew_back);
+    some = rw r.heads h.some;
+    pairs = rw (r.bucket, renew_long) h.pairs;
+    cells = rw (r.cells, r.width, renew_long) h.cells;
+    room = rw (r.len, r.spare, renew_long) h.room;
+    numbers = rw renew_long h.numbers;
+  }
+
+pub renews : (a b : Store) (i : ℕ) → IsSound a → Holds (live_of a) i → Renews a b i → IsRenewed a b i
+renews a b i h held r =
+    let s = renew_store a b held.front i held.back (free_of a) (subst (λ xs. IsStore a xs (free_of a)) held.is h.store) r in
+    let slots = renew_long a b held.front i held.back (free_of a) (subst (λ xs. IsStore a xs (free_of a)) held.is h.store) r in
+    record {
+      alike = record { sound = sound b ((held.front ++ held.back) ++ i ∷ []) (free_of a) s; width = r.width; cells = r.cells; slots = slots };
+      live = (λ xs ys is. live_is b ((xs ++ ys) ++ i ∷ []) (free_of a) (renew_store a b xs i ys (free_of a) (subst (λ zs. IsStore a zs (free_of a)) is h.store) r));
+      tidy = λ tidy. omega (arith, tidy, slots, r.len, r.spare);
+    }
+
+-- what is asked where a slot comes in behind the others, after it has left
+pub renewed_last : (a : Store) (i : ℕ) → IsSound a → Holds (live_of a) i → IsWithin (length (left (pair_at a.order.items i) a.order.items)) (shrunk (pair_at a.order.items i) a.live).last
+renewed_last a i h held =
+    let was = subst (λ xs. IsStore a xs (free_of a)) held.is h.store in
+    let ends = ap (shrunk (pair_at a.order.items i)) was.live ∙ shrunk_is (pair_at a.order.items i) held.front i held.back (prev_here a.order.items held.front i held.back was.order) (next_here a.order.items held.front i held.back was.order) in
+    subst (λ (e : Ends). IsWithin (length (left (pair_at a.order.items i) a.order.items)) e.last) (sym ends)
+    (rw length-left (last_within (length a.order.items) None (held.front ++ held.back) tt (below_out (length a.order.items) held.front i held.back (below_front (length a.order.items) (held.front ++ i ∷ held.back) (free_of a) was.below))))

@@ -27,6 +27,11 @@ unfoldable pub Linked : List Pair → Option ℕ → List ℕ → Option ℕ →
 Linked links before [] after = ⊤
 Linked links before (x ∷ xs) after = ((pair_at links x).prev ≡ before) × ((pair_at links x).next ≡ first_or xs after) × Linked links (Some x) xs after
 
+-- the list is chained in this order by the links to the next ones, whatever the others are
+unfoldable pub Onward : List Pair → List ℕ → Type 0
+Onward links [] = ⊤
+Onward links (x ∷ xs) = ((pair_at links x).next ≡ first_of xs) × Onward links xs
+
 -- x isn't in the list
 unfoldable pub IsOut : ℕ → List ℕ → Type 0
 IsOut i [] = ⊤

@@ -1,4 +1,5 @@
 pub mod Link
 pub mod Chains
 pub mod Rows
+pub mod Buckets
 pub mod Store

@@ -1,11 +1,12 @@
 -- Slots with the cells of a row each, chained in two ways: the rows in the order in which they came, and
--- those of one bucket.
-use Rattle.std.specs.Prelude.{◌≡◌, ℕ, ◌+◌, ◌-◌, ◌*◌, ◌/◌, ◌%◌, ◌^◌, ◌<◌, ◌≤◌, ◌==◌, Bool, cond, List, [], ◌∷◌, ◌++◌, map, take, drop, length, fold, bit_and, bit_xor, slice_index_or, slice_set, max, Option, Some, None}
+-- those of one bucket in any order.
+use Rattle.std.specs.Prelude.{◌≡◌, ℕ, ◌+◌, ◌-◌, ◌*◌, ◌/◌, ◌%◌, ◌^◌, ◌<◌, ◌≤◌, List, [], ◌∷◌, ◌++◌, map, take, drop, length, fold, bit_and, bit_xor, max, Option, Some, None}
 use Rattle.djq_arena.specs.declared.chain.Pair.{Pair}
 use Rattle.djq_arena.specs.declared.chain.Ends.{Ends}
 use Rattle.djq_arena.specs.declared.store.Store.{Store}
-use Rattle.djq_arena.specs.Chains.{first_of, last_of, Linked, IsOut, AreDifferent, AreBelow, trail, entered}
+use Rattle.djq_arena.specs.Chains.{first_of, last_of, Linked, Onward, IsOut, AreDifferent, AreBelow, trail}
 use Rattle.djq_arena.specs.Rows.{Row}
+use Rattle.djq_arena.specs.Buckets.{AreBuckets}
 
 -- the ends of a list
 abbrev pub ends_of : List ℕ → Ends
@@ -35,14 +36,6 @@ mixed h x = stirred (bit_xor h x * 11400714819323198485 % 2 ^ 64)
 unfoldable pub hash : List ℕ → ℕ
 hash u = fold mixed 0 u
 
--- the heads without a slot of bucket k that had these neighbours
-abbrev pub unheaded : Pair → ℕ → List (Option ℕ) → List (Option ℕ)
-unheaded p k heads = beside p.next
-  where
-    beside : Option ℕ → List (Option ℕ)
-    beside None = slice_set heads k p.prev
-    beside (Some x) = heads
-
 -- a row's bucket, of m
 unfoldable pub class : ℕ → List ℕ → ℕ
 class m u = bit_and (hash u) (m - 1)
@@ -51,36 +44,33 @@ class m u = bit_and (hash u) (m - 1)
 unfoldable pub cells_at : ℕ → List ℕ → ℕ → List ℕ
 cells_at width cells i = take width (drop (i * width) cells)
 
--- whether slot i is of bucket k, of m
-unfoldable pub is_of : ℕ → ℕ → List ℕ → ℕ → ℕ → Bool
-is_of m width cells k i = class m (cells_at width cells i) == k
-
--- those of the list that pass the test
-unfoldable pub chosen : (ℕ → Bool) → List ℕ → List ℕ
-chosen p [] = []
-chosen p (x ∷ xs) = cond (p x) (x ∷ chosen p xs) (chosen p xs)
+-- the bucket that a slot falls into by its cells, of m
+abbrev pub bucket_of : ℕ → ℕ → List ℕ → ℕ → ℕ
+bucket_of m width cells i = class m (cells_at width cells i)
 
 -- the rows that lie in these slots
 unfoldable pub rows_in : ℕ → List ℕ → List ℕ → List Row
 rows_in width cells xs = map (λ i. record { slot = i; cells = cells_at width cells i }) xs
 
--- each of the m buckets' slots are chained, and its head is the last of them
-pub record AreBuckets (m width : ℕ) (cells : List ℕ) (bucket : List Pair) (heads : List (Option ℕ)) (xs : List ℕ) : Type 0 where
-  pub long : length heads ≡ m
-  pub chained : (k : ℕ) → k < m → Linked bucket None (chosen (is_of m width cells k) xs) None
-  pub headed : (k : ℕ) → k < m → slice_index_or heads k None ≡ last_of (chosen (is_of m width cells k) xs)
+-- the first j slots are in the buckets that they fall into, and no others are
+pub record AreListed (width : ℕ) (cells : List ℕ) (links heads : List (Option ℕ)) (j : ℕ) : Type 0 where
+  pub slots : List ℕ
+  pub count : length slots ≡ j
+  pub done : (i : ℕ) → i < j → IsOut i slots → ⊥
+  pub out : (i : ℕ) → j ≤ i → IsOut i slots
+  pub buckets : AreBuckets (bucket_of (length heads) width cells) links heads slots
 
 -- the slots xs hold the rows, in this order, and the slots fs are free
 pub record IsStore (s : Store) (xs fs : List ℕ) : Type 0 where
   pub live : s.live ≡ ends_of xs
-  pub free : s.free ≡ ends_of fs
+  pub free : s.free ≡ first_of fs
   pub count : length xs ≡ s.len
   pub spare : length fs ≡ s.spare
   pub apart : AreDifferent (xs ++ fs)
   pub below : AreBelow (length s.order.items) (xs ++ fs)
   pub order : Linked s.order.items None xs None
-  pub rest : Linked s.order.items None fs None
-  pub buckets : AreBuckets (length s.heads.items) s.width s.cells.items s.bucket.items s.heads.items xs
+  pub rest : Onward s.order.items fs
+  pub buckets : AreBuckets (bucket_of (length s.heads.items) s.width s.cells.items) s.bucket.items s.heads.items xs
   pub some : 0 < length s.heads.items
   pub pairs : length s.bucket.items ≡ length s.order.items
   pub cells : length s.cells.items ≡ length s.order.items * s.width
@@ -92,7 +82,7 @@ unfoldable pub live_of : Store → List ℕ
 live_of s = trail s.len s.order.items s.live.first
 
 unfoldable pub free_of : Store → List ℕ
-free_of s = trail s.spare s.order.items s.free.first
+free_of s = trail s.spare s.order.items s.free
 
 pub record IsSound (s : Store) : Type 0 where
   pub store : IsStore s (live_of s) (free_of s)
@@ -152,19 +142,6 @@ pub record IsReleased (old new : Store) : Type 0 where
   pub live : live_of new ≡ live_of old
   pub len : new.len ≡ old.len
   pub spare : new.spare ≡ old.spare + 1
-
--- slot i came in as the newest of its bucket
-pub record Enlists (old new : Store) (i : ℕ) : Type 0 where
-  pub width : new.width ≡ old.width
-  pub cells : new.cells.items ≡ old.cells.items
-  pub order : new.order.items ≡ old.order.items
-  pub live : new.live ≡ old.live
-  pub free : new.free ≡ old.free
-  pub len : new.len ≡ old.len
-  pub spare : new.spare ≡ old.spare
-  pub bucket : new.bucket.items ≡ entered (slice_index_or old.heads.items (class (length old.heads.items) (cells_at old.width old.cells.items i)) None) i old.bucket.items
-  pub heads : new.heads.items ≡ slice_set old.heads.items (class (length old.heads.items) (cells_at old.width old.cells.items i)) (Some i)
-  pub within : class (length old.heads.items) (cells_at old.width old.cells.items i) < length old.heads.items
 
 -- slot i, which held no row, is loose, and has these cells
 pub record IsPrepared (old new : Store) (i : ℕ) (u : List ℕ) : Type 0 where

@@ -26,15 +26,6 @@ pub fn pair_of(links: &Vec<Pair>, slot: u32) -> Pair
     links[slot as usize]
 }
 
-fn point_back(links: &mut Vec<Pair>, at: Link, to: Link)
-    requires { IsWithin (length links.old.items) at }
-    ensures { links.new.items ≡ set_prev at to links.old.items }
-{
-    if let Some(slot) = at.get() {
-        links[slot as usize].prev = to;
-    }
-}
-
 fn point_on(links: &mut Vec<Pair>, at: Link, to: Link)
     requires { IsWithin (length links.old.items) at }
     ensures { links.new.items ≡ set_next at to links.old.items }
@@ -42,6 +33,14 @@ fn point_on(links: &mut Vec<Pair>, at: Link, to: Link)
     if let Some(slot) = at.get() {
         links[slot as usize].next = to;
     }
+}
+
+/// Points the way on from a slot to another one, or to none.
+pub fn follow(links: &mut Vec<Pair>, slot: u32, next: Link)
+    requires { slot < length links.old.items }
+    ensures { links.new.items ≡ set_next (Some slot) next links.old.items }
+{
+    links[slot as usize].next = next;
 }
 
 /// Chains a slot behind the last one of its chain.
@@ -59,15 +58,23 @@ pub fn enter(links: &mut Vec<Pair>, last: Link, slot: u32)
     };
 }
 
-/// Takes a slot with these neighbours out of its chain.
+/// Takes a slot with these neighbours out of its chain, which has these ends. Each neighbour is asked for once: where
+/// there is none, an end changes in its place.
 #[tactic(auto, unfolding(crate::specs::Chains::left))]
-pub fn leave(links: &mut Vec<Pair>, pair: &Pair)
+pub fn leave(links: &mut Vec<Pair>, ends: &mut Ends, pair: &Pair)
     requires prev { IsWithin (length links.old.items) pair.now.prev }
     requires next { IsWithin (length links.old.items) pair.now.next }
-    ensures { links.new.items ≡ left pair.now links.old.items }
+    ensures links { links.new.items ≡ left pair.now links.old.items }
+    ensures ends { ends.new ≡ shrunk pair.now ends.old }
 {
-    point_on(links, pair.prev, pair.next);
-    point_back(links, pair.next, pair.prev);
+    match pair.prev.get() {
+        None => ends.first = pair.next,
+        Some(prev) => links[prev as usize].next = pair.next,
+    }
+    match pair.next.get() {
+        None => ends.last = pair.prev,
+        Some(next) => links[next as usize].prev = pair.prev,
+    }
 }
 
 /// The ends of a chain that a slot has entered.
@@ -81,19 +88,4 @@ pub fn grown(ends: &Ends, slot: u32) -> Ends
         Some(_first) => ends.first,
     };
     Ends { first, last: at }
-}
-
-/// The ends of a chain that a slot with these neighbours has left.
-pub fn cut(ends: &Ends, pair: &Pair) -> Ends
-    ensures { result ≡ shrunk pair.now ends.now }
-{
-    let first = match pair.prev.get() {
-        None => pair.next,
-        Some(_before) => ends.first,
-    };
-    let last = match pair.next.get() {
-        None => pair.prev,
-        Some(_after) => ends.last,
-    };
-    Ends { first, last }
 }

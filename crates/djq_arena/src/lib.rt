@@ -19,10 +19,11 @@
 //! push 5 5   slot 1                                9 9   7 7   5 5
 //! ```
 //!
-//! Inside, all cells lie in one array. Two arrays of pairs chain the slots doubly, once in the
-//! order of coming and once within each bucket; links are four bytes. [`Pair`], [`Ends`] and the
-//! functions that change them serve chains over slots that others keep, too, and one proof serves
-//! them all.
+//! Inside, all cells lie in one array. An array of pairs chains the slots doubly in the order of
+//! coming, and one of links chains those of each bucket, in any order, so that a row that is put
+//! behind all others stays where it is in its bucket. A row that goes is looked for in its bucket from
+//! the head. Links are four bytes. [`Pair`], [`Ends`] and the functions that change them serve chains
+//! over slots that others keep, too, and one proof serves them all.
 #![tactic(auto)]
 
 mod arena;
@@ -31,7 +32,7 @@ mod link;
 mod store;
 
 pub use arena::Arena;
-pub use chain::{Ends, Pair, cut, enter, grown, leave, pair_of};
+pub use chain::{Ends, Pair, enter, grown, leave, pair_of};
 pub use link::Link;
 
 #[cfg(test)]

@@ -1,9 +1,10 @@
-ghost use Rattle.std.specs.Prelude.{◌≡◌, ◌≢◌, ◌+◌, ◌*◌, ◌<◌, ◌≤◌, ◌++◌, ◌∷◌, [], length, take, drop, slice_index_or, Some, None, ℕ, IfOk, OnErr, replicate, IsTrue, ◌↔◌, MatchOption, List, max};
+ghost use Rattle.std.specs.Prelude.{◌≡◌, ◌≢◌, ◌+◌, ◌*◌, ◌<◌, ◌≤◌, ◌++◌, ◌∷◌, [], length, take, drop, Some, None, ℕ, IfOk, OnErr, slice_set, replicate, IsTrue, ◌↔◌, MatchOption, List, max, vec_len, vec_capacity};
 ghost use Rattle.djq_arena.specs.Rows.{Row, slots, IsAbsent, IsRow, IsHeld};
-ghost use Rattle.djq_arena.specs.Store.{mixed, hash, unheaded, class, cells_at, Enlists, IsPrepared, IsPut, IsTaken, IsRenewed, IsSound, IsLoose, IsLinked, IsUnlinked, IsSame, IsReleased, IsTidy, Holds, SameRows, live_of, rows_of};
-ghost use Rattle.djq_arena.specs.Chains.{IsWithin, first_of, last_of};
+ghost use Rattle.djq_arena.specs.Store.{mixed, hash, class, cells_at, AreListed, IsPrepared, IsPut, IsTaken, IsRenewed, IsSound, IsLoose, IsLinked, IsUnlinked, IsSame, IsReleased, IsTidy, Holds, SameRows, live_of, rows_of};
+ghost use Rattle.djq_arena.specs.Chains.{first_of, last_of};
+ghost use Rattle.djq_arena.specs.Buckets.{link_at, Stands, IsBehind, IsUnlisted};
 
-use crate::chain::{Ends, Pair, cut, enter, grown, leave, pair_of};
+use crate::chain::{Ends, Pair, enter, follow, grown, leave, pair_of};
 use crate::link::Link;
 use std::alloc::{AllocError, Global};
 
@@ -12,11 +13,11 @@ use std::alloc::{AllocError, Global};
 pub struct Store {
     pub width: usize,
     pub order: Vec<Pair>,
-    pub bucket: Vec<Pair>,
+    pub bucket: Vec<Link>,
     pub cells: Vec<u64>,
     pub heads: Vec<Link>,
     pub live: Ends,
-    pub free: Ends,
+    pub free: Link,
     pub len: u32,
     pub spare: u32,
 }
@@ -29,9 +30,9 @@ fn mix(hash: u64, cell: u64) -> u64
     stirred ^ (stirred >> 32)
 }
 
-/// The hash of a row: a few instructions a cell.
+/// The hash of a row of any width.
 #[tactic(auto, unfolding(crate::specs::Store::hash))]
-fn hash_of(cells: &[u64]) -> u64
+fn hash_all(cells: &[u64]) -> u64
     ensures { result ≡ hash cells.now }
 {
     let mut hash = 0;
@@ -39,6 +40,18 @@ fn hash_of(cells: &[u64]) -> u64
         hash = mix(hash, *cell);
     }
     hash
+}
+
+/// The hash of a row: a few instructions a cell. Most rows have one cell or two, and need no loop.
+#[tactic(auto, unfolding(crate::specs::Store::hash))]
+fn hash_of(cells: &[u64]) -> u64
+    ensures { result ≡ hash cells.now }
+{
+    match cells {
+        [only] => mix(0, *only),
+        [first, second] => mix(mix(0, *first), *second),
+        _ => hash_all(cells),
+    }
 }
 
 /// The bucket of a row, of so many.
@@ -62,6 +75,15 @@ pub fn cells_of(store: &Store, slot: u32) -> &[u64]
     &store.cells[from..from + store.width]
 }
 
+/// The bucket of a row with these cells.
+fn class_in(store: &Store, cells: &[u64]) -> usize
+    requires some { 0 < length store.now.heads.items }
+    ensures class { result ≡ class (length store.now.heads.items) cells.now }
+    ensures within { result < length store.now.heads.items }
+{
+    class_of(store.heads.len(), cells)
+}
+
 /// The bucket of the row in a slot.
 fn class_at(store: &Store, slot: u32) -> usize
     requires cells { length store.now.cells.items ≡ length store.now.order.items * store.now.width }
@@ -70,11 +92,11 @@ fn class_at(store: &Store, slot: u32) -> usize
     ensures class { result ≡ class (length store.now.heads.items) (cells_at store.now.width store.now.cells.items slot) }
     ensures within { result < length store.now.heads.items }
 {
-    class_of(store.heads.len(), cells_of(store, slot))
+    class_in(store, cells_of(store, slot))
 }
 
 /// Whether these cells are the same. Rows are short, so that a loop costs less than a call.
-fn are_same(cells: &[u64], others: &[u64]) -> bool
+fn are_all_same(cells: &[u64], others: &[u64]) -> bool
     ensures { IsTrue result ↔ (cells.now ≡ others.now) }
 {
     if cells.len() != others.len() {
@@ -88,6 +110,17 @@ fn are_same(cells: &[u64], others: &[u64]) -> bool
     true
 }
 
+/// Whether these cells are the same. Most rows have one cell or two, and need no loop.
+fn are_same(cells: &[u64], others: &[u64]) -> bool
+    ensures { IsTrue result ↔ (cells.now ≡ others.now) }
+{
+    match (cells, others) {
+        ([only], [other]) => *only == *other,
+        ([first, second], [third, fourth]) => *first == *third && *second == *fourth,
+        _ => are_all_same(cells, others),
+    }
+}
+
 /// Whether the row in a slot has these cells.
 fn reads(store: &Store, slot: u32, cells: &[u64]) -> bool
     requires cells { length store.now.cells.items ≡ length store.now.order.items * store.now.width }
@@ -97,12 +130,20 @@ fn reads(store: &Store, slot: u32, cells: &[u64]) -> bool
     are_same(cells_of(store, slot), cells)
 }
 
+/// Where the link of a slot, or the head of a bucket, points to.
+fn link_of(links: &Vec<Link>, at: usize) -> Link
+    requires { at < length links.now.items }
+    ensures { result ≡ link_at links.now.items at }
+{
+    links[at]
+}
+
 /// The head of the bucket that a row with these cells is in.
 fn head_of(store: &Store, cells: &[u64]) -> Link
     requires { 0 < length store.now.heads.items }
-    ensures { result ≡ slice_index_or store.now.heads.items (class (length store.now.heads.items) cells.now) None }
+    ensures { result ≡ link_at store.now.heads.items (class (length store.now.heads.items) cells.now) }
 {
-    store.heads[class_of(store.heads.len(), cells)]
+    link_of(&store.heads, class_in(store, cells))
 }
 
 /// The slot of a row with these cells: a walk through one bucket.
@@ -118,7 +159,7 @@ pub fn find(store: &Store, cells: &[u64]) -> Option<u32>
                 if reads(store, slot, cells) {
                     return Some(slot);
                 }
-                at = pair_of(&store.bucket, slot).prev;
+                at = link_of(&store.bucket, slot as usize);
             }
         }
     }
@@ -126,42 +167,65 @@ pub fn find(store: &Store, cells: &[u64]) -> Option<u32>
 }
 
 /// Puts a slot at the head of its bucket.
-fn enlist(store: &mut Store, slot: u32)
-    requires cells { length store.old.cells.items ≡ length store.old.order.items * store.old.width }
-    requires slot { slot < length store.old.order.items }
+fn enlist(bucket: &mut Vec<Link>, heads: &mut Vec<Link>, class: usize, slot: u32)
+    requires class { class < length heads.old.items }
+    requires slot { slot < length bucket.old.items }
     requires number { slot < 4294967295 }
-    requires pairs { length store.old.bucket.items ≡ length store.old.order.items }
-    requires some { 0 < length store.old.heads.items }
-    requires heads { (k : ℕ) → k < length store.old.heads.items → IsWithin (length store.old.bucket.items) (slice_index_or store.old.heads.items k None) }
-    ensures enlisted { Enlists store.old store.new slot }
+    ensures bucket { bucket.new.items ≡ slice_set bucket.old.items slot (link_at heads.old.items class) }
+    ensures heads { heads.new.items ≡ slice_set heads.old.items class (Some slot) }
 {
-    let class = class_at(store, slot);
-    let head = store.heads[class];
-    enter(&mut store.bucket, head, slot);
-    store.heads[class] = Link::to(slot);
+    bucket[slot as usize] = link_of(heads, class);
+    heads[class] = Link::to(slot);
 }
 
-/// Puts a loose slot behind all rows: its cells are a row now.
-pub fn link(store: &mut Store, slot: u32)
+/// The slot that stands before this one in its bucket, if any. A bucket is short, and whoever takes a row
+/// out has mostly just looked it up.
+fn before(bucket: &Vec<Link>, head: Link, slot: u32) -> Link
+    requires { Stands bucket.now.items head slot }
+    ensures { IsBehind bucket.now.items head slot result }
+{
+    let mut before = Link::none();
+    let mut at = head;
+    for _step in 0..bucket.len() {
+        match at.get() {
+            None => return before,
+            Some(here) => {
+                if here == slot {
+                    return before;
+                }
+                before = at;
+                at = link_of(bucket, here as usize);
+            }
+        }
+    }
+    before
+}
+
+/// Takes a slot out of its bucket.
+fn unlist(bucket: &mut Vec<Link>, heads: &mut Vec<Link>, class: usize, slot: u32)
+    requires class { class < length heads.old.items }
+    requires stands { Stands bucket.old.items (link_at heads.old.items class) slot }
+    ensures unlisted { IsUnlisted bucket.old.items bucket.new.items heads.old.items heads.new.items class slot }
+{
+    let after = link_of(bucket, slot as usize);
+    match before(bucket, link_of(heads, class), slot).get() {
+        None => heads[class] = after,
+        Some(prev) => bucket[prev as usize] = after,
+    }
+}
+
+/// Puts a loose slot behind all rows: these cells, which lie in it, are a row now.
+pub fn link(store: &mut Store, slot: u32, cells: &[u64])
     requires sound { IsSound store.old }
     requires loose { IsLoose store.old slot }
+    requires here { cells_at store.old.width store.old.cells.items slot ≡ cells.now }
     ensures linked { IsLinked store.old store.new slot }
 {
-    enlist(store, slot);
+    let class = class_in(store, cells);
+    enlist(&mut store.bucket, &mut store.heads, class, slot);
     enter(&mut store.order, store.live.last, slot);
     store.live = grown(&store.live, slot);
     store.len += 1;
-}
-
-/// Where the slot that left was its bucket's newest, the one before it is now.
-fn unhead(heads: &mut Vec<Link>, class: usize, pair: &Pair)
-    requires { class < length heads.old.items }
-    ensures { heads.new.items ≡ unheaded pair.now class heads.old.items }
-{
-    match pair.next.get() {
-        None => heads[class] = pair.prev,
-        Some(_after) => {}
-    }
 }
 
 /// Takes the row in a slot out of its chains: the slot is loose then, and keeps its cells.
@@ -171,23 +235,20 @@ pub fn unlink(store: &mut Store, slot: u32)
     ensures unlinked { IsUnlinked store.old store.new slot }
 {
     let class = class_at(store, slot);
+    unlist(&mut store.bucket, &mut store.heads, class, slot);
     let neighbours = pair_of(&store.order, slot);
-    leave(&mut store.order, &neighbours);
-    store.live = cut(&store.live, &neighbours);
-    let others = pair_of(&store.bucket, slot);
-    leave(&mut store.bucket, &others);
-    unhead(&mut store.heads, class, &others);
+    leave(&mut store.order, &mut store.live, &neighbours);
     store.len -= 1;
 }
 
-/// Gives a loose slot back: it is free then.
+/// Gives a loose slot back: it is the newest free one then. The free ones are a stack.
 pub fn release(store: &mut Store, slot: u32)
     requires sound { IsSound store.old }
     requires loose { IsLoose store.old slot }
     ensures released { IsReleased store.old store.new }
 {
-    enter(&mut store.order, store.free.last, slot);
-    store.free = grown(&store.free, slot);
+    follow(&mut store.order, slot, store.free);
+    store.free = Link::to(slot);
     store.spare += 1;
 }
 
@@ -195,32 +256,63 @@ pub fn release(store: &mut Store, slot: u32)
 fn reuse(store: &mut Store, slot: u32, cells: &[u64])
     requires sound { IsSound store.old }
     requires wide { length cells.now ≡ store.old.width }
-    requires newest { store.old.free.last ≡ Some slot }
+    requires newest { store.old.free ≡ Some slot }
     ensures prepared { IsPrepared store.old store.new slot cells.now }
 {
-    let neighbours = pair_of(&store.order, slot);
-    leave(&mut store.order, &neighbours);
-    store.free = cut(&store.free, &neighbours);
+    store.free = pair_of(&store.order, slot).next;
     store.spare -= 1;
     overwrite(&mut store.cells, slot as usize * store.width, cells);
 }
 
-/// Writes cells over those from one on.
+/// Writes cells over those from one on. Most rows have one cell or two, and need no loop.
 fn overwrite(cells: &mut Vec<u64>, from: usize, new: &[u64])
     requires { from + length new.now ≤ length cells.old.items }
     ensures { cells.new.items ≡ take from cells.old.items ++ new.now ++ drop (from + length new.now) cells.old.items }
 {
-    cells[from..from + new.len()].copy_from_slice(new);
+    match new {
+        [only] => cells[from] = *only,
+        [first, second] => {
+            cells[from] = *first;
+            cells[from + 1] = *second;
+        }
+        _ => overwrite_all(cells, from, new),
+    }
 }
 
-/// Puts cells behind others. Where there is no memory, all stays as it was.
+/// Writes cells over those from one on. Rows are short, so that a loop costs less than a call.
+fn overwrite_all(cells: &mut Vec<u64>, from: usize, new: &[u64])
+    requires { from + length new.now ≤ length cells.old.items }
+    ensures { cells.new.items ≡ take from cells.old.items ++ new.now ++ drop (from + length new.now) cells.old.items }
+{
+    for at in 0..new.len() {
+        cells[from + at] = new[at];
+    }
+}
+
+/// Puts cells behind others, where there is room for them.
+fn append_all(cells: &mut Vec<u64>, more: &[u64])
+    requires { vec_len cells.old + length more.now ≤ vec_capacity cells.old }
+    ensures { cells.new.items ≡ cells.old.items ++ more.now }
+{
+    for cell in more {
+        cells.push_reserved(*cell);
+    }
+}
+
+/// Puts cells behind others. Where there is no memory, all stays as it was. Most rows have one cell or two, and
+/// need no loop.
 fn append(cells: &mut Vec<u64>, more: &[u64]) -> Result<(), AllocError>
     ensures behind { IfOk result (λ _. cells.new.items ≡ cells.old.items ++ more.now) }
     ensures refused { OnErr result (cells.new.items ≡ cells.old.items) }
 {
     cells.reserve(more.len())?;
-    for cell in more {
-        cells.push_reserved(*cell);
+    match more {
+        [only] => cells.push_reserved(*only),
+        [first, second] => {
+            cells.push_reserved(*first);
+            cells.push_reserved(*second);
+        }
+        _ => append_all(cells, more),
     }
     Ok(())
 }
@@ -241,31 +333,61 @@ fn fresh(store: &mut Store, cells: &[u64]) -> Result<u32, AllocError>
         prev: Link::none(),
         next: Link::none(),
     });
-    store.bucket.push_reserved(Pair {
-        prev: Link::none(),
-        next: Link::none(),
-    });
+    store.bucket.push_reserved(Link::none());
     Ok(slot as u32)
 }
 
-/// Puts all rows into other buckets, which are empty yet, the oldest first.
+/// The cells in a slot, of rows of this width.
+#[tactic(auto, unfolding(crate::specs::Store::cells_at))]
+fn cells_among(rows: &[u64], width: usize, slot: usize) -> &[u64]
+    requires { slot * width + width ≤ length rows.now }
+    ensures { result.now ≡ cells_at width rows.now slot }
+{
+    let from = slot * width;
+    &rows[from..from + width]
+}
+
+/// Where the head of a bucket points to, of these.
+fn link_among(links: &[Link], at: usize) -> Link
+    requires { at < length links.now }
+    ensures { result ≡ link_at links.now at }
+{
+    links[at]
+}
+
+/// Puts slots, each of which holds a row of this width, into buckets, which are empty yet. It goes by the slots'
+/// numbers, as they lie in memory, and over slices, so that no step reads where the arrays are.
+fn list_all(bucket: &mut [Link], heads: &mut [Link], cells: &[u64], width: usize)
+    requires some { 0 < length heads.old }
+    requires empty { heads.old ≡ replicate (length heads.old) None }
+    requires long { length cells.now ≡ length bucket.old * width }
+    requires numbers { length bucket.old ≤ 4294967295 }
+    ensures listed { AreListed width cells.now bucket.new heads.new (length bucket.old) }
+    ensures slots { length bucket.new ≡ length bucket.old }
+    ensures buckets { length heads.new ≡ length heads.old }
+{
+    for slot in 0..bucket.len() {
+        let class = class_of(heads.len(), cells_among(cells, width, slot));
+        bucket[slot] = link_among(heads, class);
+        heads[class] = Link::to(slot as u32);
+    }
+}
+
+/// Puts all slots, each of which holds a row, into other buckets, which are empty yet.
 fn rebuild(store: &mut Store, heads: Vec<Link>)
     requires sound { IsSound store.old }
+    requires full { length store.old.order.items ≡ store.old.len }
     requires some { 0 < length heads.items }
     requires empty { heads.items ≡ replicate (length heads.items) None }
     ensures same { IsSame store.old store.new }
 {
-    let mut at = store.live.first;
     store.heads = heads;
-    for _done in 0..store.len {
-        match at.get() {
-            None => return,
-            Some(slot) => {
-                enlist(store, slot);
-                at = pair_of(&store.order, slot).next;
-            }
-        }
-    }
+    list_all(
+        store.bucket.as_mut_slice(),
+        store.heads.as_mut_slice(),
+        store.cells.as_slice(),
+        store.width,
+    );
 }
 
 /// So many empty buckets.
@@ -280,6 +402,7 @@ fn buckets(alloc: Global, count: usize) -> Result<Vec<Link>, AllocError>
 /// Twice as many buckets. Where there is no memory, all stays as it was.
 fn grow(store: &mut Store, alloc: Global) -> Result<(), AllocError>
     requires sound { IsSound store.old }
+    requires full { length store.old.order.items ≡ store.old.len }
     requires few { length store.old.heads.items ≤ 4294967295 }
     ensures { IsSame store.old store.new }
 {
@@ -289,40 +412,37 @@ fn grow(store: &mut Store, alloc: Global) -> Result<(), AllocError>
     Ok(())
 }
 
-/// Twice as many buckets, where no slot is free and there are no more buckets than rows.
+/// Twice as many buckets, where there are no more of them than rows.
 fn make_room(store: &mut Store, alloc: Global) -> Result<(), AllocError>
-    requires { IsSound store.old }
+    requires sound { IsSound store.old }
+    requires full { length store.old.order.items ≡ store.old.len }
     ensures same { IsSame store.old store.new }
-    ensures full { OnErr result (store.old.spare ≡ 0) }
 {
-    if store.spare == 0 && store.heads.len() <= store.len as usize {
+    if store.heads.len() <= store.len as usize {
         grow(store, alloc)
     } else {
         Ok(())
     }
 }
 
-/// Writes a row into a slot that holds none: a free one, if there is one.
-fn prepare(store: &mut Store, cells: &[u64]) -> Result<u32, AllocError>
+/// Puts in a row behind all others, into a new slot, where no slot is free. Where there is no memory, all stays as it
+/// was. It stands apart, so that a row which comes into a free slot saves no registers.
+#[inline(never)]
+fn put_fresh(store: &mut Store, alloc: Global, cells: &[u64]) -> Result<u32, AllocError>
     requires sound { IsSound store.old }
-    requires tidy { IsTidy store.old }
+    requires full { length store.old.order.items ≡ store.old.len }
     requires wide { length cells.now ≡ store.old.width }
     requires few { store.old.len < 4294967295 }
-    ensures prepared { IfOk result (λ slot. IsPrepared store.old store.new slot cells.now) }
-    ensures reused { IfOk result (λ slot. store.old.spare ≢ 0 → slot < length store.old.order.items) }
+    ensures put { IfOk result (λ slot. IsPut store.old store.new slot cells.now) }
     ensures refused { OnErr result (IsSame store.old store.new) }
-    ensures full { OnErr result (store.old.spare ≡ 0) }
 {
-    match store.free.last.get() {
-        Some(slot) => {
-            reuse(store, slot, cells);
-            Ok(slot)
-        }
-        None => fresh(store, cells),
-    }
+    make_room(store, alloc)?;
+    let slot = fresh(store, cells)?;
+    link(store, slot, cells);
+    Ok(slot)
 }
 
-/// Puts in a row behind all others. Where there is no memory, all stays as it was.
+/// Puts in a row behind all others: into a free slot, if there is one. Where there is no memory, all stays as it was.
 pub fn put(store: &mut Store, alloc: Global, cells: &[u64]) -> Result<u32, AllocError>
     requires sound { IsSound store.old }
     requires tidy { IsTidy store.old }
@@ -333,10 +453,14 @@ pub fn put(store: &mut Store, alloc: Global, cells: &[u64]) -> Result<u32, Alloc
     ensures refused { OnErr result (IsSame store.old store.new) }
     ensures full { OnErr result (store.old.spare ≡ 0) }
 {
-    make_room(store, alloc)?;
-    let slot = prepare(store, cells)?;
-    link(store, slot);
-    Ok(slot)
+    match store.free.get() {
+        Some(slot) => {
+            reuse(store, slot, cells);
+            link(store, slot, cells);
+            Ok(slot)
+        }
+        None => put_fresh(store, alloc, cells),
+    }
 }
 
 /// Takes a row out.
@@ -349,14 +473,16 @@ pub fn take(store: &mut Store, slot: u32)
     release(store, slot);
 }
 
-/// Puts a row behind all others; its slot stays.
+/// Puts a row behind all others; its slot stays, and so does its bucket, whose order is any.
 pub fn renew(store: &mut Store, slot: u32)
     requires sound { IsSound store.old }
     requires held { Holds (live_of store.old) slot }
     ensures renewed { IsRenewed store.old store.new slot }
 {
-    unlink(store, slot);
-    link(store, slot);
+    let neighbours = pair_of(&store.order, slot);
+    leave(&mut store.order, &mut store.live, &neighbours);
+    enter(&mut store.order, store.live.last, slot);
+    store.live = grown(&store.live, slot);
 }
 
 /// A store without rows. It fails only out of memory.
@@ -374,10 +500,7 @@ pub fn empty(alloc: Global, width: usize) -> Result<Store, AllocError>
             first: Link::none(),
             last: Link::none(),
         },
-        free: Ends {
-            first: Link::none(),
-            last: Link::none(),
-        },
+        free: Link::none(),
         len: 0,
         spare: 0,
     })

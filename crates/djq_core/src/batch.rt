@@ -56,14 +56,7 @@ pub(crate) fn run_in_batch<L: Ledgers>(
         BatchLine::Hold(name) => {
             let name = Name::new(name);
             let line = &session.held()[..end];
-            let made = new_row(
-                alloc,
-                engine,
-                session.rows_held(),
-                line,
-                &name,
-                row.as_slice(),
-            );
+            let made = new_row(alloc, engine, session.rows_held(), line, &name, row);
             session.take_line(rest);
             hold(session, made);
             Left::Nothing { kept: false }

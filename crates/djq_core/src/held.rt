@@ -1,14 +1,16 @@
-//! Rows that are to be held: judged, and copied with their lines.
+//! Rows that are to be held: judged, and put together with copies of their lines.
 ghost use Rattle.std.specs.Prelude.{◌≡◌, IfOk};
 ghost use Rattle.djq_core.specs.Batching.{MakesRow, row_of};
 
 use djq_lines::limits::HELD;
 use djq_lines::{HeldRow, Refusal};
-use djq_model::{Name, NoMem, Row, Sequence, Text, Value};
+use djq_model::{Name, NoMem, Row, Sequence, Value};
 use djq_store::Store;
 use std::alloc::Global;
+use std::mem;
 
-/// A row that is to be held behind so many others, with the line that says it.
+/// A row that is to be held behind so many others, with the line that says it. Its values are taken, so that no text is
+/// copied; others stand in their places, and are of no use.
 ///
 /// # Errors
 ///
@@ -19,28 +21,33 @@ pub(crate) fn new_row(
     count: usize,
     line: &[u8],
     name: &Name,
-    row: &[Value],
+    row: &mut Vec<Value>,
 ) -> Result<HeldRow, Refusal>
-    ensures { MakesRow engine.now.store count line.now name.now row.now result }
+    ensures { MakesRow engine.now.store count line.now name.now row.old.items result }
 {
-    engine.held_ok(name, row)?;
+    engine.held_ok(name, row.as_slice())?;
     if count >= HELD {
         return Err(Refusal::Limit);
     }
-    match copy_row(alloc, line, name, row) {
+    match put_together(alloc, line, name, row) {
         Ok(held) => Ok(held),
         Err(_) => Err(Refusal::NoMemory),
     }
 }
 
-// A row with its line, in memory of its own.
-fn copy_row(alloc: Global, line: &[u8], name: &Name, row: &[Value]) -> Result<HeldRow, NoMem>
-    ensures { IfOk result (λ h. h ≡ row_of line.now name.now row.now) }
+// A row of these values with a copy of its line.
+fn put_together(
+    alloc: Global,
+    line: &[u8],
+    name: &Name,
+    row: &mut Vec<Value>,
+) -> Result<HeldRow, NoMem>
+    ensures { IfOk result (λ h. h ≡ row_of line.now name.now row.old.items) }
 {
     Ok(HeldRow {
         line: copy_line(alloc, line)?,
         relation: *name,
-        row: copy_values(alloc, row)?,
+        row: take_values(alloc, row)?,
     })
 }
 
@@ -55,26 +62,13 @@ fn copy_line(alloc: Global, line: &[u8]) -> Result<Sequence<u8>, NoMem>
     Ok(copy)
 }
 
-// A copy of a row's values.
-fn copy_values(alloc: Global, row: &[Value]) -> Result<Row, NoMem>
-    ensures { IfOk result (λ copy. copy ≡ row.now) }
+// A row's values, taken.
+fn take_values(alloc: Global, row: &mut Vec<Value>) -> Result<Row, NoMem>
+    ensures { IfOk result (λ taken. taken ≡ row.old.items) }
 {
-    let mut copy = Row::new(alloc);
-    for value in row {
-        copy.push(copy_value(alloc, value)?)?;
+    let mut taken = Row::new(alloc);
+    for at in 0..row.len() {
+        taken.push(mem::replace(&mut row[at], Value::Int(0)))?;
     }
-    Ok(copy)
-}
-
-// A copy of a value.
-fn copy_value(alloc: Global, value: &Value) -> Result<Value, NoMem>
-    ensures { IfOk result (λ v. v ≡ value.now) }
-{
-    match value {
-        Value::Int(number) => Ok(Value::Int(*number)),
-        Value::Text(text) => {
-            let bytes = Vec::from_slice(alloc, text.as_bytes())?;
-            Ok(Value::Text(Text::new(bytes)))
-        }
-    }
+    Ok(taken)
 }

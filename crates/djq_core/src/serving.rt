@@ -184,11 +184,13 @@ impl Machine for Core {
         self.kept.get(i, self.copied.line())
     }
 
+    #[inline]
     fn pending(&self, id: u64) -> &[u8] {
         let at = place_of(self.ids.as_slice(), id);
         self.sessions[at].session.pending()
     }
 
+    #[inline]
     fn took(&mut self, id: u64, count: usize) {
         let at = place_of(self.ids.as_slice(), id);
         self.sessions[at].session.took(count);
@@ -250,6 +252,7 @@ fn first_due(sessions: &[OpenSession], from: u128) -> Option<u64>
 }
 
 // Where the session of an id stands.
+#[inline]
 fn place_of(ids: &[u64], id: u64) -> usize
     requires rising { Rises ids.now }
     requires there { Contains ids.now id }

@@ -88,8 +88,16 @@ fn tell_watcher(engine: &mut Store, session: &mut Session<CursorId, Name>, whole
     }
 }
 
-// A delta is told to all sessions that watch its query. It is printed once.
-fn tell_query(engine: &mut Store, sessions: &mut Vec<OpenSession>, id: QueryId, text: &mut BytesMut)
+// A delta is told to all sessions that watch its query. It is printed once. The query is looked for at
+// a place of what a session watches first, and the answer is the one behind that where it stood last:
+// queries are told in order of registration, in which most are watched too.
+fn tell_query(
+    engine: &mut Store,
+    sessions: &mut Vec<OpenSession>,
+    id: QueryId,
+    near: usize,
+    text: &mut BytesMut,
+) -> usize
     requires sound { IsSound engine.old sessions.old.items }
     requires registered { IsRegistered engine.old id }
     ensures tells { (r : Registered) → registered_at engine.old.registered id ≡ Some r
@@ -98,16 +106,19 @@ fn tell_query(engine: &mut Store, sessions: &mut Vec<OpenSession>, id: QueryId, 
     ensures cap { sessions.new.cap ≡ sessions.old.cap }
 {
     if engine.watchers(id) == 0 {
-        return;
+        return near;
     }
     let query = engine.query_name(id);
     text.clear();
     let whole = print_delta(engine, id, &query, text);
+    let mut next = near;
     for at in 0..sessions.len() {
-        if sessions[at].session.watches(query) {
+        if let Some(place) = sessions[at].session.watch_near(query, near) {
             tell_watcher(engine, &mut sessions[at].session, whole, text.as_slice());
+            next = place.saturating_add(1);
         }
     }
+    next
 }
 
 // The deltas of the queries that a change affected are told, in order of registration.
@@ -117,9 +128,10 @@ fn tell_affected(engine: &mut Store, sessions: &mut Vec<OpenSession>, text: &mut
     ensures tells { TellsAffected engine.old sessions.old.items engine.new sessions.new.items }
     ensures cap { sessions.new.cap ≡ sessions.old.cap }
 {
+    let mut near = 0;
     for nth in 0..engine.affected_count() {
         let id = engine.affected(nth);
-        tell_query(engine, sessions, id, text);
+        near = tell_query(engine, sessions, id, near, text);
     }
 }
 

@@ -1,4 +1,5 @@
 ghost use Rattle.std.specs.Prelude.{◌≡◌, [], ◌∷◌, ◌++◌, true, false, length};
+ghost use Rattle.std.specs.Bool.{OnTrue, OnFalse};
 
 use djq_reduct::Answer;
 use std::alloc::Global;
@@ -11,12 +12,37 @@ pub struct Line {
     pub answer: Answer,
 }
 
+impl Line {
+    // Takes an answer in place of what it had.
+    fn write(&mut self, came: bool, answer: &Answer)
+        ensures { self.new ≡ record { came = came; answer = answer.now } }
+    {
+        self.came = came;
+        self.answer = answer.copy();
+    }
+}
+
+// Puts a line behind the others, and says so; false where there is no memory for it.
+#[inline(never)]
+fn push_line(lines: &mut Vec<Line>, came: bool, answer: &Answer) -> bool
+    ensures put { OnTrue result (lines.new.items
+        ≡ lines.old.items ++ record { came = came; answer = answer.now } ∷ []) }
+    ensures same { OnFalse result (lines.new.items ≡ lines.old.items) }
+{
+    let answer = answer.copy();
+    lines.push(Line { came, answer }).is_ok()
+}
+
 /// What a change of the answers is, line by line, or that it was lost for want of memory.
 ///
 /// A lost log has no line, and stays lost until it is cleared.
+///
+/// Lines that were taken out are written over by later ones, so that a line is moved nowhere.
 #[derive(Drop)]
 pub struct DeltaLog {
+    // so many lines, and behind them some that were taken out
     lines: Vec<Line>,
+    len: usize,
     lost: bool,
 }
 
@@ -25,11 +51,11 @@ impl Model for DeltaLog {
 
     ghost Value = { spec.Log };
 
-    ghost use Rattle.std.specs.Prelude.{◌≡◌, true, []};
+    ghost use Rattle.std.specs.Prelude.{◌≡◌, ◌≤◌, true, take, length};
 
-    ghost view = { λ l. record { lines = l.lines.items; lost = l.lost } };
+    ghost view = { λ l. record { lines = take l.len l.lines.items; lost = l.lost } };
 
-    ghost invariant = { λ l. l.lost ≡ true → l.lines.items ≡ [] };
+    ghost invariant = { λ l. (l.len ≤ length l.lines.items) × (l.lost ≡ true → l.len ≡ 0) };
 }
 
 impl DeltaLog {
@@ -40,6 +66,7 @@ impl DeltaLog {
     {
         DeltaLog {
             lines: Vec::new(alloc),
+            len: 0,
             lost: false,
         }
     }
@@ -48,7 +75,7 @@ impl DeltaLog {
     pub fn lines(&self) -> &[Line]
         ensures { result.now ≡ self.now.lines }
     {
-        &self.lines
+        &self.lines[..self.len]
     }
 
     /// Whether lines were lost for want of memory.
@@ -69,17 +96,20 @@ impl DeltaLog {
         if self.lost {
             return;
         }
-        let answer = answer.copy();
-        if self.lines.push(Line { came, answer }).is_err() {
+        if self.len < self.lines.len() {
+            self.lines[self.len].write(came, answer);
+        } else if !push_line(&mut self.lines, came, answer) {
             self.lose();
+            return;
         }
+        self.len += 1;
     }
 
     /// Loses all lines: whoever puts them in can't go on.
     pub fn lose(&mut self)
         ensures { self.new.lost ≡ true }
     {
-        self.lines.clear();
+        self.len = 0;
         self.lost = true;
     }
 
@@ -88,7 +118,7 @@ impl DeltaLog {
         ensures lines { self.new.lines ≡ [] }
         ensures kept { self.new.lost ≡ false }
     {
-        self.lines.clear();
+        self.len = 0;
         self.lost = false;
     }
 }

@@ -19,7 +19,6 @@ use Rattle.djq_rows.specs.Laws.{NamesTell}
 use Rattle.djq_rows.specs.Catalog.{Catalog, StandForRow, relation_at, counted_at, rows_at, with_rows_at}
 use Rattle.djq_live.specs.Live.{Live}
 use Rattle.djq_engine.specs.declared.cursor.CursorId.{CursorId}
-use Rattle.djq_engine.specs.declared.judge.Deletion.{Deletion}
 use Rattle.djq_engine.specs.declared.parts.Parts.{Parts}
 use Rattle.djq_machine.specs.Stale.{by_relation}
 use Rattle.djq_engine.specs.Kept.{held_at, outdated_held}
@@ -27,7 +26,7 @@ use Rattle.djq_reach.specs.Places.{readers_at, AreOnce}
 use Rattle.djq_engine.specs.Places.{queries_in, store_of, held_from}
 use Rattle.djq_engine.specs.Sound.{IsSound}
 use Rattle.djq_reach.specs.Reaching.{Reach, AllAt, Ages, Carries}
-use Rattle.djq_engine.specs.Judging.{bare, MayCome, MayGo}
+use Rattle.djq_engine.specs.Judging.{bare, Deletion, MayCome, MayGo}
 use Rattle.djq_engine.specs.Changing.{KeepsRest, PutsRow, LacksMemory, NoPlace, for_copies, for_texts, LacksPlace, HasCopies, HasMore, DeletesFrom, AgesReaders, RestsOver}
 use Rattle.djq_engine.specs.Whole.{kept_in, IsWhole}
 use Rattle.djq_engine.proofs.Conditions.{answers_refused, answers_done}

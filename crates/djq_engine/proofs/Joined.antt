@@ -2,7 +2,7 @@
 use Rattle.std.proofs.Common.{ℕ, zero, suc, List, [], ◌∷◌, ◌++◌, ◌+◌, ◌≡◌, ◌<◌, Bool, true, false, refl, sym, ap, ap₂, ◌∙◌, subst, length, get_or, set, arith}
 use Rattle.std.specs.Prelude.{◌==◌, ◌||◌, None, Some, cond, find, position}
 use Rattle.std.proofs.lemmas.Bool.{eqb-true, eq-eqb, false≢true}
-use Rattle.std.proofs.lemmas.List.{map-append}
+use Rattle.std.proofs.lemmas.List.{map-append, length-append}
 use Rattle.std.proofs.lemmas.List.Sums.{sum_by-cons, sum_by-append}
 use Rattle.djq_reach.specs.declared.group.Group.{Group}
 use Rattle.djq_reach.specs.Places.{is_reader, AreOnce}
@@ -87,6 +87,7 @@ joins_there groups k at g cells rows e is more =
       there = λ r. ap (λ (xs : List ℕ). is_reader xs r) same ∙ by r (at == r) refl (there_at groups k at f);
       rows = λ r. rows_with_group groups k at g rows f is r ∙ by_rows r (at == r) refl f;
       more = size_with groups k g rows f.below is (ap (λ (xs : List (List ℕ)). length xs) more ∙ one_more g.rows);
+      same = λ long. there_at groups k at f;
     }
   where
     one_more : (xs : List (List ℕ)) → length (xs ++ cells ∷ []) ≡ length xs + 1
@@ -148,4 +149,5 @@ joins_new groups at cells g e is rows =
       there = λ r. ap (λ (xs : List ℕ). is_reader xs r) long ∙ reader_more (relations_of groups) g.relation.at r ∙ ap (λ (n : ℕ). is_reader (relations_of groups) r || (n == r)) is;
       rows = λ r. rows_more groups g r none ∙ ap₂ (λ (n : ℕ) (xs : List (List ℕ)). cond (n == r) (rows_for groups r ++ xs) (rows_for groups r)) is rows;
       more = omega (arith, sum_by-append (λ (y : Group). length y.rows) groups (g ∷ []), sum_by-cons (λ (y : Group). length y.rows) g [], ap (λ (xs : List (List ℕ)). length xs) rows);
+      same = λ k. absurd (omega (arith, k, length-append groups (g ∷ [])));
     }

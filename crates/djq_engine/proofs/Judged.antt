@@ -1,7 +1,7 @@
 -- The conditions on a row, one after another.
 use Rattle.std.proofs.Common.{ℕ, suc, List, [], ◌∷◌, ◌≡◌, ◌<◌, ◌≤◌, ◌⊎◌, inl, inr, Bool, true, false, refl, sym, ap, ap₂, ◌∙◌, length, arith}
 use Rattle.std.specs.Prelude.{◌==◌, ◌&&◌, not, nat_le, Option, None, Some, is_none, cond}
-use Rattle.std.proofs.lemmas.Bool.{eqb-true, eq-eqb, le-leb, lt-leb}
+use Rattle.std.proofs.lemmas.Bool.{eq-eqb, le-leb, lt-leb}
 use Rattle.djq_model.specs.declared.relation.Relation.{Relation}
 use Rattle.djq_model.specs.declared.relation.ColumnType.{ColumnType}
 use Rattle.djq_model.specs.declared.relation.CountedRow.{CountedRow}
@@ -92,40 +92,6 @@ module _ (rs : List Relation) (name : Bytes) (row : Tuple) where
           front_passes (row_refusals (bare rs 0) name row) (adding (counted_of rs name) seq) suits_pass
           ∙ place_by many there full last m e f h
 
-      -- it has its place, or it doesn't, as the code reads it by the number of its copies
-      module _ (n : ℕ) (many : n ≡ copies_among (counted_at rs at) row) (has : has_row (rows_at rs at) row ≡ not (n == 0)) where
-        pub place_passes : n < COPIES → (n ≡ 0 → (length (rows_at rs at) < ROWS) × (seq < LAST_SEQ)) → first_of (adding (counted_of rs name) seq) ≡ None
-        place_passes few room = by_test (n == 0) refl
-          where
-            fewer : nat_le COPIES (copies_among (counted_at rs at) row) ≡ false
-            fewer = lt-leb COPIES (copies_among (counted_at rs at) row) (omega (arith, many, few))
-
-            by_test : (b : Bool) → (n == 0) ≡ b → first_of (adding (counted_of rs name) seq) ≡ None
-            by_test true e =
-                let r = room (eqb-true n 0 e) in
-                place_by false false false false fewer (has ∙ ap not e) (lt-leb ROWS (length (rows_at rs at)) r.0) (lt-leb LAST_SEQ seq r.1)
-            by_test false e = place_by false true (nat_le ROWS (length (rows_at rs at))) (nat_le LAST_SEQ seq) fewer (has ∙ ap not e) refl refl
-
-        pub place_many : COPIES ≤ n → first_of (adding (counted_of rs name) seq) ≡ Some Limit
-        place_many l = place_by true (has_row (rows_at rs at) row) (nat_le ROWS (length (rows_at rs at))) (nat_le LAST_SEQ seq)
-            (le-leb COPIES (copies_among (counted_at rs at) row) (omega (arith, many, l))) refl refl refl
-
-        pub place_full : n ≡ 0 → (ROWS ≤ length (rows_at rs at)) ⊎ (seq ≡ LAST_SEQ) → first_of (adding (counted_of rs name) seq) ≡ Some Limit
-        place_full none h =
-            place_by (nat_le COPIES (copies_among (counted_at rs at) row)) false (nat_le ROWS (length (rows_at rs at))) (nat_le LAST_SEQ seq) refl (has ∙ ap (λ (k : ℕ). not (k == 0)) none) refl refl
-            ∙ limits_all (nat_le COPIES (copies_among (counted_at rs at) row)) (nat_le ROWS (length (rows_at rs at))) (nat_le LAST_SEQ seq) (by_limit h)
-          where
-            limits_all : (a full last : Bool) → (full ≡ true) ⊎ (last ≡ true) → cond a (Some Limit) (cond full (Some Limit) (cond last (Some Limit) None)) ≡ Some Limit
-            limits_all true full last h = refl
-            limits_all false true last h = refl
-            limits_all false false true h = refl
-            limits_all false false false (inl e) = absurd cc
-            limits_all false false false (inr e) = absurd cc
-
-            by_limit : (ROWS ≤ length (rows_at rs at)) ⊎ (seq ≡ LAST_SEQ) → (nat_le ROWS (length (rows_at rs at)) ≡ true) ⊎ (nat_le LAST_SEQ seq ≡ true)
-            by_limit (inl l) = inl (le-leb ROWS (length (rows_at rs at)) l)
-            by_limit (inr l) = inr (le-leb LAST_SEQ seq (omega (arith, l)))
-
       -- a row that is there may have a copy more, where it has fewer than there may be
       pub add_more : has_row (rows_at rs at) row ≡ true → copies_among (counted_at rs at) row < COPIES → add_refusal (bare rs seq) name row ≡ None
       add_more e l = add_by false true (nat_le ROWS (length (rows_at rs at))) (nat_le LAST_SEQ seq) (lt-leb COPIES (copies_among (counted_at rs at) row) l) e refl refl
@@ -142,14 +108,30 @@ module _ (rs : List Relation) (name : Bytes) (row : Tuple) where
       limits false false (inl e) = absurd cc
       limits false false (inr e) = absurd cc
 
+      by_limit : (ROWS ≤ length (rows_at rs at)) ⊎ (seq ≡ LAST_SEQ) → (nat_le ROWS (length (rows_at rs at)) ≡ true) ⊎ (nat_le LAST_SEQ seq ≡ true)
+      by_limit (inl l) = inl (le-leb ROWS (length (rows_at rs at)) l)
+      by_limit (inr l) = inr (le-leb LAST_SEQ seq (omega (arith, l)))
+
+      -- a row that isn't there has no place at a limit, and else it has
+      pub place_limited : has_row (rows_at rs at) row ≡ false → (ROWS ≤ length (rows_at rs at)) ⊎ (seq ≡ LAST_SEQ) → first_of (adding (counted_of rs name) seq) ≡ Some Limit
+      place_limited e h =
+          place_by false false (nat_le ROWS (length (rows_at rs at))) (nat_le LAST_SEQ seq) (none_yet e) e refl refl
+          ∙ limits (nat_le ROWS (length (rows_at rs at))) (nat_le LAST_SEQ seq) (by_limit h)
+
+      pub place_passes : has_row (rows_at rs at) row ≡ false → length (rows_at rs at) < ROWS → seq < LAST_SEQ → first_of (adding (counted_of rs name) seq) ≡ None
+      place_passes e l m = place_by false false false false (none_yet e) e (lt-leb ROWS (length (rows_at rs at)) l) (lt-leb LAST_SEQ seq m)
+
+      -- one that is has a place where it has fewer copies than there may be
+      pub place_more : has_row (rows_at rs at) row ≡ true → copies_among (counted_at rs at) row < COPIES → first_of (adding (counted_of rs name) seq) ≡ None
+      place_more e l = place_by false true (nat_le ROWS (length (rows_at rs at))) (nat_le LAST_SEQ seq) (lt-leb COPIES (copies_among (counted_at rs at) row) l) e refl refl
+
+      pub place_most : COPIES ≤ copies_among (counted_at rs at) row → first_of (adding (counted_of rs name) seq) ≡ Some Limit
+      place_most l = place_by true (has_row (rows_at rs at) row) (nat_le ROWS (length (rows_at rs at))) (nat_le LAST_SEQ seq) (le-leb COPIES (copies_among (counted_at rs at) row) l) refl refl refl
+
       pub add_limited : has_row (rows_at rs at) row ≡ false → (ROWS ≤ length (rows_at rs at)) ⊎ (seq ≡ LAST_SEQ) → add_refusal (bare rs seq) name row ≡ Some Limit
       add_limited e h =
-          add_by false false (nat_le ROWS (length (rows_at rs at))) (nat_le LAST_SEQ seq) (none_yet e) e refl refl
-          ∙ limits (nat_le ROWS (length (rows_at rs at))) (nat_le LAST_SEQ seq) (by_limit h)
-        where
-          by_limit : (ROWS ≤ length (rows_at rs at)) ⊎ (seq ≡ LAST_SEQ) → (nat_le ROWS (length (rows_at rs at)) ≡ true) ⊎ (nat_le LAST_SEQ seq ≡ true)
-          by_limit (inl l) = inl (le-leb ROWS (length (rows_at rs at)) l)
-          by_limit (inr l) = inr (le-leb LAST_SEQ seq (omega (arith, l)))
+          front_passes (row_refusals (bare rs 0) name row) (adding (counted_of rs name) seq) suits_pass
+          ∙ place_limited e h
 
       pub add_passes : has_row (rows_at rs at) row ≡ false → length (rows_at rs at) < ROWS → seq < LAST_SEQ → add_refusal (bare rs seq) name row ≡ None
       add_passes e l m = add_by false false false false (none_yet e) e (lt-leb ROWS (length (rows_at rs at)) l) (lt-leb LAST_SEQ seq m)

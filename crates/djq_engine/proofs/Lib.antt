@@ -43,3 +43,5 @@ pub mod Joined
 pub mod Placed
 pub mod Crowded
 pub mod Lawful
+pub mod Standing
+pub mod Fronting

@@ -25,9 +25,8 @@ use Rattle.djq_live.specs.Changes.{StandForRows}
 use Rattle.djq_reach.specs.declared.group.Group.{Group}
 use Rattle.djq_reach.specs.Places.{is_reader}
 use Rattle.djq_reach.specs.Grouping.{relations_of}
-use Rattle.djq_engine.specs.declared.putting.Placed.{Placed}
 use Rattle.djq_engine.specs.Judging.{bare, Suits, MayStand}
-use Rattle.djq_engine.specs.Putting.{bare_of, IsStoreOf, PutsNew, PutsMore, PutsOne, JoinsGroup, PutsAll, RefusesAll, WentIn, WentInAll, AreCounted, rows_for}
+use Rattle.djq_engine.specs.Putting.{bare_of, Placed, IsStoreOf, PutsNew, PutsMore, PutsOne, JoinsGroup, PutsAll, RefusesAll, WentIn, WentInAll, AreCounted, rows_for}
 use Rattle.djq_engine.proofs.Carrying.{rows_with, field_with, long_with}
 use Rattle.djq_engine.proofs.Chained.{other_at, stand_as}
 use Rattle.djq_engine.proofs.TakenBack.{catalog_counted}

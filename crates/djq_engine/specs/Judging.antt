@@ -10,7 +10,7 @@ use Rattle.djq_machine.specs.Store.{delete_refusal}
 use Rattle.djq_machine.specs.Batch.{place_refusal}
 use Rattle.djq_rows.specs.Cells.{HaveCells, cells_of}
 use Rattle.djq_rows.specs.Catalog.{Catalog, relation_at, counted_at, rows_at}
-use Rattle.djq_engine.specs.declared.judge.Deletion.{Deletion}
+use Rattle.djq_rows.specs.declared.relation_id.RelationId.{RelationId}
 
 -- a store, as far as a row's conditions read it
 abbrev pub bare : List Relation → ℕ → Store
@@ -35,6 +35,11 @@ pub record MayStand (relations : List Relation) (h : HeldRow) (seq : ℕ) (at : 
   pub relation : Suits relations h.relation h.row at
   pub passes : place_refusal (bare relations seq) h ≡ None
 
+-- a row of which a copy may be deleted, by its cells
+pub record Deletion : Type 0 where
+  pub relation : RelationId
+  pub cells : List ℕ
+
 -- A copy of it may be deleted, and it has these cells.
 pub record MayGo (c : Catalog) (name : Bytes) (row : Tuple) (seq : ℕ) (found : Deletion) : Type 0
   where
@@ -45,8 +50,9 @@ pub record MayGo (c : Catalog) (name : Bytes) (row : Tuple) (seq : ℕ) (found :
     pub last : copies_among (counted_at c.relations found.relation.at) row ≡ 1 → seq < LAST_SEQ
 
 -- Its texts aren't all known, so that it isn't there; or it may go.
-abbrev pub JudgesDelete : Catalog → Bytes → Tuple → ℕ → Option Deletion → Type 0
-JudgesDelete c name row seq None =
+abbrev pub JudgesDelete : Catalog → Bytes → Tuple → ℕ → List ℕ → Option RelationId → Type 0
+JudgesDelete c name row seq cells None =
     (delete_refusal (bare c.relations seq) name row ≡ None)
     × (has_row (rows_of c.relations name) row ≡ false)
-JudgesDelete c name row seq (Some found) = MayGo c name row seq found
+JudgesDelete c name row seq cells (Some relation) =
+    MayGo c name row seq (record { relation = relation; cells = cells })

@@ -1,5 +1,5 @@
 -- The rows of a batch go into the catalog, one after another.
-use Rattle.std.specs.Prelude.{ℕ, zero, suc, List, [], ◌∷◌, ◌++◌, ◌==◌, ◌≡◌, ◌<◌, ◌≤◌, ◌+◌, ◌||◌, true, false, Option, None, Some, if◌then◌else◌, length, All}
+use Rattle.std.specs.Prelude.{ℕ, zero, suc, List, [], ◌∷◌, ◌++◌, ◌==◌, ◌≡◌, ◌<◌, ◌≤◌, ◌+◌, ◌||◌, true, false, Option, None, Some, if◌then◌else◌, length, take, All}
 use Rattle.djq_model.specs.declared.relation.Relation.{Relation}
 use Rattle.djq_model.specs.Data.{Bytes, Tuple, has_row, copies_among, with_row, with_copies}
 use Rattle.djq_model.specs.Known.{texts_in}
@@ -10,11 +10,11 @@ use Rattle.djq_machine.specs.Store.{LearnsAll}
 use Rattle.djq_machine.specs.Batch.{suit_refusal, SuitAll, HavePlaces, StopsAt, with_held, with_all, count_came, has_come}
 use Rattle.djq_rows.specs.Cells.{HaveCells, cells_of}
 use Rattle.djq_rows.specs.Catalog.{Catalog, relation_at, counted_at, rows_at, with_rows_at}
+use Rattle.djq_rows.specs.declared.relation_id.RelationId.{RelationId}
 use Rattle.djq_live.specs.Changes.{StandForRows}
 use Rattle.djq_reach.specs.declared.group.Group.{Group}
 use Rattle.djq_reach.specs.Places.{is_reader, AreOnce}
 use Rattle.djq_reach.specs.Grouping.{relations_of, rows_in}
-use Rattle.djq_engine.specs.declared.putting.Placed.{Placed}
 use Rattle.djq_engine.specs.Judging.{MayStand}
 
 -- the store of these relations and texts, as far as rows are concerned
@@ -26,6 +26,16 @@ pub record IsStoreOf (c : Catalog) (n : ℕ) (st : Store) : Type 0 where
   pub relations : st.relations ≡ c.relations
   pub texts : st.texts ≡ c.texts
   pub seq : st.seq ≡ n
+
+-- A row that came: its relation, and its cells.
+pub record Placed : Type 0 where
+  pub relation : RelationId
+  pub cells : List ℕ
+
+-- a row with these cells, where it came
+abbrev pub placed : Option RelationId → List ℕ → Option Placed
+placed (Some id) cells = Some (record { relation = id; cells = cells })
+placed None cells = None
 
 -- A held row that wasn't there went in: here, by these cells.
 pub record PutsNew (c : Catalog) (h : HeldRow) (seq : ℕ) (p : Placed) (d : Catalog) : Type 0 where
@@ -63,6 +73,7 @@ pub record JoinsGroup (at : ℕ) (cells : List ℕ) (old new : List Group) : Typ
   pub rows : (r : ℕ) → rows_for new r
       ≡ (if at == r then rows_for old r ++ cells ∷ [] else rows_for old r)
   pub more : rows_in new ≡ rows_in old + 1
+  pub same : length new ≡ length old → is_reader (relations_of old) at ≡ true
 
 -- A held row went in, and is in its group where it came. This many came.
 abbrev pub PutsOne : Catalog → List Group → HeldRow → ℕ → ℕ → Catalog → List Group → Type 0
@@ -92,6 +103,10 @@ pub record PutsAll (st : Store) (held : List HeldRow) (c : Catalog) (n : ℕ) (g
   pub grouped : AreGrouped st.relations c groups
   pub come : (r : ℕ) → r < length st.relations
       → is_reader (relations_of groups) r ≡ has_come st held (relation_at st.relations r).name
+
+-- Of each relation of which a row comes, one comes among this many in front.
+abbrev pub ComeFirst : Store → List HeldRow → ℕ → Type 0
+ComeFirst st held first = (name : Bytes) → has_come st held name ≡ true → has_come st (take first held) name ≡ true
 
 -- A batch goes no further than one of its rows, at which this many texts are known.
 pub record RefusesAll (st : Store) (held : List HeldRow) (texts : List Bytes) (r : Refusal) : Type 0

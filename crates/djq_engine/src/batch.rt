@@ -119,7 +119,11 @@ pub fn done_in<L: Ledgers>(
         &mut steps.rows,
     );
     parts.catalog.laws();
-    let Came { count, groups } = match put {
+    let Came {
+        count,
+        groups,
+        first,
+    } = match put {
         Ok(came) => came,
         Err(refusal) => {
             return match refusal {
@@ -152,7 +156,7 @@ pub fn done_in<L: Ledgers>(
         &mut parts.queries,
         &parts.readers,
         &parts.catalog,
-        held,
+        &held[..first],
         came,
         seq,
     );

@@ -14,6 +14,7 @@ ghost use Rattle.djq_engine.specs.Whole.{IsWhole, IsTended};
 
 use crate::parts::Parts;
 use djq_dict::InternRefusal;
+use djq_index::Cells;
 use djq_lines::{AddOutcome, DeleteOutcome};
 use djq_live::{
     added_came, came_passes, copies_keep_rows, deleted_went, live_stays, showable_stays,
@@ -147,13 +148,14 @@ pub fn put_row<L: Ledgers>(
     texts_stay();
     showable_stays();
     parts.catalog.laws();
-    let cells = match parts.catalog.intern_row(row) {
-        Ok(cells) => cells,
+    let mut cells = Cells::new(0);
+    match parts.catalog.intern_cells(row, &mut cells) {
+        Ok(()) => {}
         Err(refusal) => {
             parts.catalog.laws();
             return Err(refusal);
         }
-    };
+    }
     parts.catalog.laws();
     put_cells(parts, id, cells.as_slice(), steps)
 }

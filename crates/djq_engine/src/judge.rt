@@ -1,27 +1,20 @@
 //! Whether a row may be added to a relation, or deleted from it.
-ghost use Rattle.std.specs.Prelude.{◌≡◌, ◌<◌, ◌≤◌, ◌+◌, ◌==◌, not, true, None, Some, IfOk, IfErr, length};
-ghost use Rattle.djq_model.specs.Data.{has_row, copies_among};
+ghost use Rattle.std.specs.Prelude.{◌≡◌, ◌<◌, ◌≤◌, ◌+◌, true, None, Some, IfOk, IfErr, length};
+ghost use Rattle.djq_model.specs.Data.{has_row};
 ghost use Rattle.djq_model.specs.Typed.{fits};
 ghost use Rattle.djq_machine.specs.Conditions.{first_of};
 ghost use Rattle.djq_machine.specs.Store.{row_refusals, add_refusal, delete_refusal};
 ghost use Rattle.djq_machine.specs.Batch.{suit_refusal, place_refusal};
-ghost use Rattle.djq_rows.specs.Catalog.{relation_at, counted_at, rows_at};
-ghost use Rattle.djq_engine.specs.Judging.{bare, Suits, MayCome, MayStand, JudgesDelete};
+ghost use Rattle.djq_rows.specs.Catalog.{relation_at, rows_at};
+ghost use Rattle.djq_engine.specs.Judging.{bare, Suits, MayCome, JudgesDelete};
 
 use djq_index::Cells;
-use djq_lines::limits::{COPIES, LAST_SEQ, ROWS};
+use djq_lines::limits::{LAST_SEQ, ROWS};
 use djq_lines::{HeldRow, Refusal};
 use djq_model::{Name, Value};
 use djq_rows::{Catalog, RelationId};
 use djq_steps::Tally;
 use std::sync::ledger::Ledger;
-
-/// A row of which a copy may be deleted, by its cells.
-#[derive(Debug, Drop)]
-pub struct Deletion {
-    pub relation: RelationId,
-    pub cells: Cells,
-}
 
 /// The relation of a name, where a row suits its columns.
 ///
@@ -90,30 +83,12 @@ pub fn judge_add<L: Ledger>(
     Ok(id)
 }
 
-// How many copies of a row that suits a relation are there. Of an unknown text there is none.
-fn copies_there<L: Ledger>(
-    catalog: &Catalog,
-    id: RelationId,
-    row: &[Value],
-    tally: &mut Tally<L>,
-) -> u32
-    requires there { id.at < length catalog.now.relations }
-    requires suits { fits (relation_at catalog.now.relations id.at).types row.now ≡ true }
-    ensures copies { result ≡ copies_among (counted_at catalog.now.relations id.at) row.now }
-    ensures has { has_row (rows_at catalog.now.relations id.at) row.now ≡ not (result == 0) }
-{
-    catalog.laws();
-    match catalog.cells(row) {
-        Some(cells) => catalog.copies(id, cells.as_slice(), tally),
-        None => 0,
-    }
-}
-
-/// The relation of a held row that suits it, where the row has its place there, its texts aside.
+/// The relation of a held row that suits it, unless no row may come into it and this one isn't there. Its texts
+/// aside, the row has its place there unless it has as many copies as there may be.
 ///
 /// # Errors
 ///
-/// `Limit` where its copies, the relation or the number of changes are at their limit.
+/// `Limit` where the row isn't there, and the relation or the number of changes is at its limit.
 pub fn judge_held<L: Ledger>(
     catalog: &Catalog,
     held: &HeldRow,
@@ -121,7 +96,8 @@ pub fn judge_held<L: Ledger>(
     tally: &mut Tally<L>,
 ) -> Result<RelationId, Refusal>
     requires { suit_refusal (bare catalog.now.relations seq) held.now.relation held.now.row ≡ None }
-    ensures ok { IfOk result (λ id. MayStand catalog.now.relations held.now seq id.at) }
+    ensures ok { IfOk result (λ id. MayCome catalog.now.relations held.now.relation held.now.row seq
+        id.at) }
     ensures err { IfErr result (λ r.
         place_refusal (bare catalog.now.relations seq) held.now ≡ Some r) }
 {
@@ -129,18 +105,17 @@ pub fn judge_held<L: Ledger>(
     let Some(id) = catalog.id(&held.relation) else {
         unreachable!()
     };
-    let copies = copies_there(catalog, id, row, tally);
-    if copies >= COPIES {
-        return Err(Refusal::Limit);
+    if catalog.row_count(id) < ROWS && seq != LAST_SEQ {
+        return Ok(id);
     }
-    if copies == 0 && (catalog.row_count(id) >= ROWS || seq == LAST_SEQ) {
+    if !is_there(catalog, id, row, tally) {
         return Err(Refusal::Limit);
     }
     Ok(id)
 }
 
-/// The cells of a row of which a copy may be deleted, where it is there; none where a text of it isn't
-/// known, so that it isn't.
+/// The relation of a row of which a copy may be deleted, where it is there, and its cells, which are
+/// written; none where a text of it isn't known, so that it isn't.
 ///
 /// # Errors
 ///
@@ -150,22 +125,23 @@ pub fn judge_delete<L: Ledger>(
     name: &Name,
     row: &[Value],
     seq: u64,
+    cells: &mut Cells,
     tally: &mut Tally<L>,
-) -> Result<Option<Deletion>, Refusal>
-    ensures ok { IfOk result (JudgesDelete catalog.now name.now row.now seq) }
+) -> Result<Option<RelationId>, Refusal>
+    ensures ok { IfOk result (JudgesDelete catalog.now name.now row.now seq cells.new) }
     ensures err { IfErr result (λ r.
         delete_refusal (bare catalog.now.relations seq) name.now row.now ≡ Some r) }
 {
     let relation = suited(catalog, name, row)?;
     catalog.laws();
-    let Some(cells) = catalog.cells(row) else {
+    if !catalog.write_cells(row, cells) {
         return Ok(None);
-    };
+    }
     if seq != LAST_SEQ {
-        return Ok(Some(Deletion { relation, cells }));
+        return Ok(Some(relation));
     }
     if catalog.copies(relation, cells.as_slice(), tally) == 1 {
         return Err(Refusal::Limit);
     }
-    Ok(Some(Deletion { relation, cells }))
+    Ok(Some(relation))
 }

@@ -1,12 +1,12 @@
 //! The rows of a batch go into the catalog, one after another, or none does.
-ghost use Rattle.std.specs.Prelude.{◌≡◌, ◌≤◌, ◌++◌, length, List, None, IfOk, IfErr, OnOk, OnErr, position, ◌==◌};
+ghost use Rattle.std.specs.Prelude.{◌≡◌, ◌<◌, ◌≤◌, ◌+◌, ◌++◌, if◌then◌else◌, length, List, None, IfOk, IfErr, OnOk, OnErr, position, ◌==◌};
 ghost use Rattle.djq_model.specs.Data.{Bytes};
 ghost use Rattle.djq_lines.specs.declared.limits.TheConstants.{HELD};
 ghost use Rattle.djq_machine.specs.State.{Store};
 ghost use Rattle.djq_machine.specs.Batch.{suit_refusal, SuitAll, StopsAt};
 ghost use Rattle.djq_engine.specs.Judging.{bare};
-ghost use Rattle.djq_engine.specs.Putting.{bare_of, IsStoreOf, PutsRow, PutsOne, JoinsGroup, PutsAll};
-ghost use Rattle.djq_engine.specs.Putting.{RefusesAll, WentIn, WentInAll};
+ghost use Rattle.djq_engine.specs.Putting.{bare_of, placed, IsStoreOf, PutsRow, PutsOne, JoinsGroup, PutsAll};
+ghost use Rattle.djq_engine.specs.Putting.{ComeFirst, RefusesAll, WentIn, WentInAll};
 
 use crate::judge::judge_held;
 use djq_dict::InternRefusal;
@@ -19,21 +19,16 @@ use djq_steps::Tally;
 use std::alloc::Global;
 use std::sync::ledger::Ledger;
 
-/// A row that came: its relation, and its cells.
-#[derive(Debug, Drop)]
-pub struct Placed {
-    pub relation: RelationId,
-    pub cells: Cells,
-}
-
-/// What a batch put into a catalog: how many rows came, and these by their relations.
+/// What a batch put into a catalog: how many rows came, and these by their relations. Of each of these relations a row
+/// came among the first so many of the batch.
 #[derive(Drop)]
 pub struct Came {
     pub count: usize,
     pub groups: Vec<Group>,
+    pub first: usize,
 }
 
-// A held row goes in, or a copy of it where it is there.
+// A held row goes in, and its relation is told; or a copy of it goes in where it is there. Its cells are written.
 //
 // # Errors
 //
@@ -41,34 +36,33 @@ pub struct Came {
 fn put_row<L: Ledger>(
     catalog: &mut Catalog,
     held: &HeldRow,
+    cells: &mut Cells,
     seq: u64,
     tally: &mut Tally<L>,
-) -> Result<Option<Placed>, Refusal>
+) -> Result<Option<RelationId>, Refusal>
     requires { suit_refusal (bare catalog.old.relations seq) held.now.relation held.now.row ≡ None }
-    ensures ok { IfOk result (λ o. PutsRow catalog.old held.now seq o catalog.new) }
+    ensures ok { IfOk result (λ o. PutsRow catalog.old held.now seq (placed o cells.new) catalog.new) }
     ensures err { IfErr result (λ r.
         StopsAt (bare_of catalog.old seq) held.now catalog.new.texts r) }
     ensures stays { OnErr result (catalog.new.relations ≡ catalog.old.relations) }
 {
     catalog.laws();
     let id = judge_held(catalog, held, seq, tally)?;
-    let cells = match catalog.intern_row(held.row.as_slice()) {
-        Ok(cells) => cells,
+    match catalog.intern_cells(held.row.as_slice(), cells) {
+        Ok(()) => {}
         Err(InternRefusal::Full) => return Err(Refusal::Limit),
         Err(InternRefusal::NoMem) => {
             catalog.laws();
             return Err(Refusal::NoMemory);
         }
-    };
+    }
     catalog.laws();
     match catalog.add_row(id, cells.as_slice(), tally) {
-        Ok(AddOutcome::First) => Ok(Some(Placed {
-            relation: id,
-            cells,
-        })),
+        Ok(AddOutcome::First) => Ok(Some(id)),
         Ok(AddOutcome::More(_copies)) => Ok(None),
+        Err(RowsRefusal::NameTaken) => unreachable!(),
+        Err(RowsRefusal::Full) => Err(Refusal::Limit),
         Err(RowsRefusal::NoMem) => Err(Refusal::NoMemory),
-        Err(_full) => unreachable!(),
     }
 }
 
@@ -86,16 +80,19 @@ fn find_group(groups: &[Group], relation: RelationId) -> Option<usize>
 // # Errors
 //
 // `NoMem` out of memory.
-fn join_group(alloc: Global, groups: &mut Vec<Group>, placed: Placed) -> Result<(), NoMem>
-    ensures { OnOk result (JoinsGroup placed.relation.at placed.cells
-        groups.old.items groups.new.items) }
+fn join_group(
+    alloc: Global,
+    groups: &mut Vec<Group>,
+    relation: RelationId,
+    cells: &Cells,
+) -> Result<(), NoMem>
+    ensures { OnOk result (JoinsGroup relation.at cells.now groups.old.items groups.new.items) }
 {
-    let Placed { relation, cells } = placed;
     if let Some(at) = find_group(groups.as_slice(), relation) {
-        return groups[at].rows.push(cells);
+        return groups[at].rows.push(cells.copy());
     }
     let mut rows = Sequence::new(alloc);
-    rows.push(cells)?;
+    rows.push(cells.copy())?;
     match groups.push(Group { relation, rows }) {
         Ok(()) => Ok(()),
         Err(_failed) => Err(NoMem),
@@ -134,7 +131,8 @@ pub fn take_back<L: Ledger>(catalog: &mut Catalog, held: &[HeldRow], tally: &mut
     }
 }
 
-// A held row goes in, and joins those of its relation where it came. How many came is told.
+// A held row goes in, and joins those of its relation where it came. How many came is told. Its cells are written into
+// room that is lent, so that they are copied once.
 //
 // # Errors
 //
@@ -144,6 +142,7 @@ fn put_one<L: Ledger>(
     alloc: Global,
     groups: &mut Vec<Group>,
     held: &HeldRow,
+    cells: &mut Cells,
     seq: u64,
     tally: &mut Tally<L>,
 ) -> Result<usize, Refusal>
@@ -157,18 +156,30 @@ fn put_one<L: Ledger>(
     names_tell();
     texts_stay();
     catalog.laws();
-    let placed = match put_row(catalog, held, seq, tally) {
-        Ok(Some(placed)) => placed,
+    let relation = match put_row(catalog, held, cells, seq, tally) {
+        Ok(Some(relation)) => relation,
         Ok(None) => return Ok(0),
         Err(refusal) => return Err(refusal),
     };
-    match join_group(alloc, groups, placed) {
+    match join_group(alloc, groups, relation, cells) {
         Ok(()) => Ok(1),
         Err(_error) => {
             take_row_back(catalog, held, tally);
             Err(Refusal::NoMemory)
         }
     }
+}
+
+// In how many rows in front a row of each group came, once the row at a place went in behind them: where there were
+// fewer groups before it, up to that one.
+fn reach(first: usize, at: usize, before: usize, now: usize) -> usize
+    requires { at < HELD }
+    ensures { result ≡ (if before == now then first else at + 1) }
+{
+    if before == now {
+        return first;
+    }
+    at + 1
 }
 
 /// The rows of a batch go in, and those that came are told by relation; or none does.
@@ -188,6 +199,9 @@ pub fn put_all<L: Ledger>(
     requires few { length held.now ≤ HELD }
     ensures put { IfOk result (λ came. (st : Store) → IsStoreOf catalog.old seq st
         → PutsAll st held.now catalog.new came.count came.groups.items) }
+    ensures early { IfOk result (λ came. came.first ≤ length held.now) }
+    ensures first { IfOk result (λ came. (st : Store) → IsStoreOf catalog.old seq st
+        → ComeFirst st held.now came.first) }
     ensures refused { IfErr result (λ r. (st : Store) → IsStoreOf catalog.old seq st
         → RefusesAll st held.now catalog.new.texts r) }
     ensures stays { OnErr result (catalog.new.relations ≡ catalog.old.relations) }
@@ -199,15 +213,33 @@ pub fn put_all<L: Ledger>(
     catalog.laws();
     let mut groups = Vec::new(alloc);
     let mut count = 0;
+    let mut first = 0;
+    let mut cells = Cells::new(0);
     for at in 0..held.len() {
         catalog.laws();
-        match put_one(catalog, alloc, &mut groups, &held[at], seq, tally) {
-            Ok(came) => count += came,
+        let before = groups.len();
+        match put_one(
+            catalog,
+            alloc,
+            &mut groups,
+            &held[at],
+            &mut cells,
+            seq,
+            tally,
+        ) {
+            Ok(came) => {
+                count += came;
+                first = reach(first, at, before, groups.len());
+            }
             Err(refusal) => {
                 take_back(catalog, &held[..at], tally);
                 return Err(refusal);
             }
         }
     }
-    Ok(Came { count, groups })
+    Ok(Came {
+        count,
+        groups,
+        first,
+    })
 }

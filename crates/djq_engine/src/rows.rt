@@ -16,6 +16,7 @@ use crate::judge::{judge_add, judge_delete};
 use crate::parts::Parts;
 use djq_deltas::deltas_exist;
 use djq_dict::InternRefusal;
+use djq_index::Cells;
 use djq_lines::limits::{COLUMNS, RELATIONS};
 use djq_lines::{AddOutcome, DeleteOutcome, Refusal};
 use djq_live::{heads_are_bound, leaves_are_small, live_stays, showable_stays};
@@ -24,7 +25,8 @@ use djq_reach::{age, empty_logs};
 use djq_rows::{RelationId, names_tell, texts_stay};
 use djq_steps::{Ledgers, Steps};
 
-// The queries that read a relation are the affected ones from now on.
+// The queries that read a relation are the affected ones from now on. They are few, so that a loop costs less
+// than a call.
 fn affect(affected: &mut Vec<usize>, readers: &Vec<Sequence<usize>>, id: RelationId)
     requires within { id.at < length readers.now.items }
     requires room { length (readers_at readers.now.items id.at) ≤ vec_capacity affected.old }
@@ -32,7 +34,9 @@ fn affect(affected: &mut Vec<usize>, readers: &Vec<Sequence<usize>>, id: Relatio
     ensures room { vec_capacity affected.old ≤ vec_capacity affected.new }
 {
     affected.clear();
-    let _ = affected.extend_from_slice(readers[id.at].as_slice());
+    for place in readers[id.at].as_slice() {
+        affected.push_reserved(*place);
+    }
 }
 
 // The open cursors over a relation become stale, by a change of the present number.
@@ -138,18 +142,26 @@ pub fn del_in<L: Ledgers>(
     leaves_are_small();
     showable_stays();
     parts.catalog.laws();
-    let judged = judge_delete(&parts.catalog, name, row, parts.seq, &mut steps.rows)?;
-    let Some(found) = judged else {
+    let mut cells = Cells::new(0);
+    let judged = judge_delete(
+        &parts.catalog,
+        name,
+        row,
+        parts.seq,
+        &mut cells,
+        &mut steps.rows,
+    )?;
+    let Some(relation) = judged else {
         return Ok(DeleteOutcome::Absent);
     };
-    match drop_cells(parts, found.relation, found.cells.as_slice(), steps) {
+    match drop_cells(parts, relation, cells.as_slice(), steps) {
         DeleteOutcome::Last => {}
         DeleteOutcome::Left(copies) => return Ok(DeleteOutcome::Left(copies)),
         DeleteOutcome::Absent => return Ok(DeleteOutcome::Absent),
     }
     parts.seq += 1;
-    affect(&mut parts.affected, &parts.readers, found.relation);
-    age_readers(parts, found.relation, name);
+    affect(&mut parts.affected, &parts.readers, relation);
+    age_readers(parts, relation, name);
     Ok(DeleteOutcome::Last)
 }
 

@@ -26,6 +26,16 @@ impl Model for Cells {
     ghost invariant = { λ a. a.len ≤ 16 };
 }
 
+/// Copies a tuple's cells. Tuples are short, so that a loop costs less than a call.
+fn copy_cells(into: &mut [u64], from: &[u64])
+    requires { length into.old ≡ length from.now }
+    ensures { into.new ≡ from.now }
+{
+    for at in 0..from.len() {
+        into[at] = from[at];
+    }
+}
+
 impl Cells {
     /// This many cells, all zero.
     pub fn new(len: usize) -> Cells
@@ -85,7 +95,7 @@ impl Cells {
         requires { length tuple.now ≤ 16 }
         ensures { self.new ≡ tuple.now }
     {
-        self.cells[..tuple.len()].copy_from_slice(tuple);
+        copy_cells(&mut self.cells[..tuple.len()], tuple);
         self.len = tuple.len();
     }
 

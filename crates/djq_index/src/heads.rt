@@ -6,7 +6,7 @@ ghost use Rattle.djq_index.specs.Tuple.{pick};
 ghost use Rattle.djq_index.specs.Table.{AreColumns};
 ghost use Rattle.djq_index.specs.Raw.{ends_at};
 
-use djq_arena::{Arena, Ends, Link, Pair, cut, enter, grown, leave, pair_of};
+use djq_arena::{Arena, Ends, Link, Pair, enter, grown, leave, pair_of};
 use std::alloc::AllocError;
 
 /// The ends that a head knows.
@@ -41,9 +41,7 @@ pub fn part(links: &mut Vec<Pair>, ends: &mut Vec<Ends>, slot: u32, head: u32)
     ensures ends { ends.new.items ≡ slice_set ends.old.items head (shrunk (pair_at links.old.items slot) (ends_at ends.old.items head)) }
 {
     let pair = pair_of(links, slot);
-    leave(links, &pair);
-    let known = known_ends(ends, head);
-    ends[head as usize] = cut(&known, &pair);
+    leave(links, &mut ends[head as usize], &pair);
 }
 
 /// Takes a head out where its group is empty.
@@ -74,17 +72,27 @@ fn cell_at(tuple: &[u64], column: usize) -> u64
     tuple[column]
 }
 
-/// Writes the cells of a tuple's key into a buffer.
+/// Writes the cells of a tuple's key into room for as many.
+fn pick_into(cells: &mut [u64], key: &[usize], tuple: &[u64])
+    requires long { length cells.old ≡ length key.now }
+    requires columns { AreColumns (length tuple.now) key.now }
+    ensures { cells.new ≡ pick key.now tuple.now }
+{
+    for at in 0..key.len() {
+        cells[at] = cell_at(tuple, key[at]);
+    }
+}
+
+/// Writes the cells of a tuple's key into a buffer, which has as many cells from the first time on.
 pub fn project(cells: &mut Vec<u64>, key: &[usize], tuple: &[u64]) -> Result<(), AllocError>
     requires { AreColumns (length tuple.now) key.now }
     ensures picked { IfOk result (λ _. cells.new.items ≡ pick key.now tuple.now) }
     ensures full { OnErr result (vec_capacity cells.old < length key.now) }
 {
-    cells.clear();
-    cells.reserve(key.len())?;
-    for column in key {
-        cells.push_reserved(cell_at(tuple, *column));
+    if cells.len() != key.len() {
+        cells.resize(key.len(), 0)?;
     }
+    pick_into(cells.as_mut_slice(), key, tuple);
     Ok(())
 }
 

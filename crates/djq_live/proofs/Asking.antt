@@ -69,7 +69,6 @@ use Rattle.djq_lines.specs.Variables.{Label}
 use Rattle.djq_lines.specs.declared.answer.Refusal.{Refusal}
 use Rattle.djq_lines.specs.declared.answer.Refusal.TheVariants.{Arity, WrongType}
 use Rattle.djq_machine.specs.Store.{type_among, variable_type, answer_types, misfit, Tells}
-use Rattle.djq_tree.specs.Tree.{Tree}
 use Rattle.djq_tree.proofs.Trimming.{has_times, no_longer}
 use Rattle.djq_reduct.specs.Columns.{column}
 use Rattle.djq_reduct.specs.Reducts.{Reducts}
@@ -525,28 +524,19 @@ pub record ReadsValue (texts : List Bytes) (n : Numbered) (F u : List ℕ) (at p
   pub stands : StandsFor texts kind (slice_index slice place) value
   pub is : slice_get (shown texts n F u) at ≡ Some value
 
-pub reads_value : (texts : List Bytes) (l m : Live) (u : List ℕ) (at place : ℕ) (kind : ColumnType)
-    (slice hs : List ℕ) (vs : List Variable) (t : Tree) (F : List ℕ) → l ≡ m
-    → IsKeptSomewhere m → IsShowable texts m u → at < length m.query.head → hs ≡ l.numbered.head
-    → vs ≡ l.numbered.variables → t ≡ l.reducts.tree → F ≡ t.head
-    → kind ≡ column_of vs (slice_index hs at) → place ≡ column F (slice_index hs at)
+pub reads_value : (texts : List Bytes) (m : Live) (u : List ℕ) (at place : ℕ) (kind : ColumnType)
+    (slice : List ℕ) → IsKeptSomewhere m → IsShowable texts m u → at < length m.query.head
+    → kind ≡ column_of m.numbered.variables (slice_index m.numbered.head at)
+    → place ≡ column m.reducts.tree.head (slice_index m.numbered.head at)
     → slice ≡ u → ReadsValue texts m.numbered m.reducts.tree.head u at place kind slice
-reads_value texts l m u at place kind slice hs vs t F e kept is within head variables tree set typed
-    stood cells =
+reads_value texts m u at place kind slice kept is within kind_is place_is cells =
     let over = kept.1.over in
     let n = m.numbered in
     let G = m.reducts.tree.head in
     let x = slice_index n.head at in
-    let heads = head ∙ ap (λ (o : Live). o.numbered.head) e in
-    let here : slice_index hs at ≡ x = ap (λ (ys : List ℕ). slice_index ys at) heads in
     let low : at < length n.head =
     (let k = head_long kept.0 m.query n m.patterns m.reducts over in omega arith) in
     let in_head = member_at n.head at low in
-    let sets : F ≡ G = set ∙ ap (λ (v : Tree). v.head) tree
-    ∙ ap (λ (o : Live). o.reducts.tree.head) e in
-    let place_is : place ≡ column G x = stood ∙ ap₂ column sets here in
-    let kind_is : kind ≡ column_of n.variables x = typed
-    ∙ ap₂ column_of (variables ∙ ap (λ (o : Live). o.numbered.variables) e) here in
     let wide = is.wide in
     let long = ap (λ (ys : List ℕ). length ys) cells in
     let under = column_within G x (over.head x ∙ in_head) in

@@ -27,10 +27,10 @@ use Rattle.std.proofs.Common.{
   length-append,
   length-take-le,
 }
-use Rattle.std.specs.Prelude.{◌↔◌, Option, None, Some, Contains, slice_get, slice_index_or}
+use Rattle.std.specs.Prelude.{◌↔◌, Option, None, Some, Contains, slice_get, slice_index_or, option_map}
 use Rattle.std.proofs.lemmas.Bool.{cases_eq, cases_lt}
-use Rattle.std.proofs.lemmas.List.{take_more, take_all}
-use Rattle.std.proofs.lemmas.Option.{same_Some, none-some, slice_get_within}
+use Rattle.std.proofs.lemmas.List.{take_more, take_all, length-map}
+use Rattle.std.proofs.lemmas.Option.{same_Some, none-some, slice_get_within, slice_get-map}
 use Rattle.djq_index.specs.Tuple.{same, one}
 use Rattle.djq_index.specs.Entries.{Entry, cnt}
 use Rattle.djq_index.proofs.Tuples.{same_cases, is_same, one_true, one_other, one_le}
@@ -48,7 +48,7 @@ use Rattle.djq_query.specs.Pattern.{Shape, Gives}
 use Rattle.djq_live.specs.Leaves.{GivesOne}
 use Rattle.djq_live.specs.Changes.{GainsAll, Keeps}
 use Rattle.djq_live.specs.Stepping.{HasMore, ChangesAt, ChangesBelow, HoldBelow}
-use Rattle.djq_live.specs.Batching.{AreDistinct, AreTuplesOf, AreTuples, FitAll, HasFew, CanTake, Adds, Drops}
+use Rattle.djq_live.specs.Batching.{AreDistinct, AreTuplesOf, AreTuples, FitAll, HasFew, CanTake, Adds, Drops, tuples_in, batch_in}
 use Rattle.djq_live.proofs.Below.{IsStable}
 use Rattle.djq_live.proofs.Giving.{gives_once, gives_same, one_as}
 use Rattle.djq_live.proofs.Heads.{has_at}
@@ -193,6 +193,24 @@ pub tuples_all : (rows us : List (List ℕ)) (i : ℕ) (p : Shape) → length ro
     → AreTuplesOf (take i rows) p us → AreTuplesOf rows p us
 tuples_all rows us i p high h =
     subst (λ (front : List (List ℕ)). AreTuplesOf front p us) (take_all i rows high) h
+
+-- ---- rows that are their own tuples
+
+pub own_none : (rows : List (List ℕ)) (p : Shape) → AreTuplesOf (take 0 rows) p (take 0 rows)
+own_none [] p = tuples_none [] p
+own_none (r ∷ rows) p = tuples_none (r ∷ rows) p
+
+pub own_more : (rows : List (List ℕ)) (i : ℕ) (row : List ℕ) (p : Shape)
+    → AreDistinct rows → i < length rows → row ≡ slice_index_or rows i row
+    → IsOnly (Some row) p row → AreTuplesOf (take i rows) p (take i rows)
+    → AreTuplesOf (take (i + 1) rows) p (take (i + 1) rows)
+own_more rows i row p distinct low e only h =
+    subst (λ (us : List (List ℕ)). AreTuplesOf (take (i + 1) rows) p us) (rows_next rows i row low e)
+    (tuples_more rows (take i rows) i row row p distinct low e only h)
+
+pub own_all : (rows : List (List ℕ)) (i : ℕ) (p : Shape) → length rows ≤ i
+    → AreTuplesOf (take i rows) p (take i rows) → AreTuplesOf rows p rows
+own_all rows i p high h = subst (λ (us : List (List ℕ)). AreTuplesOf us p us) (take_all i rows high) h
 
 -- the row at a place is one of them
 pub row_at : (rows : List (List ℕ)) (i : ℕ) (row : List ℕ) → i < length rows
@@ -406,3 +424,11 @@ all_gains at rows atoms ps batch k r s tuples h = record {
 pub got_as : {A : Type 0} (xs : List A) (i : ℕ) (x y : A) → y ≡ x → i < length xs
     → x ≡ slice_index_or xs i x → slice_get xs i ≡ Some y
 got_as xs i x y e low is = got xs i x low is ∙ ap (λ z. Some z) (sym e)
+
+-- the tuples that it has for a leaf, which were made or are the rows
+pub got_in : (rows : List (List ℕ)) (made : List (Option (List (List ℕ)))) (i : ℕ) (x : Option (List (List ℕ))) (y : List (List ℕ))
+    → y ≡ tuples_in rows x → i < length (batch_in rows made) → x ≡ slice_index_or made i x → slice_get (batch_in rows made) i ≡ Some y
+got_in rows made i x y e low is =
+    slice_get-map (tuples_in rows) made i
+    ∙ ap (option_map (tuples_in rows)) (got made i x (subst (λ (n : ℕ). i < n) (length-map made (tuples_in rows)) low) is)
+    ∙ ap (λ z. Some z) (sym e)

@@ -13,7 +13,7 @@ use Rattle.djq_model.specs.declared.query.Atom.{Atom}
 use Rattle.djq_model.specs.declared.query.Comparison.{Comparison}
 use Rattle.djq_model.specs.declared.query.Term.{Term}
 use Rattle.djq_model.specs.declared.query.Term.TheVariants.{Variable as Named, Hole, Constant}
-use Rattle.djq_model.specs.Data.{Bytes, Tuple}
+use Rattle.djq_model.specs.Data.{Bytes}
 use Rattle.djq_index.specs.Entries.{Entry, cnt, marks}
 use Rattle.djq_lines.specs.Hypergraph.{edges_from, edges_of, head_of}
 use Rattle.djq_lines.specs.QueryFault.{query_fault}
@@ -325,25 +325,32 @@ no_cursor k p e = absurd cc
 
 pub live_there : (c : Catalog) (q : Query) (n : Numbered) (t : Tree)
     (atoms later : List NumberedAtom) (ks : List NumberedComparison) (ps qs : List Shape)
-    (before r : Reducts) (cursors : List (Option Progress)) → IsGiven c q n t
+    (before r : Reducts) (headed : Numbered) (cursors : List (Option Progress)) → IsGiven c q n t
     → atoms ≡ n.atoms → ks ≡ n.comparisons → later ≡ n.atoms
     → qs ≡ ps → before.tree ≡ t → length ps ≡ length atoms
     → ArePatternsOf c.texts t.labels ks atoms ps
-    → AreFilled c later qs (length later) before r → IsReducts r → cursors ≡ []
+    → AreFilled c later qs (length later) before r → IsReducts r → headed ≡ n → cursors ≡ []
     → IsLive c (record {
       query = q;
-      numbered = n;
+      numbered = headed;
       patterns = ps;
       reducts = r;
       cursors = cursors;
     })
-live_there c q n t atoms later ks ps qs before r cursors given is also too same trees long are
-    filled sound none =
+live_there c q n t atoms later ks ps qs before r headed cursors given is also too same trees long
+    are filled sound kept none =
     let here = patterns_there c.texts t.labels n atoms ks ps is also are in
     let there : AreFilled c n.atoms ps (length n.atoms) before r =
     subst (λ (rs : List Shape). AreFilled c n.atoms rs (length n.atoms) before r) same
     (subst (λ (l : List NumberedAtom). AreFilled c l qs (length l) before r) too filled) in
-    record {
+    subst (λ (m : Numbered). IsLive c (record {
+      query = q;
+      numbered = m;
+      patterns = ps;
+      reducts = r;
+      cursors = cursors;
+    })) (sym kept)
+    (record {
       kept = record {
         over = over c q n t given ps before r here
             (long ∙ ap (λ (l : List NumberedAtom). length l) is) there trees sound;
@@ -354,4 +361,4 @@ live_there c q n t atoms later ks ps qs before r cursors given is also too same 
       fits = λ k cursor ended e. absurd
           (no_cursor k (Open cursor ended)
           (sym (ap (λ (cs : List (Option Progress)). slot_at cs k) none) ∙ e));
-    }
+    })

@@ -49,9 +49,16 @@ use Rattle.djq_live.proofs.Telling.{tells_none, tells_both, counts_none, counts_
 abbrev pub IsOnly : Option (List ℕ) → Shape → List ℕ → Type 0
 IsOnly o p cells = (u : List ℕ) → (o ≡ Some u) ↔ Gives p u cells
 
-pub only_as : (p : Shape) (cells u v : List ℕ) → v ≡ u → IsOnly (Some u) p cells
-    → IsOnly (Some v) p cells
-only_as p cells u v e only = subst (λ (w : List ℕ). IsOnly (Some w) p cells) (sym e) only
+pub only_lent : (p : Shape) (cells u : List ℕ) → ((v : List ℕ) → (u ≡ v) ↔ Gives p v cells)
+    → IsOnly (Some u) p cells
+only_lent p cells u only v = (
+  λ e. (only v).0 (same_Some u v e),
+  λ gives. ap (λ (w : List ℕ). Some w) ((only v).1 gives),
+)
+
+pub only_none : (p : Shape) (cells : List ℕ) → ((v : List ℕ) → Gives p v cells → ⊥)
+    → IsOnly None p cells
+only_none p cells none v = (λ e. absurd (none-some v e), λ gives. absurd (none v gives))
 
 -- ---- what comes
 

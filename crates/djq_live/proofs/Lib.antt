@@ -41,6 +41,7 @@ pub mod Small
 pub mod Ordering
 pub mod Sets
 pub mod Graphs
+pub mod HeadCells
 pub mod Patterns
 pub mod Taking
 pub mod Trees

@@ -9,9 +9,12 @@ use Rattle.std.specs.Prelude.{
   ◌≤◌,
   List,
   length,
-  Some,
   Contains,
   slice_get,
+  Option,
+  Some,
+  None,
+  map,
 }
 use Rattle.djq_index.specs.Entries.{Entry, cnt}
 use Rattle.djq_tree.specs.Labels.{label_at}
@@ -32,6 +35,15 @@ pub record AreTuplesOf (rows : List (List ℕ)) (p : Shape) (us : List (List ℕ
   pub exact : (u : List ℕ) → (0 < times us u) ↔ GivesOne (Contains rows) p u
   pub differ : (u : List ℕ) → times us u ≤ 1
   pub few : length us ≤ length rows
+
+-- The tuples that were made of rows; or the rows, where none were, since each is its own.
+abbrev pub tuples_in : List (List ℕ) → Option (List (List ℕ)) → List (List ℕ)
+tuples_in rows (Some us) = us
+tuples_in rows None = rows
+
+-- the tuples of rows for each atom
+abbrev pub batch_in : List (List ℕ) → List (Option (List (List ℕ))) → List (List (List ℕ))
+batch_in rows made = map (tuples_in rows) made
 
 -- A row has a cell for each slot.
 abbrev pub FitAll : List (List ℕ) → Shape → Type 0

@@ -1,5 +1,6 @@
 pub mod Cells
 pub mod Asked
+pub mod Headed
 pub mod Leaves
 pub mod Shown
 pub mod Changes

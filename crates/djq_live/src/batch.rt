@@ -22,6 +22,8 @@ ghost use Rattle.djq_live.specs.Batching.{
   CountsTuples,
   CountsMany,
   CountsGiven,
+  tuples_in,
+  batch_in,
 };
 
 use crate::stepping::list_changes;
@@ -33,6 +35,40 @@ use djq_reduct::{Cells, Reducts};
 use djq_steps::{Ledgers, Steps};
 use std::alloc::Global;
 
+// Whether these cells are the same. Rows are short, so that a loop costs less than a call.
+fn are_same(cells: &[u64], others: &[u64]) -> bool
+    ensures { result ≡ true → cells.now ≡ others.now }
+{
+    if cells.len() != others.len() {
+        return false;
+    }
+    for at in 0..cells.len() {
+        if cells[at] != others[at] {
+            return false;
+        }
+    }
+    true
+}
+
+// Whether each of these rows is its own tuple, so that none has to be made.
+fn are_tuples(pattern: &Pattern, rows: &[Cells]) -> bool
+    requires fit { FitAll rows.now pattern.now }
+    requires distinct { AreDistinct rows.now }
+    ensures { result ≡ true → AreTuplesOf rows.now pattern.now rows.now }
+{
+    let mut room = Cells::new(0);
+    'rows: for i in 0..rows.len() {
+        let row = rows[i].as_slice();
+        let Some(tuple) = pattern.lend(row, &mut room) else {
+            return false;
+        };
+        if !are_same(tuple, row) {
+            return false;
+        }
+    }
+    true
+}
+
 // The tuples of rows, of each that has one.
 fn tuples_of(alloc: Global, pattern: &Pattern, rows: &[Cells]) -> Result<Sequence<Cells>, NoMem>
     requires fit { FitAll rows.now pattern.now }
@@ -40,55 +76,71 @@ fn tuples_of(alloc: Global, pattern: &Pattern, rows: &[Cells]) -> Result<Sequenc
     ensures { IfOk result (λ us. AreTuplesOf rows.now pattern.now us) }
 {
     let mut tuples = Sequence::new(alloc);
+    let mut room = Cells::new(0);
     'rows: for i in 0..rows.len() {
-        let Some(tuple) = pattern.matches(rows[i].as_slice()) else {
+        let Some(tuple) = pattern.lend(rows[i].as_slice(), &mut room) else {
             continue;
         };
-        tuples.push(tuple)?;
+        tuples.push(Cells::from_slice(tuple))?;
     }
     Ok(tuples)
 }
 
-// The tuples of rows of a relation for an atom: none where it is over another one.
+// The tuples of rows of a relation for an atom: none where it is over another one. Most often the rows are their own
+// tuples, and then none are made.
 fn tuples_for(
     alloc: Global,
     atom: &NumberedAtom,
     pattern: &Pattern,
     relation: usize,
     rows: &[Cells],
-) -> Result<Sequence<Cells>, NoMem>
+) -> Result<Option<Sequence<Cells>>, NoMem>
     requires fit { atom.now.relation ≡ relation → FitAll rows.now pattern.now }
     requires distinct { AreDistinct rows.now }
-    ensures tuples { IfOk result (λ us. atom.now.relation ≡ relation
-        → AreTuplesOf rows.now pattern.now us) }
-    ensures few { IfOk result (λ us. length us ≤ length rows.now) }
+    ensures tuples { IfOk result (λ made. atom.now.relation ≡ relation
+        → AreTuplesOf rows.now pattern.now (tuples_in rows.now made)) }
+    ensures few { IfOk result (λ made. length (tuples_in rows.now made) ≤ length rows.now) }
 {
     if atom.relation != relation {
-        return Ok(Sequence::new(alloc));
+        return Ok(Some(Sequence::new(alloc)));
     }
-    tuples_of(alloc, pattern, rows)
+    if are_tuples(pattern, rows) {
+        return Ok(None);
+    }
+    Ok(Some(tuples_of(alloc, pattern, rows)?))
 }
 
-/// The tuples of rows of a relation, for each atom, made before a leaf is changed.
+/// The tuples of rows of a relation, for each atom, made before a leaf is changed; none are made where the rows are the
+/// tuples.
 pub(crate) fn tuples_of_all(
     alloc: Global,
     atoms: &[NumberedAtom],
     patterns: &[Pattern],
     relation: usize,
     rows: &[Cells],
-) -> Result<Vec<Sequence<Cells>>, NoMem>
+) -> Result<Vec<Option<Sequence<Cells>>>, NoMem>
     requires long { length patterns.now ≡ length atoms.now }
     requires fit { (j : ℕ) (m : spec.NumberedAtom) (p : Shape) → slice_get atoms.now j ≡ Some m
         → slice_get patterns.now j ≡ Some p → m.relation ≡ relation → FitAll rows.now p }
     requires distinct { AreDistinct rows.now }
     ensures { IfOk result (λ batch. AreTuples relation rows.now atoms.now patterns.now
-        batch.items) }
+        (batch_in rows.now batch.items)) }
 {
     let mut batch = Vec::new(alloc);
     'atoms: for j in 0..atoms.len() {
         batch.push(tuples_for(alloc, &atoms[j], &patterns[j], relation, rows)?)?;
     }
     Ok(batch)
+}
+
+// The tuples that were made of rows, or the rows.
+fn tuples_in<'a>(made: &'a Option<Sequence<Cells>>, rows: &'a [Cells]) -> &'a [Cells]
+    ensures { result.now ≡ tuples_in rows.now made.now }
+{
+    match made {
+        Some(tuples) => tuples.as_slice(),
+        None => rows,
+    }
 }
 
 // Puts tuples into a leaf that lacks them, and tells of the answers that come.
@@ -163,26 +215,30 @@ fn add_all_to_leaf<L: Ledgers>(
 pub(crate) fn add_all_to_leaves<L: Ledgers>(
     reducts: &mut Reducts,
     atoms: &[NumberedAtom],
-    batch: &[Sequence<Cells>],
+    batch: &[Option<Sequence<Cells>>],
+    rows: &[Cells],
     relation: usize,
     wanted: bool,
     log: &mut DeltaLog,
     steps: &mut Steps<L>,
 ) -> usize
-    requires can { CanTake relation atoms.now batch.now reducts.old }
+    requires can { CanTake relation atoms.now (batch_in rows.now batch.now) reducts.old }
     requires bare { IsBare reducts.old.tables }
     ensures done { result ≤ length atoms.now }
-    ensures gained { ChangesBelow (λ us old new. Adds us old new) relation atoms.now batch.now result
-        reducts.old reducts.new }
+    ensures gained { ChangesBelow (λ us old new. Adds us old new) relation atoms.now
+        (batch_in rows.now batch.now) result reducts.old reducts.new }
     ensures more { HasMore reducts.old reducts.new }
     ensures listed { ListsWhere wanted true (IsGained reducts.new reducts.old)
         (length reducts.old.tree.head) (atoms_below relation atoms.now result)
         log.old log.new steps.old.listing steps.new.listing }
-    ensures grows { (more : ℕ) → HasFew more batch.now → GrowsBy more reducts.old reducts.new }
-    ensures updates { result ≡ length atoms.now → (more : ℕ) → HasFew more batch.now
+    ensures grows { (more : ℕ) → HasFew more (batch_in rows.now batch.now)
+        → GrowsBy more reducts.old reducts.new }
+    ensures updates { result ≡ length atoms.now → (more : ℕ)
+        → HasFew more (batch_in rows.now batch.now)
         → CountsMany more reducts.old (atoms_below relation atoms.now result)
         steps.old.update steps.new.update }
-    ensures refusal { result < length atoms.now → (more : ℕ) → HasFew more batch.now
+    ensures refusal { result < length atoms.now → (more : ℕ)
+        → HasFew more (batch_in rows.now batch.now)
         → CountsMany more reducts.old (atoms_below relation atoms.now result + 2)
         steps.old.update steps.new.update }
     ensures left { result < length atoms.now → atoms_below relation atoms.now result + 1
@@ -194,7 +250,7 @@ pub(crate) fn add_all_to_leaves<L: Ledgers>(
         if atoms[leaf].relation != relation {
             continue;
         }
-        let tuples = batch[leaf].as_slice();
+        let tuples = tuples_in(&batch[leaf], rows);
         let Ok(()) = add_all_to_leaf(reducts, leaf, tuples, wanted, log, steps) else {
             return leaf;
         };
@@ -207,19 +263,20 @@ pub(crate) fn add_all_to_leaves<L: Ledgers>(
 pub(crate) fn give_all_from_leaves<L: Ledgers>(
     reducts: &mut Reducts,
     atoms: &[NumberedAtom],
-    batch: &[Sequence<Cells>],
+    batch: &[Option<Sequence<Cells>>],
+    rows: &[Cells],
     end: usize,
     relation: usize,
     steps: &mut Steps<L>,
 )
     requires leaves { reducts.old.tree.leaves ≡ length atoms.now }
-    requires long { length batch.now ≡ length atoms.now }
+    requires long { length (batch_in rows.now batch.now) ≡ length atoms.now }
     requires end { end ≤ length atoms.now }
-    requires there { HoldBelow (λ us es. AreThere es us) relation atoms.now batch.now end
-        reducts.old }
+    requires there { HoldBelow (λ us es. AreThere es us) relation atoms.now
+        (batch_in rows.now batch.now) end reducts.old }
     requires bare { IsBare reducts.old.tables }
-    ensures lost { ChangesBelow (λ us old new. Drops us old new) relation atoms.now batch.now end
-        reducts.old reducts.new }
+    ensures lost { ChangesBelow (λ us old new. Drops us old new) relation atoms.now
+        (batch_in rows.now batch.now) end reducts.old reducts.new }
     ensures listing { steps.new.listing ≡ steps.old.listing }
     ensures updates { CountsGiven reducts.old (atoms_below relation atoms.now end)
         steps.old.update steps.new.update }
@@ -230,7 +287,7 @@ pub(crate) fn give_all_from_leaves<L: Ledgers>(
         if atoms[leaf].relation != relation {
             continue;
         }
-        let tuples = batch[leaf].as_slice();
+        let tuples = tuples_in(&batch[leaf], rows);
         drop_leaf_many(reducts, leaf, tuples, &mut steps.update);
     }
 }

@@ -17,6 +17,7 @@ ghost use Rattle.djq_tree.specs.Explaining.{explain_of};
 use crate::bind::bind_atoms;
 use crate::cursors::Cursors;
 use crate::fill::fill_leaves;
+use crate::headed::HeadedQuery;
 use crate::live::LiveQuery;
 use crate::names::{relation_names, variable_names};
 use crate::plan::PlannedQuery;
@@ -217,6 +218,7 @@ impl LiveQuery {
             &mut steps.update,
         )?;
         reducts.laws();
+        let numbered = HeadedQuery::of(alloc, numbered)?;
         Ok(LiveQuery {
             query,
             numbered,

@@ -16,7 +16,7 @@ ghost use Rattle.djq_live.specs.Stepping.{Lacks};
 use djq_model::NoMem;
 use djq_propagate::add_leaf;
 use djq_query::{NumberedAtom, Pattern};
-use djq_reduct::Reducts;
+use djq_reduct::{Cells, Reducts};
 use djq_rows::{Catalog, RelationId};
 use djq_steps::Tally;
 use std::sync::ledger::Ledger;
@@ -37,10 +37,11 @@ fn insert_row<U: Ledger>(
     requires few { length (entries_at reducts.old.tables leaf) < 4294967295 }
     ensures { IfOk result (λ _. TakesRow pattern.now leaf row.now reducts.old reducts.new) }
 {
-    let Some(tuple) = pattern.matches(row) else {
+    let mut room = Cells::new(0);
+    let Some(tuple) = pattern.lend(row, &mut room) else {
         return Ok(());
     };
-    add_leaf(reducts, leaf, tuple.as_slice(), update)?;
+    add_leaf(reducts, leaf, tuple, update)?;
     Ok(())
 }
 

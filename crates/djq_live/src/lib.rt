@@ -61,6 +61,7 @@ mod changes;
 mod cursors;
 mod fault;
 mod fill;
+mod headed;
 mod laws;
 mod listing;
 mod live;

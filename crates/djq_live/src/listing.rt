@@ -24,7 +24,7 @@ ghost use Rattle.djq_live.specs.Live.{IsLive, IsKeptSomewhere, IsShowable, FitsI
 ghost use Rattle.djq_live.specs.Reading.{NextGives, MoreGives, next_steps, OpensIn, IsFreshIn};
 
 use crate::live::LiveQuery;
-use crate::lookup::{column_at, has_cells, suits_head};
+use crate::lookup::{has_cells, suits_head};
 use djq_cursor::Cursor;
 use djq_lines::Refusal;
 use djq_model::{Lent, Name, NoMem, Value};
@@ -183,9 +183,7 @@ impl LiveQuery {
             ≡ Some (value_lent result) }
     {
         self.numbered.within();
-        let variable = self.numbered.head()[at];
-        let column = column_at(self.numbered.variables(), variable);
-        let cell = answer.as_slice()[self.reducts.column(variable)];
-        catalog.value(column, cell)
+        let shown = self.numbered.cells()[at];
+        catalog.value(shown.column, answer.as_slice()[shown.at])
     }
 }

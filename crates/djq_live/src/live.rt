@@ -4,10 +4,11 @@ ghost use Rattle.djq_machine.specs.Store.{IsShapeOf};
 ghost use Rattle.djq_live.specs.Live.{IsKeptSomewhere};
 
 use crate::cursors::Cursors;
+use crate::headed::HeadedQuery;
 use djq_hyper::is_flat;
 use djq_lines::Shape;
 use djq_model::Query;
-use djq_query::{NumberedQuery, Pattern};
+use djq_query::Pattern;
 use djq_reduct::Reducts;
 use std::marker::Model;
 
@@ -15,7 +16,7 @@ use std::marker::Model;
 #[derive(Drop)]
 pub struct LiveQuery {
     pub(crate) query: Query,
-    pub(crate) numbered: NumberedQuery,
+    pub(crate) numbered: HeadedQuery,
     // one for each atom
     pub(crate) patterns: Vec<Pattern>,
     pub(crate) reducts: Reducts,

@@ -32,7 +32,7 @@ use djq_propagate::{
     add_leaf, drop_leaf, finish_insertion, finish_removal, insert_leaf, mark_removal,
 };
 use djq_query::{NumberedAtom, Pattern};
-use djq_reduct::Reducts;
+use djq_reduct::{Cells, Reducts};
 use djq_steps::{Ledgers, Steps, Tally};
 use std::sync::ledger::Ledger;
 
@@ -144,14 +144,15 @@ fn add_to_leaf<L: Ledgers>(
     ensures rows { steps.new.rows ≡ steps.old.rows }
 {
     reducts.laws();
-    let Some(tuple) = pattern.matches(cells) else {
+    let mut room = Cells::new(0);
+    let Some(tuple) = pattern.lend(cells, &mut room) else {
         return Ok(());
     };
     if wanted {
-        add_and_tell(reducts, leaf, tuple.as_slice(), log, steps)?;
+        add_and_tell(reducts, leaf, tuple, log, steps)?;
         return Ok(());
     }
-    add_leaf(reducts, leaf, tuple.as_slice(), &mut steps.update)?;
+    add_leaf(reducts, leaf, tuple, &mut steps.update)?;
     Ok(())
 }
 
@@ -178,14 +179,15 @@ fn take_from_leaf<L: Ledgers>(
     ensures rows { steps.new.rows ≡ steps.old.rows }
 {
     reducts.laws();
-    let Some(tuple) = pattern.matches(cells) else {
+    let mut room = Cells::new(0);
+    let Some(tuple) = pattern.lend(cells, &mut room) else {
         return;
     };
     if wanted {
-        take_and_tell(reducts, leaf, tuple.as_slice(), log, steps);
+        take_and_tell(reducts, leaf, tuple, log, steps);
         return;
     }
-    drop_leaf(reducts, leaf, tuple.as_slice(), &mut steps.update);
+    drop_leaf(reducts, leaf, tuple, &mut steps.update);
 }
 
 /// Puts the tuples of a row into the leaves over a relation, leaf after leaf, and says how many
@@ -294,10 +296,11 @@ fn give_from_leaf<L: Ledgers>(
     ensures rows { steps.new.rows ≡ steps.old.rows }
 {
     reducts.laws();
-    let Some(tuple) = pattern.matches(cells) else {
+    let mut room = Cells::new(0);
+    let Some(tuple) = pattern.lend(cells, &mut room) else {
         return;
     };
-    drop_leaf(reducts, leaf, tuple.as_slice(), &mut steps.update);
+    drop_leaf(reducts, leaf, tuple, &mut steps.update);
 }
 
 /// Gives the tuples of a row back out of the leaves over a relation, leaf after leaf, up to a leaf.

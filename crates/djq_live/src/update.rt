@@ -157,6 +157,7 @@ impl LiveQuery {
             &mut self.reducts,
             atoms,
             tuples,
+            rows,
             relation.at,
             wanted,
             log,
@@ -165,7 +166,15 @@ impl LiveQuery {
         if done == atoms.len() {
             return Ok(());
         }
-        give_all_from_leaves(&mut self.reducts, atoms, tuples, done, relation.at, steps);
+        give_all_from_leaves(
+            &mut self.reducts,
+            atoms,
+            tuples,
+            rows,
+            done,
+            relation.at,
+            steps,
+        );
         log.clear();
         Err(NoMem)
     }

@@ -10,3 +10,4 @@ pub mod Making
 pub mod Rows
 pub mod Beginning
 pub mod RowWords
+pub mod Plain

@@ -2,17 +2,13 @@
 use Rattle.std.proofs.Common.{◌≡◌, List, [], ◌∷◌, ◌++◌, ◌&&◌, Bool, true, false, Option, Some, None, Result, Ok, Err, refl, sym, ap, ap₂, subst, ◌∙◌, append_assoc}
 use Rattle.std.specs.List.{list_all}
 use Rattle.std.specs.Prelude.{IsErrAnd}
+use Rattle.std.proofs.lemmas.List.{append-nil}
 use Rattle.std.proofs.lemmas.List.Folds.{list_all-append}
 use Rattle.djq_value.specs.Token.{Token, comma, close_paren}
 use Rattle.djq_lines.specs.Grammar.{all_of, in_front, more_in, put_first}
-use Rattle.djq_proto.specs.Reading.{ReadsAs, ReadsPart, is_outside}
+use Rattle.djq_proto.specs.Reading.{ReadsAs, ReadsPart, is_outside, onto}
 use Rattle.djq_proto.specs.declared.refusal.LineRefusal.{LineRefusal}
 use Rattle.djq_proto.specs.declared.refusal.LineRefusal.TheVariants.{Syntax, Range, NoMem}
-
--- items in front of others
-abbrev pub onto : {A : Type 0} → List A → Option (List A) → Option (List A)
-onto read None = None
-onto read (Some xs) = Some (read ++ xs)
 
 pub onto-nothing : {A : Type 0} (o : Option (List A)) → o ≡ onto [] o
 onto-nothing None = refl
@@ -55,6 +51,14 @@ reads_some in_range None (Ok a) h inside = absurd (cc)
 reads_some in_range None (Err Syntax) h inside = absurd (cc)
 reads_some in_range None (Err Range) h inside = absurd (cc)
 reads_some in_range None (Err NoMem) h inside = absurd (cc)
+
+-- Nothing was read where it is outside the grammar.
+pub reads_none : {A : Type 0} (in_range : A → Bool) (o : Option A) (r : Result A LineRefusal) → ReadsAs in_range o r → is_outside r ≡ true → o ≡ None
+reads_none in_range None r h outside = refl
+reads_none in_range (Some x) (Ok a) h outside = absurd (cc)
+reads_none in_range (Some x) (Err Syntax) h outside = absurd h
+reads_none in_range (Some x) (Err Range) h outside = absurd (cc)
+reads_none in_range (Some x) (Err NoMem) h outside = absurd (cc)
 
 -- one more item to the line's end
 pub read_more : {A : Type 0} (of : Token → Option A) (in_range : A → Bool) (start rest new : List Token) (t : Token) (x : A) (items more : Result (List A) LineRefusal) (item : Result A LineRefusal)
@@ -110,3 +114,22 @@ pub same_err : {A B : Type 0} (fits : A → Bool) (holds : B → Bool) (a : A) (
 same_err fits holds a b Syntax same h = absurd h
 same_err fits holds a b Range same h = same ∙ h
 same_err fits holds a b NoMem same h = same ∙ h
+
+-- one more item behind those that were read
+pub onto_next : {A : Type 0} (of : Token → Option A) (whole : Option (List A)) (read : List A) (rest new : List Token) (t : Token) (x : A)
+    → whole ≡ onto read (all_of of rest) → rest ≡ t ∷ new → of t ≡ Some x → whole ≡ onto (read ++ x ∷ []) (all_of of new)
+onto_next of whole read rest new t x h e is =
+    h ∙ ap (λ us. onto read (all_of of us)) e ∙ ap (λ o. onto read (in_front o (all_of of new))) is ∙ onto-more read x (all_of of new)
+
+-- where the next token is no item
+pub onto_none : {A : Type 0} (of : Token → Option A) (whole : Option (List A)) (read : List A) (rest new : List Token) (t : Token)
+    → whole ≡ onto read (all_of of rest) → rest ≡ t ∷ new → of t ≡ None → whole ≡ None
+onto_none of whole read rest new t h e is = h ∙ ap (λ us. onto read (all_of of us)) e ∙ ap (λ o. onto read (in_front o (all_of of new))) is
+
+pub onto-twice : {A : Type 0} (read more : List A) (o : Option (List A)) → onto read (onto more o) ≡ onto (read ++ more) o
+onto-twice read more None = refl
+onto-twice read more (Some xs) = ap (λ ys. Some ys) (sym (append_assoc read more xs))
+
+-- no item is left
+pub onto_done : {A : Type 0} (of : Token → Option A) (whole : Option (List A)) (read : List A) (rest : List Token) → whole ≡ onto read (all_of of rest) → rest ≡ [] → whole ≡ Some read
+onto_done of whole read rest h e = h ∙ ap (λ us. onto read (all_of of us)) e ∙ ap (λ xs. Some xs) (append-nil read)

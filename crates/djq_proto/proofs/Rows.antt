@@ -1,21 +1,24 @@
 -- From what was read behind a row's keyword to what its line says.
-use Rattle.std.proofs.Common.{◌≡◌, true, false, List, Option, Some, None, option_map, Result, Ok, Err, refl, sym, ap, subst, ◌∙◌}
+use Rattle.std.proofs.Common.{◌≡◌, ◌&&◌, Bool, true, false, cond, List, [], ◌∷◌, ◌++◌, Option, Some, None, option_map, Result, Ok, Err, refl, sym, ap, subst, ◌∙◌}
 use Rattle.std.specs.List.{list_all}
 use Rattle.std.specs.Str.{is_utf8}
 use Rattle.std.specs.Borrow.{Bor}
-use Rattle.std.proofs.lemmas.Bool.{cond-false, cond-true}
+use Rattle.std.proofs.lemmas.Bool.{cond-true}
 use Rattle.djq_model.specs.Data.{Bytes, Tuple}
-use Rattle.djq_value.specs.Token.{Token, tokens}
-use Rattle.djq_value.specs.Literal.{is_small_value, literal_of}
+use Rattle.djq_model.specs.declared.value.Value.{Value}
+use Rattle.djq_value.specs.Token.{Token, word, tokens}
+use Rattle.djq_value.specs.Literal.{is_name, is_small_value, literal_of}
 use Rattle.djq_lines.specs.declared.command.Command.{Command}
 use Rattle.djq_lines.specs.declared.command.Command.TheVariants.{Add as AddRow, Del as DeleteRow}
-use Rattle.djq_lines.specs.Grammar.{command_in, command_of, is_in_range, named_some, takes_memory_to_read}
+use Rattle.djq_lines.specs.Grammar.{all_of, command_in, command_of, is_in_range, named_some, takes_memory_to_read}
 use Rattle.djq_proto.specs.Reading.{Gives, Reads, ReadsAs}
-use Rattle.djq_proto.specs.RowReading.{TakesRowWord, named_read, row_word_in}
+use Rattle.djq_proto.specs.RowReading.{IsRefused, ReadsNumbers, TakesRowWord, named_in, named_read, row_word_in}
 use Rattle.djq_proto.specs.declared.refusal.LineRefusal.{LineRefusal}
 use Rattle.djq_proto.specs.declared.refusal.LineRefusal.TheVariants.{Syntax, Range, NoMem}
 use Rattle.djq_proto.specs.declared.row.RowWord.{RowWord}
 use Rattle.djq_proto.specs.declared.row.RowWord.TheVariants.{Add, Del}
+use Rattle.djq_proto.proofs.Listing.{all_last, onto_done, same_err}
+use Rattle.djq_proto.proofs.Plain.{numbers_utf8}
 
 -- the command of a keyword with a name and a row
 abbrev pub row_command : RowWord → Bytes → Tuple → Command
@@ -47,35 +50,58 @@ row_refused verb (Some p) NoMem h = (ranged verb p.0 p.1 ∙ h, takes verb p.0 p
 
 -- Where such a keyword is taken, tokens begin with it.
 pub begun : (verb : RowWord) (ts rest : List Token) → TakesRowWord ts (Some verb) rest → row_word_in ts ≡ Some verb
-begun Add ts rest h = h.0
-begun Del ts rest h = h.0
+begun Add ts rest h = ap row_word_in h
+begun Del ts rest h = ap row_word_in h
 
 -- what they say then
 behind : (verb : RowWord) (ts rest : List Token) → TakesRowWord ts (Some verb) rest → command_in ts ≡ made_of verb (named_some literal_of rest)
-behind Add ts rest h = h.1
-behind Del ts rest h = h.1
+behind Add ts rest h = ap command_in h
+behind Del ts rest h = ap command_in h
 
-gives : (line : Bytes) (r : Result Command LineRefusal) → is_utf8 line ≡ true → Gives (command_in (tokens line)) r → Reads line r
+made_guarded : (verb : RowWord) (b : Bool) (o : Option (Bytes × Tuple)) → cond b (made_of verb o) None ≡ made_of verb (cond b o None)
+made_guarded verb true o = refl
+made_guarded verb false o = refl
+
+-- what a line says that begins with it
+line_made : (verb : RowWord) (line : Bytes) (rest : List Token) → TakesRowWord (tokens line) (Some verb) rest → command_of line ≡ made_of verb (named_in line rest)
 unfolding command_of
-gives line r valid g = subst (λ o. Gives o r) (sym (cond-true _ _ _ valid)) g
+line_made verb line rest h =
+    ap (λ o. cond (is_utf8 line) o None) (behind verb (tokens line) rest h) ∙ made_guarded verb (is_utf8 line) (named_some literal_of rest)
 
 -- a line that gives a row
-pub line_said : (verb : RowWord) (line : Bytes) (rest : List Token) (name : Bor Bytes) (row : Tuple) → is_utf8 line ≡ true → TakesRowWord (tokens line) (Some verb) rest
-    → ReadsAs (λ p. list_all is_small_value p.1) (named_some literal_of rest) (named_read (Ok name) row) → Reads line (Ok (row_command verb name.now row))
-line_said verb line rest name row valid taken h =
-    gives line (Ok (row_command verb name.now row)) valid
-    (subst (λ o. Gives o (Ok (row_command verb name.now row))) (sym (behind verb (tokens line) rest taken)) (row_made verb (named_some literal_of rest) name.now row h))
+pub line_said : (verb : RowWord) (line : Bytes) (rest : List Token) (name : Bor Bytes) (row : Tuple) → TakesRowWord (tokens line) (Some verb) rest
+    → ReadsAs (λ p. list_all is_small_value p.1) (named_in line rest) (named_read (Ok name) row) → Reads line (Ok (row_command verb name.now row))
+line_said verb line rest name row taken h =
+    subst (λ o. Gives o (Ok (row_command verb name.now row))) (sym (line_made verb line rest taken)) (row_made verb (named_in line rest) name.now row h)
 
 -- a line that is refused
-pub line_refused : (verb : RowWord) (line : Bytes) (rest : List Token) (e : LineRefusal) (row : Tuple) → is_utf8 line ≡ true → TakesRowWord (tokens line) (Some verb) rest
-    → ReadsAs (λ p. list_all is_small_value p.1) (named_some literal_of rest) (named_read (Err e) row) → Reads line (Err e)
-line_refused verb line rest e row valid taken h =
-    gives line (Err e) valid
-    (subst (λ o. Gives o (Err e)) (sym (behind verb (tokens line) rest taken)) (row_refused verb (named_some literal_of rest) e h))
+pub line_refused : (verb : RowWord) (line : Bytes) (rest : List Token) (e : LineRefusal) (row : Tuple) → TakesRowWord (tokens line) (Some verb) rest
+    → ReadsAs (λ p. list_all is_small_value p.1) (named_in line rest) (named_read (Err e) row) → Reads line (Err e)
+line_refused verb line rest e row taken h =
+    subst (λ o. Gives o (Err e)) (sym (line_made verb line rest taken)) (row_refused verb (named_in line rest) e h)
 
--- a line that isn't UTF-8
-pub line_outside : (line : Bytes) → is_utf8 line ≡ false → Reads line (Err Syntax)
-unfolding command_of
-line_outside line invalid =
-    let r : Result Command LineRefusal = Err Syntax in
-    subst (λ o. Gives o r) (sym (cond-false _ _ _ invalid)) (refl, tt)
+-- Behind the keyword: a name and values.
+
+-- what is read of a name and values
+abbrev pub ReadsNamed : Bytes → List Token → Result (Bytes × Tuple) LineRefusal → Type 0
+ReadsNamed line ts r = ReadsAs (λ p. list_all is_small_value p.1) (named_in line ts) r
+
+some_named : (old ts : List Token) (name : Bytes) → old ≡ word name ∷ ts → is_name name ≡ true → (ts ≡ [] → ⊥)
+    → named_some literal_of old ≡ option_map (λ xs. (name, xs)) (all_of literal_of ts)
+some_named old [] name e named some = absurd (some refl)
+some_named old (t ∷ ts) name e named some = ap (named_some literal_of) e ∙ cond-true _ _ _ named
+
+-- Each value is an integer of few digits.
+pub numbers_named : (line : Bytes) (verb : RowWord) (old ts new : List Token) (name : Bytes) (row : Tuple) → TakesRowWord (tokens line) (Some verb) old → old ≡ word name ∷ ts → is_name name ≡ true → (ts ≡ [] → ⊥)
+    → ReadsNumbers ts [] new row → new ≡ [] → ReadsNamed line old (Ok (name, row))
+numbers_named line verb old ts new name row taken e named some h done =
+    let all : all_of literal_of ts ≡ Some h.0 = onto_done literal_of (all_of literal_of ts) h.0 new h.4 done in
+    let valid = numbers_utf8 line verb old ts name h.0 taken e named all h.2 in
+    let is : named_some literal_of old ≡ Some (name, h.0) = some_named old ts name e named some ∙ ap (option_map (λ (xs : Tuple). (name, xs))) all in
+    let r : Result (Bytes × Tuple) LineRefusal = Ok (name, row) in
+    subst (λ o. ReadsAs (λ p. list_all is_small_value p.1) o r) (sym (cond-true _ _ _ valid ∙ is)) (ap (λ (xs : Tuple). (name, xs)) h.1, h.3)
+
+-- a value that is refused behind others that are small
+pub last_refused : (xs : Tuple) (x : Value) (e : LineRefusal) → list_all is_small_value xs ≡ true → ReadsAs is_small_value (Some x) (Err e) → IsRefused (Some (xs ++ x ∷ [])) e
+last_refused xs x e h r =
+    same_err is_small_value (list_all is_small_value) x (xs ++ x ∷ []) e (all_last is_small_value xs x ∙ ap (λ b. b && is_small_value x) h) r

@@ -1,5 +1,5 @@
 -- What reading a line, or a part of it, answers.
-use Rattle.std.specs.Prelude.{◌≡◌, ◌&&◌, List, ◌∷◌, Bool, true, false, Option, None, Some, Result, Ok, Err}
+use Rattle.std.specs.Prelude.{◌≡◌, ◌&&◌, ◌++◌, List, ◌∷◌, Bool, true, false, Option, None, Some, Result, Ok, Err}
 use Rattle.std.specs.List.{list_all}
 use Rattle.djq_model.specs.Data.{Bytes}
 use Rattle.djq_model.specs.declared.query.Query.{Query}
@@ -24,6 +24,11 @@ abbrev pub ReadsPart : {A : Type 0} → (A → Bool) → Option (A × List Token
     → List Token → Type 0
 ReadsPart in_range None r left = r ≡ Err Syntax
 ReadsPart in_range (Some p) r left = ReadsAs in_range (Some p.0) r × (left ≡ p.1)
+
+-- items in front of others, unless these are none
+abbrev pub onto : {A : Type 0} → List A → Option (List A) → Option (List A)
+onto read None = None
+onto read (Some xs) = Some (read ++ xs)
 
 -- whether each literal of a body is within its limit
 abbrev pub is_small_body : Body → Bool

@@ -1,13 +1,18 @@
 -- What reading a row's line, or a part of it, answers.
-use Rattle.std.specs.Prelude.{◌≡◌, ◌==◌, ◌||◌, List, [], ◌∷◌, Bool, false, Option, None, Some, is_some, Result, Ok, Err}
+use Rattle.std.specs.Prelude.{◌≡◌, ◌==◌, ◌||◌, ◌++◌, List, [], ◌∷◌, Bool, false, true, Option, None, Some, is_some, Result, Ok, Err, if◌then◌else◌, codes}
+use Rattle.std.specs.List.{list_all}
+use Rattle.std.specs.Str.{is_utf8}
 use Rattle.std.specs.Borrow.{Bor}
 use Rattle.djq_model.specs.Data.{Bytes, Tuple}
 use Rattle.djq_lines.specs.declared.command.Command.TheVariants.{Add as AddRow, Del as DeleteRow}
 use Rattle.djq_lines.specs.declared.keyword.Keyword.{Keyword}
 use Rattle.djq_lines.specs.declared.keyword.Keyword.TheVariants.{Add as AddWord, Del as DelWord}
+use Rattle.djq_model.specs.declared.value.Value.{Value}
+use Rattle.djq_model.specs.declared.value.Value.TheVariants.{Int, Text}
+use Rattle.djq_value.specs.Literal.{is_small_value, literal_of}
 use Rattle.djq_value.specs.Token.{Token, word, tokens}
-use Rattle.djq_lines.specs.Grammar.{command_behind, command_in, keyword_of}
-use Rattle.djq_proto.specs.Reading.{Reads}
+use Rattle.djq_lines.specs.Grammar.{all_of, keyword_of, named_some}
+use Rattle.djq_proto.specs.Reading.{Reads, ReadsAs, onto}
 use Rattle.djq_proto.specs.declared.refusal.LineRefusal.{LineRefusal}
 use Rattle.djq_proto.specs.declared.row.RowLine.{RowLine}
 use Rattle.djq_proto.specs.declared.row.RowLine.TheVariants.{Add, Del, Refused, Other}
@@ -37,10 +42,33 @@ may_begin (b ∷ bs) = b == 32 || b == 97 || b == 100
 -- Such a keyword is taken from those tokens; none is given where they don't begin with one.
 abbrev pub TakesRowWord : List Token → Option RowWord → List Token → Type 0
 TakesRowWord old None new = row_word_in old ≡ None
-TakesRowWord old (Some Adds) new =
-    (row_word_in old ≡ Some Adds) × (command_in old ≡ command_behind AddWord new)
-TakesRowWord old (Some Deletes) new =
-    (row_word_in old ≡ Some Deletes) × (command_in old ≡ command_behind DelWord new)
+TakesRowWord old (Some Adds) new = old ≡ word (codes "add") ∷ new
+TakesRowWord old (Some Deletes) new = old ≡ word (codes "del") ∷ new
+
+-- whether a value is an integer
+abbrev pub is_number : Value → Bool
+is_number (Int i) = true
+is_number (Text t) = false
+
+-- Integers of 64 bits were taken from the front of tokens, and put behind a row.
+abbrev pub ReadsNumbers : List Token → Tuple → List Token → Tuple → Type 0
+ReadsNumbers old row new more =
+    (xs : Tuple) × (more ≡ row ++ xs) × (list_all is_number xs ≡ true)
+    × (list_all is_small_value xs ≡ true)
+    × (all_of literal_of old ≡ onto xs (all_of literal_of new))
+
+-- These values, which may be none of the grammar, are refused for this.
+abbrev pub IsRefused : Option Tuple → LineRefusal → Type 0
+IsRefused o refusal = ReadsAs (list_all is_small_value) o (Err refusal)
+
+-- Where values are refused for the one reason, they are for the other with those that tokens say.
+abbrev pub RefusesOn : List Token → LineRefusal → LineRefusal → Type 0
+RefusesOn ts refusal result =
+    (xs : Tuple) → IsRefused (Some xs) refusal → IsRefused (onto xs (all_of literal_of ts)) result
+
+-- a name and values, one at least, in a line that is UTF-8
+abbrev pub named_in : Bytes → List Token → Option (Bytes × Tuple)
+named_in line ts = if is_utf8 line then named_some literal_of ts else None
 
 -- the values that were read, unless they were refused
 abbrev pub values_read : {A : Type 0} → Result A LineRefusal → Tuple → Result Tuple LineRefusal

@@ -214,18 +214,27 @@ fn reads_queries(rt: HostRuntime) {
 }
 
 // Lines, what they are to who reads rows, by a letter, and how many values are in the room then.
-const ROWS: [(&[u8], char, usize); 11] = [
+const ROWS: [(&[u8], char, usize); 20] = [
     (b"add r 1 -2", 'a', 2),
     (b"  del r \"a\"", 'd', 1),
     (b"drop r", '-', 1),
     (b"address r 1", '-', 1),
     (b"done", '-', 1),
-    (b"add r \"\xc3\"", 'S', 1),
+    (b"add r \"\xc3\"", 'S', 0),
     (b"add r 9223372036854775808 x", 'S', 0),
     (b"add r 9223372036854775808 7", 'R', 0),
     (b"del r 9223372036854775808 7", 'r', 0),
     (b"del r 7 7 7", 'd', 3),
     (b"del r 7 x", 's', 1),
+    (b"add r", 'S', 1),
+    (b"add R 1", 'S', 1),
+    (b"add r  1  \"a b\" -2 \"\\n\" 3 ", 'a', 5),
+    (b"add r \"a\" 9223372036854775808 \"", 'S', 1),
+    (b"del r 1 \"a\" 9223372036854775808 1", 'r', 2),
+    (b"add r 1 \xc3\xa9", 'S', 1),
+    (b"add r 1 \xff", 'S', 1),
+    (b"add r 000000000000000000001", 'a', 1),
+    (b"del r 1 2,", 's', 2),
 ];
 
 #[test]

@@ -1,8 +1,8 @@
 -- Rows that an atom gives, column by column.
-use Rattle.std.proofs.Common.{◌≡◌, ℕ, ◌+◌, ◌<◌, ◌≤◌, List, [], ◌∷◌, ◌++◌, Bool, true, false, length, get_or, set, take, refl, sym, ap, ap₂, ◌∙◌, arith, inl, inr, length-set}
+use Rattle.std.proofs.Common.{◌≡◌, ℕ, ◌+◌, ◌<◌, ◌≤◌, eqb, subst, List, [], ◌∷◌, ◌++◌, Bool, true, false, length, get_or, set, take, refl, sym, ap, ap₂, ◌∙◌, arith, inl, inr, length-set}
 use Rattle.std.specs.Prelude.{◌||◌, All, slice_index, map, ◌↔◌}
 use Rattle.std.specs.List.{list_all, list_any}
-use Rattle.std.proofs.lemmas.Bool.{cases_eq, ne_eqb, false≢true, ltb-true}
+use Rattle.std.proofs.lemmas.Bool.{cases_eq, eqb-true, ne_eqb, false≢true, ltb-true}
 use Rattle.std.proofs.lemmas.List.{get_or_default, get_or-map, get_or-set_same, get_or-set_other, take_all, take_more, map-append}
 use Rattle.std.proofs.lemmas.List.Folds.{list_any_more}
 use Rattle.std.proofs.lemmas.Grind.{same_number_lists}
@@ -11,7 +11,7 @@ use Rattle.djq_model.specs.declared.query.Operator.TheVariants.{Less}
 use Rattle.djq_query.specs.declared.pattern.Test.{Test}
 use Rattle.djq_query.specs.declared.pattern.Slot.{Slot}
 use Rattle.djq_query.specs.declared.pattern.Slot.TheVariants.{Place, Cell}
-use Rattle.djq_query.specs.Pattern.{Shape, IsPattern, Gives, Passes, passes, cell_of, put_cell, filled, is_place, is_within}
+use Rattle.djq_query.specs.Pattern.{Shape, IsPattern, IsPlain, Gives, Passes, cell_of, put_cell, filled, is_place, is_within}
 use Rattle.djq_query.proofs.Edging.{all_true_at}
 
 -- a slot of a pattern, whatever the default
@@ -105,10 +105,6 @@ gives_all p u row i past over e = (
 abbrev pub no_test : Test
 no_test = record { place = 0; operator = Less; cell = 0 }
 
--- what a call told of a test
-pub test_told : (cells u : List ℕ) (t : Test) (b : Bool) → cells ≡ u → b ≡ passes t.operator (get_or cells t.place 0) t.cell → passes t.operator (slice_index u t.place) t.cell ≡ b
-test_told cells u t b e f = ap (λ (v : List ℕ). passes t.operator (slice_index v t.place) t.cell) (sym e) ∙ sym f
-
 pub tests_more : (u : List ℕ) (ts ss : List Test) (i : ℕ) → ss ≡ ts → i < length ss → Passes u (get_or ss i no_test) → All (Passes u) (take i ts) → All (Passes u) (take (i + 1) ts)
 tests_more u ts ss i same below passed before =
     All-same (Passes u) (take (i + 1) ts) (take i ts ++ get_or ss i no_test ∷ [])
@@ -135,10 +131,41 @@ pub put_fixed : (t : List ℕ) (s : Slot) (d c : ℕ) → s ≡ Cell d → t ≡
 unfolding put_cell
 put_fixed t s d c e = ap (λ r. put_cell t r c) (sym e)
 
--- what a call told of a slot
-pub cell_told : (cells u : List ℕ) (s : Slot) (r : ℕ) → cells ≡ u → r ≡ cell_of cells s → cell_of u s ≡ r
-cell_told cells u s r e f = ap (λ (v : List ℕ). cell_of v s) (sym e) ∙ sym f
-
 pub within_read : (n : Shape) (t : List ℕ) (ss : List Slot) (i : ℕ) (d : Slot) → IsPattern n → ss ≡ n.slots → length t ≡ n.width → i < length ss → is_within (length t) (get_or ss i d) ≡ true
 within_read n t ss i d pattern same wide below =
     slot_within (length t) ss i (get_or ss i d) d (ap₂ (λ (w : ℕ) (l : List Slot). list_all (is_within w) l) wide same ∙ pattern.within) below refl
+
+-- a variable's place that is the column's number
+pub placed_at : (u : List ℕ) (s : Slot) (p k : ℕ) → s ≡ Place p → eqb p k ≡ true → cell_of u s ≡ slice_index u k
+placed_at u s p k is same = sym (cell_at u s p is) ∙ ap (slice_index u) (eqb-true p k same)
+
+-- patterns whose tuples are their rows
+
+-- a tuple is the row that it gives up to a column, where it is up to the one before
+pub plain_more : (w : ℕ) (slots : List Slot) (i : ℕ) (d : Slot) → length slots ≡ w → i < length slots → ((u : List ℕ) → cell_of u (get_or slots i d) ≡ slice_index u i)
+    → ((u : List ℕ) → length u ≡ w → filled u (take i slots) ≡ take i u) → (u : List ℕ) → length u ≡ w → filled u (take (i + 1) slots) ≡ take (i + 1) u
+plain_more w slots i d long below here before u wide =
+    filled_more u u slots slots i d refl below (omega (arith, wide, long, below)) (before u wide) (here u)
+
+pub plain_all : (w : ℕ) (slots : List Slot) (i : ℕ) → length slots ≡ w → length slots ≤ i
+    → ((u : List ℕ) → length u ≡ w → filled u (take i slots) ≡ take i u) → IsPlain w slots
+plain_all w slots i long past before = record {
+  long = long;
+  same = λ u wide.
+      ap (filled u) (sym (take_all i slots past)) ∙ before u wide ∙ take_all i u (omega (arith, wide, long, past));
+}
+
+-- a row is the only tuple that gives it, where it passes the tests
+pub plain_gives : (p : Shape) (row : List ℕ) → IsPlain p.width p.slots → length row ≡ length p.slots → All (Passes row) p.tests → (u : List ℕ) → (row ≡ u) ↔ Gives p u row
+plain_gives p row plain long passed u = (
+  λ e. subst (λ (t : List ℕ). Gives p t row) e (record {
+    wide = long ∙ plain.long;
+    fills = plain.same row (long ∙ plain.long);
+    passes = passed;
+  }),
+  λ gives. sym gives.fills ∙ plain.same u gives.wide,
+)
+
+pub plain_fails : (p : Shape) (row : List ℕ) → IsPlain p.width p.slots → (All (Passes row) p.tests → ⊥) → (u : List ℕ) → Gives p u row → ⊥
+plain_fails p row plain fails u gives =
+    fails (subst (λ (t : List ℕ). All (Passes t) p.tests) (sym (plain.same u gives.wide) ∙ gives.fills) gives.passes)

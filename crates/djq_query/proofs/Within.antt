@@ -6,7 +6,6 @@ use Rattle.std.proofs.lemmas.Bool.{ltb-false}
 use Rattle.std.proofs.lemmas.List.{length-map}
 use Rattle.djq_model.specs.declared.relation.Relation.{Relation}
 use Rattle.djq_model.specs.declared.query.Query.{Query}
-use Rattle.djq_model.specs.declared.query.Comparison.{Comparison}
 use Rattle.djq_lines.specs.declared.limits.TheConstants.{ATOMS, VARIABLES, HEAD_VARIABLES}
 use Rattle.djq_lines.specs.QueryFault.{query_fault}
 use Rattle.djq_lines.specs.Variables.{Label, variables_of}

@@ -82,6 +82,16 @@ pub record IsPattern (p : Shape) : Type 0 where
   pub all : (x : ℕ) → x < p.width → list_any (is_place x) p.slots ≡ true
   pub tested : list_all (λ t. nat_lt t.place p.width) p.tests ≡ true
 
+-- A row of the atom is the tuple that gives it: the variables stand at its columns in their order.
+pub record IsPlain (width : ℕ) (slots : List Slot) : Type 0 where
+  pub long : length slots ≡ width
+  pub same : (u : List ℕ) → length u ≡ width → filled u slots ≡ u
+
+-- a pattern, with whether it is known to be plain
+pub record IsMade (p : Shape) (plain : Bool) : Type 0 where
+  pub pattern : IsPattern p
+  pub straight : plain ≡ true → IsPlain p.width p.slots
+
 -- What stands at the columns of an atom over these variables: the place of a variable among them,
 -- and the cell of a constant.
 unfoldable pub slot_of : List ℕ → NumberedTerm → ℕ → Slot

@@ -11,7 +11,7 @@
 //! [`number`] gives the query over numbers: relations by their numbers in [`Relations`], variables
 //! in the order in which they first stand in atoms, each `_` one of its own. [`NumberedAtom::bind`]
 //! turns an atom into a [`Pattern`], whose constants are cells and whose [`Test`]s are the body's
-//! comparisons of its variables, and [`Pattern::matches`] a row into the tuple over the atom's
+//! comparisons of its variables, and [`Pattern::lend`] a row into the tuple over the atom's
 //! variables.
 //!
 //! It reads no text, holds no relation and no row, and makes no text known: relations are asked of
@@ -22,9 +22,10 @@
 //! is none that holds an unknown text.
 //!
 //! Inside, a fault is sought place by place, without a table of names: a line's length bounds the
-//! places. A row is matched in two passes over its columns. The first writes its cells at their
-//! variables' places, which gives the only tuple that may be meant; the second compares what that
-//! tuple gives with the row. A tuple that is left is tried on the tests.
+//! places. Where an atom's variables stand at its columns in their order, a row is its own tuple, which
+//! is known once the pattern is made. Any other row is matched in two passes over its columns. The
+//! first writes its cells at their variables' places, which gives the only tuple that may be meant; the
+//! second compares what that tuple gives with the row. A tuple that is left is tried on the tests.
 #![tactic(auto)]
 
 pub use fault::query_fault;

@@ -9,8 +9,9 @@ ghost use Rattle.std.specs.Prelude.{
   Some,
   true,
   length,
-  IfOk,
+  slice_index,
   IfSome,
+  MatchOption,
 };
 ghost use Rattle.djq_query.specs.Pattern.{
   cell_of,
@@ -20,6 +21,7 @@ ghost use Rattle.djq_query.specs.Pattern.{
   put_cell,
   Gives,
   IsPattern,
+  IsPlain,
   Passes,
 };
 
@@ -56,6 +58,7 @@ pub struct Pattern {
     width: usize,
     slots: Sequence<Slot>,
     tests: Sequence<Test>,
+    plain: bool, // the tuple of a row is the row itself
 }
 
 impl Model for Pattern {
@@ -65,7 +68,7 @@ impl Model for Pattern {
 
     ghost view = { λ p. record { width = p.width; slots = p.slots; tests = p.tests } };
 
-    ghost invariant = { λ p. spec.IsPattern (record { width = p.width; slots = p.slots; tests = p.tests }) };
+    ghost invariant = { λ p. spec.IsMade (record { width = p.width; slots = p.slots; tests = p.tests }) p.plain };
 }
 
 // The cell that a tuple gives a column.
@@ -104,16 +107,43 @@ fn passes(operator: Operator, cell: u64, constant: u64) -> bool
     }
 }
 
+// Whether a variable's place stands at the column of the same number.
+fn is_at(slot: Slot, column: usize) -> bool
+    ensures { (u : List ℕ) → result ≡ true → cell_of u slot ≡ slice_index u column }
+{
+    match slot {
+        Slot::Place(place) => place == column,
+        Slot::Cell(_) => false,
+    }
+}
+
+// Whether the variables stand at the columns in their order, and nothing else does.
+fn is_plain(width: usize, slots: &[Slot]) -> bool
+    ensures { result ≡ true → IsPlain width slots.now }
+{
+    if slots.len() != width {
+        return false;
+    }
+    'columns: for i in 0..slots.len() {
+        if !is_at(slots[i], i) {
+            return false;
+        }
+    }
+    true
+}
+
 impl Pattern {
     /// A pattern of these parts.
     pub(crate) fn new(width: usize, slots: Sequence<Slot>, tests: Sequence<Test>) -> Self
         requires { IsPattern (record { width = width; slots = slots; tests = tests }) }
         ensures { result ≡ record { width = width; slots = slots; tests = tests } }
     {
+        let plain = is_plain(width, slots.as_slice());
         Pattern {
             width,
             slots,
             tests,
+            plain,
         }
     }
 
@@ -133,44 +163,49 @@ impl Pattern {
 
     /// The tuple of a row: its cells at the variables, where its constants are the atom's, a
     /// variable that stands twice has one cell, and each comparison holds. `None` exactly where no
-    /// tuple gives the row. It takes no memory.
-    pub fn matches(&self, row: &[u64]) -> Option<Cells>
+    /// tuple gives the row. Most often the tuple is the row itself; else it is written into the room.
+    /// It takes no memory.
+    pub fn lend<'a>(&self, row: &'a [u64], room: &'a mut Cells) -> Option<&'a [u64]>
         requires { length row.now ≡ length self.now.slots }
-        ensures wide { IfSome result (λ u. length u ≡ self.now.width) }
-        ensures exact { (u : List ℕ) → (result ≡ Some u) ↔ Gives self.now u row.now }
+        ensures wide { IfSome result (λ t. length t.now ≡ self.now.width) }
+        ensures few { IfSome result (λ t. length t.now ≤ 16) }
+        ensures exact { MatchOption result ((u : List ℕ) → Gives self.now u row.now → ⊥)
+            (λ t. (u : List ℕ) → (t.now ≡ u) ↔ Gives self.now u row.now) }
     {
-        let tuple = self.cells_of(row);
-        if self.fills(&tuple, row) && self.passes(&tuple) {
+        if self.plain {
+            return if self.passes(row) { Some(row) } else { None };
+        }
+        self.write(row, room);
+        let tuple = room.as_slice();
+        if self.fills(tuple, row) && self.passes(tuple) {
             Some(tuple)
         } else {
             None
         }
     }
 
-    // The only tuple that may give a row.
-    fn cells_of(&self, row: &[u64]) -> Cells
+    // Writes the only tuple that may give a row.
+    fn write(&self, row: &[u64], tuple: &mut Cells)
         requires { length row.now ≡ length self.now.slots }
-        ensures wide { length result ≡ self.now.width }
-        ensures only { (u : List ℕ) → length u ≡ self.now.width → filled u self.now.slots ≡ row.now → result ≡ u }
+        ensures wide { length tuple.new ≡ self.now.width }
+        ensures only { (u : List ℕ) → length u ≡ self.now.width → filled u self.now.slots ≡ row.now → tuple.new ≡ u }
     {
         let slots = self.slots.as_slice();
-        let mut tuple = Cells::new(self.width);
+        *tuple = Cells::new(self.width);
         'columns: for i in 0..slots.len() {
-            put(&mut tuple, slots[i], row[i]);
+            put(tuple, slots[i], row[i]);
         }
-        tuple
     }
 
     // Whether a tuple put into the atom gives a row.
-    fn fills(&self, tuple: &Cells, row: &[u64]) -> bool
+    fn fills(&self, tuple: &[u64], row: &[u64]) -> bool
         requires long { length row.now ≡ length self.now.slots }
         requires wide { length tuple.now ≡ self.now.width }
         ensures { (result ≡ true) ↔ (filled tuple.now self.now.slots ≡ row.now) }
     {
         let slots = self.slots.as_slice();
-        let cells = tuple.as_slice();
         'columns: for i in 0..slots.len() {
-            if cell_of(cells, slots[i]) != row[i] {
+            if cell_of(tuple, slots[i]) != row[i] {
                 return false;
             }
         }
@@ -178,15 +213,14 @@ impl Pattern {
     }
 
     // Whether a tuple passes every test.
-    fn passes(&self, tuple: &Cells) -> bool
+    fn passes(&self, tuple: &[u64]) -> bool
         requires { length tuple.now ≡ self.now.width }
         ensures { (result ≡ true) ↔ All (Passes tuple.now) self.now.tests }
     {
         let tests = self.tests.as_slice();
-        let cells = tuple.as_slice();
         'tests: for i in 0..tests.len() {
             let test = tests[i];
-            if !passes(test.operator, cells[test.place], test.cell) {
+            if !passes(test.operator, tuple[test.place], test.cell) {
                 return false;
             }
         }

@@ -3,6 +3,7 @@ ghost use Rattle.djq_model.specs.Data.{bytes_eq};
 
 use super::*;
 use crate::edges::variables_of;
+use djq_index::Cells;
 use djq_lines::Refusal;
 use djq_model::{
     Atom, Atoms, ColumnType, Comparison, Comparisons, Name, NoMem, Operator, Query, Relation,
@@ -372,8 +373,9 @@ fn first_cell(pattern: &Pattern, row: &[u64]) -> Option<u64> {
     if row.len() != pattern.columns() {
         return None;
     }
-    let tuple = pattern.matches(row)?;
-    tuple.as_slice().first().copied()
+    let mut room = Cells::new(0);
+    let tuple = pattern.lend(row, &mut room)?;
+    tuple.first().copied()
 }
 
 #[test]

@@ -15,6 +15,7 @@ use djq_model::Name;
 use djq_value::{digit_count, extend_digits};
 
 // A line of words.
+#[inline]
 pub(crate) fn say(out: &mut BytesMut, words: &[u8])
     requires { length words.now + 1 ≤ out.old.spare }
     ensures { Says out.old out.new (line words.now) }
@@ -23,7 +24,18 @@ pub(crate) fn say(out: &mut BytesMut, words: &[u8])
     out.extend_reserved(b"\n");
 }
 
-// Words, a number of 20 digits at most, and what stands behind it.
+// A number of 20 digits at most.
+#[tactic(auto, using(crate::proofs::Digits::few_digits))]
+fn say_decimal(out: &mut BytesMut, number: u64)
+    requires { 20 ≤ out.old.spare }
+    ensures { Says out.old out.new (decimal number) }
+{
+    extend_digits(number, digit_count(number), out);
+}
+
+// Words, a number of 20 digits at most, and what stands behind it. Where it is called the words are
+// known, and are put there without a copy whose length isn't.
+#[inline(always)]
 #[tactic(auto, using(crate::proofs::Digits::few_digits))]
 fn say_digits(out: &mut BytesMut, words: &[u8], number: u64, behind: &[u8])
     requires { length words.now + 20 + length behind.now + LAST_LINE_BYTES ≤ out.old.spare }
@@ -31,11 +43,12 @@ fn say_digits(out: &mut BytesMut, words: &[u8], number: u64, behind: &[u8])
     ensures says { Says out.old out.new (words.now ++ decimal number ++ behind.now) }
 {
     out.extend_reserved(words);
-    extend_digits(number, digit_count(number), out);
+    say_decimal(out, number);
     out.extend_reserved(behind);
 }
 
 // A line of words and a number.
+#[inline(always)]
 pub(crate) fn say_number(out: &mut BytesMut, words: &[u8], number: u64)
     requires { length words.now + 21 + LAST_LINE_BYTES ≤ out.old.spare }
     ensures kept { LAST_LINE_BYTES ≤ out.new.spare }
@@ -45,6 +58,7 @@ pub(crate) fn say_number(out: &mut BytesMut, words: &[u8], number: u64)
 }
 
 // A line of words, a number and one of a single digit.
+#[inline(always)]
 fn say_with_digit(out: &mut BytesMut, words: &[u8], number: u64, digit: u8)
     requires room { length words.now + 23 + LAST_LINE_BYTES ≤ out.old.spare }
     requires digit { digit < 10 }
@@ -55,6 +69,7 @@ fn say_with_digit(out: &mut BytesMut, words: &[u8], number: u64, digit: u8)
 }
 
 // A line of words and two numbers, each of 20 digits at most.
+#[inline(always)]
 #[tactic(auto, using(crate::proofs::Digits::few_digits))]
 fn say_two_numbers(out: &mut BytesMut, words: &[u8], first: u64, second: u64)
     requires { length words.now + 42 + LAST_LINE_BYTES ≤ out.old.spare }
@@ -62,7 +77,7 @@ fn say_two_numbers(out: &mut BytesMut, words: &[u8], first: u64, second: u64)
     ensures says { Says out.old out.new (numbered_twice words.now first second) }
 {
     out.extend_reserved(words);
-    extend_digits(first, digit_count(first), out);
+    say_decimal(out, first);
     say_number(out, b" ", second);
 }
 

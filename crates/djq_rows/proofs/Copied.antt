@@ -1,4 +1,4 @@
--- The rows of a table's entries with their copies, which are the entries' supports.
+-- The rows of entries with their copies, which are the entries' supports.
 use Rattle.std.proofs.Common.{
   ◌≡◌,
   ℕ,
@@ -39,7 +39,7 @@ use Rattle.djq_model.specs.Data.{
   without_copies,
 }
 use Rattle.djq_dict.specs.Known.{AllDifferent}
-use Rattle.djq_index.specs.Tuple.{same, one}
+use Rattle.djq_index.specs.Tuple.{same}
 use Rattle.djq_index.specs.Entries.{Entry, cnt, supp}
 use Rattle.djq_index.specs.Table.{AreApart, AreSupported}
 use Rattle.djq_index.proofs.Tuples.{is_same, same_cases, one_true}

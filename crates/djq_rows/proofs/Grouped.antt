@@ -1,4 +1,4 @@
--- A table of one group, and the rows that its tuples are.
+-- Entries, and the rows that their tuples are.
 use Rattle.std.proofs.Common.{
   ◌≡◌,
   ℕ,
@@ -15,7 +15,6 @@ use Rattle.std.proofs.Common.{
   refl,
   sym,
   ap,
-  ap₂,
   ◌∙◌,
   subst,
   inl,
@@ -25,7 +24,7 @@ use Rattle.std.proofs.Common.{
 use Rattle.std.specs.Prelude.{map, Option, Some, None, is_some, MatchOption}
 use Rattle.std.specs.List.{AllByRecursion}
 use Rattle.std.proofs.lemmas.Bool.{cases_Bool}
-use Rattle.std.proofs.lemmas.List.{append-nil, length-map, map-append}
+use Rattle.std.proofs.lemmas.List.{length-map, map-append}
 use Rattle.std.proofs.lemmas.List.Elements.{All-from_recursion}
 use Rattle.std.proofs.lemmas.List.Kept.{AllPairs-cons}
 use Rattle.djq_model.specs.declared.relation.ColumnType.{ColumnType}
@@ -33,97 +32,28 @@ use Rattle.djq_model.specs.Data.{Bytes, Tuple, tuple_eq, has_row}
 use Rattle.djq_model.specs.Answer.{AreDifferent}
 use Rattle.djq_model.specs.Equality.{tuple_eq-decides}
 use Rattle.djq_dict.specs.Known.{AllDifferent}
-use Rattle.djq_index.specs.declared.place.Place.{Place}
-use Rattle.djq_index.specs.Tuple.{same, pick}
-use Rattle.djq_index.specs.Entries.{Entry, cnt, many, grp}
-use Rattle.djq_index.specs.Table.{Table, IsAt, AreApart}
-use Rattle.djq_index.specs.Changes.{Inserted, Removed}
+use Rattle.djq_index.specs.Tuple.{same}
+use Rattle.djq_index.specs.Entries.{Entry, cnt}
+use Rattle.djq_index.specs.Table.{IsAt, AreApart}
 use Rattle.djq_index.proofs.Tuples.{same_is, is_same, one_true, one_false}
-use Rattle.djq_index.proofs.Counts.{cnt_cons, many_cons}
+use Rattle.djq_index.proofs.Counts.{cnt_cons}
 use Rattle.djq_index.proofs.Apart.{there}
 use Rattle.djq_rows.specs.Parts.{row_of, tuples_of, AreWithin}
-use Rattle.djq_rows.specs.Tuples.{HasTuple, Appended, Dropped}
+use Rattle.djq_rows.specs.Rows.{place}
+use Rattle.djq_rows.specs.Tuples.{HasTuple}
 use Rattle.djq_rows.proofs.Encoding.{same_cells}
 
--- all entries are the group with no cells
+-- a tuple that is found
 
-nothing : (u : List ℕ) → pick [] u ≡ []
-unfolding pick
-nothing u = refl
+pub found : (es : List Entry) (slot : ℕ) (u : List ℕ) → IsAt es (place slot) u → 0 < cnt es u
+found es slot u a = there es a.front a.entry a.back u a.is a.tuple
 
-in_group : (u : List ℕ) → same (pick [] u) [] ≡ true
-in_group u = is_same (pick [] u) [] (nothing u)
-
-many_nil : many [] [] [] ≡ 0
-unfolding many
-many_nil = refl
-
-many_all : (es : List Entry) → many [] es [] ≡ length es
-many_all [] = many_nil
-many_all (e ∷ es) = omega (
-  arith,
-  many_cons [] e es [],
-  one_true (same (pick [] e.tuple) [])
-      (in_group e.tuple),
-  many_all es,
-)
-
-pub grp_all : (es : List Entry) → grp [] es [] ≡ es
-unfolding grp
-grp_all [] = refl
-grp_all (e ∷ es) = rw (in_group e.tuple) (ap (λ (l : List Entry). e ∷ l) (grp_all es))
-
-no_length : {A : Type 0} (xs : List A) → length xs ≡ 0 → xs ≡ []
-no_length [] h = refl
-no_length (x ∷ xs) h = absurd (omega (arith, h))
-
--- what is inserted comes last
-pub appended : (old new : Table) (u : List ℕ) → old.key ≡ [] → Inserted old.key old.entries
-    new.entries u → Appended old new u
-appended old new u key i =
-    let last : many [] i.back [] ≡ 0 = subst (λ (w : List ℕ). many [] i.back w ≡ 0) (nothing u)
-    (subst (λ (k : List ℕ). many k i.back (pick k u) ≡ 0) key i.last) in
-    let none : i.back ≡ [] = no_length i.back (omega (arith, many_all i.back, last)) in
-    let front : old.entries ≡ i.front = i.was ∙ ap (λ (l : List Entry). i.front ++ l) none ∙
-    append-nil i.front in
-    record {
-      entry = i.entry;
-      tuple = i.tuple;
-      single = i.supports;
-      is = i.is ∙ ap₂ (λ (xs ys : List Entry). xs ++
-          i.entry ∷ ys) (sym front) none;
-    }
-
-pub dropped : (old new : Table) (u : List ℕ) → Removed old.entries new.entries u → Dropped old new u
-dropped old new u r = record {
-  front = r.front;
-  back = r.back;
-  entry = r.entry;
-  tuple = r.tuple;
-  was
-      = r.was;
-  is = r.is;
-}
-
-pub found : (es : List Entry) (p : Place) (u : List ℕ) → IsAt es p u → 0 < cnt es u
-found es p u a = there es a.front a.entry a.back u a.is a.tuple
-
-pub found_some : (es : List Entry) (u : List ℕ) (r : Option Place) → MatchOption r (cnt es u ≡ 0) (λ
-    p. IsAt es p u) → is_some r ≡ true → 0 < cnt es u
-found_some es u None h e = absurd cc
-found_some es u (Some p) h e = found es p u h
-
-pub found_none : (es : List Entry) (u : List ℕ) (r : Option Place) → MatchOption r (cnt es u ≡ 0) (λ
-    p. IsAt es p u) → is_some r ≡ false → cnt es u ≡ 0
-found_none es u None h e = h
-found_none es u (Some p) h e = absurd cc
-
-pub found_has : (t : Table) (u : List ℕ) (r : Option Place) (b : Bool) → MatchOption r (cnt
-    t.entries u ≡ 0) (λ p. IsAt t.entries p u) → b ≡ is_some r → HasTuple t u b
-found_has t u None true h e = absurd cc
-found_has t u None false h e = h
-found_has t u (Some p) true h e = found t.entries p u h
-found_has t u (Some p) false h e = absurd cc
+pub found_has : (es : List Entry) (u : List ℕ) (r : Option ℕ) (b : Bool) → MatchOption r (cnt es u
+    ≡ 0) (λ slot. IsAt es (place slot) u) → b ≡ is_some r → HasTuple es u b
+found_has es u None true h e = absurd cc
+found_has es u None false h e = h
+found_has es u (Some slot) true h e = found es slot u h
+found_has es u (Some slot) false h e = absurd cc
 
 -- the rows of entries
 

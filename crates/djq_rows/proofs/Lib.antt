@@ -5,5 +5,6 @@ pub mod Grouped
 pub mod Copied
 pub mod Relations
 pub mod Standing
+pub mod Slotted
 pub mod Stepping
 pub mod Lawful

@@ -4,7 +4,6 @@ use Rattle.std.proofs.Common.{
   ℕ,
   zero,
   suc,
-  ◌+◌,
   ◌<◌,
   ◌≤◌,
   Bool,
@@ -95,19 +94,12 @@ use Rattle.djq_rows.specs.Tuples.{
   LacksPlace,
   Appended,
   Dropped,
-  StaysTable,
+  StayApart,
   AddsTuple,
   DeletesTuple,
 }
 use Rattle.djq_rows.proofs.Learning.{Grown, eq_refl, eq_other}
-use Rattle.djq_rows.proofs.Encoding.{
-  stand_row,
-  stand_within,
-  row_stands,
-  within_grown,
-  row_grown,
-  cells_back,
-}
+use Rattle.djq_rows.proofs.Encoding.{stand_row, stand_within, row_stands, within_grown, cells_back}
 use Rattle.djq_rows.proofs.Grouped.{
   rows_in,
   Within,
@@ -148,18 +140,18 @@ unfolding relation_in
 in_types texts k = refl
 
 pub in_rows : (texts : List Bytes) (k : Kept) → tuples_in (relation_in texts k) ≡ rows_in texts k.types
-    k.table.entries
+    k.rows.entries
 unfolding relation_in
-in_rows texts k = plain_rows texts k.types k.table.entries
+in_rows texts k = plain_rows texts k.types k.rows.entries
 
 pub in_counted : (texts : List Bytes) (k : Kept) → (relation_in texts k).rows ≡ counted_in texts
-    k.types k.table.entries
+    k.types k.rows.entries
 unfolding relation_in
 in_counted texts k = refl
 
 -- a relation with other rows
 with_rows : (texts : List Bytes) (j k : Kept) (rows : List CountedRow) → k.name ≡ j.name → k.types ≡
-    j.types → counted_in texts k.types k.table.entries ≡ rows → relation_in texts k ≡ (let r =
+    j.types → counted_in texts k.types k.rows.entries ≡ rows → relation_in texts k ≡ (let r =
     relation_in texts j in record r { rows = rows })
 unfolding relation_in
 with_rows texts j k rows n t e =
@@ -167,21 +159,21 @@ with_rows texts j k rows n t e =
       name = m;
       types = k.types;
       rows = counted_in texts k.types
-          k.table.entries;
+          k.rows.entries;
     }) n
     ∙ ap (λ (l : List ColumnType). record {
       name = j.name;
       types = l;
       rows = counted_in texts k.types
-          k.table.entries;
+          k.rows.entries;
     }) t
     ∙ ap (λ (l : List CountedRow). record { name = j.name; types = j.types; rows = l }) e
 
 same_rows : (texts : List Bytes) (j k : Kept) → k.name ≡ j.name → k.types ≡ j.types →
-    k.table.entries ≡ j.table.entries → relation_in texts k ≡ relation_in texts j
+    k.rows.entries ≡ j.rows.entries → relation_in texts k ≡ relation_in texts j
 unfolding relation_in
-same_rows texts j k n t e = with_rows texts j k (counted_in texts j.types j.table.entries) n t
-    (ap (λ (l : List ColumnType). counted_in texts l k.table.entries) t
+same_rows texts j k n t e = with_rows texts j k (counted_in texts j.types j.rows.entries) n t
+    (ap (λ (l : List ColumnType). counted_in texts l k.rows.entries) t
     ∙ ap (counted_in texts j.types) e)
 
 -- at a place
@@ -191,13 +183,13 @@ pub relation_is : (texts : List Bytes) (ks : List Kept) (at : ℕ) → at < leng
 relation_is texts ks at low = get_or-map (relation_in texts) ks at no_kept no_relation low
 
 pub rows_is : (texts : List Bytes) (ks : List Kept) (at : ℕ) → at < length ks → rows_at
-    (relations_of texts ks) at ≡ rows_in texts (kept_at ks at).types (kept_at ks at).table.entries
+    (relations_of texts ks) at ≡ rows_in texts (kept_at ks at).types (kept_at ks at).rows.entries
 rows_is texts ks at low = ap tuples_in (relation_is texts ks at low) ∙ in_rows
     texts (kept_at ks at)
 
 pub counted_is : (texts : List Bytes) (ks : List Kept) (at : ℕ) → at < length ks → counted_at
     (relations_of texts ks) at ≡ counted_in texts (kept_at ks at).types (kept_at ks
-    at).table.entries
+    at).rows.entries
 counted_is texts ks at low = ap (λ (r : Relation). r.rows) (relation_is texts ks at low) ∙
     in_counted texts (kept_at ks at)
 
@@ -237,14 +229,14 @@ pub names_set : (ks : List Kept) (at : ℕ) (k : Kept) → k.name ≡ (kept_at k
 names_set ks at k n = map-set_same (λ (j : Kept). j.name) ks at k no_kept n
 
 stays : (texts : List Bytes) (ks : List Kept) (at : ℕ) (k : Kept) → k.name ≡ (kept_at ks at).name →
-    k.types ≡ (kept_at ks at).types → k.table.entries ≡ (kept_at ks at).table.entries
+    k.types ≡ (kept_at ks at).types → k.rows.entries ≡ (kept_at ks at).rows.entries
     → relations_of texts (set ks at k) ≡ relations_of texts ks
 stays texts ks at k n t e = map-set_same (relation_in texts) ks at k no_kept (same_rows texts
     (kept_at ks at) k n t e)
 
 changes : (texts : List Bytes) (ks : List Kept) (at : ℕ) (k : Kept) (rows : List CountedRow) → at <
     length ks → k.name ≡ (kept_at ks at).name → k.types ≡ (kept_at ks at).types
-    → counted_in texts k.types k.table.entries ≡ rows → relations_of texts (set ks at k) ≡
+    → counted_in texts k.types k.rows.entries ≡ rows → relations_of texts (set ks at k) ≡
     with_rows_at (relations_of texts ks) at rows
 changes texts ks at k rows low n t e =
     map-set (relation_in texts) ks at k
@@ -262,7 +254,7 @@ module _ (texts : List Bytes) (ks : List Kept) (at : ℕ) (k : Kept) (u : List �
     (n : k.name ≡ (kept_at ks at).name) (t : k.types ≡ (kept_at ks at).types) (stand : StandFor
     texts (kept_at ks at).types u row) where
   abbrev was : List Entry
-  was = (kept_at ks at).table.entries
+  was = (kept_at ks at).rows.entries
 
   abbrev types : List ColumnType
   types = (kept_at ks at).types
@@ -285,7 +277,8 @@ module _ (texts : List Bytes) (ks : List Kept) (at : ℕ) (k : Kept) (u : List �
   long = ap (λ (rows : List Tuple). length rows) (rows_is texts ks at low) ∙ rows_long texts types
       was
 
-  pub has : (b : Bool) → HasTuple (kept_at ks at).table u b → b ≡ has_row (rows_at (relations_of
+  pub has : (b : Bool) → HasTuple (kept_at ks at).rows.entries u b → b ≡ has_row (rows_at
+      (relations_of
       texts ks) at) row
   has true h = sym (present h)
   has false h = sym (absent h)
@@ -294,7 +287,7 @@ module _ (texts : List Bytes) (ks : List Kept) (at : ℕ) (k : Kept) (u : List �
   copies =
       ap (λ (rows : List CountedRow). copies_among rows row) (counted_is texts ks at low)
       ∙ ap (copies_among (counted_in texts types was)) (sym row_is)
-      ∙ copies_row texts types was u d s.within (stand_within texts types u row stand) s.table.apart
+      ∙ copies_row texts types was u d s.within (stand_within texts types u row stand) s.apart
 
   -- a test of the copies tells whether the row is there
   pub copies_tell : (n : ℕ) → n ≡ supp was u
@@ -307,30 +300,30 @@ module _ (texts : List Bytes) (ks : List Kept) (at : ℕ) (k : Kept) (u : List �
       there_once zero none = absurd (omega (arith, e, supp_none was u none))
       there_once (suc c) some = omega (arith, some)
 
-  appended_rows : Appended (kept_at ks at).table k.table u → counted_in texts k.types
-      k.table.entries ≡ with_row (counted_at (relations_of texts ks) at) row
+  appended_rows : Appended (kept_at ks at).rows.entries k.rows.entries u → counted_in texts k.types
+      k.rows.entries ≡ with_row (counted_at (relations_of texts ks) at) row
   appended_rows a =
-      ap (λ (l : List ColumnType). counted_in texts l k.table.entries) t
+      ap (λ (l : List ColumnType). counted_in texts l k.rows.entries) t
       ∙ ap (counted_in texts types) a.is ∙ counted-append texts types was (a.entry ∷ [])
       ∙ ap (λ (l : List CountedRow). counted_in texts types was ++ l)
       (counted_one texts types a.entry a.single)
       ∙ ap₂ (λ (l : List CountedRow) (r : Tuple). with_row l r)
       (sym (counted_is texts ks at low)) (ap (row_of texts types) a.tuple ∙ row_is)
 
-  counted_rows : (from to : ℕ) → Supported was k.table.entries u from to → counted_in texts k.types
-      k.table.entries ≡ with_copies (counted_at (relations_of texts ks) at) row to
+  counted_rows : (from to : ℕ) → Supported was k.rows.entries u from to → counted_in texts k.types
+      k.rows.entries ≡ with_copies (counted_at (relations_of texts ks) at) row to
   counted_rows from to c =
-      ap (λ (l : List ColumnType). counted_in texts l k.table.entries) t
+      ap (λ (l : List ColumnType). counted_in texts l k.rows.entries) t
       ∙ ap (counted_in texts types) c.is
       ∙ sym (recounted texts types c.front c.before c.after c.back to d
-      (subst (Within texts types) c.was s.within) (subst AreApart c.was s.table.apart)
+      (subst (Within texts types) c.was s.within) (subst AreApart c.was s.apart)
       (c.same_tuple ∙ sym c.tuple) c.has)
       ∙ ap (λ (es : List Entry). with_copies (counted_in texts types es)
       (row_of texts types c.before.tuple) to) (sym c.was)
       ∙ ap₂ (λ (l : List CountedRow) (r : Tuple). with_copies l r to)
       (sym (counted_is texts ks at low)) (ap (row_of texts types) c.tuple ∙ row_is)
 
-  no_place : LacksPlace (kept_at ks at).table u → HasNoPlace (relations_of texts ks) at row
+  no_place : LacksPlace (kept_at ks at).rows.entries u → HasNoPlace (relations_of texts ks) at row
   no_place l = record {
     copies = λ h. omega (arith, copies, l.copies (is_there (cnt was u) refl h));
     rows = λ h. omega (arith, long, l.rows (is_absent (cnt was u) refl h));
@@ -346,7 +339,7 @@ module _ (texts : List Bytes) (ks : List Kept) (at : ℕ) (k : Kept) (u : List �
       is_absent zero e h = e
       is_absent (suc c) e h = absurd (false≢true (sym h ∙ present (omega (arith, e))))
 
-  pub added : (r : Result AddOutcome RowsRefusal) → AddsTuple (kept_at ks at).table u r k.table →
+  pub added : (r : Result AddOutcome RowsRefusal) → AddsTuple (kept_at ks at).rows u r k.rows →
       AddsRow (relations_of texts ks) at row r (relations_of texts (set ks at k))
   added (Ok First) a = (
     absent a.adds.0,
@@ -370,19 +363,19 @@ module _ (texts : List Bytes) (ks : List Kept) (at : ℕ) (k : Kept) (u : List �
         a.adds.2,
   )
 
-  dropped_rows : Dropped (kept_at ks at).table k.table u → counted_in texts k.types k.table.entries
+  dropped_rows : Dropped (kept_at ks at).rows.entries k.rows.entries u → counted_in texts k.types k.rows.entries
       ≡ without_copies (counted_at (relations_of texts ks) at) row
   dropped_rows e =
-      ap (λ (l : List ColumnType). counted_in texts l k.table.entries) t
+      ap (λ (l : List ColumnType). counted_in texts l k.rows.entries) t
       ∙ ap (counted_in texts types) e.is
       ∙ sym (dropped_row texts types e.front e.entry e.back d (subst (Within texts types) e.was
-      s.within) (subst AreApart e.was s.table.apart))
+      s.within) (subst AreApart e.was s.apart))
       ∙ ap (λ (l : List Entry). without_copies (counted_in texts types l) (row_of texts types
       e.entry.tuple)) (sym e.was)
       ∙ ap₂ (λ (l : List CountedRow) (r : Tuple). without_copies l r)
       (sym (counted_is texts ks at low)) (ap (row_of texts types) e.tuple ∙ row_is)
 
-  pub deleted : (r : DeleteOutcome) → DeletesTuple (kept_at ks at).table u r k.table → DeletesRow
+  pub deleted : (r : DeleteOutcome) → DeletesTuple (kept_at ks at).rows u r k.rows → DeletesRow
       (relations_of texts ks) at row r (relations_of texts (set ks at k))
   deleted Last e = let out = e.deletes.1 in (
     present (there was out.front out.entry out.back u out.was out.tuple),
@@ -401,28 +394,27 @@ module _ (texts : List Bytes) (ks : List Kept) (at : ℕ) (k : Kept) (u : List �
 
 -- and it stays sound
 
-sound_as : (texts : List Bytes) (j k : Kept) → k.types ≡ j.types → StaysTable j.table k.table →
-    IsSound texts j → Within texts j.types k.table.entries → length k.table.entries ≤ ROWS →
-    Copied k.table.entries → IsSound texts k
+sound_as : (texts : List Bytes) (j k : Kept) → k.types ≡ j.types → StayApart j.rows k.rows →
+    IsSound texts j → Within texts j.types k.rows.entries → length k.rows.entries ≤ ROWS →
+    Copied k.rows.entries → IsSound texts k
 sound_as texts j k t st s w few c = record {
   some = subst (λ (l : List ColumnType). 0 < length l) (sym t) s.some;
   narrow = subst (λ (l : List ColumnType). length l ≤ COLUMNS) (sym t) s.narrow;
-  key = st.key ∙ s.key;
   width = st.width ∙ s.width ∙ ap (λ (l : List ColumnType). length l) (sym t);
-  table = st.is;
-  within = subst (λ (l : List ColumnType). Within texts l k.table.entries) (sym t) w;
+  apart = st.apart;
+  within = subst (λ (l : List ColumnType). Within texts l k.rows.entries) (sym t) w;
   few = few;
   copied = c;
 }
 
-same_sound : (texts : List Bytes) (j k : Kept) → k.types ≡ j.types → StaysTable j.table k.table →
-    IsSound texts j → k.table.entries ≡ j.table.entries → IsSound texts k
+same_sound : (texts : List Bytes) (j k : Kept) → k.types ≡ j.types → StayApart j.rows k.rows →
+    IsSound texts j → k.rows.entries ≡ j.rows.entries → IsSound texts k
 same_sound texts j k t st s e = sound_as texts j k t st s (subst (Within texts j.types) (sym e)
     s.within) (subst (λ (es : List Entry). length es ≤ ROWS) (sym e) s.few) (subst Copied (sym e)
     s.copied)
 
 counted_sound : (texts : List Bytes) (j k : Kept) (u : List ℕ) (from to : ℕ) → k.types ≡ j.types →
-    StaysTable j.table k.table → IsSound texts j → Supported j.table.entries k.table.entries u from
+    StayApart j.rows k.rows → IsSound texts j → Supported j.rows.entries k.rows.entries u from
     to → 1 ≤ to → to ≤ COPIES → IsSound texts k
 counted_sound texts j k u from to t st s c some few = sound_as texts j k t st s
     (subst (Within texts j.types) (sym c.is) (within_in texts j.types c.front c.before c.after
@@ -437,24 +429,24 @@ counted_sound texts j k u from to t st s c some few = sound_as texts j k t st s
     (subst Copied c.was s.copied) (omega (arith, c.has, some), omega (arith, c.has, few))))
 
 pub added_sound : (texts : List Bytes) (j k : Kept) (u : List ℕ) (r : Result AddOutcome RowsRefusal)
-    → k.types ≡ j.types → AreWithin texts j.types u → IsSound texts j → AddsTuple j.table u r
-    k.table → IsSound texts k
+    → k.types ≡ j.types → AreWithin texts j.types u → IsSound texts j → AddsTuple j.rows u r
+    k.rows → IsSound texts k
 added_sound texts j k u (Ok First) t h s a =
     let p = a.adds.2 in
-    sound_as texts j k t a.stays s (subst (Within texts j.types) (sym p.is) (within_push texts
-    j.types j.table.entries p.entry s.within (subst (AreWithin texts j.types) (sym p.tuple) h)))
+    sound_as texts j k t a.stay s (subst (Within texts j.types) (sym p.is) (within_push texts
+    j.types j.rows.entries p.entry s.within (subst (AreWithin texts j.types) (sym p.tuple) h)))
     (subst (λ (es : List Entry). length es ≤ ROWS) (sym p.is) (omega (
       arith,
       a.adds.1,
-      length-append j.table.entries (p.entry ∷ []),
+      length-append j.rows.entries (p.entry ∷ []),
     )))
-    (subst Copied (sym p.is) (copied_push j.table.entries p.entry s.copied
+    (subst Copied (sym p.is) (copied_push j.rows.entries p.entry s.copied
     (omega (arith, p.single), omega (arith, p.single))))
-added_sound texts j k u (Ok (More n)) t h s a = counted_sound texts j k u (supp j.table.entries u) n
-    t a.stays s a.adds.3 (omega (arith, a.adds.1)) a.adds.2
+added_sound texts j k u (Ok (More n)) t h s a = counted_sound texts j k u (supp j.rows.entries u) n
+    t a.stay s a.adds.3 (omega (arith, a.adds.1)) a.adds.2
 added_sound texts j k u (Err NameTaken) t h s a = absurd a.adds
-added_sound texts j k u (Err Full) t h s a = same_sound texts j k t a.stays s a.adds.1
-added_sound texts j k u (Err NoMem) t h s a = same_sound texts j k t a.stays s a.adds.2
+added_sound texts j k u (Err Full) t h s a = same_sound texts j k t a.stay s a.adds.1
+added_sound texts j k u (Err NoMem) t h s a = same_sound texts j k t a.stay s a.adds.2
 
 -- a tuple that is there has no more supports than a row may have copies
 most_copies : (es : List Entry) (u : List ℕ) → Copied es → AreApart es → 0 < cnt es u → supp
@@ -466,10 +458,10 @@ most_copies es u c a h = let s = stands es u h in omega (
 )
 
 pub deleted_sound : (texts : List Bytes) (j k : Kept) (u : List ℕ) (r : DeleteOutcome) → k.types ≡
-    j.types → IsSound texts j → DeletesTuple j.table u r k.table → IsSound texts k
+    j.types → IsSound texts j → DeletesTuple j.rows u r k.rows → IsSound texts k
 deleted_sound texts j k u Last t s e =
     let p = e.deletes.1 in
-    sound_as texts j k t e.stays s (subst (Within texts j.types) (sym p.is) (within_out texts
+    sound_as texts j k t e.stay s (subst (Within texts j.types) (sym p.is) (within_out texts
     j.types p.front p.entry p.back (subst (Within texts j.types) p.was s.within)))
     (subst (λ (es : List Entry). length es ≤ ROWS) (sym p.is) (omega (
       arith,
@@ -478,13 +470,13 @@ deleted_sound texts j k u Last t s e =
       length-append p.front p.back,
     )))
     (subst Copied (sym p.is) (copied_out p.front p.entry p.back (subst Copied p.was s.copied)))
-deleted_sound texts j k u (Left n) t s e = counted_sound texts j k u (supp j.table.entries u) n t
-    e.stays s e.deletes.3 e.deletes.2 (omega (
+deleted_sound texts j k u (Left n) t s e = counted_sound texts j k u (supp j.rows.entries u) n t
+    e.stay s e.deletes.3 e.deletes.2 (omega (
       arith,
       e.deletes.1,
-      most_copies j.table.entries u s.copied s.table.apart e.deletes.0,
+      most_copies j.rows.entries u s.copied s.apart e.deletes.0,
     ))
-deleted_sound texts j k u Absent t s e = same_sound texts j k t e.stays s e.deletes.1
+deleted_sound texts j k u Absent t s e = same_sound texts j k t e.stay s e.deletes.1
 
 -- more texts change nothing
 
@@ -504,7 +496,7 @@ relation_grown old new k g s = ap (λ (l : List CountedRow). record {
   name = k.name;
   types = k.types;
   rows = l;
-}) (counted_grown old new k.types k.table.entries g s.within)
+}) (counted_grown old new k.types k.rows.entries g s.within)
 
 pub relations_grown : (old new : List Bytes) (ks : List Kept) → Grown old new → AllByRecursion
     (IsSound old) ks → relations_of new ks ≡ relations_of old ks
@@ -517,11 +509,9 @@ sound_grown : (old new : List Bytes) (k : Kept) → Grown old new → IsSound ol
 sound_grown old new k g s = record {
   some = s.some;
   narrow = s.narrow;
-  key = s.key;
   width = s.width;
-  table =
-      s.table;
-  within = tuples_grown old new k.types (tuples_of k.table.entries) g s.within;
+  apart = s.apart;
+  within = tuples_grown old new k.types (tuples_of k.rows.entries) g s.within;
   few = s.few;
   copied = s.copied;
 }
@@ -554,7 +544,7 @@ within_have texts ts (u ∷ us) d h = (
 )
 
 rows_kept : (texts : List Bytes) (k : Kept) (P : List Tuple → Type 0) → P (rows_in texts k.types
-    k.table.entries) → P (tuples_in (relation_in texts k))
+    k.rows.entries) → P (tuples_in (relation_in texts k))
 rows_kept texts k P h = subst P (sym (in_rows texts k)) h
 
 pub sound_kept : (texts : List Bytes) (k : Kept) → AllDifferent texts → IsSound texts k → IsKept
@@ -565,20 +555,20 @@ sound_kept texts k d s = record {
   typed = subst (λ (l : List ColumnType). All (λ (row : Tuple). fits l row ≡ true) (tuples_in
       (relation_in texts k))) (sym (in_types texts k)) (rows_kept texts k (All (λ (row : Tuple).
       fits k.types row ≡ true)) (All-from_recursion (λ (row : Tuple). fits k.types row ≡ true)
-      (rows_in texts k.types k.table.entries) (within_typed texts k.types (tuples_of
-      k.table.entries) d s.within)));
-  differ = rows_kept texts k AreDifferent (rows_differ texts k.types k.table.entries d s.within
-      s.table.apart);
+      (rows_in texts k.types k.rows.entries) (within_typed texts k.types (tuples_of
+      k.rows.entries) d s.within)));
+  differ = rows_kept texts k AreDifferent (rows_differ texts k.types k.rows.entries d s.within
+      s.apart);
   cells = rows_kept texts k (All (HaveCells texts)) (All-from_recursion (HaveCells texts) (rows_in
-      texts k.types k.table.entries) (within_have texts k.types (tuples_of k.table.entries) d
+      texts k.types k.rows.entries) (within_have texts k.types (tuples_of k.rows.entries) d
       s.within));
   few = rows_kept texts k (λ (l : List Tuple). length l ≤ ROWS) (omega (
     arith,
     s.few,
-    rows_long texts k.types k.table.entries,
+    rows_long texts k.types k.rows.entries,
   ));
   counted = subst (All IsCounted) (sym (in_counted texts k)) (All-from_recursion IsCounted
-      (counted_in texts k.types k.table.entries) (are_counted texts k.types k.table.entries
+      (counted_in texts k.types k.rows.entries) (are_counted texts k.types k.rows.entries
       s.copied));
 }
 
@@ -593,11 +583,11 @@ cells_back_all texts ts (u ∷ us) d h =
 
 pub tuples_are : (texts : List Bytes) (ks : List Kept) (at : ℕ) → AllDifferent texts →
     AllByRecursion (IsSound texts) ks → at < length ks
-    → tuples_of (kept_at ks at).table.entries ≡ map (cells_of texts) (rows_at (relations_of texts
+    → tuples_of (kept_at ks at).rows.entries ≡ map (cells_of texts) (rows_at (relations_of texts
     ks) at)
 tuples_are texts ks at d h low =
     sym (ap (map (cells_of texts)) (rows_is texts ks at low) ∙ cells_back_all texts (kept_at ks
-    at).types (tuples_of (kept_at ks at).table.entries) d (sound_at texts ks at h low).within)
+    at).types (tuples_of (kept_at ks at).rows.entries) d (sound_at texts ks at h low).within)
 
 -- names
 

@@ -59,7 +59,7 @@ use Rattle.djq_model.specs.declared.relation.Relation.{Relation}
 use Rattle.djq_model.specs.Data.{Bytes, Tuple, bytes_eq, relation_of, has_row, copies_among}
 use Rattle.djq_model.specs.Typed.{is_of, fits}
 use Rattle.djq_model.specs.Known.{texts_of, texts_in, knows_all, all_learned}
-use Rattle.djq_lines.specs.declared.limits.TheConstants.{COLUMNS, RELATIONS, ROWS}
+use Rattle.djq_lines.specs.declared.limits.TheConstants.{COLUMNS, RELATIONS}
 use Rattle.djq_lines.specs.declared.answer.AddOutcome.{AddOutcome}
 use Rattle.djq_lines.specs.declared.answer.DeleteOutcome.{DeleteOutcome}
 use Rattle.djq_dict.specs.declared.dict.TheConstants.{MOST_TEXTS}
@@ -70,8 +70,8 @@ use Rattle.djq_dict.specs.declared.refusal.InternRefusal.TheVariants.{
       NoMemForTexts,
 }
 use Rattle.djq_dict.specs.Known.{AllDifferent, IsUnknown}
-use Rattle.djq_index.specs.Entries.{Entry, supp}
-use Rattle.djq_index.specs.Table.{Table}
+use Rattle.djq_index.specs.Entries.{supp}
+use Rattle.djq_index.specs.Table.{AreApart}
 use Rattle.djq_rows.specs.declared.refusal.RowsRefusal.{RowsRefusal}
 use Rattle.djq_rows.specs.declared.relation_id.RelationId.{RelationId}
 use Rattle.djq_rows.specs.declared.kept.Kept.{Kept}
@@ -96,14 +96,12 @@ use Rattle.djq_rows.specs.Changes.{
 }
 use Rattle.djq_rows.specs.Parts.{
   tuples_of,
-  counted_row,
   relation_in,
   relations_of,
   kept_at,
   no_kept,
   catalog_of,
   AreWithin,
-  IsCopied,
   IsSound,
   IsParts,
   Pushes,
@@ -155,7 +153,7 @@ cells_within texts ks at cells low a = subst (λ ts. AreWithin texts ts cells) (
 pub cells_wide : (texts : List Bytes) (ks : List Kept) (at : ℕ) (cells : List ℕ) → AllByRecursion
     (IsSound texts) ks → at < length ks → AreCells texts (relation_at (relations_of texts ks)
     at).types cells
-    → length cells ≡ (kept_at ks at).table.width
+    → length cells ≡ (kept_at ks at).rows.width
 cells_wide texts ks at cells s low a = within_long texts (kept_at ks at).types cells (cells_within
     texts ks at cells low a) ∙ sym (sound_at texts ks at s low).width
 
@@ -182,61 +180,61 @@ changed_parts p q at j k h low e texts names kept n sound =
 
 pub has_done : (texts : List Bytes) (ks : List Kept) (at : ℕ) (j : Kept) (u : List ℕ) (b : Bool) →
     AllDifferent texts → AllByRecursion (IsSound texts) ks → at < length ks → j ≡ kept_at ks at →
-    HasTuple j.table u b
+    HasTuple j.rows.entries u b
     → (row : Tuple) → StandFor texts (relation_at (relations_of texts ks) at).types u row → b ≡
     has_row (rows_at (relations_of texts ks) at) row
 has_done texts ks at j u b d s low e h row stand =
     has texts ks at (kept_at ks at) u row d low (sound_at texts ks at s low) refl refl (subst (λ ts.
     StandFor texts ts u row) (types_is texts ks at low) stand) b (subst (λ (x : Kept). HasTuple
-    x.table u b) e h)
+    x.rows.entries u b) e h)
 
 pub copies_done : (texts : List Bytes) (ks : List Kept) (at : ℕ) (j : Kept) (u : List ℕ) (n : ℕ) →
     AllDifferent texts → AllByRecursion (IsSound texts) ks → at < length ks → j ≡ kept_at ks at →
-    n ≡ supp j.table.entries u → (row : Tuple) → StandFor texts (relation_at (relations_of texts ks)
+    n ≡ supp j.rows.entries u → (row : Tuple) → StandFor texts (relation_at (relations_of texts ks)
     at).types u row → n ≡ copies_among (counted_at (relations_of texts ks) at) row
 copies_done texts ks at j u n d s low e h row stand =
-    h ∙ ap (λ (x : Kept). supp x.table.entries u) e
+    h ∙ ap (λ (x : Kept). supp x.rows.entries u) e
     ∙ sym (copies texts ks at (kept_at ks at) u row d low (sound_at texts ks at s low) refl refl
     (subst (λ ts. StandFor texts ts u row) (types_is texts ks at low) stand))
 
 pub copies_has : (texts : List Bytes) (ks : List Kept) (at : ℕ) (j : Kept) (u : List ℕ) (n : ℕ) →
     AllDifferent texts → AllByRecursion (IsSound texts) ks → at < length ks → j ≡ kept_at ks at →
-    n ≡ supp j.table.entries u → (row : Tuple) → StandFor texts (relation_at (relations_of texts ks)
+    n ≡ supp j.rows.entries u → (row : Tuple) → StandFor texts (relation_at (relations_of texts ks)
     at).types u row → has_row (rows_at (relations_of texts ks) at) row ≡ not (n == 0)
 copies_has texts ks at j u n d s low e h row stand =
     copies_tell texts ks at (kept_at ks at) u row d low (sound_at texts ks at s low) refl refl
     (subst (λ ts. StandFor texts ts u row) (types_is texts ks at low) stand) n
-    (h ∙ ap (λ (x : Kept). supp x.table.entries u) e)
+    (h ∙ ap (λ (x : Kept). supp x.rows.entries u) e)
 
 pub add_done : (texts : List Bytes) (ks : List Kept) (at : ℕ) (j k : Kept) (u : List ℕ) (r : Result
     AddOutcome RowsRefusal) → AllDifferent texts → AllByRecursion (IsSound texts) ks → at < length
     ks → j ≡ kept_at ks at
-    → k.name ≡ j.name → k.types ≡ j.types → AddsTuple j.table u r k.table → (row : Tuple) → StandFor
+    → k.name ≡ j.name → k.types ≡ j.types → AddsTuple j.rows u r k.rows → (row : Tuple) → StandFor
     texts (relation_at (relations_of texts ks) at).types u row
     → AddsRow (relations_of texts ks) at row r (relations_of texts (set ks at k))
 add_done texts ks at j k u r d s low e n t a row stand =
     added texts ks at k u row d low (sound_at texts ks at s low) (n ∙ ap (λ (x : Kept). x.name) e)
     (t ∙ ap (λ (x : Kept). x.types) e)
     (subst (λ ts. StandFor texts ts u row) (types_is texts ks at low) stand) r (subst (λ (x : Kept).
-    AddsTuple x.table u r k.table) e a)
+    AddsTuple x.rows u r k.rows) e a)
 
 pub delete_done : (texts : List Bytes) (ks : List Kept) (at : ℕ) (j k : Kept) (u : List ℕ) (r :
     DeleteOutcome) → AllDifferent texts → AllByRecursion (IsSound texts) ks → at < length ks → j ≡
     kept_at ks at
-    → k.name ≡ j.name → k.types ≡ j.types → DeletesTuple j.table u r k.table → (row : Tuple) →
+    → k.name ≡ j.name → k.types ≡ j.types → DeletesTuple j.rows u r k.rows → (row : Tuple) →
     StandFor texts (relation_at (relations_of texts ks) at).types u row
     → DeletesRow (relations_of texts ks) at row r (relations_of texts (set ks at k))
 delete_done texts ks at j k u r d s low e n t a row stand =
     deleted texts ks at k u row d low (sound_at texts ks at s low) (n ∙ ap (λ (x : Kept). x.name) e)
     (t ∙ ap (λ (x : Kept). x.types) e)
     (subst (λ ts. StandFor texts ts u row) (types_is texts ks at low) stand) r (subst (λ (x : Kept).
-    DeletesTuple x.table u r k.table) e a)
+    DeletesTuple x.rows u r k.rows) e a)
 
 pub add_parts : (p q : Parts) (at : ℕ) (j k : Kept) (u : List ℕ) (r : Result AddOutcome RowsRefusal)
     → IsParts p → at < length p.kept.items → j ≡ kept_at p.kept.items at → q.texts ≡ p.texts →
     q.names ≡ p.names → q.kept.items ≡ set p.kept.items at k
     → k.name ≡ j.name → k.types ≡ j.types → AreWithin p.texts (kept_at p.kept.items at).types u →
-    AddsTuple j.table u r k.table → IsParts q
+    AddsTuple j.rows u r k.rows → IsParts q
 add_parts p q at j k u r h low e texts names kept n t w a =
     changed_parts p q at j k h low e texts names kept n (λ s. added_sound p.texts j k u r t (subst
     (λ (x : Kept). AreWithin p.texts x.types u) (sym e) w) s a)
@@ -244,7 +242,7 @@ add_parts p q at j k u r h low e texts names kept n t w a =
 pub delete_parts : (p q : Parts) (at : ℕ) (j k : Kept) (u : List ℕ) (r : DeleteOutcome) → IsParts p
     → at < length p.kept.items → j ≡ kept_at p.kept.items at → q.texts ≡ p.texts → q.names ≡ p.names
     → q.kept.items ≡ set p.kept.items at k
-    → k.name ≡ j.name → k.types ≡ j.types → DeletesTuple j.table u r k.table → IsParts q
+    → k.name ≡ j.name → k.types ≡ j.types → DeletesTuple j.rows u r k.rows → IsParts q
 delete_parts p q at j k u r h low e texts names kept n t a = changed_parts p q at j k h low e texts
     names kept n (λ s. deleted_sound p.texts j k u r t s a)
 
@@ -355,57 +353,50 @@ no_within : (texts : List Bytes) (ts : List ColumnType) → AllByRecursion (AreW
 unfolding tuples_of
 no_within texts ts = tt
 
-empty_relation : (texts : List Bytes) (name : Bytes) (types : List ColumnType) (t : Table) →
-    t.entries ≡ [] → relation_in texts (record { name = name; types = types; table = t }) ≡ record {
-      name = name;
-      types = types;
-      rows = [];
-    }
-unfolding relation_in
-empty_relation texts name types t e = ap (λ (es : List Entry). record {
+-- a relation without rows
+abbrev fresh : Bytes → List ColumnType → Kept
+fresh name types = record {
   name = name;
   types = types;
-  rows = map (counted_row texts types) es;
-}) e
+  rows = record { width = length types; entries = [] };
+}
+
+empty_relation : (texts : List Bytes) (name : Bytes) (types : List ColumnType) → relation_in texts
+    (fresh name types) ≡ record { name = name; types = types; rows = [] }
+unfolding relation_in
+empty_relation texts name types = refl
+
+no_apart : AreApart []
+unfolding AreApart
+no_apart = tt
 
 pub pushed_parts : (p q : Parts) (name : Bytes) (types : List ColumnType) → IsParts p → Pushes p
     name types q → q.texts ≡ p.texts → length p.kept.items < RELATIONS → 0 < length types → length types
     ≤ COLUMNS → IsParts q
 pushed_parts p q name types h u texts few some narrow =
-    let new : IsSound p.texts (record { name = name; types = types; table = u.table }) = record {
+    let new : IsSound p.texts (fresh name types) = record {
       some = some;
       narrow = narrow;
-      key = ap (λ (t : Table). t.key) u.empty;
-      width = ap (λ (t : Table). t.width) u.empty;
-      table = u.is_table;
-      within = subst (λ (es : List Entry). AllByRecursion (AreWithin p.texts types) (tuples_of es))
-          (sym (ap (λ (t : Table). t.entries) u.empty)) (no_within p.texts types);
-      few = subst (λ (t : Table). length t.entries ≤ ROWS) (sym u.empty) (omega arith);
-      copied = subst (λ (t : Table). AllByRecursion IsCopied t.entries) (sym u.empty) tt;
+      width = refl;
+      apart = no_apart;
+      within = no_within p.texts types;
+      few = omega arith;
+      copied = tt;
     } in
     record {
       few = rw u.kept (omega (
         arith,
         few,
-        length-append p.kept.items (record {
-          name = name;
-          types =
-              types;
-          table = u.table;
-        } ∷ []),
+        length-append p.kept.items (fresh name types ∷ []),
       ));
       names = u.names ∙ ap (λ (l : List Bytes). l ++ name ∷ []) h.names ∙ sym (ap (map (λ (x :
-          Kept). x.name)) u.kept ∙ map-append (λ (x : Kept). x.name) p.kept.items (record {
-            name =
-                name;
-            types = types;
-            table = u.table;
-          } ∷ []));
+          Kept). x.name)) u.kept ∙ map-append (λ (x : Kept). x.name) p.kept.items (fresh name types
+          ∷ []));
       named = u.named;
       different = subst AllDifferent (sym texts) h.different;
       sound = subst (λ l. AllByRecursion (IsSound l) q.kept.items) (sym texts)
           (subst (AllByRecursion (IsSound p.texts)) (sym u.kept) (sound_push p.texts p.kept.items
-          (record { name = name; types = types; table = u.table }) h.sound new));
+          (fresh name types) h.sound new));
     }
 
 pub pushed_relations : (p q : Parts) (name : Bytes) (types : List ColumnType) → Pushes p name types
@@ -417,19 +408,14 @@ pub pushed_relations : (p q : Parts) (name : Bytes) (types : List ColumnType) �
     } ∷ []
 pushed_relations p q name types u texts =
     ap (λ (l : List Bytes). relations_of l q.kept.items) texts ∙ ap (relations_of p.texts) u.kept
-    ∙ map-append (relation_in p.texts) p.kept.items (record {
-      name = name;
-      types = types;
-      table =
-          u.table;
-    } ∷ [])
+    ∙ map-append (relation_in p.texts) p.kept.items (fresh name types ∷ [])
     ∙ ap (λ (r : Relation). relations_of p.texts p.kept.items ++ r ∷ []) (empty_relation p.texts
-    name types u.table (ap (λ (t : Table). t.entries) u.empty))
+    name types)
 
 pub pushed_long : (p q : Parts) (name : Bytes) (types : List ColumnType) → Pushes p name types q →
     length q.kept.items ≡ length p.kept.items + 1
 pushed_long p q name types u = ap (λ (l : List Kept). length l) u.kept ∙ length-append p.kept.items
-    (record { name = name; types = types; table = u.table } ∷ [])
+    (fresh name types ∷ [])
 
 -- what holds of the catalog
 
@@ -477,11 +463,11 @@ nowhere p c row None h e t = subst (λ (k : Catalog). (at : ℕ) → at < length
     p.kept.items at h.different h.sound low) (unknown_row p.texts row t))
 
 -- nor is a row that is refused, since a text of it isn't known
-pub refused_nowhere : (p : Parts) (c : Catalog) (row : Tuple) (r : Result (List ℕ) InternRefusal) →
-    IsParts p → catalog_of p ≡ c → OnErr r (knows_all p.texts (texts_in row) ≡ false) → OnErr r ((at
+pub refused_nowhere : {A : Type 0} (p : Parts) (c : Catalog) (row : Tuple) (r : Result A
+    InternRefusal) → IsParts p → catalog_of p ≡ c → OnErr r (knows_all p.texts (texts_in row) ≡ false) → OnErr r ((at
     : ℕ) → at < length c.relations → has_row (rows_at c.relations at) row ≡ false)
-refused_nowhere p c row (Ok cells) h e t = tt
-refused_nowhere p c row (Err r) h e t = nowhere p c row None h e t
+refused_nowhere {A} p c row (Ok a) h e t = tt
+refused_nowhere {A} p c row (Err r) h e t = nowhere p c row None h e t
 
 -- what a method reads
 
@@ -506,13 +492,13 @@ types_seen p c at j e low r =
     p.kept.items at here) ∙ ap (λ (k : Catalog). (relation_at k.relations at).types) e
 
 pub count_seen : (p : Parts) (c : Catalog) (at : ℕ) (j : Kept) → catalog_of p ≡ c → at < length
-    c.relations → j ≡ slice_index_or p.kept.items at j → length j.table.entries ≡ length (rows_at
+    c.relations → j ≡ slice_index_or p.kept.items at j → length j.rows.entries ≡ length (rows_at
     c.relations at)
 count_seen p c at j e low r =
     let here = seen_at p c at e low in
-    ap (λ (x : Kept). length x.table.entries) (read_kept p.kept.items at j here r)
+    ap (λ (x : Kept). length x.rows.entries) (read_kept p.kept.items at j here r)
     ∙ sym (rows_long p.texts (kept_at p.kept.items at).types (kept_at p.kept.items
-    at).table.entries)
+    at).rows.entries)
     ∙ ap (λ (l : List Tuple). length l) (sym (rows_is p.texts p.kept.items at here)) ∙ ap (λ (k :
     Catalog). length (rows_at k.relations at)) e
 

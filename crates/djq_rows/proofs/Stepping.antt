@@ -1,4 +1,4 @@
--- A walk over the tuples of a table of one group, step by step.
+-- A walk over the rows of a relation, step by step.
 use Rattle.std.proofs.Common.{
   ◌≡◌,
   ℕ,
@@ -26,11 +26,11 @@ use Rattle.std.proofs.Common.{
 use Rattle.std.specs.Prelude.{Option, Some, None, map}
 use Rattle.std.proofs.lemmas.List.{length-map}
 use Rattle.djq_index.specs.declared.place.Place.{Place}
-use Rattle.djq_index.specs.Entries.{Entry, grp, head_at}
-use Rattle.djq_index.specs.Table.{Table, IsAt, IsLive}
+use Rattle.djq_index.specs.Entries.{Entry, head_at}
+use Rattle.djq_index.specs.Table.{IsAt, IsLive}
+use Rattle.djq_rows.specs.Rows.{Rows, place, place_of}
 use Rattle.djq_rows.specs.Parts.{tuples_of}
 use Rattle.djq_rows.specs.Walking.{entries_left, tuples_left, IsWalk}
-use Rattle.djq_rows.proofs.Grouped.{grp_all}
 
 -- the entry at which a walk stands
 pub record Ahead (g : List Entry) (j : ℕ) (p : Place) : Type 0 where
@@ -65,20 +65,18 @@ ahead g j p h = let c = ahead_suc g j p h in record {
   left = rw add-one c.4;
 }
 
-pub all_left : (t : Table) (n : ℕ) → n ≡ length t.entries → entries_left t n ≡ t.entries
+pub all_left : (t : Rows) (n : ℕ) → n ≡ length t.entries → entries_left t n ≡ t.entries
 all_left t n e = let none : length t.entries - n ≡ 0 = omega arith in ap (λ k. drop k t.entries)
     none
 
-pub starts : (t : Table) (next : Option Place) (n : ℕ) → t.key ≡ [] → n ≡ length t.entries → next ≡
-    head_at (grp t.key t.entries []) → IsWalk t next n
-starts t next n key long at = record {
-  key = key;
+pub starts : (t : Rows) (next : Option ℕ) (n : ℕ) → n ≡ length t.entries → place_of next ≡ head_at
+    t.entries → IsWalk t next n
+starts t next n long at = record {
   within = omega arith;
-  at = at ∙ ap head_at (ap (λ (k : List ℕ). grp k t.entries []) key ∙ grp_all t.entries ∙ sym
-      (all_left t n long));
+  at = at ∙ ap head_at (sym (all_left t n long));
 }
 
-pub left_long : (t : Table) (n : ℕ) → n ≤ length t.entries → length (tuples_left t n) ≡ n
+pub left_long : (t : Rows) (n : ℕ) → n ≤ length t.entries → length (tuples_left t n) ≡ n
 unfolding tuples_of
 left_long t n low = let l = length-map (entries_left t n) (λ (e : Entry). e.tuple) in let d =
     length-drop (length t.entries - n) t.entries in omega arith
@@ -88,32 +86,32 @@ unfolding head_at
 no_entry [] h = refl
 no_entry (e ∷ es) h = absurd cc
 
-pub none_left : (t : Table) (n : ℕ) → None ≡ head_at (entries_left t n) → tuples_left t n ≡ []
+pub none_left : (t : Rows) (n : ℕ) → place_of None ≡ head_at (entries_left t n) → tuples_left t n ≡
+    []
 unfolding tuples_of
 none_left t n h = ap (map (λ (e : Entry). e.tuple)) (no_entry (entries_left t n) h)
 
 -- where the walk stands, there is an entry
-pub stands : (t : Table) (n : ℕ) (p : Place) → Some p ≡ head_at (entries_left t n) → Ahead t.entries
-    (length t.entries - n) p
-stands t n p h = ahead t.entries (length t.entries - n) p (sym h)
+pub stands : (t : Rows) (n slot : ℕ) → place_of (Some slot) ≡ head_at (entries_left t n) → Ahead
+    t.entries (length t.entries - n) (place slot)
+stands t n slot h = ahead t.entries (length t.entries - n) (place slot) (sym h)
 
-pub stands_at : (t : Table) (n : ℕ) (p : Place) (a : Ahead t.entries (length t.entries - n) p) →
-    IsAt t.entries p a.entry.tuple
-stands_at t n p a = record {
+pub stands_at : (t : Rows) (n slot : ℕ) (a : Ahead t.entries (length t.entries - n) (place slot)) →
+    IsAt t.entries (place slot) a.entry.tuple
+stands_at t n slot a = record {
   front = take (length t.entries - n) t.entries;
-  back = drop (length
-      t.entries - n + 1) t.entries;
+  back = drop (length t.entries - n + 1) t.entries;
   entry = a.entry;
   is = a.is;
   tuple = refl;
   at = a.at;
 }
 
-pub stands_live : (t : Table) (n : ℕ) (p : Place) (a : Ahead t.entries (length t.entries - n) p) →
-    IsLive t.entries p
-stands_live t n p a = record { tuple = a.entry.tuple; is_at = stands_at t n p a }
+pub stands_live : (t : Rows) (n slot : ℕ) (a : Ahead t.entries (length t.entries - n) (place slot))
+    → IsLive t.entries (place slot)
+stands_live t n slot a = record { tuple = a.entry.tuple; is_at = stands_at t n slot a }
 
-rest_of : (t : Table) (n : ℕ) → n ≤ length t.entries → 0 < n → drop (length t.entries - n + 1)
+rest_of : (t : Rows) (n : ℕ) → n ≤ length t.entries → 0 < n → drop (length t.entries - n + 1)
     t.entries ≡ entries_left t (n - 1)
 rest_of t n high some = let e : length t.entries - n + 1 ≡ length t.entries - (n - 1) = omega arith
     in ap (λ k. drop k t.entries) e
@@ -122,27 +120,19 @@ cons_tuples : (e : Entry) (es : List Entry) → tuples_of (e ∷ es) ≡ e.tuple
 unfolding tuples_of
 cons_tuples e es = refl
 
-pub some_left : (t : Table) (n : ℕ) (p : Place) → Ahead t.entries (length t.entries - n) p → 0 < n
+pub some_left : (t : Rows) (n : ℕ) (p : Place) → Ahead t.entries (length t.entries - n) p → 0 < n
 some_left t n p a = omega (arith, a.low)
 
-pub step_left : (t : Table) (n : ℕ) (p : Place) (a : Ahead t.entries (length t.entries - n) p) → n ≤
+pub step_left : (t : Rows) (n : ℕ) (p : Place) (a : Ahead t.entries (length t.entries - n) p) → n ≤
     length t.entries → tuples_left t n ≡ a.entry.tuple ∷ tuples_left t (n - 1)
 step_left t n p a high =
     ap tuples_of (a.left ∙ ap (λ (es : List Entry). a.entry ∷ es) (rest_of t n high (some_left t n p
     a))) ∙ cons_tuples a.entry (entries_left t (n - 1))
 
--- the group of all, cut where the walk stands
-pub group_cut : (t : Table) (n : ℕ) (p : Place) (a : Ahead t.entries (length t.entries - n) p) →
-    t.key ≡ []
-    → grp t.key t.entries [] ≡ take (length t.entries - n) t.entries ++ a.entry ∷ drop (length
-    t.entries - n + 1) t.entries
-group_cut t n p a key = ap (λ (k : List ℕ). grp k t.entries []) key ∙ grp_all t.entries ∙ a.is
-
-pub steps : (t : Table) (n : ℕ) (p : Place) (next : Option Place) (a : Ahead t.entries (length
-    t.entries - n) p) → IsWalk t (Some p) n → next ≡ head_at (drop (length t.entries - n + 1)
+pub steps : (t : Rows) (n slot : ℕ) (next : Option ℕ) (a : Ahead t.entries (length t.entries - n)
+    (place slot)) → n ≤ length t.entries → place_of next ≡ head_at (drop (length t.entries - n + 1)
     t.entries) → IsWalk t next (n - 1)
-steps t n p next a w at = let some = some_left t n p a in record {
-  key = w.key;
-  within = omega (arith, w.within);
-  at = at ∙ ap head_at (rest_of t n w.within some);
+steps t n slot next a within at = let some = some_left t n (place slot) a in record {
+  within = omega (arith, within);
+  at = at ∙ ap head_at (rest_of t n within some);
 }

@@ -5,6 +5,7 @@ use Rattle.std.specs.Prelude.{
   ◌+◌,
   ◌≤◌,
   ◌<◌,
+  Bool,
   true,
   false,
   List,
@@ -148,6 +149,16 @@ TellsCell texts value (Some cell) = HasCell texts value × (cell ≡ cell_of tex
 abbrev pub TellsCells : List Bytes → Tuple → Option (List ℕ) → Type 0
 TellsCells texts row None = knows_all texts (texts_in row) ≡ false
 TellsCells texts row (Some cells) = HaveCells texts row × (cells ≡ cells_of texts row)
+
+-- Cells that were written are told, where the call says so.
+abbrev pub told : Bool → List ℕ → Option (List ℕ)
+told true cells = Some cells
+told false cells = None
+
+-- Cells that were written are the result, where there is no error.
+abbrev pub given : {E : Type 0} → Result Unit E → List ℕ → Result (List ℕ) E
+given (Ok u) cells = Ok cells
+given (Err e) cells = Err e
 
 -- The relation of a name is told, and none where no relation has it.
 abbrev pub FindsRelation : List Relation → Bytes → Option RelationId → Type 0

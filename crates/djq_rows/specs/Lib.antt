@@ -1,4 +1,5 @@
 pub mod Cells
+pub mod Rows
 pub mod Catalog
 pub mod Changes
 pub mod Parts

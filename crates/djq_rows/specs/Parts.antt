@@ -30,7 +30,7 @@ use Rattle.djq_model.specs.Data.{Bytes, Tuple}
 use Rattle.djq_lines.specs.declared.limits.TheConstants.{COLUMNS, RELATIONS, ROWS, COPIES}
 use Rattle.djq_dict.specs.Known.{AllDifferent}
 use Rattle.djq_index.specs.Entries.{Entry}
-use Rattle.djq_index.specs.Table.{Table, IsTable}
+use Rattle.djq_index.specs.Table.{AreApart}
 use Rattle.djq_rows.specs.declared.kept.Kept.{Kept}
 use Rattle.djq_rows.specs.declared.parts.Parts.{Parts}
 use Rattle.djq_rows.specs.Catalog.{Catalog}
@@ -60,7 +60,7 @@ relation_in texts k = record {
   name = k.name;
   types = k.types;
   rows = map (counted_row texts k.types)
-      k.table.entries;
+      k.rows.entries;
 }
 
 -- the relations that are kept so
@@ -69,7 +69,7 @@ relations_of texts ks = map (relation_in texts) ks
 
 -- what stands for a relation past the last one, and the one at a place
 abbrev pub no_kept : Kept
-no_kept = record { name = []; types = []; table = record { width = 0; key = []; entries = [] } }
+no_kept = record { name = []; types = []; rows = record { width = 0; entries = [] } }
 
 abbrev pub kept_at : List Kept → ℕ → Kept
 kept_at ks at = slice_index_or ks at no_kept
@@ -94,16 +94,15 @@ AreWithin texts (t ∷ ts) [] = ⊥
 abbrev pub IsCopied : Entry → Type 0
 IsCopied e = (1 ≤ e.supports) × (e.supports ≤ COPIES)
 
--- what holds of each relation that is kept: its rows are one group of its table
+-- what holds of each relation that is kept
 pub record IsSound (texts : List Bytes) (k : Kept) : Type 0 where
   pub some : 0 < length k.types
   pub narrow : length k.types ≤ COLUMNS
-  pub key : k.table.key ≡ []
-  pub width : k.table.width ≡ length k.types
-  pub table : IsTable k.table
-  pub within : AllByRecursion (AreWithin texts k.types) (tuples_of k.table.entries)
-  pub few : length k.table.entries ≤ ROWS
-  pub copied : AllByRecursion IsCopied k.table.entries
+  pub width : k.rows.width ≡ length k.types
+  pub apart : AreApart k.rows.entries
+  pub within : AllByRecursion (AreWithin texts k.types) (tuples_of k.rows.entries)
+  pub few : length k.rows.entries ≤ ROWS
+  pub copied : AllByRecursion IsCopied k.rows.entries
 
 -- what holds of a catalog's parts
 pub record IsParts (p : Parts) : Type 0 where
@@ -116,10 +115,11 @@ pub record IsParts (p : Parts) : Type 0 where
 -- a relation without rows came behind the others
 pub record Pushes (old : Parts) (name : Bytes) (types : List ColumnType) (new : Parts) : Type 0
   where
-    pub table : Table
-    pub is_table : IsTable table
-    pub empty : table ≡ record { width = length types; key = []; entries = [] }
     pub names : new.names ≡ old.names ++ name ∷ []
     pub named : AllDifferent new.names
     pub kept : new.kept.items
-        ≡ old.kept.items ++ record { name = name; types = types; table = table } ∷ []
+        ≡ old.kept.items ++ record {
+          name = name;
+          types = types;
+          rows = record { width = length types; entries = [] };
+        } ∷ []

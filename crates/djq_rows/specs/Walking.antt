@@ -1,24 +1,22 @@
--- A walk over the tuples of a table of one group.
+-- A walk over the rows of a relation.
 use Rattle.std.specs.Prelude.{◌≡◌, ℕ, ◌-◌, ◌≤◌, List, [], ◌∷◌, length, drop, Option, Some, None}
 use Rattle.std.specs.Borrow.{Bor}
-use Rattle.djq_index.specs.declared.place.Place.{Place}
 use Rattle.djq_index.specs.Entries.{Entry, head_at}
-use Rattle.djq_index.specs.Table.{Table}
+use Rattle.djq_rows.specs.Rows.{Rows, place_of}
 use Rattle.djq_rows.specs.Parts.{tuples_of}
 
 -- the entries that are left, when there are so many of them
-abbrev pub entries_left : Table → ℕ → List Entry
-entries_left t left = drop (length t.entries - left) t.entries
+abbrev pub entries_left : Rows → ℕ → List Entry
+entries_left r left = drop (length r.entries - left) r.entries
 
 -- their tuples
-abbrev pub tuples_left : Table → ℕ → List (List ℕ)
-tuples_left t left = tuples_of (entries_left t left)
+abbrev pub tuples_left : Rows → ℕ → List (List ℕ)
+tuples_left r left = tuples_of (entries_left r left)
 
 -- a walk stands at the first entry that is left
-pub record IsWalk (t : Table) (next : Option Place) (left : ℕ) : Type 0 where
-  pub key : t.key ≡ []
-  pub within : left ≤ length t.entries
-  pub at : next ≡ head_at (entries_left t left)
+pub record IsWalk (r : Rows) (next : Option ℕ) (left : ℕ) : Type 0 where
+  pub within : left ≤ length r.entries
+  pub at : place_of next ≡ head_at (entries_left r left)
 
 -- The first of the rows that are left is told; none where none is left.
 abbrev pub TellsRow : List (List ℕ) → Option (Bor (List ℕ)) → List (List ℕ) → Type 0

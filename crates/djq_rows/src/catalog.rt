@@ -29,12 +29,14 @@ ghost use Rattle.djq_rows.specs.Changes.{
   InternsRow,
   TellsCell,
   TellsCells,
+  told,
+  given,
 };
 
-use crate::coding::{cell_in, cells_in, fits_in, value_in};
+use crate::coding::{cell_in, cells_in, fits_in, value_in, write_in};
 use crate::parts::{
-    Parts, add_in, copies_in, delete_in, empty_in, find_in, has_in, intern_all_in, intern_value_in,
-    laws_in, make_in, walk_in,
+    Parts, add_in, copies_in, delete_in, empty_in, find_in, has_in, intern_all_in, intern_into,
+    intern_value_in, laws_in, make_in, walk_in,
 };
 use crate::refusal::RowsRefusal;
 use crate::relation_id::RelationId;
@@ -147,7 +149,7 @@ impl Catalog {
         requires { id.at < length self.now.relations }
         ensures { result ≡ length (rows_at self.now.relations id.at) }
     {
-        self.parts.kept[id.at].table.len()
+        self.parts.kept[id.at].rows.len()
     }
 
     /// A walk over its rows, in the order in which they came. It takes no memory, and counts one
@@ -176,6 +178,17 @@ impl Catalog {
             → has_row (rows_at self.now.relations at) row.now ≡ false) }
     {
         cells_in(&self.parts.texts, row)
+    }
+
+    /// Writes the cells of a row, and tells whether they are: false exactly where a text of it isn't
+    /// known, and then the row is in no relation. It takes no memory.
+    pub fn write_cells(&self, row: &[Value], cells: &mut Cells) -> bool
+        requires { length row.now ≤ CELLS }
+        ensures tells { TellsCells self.now.texts row.now (told result cells.new) }
+        ensures absent { IfNone (told result cells.new) ((at : ℕ) → at < length self.now.relations
+            → has_row (rows_at self.now.relations at) row.now ≡ false) }
+    {
+        write_in(&self.parts.texts, row, cells)
     }
 
     /// The cell of a value, which becomes known if it is a text that isn't.
@@ -208,6 +221,21 @@ impl Catalog {
         ensures relations { self.new.relations ≡ self.old.relations }
     {
         intern_all_in(&mut self.parts, row)
+    }
+
+    /// Writes the cells of a row, whose unknown texts become known, in order.
+    ///
+    /// # Errors
+    ///
+    /// As of [`Catalog::intern_row`].
+    pub fn intern_cells(&mut self, row: &[Value], cells: &mut Cells) -> Result<(), InternRefusal>
+        requires { length row.now ≤ CELLS }
+        ensures interns { InternsRow self.old.texts row.now (given result cells.new) self.new.texts }
+        ensures absent { OnErr result ((at : ℕ) → at < length self.old.relations
+            → has_row (rows_at self.old.relations at) row.now ≡ false) }
+        ensures relations { self.new.relations ≡ self.old.relations }
+    {
+        intern_into(&mut self.parts, row, cells)
     }
 
     /// Whether the row that cells stand for is there. It counts one look-up.

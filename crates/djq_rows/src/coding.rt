@@ -5,7 +5,7 @@ ghost use Rattle.djq_model.specs.Known.{knows_all, texts_in};
 ghost use Rattle.djq_model.specs.Lent.{value_lent};
 ghost use Rattle.djq_dict.specs.Known.{AllDifferent};
 ghost use Rattle.djq_rows.specs.Parts.{IsWithin, value_of};
-ghost use Rattle.djq_rows.specs.Changes.{InternsValue, InternsRow, TellsCell, TellsCells};
+ghost use Rattle.djq_rows.specs.Changes.{InternsValue, InternsRow, TellsCell, TellsCells, told, given};
 
 use djq_dict::{Dict, InternRefusal};
 use djq_index::{CELLS, Cells};
@@ -30,13 +30,26 @@ pub fn cells_in(texts: &Dict, row: &[Value]) -> Option<Cells>
     ensures { TellsCells texts.now row.now result }
 {
     let mut cells = Cells::new(0);
+    if write_in(texts, row, &mut cells) {
+        Some(cells)
+    } else {
+        None
+    }
+}
+
+/// Writes the cells of a row, and tells whether they are: false exactly where a text of it is unknown.
+pub fn write_in(texts: &Dict, row: &[Value], cells: &mut Cells) -> bool
+    requires { length row.now ≤ CELLS }
+    ensures { TellsCells texts.now row.now (told result cells.new) }
+{
+    cells.clear();
     for at in 0..row.len() {
         match cell_in(texts, &row[at]) {
             Some(cell) => cells.push(cell),
-            None => return None,
+            None => return false,
         }
     }
-    Some(cells)
+    true
 }
 
 /// The cell of a value, whose text becomes known.
@@ -59,13 +72,30 @@ pub fn intern_row_in(texts: &mut Dict, row: &[Value]) -> Result<Cells, InternRef
     ensures unknown { OnErr result (knows_all texts.old (texts_in row.now) ≡ false) }
 {
     let mut cells = Cells::new(0);
+    match intern_cells_in(texts, row, &mut cells) {
+        Ok(()) => Ok(cells),
+        Err(refusal) => Err(refusal),
+    }
+}
+
+/// Writes the cells of a row, whose texts become known, in order.
+pub fn intern_cells_in(
+    texts: &mut Dict,
+    row: &[Value],
+    cells: &mut Cells,
+) -> Result<(), InternRefusal>
+    requires { length row.now ≤ CELLS }
+    ensures interns { InternsRow texts.old row.now (given result cells.new) texts.new }
+    ensures unknown { OnErr result (knows_all texts.old (texts_in row.now) ≡ false) }
+{
+    cells.clear();
     for at in 0..row.len() {
         match intern_in(texts, &row[at]) {
             Ok(cell) => cells.push(cell),
             Err(refusal) => return Err(refusal),
         }
     }
-    Ok(cells)
+    Ok(())
 }
 
 /// The value that a cell of a column stands for. Its text is lent.

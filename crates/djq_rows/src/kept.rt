@@ -1,43 +1,41 @@
-ghost use Rattle.std.specs.Prelude.{◌≡◌, ◌≤◌, ◌+◌, [], length};
+ghost use Rattle.std.specs.Prelude.{◌≡◌, ◌≤◌, ◌+◌, length};
 ghost use Rattle.std.specs.List.{AllByRecursion};
 ghost use Rattle.djq_index.specs.Entries.{supp};
 ghost use Rattle.djq_rows.specs.Parts.{IsCopied};
 ghost use Rattle.djq_rows.specs.Tuples.{HasTuple, AddsTuple, DeletesTuple};
 
 use crate::refusal::RowsRefusal;
-use djq_index::Table;
+use crate::rows::Rows;
 use djq_lines::limits::{COPIES, ROWS};
 use djq_lines::{AddOutcome, DeleteOutcome};
 use djq_model::{Name, Types};
 use djq_steps::Tally;
 use std::sync::ledger::Ledger;
 
-/// A relation as it is kept: its rows, in cells, are the tuples of a table, all in one group, and the
-/// copies of each are its supports.
+/// A relation as it is kept, with its rows in cells.
 #[derive(Drop)]
 pub struct Kept {
     pub name: Name,
     pub types: Types,
-    pub table: Table,
+    pub rows: Rows,
 }
 
 impl Kept {
     /// Whether a row of these cells is there.
     pub fn has<L: Ledger>(&self, cells: &[u64], tally: &mut Tally<L>) -> bool
-        ensures has { HasTuple self.now.table cells.now result }
+        ensures has { HasTuple self.now.rows.entries cells.now result }
         ensures counted { tally.new ≡ tally.old + 1 }
     {
-        self.table.find(cells, tally).is_some()
+        self.rows.find(cells, tally).is_some()
     }
 
     /// How many copies of a row of these cells are there; 0 exactly where none is.
     pub fn copies<L: Ledger>(&self, cells: &[u64], tally: &mut Tally<L>) -> u32
-        ensures copies { result ≡ supp self.now.table.entries cells.now }
+        ensures copies { result ≡ supp self.now.rows.entries cells.now }
         ensures counted { tally.new ≡ tally.old + 1 }
     {
-        self.table.laws();
-        match self.table.find(cells, tally) {
-            Some(place) => self.table.supports(place),
+        match self.rows.find(cells, tally) {
+            Some(slot) => self.rows.copies(slot),
             None => 0,
         }
     }
@@ -48,29 +46,28 @@ impl Kept {
         cells: &[u64],
         tally: &mut Tally<L>,
     ) -> Result<AddOutcome, RowsRefusal>
-        requires key { self.old.table.key ≡ [] }
-        requires wide { length cells.now ≡ self.old.table.width }
-        ensures adds { AddsTuple self.old.table cells.now result self.new.table }
+        requires wide { length cells.now ≡ self.old.rows.width }
+        ensures adds { AddsTuple self.old.rows cells.now result self.new.rows }
         ensures name { self.new.name ≡ self.old.name }
         ensures types { self.new.types ≡ self.old.types }
         ensures counted { tally.new ≤ tally.old + 2 }
     {
-        self.table.laws();
-        match self.table.find(cells, tally) {
-            Some(place) => {
-                let copies = self.table.supports(place);
+        self.rows.laws();
+        match self.rows.find(cells, tally) {
+            Some(slot) => {
+                let copies = self.rows.copies(slot);
                 if copies >= COPIES {
                     return Err(RowsRefusal::Full);
                 }
-                self.table.raise(place, tally);
+                self.rows.recount(slot, copies + 1, tally);
                 Ok(AddOutcome::More(copies + 1))
             }
             None => {
-                if self.table.len() >= ROWS {
+                if self.rows.len() >= ROWS {
                     return Err(RowsRefusal::Full);
                 }
-                match self.table.insert(cells, tally) {
-                    Ok(_place) => Ok(AddOutcome::First),
+                match self.rows.push(cells, tally) {
+                    Ok(()) => Ok(AddOutcome::First),
                     Err(_error) => Err(RowsRefusal::NoMem),
                 }
             }
@@ -79,21 +76,21 @@ impl Kept {
 
     /// Deletes a copy of a row of cells, and the row with its last one.
     pub fn delete<L: Ledger>(&mut self, cells: &[u64], tally: &mut Tally<L>) -> DeleteOutcome
-        requires copied { AllByRecursion IsCopied self.old.table.entries }
-        ensures deletes { DeletesTuple self.old.table cells.now result self.new.table }
+        requires copied { AllByRecursion IsCopied self.old.rows.entries }
+        ensures deletes { DeletesTuple self.old.rows cells.now result self.new.rows }
         ensures name { self.new.name ≡ self.old.name }
         ensures types { self.new.types ≡ self.old.types }
         ensures counted { tally.new ≤ tally.old + 2 }
     {
-        self.table.laws();
-        match self.table.find(cells, tally) {
-            Some(place) => {
-                let copies = self.table.supports(place);
+        self.rows.laws();
+        match self.rows.find(cells, tally) {
+            Some(slot) => {
+                let copies = self.rows.copies(slot);
                 if copies > 1 {
-                    self.table.lower(place, tally);
+                    self.rows.recount(slot, copies - 1, tally);
                     return DeleteOutcome::Left(copies - 1);
                 }
-                self.table.remove(place, tally);
+                self.rows.remove(slot, tally);
                 DeleteOutcome::Last
             }
             None => DeleteOutcome::Absent,

@@ -1,7 +1,7 @@
 //! The catalog: relations with their rows, and the texts that are known.
 //!
-//! A [`Catalog`] keeps each relation's rows in a table of `djq_index`, as cells: of an integer its
-//! 64 bits, of a text its number in the dictionary. Contracts see neither tables nor numbers, but
+//! A [`Catalog`] keeps each relation's rows in an arena of `djq_arena`, as cells: of an integer its
+//! 64 bits, of a text its number in the dictionary. Contracts see neither slots nor numbers, but
 //! the relations with lists of values as their rows, each with its copies, and the list of known
 //! texts: what the definitions of a query's answers speak of.
 //!
@@ -17,13 +17,13 @@
 //! ```text
 //! r int text               texts       0 "a"   1 "b"
 //!   1 "a"   cells 1 0      names       0 "r"
-//!   2 "b"   cells 2 1      relations   0 r, its table with (1, 0) and (2, 1)
+//!   2 "b"   cells 2 1      relations   0 r, its rows (1, 0) and (2, 1)
 //! ```
 //!
 //! Inside, the relations stand in a list in the order in which they were made. A second dictionary
 //! has their names, so that a name's number is the relation's place, and no name is looked for one
-//! by one. The rows of a relation are one group of its table, and the copies of each are its
-//! supports there: a further copy takes no memory.
+//! by one. The copies of each row stand beside it, by its slot: a further copy takes no
+//! memory.
 #![tactic(auto)]
 
 mod catalog;
@@ -33,6 +33,7 @@ mod laws;
 mod parts;
 mod refusal;
 mod relation_id;
+mod rows;
 mod walk;
 
 pub use catalog::Catalog;

@@ -25,17 +25,19 @@ ghost use Rattle.djq_rows.specs.Changes.{
   DeletesRow,
   InternsValue,
   InternsRow,
+  given,
 };
 ghost use Rattle.djq_dict.specs.Known.{IsUnknown};
 ghost use Rattle.djq_rows.specs.Parts.{IsParts, Pushes, catalog_of};
 
-use crate::coding::{intern_in, intern_row_in};
+use crate::coding::{intern_cells_in, intern_in, intern_row_in};
 use crate::kept::Kept;
 use crate::refusal::RowsRefusal;
 use crate::relation_id::RelationId;
+use crate::rows::Rows;
 use crate::walk::Walk;
 use djq_dict::{Dict, InternRefusal};
-use djq_index::{CELLS, Cells, Table};
+use djq_index::{CELLS, Cells};
 use djq_lines::limits::{COLUMNS, RELATIONS};
 use djq_lines::{AddOutcome, DeleteOutcome};
 use djq_model::{Name, NoMem, Types, Value};
@@ -126,17 +128,16 @@ fn push_in(parts: &mut Parts, name: Name, types: Types) -> Result<(), NoMem>
     ensures names { OnErr result (parts.new.names ≡ parts.old.names) }
     ensures texts { parts.new.texts ≡ parts.old.texts }
 {
-    let Ok(table) = Table::new(parts.alloc, types.len(), &[]) else {
+    let Ok(rows) = Rows::new(parts.alloc, types.len()) else {
         return Err(NoMem);
     };
-    table.laws();
     let Ok(()) = parts.kept.reserve(1) else {
         return Err(NoMem);
     };
     let Ok(_number) = parts.names.intern(name.as_bytes()) else {
         return Err(NoMem);
     };
-    parts.kept.push_reserved(Kept { name, types, table });
+    parts.kept.push_reserved(Kept { name, types, rows });
     Ok(())
 }
 
@@ -231,6 +232,18 @@ pub fn intern_all_in(parts: &mut Parts, row: &[Value]) -> Result<Cells, InternRe
     intern_row_in(&mut parts.texts, row)
 }
 
+/// Writes the cells of a row, whose texts become known.
+pub fn intern_into(parts: &mut Parts, row: &[Value], cells: &mut Cells) -> Result<(), InternRefusal>
+    requires parts { IsParts parts.old }
+    requires short { length row.now ≤ CELLS }
+    ensures parts { IsParts parts.new }
+    ensures interns { InternsRow parts.old.texts row.now (given result cells.new) parts.new.texts }
+    ensures unknown { OnErr result (knows_all parts.old.texts (texts_in row.now) ≡ false) }
+    ensures relations { (catalog_of parts.new).relations ≡ (catalog_of parts.old).relations }
+{
+    intern_cells_in(&mut parts.texts, row, cells)
+}
+
 /// A walk over the rows of a relation.
 pub fn walk_in<'a, L: Ledger>(parts: &'a Parts, id: RelationId, tally: &mut Tally<L>) -> Walk<'a>
     requires parts { IsParts parts.now }
@@ -239,5 +252,5 @@ pub fn walk_in<'a, L: Ledger>(parts: &'a Parts, id: RelationId, tally: &mut Tall
         (rows_at (catalog_of parts.now).relations id.at) }
     ensures counted { tally.new ≡ tally.old + 1 }
 {
-    Walk::new(&parts.kept[id.at].table, tally)
+    Walk::new(&parts.kept[id.at].rows, tally)
 }

@@ -1,8 +1,8 @@
-ghost use Rattle.std.specs.Prelude.{◌≡◌, ◌+◌, ◌≤◌, [], length};
+ghost use Rattle.std.specs.Prelude.{◌≡◌, ◌+◌, ◌≤◌, length};
 ghost use Rattle.djq_rows.specs.Parts.{tuples_of};
 ghost use Rattle.djq_rows.specs.Walking.{TellsRow};
 
-use djq_index::{Place, Table};
+use crate::rows::Rows;
 use djq_steps::Tally;
 use std::marker::Model;
 use std::sync::ledger::Ledger;
@@ -10,8 +10,8 @@ use std::sync::ledger::Ledger;
 /// A walk over the rows of a relation. Contracts see the cells of the rows that are left.
 #[derive(Drop)]
 pub struct Walk<'a> {
-    table: &'a Table,
-    next: Option<Place>,
+    rows: &'a Rows,
+    next: Option<u32>,
     left: usize,
 }
 
@@ -22,23 +22,22 @@ impl<'a> Model for Walk<'a> {
 
     ghost use Rattle.djq_rows.specs.Walking.{tuples_left, IsWalk};
 
-    ghost view = { λ w. tuples_left w.table.now w.left };
+    ghost view = { λ w. tuples_left w.rows.now w.left };
 
-    ghost invariant = { λ w. IsWalk w.table.now w.next w.left };
+    ghost invariant = { λ w. IsWalk w.rows.now w.next w.left };
 }
 
 impl<'a> Walk<'a> {
-    /// A walk over all tuples of a table of one group. It counts one look-up.
-    pub(crate) fn new<L: Ledger>(table: &'a Table, tally: &mut Tally<L>) -> Walk<'a>
-        requires { table.now.key ≡ [] }
-        ensures rest { result ≡ tuples_of table.now.entries }
+    /// A walk over all of these rows. It counts one look-up.
+    pub(crate) fn new<L: Ledger>(rows: &'a Rows, tally: &mut Tally<L>) -> Walk<'a>
+        ensures rest { result ≡ tuples_of rows.now.entries }
         ensures counted { tally.new ≡ tally.old + 1 }
     {
-        let next = table.first(&[], tally);
+        let next = rows.first(tally);
         Walk {
-            table,
+            rows,
             next,
-            left: table.len(),
+            left: rows.len(),
         }
     }
 
@@ -57,9 +56,9 @@ impl<'a> Walk<'a> {
     {
         match self.next {
             None => None,
-            Some(place) => {
-                let cells = self.table.tuple(place);
-                self.next = self.table.next(place, tally);
+            Some(slot) => {
+                let cells = self.rows.cells(slot);
+                self.next = self.rows.next(slot, tally);
                 self.left -= 1;
                 Some(cells)
             }

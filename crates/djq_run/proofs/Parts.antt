@@ -1,5 +1,5 @@
 -- What the parts of a run leave of the session.
-use Rattle.std.specs.Prelude.{ℕ, List, [], ◌≡◌, ◌<◌, ◌≤◌, false, Option, None, Some, IfSome, MatchOption, length, take}
+use Rattle.std.specs.Prelude.{ℕ, List, [], ◌∷◌, ◌≡◌, ◌<◌, ◌≤◌, false, Option, None, Some, IfSome, MatchOption, length, take}
 use Rattle.std.proofs.Common.{refl, sym, ap, ◌∙◌, subst, inl, inr, length-append, length-take, arith}
 use Rattle.djq_io.specs.declared.sink.Write.{Write}
 use Rattle.djq_lines.specs.declared.answer.EndCause.{EndCause}
@@ -31,6 +31,23 @@ fewer_pending n old new some within t =
           (pending_of new 1),
       length-take n (pending_of old 1),
     )
+
+no_bytes : (bs : Bytes) → length bs ≡ 0 → bs ≡ []
+no_bytes [] e = refl
+no_bytes (b ∷ bs) e = absurd (omega (arith, e))
+
+-- a write that took all leaves nothing pending
+pub none_pending : (n : ℕ) (old new : State) → n ≡ length (pending_of old 1) → Takes old new 1 (take n (pending_of old 1)) → pending_of new 1 ≡ []
+none_pending n old new all t =
+    no_bytes (pending_of new 1)
+    (omega (
+      arith,
+      all,
+      ap length t.pending,
+      length-append (take n (pending_of old 1))
+          (pending_of new 1),
+      length-take n (pending_of old 1),
+    ))
 
 -- A line that was blank or was run: the session stays open, its input hasn't ended, and fewer bytes are held.
 pub record LineRan (old new : State) (before now : Counts) : Type 0 where

@@ -142,17 +142,27 @@ fn serve_held<M: Machine, K: Sink, L: Ledgers>(
 }
 
 /// Writes what is pending for the session, and tells whether all of it was taken. What a write took
-/// is told to the machine before the next one, and nothing is done behind one that failed.
+/// is told to the machine before the next one, and nothing is done behind one that failed. Where one
+/// took all, the machine isn't asked again what is pending.
 fn flush<M: Machine, K: Sink>(machine: &mut M, sink: &mut K) -> bool
     requires { IsOpen (M.state machine.old) 1 }
     ensures { Flushed result (K.told sink.old) (K.faults sink.old) (M.state machine.old)
         (K.told sink.new) (K.faults sink.new) (M.state machine.new) }
 {
-    'writes: while !machine.pending(ID).is_empty() {
-        match sink.write(machine.pending(ID)) {
-            Wrote::Took(count) => machine.took(ID, count),
+    'writes: loop {
+        let pending = machine.pending(ID);
+        let len = pending.len();
+        if len == 0 {
+            return true;
+        }
+        match sink.write(pending) {
+            Wrote::Took(count) => {
+                machine.took(ID, count);
+                if count == len {
+                    return true;
+                }
+            }
             Wrote::Failed => return false,
         }
     }
-    true
 }

@@ -1,9 +1,10 @@
 -- The first of a list that passes a test: found, and taken out.
-use Rattle.std.proofs.Common.{ℕ, zero, suc, ◌<◌, ◌≤◌, ◌≡◌, Bool, true, false, cond, ltb, List, [], ◌∷◌, length, take, drop, get_or, find, position, None, Some, refl, sym, ap, ◌∙◌, arith, length-append, length-take, length-drop}
-use Rattle.std.specs.List.{position_or_len, remove}
+use Rattle.std.proofs.Common.{ℕ, zero, suc, ◌<◌, ◌≤◌, ◌≡◌, ◌||◌, Bool, true, false, cond, ltb, List, [], ◌∷◌, length, take, drop, get_or, find, position, Option, None, Some, refl, sym, subst, ap, ◌∙◌, arith, length-append, length-take, length-drop}
+use Rattle.std.specs.List.{list_any, position_or_len, remove, slice_get}
+use Rattle.std.specs.Option.{is_some, IfSome, IsSomeAnd}
 use Rattle.std.proofs.lemmas.List.Quantifiers.{position-Some}
-use Rattle.std.proofs.lemmas.List.Folds.{find_at}
-use Rattle.std.proofs.lemmas.Option.{slice_get_past}
+use Rattle.std.proofs.lemmas.List.Folds.{find_at, list_any_at}
+use Rattle.std.proofs.lemmas.Option.{slice_get_past, slice_get-get_or}
 use Rattle.std.proofs.lemmas.Bool.{cond-true, cond-false, ltb-false}
 use Rattle.djq_model.specs.Data.{drop_first}
 
@@ -49,3 +50,29 @@ none_dropped p (x ∷ xs) h = step (p x) (λ rest. none_dropped p xs rest) h
 -- a list is no longer without one
 pub few_left : {A : Type 0} (xs : List A) (i most : ℕ) → length xs ≤ most → length (remove xs i) ≤ most
 few_left xs i most h = omega (arith, length-append (take i xs) (drop (suc i) xs), length-take i xs, length-drop (suc i) xs)
+
+none_any : {A : Type 0} (p : A → Bool) (xs : List A) → find p xs ≡ None → list_any p xs ≡ false
+none_any p [] h = refl
+none_any p (x ∷ xs) h = step (p x) (λ rest. none_any p xs rest) h
+  where
+    step : (b : Bool) → (find p xs ≡ None → list_any p xs ≡ false) → cond b (Some x) (find p xs) ≡ None → (b || list_any p xs) ≡ false
+    step true rest h = absurd (cc)
+    step false rest h = rest h
+
+any_at : {A : Type 0} (p : A → Bool) (xs : List A) (i : ℕ) → position p xs ≡ Some i → list_any p xs ≡ true
+any_at p [] i h = absurd (cc)
+any_at p (x ∷ xs) i h = let at = position-Some p (x ∷ xs) i x h in list_any_at p (x ∷ xs) i x at.0 at.1
+
+-- There is a place exactly where one passes.
+pub placed_any : {A : Type 0} (p : A → Bool) (xs : List A) (place : Option ℕ) → place ≡ position p xs → is_some place ≡ list_any p xs
+placed_any p xs None e = sym (none_any p xs (not_found p xs (sym e)))
+placed_any p xs (Some i) e = sym (any_at p xs i (sym e))
+
+-- What stands at such a place passes.
+pub placed_there : {A : Type 0} (p : A → Bool) (xs : List A) (place : Option ℕ) → place ≡ position p xs
+    → IfSome place (λ k. IsSomeAnd (slice_get xs k) (λ x. p x ≡ true))
+placed_there p xs None e = tt
+placed_there p [] (Some i) e = absurd (cc)
+placed_there {A = A} p (x ∷ xs) (Some i) e =
+    let at = position-Some p (x ∷ xs) i x (sym e) in
+    subst (λ (o : Option A). IsSomeAnd o (λ y. p y ≡ true)) (sym (slice_get-get_or (x ∷ xs) i x at.0)) at.1

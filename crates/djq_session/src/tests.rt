@@ -313,6 +313,8 @@ fn queries_are_watched(rt: HostRuntime) -> Result<(), Fail> {
     session.unwatch(255);
     session.unwatch(3);
     assert!(rt; !session.watches(3) && !session.watches(255) && session.watches(4));
+    assert!(rt; session.watch_near(4, 3) == Some(3) && session.watch_near(4, 253) == Some(3));
+    assert!(rt; session.watch_near(4, 1_000) == Some(3) && session.watch_near(3, 3).is_none());
     assert!(rt; session.pop_watch() == Some(254));
     for query in 0..253 {
         assert!(rt; session.pop_watch().is_some(), "{query}");

@@ -55,3 +55,4 @@ pub mod Chosen
 pub mod Joining
 pub mod Fresh
 pub mod Most
+pub mod Alone

@@ -1,5 +1,5 @@
 //! The relations of a batch that it changes, for the unions that read them.
-ghost use Rattle.std.specs.Prelude.{◌≡◌, ◌<◌, ◌≤◌, ◌||◌, nat_lt, List, filter, length, map, take};
+ghost use Rattle.std.specs.Prelude.{◌≡◌, ◌<◌, ◌≤◌, ◌||◌, nat_lt, true, List, filter, length, map, take};
 ghost use Rattle.djq_model.specs.Data.{rows_of};
 ghost use Rattle.djq_model.specs.declared.relation.Relation.{Relation};
 ghost use Rattle.djq_lines.specs.declared.limits.TheConstants.{HELD};
@@ -11,12 +11,15 @@ use djq_lines::HeldRow;
 use djq_lines::limits::HELD;
 use djq_model::Name;
 
-/// How many rows the relation of each of these rows has.
-pub fn count_rows(engine: &Engine, held: &[HeldRow]) -> [u64; HELD]
+/// How many rows the relation of each of these rows has, where that is wanted.
+pub fn count_rows(engine: &Engine, held: &[HeldRow], wanted: bool) -> [u64; HELD]
     requires { length held.now ≤ HELD }
-    ensures { AreCounts engine.now.store.relations held.now result }
+    ensures { wanted ≡ true → AreCounts engine.now.store.relations held.now result }
 {
     let mut counts = [0; HELD];
+    if !wanted {
+        return counts;
+    }
     for at in 0..held.len() {
         counts[at] = engine.rows(&held[at].relation);
     }

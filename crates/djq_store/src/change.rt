@@ -9,11 +9,10 @@ ghost use Rattle.djq_engine.specs.Watching.{CountsUpdates, CountsBatch};
 ghost use Rattle.djq_engine.specs.Watching.{add_times, batch_times, delete_times};
 ghost use Rattle.djq_store.specs.Watching.{TellsChange};
 
-use crate::batches::{changed_names, count_rows, is_lacked};
+use crate::batches::count_rows;
 use crate::below::engine_laws;
-use crate::following::{add_turn, batch_turn, delete_turn, follow};
+use crate::following::{add_turn, batch_turn, delete_turn, follow_batch, follow_one, has_union};
 use crate::store::Store;
-use djq_lines::limits::HELD;
 use djq_lines::{AddOutcome, DeleteOutcome, HeldRow, Refusal};
 use djq_model::{Name, Types, Value};
 use djq_rows::texts_stay;
@@ -80,7 +79,7 @@ impl Store {
         let outcome = self.parts.engine.add(name, row, steps);
         engine_laws(&self.parts.engine);
         let turn = add_turn(&outcome);
-        follow(&mut self.parts, &[*name], turn, &mut steps.listing);
+        follow_one(&mut self.parts, name, turn, &mut steps.listing);
         outcome
     }
 
@@ -117,7 +116,7 @@ impl Store {
         let outcome = self.parts.engine.del(name, row, steps);
         engine_laws(&self.parts.engine);
         let turn = delete_turn(&outcome);
-        follow(&mut self.parts, &[*name], turn, &mut steps.listing);
+        follow_one(&mut self.parts, name, turn, &mut steps.listing);
         outcome
     }
 
@@ -154,19 +153,19 @@ impl Store {
     {
         texts_stay();
         engine_laws(&self.parts.engine);
-        let counts = count_rows(&self.parts.engine, held);
+        let joined = has_union(&self.parts);
+        let counts = count_rows(&self.parts.engine, held, joined);
         let outcome = self.parts.engine.done(held, steps);
         engine_laws(&self.parts.engine);
         let turn = batch_turn(&outcome);
-        let mut names = [Name::new(&[]); HELD];
-        let count = changed_names(
-            &self.parts.engine,
+        follow_batch(
+            &mut self.parts,
             held,
             &counts,
-            is_lacked(turn),
-            &mut names,
+            joined,
+            turn,
+            &mut steps.listing,
         );
-        follow(&mut self.parts, &names[..count], turn, &mut steps.listing);
         outcome
     }
 }

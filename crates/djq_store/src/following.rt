@@ -1,17 +1,22 @@
 //! What the unions of a store, and the affected, are behind a change of rows.
-ghost use Rattle.std.specs.Prelude.{◌≡◌, ◌+◌, ◌≤◌, ◌<◌, ℕ, Some, true, false, All, filter, map, length, vec_capacity};
-ghost use Rattle.djq_lines.specs.declared.limits.TheConstants.{QUERIES};
+ghost use Rattle.std.specs.Prelude.{◌≡◌, ◌+◌, ◌≤◌, ◌<◌, ◌∷◌, [], ℕ, List, Some, true, false, All, filter, map, length, vec_capacity};
+ghost use Rattle.djq_model.specs.declared.relation.Relation.{Relation};
+ghost use Rattle.djq_model.specs.Data.{Bytes};
+ghost use Rattle.djq_lines.specs.declared.limits.TheConstants.{QUERIES, HELD};
 ghost use Rattle.djq_united.specs.United.{AreMembers};
 ghost use Rattle.djq_store.specs.declared.joined.Joined.{Joined as JoinedModel};
 ghost use Rattle.djq_store.specs.Places.{joined_at};
 ghost use Rattle.djq_store.specs.Following.{IfMade, FollowsBy, following_steps, add_turn, delete_turn, batch_turn};
 ghost use Rattle.djq_store.specs.Affecting.{is_reached, is_affected};
+ghost use Rattle.djq_store.specs.Batches.{AreCounts, grown_of, has_union};
 ghost use Rattle.djq_store.specs.Settling.{AreUnionsUnwatched};
 
 use crate::affecting::{affect, affect_queries};
+use crate::batches::{changed_names, is_lacked};
 use crate::parts::Parts;
 use crate::settling::{Turn, settle_all};
-use djq_lines::{AddOutcome, DeleteOutcome, Refusal};
+use djq_lines::limits::HELD;
+use djq_lines::{AddOutcome, DeleteOutcome, HeldRow, Refusal};
 use djq_model::Name;
 use djq_steps::Tally;
 use std::sync::ledger::Ledger;
@@ -51,6 +56,88 @@ pub fn follow<L: Ledger>(
         Turn::Lacked => {}
         _ => know_affected(parts, read),
     }
+}
+
+/// Whether a union is registered.
+pub fn has_union(parts: &Parts) -> bool
+    ensures { result ≡ has_union parts.now.unions.items }
+{
+    parts.unions.iter().any(|slot| slot.is_some())
+}
+
+// The same where no union is registered, whichever relations change.
+fn follow_alone(parts: &mut Parts, turn: Option<Turn>)
+    requires alone { has_union parts.old.unions.items ≡ false }
+    requires few { IfMade turn (length parts.old.engine.affected ≤ vec_capacity parts.old.affected) }
+    ensures { (relations : List Bytes) → FollowsBy turn relations parts.old parts.new }
+{
+    let Some(turn) = turn else {
+        return;
+    };
+    match turn {
+        Turn::Lacked => {}
+        _ => affect_queries(&mut parts.affected, &parts.engine),
+    }
+}
+
+/// The same behind a change of one relation. Its name is copied only where a union is registered.
+pub fn follow_one<L: Ledger>(
+    parts: &mut Parts,
+    relation: &Name,
+    turn: Option<Turn>,
+    listing: &mut Tally<L>,
+)
+    requires members { (k : ℕ) (j : JoinedModel) → joined_at parts.old.unions.items k ≡ Some j
+        → AreMembers parts.old.engine.places j.union.members }
+    requires low { IfMade turn (All (λ id. id.at < QUERIES) parts.old.engine.affected) }
+    requires few { IfMade turn (length parts.old.engine.affected ≤ vec_capacity parts.old.affected) }
+    requires room { length parts.old.order.items ≤ vec_capacity parts.old.affected }
+    ensures follows { FollowsBy turn (relation.now ∷ []) parts.old parts.new }
+    ensures counted { listing.new ≤ listing.old
+        + following_steps turn parts.old.engine (relation.now ∷ []) parts.old.unions.items }
+    ensures unlisted { AreUnionsUnwatched parts.old.unions.items → listing.new ≡ listing.old }
+{
+    if has_union(parts) {
+        follow(parts, &[*relation], turn, listing);
+    } else {
+        follow_alone(parts, turn);
+    }
+}
+
+/// The same behind a batch of these rows, of whose relations each had so many: of those that changed. They are looked
+/// for only where a union is registered.
+pub fn follow_batch<L: Ledger>(
+    parts: &mut Parts,
+    held: &[HeldRow],
+    counts: &[u64; HELD],
+    joined: bool,
+    turn: Option<Turn>,
+    listing: &mut Tally<L>,
+)
+    requires batch { length held.now ≤ HELD }
+    requires joined { joined ≡ has_union parts.old.unions.items }
+    requires members { (k : ℕ) (j : JoinedModel) → joined_at parts.old.unions.items k ≡ Some j
+        → AreMembers parts.old.engine.places j.union.members }
+    requires low { IfMade turn (All (λ id. id.at < QUERIES) parts.old.engine.affected) }
+    requires few { IfMade turn (length parts.old.engine.affected ≤ vec_capacity parts.old.affected) }
+    requires room { length parts.old.order.items ≤ vec_capacity parts.old.affected }
+    ensures follows { (before : List Relation)
+        → (joined ≡ true → AreCounts before held.now counts.now)
+        → FollowsBy turn (grown_of turn before parts.old.engine.store.relations held.now)
+        parts.old parts.new }
+    ensures counted { (before : List Relation)
+        → (joined ≡ true → AreCounts before held.now counts.now)
+        → listing.new ≤ listing.old + following_steps turn parts.old.engine
+        (grown_of turn before parts.old.engine.store.relations held.now) parts.old.unions.items }
+    ensures unlisted { AreUnionsUnwatched parts.old.unions.items → listing.new ≡ listing.old }
+{
+    if !joined {
+        follow_alone(parts, turn);
+        return;
+    }
+    let mut names = [Name::new(&[]); HELD];
+    let count = changed_names(&parts.engine, held, counts, is_lacked(turn), &mut names);
+    follow(parts, &names[..count], turn, listing);
 }
 
 // What a change that was made affects is known: by the whole order where a union reads its relations.

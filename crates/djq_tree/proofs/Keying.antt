@@ -1,9 +1,9 @@
 -- Group keys by the node's role.
-use Rattle.std.proofs.Common.{◌≡◌, ℕ, ◌-◌, ◌<◌, true, List, length, Option, Some, None, IfSome, refl, ap, sym, ◌∙◌, arith, inl, inr}
+use Rattle.std.proofs.Common.{◌≡◌, ℕ, ◌-◌, ◌<◌, Bool, true, List, length, get_or, subst, Option, Some, None, IfSome, refl, ap, sym, ◌∙◌, arith, inl, inr}
 use Rattle.std.specs.Prelude.{◌==◌}
 use Rattle.std.proofs.Math.Bool.{or-true}
 use Rattle.std.proofs.lemmas.Bool.{cases_lt, cases_Bool, cases_eq, eq-eqb, ne_eqb, eqb-true, false≢true}
-use Rattle.std.proofs.lemmas.List.{get_or_past}
+use Rattle.std.proofs.lemmas.List.{get_or_past, get_or_default}
 use Rattle.djq_hyper.specs.Hypergraph.{subset}
 use Rattle.djq_hyper.proofs.Members.{subset_from}
 use Rattle.djq_tree.specs.declared.node.Node.{Node}
@@ -95,3 +95,9 @@ key_read_guard t j k g d o n l up some at is same own = rw (sym up ∙ some, sym
 
 pub key_read_own : (t : Tree) (j : ℕ) (l : List ℕ) → l ≡ label_at t.labels j → subset l (label_at t.labels j) ≡ true
 key_read_own t j l own = ap (λ (k : List ℕ). subset k (label_at t.labels j)) own ∙ subset_same (label_at t.labels j)
+
+-- a node that has j as a child is its parent
+pub told_parent : (u t : Tree) (j k : ℕ) (n : Node) (b : Bool) → u ≡ t → IsTree u → k < length u.nodes → n ≡ get_or u.nodes k n → b ≡ has_child n j → b ≡ true → parent t.nodes j ≡ Some k
+told_parent u t j k n b same s within is tells has =
+    subst (λ (v : Tree). parent v.nodes j ≡ Some k) same
+    (parent_of_child u k j s (ap (λ (m : Node). has_child m j) (sym (is ∙ get_or_default u.nodes k n (Leaf 0) within)) ∙ sym tells ∙ has) within)

@@ -21,8 +21,9 @@
 //! What surprises: a tree may have nodes with equal or empty labels, and a single leaf without
 //! variables is one.
 //!
-//! Inside, a tree is three lists side by side, with the head's variables. A node's parent isn't
-//! stored: children have lower numbers, so one pass up the nodes goes along a whole path.
+//! Inside, a tree is three lists side by side, with the head's variables. The parents of the first
+//! nodes are noted, and a note is looked at before it is believed. Children have lower numbers, so one
+//! pass up the nodes finds any other parent, and goes along a whole path.
 #![tactic(auto)]
 
 mod choice;

@@ -1,4 +1,4 @@
-ghost use Rattle.std.specs.Prelude.{◌≡◌, ◌+◌, ◌<◌, ◌≤◌, ◌++◌, length, true, IfOk, OnOk, IfSome, IfNone};
+ghost use Rattle.std.specs.Prelude.{◌≡◌, ◌+◌, ◌<◌, ◌≤◌, ◌++◌, length, true, Some, IfOk, OnOk, IfSome, IfNone};
 ghost use Rattle.djq_hyper.specs.Hypergraph.{subset};
 ghost use Rattle.djq_hyper.specs.Variables.{AreNamed};
 ghost use Rattle.djq_tree.specs.Counts.{IsSmall};
@@ -23,6 +23,9 @@ use djq_hyper::{Names, VarSet};
 use std::alloc::{AllocError, Global};
 use std::marker::Model;
 
+// For how many nodes it is told at once which their parents are. The parents of others are sought.
+const TOLD: usize = 64;
+
 /// A generalised join tree of a query: how its atoms' tuples are projected and matched, step by
 /// step.
 ///
@@ -37,6 +40,7 @@ pub struct Tree {
     head: VarSet,
     leaves: usize,
     second_stage: usize,
+    told: [u8; TOLD], // the parents of the first nodes; each is looked at before it is believed
 }
 
 impl Model for Tree {
@@ -47,6 +51,29 @@ impl Model for Tree {
     ghost view = { λ t. record { nodes = t.nodes.items; labels = t.labels.items; out = t.out.items; head = t.head; leaves = t.leaves; second_stage = t.second_stage } };
 
     ghost invariant = { λ t. spec.IsTree (record { nodes = t.nodes.items; labels = t.labels.items; out = t.out.items; head = t.head; leaves = t.leaves; second_stage = t.second_stage }) };
+}
+
+// Tells of a node which its parent is, where there is room.
+fn tell(told: &mut [u8; TOLD], node: usize, parent: usize) {
+    if node < TOLD && parent <= u8::MAX as usize {
+        told[node] = parent as u8;
+    }
+}
+
+// The parents of the first nodes.
+fn parents_of(nodes: &[Node]) -> [u8; TOLD] {
+    let mut told = [0; TOLD];
+    for up in 0..nodes.len() {
+        match nodes[up] {
+            Node::Leaf { .. } => {}
+            Node::Trim { child } => tell(&mut told, child, up),
+            Node::Meet { guard, side } => {
+                tell(&mut told, guard, up);
+                tell(&mut told, side, up);
+            }
+        }
+    }
+    told
 }
 
 impl Tree {
@@ -63,6 +90,7 @@ impl Tree {
         requires { IsTree (record { nodes = nodes.items; labels = labels.items; out = out.items; head = head; leaves = leaves; second_stage = second_stage }) }
         ensures { result ≡ record { nodes = nodes.items; labels = labels.items; out = out.items; head = head; leaves = leaves; second_stage = second_stage } }
     {
+        let told = parents_of(&nodes);
         Tree {
             nodes,
             labels,
@@ -70,6 +98,7 @@ impl Tree {
             head,
             leaves,
             second_stage,
+            told,
         }
     }
 
@@ -140,7 +169,24 @@ impl Tree {
         ensures above { IfSome result (λ p. (at < p) × (p < length self.now.nodes)) }
         ensures root { IfNone result (at + 1 ≡ length self.now.nodes) }
     {
-        parent_of(&self.nodes, at)
+        match self.told(at) {
+            Some(up) => Some(up),
+            None => parent_of(&self.nodes, at),
+        }
+    }
+
+    // The node that is told to have a node as a child, where it does.
+    fn told(&self, at: usize) -> Option<usize>
+        ensures { IfSome result (λ up. parent self.now.nodes at ≡ Some up) }
+    {
+        if at >= TOLD {
+            return None;
+        }
+        let up = self.told[at] as usize;
+        if up < self.nodes.len() && self.nodes[up].has_child(at) {
+            return Some(up);
+        }
+        None
     }
 
     /// The path from a leaf to the root, both included.

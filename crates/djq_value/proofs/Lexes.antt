@@ -3,8 +3,8 @@ use Rattle.std.proofs.Common.{◌≡◌, ℕ, zero, suc, ◌<◌, ◌≤◌, Boo
 use Rattle.std.proofs.lemmas.List.{nil_from_length, length-drop, drop_all}
 use Rattle.std.proofs.lemmas.Bool.{cond_both}
 use Rattle.djq_model.specs.Data.{Bytes}
-use Rattle.djq_model.specs.declared.query.Operator.TheVariants.{Less, LessOrEqual, Greater, GreaterOrEqual, Equal, NotEqual}
-use Rattle.djq_value.specs.Token.{Token, text, arrow, operator, stray, ends_word, may_end, escape_of, in_text, text_in, text_front, behind_spaces, behind_word, less_front, greater_front, not_front, token_front, token_at, and_then, tokens_within, tokens}
+use Rattle.djq_model.specs.declared.query.Operator.TheVariants.{Less, LessOrEqual, Greater, GreaterOrEqual, NotEqual}
+use Rattle.djq_value.specs.Token.{Token, text, operator, stray, ends_word, may_end, escape_of, in_text, text_in, text_front, behind_spaces, behind_word, less_front, greater_front, not_front, token_front, token_at, and_then, tokens_within, tokens}
 
 -- Behind the first token of bytes are fewer than so many.
 abbrev pub IsShorter : ℕ → Option (Token × Bytes) → Type 0

@@ -8,3 +8,4 @@ pub mod Escapes
 pub mod Putting
 pub mod Writing
 pub mod Literals
+pub mod Small

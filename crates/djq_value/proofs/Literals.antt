@@ -53,12 +53,12 @@ natural_written n h = let w = written n h in natural-some (decimal n) w.some ∙
 digit_bounds : (d : ℕ) → is_digit d ≡ true → (48 ≤ d) × (d ≤ 57)
 digit_bounds d h = let parts = and_parts (leb 48 d) (leb d 57) h in (leb-true 48 d parts.0, leb-true d 57 parts.1)
 
-integer_digits : (ds : Bytes) → 0 < length ds → list_all is_digit ds ≡ true → integer_of ds ≡ option_map (λ n. pos n) (natural_of ds)
+pub integer_digits : (ds : Bytes) → 0 < length ds → list_all is_digit ds ≡ true → integer_of ds ≡ option_map (λ n. pos n) (natural_of ds)
 integer_digits [] some h = absurd (omega (arith, some))
 integer_digits (d ∷ ds) some h =
     let low = digit_bounds d (and_parts (is_digit d) (list_all is_digit ds) h).0 in cond-false _ _ _ (ne_eqb d 45 (λ e. absurd (omega (arith, e, low.0))))
 
-minus-suc : (n : ℕ) → minus (suc n) ≡ negsuc n
+pub minus-suc : (n : ℕ) → minus (suc n) ≡ negsuc n
 minus-suc n = cond-false _ _ _ (eqb-suc-zero n) ∙ ap (λ k. negsuc k) (omega arith)
 
 small_pos : (n : ℕ) → leb n 9223372036854775807 ≡ true → n < 2 ^ 64
@@ -83,12 +83,12 @@ digit_inner b h =
     let until_equals : (eqb b 32 || eqb b 33 || eqb b 40 || eqb b 41 || eqb b 44 || eqb b 60 || eqb b 61) ≡ false = or_from _ _ until_angle (ne_eqb b 61 (λ e. absurd (omega (arith, e, low.1)))) in
     or_from _ _ until_equals (ne_eqb b 62 (λ e. absurd (omega (arith, e, low.1))))
 
-digits_inner : (ds : Bytes) → list_all is_digit ds ≡ true → All (λ b. ends_word b ≡ false) ds
+pub digits_inner : (ds : Bytes) → list_all is_digit ds ≡ true → All (λ b. ends_word b ≡ false) ds
 digits_inner [] h = All-nil (λ b. ends_word b ≡ false)
 digits_inner (d ∷ ds) h =
     let parts = and_parts (is_digit d) (list_all is_digit ds) h in All-cons (λ b. ends_word b ≡ false) d ds (digit_inner d parts.0) (digits_inner ds parts.1)
 
-digits_token : (ds : Bytes) → 0 < length ds → list_all is_digit ds ≡ true → IsToken (word ds)
+pub digits_token : (ds : Bytes) → 0 < length ds → list_all is_digit ds ≡ true → IsToken (word ds)
 digits_token [] some h = absurd (omega (arith, some))
 digits_token (d ∷ ds) some h =
     let low = digit_bounds d (and_parts (is_digit d) (list_all is_digit ds) h).0 in (omega arith, digits_inner (d ∷ ds) h, λ e. absurd (omega (arith, e, low.0)))
@@ -108,7 +108,7 @@ read_back (Int i) behind h f =
     ∙ ap (λ o. option_map (λ v. (v, behind)) (option_map (λ j. Int j) o)) (signed_read i h)
 read_back (Text t) behind h f = ap literal_in (token_back (text t) behind tt f)
 
-map_some : {A B : Type 0} (f : A → B) (o : Option A) (b : B) → option_map f o ≡ Some b → (a : A) × (o ≡ Some a) × (f a ≡ b)
+pub map_some : {A B : Type 0} (f : A → B) (o : Option A) (b : B) → option_map f o ≡ Some b → (a : A) × (o ≡ Some a) × (f a ≡ b)
 map_some f None b e = absurd cc
 map_some f (Some a) b e = (a, refl, cc)
 

@@ -1,8 +1,17 @@
 -- How a text is scanned, byte by byte.
-use Rattle.std.proofs.Common.{◌≡◌, ℕ, ◌+◌, Bool, true, false, [], ◌∷◌, ◌++◌, length, Option, Some, None, refl, sym, ap, ◌∙◌, arith, append_assoc, length-append}
+use Rattle.std.proofs.Common.{◌≡◌, ℕ, ◌+◌, ◌<◌, ◌≤◌, ◌||◌, Bool, true, false, [], ◌∷◌, ◌++◌, length, Option, Some, None, refl, sym, ap, ◌∙◌, arith, append_assoc, length-append, subst, eqb, drop, take, get_or, drop-cons, add-one, length-take, count_by}
+use Rattle.std.specs.Prelude.{is_some}
+use Rattle.std.specs.List.{flat_map}
+use Rattle.std.proofs.Math.Seq.{take-append_seam}
+use Rattle.std.proofs.lemmas.Bool.{cond-false, or_parts}
+use Rattle.std.proofs.lemmas.List.{length-drop, take_more}
 use Rattle.djq_model.specs.Data.{Bytes}
 use Rattle.djq_value.specs.Token.{in_text, text_in}
 use Rattle.djq_value.specs.Quoted.{put_front}
+use Rattle.djq_value.specs.TextAt.{EndsAt, HasText, text_at}
+use Rattle.djq_value.specs.ValueText.{escaped, is_escaped}
+use Rattle.djq_value.proofs.Escapes.{length-flat_map-escaped, plain_text}
+use Rattle.djq_value.proofs.Texts.{IsSpelledText, text_spelled}
 
 -- So many bytes of a text were read, and some are left.
 pub record HasRead (bytes : Bytes) (count : ℕ) (escape : Bool) (rest : Bytes) : Type 0 where
@@ -49,3 +58,36 @@ has_read_as bytes rest count n escape e same was h = record {
   split = h.split ∙ ap (λ x. put_front h.read (text_in x rest)) (sym was);
   counted = h.counted ∙ sym same;
 }
+
+-- where so many bytes stand for themselves
+pub has_read-front : (bytes : Bytes) (n : ℕ) → n ≤ length bytes → text_in false bytes ≡ put_front (take n bytes) (text_in false (drop n bytes)) → HasRead bytes n false (drop n bytes)
+has_read-front bytes n h e = record { read = take n bytes; split = e; counted = omega (arith, length-take n bytes, h) }
+
+-- a byte that stands for itself
+pub plain_step : (b : ℕ) (rest : Bytes) → is_escaped b ≡ false → text_in false (b ∷ rest) ≡ in_text (Some b) (text_in false rest)
+plain_step b rest h =
+    let feed = or_parts (eqb b 34 || eqb b 92) (eqb b 10) h in
+    let back = or_parts (eqb b 34) (eqb b 92) feed.0 in
+    cond-false _ _ _ back.0 ∙ cond-false _ _ _ back.1 ∙ cond-false _ _ _ feed.1
+
+pub plain_more : (bytes : Bytes) (n : ℕ) → n < length bytes → is_escaped (get_or bytes n 0) ≡ false
+    → text_in false bytes ≡ put_front (take n bytes) (text_in false (drop n bytes)) → text_in false bytes ≡ put_front (take (n + 1) bytes) (text_in false (drop (n + 1) bytes))
+plain_more bytes n h plain e =
+    let b = get_or bytes n 0 in
+    let rest = drop (n + 1) bytes in
+    let next : drop n bytes ≡ b ∷ rest = drop-cons bytes n 0 h ∙ ap (λ m. b ∷ drop m bytes) (sym (add-one n)) in
+    put_front-byte (text_in false bytes) (take n bytes) (drop n bytes) rest false b b e next (plain_step b rest plain)
+    ∙ ap (λ xs. put_front xs (text_in false rest)) (sym (take_more bytes n 0 h))
+
+pub has_text : (bs : Bytes) (end n : ℕ) → EndsAt bs end n → HasText bs n
+has_text bs end n h = (ap is_some h.0, h.1)
+
+-- A text without an escape stands there as it is.
+pub plain_piece : (bs : Bytes) (end n : ℕ) → EndsAt bs end n → end ≡ n + 1 → take n bs ≡ text_at bs
+plain_piece bs end n h e =
+    let t = text_at bs in
+    let spelled : bs ≡ flat_map escaped t ++ 34 ∷ drop end bs = subst (IsSpelledText false bs) h.0 (text_spelled false bs) in
+    let none : count_by is_escaped t ≡ 0 =
+    omega (arith, e, h.1, h.2, length-flat_map-escaped t, length-drop end bs, ap length spelled, length-append (flat_map escaped t) (34 ∷ drop end bs)) in
+    let whole : bs ≡ t ++ 34 ∷ drop end bs = spelled ∙ ap (λ xs. xs ++ 34 ∷ drop end bs) (plain_text t none) in
+    ap (λ m. take m bs) (sym h.1) ∙ ap (take (length t)) whole ∙ take-append_seam t (34 ∷ drop end bs)

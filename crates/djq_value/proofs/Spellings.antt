@@ -14,10 +14,10 @@ use Rattle.djq_value.proofs.Texts.{IsSpelledText, text_read, text_spelled}
 use Rattle.std.specs.List.{flat_map}
 use Rattle.djq_value.proofs.Lexes.{IsShorter, token_shorter, tokens-none, tokens-some}
 
-front_stop : (c : ℕ) (cs : Bytes) → ends_word c ≡ true → word_front (c ∷ cs) ≡ []
+pub front_stop : (c : ℕ) (cs : Bytes) → ends_word c ≡ true → word_front (c ∷ cs) ≡ []
 front_stop c cs e = take_while-cons (λ b. not (ends_word b)) c cs ∙ cond-false _ _ _ (ap not e)
 
-front_go : (c : ℕ) (cs : Bytes) → ends_word c ≡ false → word_front (c ∷ cs) ≡ c ∷ word_front cs
+pub front_go : (c : ℕ) (cs : Bytes) → ends_word c ≡ false → word_front (c ∷ cs) ≡ c ∷ word_front cs
 front_go c cs e = take_while-cons (λ b. not (ends_word b)) c cs ∙ cond-true _ _ _ (ap not e)
 
 -- From tokens that are spelled to tokens that are read.
@@ -43,16 +43,16 @@ behind_all (b ∷ w) behind h f =
 
 -- a byte of a word is none of the bytes that end one
 pub record IsInner (b : ℕ) : Type 0 where
-  space : eqb b 32 ≡ false
-  bang : eqb b 33 ≡ false
-  open_sign : eqb b 40 ≡ false
-  close_sign : eqb b 41 ≡ false
-  comma_sign : eqb b 44 ≡ false
-  angle : eqb b 60 ≡ false
-  equals : eqb b 61 ≡ false
-  greater : eqb b 62 ≡ false
+  pub space : eqb b 32 ≡ false
+  pub bang : eqb b 33 ≡ false
+  pub open_sign : eqb b 40 ≡ false
+  pub close_sign : eqb b 41 ≡ false
+  pub comma_sign : eqb b 44 ≡ false
+  pub angle : eqb b 60 ≡ false
+  pub equals : eqb b 61 ≡ false
+  pub greater : eqb b 62 ≡ false
 
-inner : (b : ℕ) → ends_word b ≡ false → IsInner b
+pub inner : (b : ℕ) → ends_word b ≡ false → IsInner b
 inner b e =
     let at_greater = or_parts (eqb b 32 || eqb b 33 || eqb b 40 || eqb b 41 || eqb b 44 || eqb b 60 || eqb b 61) (eqb b 62) e in
     let at_equals = or_parts (eqb b 32 || eqb b 33 || eqb b 40 || eqb b 41 || eqb b 44 || eqb b 60) (eqb b 61) at_greater.0 in

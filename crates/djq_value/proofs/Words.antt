@@ -5,10 +5,11 @@ use Rattle.std.proofs.lemmas.List.{take_more, take_rest, take_all}
 use Rattle.std.proofs.lemmas.List.Folds.{list_all_more}
 use Rattle.std.proofs.Math.Nat.{pow-le-pow_right}
 use Rattle.std.proofs.lemmas.Nat.{pow-add}
-use Rattle.std.proofs.lemmas.Bool.{cond-true, and_from, le-leb}
+use Rattle.std.proofs.lemmas.Bool.{cond-true, and_from, le-leb, ne_eqb}
 use Rattle.djq_model.specs.Data.{Bytes}
 use Rattle.djq_value.specs.Literal.{is_digit, is_lower, is_name, digits_value, natural_of}
 use Rattle.djq_value.specs.Number.{capped}
+use Rattle.djq_value.specs.Token.{ends_word}
 use Rattle.djq_value.specs.Word.{is_tail_of}
 
 -- a name by its first byte and those behind it
@@ -55,3 +56,17 @@ pub natural_of-digits : (ds : Bytes) (n : ℕ) → 0 < length ds → n ≡ lengt
 natural_of-digits ds n h e all =
     let whole = take_all n ds (omega arith) in
     natural-some ds h ∙ cond-true _ _ _ (ap (list_all is_digit) (sym whole) ∙ all) ∙ ap (λ xs. Some (digits_value 0 xs)) (sym whole)
+
+-- no byte above the signs ends a word
+pub inner_above : (b : ℕ) → 62 < b → ends_word b ≡ false
+inner_above b h =
+    rw (
+      ne_eqb b 32 (λ e. omega (arith, h, e)),
+      ne_eqb b 33 (λ e. omega (arith, h, e)),
+      ne_eqb b 40 (λ e. omega (arith, h, e)),
+      ne_eqb b 41 (λ e. omega (arith, h, e)),
+      ne_eqb b 44 (λ e. omega (arith, h, e)),
+      ne_eqb b 60 (λ e. omega (arith, h, e)),
+      ne_eqb b 61 (λ e. omega (arith, h, e)),
+      ne_eqb b 62 (λ e. omega (arith, h, e)),
+    ) refl

@@ -11,3 +11,4 @@ pub mod ValueText
 pub mod Output
 pub mod Writing
 pub mod ReadValue
+pub mod Small

@@ -15,7 +15,11 @@ text_at bs = text_or_none (text_in false bs)
 abbrev pub HasText : Bytes → ℕ → Type 0
 HasText bs n = (is_some (text_in false bs) ≡ true) × (length (text_at bs) ≡ n)
 
+-- A text of so many bytes stands there, and this is the place behind its closing quote.
+abbrev pub EndsAt : Bytes → ℕ → ℕ → Type 0
+EndsAt bs end n = (text_in false bs ≡ Some (text_at bs, drop end bs)) × (length (text_at bs) ≡ n) × (end ≤ length bs)
+
 -- Where the text ends and how many bytes it has; none where there is no text.
 abbrev pub Ends : Bytes → Option (ℕ × ℕ) → Type 0
 Ends bs None = text_in false bs ≡ None
-Ends bs (Some r) = (text_in false bs ≡ Some (text_at bs, drop r.0 bs)) × (length (text_at bs) ≡ r.1) × (r.0 ≤ length bs)
+Ends bs (Some r) = EndsAt bs r.0 r.1

@@ -5,7 +5,9 @@ ghost use Rattle.djq_value.specs.Token.{less_front, greater_front, not_front, be
 ghost use Rattle.djq_value.specs.Token.{ends_word as ends_word_of, may_end as may_end_of};
 ghost use Rattle.djq_value.specs.Token.{text_front, text_in, token_front, tokens, word_front};
 ghost use Rattle.djq_value.specs.Lexing.{Takes, lexeme_of, word_of};
+ghost use Rattle.djq_value.specs.Small.{TakesPlainWord, TakesSmall};
 
+use crate::number::small_at;
 use crate::quoted::{Quoted, text_end};
 use djq_model::Operator;
 use std::marker::Model;
@@ -94,6 +96,36 @@ impl<'a> Lexer<'a> {
             Some(token)
         }
     }
+
+    // The word in front, without its token. Where none is given, the lexer stays where it is.
+    #[inline]
+    pub(crate) fn plain_word(&mut self) -> Option<&'a [u8]>
+        ensures { TakesPlainWord self.old result self.new }
+    {
+        let bytes = &self.rest[space_count(self.rest)..];
+        let len = word_len(bytes);
+        if len == 0 || bytes[0] == b'"' {
+            return None;
+        }
+        self.rest = &bytes[len..];
+        Some(&bytes[..len])
+    }
+
+    /// The integer in front, where it has at most 18 digits, without its token. Where none is given,
+    /// the lexer stays where it is.
+    #[inline]
+    pub fn next_small(&mut self) -> Option<i64>
+        ensures { TakesSmall self.old result self.new }
+    {
+        let bytes = &self.rest[space_count(self.rest)..];
+        match small_at(bytes) {
+            Some((value, len)) => {
+                self.rest = &bytes[len..];
+                Some(value)
+            }
+            None => None,
+        }
+    }
 }
 
 // The token that begins with the first byte, and what is behind it.
@@ -158,14 +190,14 @@ fn text_or_stray(behind: &[u8]) -> (Token<'_>, &[u8])
     };
     let rest = &behind[end..];
     if may_end(rest) {
-        (Token::Text(Quoted::new(behind, len)), rest)
+        (Token::Text(Quoted::new(behind, end, len)), rest)
     } else {
         (Token::Stray, rest)
     }
 }
 
 // Whether a word or a text may end in front of these bytes.
-fn may_end(behind: &[u8]) -> bool
+pub(crate) fn may_end(behind: &[u8]) -> bool
     ensures { result ≡ may_end_of behind.now }
 {
     match behind.first() {
@@ -199,9 +231,10 @@ fn word_len(bytes: &[u8]) -> usize
     len
 }
 
-// Whether a byte ends a word: spaces and signs do.
+// Whether a byte ends a word: spaces and signs do. Letters are above all that do.
+#[tactic(auto, using(crate::proofs::Words::inner_above))]
 fn ends_word(byte: u8) -> bool
     ensures { result ≡ ends_word_of byte }
 {
-    matches!(byte, b' ' | b'!' | b'(' | b')' | b',' | b'<' | b'=' | b'>')
+    byte <= b'>' && matches!(byte, b' ' | b'!' | b'(' | b')' | b',' | b'<' | b'=' | b'>')
 }

@@ -12,6 +12,9 @@
 //! 9223372036854775808  no value: it is past 64 bits
 //! ```
 //!
+//! An integer of at most 18 digits can be taken without a token: [`Lexer::next_small`] is for rows,
+//! of which most values are such.
+//!
 //! Nothing here knows of commands, replies, relations or types of columns.
 //!
 //! What surprises: output goes into a `BytesMut`, of which contracts see the bytes and the room

@@ -2,6 +2,12 @@
 ghost use Rattle.std.specs.Prelude.{◌≡◌, ◌<◌, ◌≤◌, Some, length, pos, option_map};
 ghost use Rattle.djq_value.specs.Literal.{integer_of, minus, natural_of};
 ghost use Rattle.djq_value.specs.Number.{capped, number_of};
+ghost use Rattle.djq_value.specs.Small.{AreDigitsAt, IsSmallAt};
+
+use crate::lexer::may_end;
+
+// The most digits that any number of them is within 64 bits with.
+const FEW_DIGITS: usize = 18;
 
 // What a word says of an integer.
 #[derive(Clone, Copy, Debug)]
@@ -21,7 +27,7 @@ pub fn read_natural(digits: &[u8]) -> Option<u64>
 {
     if digits.is_empty() {
         None
-    } else if digits.len() <= 18 {
+    } else if digits.len() <= FEW_DIGITS {
         read_short(digits)
     } else {
         read_long(digits)
@@ -96,5 +102,55 @@ fn negative(size: u64) -> Number
         Number::Small(i64::MIN)
     } else {
         Number::Wide
+    }
+}
+
+// The integer of few digits that bytes begin with, and how many bytes it takes. It needs no care of
+// 64 bits; where none is given, another one may stand there.
+#[inline]
+pub(crate) fn small_at(bytes: &[u8]) -> Option<(i64, usize)>
+    ensures { IsSmallAt bytes.now result }
+{
+    if !bytes.is_empty() && bytes[0] == b'-' {
+        match digits_at(&bytes[1..]) {
+            Some((size, len)) => Some((negated(size), len + 1)),
+            None => None,
+        }
+    } else {
+        match digits_at(bytes) {
+            Some((size, len)) => Some((size as i64, len)),
+            None => None,
+        }
+    }
+}
+
+#[inline]
+fn negated(size: u64) -> i64
+    requires { size ≤ 9223372036854775807 }
+    ensures { result ≡ minus size }
+{
+    -(size as i64)
+}
+
+// The number of the few digits that bytes begin with, up to where a word may end, and how many they
+// are.
+#[inline]
+fn digits_at(bytes: &[u8]) -> Option<(u64, usize)>
+    ensures { AreDigitsAt bytes.now result }
+{
+    let mut size: u64 = 0;
+    let mut len = 0;
+    'digits: while len < bytes.len()
+        && len < FEW_DIGITS
+        && bytes[len] >= b'0'
+        && bytes[len] <= b'9'
+    {
+        size = size * 10 + (bytes[len] - b'0') as u64;
+        len += 1;
+    }
+    if len > 0 && may_end(&bytes[len..]) {
+        Some((size, len))
+    } else {
+        None
     }
 }

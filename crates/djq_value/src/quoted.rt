@@ -1,11 +1,12 @@
 // Texts between quotes, as a line has them.
-ghost use Rattle.std.specs.Prelude.{◌≡◌, ◌∷◌, ◌≤◌, length, IfOk};
+ghost use Rattle.std.specs.Prelude.{◌≡◌, ◌∷◌, ◌≤◌, drop, false, length, take, IfOk};
 ghost use Rattle.djq_model.specs.declared.value.TheConstants.{TEXT_BYTES};
 ghost use Rattle.djq_value.specs.Token.{text_in};
-ghost use Rattle.djq_value.specs.Quoted.{stepped};
-ghost use Rattle.djq_value.specs.TextAt.{Ends, HasText, text_at};
+ghost use Rattle.djq_value.specs.Quoted.{put_front, stepped};
+ghost use Rattle.djq_value.specs.TextAt.{Ends, EndsAt, HasText, text_at};
 ghost use Rattle.djq_model.specs.Data.{Bytes};
 
+use crate::print::is_escaped;
 use djq_model::{NoMem, Text};
 use std::alloc::Global;
 use std::marker::Model;
@@ -15,28 +16,30 @@ use std::marker::Model;
 pub struct Quoted<'a> {
     // what stands behind the opening quote, to the line's end
     from: &'a [u8],
+    // the place behind the closing quote
+    end: usize,
     // the number of bytes of the text
     len: usize,
 }
 
 impl<'a> Model for Quoted<'a> {
     ghost use Rattle.std.specs.Prelude.{List, ℕ};
-    ghost use Rattle.djq_value.specs.TextAt.{HasText, text_at};
+    ghost use Rattle.djq_value.specs.TextAt.{EndsAt, text_at};
 
     ghost Value = { List ℕ };
 
     ghost view = { λ q. text_at q.from.now };
 
-    ghost invariant = { λ q. HasText q.from.now q.len };
+    ghost invariant = { λ q. EndsAt q.from.now q.end q.len };
 }
 
 impl<'a> Quoted<'a> {
     // The text whose opening quote stands before these bytes.
-    pub(crate) fn new(from: &'a [u8], len: usize) -> Self
-        requires { HasText from.now len }
+    pub(crate) fn new(from: &'a [u8], end: usize, len: usize) -> Self
+        requires { EndsAt from.now end len }
         ensures { result ≡ text_at from.now }
     {
-        Quoted { from, len }
+        Quoted { from, end, len }
     }
 
     /// The number of bytes of the text.
@@ -51,7 +54,7 @@ impl<'a> Quoted<'a> {
         requires { length self.now ≤ TEXT_BYTES }
         ensures { IfOk result (λ text. text ≡ self.now) }
     {
-        Ok(Text::new(unescaped(alloc, self.from, self.len)?))
+        Ok(Text::new(copied(alloc, self.from, self.end, self.len)?))
     }
 }
 
@@ -87,9 +90,33 @@ fn step_of(escape: bool, byte: u8) -> Step
 pub(crate) fn text_end(bytes: &[u8]) -> Option<(usize, usize)>
     ensures { Ends bytes.now result }
 {
-    let mut escape = false;
+    text_end_from(bytes, plain_len(bytes))
+}
+
+// How many bytes in front stand for themselves, whatever is behind them. Alone, its loop is short.
+#[inline(never)]
+fn plain_len(bytes: &[u8]) -> usize
+    ensures within { result ≤ length bytes.now }
+    ensures read { text_in false bytes.now
+        ≡ put_front (take result bytes.now) (text_in false (drop result bytes.now)) }
+{
     let mut len = 0;
-    for at in 0..bytes.len() {
+    'plain: while len < bytes.len() && !is_escaped(bytes[len]) {
+        len += 1;
+    }
+    len
+}
+
+// The same as where it ends, behind so many bytes that stand for themselves.
+fn text_end_from(bytes: &[u8], plain: usize) -> Option<(usize, usize)>
+    requires within { plain ≤ length bytes.now }
+    requires read { text_in false bytes.now
+        ≡ put_front (take plain bytes.now) (text_in false (drop plain bytes.now)) }
+    ensures { Ends bytes.now result }
+{
+    let mut escape = false;
+    let mut len = plain;
+    for at in plain..bytes.len() {
         match step_of(escape, bytes[at]) {
             Step::End => return Some((at + 1, len)),
             Step::Backslash => escape = true,
@@ -103,7 +130,20 @@ pub(crate) fn text_end(bytes: &[u8]) -> Option<(usize, usize)>
     None
 }
 
-// The bytes of the text that begins here.
+// The bytes of the text that begins here, in one piece where it has no escape.
+fn copied(alloc: Global, bytes: &[u8], end: usize, len: usize) -> Result<Vec<u8>, NoMem>
+    requires ends { EndsAt bytes.now end len }
+    requires few { len ≤ TEXT_BYTES }
+    ensures { IfOk result (λ text. text.items ≡ text_at bytes.now) }
+{
+    if end == len + 1 {
+        Ok(Vec::from_slice(alloc, &bytes[..len])?)
+    } else {
+        unescaped(alloc, bytes, len)
+    }
+}
+
+// The bytes of the text that begins here, one by one.
 fn unescaped(alloc: Global, bytes: &[u8], len: usize) -> Result<Vec<u8>, NoMem>
     requires { HasText bytes.now len }
     ensures { IfOk result (λ text. text.items ≡ text_at bytes.now) }

@@ -146,3 +146,25 @@ fn reads_the_signs_of_comparisons(rt: HostRuntime) {
     assert_eq!(rt; kinds, 1_315_176_814);
     assert!(rt; lexer.is_done());
 }
+
+/// Integers of few digits are read without a token, and nothing else is.
+#[test]
+fn reads_small_integers(rt: HostRuntime) {
+    let mut lexer = Lexer::new(b" 7  -007 -999999999999999999 1000000000000000000 ");
+    assert_eq!(rt; lexer.next_small(), Some(7));
+    assert_eq!(rt; lexer.next_small(), Some(-7));
+    assert_eq!(rt; lexer.next_small(), Some(-999_999_999_999_999_999));
+    assert_eq!(rt; lexer.next_small(), None);
+    assert!(rt; matches!(lexer.next(), Some(Token::Word(_))));
+    assert_eq!(rt; lexer.next_small(), None);
+    assert!(rt; lexer.is_done());
+    let others: [&[u8]; 6] = [b"", b"-", b"--1", b"1x", b"1\"a\"", b"\"1\""];
+    for line in others {
+        assert_eq!(rt;
+            Lexer::new(line).next_small(),
+            None,
+            "{}",
+            line.escape_ascii()
+        );
+    }
+}

@@ -70,9 +70,12 @@ fn may_follow(byte: u8) -> bool
 pub fn next_word<'a>(lexer: &mut Lexer<'a>) -> Option<&'a [u8]>
     ensures { TakesWord lexer.old result lexer.new }
 {
-    match lexer.next() {
-        Some(token) => token.word(),
-        None => None,
+    match lexer.plain_word() {
+        Some(word) => Some(word),
+        None => match lexer.next() {
+            Some(token) => token.word(),
+            None => None,
+        },
     }
 }
 

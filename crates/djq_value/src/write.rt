@@ -55,13 +55,57 @@ fn write_signed(number: i64, bytes: &mut [u8], at: usize) -> usize
     }
 }
 
-// A number without a sign.
+// A number without a sign. How many digits a short one has is told by the way that leads to it, so
+// that each is written without asking again.
 #[inline]
 fn write_natural(number: u64, bytes: &mut [u8], at: usize) -> usize
     requires { at + 20 ≤ length bytes.old }
     ensures { Written bytes.old bytes.new at (decimal number) result }
 {
-    let end = at + digit_count(number);
+    if number < 10_000 {
+        write_short(number, bytes, at)
+    } else {
+        write_long(number, bytes, at)
+    }
+}
+
+// One below 10,000.
+#[inline]
+fn write_short(number: u64, bytes: &mut [u8], at: usize) -> usize
+    requires short { number < 10000 }
+    requires room { at + 20 ≤ length bytes.old }
+    ensures { Written bytes.old bytes.new at (decimal number) result }
+{
+    if number < 100 {
+        if number < 10 {
+            write_counted(number, 1, bytes, at)
+        } else {
+            write_counted(number, 2, bytes, at)
+        }
+    } else if number < 1000 {
+        write_counted(number, 3, bytes, at)
+    } else {
+        write_counted(number, 4, bytes, at)
+    }
+}
+
+// One whose digits are counted first.
+#[inline(never)]
+fn write_long(number: u64, bytes: &mut [u8], at: usize) -> usize
+    requires { at + 20 ≤ length bytes.old }
+    ensures { Written bytes.old bytes.new at (decimal number) result }
+{
+    write_counted(number, digit_count(number), bytes, at)
+}
+
+// One of so many digits.
+#[inline]
+fn write_counted(number: u64, count: usize, bytes: &mut [u8], at: usize) -> usize
+    requires count { count ≡ length (decimal number) }
+    requires room { at + count ≤ length bytes.old }
+    ensures { Written bytes.old bytes.new at (decimal number) result }
+{
+    let end = at + count;
     let _start = write_digits(number, bytes, end);
     end
 }

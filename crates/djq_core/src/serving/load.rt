@@ -143,14 +143,7 @@ fn load_in_batch<L: Ledgers>(
 {
     match read_in_batch(alloc, line, row) {
         BatchLine::Hold(name) => {
-            let made = new_row(
-                alloc,
-                engine,
-                held.len(),
-                line,
-                &Name::new(name),
-                row.as_slice(),
-            );
+            let made = new_row(alloc, engine, held.len(), line, &Name::new(name), row);
             let (loaded, held) = load_row(held, made);
             (loaded, Some(held))
         }

@@ -43,7 +43,17 @@ impl<C: Copy, Q: Copy + PartialEq> Session<C, Q> {
     {
         self.input.advance(count);
         if self.input.is_empty() && self.input.capacity() > IDLE_BYTES {
-            self.input = BytesMut::new(self.alloc);
+            self.let_go();
         }
+    }
+
+    // Gives a large buffer back. It stands apart so that each command's way is free of it.
+    #[cold]
+    #[inline(never)]
+    fn let_go(&mut self)
+        requires { length self.old.held ≡ 0 }
+        ensures { self.new ≡ self.old }
+    {
+        self.input = BytesMut::new(self.alloc);
     }
 }

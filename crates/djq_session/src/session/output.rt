@@ -57,7 +57,10 @@ impl<C: Copy, Q: Copy + PartialEq> Session<C, Q> {
         }
     }
 
-    // Gives a large buffer back, where there is memory for a small one.
+    // Gives a large buffer back, where there is memory for a small one. It stands apart so that each
+    // command's way is free of it.
+    #[cold]
+    #[inline(never)]
     fn shrink(&mut self)
         requires { length self.old.pending ≡ 0 }
         ensures { self.new ≡ record self.old { room = self.new.room } }

@@ -1,5 +1,5 @@
-ghost use Rattle.std.specs.Prelude.{◌≡◌, ◌∷◌, ◌++◌, [], false, position, OnOk, OnErr};
-ghost use Rattle.std.specs.List.{list_any};
+ghost use Rattle.std.specs.Prelude.{◌≡◌, ◌∷◌, ◌++◌, [], false, true, is_some, position, OnOk, OnErr, IfSome, IsSomeAnd};
+ghost use Rattle.std.specs.List.{list_any, slice_get};
 ghost use Rattle.djq_model.specs.Data.{drop_first};
 ghost use Rattle.djq_session.specs.Dialog.{PopsWatch};
 
@@ -11,6 +11,18 @@ fn place_of<Q: Copy + PartialEq>(watches: &[Q], query: Q) -> Option<usize>
     ensures { result ≡ position (λ q. Q.eq q query) watches.now }
 {
     watches.iter().position(|watched| *watched == query)
+}
+
+// The same, where one place, which may be past the last, is looked at first.
+fn place_near<Q: Copy + PartialEq>(watches: &[Q], query: Q, near: usize) -> Option<usize>
+    ensures watched { is_some result ≡ list_any (λ q. Q.eq q query) watches.now }
+    ensures place { IfSome result
+        (λ k. IsSomeAnd (slice_get watches.now k) (λ q. Q.eq q query ≡ true)) }
+{
+    if near < watches.len() && watches[near] == query {
+        return Some(near);
+    }
+    place_of(watches, query)
 }
 
 impl<C: Copy, Q: Copy + PartialEq> Session<C, Q> {
@@ -34,6 +46,16 @@ impl<C: Copy, Q: Copy + PartialEq> Session<C, Q> {
         ensures { result ≡ list_any (λ q. Q.eq q query) self.now.watches }
     {
         self.watches.iter().any(|watched| *watched == query)
+    }
+
+    /// A place of a query among those that it watches. `None` exactly where it doesn't watch it. Whoever
+    /// asks for many in the order in which they came tells where it may be: it is looked for there first.
+    pub fn watch_near(&self, query: Q, near: usize) -> Option<usize>
+        ensures watched { is_some result ≡ list_any (λ q. Q.eq q query) self.now.watches }
+        ensures place { IfSome result
+            (λ k. IsSomeAnd (slice_get self.now.watches k) (λ q. Q.eq q query ≡ true)) }
+    {
+        place_near(self.watches.as_slice(), query, near)
     }
 
     /// It watches a query no more, where it did.

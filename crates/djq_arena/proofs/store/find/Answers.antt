@@ -1,5 +1,4 @@
-use Rattle.std.proofs.Common.{◌<◌, sym, subst, length, Option, ap, ℕ, rules}
-use Rattle.djq_arena.specs.declared.chain.Pair.{Pair}
+use Rattle.std.proofs.Common.{◌<◌, sym, subst, length, Option, ℕ, rules}
 use Rattle.djq_arena.proofs.Seeking.{Seeking, seeking, over, over_steps, stop, stop_within, found, further, class_inside}
 use Rattle.djq_arena.proofs.store.find.Goals as goal
 
@@ -20,18 +19,17 @@ returns-then-reads c =
     (stop c.args.store.now c.args.cells.now c.in-Some.slot c.loop-step._step (subst (λ (o : Option ℕ). Seeking c.args.store.now c.args.cells.now o c.loop-step._step) (sym c.in-Some.ensures) c.loop-step.invariant))
     (search rules)
 
-pub pair_of-at-requires : goal.pair_of-at-requires
-pair_of-at-requires c =
+pub link_of-at-requires : goal.link_of-at-requires
+link_of-at-requires c =
     subst (λ n. c.in-Some.slot < n) (sym c.requires.store.pairs)
     (stop_within c.args.store.now c.args.cells.now c.in-Some.slot c.loop-step._step c.requires
     (stop c.args.store.now c.args.cells.now c.in-Some.slot c.loop-step._step (subst (λ (o : Option ℕ). Seeking c.args.store.now c.args.cells.now o c.loop-step._step) (sym c.in-Some.ensures) c.loop-step.invariant)))
 
 pub loop-step-preserved : goal.loop-step-preserved
 loop-step-preserved c =
-    further c.args.store.now c.args.cells.now c.in-Some.slot c.loop-step._step _ c.requires (class_inside (length c.args.store.now.heads.items) c.args.cells.now c.requires.store.some)
+    further c.args.store.now c.args.cells.now c.in-Some.slot c.loop-step._step _
     (stop c.args.store.now c.args.cells.now c.in-Some.slot c.loop-step._step (subst (λ (o : Option ℕ). Seeking c.args.store.now c.args.cells.now o c.loop-step._step) (sym c.in-Some.ensures) c.loop-step.invariant))
-    (search rules)
-    (ap (λ (p : Pair). p.prev) c.pair_of-at.ensures)
+    (search rules) c.link_of-at.ensures
 
 pub returns : goal.returns
 returns c = over_steps c.args.store.now c.args.cells.now c.loop-step.at c.loop-step._step c.loop-step.invariant c.loop-step-test.false

@@ -1,12 +1,15 @@
-use Rattle.std.proofs.Common.{refl}
-use Rattle.djq_arena.proofs.Storing.{last_in_free, releases}
+use Rattle.std.proofs.Common.{refl, arith}
+use Rattle.djq_arena.proofs.Storing.{releases}
 use Rattle.djq_arena.proofs.store.release.Goals as goal
 
-pub enter-requires-clause-last : goal.enter-requires-clause-last
-enter-requires-clause-last c = last_in_free c.args.store.now c.requires.sound
+pub follow-requires : goal.follow-requires
+follow-requires c = c.requires.loose.within
+
+pub to-store-requires : goal.to-store-requires
+to-store-requires c = omega (arith, c.requires.loose.within, c.requires.sound.store.numbers)
 
 pub returns : goal.returns
 returns c = record {
   released = releases c.args.store.now _ c.args.slot c.requires.sound c.requires.loose
-      (record { width = refl; cells = refl; order = c.enter.ensures; live = refl; bucket = refl; heads = refl; free = c.grown-store.ensures; len = refl; spare = refl });
+      (record { width = refl; cells = refl; order = c.follow.ensures; live = refl; bucket = refl; heads = refl; free = c.to-store.ensures; len = refl; spare = refl });
 }

@@ -1,5 +1,5 @@
 use Rattle.std.proofs.Common.{true, false, subst, take, drop, refl, arith}
-use Rattle.djq_model.specs.Data.{Bytes, Tuple}
+use Rattle.djq_model.specs.Data.{Bytes}
 use Rattle.djq_lines.specs.declared.command.Command.TheVariants.{Abandon, Quit, Stop}
 use Rattle.djq_core.specs.Batching.{MakesRow, ReadsInBatch}
 use Rattle.djq_core.specs.declared.reading.BatchLine.{BatchLine}
@@ -16,9 +16,8 @@ returns-in-Hold g c =
     let row = c.read_in_batch.new.row.items in
     let read = subst (λ (bs : Bytes). ReadsInBatch (take c.args.end bs) c.read_in_batch.result row) c.held.ensures c.read_in_batch.ensures in
     let said = subst (λ (b : BatchLine). ReadsInBatch line b row) c.in-Hold.is read in
-    let makes = subst (λ (n : Bytes). MakesRow (c.args.engine.now).store c.rows_held.result (take c.args.end c.held-in-Hold.result.now) n c.as_slice.result.now c.new_row-made.result) c.new-name.ensures c.new_row-made.ensures in
-    let of_row = subst (λ (values : Tuple). MakesRow (c.args.engine.now).store c.rows_held.result (take c.args.end c.held-in-Hold.result.now) c.in-Hold.name.now values c.new_row-made.result) c.as_slice.ensures.value makes in
-    let of_line = subst (λ (bs : Bytes). MakesRow (c.args.engine.now).store c.rows_held.result (take c.args.end bs) c.in-Hold.name.now row c.new_row-made.result) c.held-in-Hold.ensures of_row in
+    let makes = subst (λ (n : Bytes). MakesRow (c.args.engine.now).store c.rows_held.result (take c.args.end c.held-in-Hold.result.now) n row c.new_row-made.result) c.new-name.ensures c.new_row-made.ensures in
+    let of_line = subst (λ (bs : Bytes). MakesRow (c.args.engine.now).store c.rows_held.result (take c.args.end bs) c.in-Hold.name.now row c.new_row-made.result) c.held-in-Hold.ensures makes in
     hold_leaves old c.take_line.new.self line (drop c.args.rest old.held) c.requires.front c.take_line.ensures c.requires.said c.requires.few c.requires.open
     c.args.engine.now c.in-Hold.name.now row c.new_row-made.result c.rows_held.result c.hold.new.session c.args.steps.now.listing said.0 c.rows_held.ensures of_line c.hold.ensures
 

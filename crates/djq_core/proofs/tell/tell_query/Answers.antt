@@ -1,4 +1,5 @@
-use Rattle.std.proofs.Common.{ℕ, suc, ◌<◌, ◌∙◌, List, length, false, sym, ap, subst, arith, refl}
+use Rattle.std.proofs.Common.{ℕ, suc, ◌<◌, ◌∙◌, List, length, Option, false, sym, ap, subst, arith, refl}
+use Rattle.std.specs.Option.{is_some}
 use Rattle.djq_model.specs.Data.{Bytes}
 use Rattle.djq_model.specs.Listed.{listed_name}
 use Rattle.djq_engine.specs.Kept.{Kept}
@@ -8,7 +9,7 @@ use Rattle.djq_core.specs.Performs.{Performs}
 use Rattle.djq_core.specs.Telling.{HearsDelta, Prints, TellsQuery}
 use Rattle.djq_core.proofs.Spreading.{TellsSoFar, telling_starts, told_one, untold_one, length_still, owned_at, runs_at, same_place, next_place}
 use Rattle.djq_core.proofs.Affecting.{query_told, query_untold, watchers_of, name_of}
-use Rattle.djq_core.proofs.tell.tell_query.Goals.{then-watches, else-watches}
+use Rattle.djq_core.proofs.tell.tell_query.Goals.{in-Some, in_default}
 use Rattle.djq_core.proofs.tell.tell_query.Goals as goal
 
 pub returns-then-watchers-eq0-clause-tells : goal.returns-then-watchers-eq0-clause-tells
@@ -40,7 +41,7 @@ tell_watcher-requires-clause-running c =
     let l : c.loop-at.at < length c.loop-at.sessions.items = omega (arith, c.loop-at-test.true, c.len-at-end.ensures, n) in
     let same = same_place c.loop-at.sessions.items c.loop-at.at c.index.result.now c.index_mut.result.now l c.index.ensures c.index_mut.ensures.value in
     runs_at c.loop-at.engine c.loop-at.sessions.items c.loop-at.at c.index_mut.result.now c.query_name-query.result c.loop-at.invariant.0.goes_on.sound l c.index_mut.ensures.value
-    (ap (λ (e : OpenSession). is_among_watches (e.session).watches c.query_name-query.result) same ∙ sym c.watches.ensures ∙ c.if-watches.true)
+    (ap (λ (e : OpenSession). is_among_watches (e.session).watches c.query_name-query.result) same ∙ sym c.watch_near.ensures.watched ∙ ap (λ (o : Option ℕ). is_some o) c.in-Some.is)
 
 pub loop-at-preserved : goal.loop-at-preserved
 loop-at-preserved c =
@@ -51,25 +52,25 @@ loop-at-preserved c =
     let xs = c.args.sessions.now.items in
     let n = length_still q whole text old xs c.loop-at.at c.loop-at.engine c.loop-at.sessions.items c.loop-at.invariant.0 in
     let l : c.loop-at.at < length c.loop-at.sessions.items = omega (arith, c.loop-at-test.true, c.len-at-end.ensures, n) in (
-      subst (λ (at : ℕ). TellsSoFar q whole text old xs at c.if-watches.engine c.if-watches.sessions.items) (next_place c.loop-at.at)
-          (elim c.if-watches.branch [
-            | then-watches w ↦
-                subst (λ (k : Kept). TellsSoFar q whole text old xs (suc c.loop-at.at) k c.if-watches.sessions.items) (sym w.engine-is)
+      subst (λ (at : ℕ). TellsSoFar q whole text old xs at c.match-watch_near.engine c.match-watch_near.sessions.items) (next_place c.loop-at.at)
+          (elim c.match-watch_near.branch [
+            | in-Some w ↦
+                subst (λ (k : Kept). TellsSoFar q whole text old xs (suc c.loop-at.at) k c.match-watch_near.sessions.items) (sym w.engine-is)
                 (subst (λ (ys : List OpenSession). TellsSoFar q whole text old xs (suc c.loop-at.at) w.tell_watcher.new.engine ys) (sym (ap (λ v. v.items) w.sessions-is))
                 (told_one q whole text old xs c.loop-at.at c.loop-at.engine w.tell_watcher.new.engine c.loop-at.sessions.items w.index_mut.result.now w.tell_watcher.new.session
                 c.loop-at.invariant.0 l w.index_mut.ensures.value
                 (ap (λ (e : OpenSession). is_among_watches (e.session).watches q) (same_place c.loop-at.sessions.items c.loop-at.at c.index.result.now w.index_mut.result.now l c.index.ensures w.index_mut.ensures.value)
-                ∙ sym c.watches.ensures ∙ w.if-watches.true)
+                ∙ sym c.watch_near.ensures.watched ∙ ap (λ (o : Option ℕ). is_some o) w.in-Some.is)
                 (subst (λ (bs : Bytes). Performs (λ st s x e st'. HearsDelta whole bs st s x e st') false c.loop-at.engine (w.index_mut.result.now).session w.tell_watcher.new.engine w.tell_watcher.new.session 0 0) w.as_slice.ensures w.tell_watcher.ensures.performs)
                 w.tell_watcher.ensures.kept w.tell_watcher.ensures.watches))
-            | else-watches w ↦
-                subst (λ (k : Kept). TellsSoFar q whole text old xs (suc c.loop-at.at) k c.if-watches.sessions.items) (sym w.engine-is)
+            | in_default w ↦
+                subst (λ (k : Kept). TellsSoFar q whole text old xs (suc c.loop-at.at) k c.match-watch_near.sessions.items) (sym w.engine-is)
                 (subst (λ (ys : List OpenSession). TellsSoFar q whole text old xs (suc c.loop-at.at) c.loop-at.engine ys) (sym (ap (λ v. v.items) w.sessions-is))
-                (untold_one q whole text old xs c.loop-at.at c.loop-at.engine c.loop-at.sessions.items c.index.result.now c.loop-at.invariant.0 l c.index.ensures (sym c.watches.ensures ∙ w.if-watches.false)))
+                (untold_one q whole text old xs c.loop-at.at c.loop-at.engine c.loop-at.sessions.items c.index.result.now c.loop-at.invariant.0 l c.index.ensures (sym c.watch_near.ensures.watched ∙ ap (λ (o : Option ℕ). is_some o) w.in_default.is)))
           ]),
-      elim c.if-watches.branch [
-        | then-watches w ↦ ap (λ v. v.cap) w.sessions-is ∙ c.loop-at.invariant.1
-        | else-watches w ↦ ap (λ v. v.cap) w.sessions-is ∙ c.loop-at.invariant.1
+      elim c.match-watch_near.branch [
+        | in-Some w ↦ ap (λ v. v.cap) w.sessions-is ∙ c.loop-at.invariant.1
+        | in_default w ↦ ap (λ v. v.cap) w.sessions-is ∙ c.loop-at.invariant.1
       ],
     )
 

@@ -1,7 +1,8 @@
 use Rattle.std.proofs.Common.{◌≤◌, ◌≡◌, ◌∙◌, ◌+◌, ◌⊎◌, inl, inr, ℕ, List, [], refl, sym, ap, subst, arith, length}
-use Rattle.std.specs.Prelude.{Some, filter}
+use Rattle.std.specs.Prelude.{Some, IsSome, filter}
+use Rattle.std.proofs.lemmas.List.Elements.{All-take}
 use Rattle.djq_model.specs.declared.relation.Relation.{Relation}
-use Rattle.djq_model.specs.Data.{Bytes}
+use Rattle.djq_model.specs.Data.{Bytes, relation_of}
 use Rattle.djq_model.specs.Answer.{IsAnswer}
 use Rattle.djq_model.specs.Listed.{a_query}
 use Rattle.djq_lines.specs.declared.answer.Refusal.{Refusal}
@@ -23,6 +24,7 @@ use Rattle.djq_engine.specs.Putting.{IsStoreOf, PutsAll, RefusesAll, WentInAll}
 use Rattle.djq_engine.specs.Whole.{kept_in, IsWhole}
 use Rattle.djq_engine.proofs.Accepted.{Settles, taken_whole, taken_registered, taken_places, taken_cursors, taken_adds, taken_tended, taken_tells}
 use Rattle.djq_engine.proofs.Chained.{same_none}
+use Rattle.djq_engine.proofs.Fronting.{ages_first}
 use Rattle.djq_engine.proofs.GivenUp.{sound_readers}
 use Rattle.djq_engine.proofs.Placed.{keeps_equal}
 use Rattle.djq_engine.proofs.Put.{refused_kind}
@@ -546,7 +548,8 @@ outdate_came-requires-clause-found g c =
     let p = as_slice (kept_in old).store held d count c.in-Ok.came.groups.items groups c.as_slice-came.ensures.value (c.in-Ok.ensures.put (kept_in old).store (agrees old)) in
     let mid = c.take_groups.new.parts in
     let start = start_here old c.requires.whole held d groups count c.cells_stay.ensures c.laws.ensures c.laws-2.ensures c.requires.suit p learned.0 learned.1 in
-    came_found old c.requires.whole held d groups count c.cells_stay.ensures c.laws.ensures c.laws-2.ensures c.requires.suit p learned.0 learned.1 mid.catalog c.take_groups.ensures.catalog
+    All-take (λ (h : HeldRow). IsSome (relation_of (mid.catalog).relations h.relation)) c.in-Ok.came.first held
+    (came_found old c.requires.whole held d groups count c.cells_stay.ensures c.laws.ensures c.laws-2.ensures c.requires.suit p learned.0 learned.1 mid.catalog c.take_groups.ensures.catalog)
 
 pub outdate_came-requires-clause-tested : goal.outdate_came-requires-clause-tested
 outdate_came-requires-clause-tested g c =
@@ -574,7 +577,7 @@ returns-clause-whole g c =
     let start = start_here old c.requires.whole held d groups count c.cells_stay.ensures c.laws.ensures c.laws-2.ensures c.requires.suit p learned.0 learned.1 in
     let new : Parts = record mid { seq = mid.seq + 1; affected = c.affect_reached.new.affected; queries = c.outdate_came.new.queries } in
     let x : Settles old held groups mid new = record {
-      ages = c.outdate_came.ensures (has_come (kept_in old).store held) (came_tested old c.requires.whole held d groups count c.cells_stay.ensures c.laws.ensures c.laws-2.ensures c.requires.suit p learned.0 learned.1 mid.catalog c.take_groups.ensures.catalog);
+      ages = ages_first (kept_in old).store held c.in-Ok.came.first (c.in-Ok.ensures.first (kept_in old).store (agrees old)) (mid.seq + 1) mid.queries.items c.outdate_came.new.queries.items (c.outdate_came.ensures (has_come (kept_in old).store held) (came_tested old c.requires.whole held d groups count c.cells_stay.ensures c.laws.ensures c.laws-2.ensures c.requires.suit p learned.0 learned.1 mid.catalog c.take_groups.ensures.catalog));
       catalog = refl;
       logs = refl;
       readers = c.take_groups.ensures.rest.readers;
@@ -601,7 +604,7 @@ returns-clause-tended g c =
     let start = start_here old c.requires.whole held d groups count c.cells_stay.ensures c.laws.ensures c.laws-2.ensures c.requires.suit p learned.0 learned.1 in
     let new : Parts = record mid { seq = mid.seq + 1; affected = c.affect_reached.new.affected; queries = c.outdate_came.new.queries } in
     let x : Settles old held groups mid new = record {
-      ages = c.outdate_came.ensures (has_come (kept_in old).store held) (came_tested old c.requires.whole held d groups count c.cells_stay.ensures c.laws.ensures c.laws-2.ensures c.requires.suit p learned.0 learned.1 mid.catalog c.take_groups.ensures.catalog);
+      ages = ages_first (kept_in old).store held c.in-Ok.came.first (c.in-Ok.ensures.first (kept_in old).store (agrees old)) (mid.seq + 1) mid.queries.items c.outdate_came.new.queries.items (c.outdate_came.ensures (has_come (kept_in old).store held) (came_tested old c.requires.whole held d groups count c.cells_stay.ensures c.laws.ensures c.laws-2.ensures c.requires.suit p learned.0 learned.1 mid.catalog c.take_groups.ensures.catalog));
       catalog = refl;
       logs = refl;
       readers = c.take_groups.ensures.rest.readers;
@@ -628,7 +631,7 @@ returns-clause-adds g c =
     let start = start_here old c.requires.whole held d groups count c.cells_stay.ensures c.laws.ensures c.laws-2.ensures c.requires.suit p learned.0 learned.1 in
     let new : Parts = record mid { seq = mid.seq + 1; affected = c.affect_reached.new.affected; queries = c.outdate_came.new.queries } in
     let x : Settles old held groups mid new = record {
-      ages = c.outdate_came.ensures (has_come (kept_in old).store held) (came_tested old c.requires.whole held d groups count c.cells_stay.ensures c.laws.ensures c.laws-2.ensures c.requires.suit p learned.0 learned.1 mid.catalog c.take_groups.ensures.catalog);
+      ages = ages_first (kept_in old).store held c.in-Ok.came.first (c.in-Ok.ensures.first (kept_in old).store (agrees old)) (mid.seq + 1) mid.queries.items c.outdate_came.new.queries.items (c.outdate_came.ensures (has_come (kept_in old).store held) (came_tested old c.requires.whole held d groups count c.cells_stay.ensures c.laws.ensures c.laws-2.ensures c.requires.suit p learned.0 learned.1 mid.catalog c.take_groups.ensures.catalog));
       catalog = refl;
       logs = refl;
       readers = c.take_groups.ensures.rest.readers;
@@ -655,7 +658,7 @@ returns-clause-outdates g c =
     let start = start_here old c.requires.whole held d groups count c.cells_stay.ensures c.laws.ensures c.laws-2.ensures c.requires.suit p learned.0 learned.1 in
     let new : Parts = record mid { seq = mid.seq + 1; affected = c.affect_reached.new.affected; queries = c.outdate_came.new.queries } in
     let x : Settles old held groups mid new = record {
-      ages = c.outdate_came.ensures (has_come (kept_in old).store held) (came_tested old c.requires.whole held d groups count c.cells_stay.ensures c.laws.ensures c.laws-2.ensures c.requires.suit p learned.0 learned.1 mid.catalog c.take_groups.ensures.catalog);
+      ages = ages_first (kept_in old).store held c.in-Ok.came.first (c.in-Ok.ensures.first (kept_in old).store (agrees old)) (mid.seq + 1) mid.queries.items c.outdate_came.new.queries.items (c.outdate_came.ensures (has_come (kept_in old).store held) (came_tested old c.requires.whole held d groups count c.cells_stay.ensures c.laws.ensures c.laws-2.ensures c.requires.suit p learned.0 learned.1 mid.catalog c.take_groups.ensures.catalog));
       catalog = refl;
       logs = refl;
       readers = c.take_groups.ensures.rest.readers;
@@ -682,7 +685,7 @@ returns-clause-watches g c =
     let start = start_here old c.requires.whole held d groups count c.cells_stay.ensures c.laws.ensures c.laws-2.ensures c.requires.suit p learned.0 learned.1 in
     let new : Parts = record mid { seq = mid.seq + 1; affected = c.affect_reached.new.affected; queries = c.outdate_came.new.queries } in
     let x : Settles old held groups mid new = record {
-      ages = c.outdate_came.ensures (has_come (kept_in old).store held) (came_tested old c.requires.whole held d groups count c.cells_stay.ensures c.laws.ensures c.laws-2.ensures c.requires.suit p learned.0 learned.1 mid.catalog c.take_groups.ensures.catalog);
+      ages = ages_first (kept_in old).store held c.in-Ok.came.first (c.in-Ok.ensures.first (kept_in old).store (agrees old)) (mid.seq + 1) mid.queries.items c.outdate_came.new.queries.items (c.outdate_came.ensures (has_come (kept_in old).store held) (came_tested old c.requires.whole held d groups count c.cells_stay.ensures c.laws.ensures c.laws-2.ensures c.requires.suit p learned.0 learned.1 mid.catalog c.take_groups.ensures.catalog));
       catalog = refl;
       logs = refl;
       readers = c.take_groups.ensures.rest.readers;
@@ -709,7 +712,7 @@ returns-clause-tells g c =
     let start = start_here old c.requires.whole held d groups count c.cells_stay.ensures c.laws.ensures c.laws-2.ensures c.requires.suit p learned.0 learned.1 in
     let new : Parts = record mid { seq = mid.seq + 1; affected = c.affect_reached.new.affected; queries = c.outdate_came.new.queries } in
     let x : Settles old held groups mid new = record {
-      ages = c.outdate_came.ensures (has_come (kept_in old).store held) (came_tested old c.requires.whole held d groups count c.cells_stay.ensures c.laws.ensures c.laws-2.ensures c.requires.suit p learned.0 learned.1 mid.catalog c.take_groups.ensures.catalog);
+      ages = ages_first (kept_in old).store held c.in-Ok.came.first (c.in-Ok.ensures.first (kept_in old).store (agrees old)) (mid.seq + 1) mid.queries.items c.outdate_came.new.queries.items (c.outdate_came.ensures (has_come (kept_in old).store held) (came_tested old c.requires.whole held d groups count c.cells_stay.ensures c.laws.ensures c.laws-2.ensures c.requires.suit p learned.0 learned.1 mid.catalog c.take_groups.ensures.catalog));
       catalog = refl;
       logs = refl;
       readers = c.take_groups.ensures.rest.readers;
@@ -821,7 +824,7 @@ returns-clause-places g c =
     let start = start_here old c.requires.whole held d groups count c.cells_stay.ensures c.laws.ensures c.laws-2.ensures c.requires.suit p learned.0 learned.1 in
     let new : Parts = record mid { seq = mid.seq + 1; affected = c.affect_reached.new.affected; queries = c.outdate_came.new.queries } in
     let x : Settles old held groups mid new = record {
-      ages = c.outdate_came.ensures (has_come (kept_in old).store held) (came_tested old c.requires.whole held d groups count c.cells_stay.ensures c.laws.ensures c.laws-2.ensures c.requires.suit p learned.0 learned.1 mid.catalog c.take_groups.ensures.catalog);
+      ages = ages_first (kept_in old).store held c.in-Ok.came.first (c.in-Ok.ensures.first (kept_in old).store (agrees old)) (mid.seq + 1) mid.queries.items c.outdate_came.new.queries.items (c.outdate_came.ensures (has_come (kept_in old).store held) (came_tested old c.requires.whole held d groups count c.cells_stay.ensures c.laws.ensures c.laws-2.ensures c.requires.suit p learned.0 learned.1 mid.catalog c.take_groups.ensures.catalog));
       catalog = refl;
       logs = refl;
       readers = c.take_groups.ensures.rest.readers;

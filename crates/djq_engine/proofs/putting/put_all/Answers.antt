@@ -1,11 +1,13 @@
-use Rattle.std.proofs.Common.{◌∙◌, ◌+◌, ◌++◌, [], ℕ, List, refl, sym, ap, subst, arith, take, append_assoc, append-nil}
+use Rattle.std.proofs.Common.{◌≡◌, ◌∙◌, ◌+◌, ◌++◌, [], ℕ, List, true, refl, sym, ap, ap₂, subst, arith, length, take, append_assoc, append-nil}
+use Rattle.std.specs.Prelude.{◌==◌, cond}
 use Rattle.std.proofs.lemmas.List.{take_all}
 use Rattle.djq_model.specs.Data.{Bytes}
 use Rattle.djq_lines.specs.declared.held.HeldRow.{HeldRow}
-use Rattle.djq_machine.specs.Batch.{StopsAt, with_all}
+use Rattle.djq_machine.specs.Batch.{StopsAt, with_all, has_come}
 use Rattle.djq_rows.specs.Catalog.{Catalog}
 use Rattle.djq_reach.specs.declared.group.Group.{Group}
 use Rattle.djq_engine.specs.Putting.{bare_of, IsStoreOf, PutsAll}
+use Rattle.djq_engine.proofs.Fronting.{first_few, first_more}
 use Rattle.djq_engine.proofs.HeldRows.{all_seq}
 use Rattle.djq_engine.proofs.Put.{
   at_most_one,
@@ -30,6 +32,8 @@ loop-at-init g c = record {
   puts = λ st s. subst (λ (xs : List Group). PutsAll st [] c.args.catalog.now 0 xs) (sym c.new-groups.ensures.items)
       (put_none st c.args.catalog.now (sym s.relations) (sym s.texts));
   few = omega arith;
+  early = omega arith;
+  first = λ st s name hit. hit;
   learned = ([], sym (append-nil c.args.catalog.now.texts));
 }
 
@@ -51,6 +55,8 @@ loop-at-preserved g c =
     let one = c.in-Ok.ensures.ok in
     let low = c.loop-at-test.true in
     let x = c.index-held-at.result in
+    let reached : c.reach-first.result ≡ cond (length c.loop-at.groups.items == length c.put_one.new.groups.items) c.loop-at.first (c.loop-at.at + 1) =
+    c.reach-first.ensures ∙ ap₂ (λ (m n : ℕ). cond (m == n) c.loop-at.first (c.loop-at.at + 1)) (c.len-before.ensures ∙ c.loop-at.groups.ok.0) (c.len.ensures ∙ c.put_one.new.groups.ok.0) in
     record {
       puts = λ st s.
           subst (λ (xs : List HeldRow). PutsAll st xs c.put_one.new.catalog (c.loop-at.count + c.in-Ok.came) c.put_one.new.groups.items)
@@ -60,6 +66,14 @@ loop-at-preserved g c =
       few =
           let most = at_most_one c.loop-at.catalog c.loop-at.groups.items x c.args.seq c.in-Ok.came c.put_one.new.catalog c.put_one.new.groups.items one in
           omega (arith, most, c.loop-at.invariant.few);
+      early = first_few (bare_of c.args.catalog.now c.args.seq) (take c.loop-at.at c.args.held.now) c.loop-at.catalog c.loop-at.count c.loop-at.groups.items
+          (c.loop-at.invariant.puts (bare_of c.args.catalog.now c.args.seq) (agrees c.args.catalog.now c.args.seq)) x c.args.seq c.put_one.new.catalog c.put_one.new.groups.items
+          c.args.held.now c.loop-at.at (next_row c.args.held.now c.loop-at.at x low c.index-held-at.is) c.loop-at.first c.reach-first.result reached c.loop-at.invariant.early;
+      first = λ st s.
+          first_more st (take c.loop-at.at c.args.held.now) c.loop-at.catalog c.loop-at.count c.loop-at.groups.items
+          (c.loop-at.invariant.puts st s) x c.args.seq c.put_one.new.catalog c.put_one.new.groups.items
+          c.args.held.now c.loop-at.at (next_row c.args.held.now c.loop-at.at x low c.index-held-at.is) c.loop-at.first c.reach-first.result reached
+          c.in-Ok.came one (c.loop-at.invariant.first st s);
       learned =
           let more = one_learned c.texts_stay.ensures c.loop-at.catalog c.loop-at.groups.items x c.args.seq c.in-Ok.came c.put_one.new.catalog c.put_one.new.groups.items one in
           let was = c.loop-at.invariant.learned in (
@@ -113,3 +127,8 @@ pub returns-clause-put : goal.returns-clause-put
 returns-clause-put g c st s =
     subst (λ (xs : List HeldRow). PutsAll st xs c.loop-at.catalog c.loop-at.count c.loop-at.groups.items)
     (take_all c.loop-at.at c.args.held.now (omega arith)) (c.loop-at.invariant.puts st s)
+
+pub returns-clause-first : goal.returns-clause-first
+returns-clause-first g c st s name hit =
+    c.loop-at.invariant.first st s name
+    (subst (λ (xs : List HeldRow). has_come st xs name ≡ true) (sym (take_all c.loop-at.at c.args.held.now (omega arith))) hit)

@@ -1,11 +1,14 @@
-use Rattle.std.proofs.Common.{List, ℕ, ◌<◌, ◌+◌, length, subst, sym, ◌∙◌, arith}
+use Rattle.std.proofs.Common.{List, [], ◌∷◌, ap, ℕ, ◌<◌, ◌+◌, length, subst, sym, ◌∙◌, arith}
+use Rattle.std.specs.Prelude.{Option}
+use Rattle.std.proofs.lemmas.List.{map-append}
+use Rattle.djq_live.specs.Batching.{tuples_in, batch_in}
 use Rattle.djq_live.proofs.Batched.{AreSoFar, batch_none, batch_more, batch_all}
 use Rattle.djq_live.proofs.Passing.{got}
 use Rattle.djq_live.proofs.batch.tuples_of_all.Goals as goal
 
 pub atoms-init : goal.atoms-init
 atoms-init c =
-    subst (λ (batch : List (List (List ℕ))). AreSoFar c.args.relation c.args.rows.now c.args.atoms.now c.args.patterns.now 0 batch) (sym c.new-batch.ensures.items)
+    subst (λ (made : List (Option (List (List ℕ)))). AreSoFar c.args.relation c.args.rows.now c.args.atoms.now c.args.patterns.now 0 (batch_in c.args.rows.now made)) (sym c.new-batch.ensures.items)
     (batch_none c.args.relation c.args.rows.now c.args.atoms.now c.args.patterns.now)
 
 pub tuples_for-requires-clause-fit : goal.tuples_for-requires-clause-fit
@@ -16,8 +19,9 @@ tuples_for-requires-clause-fit c =
 
 pub atoms-preserved : goal.atoms-preserved
 atoms-preserved c =
-    subst (λ (batch : List (List (List ℕ))). AreSoFar c.args.relation c.args.rows.now c.args.atoms.now c.args.patterns.now (c.atoms.j + 1) batch) (sym c.in_ok-push.ensures.items)
-    (batch_more c.args.relation c.args.rows.now c.args.atoms.now c.args.patterns.now c.atoms.j c.atoms.batch.items c.index-atoms-j.result c.index-patterns-j.result c.in_ok-tuples_for.field-0
+    subst (λ (batch : List (List (List ℕ))). AreSoFar c.args.relation c.args.rows.now c.args.atoms.now c.args.patterns.now (c.atoms.j + 1) batch)
+    (sym (ap (batch_in c.args.rows.now) c.in_ok-push.ensures.items ∙ map-append (tuples_in c.args.rows.now) c.atoms.batch.items (c.in_ok-tuples_for.field-0 ∷ [])))
+    (batch_more c.args.relation c.args.rows.now c.args.atoms.now c.args.patterns.now c.atoms.j (batch_in c.args.rows.now c.atoms.batch.items) c.index-atoms-j.result c.index-patterns-j.result (tuples_in c.args.rows.now c.in_ok-tuples_for.field-0)
     (got c.args.atoms.now c.atoms.j c.index-atoms-j.result c.atoms-test.true c.index-atoms-j.is)
     (got c.args.patterns.now c.atoms.j c.index-patterns-j.result (subst (λ (n : ℕ). c.atoms.j < n) (sym c.requires.long) c.atoms-test.true) c.index-patterns-j.is)
     c.in_ok-tuples_for.ensures.tuples c.in_ok-tuples_for.ensures.few c.atoms.invariant)
@@ -26,4 +30,4 @@ pub returns : goal.returns
 returns c =
     let h = c.atoms-test.false in
     let e = c.atoms.auto.j-end in
-    batch_all c.args.relation c.args.rows.now c.args.atoms.now c.args.patterns.now c.atoms.j c.atoms.batch.items (omega arith) c.atoms.invariant
+    batch_all c.args.relation c.args.rows.now c.args.atoms.now c.args.patterns.now c.atoms.j (batch_in c.args.rows.now c.atoms.batch.items) (omega arith) c.atoms.invariant

@@ -1,10 +1,10 @@
-use Rattle.djq_live.proofs.Leafing.{only_as}
+use Rattle.djq_live.proofs.Leafing.{only_lent}
 use Rattle.djq_live.proofs.Taking.{took_row}
 use Rattle.djq_live.proofs.fill.insert_row.Goals as goal
 
 pub returns : goal.returns
 returns g c =
-    took_row c.args.pattern.now c.args.leaf c.args.row.now c.as_slice.result.now
+    took_row c.args.pattern.now c.args.leaf c.args.row.now c.in-Some.tuple.now
     c.args.reducts.now c.add_leaf.new.reducts c.in_ok-add_leaf.ensures.gained
-    (only_as c.args.pattern.now c.args.row.now c.in-Some.tuple c.as_slice.result.now
-    c.as_slice.ensures c.in-Some.ensures.exact)
+    (only_lent c.args.pattern.now c.args.row.now c.in-Some.tuple.now
+    c.in-Some.ensures.exact)

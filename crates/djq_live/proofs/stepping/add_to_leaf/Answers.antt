@@ -1,35 +1,35 @@
 use Rattle.std.proofs.Common.{true, length}
-use Rattle.djq_live.proofs.Leafing.{gained_gains, lists_none, only_as}
+use Rattle.djq_live.proofs.Leafing.{gained_gains, lists_none, only_lent}
 use Rattle.djq_live.proofs.Sizing.{gained_grows, addition_counts}
 use Rattle.djq_live.proofs.stepping.add_to_leaf.Goals as goal
 
 pub returns-then-wanted-clause-gained : goal.returns-then-wanted-clause-gained
 returns-then-wanted-clause-gained g c =
-    gained_gains c.args.cells.now c.as_slice.result.now c.args.pattern.now c.args.leaf
+    gained_gains c.args.cells.now c.in-Some.tuple.now c.args.pattern.now c.args.leaf
     c.args.reducts.now c.add_and_tell.new.reducts
-    (only_as c.args.pattern.now c.args.cells.now c.in-Some.tuple c.as_slice.result.now
-    c.as_slice.ensures c.in-Some.ensures.exact) c.in_ok-add_and_tell.ensures.gained
+    (only_lent c.args.pattern.now c.args.cells.now c.in-Some.tuple.now
+    c.in-Some.ensures.exact) c.in_ok-add_and_tell.ensures.gained
 
 pub returns-then-wanted-clause-grows : goal.returns-then-wanted-clause-grows
 returns-then-wanted-clause-grows g c =
-    gained_grows c.args.leaf c.as_slice.result.now c.args.reducts.now
+    gained_grows c.args.leaf c.in-Some.tuple.now c.args.reducts.now
     c.add_and_tell.new.reducts c.in_ok-add_and_tell.ensures.gained
 
 pub returns-clause-gained : goal.returns-clause-gained
 returns-clause-gained g c =
-    gained_gains c.args.cells.now c.as_slice-2.result.now c.args.pattern.now c.args.leaf
+    gained_gains c.args.cells.now c.in-Some.tuple.now c.args.pattern.now c.args.leaf
     c.args.reducts.now c.add_leaf.new.reducts
-    (only_as c.args.pattern.now c.args.cells.now c.in-Some.tuple c.as_slice-2.result.now
-    c.as_slice-2.ensures c.in-Some.ensures.exact) c.in_ok-add_leaf.ensures.gained
+    (only_lent c.args.pattern.now c.args.cells.now c.in-Some.tuple.now
+    c.in-Some.ensures.exact) c.in_ok-add_leaf.ensures.gained
 
 pub returns-clause-grows : goal.returns-clause-grows
 returns-clause-grows g c =
-    gained_grows c.args.leaf c.as_slice-2.result.now c.args.reducts.now
+    gained_grows c.args.leaf c.in-Some.tuple.now c.args.reducts.now
     c.add_leaf.new.reducts c.in_ok-add_leaf.ensures.gained
 
 pub returns-clause-updates : goal.returns-clause-updates
 returns-clause-updates g c =
-    addition_counts c.args.leaf c.as_slice-2.result.now c.args.reducts.now
+    addition_counts c.args.leaf c.in-Some.tuple.now c.args.reducts.now
     c.add_leaf.new.reducts c.args.steps.now.update c.add_leaf.new.tally
     c.in_ok-add_leaf.ensures.gained c.in_ok-add_leaf.ensures.counted
     c.in_ok-add_leaf.ensures.flat

@@ -1,20 +1,20 @@
 use Rattle.std.proofs.Common.{false, length}
-use Rattle.djq_live.proofs.Leafing.{lists_none, lost_loses, only_as}
+use Rattle.djq_live.proofs.Leafing.{lists_none, lost_loses, only_lent}
 use Rattle.djq_live.proofs.stepping.take_from_leaf.Goals as goal
 
 pub returns-then-wanted-clause-lost : goal.returns-then-wanted-clause-lost
 returns-then-wanted-clause-lost g c =
-    lost_loses c.args.cells.now c.as_slice.result.now c.args.pattern.now c.args.leaf
+    lost_loses c.args.cells.now c.in-Some.tuple.now c.args.pattern.now c.args.leaf
     c.args.reducts.now c.take_and_tell.new.reducts
-    (only_as c.args.pattern.now c.args.cells.now c.in-Some.tuple c.as_slice.result.now
-    c.as_slice.ensures c.in-Some.ensures.exact) c.laws.ensures.sound c.take_and_tell.ensures.lost
+    (only_lent c.args.pattern.now c.args.cells.now c.in-Some.tuple.now
+    c.in-Some.ensures.exact) c.laws.ensures.sound c.take_and_tell.ensures.lost
 
 pub returns-clause-lost : goal.returns-clause-lost
 returns-clause-lost g c =
-    lost_loses c.args.cells.now c.as_slice-2.result.now c.args.pattern.now c.args.leaf
+    lost_loses c.args.cells.now c.in-Some.tuple.now c.args.pattern.now c.args.leaf
     c.args.reducts.now c.drop_leaf.new.reducts
-    (only_as c.args.pattern.now c.args.cells.now c.in-Some.tuple c.as_slice-2.result.now
-    c.as_slice-2.ensures c.in-Some.ensures.exact) c.laws.ensures.sound c.drop_leaf.ensures.lost
+    (only_lent c.args.pattern.now c.args.cells.now c.in-Some.tuple.now
+    c.in-Some.ensures.exact) c.laws.ensures.sound c.drop_leaf.ensures.lost
 
 pub returns-in_default-clause-listed : goal.returns-in_default-clause-listed
 returns-in_default-clause-listed g c =

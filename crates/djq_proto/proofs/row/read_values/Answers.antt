@@ -1,13 +1,18 @@
-use Rattle.std.proofs.Common.{sym, ◌∙◌}
+use Rattle.std.proofs.Common.{◌∙◌, ◌++◌, ◌∷◌, [], Some, subst, sym}
 use Rattle.djq_value.specs.Lexing.{lexeme_of}
 use Rattle.djq_value.specs.Literal.{is_small_value, literal_of}
-use Rattle.djq_proto.specs.RowReading.{values_read}
-use Rattle.djq_proto.proofs.Listing.{read_more, reads_some}
+use Rattle.djq_lines.specs.Grammar.{all_of}
+use Rattle.djq_proto.specs.Reading.{ReadsAs, onto}
+use Rattle.djq_proto.specs.RowReading.{IsRefused}
+use Rattle.djq_proto.proofs.Listing.{onto_next, reads_some}
+use Rattle.djq_proto.proofs.Rows.{last_refused}
 use Rattle.djq_proto.proofs.row.read_values.Goals as goal
 
-pub values-preserved : goal.values-preserved
-values-preserved c =
-    let found = reads_some is_small_value (literal_of (lexeme_of c.in-Some.token)) c.read-item.result c.read-item.ensures (sym c.is_outside.ensures ∙ c.if-is_outside.false) in
-    read_more literal_of is_small_value c.args.lexer.now c.values.lexer c.next.new.self (lexeme_of c.in-Some.token) found.0 (values_read c.values.read c.values.row.items)
-    (values_read c.push_value-read.result c.push_value-read.new.row.items) c.read-item.result
-    c.values.invariant c.in-Some.ensures found.1 (λ xs kept. c.push_value-read.ensures xs found.0 kept found.2)
+pub returns-in-Err : goal.returns-in-Err
+returns-in-Err c =
+    let read = c.values.row.items in
+    let t = lexeme_of c.in-Some.token in
+    let found = reads_some is_small_value (literal_of t) c.read-item.result c.read-item.ensures (sym c.is_outside.ensures ∙ c.if-is_outside.false) in
+    let refused = last_refused read found.0 c.in-Err.refusal c.values.invariant.small (subst (λ r. ReadsAs is_small_value (Some found.0) r) c.in-Err.is found.2) in
+    let whole = onto_next literal_of (onto c.args.row.now.items (all_of literal_of c.args.lexer.now)) read c.values.lexer c.next.new.self t found.0 c.values.invariant.split c.in-Some.ensures found.1 in
+    subst (λ o. IsRefused o c.read_refused-in-Err.result) (sym whole) (c.read_refused-in-Err.ensures (read ++ found.0 ∷ []) refused)

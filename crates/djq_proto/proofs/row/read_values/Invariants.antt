@@ -1,11 +1,15 @@
-use Rattle.std.proofs.Common.{length}
+use Rattle.std.proofs.Common.{◌≡◌, length, true}
+use Rattle.std.specs.List.{list_all}
 use Rattle.djq_value.specs.Literal.{is_small_value, literal_of}
-use Rattle.djq_proto.specs.RowReading.{values_read}
-use Rattle.djq_proto.proofs.Listing.{ReadSoFar}
+use Rattle.djq_lines.specs.Grammar.{all_of}
+use Rattle.djq_proto.specs.Reading.{onto}
 use Rattle.djq_proto.proofs.row.read_values.Given as goal
 
 abbrev pub invariant-values : goal.invariant-values
-invariant-values l = ReadSoFar literal_of is_small_value l.fn.lexer l.lexer (values_read l.read l.row.items)
+invariant-values l = record {
+  split : onto l.fn.row.items (all_of literal_of l.fn.lexer) ≡ onto l.row.items (all_of literal_of l.lexer);
+  small : list_all is_small_value l.row.items ≡ true;
+}
 
 abbrev pub decreases-values : goal.decreases-values
 decreases-values l = length l.lexer

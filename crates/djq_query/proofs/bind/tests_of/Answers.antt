@@ -1,4 +1,4 @@
-use Rattle.std.proofs.Common.{◌≡◌, ◌+◌, ◌∙◌, ap, sym, List, ◌++◌, ◌∷◌, [], drop, append-nil}
+use Rattle.std.proofs.Common.{◌+◌, ◌∙◌, ap, sym, List, ◌++◌, [], drop, append-nil}
 use Rattle.djq_query.specs.declared.pattern.Test.{Test}
 use Rattle.djq_query.specs.Pattern.{tests_of}
 use Rattle.djq_query.proofs.Binding.{test_found, test_missed, tests_on, tests_over}

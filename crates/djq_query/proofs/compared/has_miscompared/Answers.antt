@@ -1,4 +1,4 @@
-use Rattle.std.proofs.Common.{sym, ap, ap₂, ◌∙◌, ◌≡◌, false}
+use Rattle.std.proofs.Common.{sym, ap, ap₂, ◌∙◌}
 use Rattle.std.specs.Prelude.{◌||◌}
 use Rattle.std.proofs.lemmas.List.Folds.{list_any_at, list_any_more}
 use Rattle.djq_model.specs.declared.query.Comparison.{Comparison}

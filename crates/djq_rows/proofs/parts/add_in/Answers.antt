@@ -10,14 +10,15 @@ use Rattle.djq_rows.proofs.Standing.{
 }
 use Rattle.djq_rows.proofs.parts.add_in.Goals as goal
 
-pub add-requires-clause-wide : goal.add-requires-clause-wide
-add-requires-clause-wide g c =
+pub add-requires : goal.add-requires
+add-requires g c =
     let p = c.args.parts.now in
     let low = below p.texts p.kept.items c.args.id.at c.requires.there in
-    cells_wide p.texts p.kept.items c.args.id.at c.args.cells.now c.requires.parts.sound low
-    c.requires.row
-    ∙ ap (λ (k : Kept). k.table.width) (sym (read_kept p.kept.items c.args.id.at
-    c.index_mut.result.now low c.index_mut.ensures.value))
+    record {
+      wide = cells_wide p.texts p.kept.items c.args.id.at c.args.cells.now c.requires.parts.sound
+          low c.requires.row ∙ ap (λ (k : Kept). k.rows.width) (sym (read_kept p.kept.items
+          c.args.id.at c.index_mut.result.now low c.index_mut.ensures.value));
+    }
 
 pub returns-clause-parts : goal.returns-clause-parts
 returns-clause-parts g c =

@@ -3,7 +3,7 @@ use Rattle.djq_machine.specs.Run.{pending_of}
 use Rattle.djq_laws.specs.Moved.{Takes}
 use Rattle.djq_laws.proofs.Moving.{took_facts}
 use Rattle.djq_run.proofs.Going.{goes_begun, goes_then, by_write, by_fault}
-use Rattle.djq_run.proofs.Parts.{fewer_pending}
+use Rattle.djq_run.proofs.Parts.{fewer_pending, none_pending}
 use Rattle.djq_run.proofs.session.flush.Goals as goal
 
 -- nothing was written yet
@@ -14,7 +14,7 @@ writes-init g c = record { is_open = c.requires; course = λ o. goes_begun _ _; 
 pub writes-smaller : goal.writes-smaller
 writes-smaller g c =
     let state = g.M.Machine.state in
-    let same = c.pending-in-writes.ensures in
+    let same = c.pending-pending.ensures in
     let takes = c.in-Took.ensures.takes in
     let within : c.in-Took.count ≤ length (pending_of (state c.writes.machine) 1) =
     omega (arith, takes.1, ap length same) in
@@ -24,7 +24,7 @@ writes-smaller g c =
 pub writes-preserved : goal.writes-preserved
 writes-preserved g c =
     let state = g.M.Machine.state in
-    let same = c.pending-in-writes.ensures in
+    let same = c.pending-pending.ensures in
     let takes = c.in-Took.ensures.takes in
     let t : Takes (state c.writes.machine) (state c.took.new.self) 1
     (take c.in-Took.count (pending_of (state c.writes.machine) 1)) =
@@ -38,12 +38,32 @@ writes-preserved g c =
       same = c.in-Took.ensures.faults ∙ c.writes.invariant.same;
     }
 
+-- a write that took all
+pub returns-then-count-len : goal.returns-then-count-len
+returns-then-count-len g c =
+    let state = g.M.Machine.state in
+    let same = c.pending-pending.ensures in
+    let takes = c.in-Took.ensures.takes in
+    let t : Takes (state c.writes.machine) (state c.took.new.self) 1
+    (take c.in-Took.count (pending_of (state c.writes.machine) 1)) =
+    took_facts _ 1 _ c.took.ensures.effect _ c.took.ensures.step in
+    record {
+      course = λ o. goes_then _ _ _ _ _ _ _ (c.writes.invariant.course o)
+          (by_write o _ _ _ _ c.in-Took.count _ _ _ same takes.0 takes.1 c.in-Took.ensures.told c.took.ensures);
+      is_open = t.stays;
+      held = t.held ∙ c.writes.invariant.held;
+      cause = t.cause ∙ c.writes.invariant.cause;
+      pending = none_pending c.in-Took.count (state c.writes.machine) (state c.took.new.self)
+          (omega (arith, c.if-count-len.true, ap length same)) t;
+      faults = c.in-Took.ensures.faults ∙ c.writes.invariant.same;
+    }
+
 -- a write that failed
 pub returns-in-Failed : goal.returns-in-Failed
 returns-in-Failed g c =
     record {
       course = λ o. goes_then _ _ _ _ _ _ _ (c.writes.invariant.course o)
-          (by_fault o _ _ _ _ _ _ c.pending-in-writes.ensures c.in-Failed.ensures.told);
+          (by_fault o _ _ _ _ _ _ c.pending-pending.ensures c.in-Failed.ensures.told);
       is_open = c.writes.invariant.is_open;
       held = c.writes.invariant.held;
       cause = c.writes.invariant.cause;

@@ -1,5 +1,5 @@
 use Rattle.std.proofs.Common.{ℕ, ◌≤◌, ◌∙◌, Some, sym, subst, length, List}
-use Rattle.djq_model.specs.Data.{Bytes, Tuple}
+use Rattle.djq_model.specs.Data.{Bytes}
 use Rattle.djq_lines.specs.declared.held.HeldRow.{HeldRow}
 use Rattle.djq_lines.specs.declared.limits.TheConstants.{HELD}
 use Rattle.djq_lines.specs.Grammar.{reading_of}
@@ -47,22 +47,21 @@ pub returns-in-Hold-clause-loads : goal.returns-in-Hold-clause-loads
 returns-in-Hold-clause-loads g c =
     let row = c.read_in_batch.new.row.items in
     let said = subst (λ (b : BatchLine). ReadsInBatch c.args.line.now b row) c.in-Hold.is c.read_in_batch.ensures in
-    let counted = subst (λ (n : ℕ). MakesRow (c.args.engine.now).store n c.args.line.now c.new.result c.as_slice.result.now c.new_row-made.result) c.len.ensures c.new_row-made.ensures in
-    let named = subst (λ (n : Bytes). MakesRow (c.args.engine.now).store (length c.args.held) c.args.line.now n c.as_slice.result.now c.new_row-made.result) c.new.ensures counted in
-    let made = subst (λ (values : Tuple). MakesRow (c.args.engine.now).store (length c.args.held) c.args.line.now c.in-Hold.name.now values c.new_row-made.result) c.as_slice.ensures.value named in
-    let held = said_hold c.args.engine.now c.args.line.now c.args.held c.in-Hold.name.now row c.new_row-made.result c.load_row-loaded.result.0 c.load_row-loaded.result.1 said.0 made c.load_row-loaded.ensures in
+    let counted = subst (λ (n : ℕ). MakesRow (c.args.engine.now).store n c.args.line.now c.new.result row c.new_row-made.result) c.len.ensures c.new_row-made.ensures in
+    let named = subst (λ (n : Bytes). MakesRow (c.args.engine.now).store (length c.args.held) c.args.line.now n row c.new_row-made.result) c.new.ensures counted in
+    let held = said_hold c.args.engine.now c.args.line.now c.args.held c.in-Hold.name.now row c.new_row-made.result c.load_row-loaded.result.0 c.load_row-loaded.result.1 said.0 named c.load_row-loaded.ensures in
     record { loads = held.0; idle = c.requires.idle; suits = held.1 }
 
 pub done-outcome-requires-clause-suit : goal.done-outcome-requires-clause-suit
-done-outcome-requires-clause-suit g c = subst (λ (rows : List HeldRow). SuitAll (c.args.engine.now).store rows) (sym c.as_slice-in-Done.ensures) c.requires.suits.1
+done-outcome-requires-clause-suit g c = subst (λ (rows : List HeldRow). SuitAll (c.args.engine.now).store rows) (sym c.as_slice.ensures) c.requires.suits.1
 
 pub done-outcome-requires-clause-few : goal.done-outcome-requires-clause-few
-done-outcome-requires-clause-few g c = subst (λ (rows : List HeldRow). length rows ≤ HELD) (sym c.as_slice-in-Done.ensures) c.requires.suits.0
+done-outcome-requires-clause-few g c = subst (λ (rows : List HeldRow). length rows ≤ HELD) (sym c.as_slice.ensures) c.requires.suits.0
 
 pub returns-in-Done-clause-loads : goal.returns-in-Done-clause-loads
 returns-in-Done-clause-loads g c =
     let said = subst (λ (b : BatchLine). ReadsInBatch c.args.line.now b c.read_in_batch.new.row.items) c.in-Done.is c.read_in_batch.ensures in
-    let adds = subst (λ (rows : List HeldRow). AddsBatch (c.args.engine.now).store rows c.done-outcome.result (c.done-outcome.new.self).store) c.as_slice-in-Done.ensures c.done-outcome.ensures.adds in
+    let adds = subst (λ (rows : List HeldRow). AddsBatch (c.args.engine.now).store rows c.done-outcome.result (c.done-outcome.new.self).store) c.as_slice.ensures c.done-outcome.ensures.adds in
     record {
       loads = said_done c.args.engine.now c.args.line.now c.args.held c.done-outcome.new.self c.done-outcome.result c.loaded.result said adds
           (comes_by is_done c.done-outcome.result c.loaded.result c.is_ok.result (c.is_ok.ensures.value ∙ ok_done c.done-outcome.result) c.loaded.ensures);

@@ -1,6 +1,6 @@
 use Rattle.std.proofs.Common.{ℕ, List, ◌<◌, length, ap, sym, subst, ◌∙◌, arith}
 use Rattle.djq_tree.specs.Tree.{Tree}
-use Rattle.djq_live.specs.Batching.{GrowsBy}
+use Rattle.djq_live.specs.Batching.{GrowsBy, batch_in}
 use Rattle.djq_live.specs.Changes.{CameAll, GainsAll}
 use Rattle.djq_live.specs.Live.{Live}
 use Rattle.djq_live.specs.Updating.{CountsDelta}
@@ -60,8 +60,8 @@ add_all_to_leaves-done-requires-clause-can g c =
     } in
     let can = can_add_all l c.args.self.now c.args.relation.at c.args.rows.now c.self.view_is c.requires in
     let hand = in_hand l c.args.relation.at c.args.rows.now c.atoms-atoms.result.now c.as_slice-patterns.result.now c.atoms-atoms.ensures c.as_slice-patterns.ensures.value can in
-    let of = tuples_as c.args.relation.at c.args.rows.now c.atoms-atoms.result.now c.as_slice-patterns.result.now c.in-Ok.batch.items c.as_slice-tuples.result.now c.as_slice-tuples.ensures.value c.in-Ok.ensures in
-    hand.takes c.as_slice-tuples.result.now of
+    let of = tuples_as c.args.relation.at c.args.rows.now c.atoms-atoms.result.now c.as_slice-patterns.result.now (batch_in c.args.rows.now c.in-Ok.batch.items) (batch_in c.args.rows.now c.as_slice-tuples.result.now) (ap (batch_in c.args.rows.now) c.as_slice-tuples.ensures.value) c.in-Ok.ensures in
+    hand.takes (batch_in c.args.rows.now c.as_slice-tuples.result.now) of
 
 pub add_all_to_leaves-done-requires-clause-bare : goal.add_all_to_leaves-done-requires-clause-bare
 add_all_to_leaves-done-requires-clause-bare g c =
@@ -84,8 +84,8 @@ returns-then-done-atoms-clause-added g c =
       reducts = c.self.inside.reducts;
       cursors = c.self.inside.cursors;
     } in
-    let of = tuples_as c.args.relation.at c.args.rows.now c.atoms-atoms.result.now c.as_slice-patterns.result.now c.in-Ok.batch.items c.as_slice-tuples.result.now c.as_slice-tuples.ensures.value c.in-Ok.ensures in
-    let gains = all_gains c.args.relation.at c.args.rows.now c.atoms-atoms.result.now c.as_slice-patterns.result.now c.as_slice-tuples.result.now c.add_all_to_leaves-done.result c.self.inside.reducts c.add_all_to_leaves-done.new.reducts of c.add_all_to_leaves-done.ensures.gained in
+    let of = tuples_as c.args.relation.at c.args.rows.now c.atoms-atoms.result.now c.as_slice-patterns.result.now (batch_in c.args.rows.now c.in-Ok.batch.items) (batch_in c.args.rows.now c.as_slice-tuples.result.now) (ap (batch_in c.args.rows.now) c.as_slice-tuples.ensures.value) c.in-Ok.ensures in
+    let gains = all_gains c.args.relation.at c.args.rows.now c.atoms-atoms.result.now c.as_slice-patterns.result.now (batch_in c.args.rows.now c.as_slice-tuples.result.now) c.add_all_to_leaves-done.result c.self.inside.reducts c.add_all_to_leaves-done.new.reducts of c.add_all_to_leaves-done.ensures.gained in
     let all = below_at (λ p old new. GainsAll p c.args.rows.now old new) c.args.relation.at c.atoms-atoms.result.now c.as_slice-patterns.result.now c.add_all_to_leaves-done.result (length c.atoms-atoms.result.now) c.self.inside.reducts c.add_all_to_leaves-done.new.reducts (let e = c.if-done-atoms.true in omega arith) (let e = c.if-done-atoms.true in omega arith) gains in
     follows_came l c.args.self.now c.add_all_to_leaves-done.new.reducts c.args.relation.at c.args.rows.now c.atoms-atoms.result.now c.as_slice-patterns.result.now c.self.view_is c.atoms-atoms.ensures c.as_slice-patterns.ensures.value all
 
@@ -109,8 +109,8 @@ returns-then-done-atoms-clause-log g c =
       reducts = c.self.inside.reducts;
       cursors = c.self.inside.cursors;
     } in
-    let of = tuples_as c.args.relation.at c.args.rows.now c.atoms-atoms.result.now c.as_slice-patterns.result.now c.in-Ok.batch.items c.as_slice-tuples.result.now c.as_slice-tuples.ensures.value c.in-Ok.ensures in
-    let gains = all_gains c.args.relation.at c.args.rows.now c.atoms-atoms.result.now c.as_slice-patterns.result.now c.as_slice-tuples.result.now c.add_all_to_leaves-done.result c.self.inside.reducts c.add_all_to_leaves-done.new.reducts of c.add_all_to_leaves-done.ensures.gained in
+    let of = tuples_as c.args.relation.at c.args.rows.now c.atoms-atoms.result.now c.as_slice-patterns.result.now (batch_in c.args.rows.now c.in-Ok.batch.items) (batch_in c.args.rows.now c.as_slice-tuples.result.now) (ap (batch_in c.args.rows.now) c.as_slice-tuples.ensures.value) c.in-Ok.ensures in
+    let gains = all_gains c.args.relation.at c.args.rows.now c.atoms-atoms.result.now c.as_slice-patterns.result.now (batch_in c.args.rows.now c.as_slice-tuples.result.now) c.add_all_to_leaves-done.result c.self.inside.reducts c.add_all_to_leaves-done.new.reducts of c.add_all_to_leaves-done.ensures.gained in
     let all = below_at (λ p old new. GainsAll p c.args.rows.now old new) c.args.relation.at c.atoms-atoms.result.now c.as_slice-patterns.result.now c.add_all_to_leaves-done.result (length c.atoms-atoms.result.now) c.self.inside.reducts c.add_all_to_leaves-done.new.reducts (let e = c.if-done-atoms.true in omega arith) (let e = c.if-done-atoms.true in omega arith) gains in
     logs_came c.args.wanted l c.args.self.now c.add_all_to_leaves-done.new.reducts c.args.relation.at c.args.rows.now c.atoms-atoms.result.now c.as_slice-patterns.result.now (length c.self.inside.reducts.tree.head) _ c.args.log.now c.add_all_to_leaves-done.new.log c.args.steps.now.listing c.add_all_to_leaves-done.new.steps.listing c.self.view_is c.atoms-atoms.ensures c.as_slice-patterns.ensures.value c.add_all_to_leaves-done.ensures.more all c.add_all_to_leaves-done.ensures.listed
 
@@ -123,8 +123,8 @@ returns-then-done-atoms-clause-counted g c =
       reducts = c.self.inside.reducts;
       cursors = c.self.inside.cursors;
     } in
-    let of = tuples_as c.args.relation.at c.args.rows.now c.atoms-atoms.result.now c.as_slice-patterns.result.now c.in-Ok.batch.items c.as_slice-tuples.result.now c.as_slice-tuples.ensures.value c.in-Ok.ensures in
-    let gains = all_gains c.args.relation.at c.args.rows.now c.atoms-atoms.result.now c.as_slice-patterns.result.now c.as_slice-tuples.result.now c.add_all_to_leaves-done.result c.self.inside.reducts c.add_all_to_leaves-done.new.reducts of c.add_all_to_leaves-done.ensures.gained in
+    let of = tuples_as c.args.relation.at c.args.rows.now c.atoms-atoms.result.now c.as_slice-patterns.result.now (batch_in c.args.rows.now c.in-Ok.batch.items) (batch_in c.args.rows.now c.as_slice-tuples.result.now) (ap (batch_in c.args.rows.now) c.as_slice-tuples.ensures.value) c.in-Ok.ensures in
+    let gains = all_gains c.args.relation.at c.args.rows.now c.atoms-atoms.result.now c.as_slice-patterns.result.now (batch_in c.args.rows.now c.as_slice-tuples.result.now) c.add_all_to_leaves-done.result c.self.inside.reducts c.add_all_to_leaves-done.new.reducts of c.add_all_to_leaves-done.ensures.gained in
     counts_came c.args.wanted l c.args.self.now c.add_all_to_leaves-done.new.reducts c.args.relation.at c.args.rows.now c.atoms-atoms.result.now c.as_slice-patterns.result.now c.add_all_to_leaves-done.result c.args.log.now c.add_all_to_leaves-done.new.log c.args.steps.now.listing c.add_all_to_leaves-done.new.steps.listing c.self.view_is c.atoms-atoms.ensures c.as_slice-patterns.ensures.value c.add_all_to_leaves-done.ensures.more gains c.add_all_to_leaves-done.ensures.listed
 
 pub returns-then-done-atoms-clause-grows : goal.returns-then-done-atoms-clause-grows
@@ -136,7 +136,7 @@ returns-then-done-atoms-clause-grows g c =
       reducts = c.self.inside.reducts;
       cursors = c.self.inside.cursors;
     } in
-    let of = tuples_as c.args.relation.at c.args.rows.now c.atoms-atoms.result.now c.as_slice-patterns.result.now c.in-Ok.batch.items c.as_slice-tuples.result.now c.as_slice-tuples.ensures.value c.in-Ok.ensures in
+    let of = tuples_as c.args.relation.at c.args.rows.now c.atoms-atoms.result.now c.as_slice-patterns.result.now (batch_in c.args.rows.now c.in-Ok.batch.items) (batch_in c.args.rows.now c.as_slice-tuples.result.now) (ap (batch_in c.args.rows.now) c.as_slice-tuples.ensures.value) c.in-Ok.ensures in
     subst (λ (x : Live). GrowsBy (length c.args.rows.now) x.reducts c.add_all_to_leaves-done.new.reducts) c.self.view_is (c.add_all_to_leaves-done.ensures.grows (length c.args.rows.now) of.few)
 
 pub returns-then-done-atoms-clause-updates : goal.returns-then-done-atoms-clause-updates
@@ -149,7 +149,7 @@ returns-then-done-atoms-clause-updates g c =
       cursors = c.self.inside.cursors;
     } in
     let can = can_add_all l c.args.self.now c.args.relation.at c.args.rows.now c.self.view_is c.requires in
-    let of = tuples_as c.args.relation.at c.args.rows.now c.atoms-atoms.result.now c.as_slice-patterns.result.now c.in-Ok.batch.items c.as_slice-tuples.result.now c.as_slice-tuples.ensures.value c.in-Ok.ensures in
+    let of = tuples_as c.args.relation.at c.args.rows.now c.atoms-atoms.result.now c.as_slice-patterns.result.now (batch_in c.args.rows.now c.in-Ok.batch.items) (batch_in c.args.rows.now c.as_slice-tuples.result.now) (ap (batch_in c.args.rows.now) c.as_slice-tuples.ensures.value) c.in-Ok.ensures in
     counts_batch l c.args.self.now c.args.relation.at c.atoms-atoms.result.now c.add_all_to_leaves-done.result (length c.args.rows.now) c.args.steps.now.update c.add_all_to_leaves-done.new.steps.update c.self.view_is c.atoms-atoms.ensures (can.before, can.kept) (c.add_all_to_leaves-done.ensures.updates (let e = c.if-done-atoms.true in omega arith) (length c.args.rows.now) of.few)
 
 pub give_all_from_leaves-requires-clause-leaves : goal.give_all_from_leaves-requires-clause-leaves
@@ -163,8 +163,8 @@ give_all_from_leaves-requires-clause-leaves g c =
     } in
     let can = can_add_all l c.args.self.now c.args.relation.at c.args.rows.now c.self.view_is c.requires in
     let hand = in_hand l c.args.relation.at c.args.rows.now c.atoms-atoms.result.now c.as_slice-patterns.result.now c.atoms-atoms.ensures c.as_slice-patterns.ensures.value can in
-    let of = tuples_as c.args.relation.at c.args.rows.now c.atoms-atoms.result.now c.as_slice-patterns.result.now c.in-Ok.batch.items c.as_slice-tuples.result.now c.as_slice-tuples.ensures.value c.in-Ok.ensures in
-    let take = hand.takes c.as_slice-tuples.result.now of in
+    let of = tuples_as c.args.relation.at c.args.rows.now c.atoms-atoms.result.now c.as_slice-patterns.result.now (batch_in c.args.rows.now c.in-Ok.batch.items) (batch_in c.args.rows.now c.as_slice-tuples.result.now) (ap (batch_in c.args.rows.now) c.as_slice-tuples.ensures.value) c.in-Ok.ensures in
+    let take = hand.takes (batch_in c.args.rows.now c.as_slice-tuples.result.now) of in
     ap (λ (t : Tree). t.leaves) c.add_all_to_leaves-done.ensures.gained.tree ∙ take.leaves
 
 pub give_all_from_leaves-requires-clause-long : goal.give_all_from_leaves-requires-clause-long
@@ -178,8 +178,8 @@ give_all_from_leaves-requires-clause-long g c =
     } in
     let can = can_add_all l c.args.self.now c.args.relation.at c.args.rows.now c.self.view_is c.requires in
     let hand = in_hand l c.args.relation.at c.args.rows.now c.atoms-atoms.result.now c.as_slice-patterns.result.now c.atoms-atoms.ensures c.as_slice-patterns.ensures.value can in
-    let of = tuples_as c.args.relation.at c.args.rows.now c.atoms-atoms.result.now c.as_slice-patterns.result.now c.in-Ok.batch.items c.as_slice-tuples.result.now c.as_slice-tuples.ensures.value c.in-Ok.ensures in
-    let take = hand.takes c.as_slice-tuples.result.now of in
+    let of = tuples_as c.args.relation.at c.args.rows.now c.atoms-atoms.result.now c.as_slice-patterns.result.now (batch_in c.args.rows.now c.in-Ok.batch.items) (batch_in c.args.rows.now c.as_slice-tuples.result.now) (ap (batch_in c.args.rows.now) c.as_slice-tuples.ensures.value) c.in-Ok.ensures in
+    let take = hand.takes (batch_in c.args.rows.now c.as_slice-tuples.result.now) of in
     take.long
 
 pub give_all_from_leaves-requires-clause-end : goal.give_all_from_leaves-requires-clause-end
@@ -188,7 +188,7 @@ give_all_from_leaves-requires-clause-end g c =
 
 pub give_all_from_leaves-requires-clause-there : goal.give_all_from_leaves-requires-clause-there
 give_all_from_leaves-requires-clause-there g c =
-    all_there c.args.relation.at c.atoms-atoms.result.now c.as_slice-tuples.result.now c.add_all_to_leaves-done.result c.self.inside.reducts c.add_all_to_leaves-done.new.reducts c.add_all_to_leaves-done.ensures.gained
+    all_there c.args.relation.at c.atoms-atoms.result.now (batch_in c.args.rows.now c.as_slice-tuples.result.now) c.add_all_to_leaves-done.result c.self.inside.reducts c.add_all_to_leaves-done.new.reducts c.add_all_to_leaves-done.ensures.gained
 
 pub give_all_from_leaves-requires-clause-bare : goal.give_all_from_leaves-requires-clause-bare
 give_all_from_leaves-requires-clause-bare g c =
@@ -205,9 +205,9 @@ returns-clause-refused g c =
     } in
     let can = can_add_all l c.args.self.now c.args.relation.at c.args.rows.now c.self.view_is c.requires in
     let hand = in_hand l c.args.relation.at c.args.rows.now c.atoms-atoms.result.now c.as_slice-patterns.result.now c.atoms-atoms.ensures c.as_slice-patterns.ensures.value can in
-    let of = tuples_as c.args.relation.at c.args.rows.now c.atoms-atoms.result.now c.as_slice-patterns.result.now c.in-Ok.batch.items c.as_slice-tuples.result.now c.as_slice-tuples.ensures.value c.in-Ok.ensures in
-    let take = hand.takes c.as_slice-tuples.result.now of in
-    batch_kept l c.args.self.now c.add_all_to_leaves-done.new.reducts c.give_all_from_leaves.new.reducts c.args.relation.at c.atoms-atoms.result.now c.as_slice-tuples.result.now c.add_all_to_leaves-done.result c.self.view_is can.kept.over.reducts take c.add_all_to_leaves-done.ensures.gained c.give_all_from_leaves.ensures.lost
+    let of = tuples_as c.args.relation.at c.args.rows.now c.atoms-atoms.result.now c.as_slice-patterns.result.now (batch_in c.args.rows.now c.in-Ok.batch.items) (batch_in c.args.rows.now c.as_slice-tuples.result.now) (ap (batch_in c.args.rows.now) c.as_slice-tuples.ensures.value) c.in-Ok.ensures in
+    let take = hand.takes (batch_in c.args.rows.now c.as_slice-tuples.result.now) of in
+    batch_kept l c.args.self.now c.add_all_to_leaves-done.new.reducts c.give_all_from_leaves.new.reducts c.args.relation.at c.atoms-atoms.result.now (batch_in c.args.rows.now c.as_slice-tuples.result.now) c.add_all_to_leaves-done.result c.self.view_is can.kept.over.reducts take c.add_all_to_leaves-done.ensures.gained c.give_all_from_leaves.ensures.lost
 
 pub returns-clause-tables : goal.returns-clause-tables
 returns-clause-tables g c =
@@ -220,9 +220,9 @@ returns-clause-tables g c =
     } in
     let can = can_add_all l c.args.self.now c.args.relation.at c.args.rows.now c.self.view_is c.requires in
     let hand = in_hand l c.args.relation.at c.args.rows.now c.atoms-atoms.result.now c.as_slice-patterns.result.now c.atoms-atoms.ensures c.as_slice-patterns.ensures.value can in
-    let of = tuples_as c.args.relation.at c.args.rows.now c.atoms-atoms.result.now c.as_slice-patterns.result.now c.in-Ok.batch.items c.as_slice-tuples.result.now c.as_slice-tuples.ensures.value c.in-Ok.ensures in
-    let take = hand.takes c.as_slice-tuples.result.now of in
-    batch_same l c.args.self.now c.add_all_to_leaves-done.new.reducts c.give_all_from_leaves.new.reducts c.args.relation.at c.atoms-atoms.result.now c.as_slice-tuples.result.now c.add_all_to_leaves-done.result c.self.view_is can.kept.over.reducts take c.add_all_to_leaves-done.ensures.gained c.give_all_from_leaves.ensures.lost
+    let of = tuples_as c.args.relation.at c.args.rows.now c.atoms-atoms.result.now c.as_slice-patterns.result.now (batch_in c.args.rows.now c.in-Ok.batch.items) (batch_in c.args.rows.now c.as_slice-tuples.result.now) (ap (batch_in c.args.rows.now) c.as_slice-tuples.ensures.value) c.in-Ok.ensures in
+    let take = hand.takes (batch_in c.args.rows.now c.as_slice-tuples.result.now) of in
+    batch_same l c.args.self.now c.add_all_to_leaves-done.new.reducts c.give_all_from_leaves.new.reducts c.args.relation.at c.atoms-atoms.result.now (batch_in c.args.rows.now c.as_slice-tuples.result.now) c.add_all_to_leaves-done.result c.self.view_is can.kept.over.reducts take c.add_all_to_leaves-done.ensures.gained c.give_all_from_leaves.ensures.lost
 
 pub returns-clause-same : goal.returns-clause-same
 returns-clause-same g c =
@@ -244,8 +244,8 @@ returns-clause-counted g c =
       reducts = c.self.inside.reducts;
       cursors = c.self.inside.cursors;
     } in
-    let of = tuples_as c.args.relation.at c.args.rows.now c.atoms-atoms.result.now c.as_slice-patterns.result.now c.in-Ok.batch.items c.as_slice-tuples.result.now c.as_slice-tuples.ensures.value c.in-Ok.ensures in
-    let gains = all_gains c.args.relation.at c.args.rows.now c.atoms-atoms.result.now c.as_slice-patterns.result.now c.as_slice-tuples.result.now c.add_all_to_leaves-done.result c.self.inside.reducts c.add_all_to_leaves-done.new.reducts of c.add_all_to_leaves-done.ensures.gained in
+    let of = tuples_as c.args.relation.at c.args.rows.now c.atoms-atoms.result.now c.as_slice-patterns.result.now (batch_in c.args.rows.now c.in-Ok.batch.items) (batch_in c.args.rows.now c.as_slice-tuples.result.now) (ap (batch_in c.args.rows.now) c.as_slice-tuples.ensures.value) c.in-Ok.ensures in
+    let gains = all_gains c.args.relation.at c.args.rows.now c.atoms-atoms.result.now c.as_slice-patterns.result.now (batch_in c.args.rows.now c.as_slice-tuples.result.now) c.add_all_to_leaves-done.result c.self.inside.reducts c.add_all_to_leaves-done.new.reducts of c.add_all_to_leaves-done.ensures.gained in
     subst (λ (n : ℕ). CountsDelta c.args.wanted (λ x y. CameAll x y c.args.relation.at c.args.rows.now) c.args.self.now c.args.relation.at c.args.steps.now.listing n) (sym c.give_all_from_leaves.ensures.listing)
     (counts_came c.args.wanted l c.args.self.now c.add_all_to_leaves-done.new.reducts c.args.relation.at c.args.rows.now c.atoms-atoms.result.now c.as_slice-patterns.result.now c.add_all_to_leaves-done.result c.args.log.now c.add_all_to_leaves-done.new.log c.args.steps.now.listing c.add_all_to_leaves-done.new.steps.listing c.self.view_is c.atoms-atoms.ensures c.as_slice-patterns.ensures.value c.add_all_to_leaves-done.ensures.more gains c.add_all_to_leaves-done.ensures.listed)
 
@@ -259,7 +259,7 @@ returns-clause-refusal g c =
       cursors = c.self.inside.cursors;
     } in
     let can = can_add_all l c.args.self.now c.args.relation.at c.args.rows.now c.self.view_is c.requires in
-    let of = tuples_as c.args.relation.at c.args.rows.now c.atoms-atoms.result.now c.as_slice-patterns.result.now c.in-Ok.batch.items c.as_slice-tuples.result.now c.as_slice-tuples.ensures.value c.in-Ok.ensures in
+    let of = tuples_as c.args.relation.at c.args.rows.now c.atoms-atoms.result.now c.as_slice-patterns.result.now (batch_in c.args.rows.now c.in-Ok.batch.items) (batch_in c.args.rows.now c.as_slice-tuples.result.now) (ap (batch_in c.args.rows.now) c.as_slice-tuples.ensures.value) c.in-Ok.ensures in
     let stopped : c.add_all_to_leaves-done.result < length c.atoms-atoms.result.now = (let e = c.if-done-atoms.false in let d = c.add_all_to_leaves-done.ensures.done in omega arith) in
     batch_back l c.args.self.now c.add_all_to_leaves-done.new.reducts c.args.relation.at c.atoms-atoms.result.now c.add_all_to_leaves-done.result (length c.args.rows.now) c.args.steps.now.update c.add_all_to_leaves-done.new.steps.update c.give_all_from_leaves.new.steps.update c.self.view_is c.atoms-atoms.ensures (can.before, can.kept) c.add_all_to_leaves-done.ensures.gained.tree
     (c.add_all_to_leaves-done.ensures.grows (length c.args.rows.now) of.few) (c.add_all_to_leaves-done.ensures.left stopped) (c.add_all_to_leaves-done.ensures.refusal stopped (length c.args.rows.now) of.few) c.give_all_from_leaves.ensures.updates

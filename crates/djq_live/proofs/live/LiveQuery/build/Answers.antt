@@ -94,7 +94,7 @@ returns-clause-live g c =
     live_there c.args.catalog.now c.args.query c.planned.inside.numbered c.planned.inside.tree
     c.atoms.result.now c.atoms-2.result.now c.comparisons.result.now
     c.in_ok-patterns.patterns.items c.deref.result.now c.in_ok-reducts.reducts
-    c.fill_leaves.new.reducts c.new-2.result given c.atoms.ensures c.comparisons.ensures
+    c.fill_leaves.new.reducts c.in_ok-numbered.numbered c.new-2.result given c.atoms.ensures c.comparisons.ensures
     c.atoms-2.ensures c.deref.ensures.value c.in_ok-reducts.ensures.tree
     c.in_ok-patterns.ensures.long c.in_ok-patterns.ensures.patterns c.in_ok-fill_leaves.ensures
-    c.laws-2.ensures.sound c.new-2.ensures
+    c.laws-2.ensures.sound c.in_ok-numbered.ensures c.new-2.ensures

@@ -1,7 +1,7 @@
 use Rattle.std.proofs.Common.{◌≡◌, ◌<◌, ◌≤◌, List, length, arith, sym, ap, ◌∙◌}
 use Rattle.djq_query.specs.declared.pattern.Slot.{Slot}
 use Rattle.djq_query.specs.Pattern.{Shape}
-use Rattle.djq_query.proofs.Matching.{cell_told, filled_none, filled_more, gives_not, gives_all}
+use Rattle.djq_query.proofs.Matching.{filled_none, filled_more, gives_not, gives_all}
 use Rattle.djq_query.proofs.pattern.Pattern.fills.Goals as goal
 
 pub columns-init : goal.columns-init
@@ -10,13 +10,13 @@ columns-init c = filled_none c.args.tuple.now
 pub returns-then-cell_of-row : goal.returns-then-cell_of-row
 returns-then-cell_of-row c =
     let same : c.as_slice-slots.result.now ≡ c.args.self.now.slots = c.as_slice-slots.ensures ∙ ap (λ (n : Shape). n.slots) c.self.view_is in
-    gives_not c.args.self.now c.args.tuple.now c.args.row.now c.as_slice-slots.result.now c.columns.i _ same c.columns-test.true (λ e. c.if-cell_of-row.true (sym (cell_told c.as_slice-cells.result.now c.args.tuple.now _ c.cell_of.result c.as_slice-cells.ensures c.cell_of.ensures) ∙ e))
+    gives_not c.args.self.now c.args.tuple.now c.args.row.now c.as_slice-slots.result.now c.columns.i _ same c.columns-test.true (λ e. c.if-cell_of-row.true (c.cell_of.ensures ∙ e))
 
 pub columns-preserved : goal.columns-preserved
 columns-preserved c =
     let same : c.as_slice-slots.result.now ≡ c.args.self.now.slots = c.as_slice-slots.ensures ∙ ap (λ (n : Shape). n.slots) c.self.view_is in
     let under : c.columns.i < length c.args.row.now = omega (arith, c.requires.long, c.columns-test.true, ap (λ (l : List Slot). length l) same) in
-    filled_more c.args.tuple.now c.args.row.now c.args.self.now.slots c.as_slice-slots.result.now c.columns.i _ same c.columns-test.true under c.columns.invariant (cell_told c.as_slice-cells.result.now c.args.tuple.now _ c.cell_of.result c.as_slice-cells.ensures c.cell_of.ensures ∙ c.if-cell_of-row.false)
+    filled_more c.args.tuple.now c.args.row.now c.args.self.now.slots c.as_slice-slots.result.now c.columns.i _ same c.columns-test.true under c.columns.invariant (sym c.cell_of.ensures ∙ c.if-cell_of-row.false)
 
 pub returns : goal.returns
 returns c =

@@ -1,13 +1,13 @@
-use Rattle.std.proofs.Common.{◌≡◌, ◌≤◌, true, List, get_or, length, sym, ap, ◌∙◌, arith}
+use Rattle.std.proofs.Common.{◌≡◌, ◌≤◌, List, length, sym, ap, ◌∙◌, arith}
 use Rattle.djq_query.specs.declared.pattern.Test.{Test}
 use Rattle.djq_query.specs.Pattern.{Shape}
-use Rattle.djq_query.proofs.Matching.{no_test, test_told, tests_more, tests_all}
+use Rattle.djq_query.proofs.Matching.{tests_more, tests_all}
 use Rattle.djq_query.proofs.pattern.Pattern.passes.Goals as goal
 
 pub tests-preserved : goal.tests-preserved
 tests-preserved c =
     let same : c.as_slice-tests.result.now ≡ c.args.self.now.tests = c.as_slice-tests.ensures ∙ ap (λ (n : Shape). n.tests) c.self.view_is in
-    tests_more c.args.tuple.now c.args.self.now.tests c.as_slice-tests.result.now c.tests.i same c.tests-test.true (test_told c.as_slice-cells.result.now c.args.tuple.now (get_or c.as_slice-tests.result.now c.tests.i no_test) true c.as_slice-cells.ensures (sym c.if-not-passes.false ∙ c.passes.ensures)) c.tests.invariant
+    tests_more c.args.tuple.now c.args.self.now.tests c.as_slice-tests.result.now c.tests.i same c.tests-test.true (sym c.passes.ensures ∙ c.if-not-passes.false) c.tests.invariant
 
 pub returns : goal.returns
 returns c =

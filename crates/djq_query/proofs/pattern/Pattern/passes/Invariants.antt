@@ -1,4 +1,4 @@
-use Rattle.std.proofs.Common.{◌≡◌, take}
+use Rattle.std.proofs.Common.{take}
 use Rattle.std.specs.Prelude.{All}
 use Rattle.djq_query.specs.Pattern.{Passes}
 use Rattle.djq_query.proofs.pattern.Pattern.passes.Given as goal

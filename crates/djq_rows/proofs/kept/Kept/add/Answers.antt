@@ -1,20 +1,19 @@
-use Rattle.std.proofs.Common.{◌≡◌, ℕ, ◌+◌, refl, sym, ap, subst, arith}
+use Rattle.std.proofs.Common.{◌≡◌, ℕ, ◌+◌, refl, ap, arith}
 use Rattle.djq_index.specs.Entries.{supp}
-use Rattle.djq_index.specs.Changes.{Supported}
-use Rattle.djq_rows.proofs.Grouped.{found, appended}
+use Rattle.djq_rows.proofs.Grouped.{found}
 use Rattle.djq_rows.proofs.kept.Kept.add.Goals as goal
 
 pub returns-then-copies-ge-COPIES-clause-adds : goal.returns-then-copies-ge-COPIES-clause-adds
 returns-then-copies-ge-COPIES-clause-adds g c =
-    let es = c.args.self.now.table.entries in
+    let es = c.args.self.now.rows.entries in
     let u = c.args.cells.now in
     let at = c.in-Some.ensures.found in
     record {
-      stays = record { key = refl; width = refl; was = c.laws.ensures; is = c.laws.ensures };
+      stay = record { width = refl; apart = c.laws.ensures };
       adds = (
         record {
-          copies = λ there. omega (arith, c.supports-copies.ensures u at);
-          rows = λ none. absurd (omega (arith, none, found es c.in-Some.place u at));
+          copies = λ there. omega (arith, c.copies-copies.ensures u at);
+          rows = λ none. absurd (omega (arith, none, found es c.in-Some.slot u at));
         },
         refl,
       );
@@ -22,38 +21,26 @@ returns-then-copies-ge-COPIES-clause-adds g c =
 
 pub returns-else-copies-ge-COPIES-clause-adds : goal.returns-else-copies-ge-COPIES-clause-adds
 returns-else-copies-ge-COPIES-clause-adds g c =
-    let es = c.args.self.now.table.entries in
+    let es = c.args.self.now.rows.entries in
     let u = c.args.cells.now in
     let at = c.in-Some.ensures.found in
-    let is : c.supports-copies.result ≡ supp es u = c.supports-copies.ensures u at in
+    let is : c.copies-copies.result ≡ supp es u = c.copies-copies.ensures u at in
     record {
-      stays = record {
-        key = c.raise.ensures.key;
-        width = c.raise.ensures.width;
-        was = c.laws.ensures;
-        is = c.raise.ensures.table;
-      };
+      stay = record { width = c.recount.ensures.width; apart = c.recount.ensures.apart };
       adds = (
-        found es c.in-Some.place u at,
+        found es c.in-Some.slot u at,
         ap (λ (n : ℕ). n + 1) is,
         omega arith,
-        subst (λ (n : ℕ). Supported es c.raise.new.self.entries u (supp es u) (n + 1)) (sym is)
-            (c.raise.ensures.raised u at),
+        c.recount.ensures.recounted u at,
       );
     }
 
 pub returns-in-Ok-clause-adds : goal.returns-in-Ok-clause-adds
 returns-in-Ok-clause-adds g c = record {
-  stays = record {
-    key = c.insert.ensures.key;
-    width = c.insert.ensures.width;
-    was = c.laws.ensures;
-    is = c.insert.ensures.table;
-  };
+  stay = record { width = c.push.ensures.width; apart = c.push.ensures.apart };
   adds = (
     c.in-None.ensures.found,
     omega (arith, c.len.ensures),
-    appended c.args.self.now.table c.insert.new.self c.args.cells.now c.requires.key
-        c.in-Ok.ensures.inserted,
+    c.in-Ok.ensures.came,
   );
 }

@@ -4,4 +4,4 @@ use Rattle.djq_rows.proofs.kept.Kept.copies.Goals as goal
 
 pub returns-in-None-clause-copies : goal.returns-in-None-clause-copies
 returns-in-None-clause-copies g c =
-    sym (supp_none c.args.self.now.table.entries c.args.cells.now c.in-None.ensures.found)
+    sym (supp_none c.args.self.now.rows.entries c.args.cells.now c.in-None.ensures.found)

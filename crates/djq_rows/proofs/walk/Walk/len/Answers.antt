@@ -3,5 +3,5 @@ use Rattle.djq_rows.proofs.Stepping.{left_long}
 use Rattle.djq_rows.proofs.walk.Walk.len.Goals as goal
 
 pub returns : goal.returns
-returns c = sym (left_long c.self.inside.table.now c.self.inside.left c.self.invariant.within) ∙ ap
+returns c = sym (left_long c.self.inside.rows.now c.self.inside.left c.self.invariant.within) ∙ ap
     (λ (l : List (List ℕ)). length l) c.self.view_is

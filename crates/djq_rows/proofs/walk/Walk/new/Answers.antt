@@ -2,5 +2,5 @@ use Rattle.djq_rows.proofs.Stepping.{starts}
 use Rattle.djq_rows.proofs.walk.Walk.new.Goals as goal
 
 pub invariant_of-result : goal.invariant_of-result
-invariant_of-result g c = starts c.args.table.now c.first-next.result c.len.result c.requires
-    c.len.ensures c.first-next.ensures.found
+invariant_of-result g c = starts c.args.rows.now c.first-next.result c.len.result c.len.ensures
+    c.first-next.ensures.first

@@ -12,8 +12,8 @@ use Rattle.djq_store.proofs.Rowed.{did_by, turn_low, turn_few, turn_comes, store
 use Rattle.djq_store.proofs.Rowing.{add_known, add_turns, add_grows}
 use Rattle.djq_store.proofs.store.Store.add.Goals as goal
 
-pub follow-requires-clause-members : goal.follow-requires-clause-members
-follow-requires-clause-members g c =
+pub follow_one-requires-clause-members : goal.follow_one-requires-clause-members
+follow_one-requires-clause-members g c =
     let p = c.self.inside.parts in
     let e' = c.add-outcome.new.self in
     let r = c.add-outcome.result in
@@ -28,8 +28,8 @@ follow-requires-clause-members g c =
     let is = c.add_turn-turn.ensures ∙ add_turns change r in
     members_behind p e' c.self.invariant c.engine_laws.ensures.staying (tried outcome) did
 
-pub follow-requires-clause-low : goal.follow-requires-clause-low
-follow-requires-clause-low g c =
+pub follow_one-requires-clause-low : goal.follow_one-requires-clause-low
+follow_one-requires-clause-low g c =
     let p = c.self.inside.parts in
     let e' = c.add-outcome.new.self in
     let r = c.add-outcome.result in
@@ -44,8 +44,8 @@ follow-requires-clause-low g c =
     let is = c.add_turn-turn.ensures ∙ add_turns change r in
     turn_low p e' b true outcome turn is c.args.steps.now.listing c.add-outcome.new.steps.listing a.tells
 
-pub follow-requires-clause-few : goal.follow-requires-clause-few
-follow-requires-clause-few g c =
+pub follow_one-requires-clause-few : goal.follow_one-requires-clause-few
+follow_one-requires-clause-few g c =
     let p = c.self.inside.parts in
     let e' = c.add-outcome.new.self in
     let r = c.add-outcome.result in
@@ -60,8 +60,8 @@ follow-requires-clause-few g c =
     let is = c.add_turn-turn.ensures ∙ add_turns change r in
     turn_few p e' c.self.invariant true outcome turn is c.args.steps.now.listing c.add-outcome.new.steps.listing a.tells
 
-pub follow-requires-clause-room : goal.follow-requires-clause-room
-follow-requires-clause-room g c = order_few c.self.inside.parts c.self.invariant
+pub follow_one-requires-clause-room : goal.follow_one-requires-clause-room
+follow_one-requires-clause-room g c = order_few c.self.inside.parts c.self.invariant
 
 pub invariant_of-self : goal.invariant_of-self
 invariant_of-self g c =
@@ -77,9 +77,9 @@ invariant_of-self g c =
     (add_grows c.texts_stay.ensures (p.engine).store e'.store c.args.name.now c.args.row.now r a.adds) in
     let turn = c.add_turn-turn.result in
     let is = c.add_turn-turn.ensures ∙ add_turns change r in
-    let comes = turn_comes p c.follow.new.parts e' true names outcome turn is c.args.steps.now.listing
-    c.add-outcome.new.steps.listing c.follow.new.listing c.self.invariant c.engine_laws.ensures.staying did a.tells
-    (add_known p.engine e' c.args.name.now c.args.row.now r a.adds) c.follow.ensures.follows c.follow.ensures.counted in
+    let comes = turn_comes p c.follow_one.new.parts e' true names outcome turn is c.args.steps.now.listing
+    c.add-outcome.new.steps.listing c.follow_one.new.listing c.self.invariant c.engine_laws.ensures.staying did a.tells
+    (add_known p.engine e' c.args.name.now c.args.row.now r a.adds) c.follow_one.ensures.follows c.follow_one.ensures.counted in
     comes.whole
 
 pub returns-clause-adds : goal.returns-clause-adds
@@ -96,11 +96,11 @@ returns-clause-adds g c =
     (add_grows c.texts_stay.ensures (p.engine).store e'.store c.args.name.now c.args.row.now r a.adds) in
     let turn = c.add_turn-turn.result in
     let is = c.add_turn-turn.ensures ∙ add_turns change r in
-    let comes = turn_comes p c.follow.new.parts e' true names outcome turn is c.args.steps.now.listing
-    c.add-outcome.new.steps.listing c.follow.new.listing c.self.invariant c.engine_laws.ensures.staying did a.tells
-    (add_known p.engine e' c.args.name.now c.args.row.now r a.adds) c.follow.ensures.follows c.follow.ensures.counted in
-    subst (λ (k : Kept). AddsRow k.store c.args.name.now c.args.row.now r (kept_in c.follow.new.parts).store) c.self.view_is
-    (store_adds p c.follow.new.parts e' c.args.name.now c.args.row.now r a.adds comes.store)
+    let comes = turn_comes p c.follow_one.new.parts e' true names outcome turn is c.args.steps.now.listing
+    c.add-outcome.new.steps.listing c.follow_one.new.listing c.self.invariant c.engine_laws.ensures.staying did a.tells
+    (add_known p.engine e' c.args.name.now c.args.row.now r a.adds) c.follow_one.ensures.follows c.follow_one.ensures.counted in
+    subst (λ (k : Kept). AddsRow k.store c.args.name.now c.args.row.now r (kept_in c.follow_one.new.parts).store) c.self.view_is
+    (store_adds p c.follow_one.new.parts e' c.args.name.now c.args.row.now r a.adds comes.store)
 
 pub returns-clause-outdates : goal.returns-clause-outdates
 returns-clause-outdates g c =
@@ -116,11 +116,11 @@ returns-clause-outdates g c =
     (add_grows c.texts_stay.ensures (p.engine).store e'.store c.args.name.now c.args.row.now r a.adds) in
     let turn = c.add_turn-turn.result in
     let is = c.add_turn-turn.ensures ∙ add_turns change r in
-    let comes = turn_comes p c.follow.new.parts e' true names outcome turn is c.args.steps.now.listing
-    c.add-outcome.new.steps.listing c.follow.new.listing c.self.invariant c.engine_laws.ensures.staying did a.tells
-    (add_known p.engine e' c.args.name.now c.args.row.now r a.adds) c.follow.ensures.follows c.follow.ensures.counted in
+    let comes = turn_comes p c.follow_one.new.parts e' true names outcome turn is c.args.steps.now.listing
+    c.add-outcome.new.steps.listing c.follow_one.new.listing c.self.invariant c.engine_laws.ensures.staying did a.tells
+    (add_known p.engine e' c.args.name.now c.args.row.now r a.adds) c.follow_one.ensures.follows c.follow_one.ensures.counted in
     subst (λ (k : Kept). Outdates k (tried (add_outcome (row_in (k.store).relations c.args.name.now c.args.row.now) r))
-    (kept_in c.follow.new.parts)) c.self.view_is comes.outdates
+    (kept_in c.follow_one.new.parts)) c.self.view_is comes.outdates
 
 pub returns-clause-watches : goal.returns-clause-watches
 returns-clause-watches g c =
@@ -136,10 +136,10 @@ returns-clause-watches g c =
     (add_grows c.texts_stay.ensures (p.engine).store e'.store c.args.name.now c.args.row.now r a.adds) in
     let turn = c.add_turn-turn.result in
     let is = c.add_turn-turn.ensures ∙ add_turns change r in
-    let comes = turn_comes p c.follow.new.parts e' true names outcome turn is c.args.steps.now.listing
-    c.add-outcome.new.steps.listing c.follow.new.listing c.self.invariant c.engine_laws.ensures.staying did a.tells
-    (add_known p.engine e' c.args.name.now c.args.row.now r a.adds) c.follow.ensures.follows c.follow.ensures.counted in
-    subst (λ (k : Kept). (kept_in c.follow.new.parts).registered ≡ k.registered) c.self.view_is comes.registered
+    let comes = turn_comes p c.follow_one.new.parts e' true names outcome turn is c.args.steps.now.listing
+    c.add-outcome.new.steps.listing c.follow_one.new.listing c.self.invariant c.engine_laws.ensures.staying did a.tells
+    (add_known p.engine e' c.args.name.now c.args.row.now r a.adds) c.follow_one.ensures.follows c.follow_one.ensures.counted in
+    subst (λ (k : Kept). (kept_in c.follow_one.new.parts).registered ≡ k.registered) c.self.view_is comes.registered
 
 pub returns-clause-tells : goal.returns-clause-tells
 returns-clause-tells g c =
@@ -155,18 +155,18 @@ returns-clause-tells g c =
     (add_grows c.texts_stay.ensures (p.engine).store e'.store c.args.name.now c.args.row.now r a.adds) in
     let turn = c.add_turn-turn.result in
     let is = c.add_turn-turn.ensures ∙ add_turns change r in
-    let comes = turn_comes p c.follow.new.parts e' true names outcome turn is c.args.steps.now.listing
-    c.add-outcome.new.steps.listing c.follow.new.listing c.self.invariant c.engine_laws.ensures.staying did a.tells
-    (add_known p.engine e' c.args.name.now c.args.row.now r a.adds) c.follow.ensures.follows c.follow.ensures.counted in
+    let comes = turn_comes p c.follow_one.new.parts e' true names outcome turn is c.args.steps.now.listing
+    c.add-outcome.new.steps.listing c.follow_one.new.listing c.self.invariant c.engine_laws.ensures.staying did a.tells
+    (add_known p.engine e' c.args.name.now c.args.row.now r a.adds) c.follow_one.ensures.follows c.follow_one.ensures.counted in
     subst (λ (k : Kept). TellsChange k (add_outcome (row_in (k.store).relations c.args.name.now c.args.row.now) r)
-    (kept_in c.follow.new.parts) c.args.steps.now.listing c.follow.new.listing) c.self.view_is comes.tells
+    (kept_in c.follow_one.new.parts) c.args.steps.now.listing c.follow_one.new.listing) c.self.view_is comes.tells
 
 pub returns-clause-unlisted : goal.returns-clause-unlisted
 returns-clause-unlisted g c = λ none.
     let p = c.self.inside.parts in
     let b = c.engine_laws.ensures.engine in
     let quiet = subst IsUnwatched (sym c.self.view_is) none in
-    c.follow.ensures.unlisted (unions_unwatched p b c.self.invariant quiet)
+    c.follow_one.ensures.unlisted (unions_unwatched p b c.self.invariant quiet)
     ∙ c.add-outcome.ensures.unlisted (engine_unwatched p b c.self.invariant quiet)
 
 pub returns-clause-updates : goal.returns-clause-updates

@@ -12,8 +12,8 @@ use Rattle.djq_store.proofs.Rowed.{did_by, turn_low, turn_few, turn_comes, store
 use Rattle.djq_store.proofs.Rowing.{delete_known, delete_turns, delete_grows}
 use Rattle.djq_store.proofs.store.Store.del.Goals as goal
 
-pub follow-requires-clause-members : goal.follow-requires-clause-members
-follow-requires-clause-members g c =
+pub follow_one-requires-clause-members : goal.follow_one-requires-clause-members
+follow_one-requires-clause-members g c =
     let p = c.self.inside.parts in
     let e' = c.del-outcome.new.self in
     let r = c.del-outcome.result in
@@ -28,8 +28,8 @@ follow-requires-clause-members g c =
     let is = c.delete_turn-turn.ensures ∙ delete_turns change r in
     members_behind p e' c.self.invariant c.engine_laws.ensures.staying (tried outcome) did
 
-pub follow-requires-clause-low : goal.follow-requires-clause-low
-follow-requires-clause-low g c =
+pub follow_one-requires-clause-low : goal.follow_one-requires-clause-low
+follow_one-requires-clause-low g c =
     let p = c.self.inside.parts in
     let e' = c.del-outcome.new.self in
     let r = c.del-outcome.result in
@@ -44,8 +44,8 @@ follow-requires-clause-low g c =
     let is = c.delete_turn-turn.ensures ∙ delete_turns change r in
     turn_low p e' b false outcome turn is c.args.steps.now.listing c.del-outcome.new.steps.listing a.tells
 
-pub follow-requires-clause-few : goal.follow-requires-clause-few
-follow-requires-clause-few g c =
+pub follow_one-requires-clause-few : goal.follow_one-requires-clause-few
+follow_one-requires-clause-few g c =
     let p = c.self.inside.parts in
     let e' = c.del-outcome.new.self in
     let r = c.del-outcome.result in
@@ -60,8 +60,8 @@ follow-requires-clause-few g c =
     let is = c.delete_turn-turn.ensures ∙ delete_turns change r in
     turn_few p e' c.self.invariant false outcome turn is c.args.steps.now.listing c.del-outcome.new.steps.listing a.tells
 
-pub follow-requires-clause-room : goal.follow-requires-clause-room
-follow-requires-clause-room g c = order_few c.self.inside.parts c.self.invariant
+pub follow_one-requires-clause-room : goal.follow_one-requires-clause-room
+follow_one-requires-clause-room g c = order_few c.self.inside.parts c.self.invariant
 
 pub invariant_of-self : goal.invariant_of-self
 invariant_of-self g c =
@@ -77,9 +77,9 @@ invariant_of-self g c =
     (delete_grows (p.engine).store e'.store c.args.name.now c.args.row.now r a.deletes) in
     let turn = c.delete_turn-turn.result in
     let is = c.delete_turn-turn.ensures ∙ delete_turns change r in
-    let comes = turn_comes p c.follow.new.parts e' false names outcome turn is c.args.steps.now.listing
-    c.del-outcome.new.steps.listing c.follow.new.listing c.self.invariant c.engine_laws.ensures.staying did a.tells
-    (delete_known p.engine e' c.args.name.now c.args.row.now r a.deletes) c.follow.ensures.follows c.follow.ensures.counted in
+    let comes = turn_comes p c.follow_one.new.parts e' false names outcome turn is c.args.steps.now.listing
+    c.del-outcome.new.steps.listing c.follow_one.new.listing c.self.invariant c.engine_laws.ensures.staying did a.tells
+    (delete_known p.engine e' c.args.name.now c.args.row.now r a.deletes) c.follow_one.ensures.follows c.follow_one.ensures.counted in
     comes.whole
 
 pub returns-clause-deletes : goal.returns-clause-deletes
@@ -96,11 +96,11 @@ returns-clause-deletes g c =
     (delete_grows (p.engine).store e'.store c.args.name.now c.args.row.now r a.deletes) in
     let turn = c.delete_turn-turn.result in
     let is = c.delete_turn-turn.ensures ∙ delete_turns change r in
-    let comes = turn_comes p c.follow.new.parts e' false names outcome turn is c.args.steps.now.listing
-    c.del-outcome.new.steps.listing c.follow.new.listing c.self.invariant c.engine_laws.ensures.staying did a.tells
-    (delete_known p.engine e' c.args.name.now c.args.row.now r a.deletes) c.follow.ensures.follows c.follow.ensures.counted in
-    subst (λ (k : Kept). DeletesRow k.store c.args.name.now c.args.row.now r (kept_in c.follow.new.parts).store) c.self.view_is
-    (store_deletes p c.follow.new.parts e' c.args.name.now c.args.row.now r a.deletes comes.store)
+    let comes = turn_comes p c.follow_one.new.parts e' false names outcome turn is c.args.steps.now.listing
+    c.del-outcome.new.steps.listing c.follow_one.new.listing c.self.invariant c.engine_laws.ensures.staying did a.tells
+    (delete_known p.engine e' c.args.name.now c.args.row.now r a.deletes) c.follow_one.ensures.follows c.follow_one.ensures.counted in
+    subst (λ (k : Kept). DeletesRow k.store c.args.name.now c.args.row.now r (kept_in c.follow_one.new.parts).store) c.self.view_is
+    (store_deletes p c.follow_one.new.parts e' c.args.name.now c.args.row.now r a.deletes comes.store)
 
 pub returns-clause-outdates : goal.returns-clause-outdates
 returns-clause-outdates g c =
@@ -116,11 +116,11 @@ returns-clause-outdates g c =
     (delete_grows (p.engine).store e'.store c.args.name.now c.args.row.now r a.deletes) in
     let turn = c.delete_turn-turn.result in
     let is = c.delete_turn-turn.ensures ∙ delete_turns change r in
-    let comes = turn_comes p c.follow.new.parts e' false names outcome turn is c.args.steps.now.listing
-    c.del-outcome.new.steps.listing c.follow.new.listing c.self.invariant c.engine_laws.ensures.staying did a.tells
-    (delete_known p.engine e' c.args.name.now c.args.row.now r a.deletes) c.follow.ensures.follows c.follow.ensures.counted in
+    let comes = turn_comes p c.follow_one.new.parts e' false names outcome turn is c.args.steps.now.listing
+    c.del-outcome.new.steps.listing c.follow_one.new.listing c.self.invariant c.engine_laws.ensures.staying did a.tells
+    (delete_known p.engine e' c.args.name.now c.args.row.now r a.deletes) c.follow_one.ensures.follows c.follow_one.ensures.counted in
     subst (λ (k : Kept). Outdates k (tried (delete_outcome (row_out (k.store).relations c.args.name.now c.args.row.now) r))
-    (kept_in c.follow.new.parts)) c.self.view_is comes.outdates
+    (kept_in c.follow_one.new.parts)) c.self.view_is comes.outdates
 
 pub returns-clause-watches : goal.returns-clause-watches
 returns-clause-watches g c =
@@ -136,10 +136,10 @@ returns-clause-watches g c =
     (delete_grows (p.engine).store e'.store c.args.name.now c.args.row.now r a.deletes) in
     let turn = c.delete_turn-turn.result in
     let is = c.delete_turn-turn.ensures ∙ delete_turns change r in
-    let comes = turn_comes p c.follow.new.parts e' false names outcome turn is c.args.steps.now.listing
-    c.del-outcome.new.steps.listing c.follow.new.listing c.self.invariant c.engine_laws.ensures.staying did a.tells
-    (delete_known p.engine e' c.args.name.now c.args.row.now r a.deletes) c.follow.ensures.follows c.follow.ensures.counted in
-    subst (λ (k : Kept). (kept_in c.follow.new.parts).registered ≡ k.registered) c.self.view_is comes.registered
+    let comes = turn_comes p c.follow_one.new.parts e' false names outcome turn is c.args.steps.now.listing
+    c.del-outcome.new.steps.listing c.follow_one.new.listing c.self.invariant c.engine_laws.ensures.staying did a.tells
+    (delete_known p.engine e' c.args.name.now c.args.row.now r a.deletes) c.follow_one.ensures.follows c.follow_one.ensures.counted in
+    subst (λ (k : Kept). (kept_in c.follow_one.new.parts).registered ≡ k.registered) c.self.view_is comes.registered
 
 pub returns-clause-tells : goal.returns-clause-tells
 returns-clause-tells g c =
@@ -155,18 +155,18 @@ returns-clause-tells g c =
     (delete_grows (p.engine).store e'.store c.args.name.now c.args.row.now r a.deletes) in
     let turn = c.delete_turn-turn.result in
     let is = c.delete_turn-turn.ensures ∙ delete_turns change r in
-    let comes = turn_comes p c.follow.new.parts e' false names outcome turn is c.args.steps.now.listing
-    c.del-outcome.new.steps.listing c.follow.new.listing c.self.invariant c.engine_laws.ensures.staying did a.tells
-    (delete_known p.engine e' c.args.name.now c.args.row.now r a.deletes) c.follow.ensures.follows c.follow.ensures.counted in
+    let comes = turn_comes p c.follow_one.new.parts e' false names outcome turn is c.args.steps.now.listing
+    c.del-outcome.new.steps.listing c.follow_one.new.listing c.self.invariant c.engine_laws.ensures.staying did a.tells
+    (delete_known p.engine e' c.args.name.now c.args.row.now r a.deletes) c.follow_one.ensures.follows c.follow_one.ensures.counted in
     subst (λ (k : Kept). TellsChange k (delete_outcome (row_out (k.store).relations c.args.name.now c.args.row.now) r)
-    (kept_in c.follow.new.parts) c.args.steps.now.listing c.follow.new.listing) c.self.view_is comes.tells
+    (kept_in c.follow_one.new.parts) c.args.steps.now.listing c.follow_one.new.listing) c.self.view_is comes.tells
 
 pub returns-clause-unlisted : goal.returns-clause-unlisted
 returns-clause-unlisted g c = λ none.
     let p = c.self.inside.parts in
     let b = c.engine_laws.ensures.engine in
     let quiet = subst IsUnwatched (sym c.self.view_is) none in
-    c.follow.ensures.unlisted (unions_unwatched p b c.self.invariant quiet)
+    c.follow_one.ensures.unlisted (unions_unwatched p b c.self.invariant quiet)
     ∙ c.del-outcome.ensures.unlisted (engine_unwatched p b c.self.invariant quiet)
 
 pub returns-clause-updates : goal.returns-clause-updates

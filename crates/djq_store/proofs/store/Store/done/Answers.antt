@@ -1,22 +1,22 @@
-use Rattle.std.proofs.Common.{ℕ, List, ◌≡◌, ◌∙◌, refl, sym, ap, subst, Bool, true, false, take}
-use Rattle.std.specs.Prelude.{filter}
-use Rattle.djq_machine.specs.State.{Store}
+use Rattle.std.proofs.Common.{◌≡◌, ◌∙◌, refl, sym, ap, subst, true}
+use Rattle.std.specs.Prelude.{Option}
 use Rattle.djq_machine.specs.Changes.{RowsOutcome, tried}
 use Rattle.djq_machine.specs.Batch.{SuitAll, AddsBatch, batch_outcome}
 use Rattle.djq_engine.specs.Kept.{Kept, Outdates, IsUnwatched}
 use Rattle.djq_engine.specs.Watching.{CountsBatch, batch_times}
 use Rattle.djq_store.specs.Places.{kept_in}
 use Rattle.djq_store.specs.Watching.{TellsChange}
-use Rattle.djq_store.specs.Batches.{has_grown, is_lacked}
+use Rattle.djq_store.specs.declared.settling.Turn.{Turn}
+use Rattle.djq_store.specs.Batches.{grown_of}
 use Rattle.djq_store.proofs.Lifting.{suit_lifted, outcome_lifted, rows_lifted}
 use Rattle.djq_store.proofs.Counting.{counts_batch_seen}
-use Rattle.djq_store.proofs.Doing.{members_behind, order_few, unions_unwatched, engine_unwatched}
+use Rattle.djq_store.proofs.Doing.{members_behind, unions_unwatched, engine_unwatched}
 use Rattle.djq_store.proofs.Rowed.{did_by, turn_low, turn_few, turn_comes}
-use Rattle.djq_store.proofs.Batched.{names_of, batch_known, batch_turns, batch_grows, store_batches}
+use Rattle.djq_store.proofs.Batched.{batch_known, batch_turns, batch_grows, store_batches}
 use Rattle.djq_store.proofs.store.Store.done.Goals as goal
 
-pub follow-requires-clause-members : goal.follow-requires-clause-members
-follow-requires-clause-members g c =
+pub follow_batch-requires-clause-members : goal.follow_batch-requires-clause-members
+follow_batch-requires-clause-members g c =
     let p = c.self.inside.parts in
     let e' = c.done-outcome.new.self in
     let r = c.done-outcome.result in
@@ -30,8 +30,8 @@ follow-requires-clause-members g c =
     let is = c.batch_turn-turn.ensures ∙ batch_turns (p.engine).store held r in
     members_behind p e' c.self.invariant c.engine_laws.ensures.staying (tried outcome) did
 
-pub follow-requires-clause-low : goal.follow-requires-clause-low
-follow-requires-clause-low g c =
+pub follow_batch-requires-clause-low : goal.follow_batch-requires-clause-low
+follow_batch-requires-clause-low g c =
     let p = c.self.inside.parts in
     let e' = c.done-outcome.new.self in
     let r = c.done-outcome.result in
@@ -45,8 +45,8 @@ follow-requires-clause-low g c =
     let is = c.batch_turn-turn.ensures ∙ batch_turns (p.engine).store held r in
     turn_low p e' b true outcome turn is c.args.steps.now.listing c.done-outcome.new.steps.listing a.tells
 
-pub follow-requires-clause-few : goal.follow-requires-clause-few
-follow-requires-clause-few g c =
+pub follow_batch-requires-clause-few : goal.follow_batch-requires-clause-few
+follow_batch-requires-clause-few g c =
     let p = c.self.inside.parts in
     let e' = c.done-outcome.new.self in
     let r = c.done-outcome.result in
@@ -75,14 +75,14 @@ invariant_of-self g c =
     let is = c.batch_turn-turn.ensures ∙ batch_turns (p.engine).store held r in
     let suit = suit_lifted ((kept_in p).store).queries (p.engine).store held
     (subst (λ (k : Kept). SuitAll k.store held) (sym c.self.view_is) c.requires.suit) in
-    let names = take c.changed_names-count.result c.changed_names-count.new.names in
+    let names = grown_of turn ((p.engine).store).relations (e'.store).relations held in
     let known = batch_known p.engine e' held r names suit a.adds
-    (subst (λ (all : Bool). names ≡ filter (has_grown all ((p.engine).store).relations (e'.store).relations) (names_of held))
-    (c.is_lacked.ensures ∙ ap is_lacked c.batch_turn-turn.ensures)
-    (c.changed_names-count.ensures.names ((p.engine).store).relations c.count_rows-counts.ensures)) in
-    let comes = turn_comes p c.follow.new.parts e' true names outcome turn is c.args.steps.now.listing
-    c.done-outcome.new.steps.listing c.follow.new.listing c.self.invariant c.engine_laws.ensures.staying did a.tells
-    known c.follow.ensures.follows c.follow.ensures.counted in
+    (ap (λ (t : Option Turn). grown_of t ((p.engine).store).relations (e'.store).relations held) c.batch_turn-turn.ensures) in
+    let comes = turn_comes p c.follow_batch.new.parts e' true names outcome turn is c.args.steps.now.listing
+    c.done-outcome.new.steps.listing c.follow_batch.new.listing c.self.invariant c.engine_laws.ensures.staying did a.tells
+    known
+    (c.follow_batch.ensures.follows ((p.engine).store).relations c.count_rows-counts.ensures)
+    (c.follow_batch.ensures.counted ((p.engine).store).relations c.count_rows-counts.ensures) in
     let same = sym (outcome_lifted ((kept_in p).store).queries (p.engine).store held r) in
     comes.whole
 
@@ -101,17 +101,17 @@ returns-clause-adds g c =
     let is = c.batch_turn-turn.ensures ∙ batch_turns (p.engine).store held r in
     let suit = suit_lifted ((kept_in p).store).queries (p.engine).store held
     (subst (λ (k : Kept). SuitAll k.store held) (sym c.self.view_is) c.requires.suit) in
-    let names = take c.changed_names-count.result c.changed_names-count.new.names in
+    let names = grown_of turn ((p.engine).store).relations (e'.store).relations held in
     let known = batch_known p.engine e' held r names suit a.adds
-    (subst (λ (all : Bool). names ≡ filter (has_grown all ((p.engine).store).relations (e'.store).relations) (names_of held))
-    (c.is_lacked.ensures ∙ ap is_lacked c.batch_turn-turn.ensures)
-    (c.changed_names-count.ensures.names ((p.engine).store).relations c.count_rows-counts.ensures)) in
-    let comes = turn_comes p c.follow.new.parts e' true names outcome turn is c.args.steps.now.listing
-    c.done-outcome.new.steps.listing c.follow.new.listing c.self.invariant c.engine_laws.ensures.staying did a.tells
-    known c.follow.ensures.follows c.follow.ensures.counted in
+    (ap (λ (t : Option Turn). grown_of t ((p.engine).store).relations (e'.store).relations held) c.batch_turn-turn.ensures) in
+    let comes = turn_comes p c.follow_batch.new.parts e' true names outcome turn is c.args.steps.now.listing
+    c.done-outcome.new.steps.listing c.follow_batch.new.listing c.self.invariant c.engine_laws.ensures.staying did a.tells
+    known
+    (c.follow_batch.ensures.follows ((p.engine).store).relations c.count_rows-counts.ensures)
+    (c.follow_batch.ensures.counted ((p.engine).store).relations c.count_rows-counts.ensures) in
     let same = sym (outcome_lifted ((kept_in p).store).queries (p.engine).store held r) in
-    subst (λ (k : Kept). AddsBatch k.store held r (kept_in c.follow.new.parts).store) c.self.view_is
-    (store_batches p c.follow.new.parts e' held r a.adds comes.store)
+    subst (λ (k : Kept). AddsBatch k.store held r (kept_in c.follow_batch.new.parts).store) c.self.view_is
+    (store_batches p c.follow_batch.new.parts e' held r a.adds comes.store)
 
 pub returns-clause-outdates : goal.returns-clause-outdates
 returns-clause-outdates g c =
@@ -128,17 +128,17 @@ returns-clause-outdates g c =
     let is = c.batch_turn-turn.ensures ∙ batch_turns (p.engine).store held r in
     let suit = suit_lifted ((kept_in p).store).queries (p.engine).store held
     (subst (λ (k : Kept). SuitAll k.store held) (sym c.self.view_is) c.requires.suit) in
-    let names = take c.changed_names-count.result c.changed_names-count.new.names in
+    let names = grown_of turn ((p.engine).store).relations (e'.store).relations held in
     let known = batch_known p.engine e' held r names suit a.adds
-    (subst (λ (all : Bool). names ≡ filter (has_grown all ((p.engine).store).relations (e'.store).relations) (names_of held))
-    (c.is_lacked.ensures ∙ ap is_lacked c.batch_turn-turn.ensures)
-    (c.changed_names-count.ensures.names ((p.engine).store).relations c.count_rows-counts.ensures)) in
-    let comes = turn_comes p c.follow.new.parts e' true names outcome turn is c.args.steps.now.listing
-    c.done-outcome.new.steps.listing c.follow.new.listing c.self.invariant c.engine_laws.ensures.staying did a.tells
-    known c.follow.ensures.follows c.follow.ensures.counted in
+    (ap (λ (t : Option Turn). grown_of t ((p.engine).store).relations (e'.store).relations held) c.batch_turn-turn.ensures) in
+    let comes = turn_comes p c.follow_batch.new.parts e' true names outcome turn is c.args.steps.now.listing
+    c.done-outcome.new.steps.listing c.follow_batch.new.listing c.self.invariant c.engine_laws.ensures.staying did a.tells
+    known
+    (c.follow_batch.ensures.follows ((p.engine).store).relations c.count_rows-counts.ensures)
+    (c.follow_batch.ensures.counted ((p.engine).store).relations c.count_rows-counts.ensures) in
     let same = sym (outcome_lifted ((kept_in p).store).queries (p.engine).store held r) in
-    subst (λ (k : Kept). Outdates k (tried (batch_outcome k.store held r)) (kept_in c.follow.new.parts)) c.self.view_is
-    (subst (λ (o : RowsOutcome). Outdates (kept_in p) (tried o) (kept_in c.follow.new.parts)) same comes.outdates)
+    subst (λ (k : Kept). Outdates k (tried (batch_outcome k.store held r)) (kept_in c.follow_batch.new.parts)) c.self.view_is
+    (subst (λ (o : RowsOutcome). Outdates (kept_in p) (tried o) (kept_in c.follow_batch.new.parts)) same comes.outdates)
 
 pub returns-clause-watches : goal.returns-clause-watches
 returns-clause-watches g c =
@@ -155,16 +155,16 @@ returns-clause-watches g c =
     let is = c.batch_turn-turn.ensures ∙ batch_turns (p.engine).store held r in
     let suit = suit_lifted ((kept_in p).store).queries (p.engine).store held
     (subst (λ (k : Kept). SuitAll k.store held) (sym c.self.view_is) c.requires.suit) in
-    let names = take c.changed_names-count.result c.changed_names-count.new.names in
+    let names = grown_of turn ((p.engine).store).relations (e'.store).relations held in
     let known = batch_known p.engine e' held r names suit a.adds
-    (subst (λ (all : Bool). names ≡ filter (has_grown all ((p.engine).store).relations (e'.store).relations) (names_of held))
-    (c.is_lacked.ensures ∙ ap is_lacked c.batch_turn-turn.ensures)
-    (c.changed_names-count.ensures.names ((p.engine).store).relations c.count_rows-counts.ensures)) in
-    let comes = turn_comes p c.follow.new.parts e' true names outcome turn is c.args.steps.now.listing
-    c.done-outcome.new.steps.listing c.follow.new.listing c.self.invariant c.engine_laws.ensures.staying did a.tells
-    known c.follow.ensures.follows c.follow.ensures.counted in
+    (ap (λ (t : Option Turn). grown_of t ((p.engine).store).relations (e'.store).relations held) c.batch_turn-turn.ensures) in
+    let comes = turn_comes p c.follow_batch.new.parts e' true names outcome turn is c.args.steps.now.listing
+    c.done-outcome.new.steps.listing c.follow_batch.new.listing c.self.invariant c.engine_laws.ensures.staying did a.tells
+    known
+    (c.follow_batch.ensures.follows ((p.engine).store).relations c.count_rows-counts.ensures)
+    (c.follow_batch.ensures.counted ((p.engine).store).relations c.count_rows-counts.ensures) in
     let same = sym (outcome_lifted ((kept_in p).store).queries (p.engine).store held r) in
-    subst (λ (k : Kept). (kept_in c.follow.new.parts).registered ≡ k.registered) c.self.view_is comes.registered
+    subst (λ (k : Kept). (kept_in c.follow_batch.new.parts).registered ≡ k.registered) c.self.view_is comes.registered
 
 pub returns-clause-tells : goal.returns-clause-tells
 returns-clause-tells g c =
@@ -181,26 +181,26 @@ returns-clause-tells g c =
     let is = c.batch_turn-turn.ensures ∙ batch_turns (p.engine).store held r in
     let suit = suit_lifted ((kept_in p).store).queries (p.engine).store held
     (subst (λ (k : Kept). SuitAll k.store held) (sym c.self.view_is) c.requires.suit) in
-    let names = take c.changed_names-count.result c.changed_names-count.new.names in
+    let names = grown_of turn ((p.engine).store).relations (e'.store).relations held in
     let known = batch_known p.engine e' held r names suit a.adds
-    (subst (λ (all : Bool). names ≡ filter (has_grown all ((p.engine).store).relations (e'.store).relations) (names_of held))
-    (c.is_lacked.ensures ∙ ap is_lacked c.batch_turn-turn.ensures)
-    (c.changed_names-count.ensures.names ((p.engine).store).relations c.count_rows-counts.ensures)) in
-    let comes = turn_comes p c.follow.new.parts e' true names outcome turn is c.args.steps.now.listing
-    c.done-outcome.new.steps.listing c.follow.new.listing c.self.invariant c.engine_laws.ensures.staying did a.tells
-    known c.follow.ensures.follows c.follow.ensures.counted in
+    (ap (λ (t : Option Turn). grown_of t ((p.engine).store).relations (e'.store).relations held) c.batch_turn-turn.ensures) in
+    let comes = turn_comes p c.follow_batch.new.parts e' true names outcome turn is c.args.steps.now.listing
+    c.done-outcome.new.steps.listing c.follow_batch.new.listing c.self.invariant c.engine_laws.ensures.staying did a.tells
+    known
+    (c.follow_batch.ensures.follows ((p.engine).store).relations c.count_rows-counts.ensures)
+    (c.follow_batch.ensures.counted ((p.engine).store).relations c.count_rows-counts.ensures) in
     let same = sym (outcome_lifted ((kept_in p).store).queries (p.engine).store held r) in
     subst (λ (k : Kept). TellsChange k (batch_outcome k.store held r)
-    (kept_in c.follow.new.parts) c.args.steps.now.listing c.follow.new.listing) c.self.view_is
+    (kept_in c.follow_batch.new.parts) c.args.steps.now.listing c.follow_batch.new.listing) c.self.view_is
     (subst (λ (o : RowsOutcome). TellsChange (kept_in p) o
-    (kept_in c.follow.new.parts) c.args.steps.now.listing c.follow.new.listing) same comes.tells)
+    (kept_in c.follow_batch.new.parts) c.args.steps.now.listing c.follow_batch.new.listing) same comes.tells)
 
 pub returns-clause-unlisted : goal.returns-clause-unlisted
 returns-clause-unlisted g c = λ none.
     let p = c.self.inside.parts in
     let b = c.engine_laws.ensures.engine in
     let quiet = subst IsUnwatched (sym c.self.view_is) none in
-    c.follow.ensures.unlisted (unions_unwatched p b c.self.invariant quiet)
+    c.follow_batch.ensures.unlisted (unions_unwatched p b c.self.invariant quiet)
     ∙ c.done-outcome.ensures.unlisted (engine_unwatched p b c.self.invariant quiet)
 
 pub returns-clause-updates : goal.returns-clause-updates

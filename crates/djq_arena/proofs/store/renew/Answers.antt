@@ -1,0 +1,48 @@
+use Rattle.std.proofs.Common.{refl, sym, ◌∙◌, subst, length, ap, ap₂, List, arith}
+use Rattle.djq_arena.specs.declared.chain.Pair.{Pair}
+use Rattle.djq_arena.specs.declared.chain.Ends.{Ends}
+use Rattle.djq_arena.specs.Chains.{IsWithin, left, entered}
+use Rattle.djq_arena.specs.Store.{shrunk, extended}
+use Rattle.djq_arena.proofs.Chaining.{length-left}
+use Rattle.djq_arena.proofs.Storing.{held_within, held_prev, held_next, renewed_last, renews}
+use Rattle.djq_arena.proofs.store.renew.Goals as goal
+
+pub pair_of-neighbours-requires : goal.pair_of-neighbours-requires
+pair_of-neighbours-requires c = held_within c.args.store.now c.args.slot c.requires.sound c.requires.held
+
+pub leave-requires-clause-prev : goal.leave-requires-clause-prev
+leave-requires-clause-prev c = subst (λ (p : Pair). IsWithin (length c.args.store.now.order.items) p.prev) (sym c.pair_of-neighbours.ensures) (held_prev c.args.store.now c.args.slot c.requires.sound c.requires.held)
+
+pub leave-requires-clause-next : goal.leave-requires-clause-next
+leave-requires-clause-next c = subst (λ (p : Pair). IsWithin (length c.args.store.now.order.items) p.next) (sym c.pair_of-neighbours.ensures) (held_next c.args.store.now c.args.slot c.requires.sound c.requires.held)
+
+pub enter-requires-clause-last : goal.enter-requires-clause-last
+enter-requires-clause-last c = rw (c.leave.ensures.links, c.leave.ensures.ends, c.pair_of-neighbours.ensures) (renewed_last c.args.store.now c.args.slot c.requires.sound c.requires.held)
+
+pub enter-requires-clause-slot : goal.enter-requires-clause-slot
+enter-requires-clause-slot c = rw (c.leave.ensures.links, length-left) (held_within c.args.store.now c.args.slot c.requires.sound c.requires.held)
+
+pub enter-requires-clause-number : goal.enter-requires-clause-number
+enter-requires-clause-number c = omega (arith, held_within c.args.store.now c.args.slot c.requires.sound c.requires.held, c.requires.sound.store.numbers)
+
+pub grown-store-requires : goal.grown-store-requires
+grown-store-requires c = omega (arith, held_within c.args.store.now c.args.slot c.requires.sound c.requires.held, c.requires.sound.store.numbers)
+
+pub returns : goal.returns
+returns c =
+    let ends = c.leave.ensures.ends ∙ ap (λ (p : Pair). shrunk p c.args.store.now.live) c.pair_of-neighbours.ensures in
+    let without = c.leave.ensures.links ∙ ap (λ (p : Pair). left p c.args.store.now.order.items) c.pair_of-neighbours.ensures in
+    record {
+      renewed = renews c.args.store.now _ c.args.slot c.requires.sound c.requires.held
+          (record {
+            width = refl;
+            cells = refl;
+            order = c.enter.ensures ∙ ap₂ (λ (e : Ends) (ls : List Pair). entered e.last c.args.slot ls) ends without;
+            live = c.grown-store.ensures ∙ ap (λ (e : Ends). extended c.args.slot e) ends;
+            bucket = refl;
+            heads = refl;
+            free = refl;
+            len = refl;
+            spare = refl;
+          });
+    }

@@ -1,0 +1,56 @@
+-- Chains of single links over slots: for each slot the one behind it.
+use Rattle.std.specs.Prelude.{◌≡◌, ◌≢◌, ℕ, ◌<◌, List, [], ◌∷◌, ◌++◌, length, slice_index_or, slice_set, Option, Some, None}
+use Rattle.djq_arena.specs.Chains.{last_of, IsOut, AreDifferent, AreBelow}
+
+-- where the link of a slot, or the head of a bucket, points to
+abbrev pub link_at : List (Option ℕ) → ℕ → Option ℕ
+link_at links i = slice_index_or links i None
+
+-- the list is chained in this order, from this slot on
+unfoldable pub Chained : List (Option ℕ) → Option ℕ → List ℕ → Type 0
+Chained links at [] = at ≡ None
+Chained links at (x ∷ xs) = (at ≡ Some x) × Chained links (link_at links x) xs
+
+-- the chain from a head on has exactly those slots of the list that fall into bucket k, each once, in some
+-- order
+pub record IsBucket (falls : ℕ → ℕ) (k : ℕ) (links : List (Option ℕ)) (head : Option ℕ) (xs : List ℕ) : Type 0 where
+  pub slots : List ℕ
+  pub chained : Chained links head slots
+  pub different : AreDifferent slots
+  pub all : (i : ℕ) → falls i ≡ k → IsOut i slots → IsOut i xs
+  pub only : (i : ℕ) → IsOut i xs → IsOut i slots
+  pub its : (i : ℕ) → falls i ≢ k → IsOut i slots
+
+-- each bucket's chain has exactly its slots of the list
+pub record AreBuckets (falls : ℕ → ℕ) (links heads : List (Option ℕ)) (xs : List ℕ) : Type 0 where
+  pub each : (k : ℕ) → k < length heads → IsBucket falls k links (link_at heads k) xs
+
+-- slot i stands in the chain from a head on
+pub record Stands (links : List (Option ℕ)) (head : Option ℕ) (i : ℕ) : Type 0 where
+  pub front : List ℕ
+  pub back : List ℕ
+  pub chained : Chained links head (front ++ i ∷ back)
+  pub different : AreDifferent (front ++ i ∷ back)
+  pub below : AreBelow (length links) (front ++ i ∷ back)
+  pub short : length front < length links
+
+-- slot i stands there, behind this one, or first
+pub record IsBehind (links : List (Option ℕ)) (head : Option ℕ) (i : ℕ) (before : Option ℕ) : Type 0 where
+  pub place : Stands links head i
+  pub is : before ≡ last_of place.front
+
+-- the links, and the heads, once a slot of bucket k that stood behind `before` is passed over
+abbrev pub relinked : Option ℕ → Option ℕ → List (Option ℕ) → List (Option ℕ)
+relinked None to links = links
+relinked (Some i) to links = slice_set links i to
+
+abbrev pub reheaded : Option ℕ → ℕ → Option ℕ → List (Option ℕ) → List (Option ℕ)
+reheaded None k to heads = slice_set heads k to
+reheaded (Some i) k to heads = heads
+
+-- slot i went out of bucket k
+pub record IsUnlisted (links more heads others : List (Option ℕ)) (k i : ℕ) : Type 0 where
+  pub before : Option ℕ
+  pub behind : IsBehind links (link_at heads k) i before
+  pub links_are : more ≡ relinked before (link_at links i) links
+  pub heads_are : others ≡ reheaded before k (link_at links i) heads

@@ -1,0 +1,378 @@
+-- The rows of a relation as the rows of an arena, with their copies by slot.
+use Rattle.std.proofs.Common.{
+  ◌≡◌,
+  ℕ,
+  suc,
+  ◌<◌,
+  false,
+  List,
+  [],
+  ◌∷◌,
+  ◌++◌,
+  length,
+  slice_set,
+  Option,
+  Some,
+  None,
+  refl,
+  ap,
+  ap₂,
+  subst,
+  sym,
+  ◌∙◌,
+  arith,
+}
+use Rattle.std.specs.Prelude.{MatchOption}
+use Rattle.std.proofs.lemmas.List.{append-nil, map-append, length-set, get_or-set_same, get_or-set_other}
+use Rattle.djq_arena.specs.Rows.{Row, Rows as Slots, AreRows, IsAbsent, IsRow, IsHeld, slots}
+use Rattle.djq_arena.specs.Chains.{first_of, AreDifferent, AreBelow, IsOut}
+use Rattle.djq_arena.proofs.Lists.{below_here, different_here, out_front, out_back}
+use Rattle.djq_arena.proofs.RowLemmas.{slots-append}
+use Rattle.djq_index.specs.declared.place.Place.{Place}
+use Rattle.djq_index.specs.Tuple.{same}
+use Rattle.djq_index.specs.Entries.{Entry, supp, cnt, head_at}
+use Rattle.djq_index.specs.Table.{AreApart, IsAt, IsLive}
+use Rattle.djq_index.specs.Changes.{Supported}
+use Rattle.djq_index.proofs.Tuples.{same_other, one_false}
+use Rattle.djq_index.proofs.Apart.{supp_at, apart_in, apart_out, apart_same}
+use Rattle.djq_rows.specs.Rows.{copies_at, entry_of, entries_in, place, place_of, AreKept}
+use Rattle.djq_rows.specs.Tuples.{Appended, Dropped}
+
+-- lists of entries
+
+pub entries_nil : (copies : List ℕ) → entries_in copies [] ≡ []
+unfolding entries_in
+entries_nil copies = refl
+
+pub entries_cons : (copies : List ℕ) (r : Row) (rs : List Row)
+    → entries_in copies (r ∷ rs) ≡ entry_of copies r ∷ entries_in copies rs
+unfolding entries_in
+entries_cons copies r rs = refl
+
+entries-append : (copies : List ℕ) (rs ss : List Row)
+    → entries_in copies (rs ++ ss) ≡ entries_in copies rs ++ entries_in copies ss
+unfolding entries_in
+entries-append copies rs ss = map-append (entry_of copies) rs ss
+
+pub entries_middle : (copies : List ℕ) (rs : List Row) (r : Row) (ss : List Row)
+    → entries_in copies (rs ++ r ∷ ss)
+    ≡ entries_in copies rs ++ entry_of copies r ∷ entries_in copies ss
+entries_middle copies rs r ss =
+    entries-append copies rs (r ∷ ss)
+    ∙ ap (λ (es : List Entry). entries_in copies rs ++ es) (entries_cons copies r ss)
+
+pub entries_long : (copies : List ℕ) (rows : List Row)
+    → length rows ≡ length (entries_in copies rows)
+unfolding entries_in
+entries_long copies [] = refl
+entries_long copies (r ∷ rs) = ap suc (entries_long copies rs)
+
+-- an entry
+
+entry_tuple : (copies : List ℕ) (r : Row) → (entry_of copies r).tuple ≡ r.cells
+unfolding entry_of
+entry_tuple copies r = refl
+
+entry_at : (copies : List ℕ) (r : Row) → (entry_of copies r).at ≡ place r.slot
+unfolding entry_of
+entry_at copies r = refl
+
+entry_supports : (copies : List ℕ) (r : Row)
+    → (entry_of copies r).supports ≡ copies_at copies r.slot
+unfolding entry_of
+entry_supports copies r = refl
+
+entry_marked : (copies : List ℕ) (r : Row) → (entry_of copies r).marked ≡ false
+unfolding entry_of
+entry_marked copies r = refl
+
+entry_like : (old new : List ℕ) (r : Row) → copies_at new r.slot ≡ copies_at old r.slot
+    → entry_of new r ≡ entry_of old r
+unfolding entry_of
+entry_like old new r h = ap (λ (n : ℕ). record {
+  at = record { slot = r.slot };
+  tuple = r.cells;
+  supports = n;
+  marked = false;
+}) h
+
+-- a cut of the entries is a cut of the rows
+
+pub record RowCut (copies : List ℕ) (rows : List Row) (xs : List Entry) (e : Entry)
+    (ys : List Entry) : Type 0 where
+  pub front : List Row
+  pub row : Row
+  pub back : List Row
+  pub is : rows ≡ front ++ row ∷ back
+  pub e_is : e ≡ entry_of copies row
+  pub ys_is : ys ≡ entries_in copies back
+
+no_entries : (copies : List ℕ) (xs : List Entry) (e : Entry) (ys : List Entry)
+    → entries_in copies [] ≡ xs ++ e ∷ ys → ⊥
+unfolding entries_in
+no_entries copies [] e ys h = cc
+no_entries copies (x ∷ xs) e ys h = cc
+
+pub cut_entries : (copies : List ℕ) (rows : List Row) (xs : List Entry) (e : Entry)
+    (ys : List Entry) → entries_in copies rows ≡ xs ++ e ∷ ys → RowCut copies rows xs e ys
+cut_entries copies [] xs e ys h = absurd (no_entries copies xs e ys h)
+cut_entries copies (r ∷ rs) [] e ys h =
+    let both : entry_of copies r ∷ entries_in copies rs ≡ e ∷ ys =
+    sym (entries_cons copies r rs) ∙ h in
+    record { front = []; row = r; back = rs; is = refl; e_is = cc; ys_is = cc }
+cut_entries copies (r ∷ rs) (x ∷ xs) e ys h =
+    let both : entry_of copies r ∷ entries_in copies rs ≡ x ∷ (xs ++ e ∷ ys) =
+    sym (entries_cons copies r rs) ∙ h in
+    let rest : entries_in copies rs ≡ xs ++ e ∷ ys = cc in
+    let c = cut_entries copies rs xs e ys rest in
+    record {
+      front = r ∷ c.front;
+      row = c.row;
+      back = c.back;
+      is = ap (λ (qs : List Row). r ∷ qs) c.is;
+      e_is = c.e_is;
+      ys_is = c.ys_is;
+    }
+
+pub entry_row : (copies : List ℕ) (e : Entry) (r : Row) (slot : ℕ) → e ≡ entry_of copies r
+    → e.at ≡ place slot → r.slot ≡ slot
+entry_row copies e r slot h at =
+    ap (λ (p : Place). p.slot) (sym (entry_at copies r) ∙ ap (λ (d : Entry). d.at) (sym h) ∙ at)
+
+-- what lies in a slot
+
+pub at_row : (copies : List ℕ) (rows : List Row) (slot : ℕ) (u : List ℕ)
+    → IsAt (entries_in copies rows) (place slot) u → IsRow rows slot u
+at_row copies rows slot u a =
+    let c = cut_entries copies rows a.front a.entry a.back a.is in
+    let cells : c.row.cells ≡ u =
+    sym (entry_tuple copies c.row) ∙ ap (λ (e : Entry). e.tuple) (sym c.e_is) ∙ a.tuple in
+    record {
+      front = c.front;
+      back = c.back;
+      is = c.is ∙ ap₂ (λ (i : ℕ) (v : List ℕ). c.front ++ record { slot = i; cells = v } ∷ c.back)
+          (entry_row copies a.entry c.row slot c.e_is a.at) cells;
+    }
+
+pub row_at : (copies : List ℕ) (rows : List Row) (slot : ℕ) (u : List ℕ) → IsRow rows slot u
+    → IsAt (entries_in copies rows) (place slot) u
+row_at copies rows slot u h = record {
+  front = entries_in copies h.front;
+  back = entries_in copies h.back;
+  entry = entry_of copies (record { slot = slot; cells = u });
+  is = ap (entries_in copies) h.is
+      ∙ entries_middle copies h.front (record { slot = slot; cells = u }) h.back;
+  tuple = entry_tuple copies (record { slot = slot; cells = u });
+  at = entry_at copies (record { slot = slot; cells = u });
+}
+
+pub live_held : (copies : List ℕ) (rows : List Row) (slot : ℕ)
+    → IsLive (entries_in copies rows) (place slot) → IsHeld rows slot
+live_held copies rows slot l = record {
+  cells = l.tuple;
+  row = at_row copies rows slot l.tuple l.is_at;
+}
+
+absent : (copies : List ℕ) (rows : List Row) (u : List ℕ) → IsAbsent rows u
+    → cnt (entries_in copies rows) u ≡ 0
+unfolding IsAbsent entries_in cnt entry_of
+absent copies [] u h = refl
+absent copies (r ∷ rs) u h =
+    omega (arith, one_false (same r.cells u) (same_other r.cells u h.0), absent copies rs u h.1)
+
+pub finds : (copies : List ℕ) (rows : List Row) (u : List ℕ) (result : Option ℕ)
+    → MatchOption result (IsAbsent rows u) (λ slot. IsRow rows slot u)
+    → MatchOption result (cnt (entries_in copies rows) u ≡ 0)
+    (λ slot. IsAt (entries_in copies rows) (place slot) u)
+finds copies rows u None h = absent copies rows u h
+finds copies rows u (Some slot) h = row_at copies rows slot u h
+
+slots_cons : (r : Row) (rs : List Row) → slots (r ∷ rs) ≡ r.slot ∷ slots rs
+unfolding slots
+slots_cons r rs = refl
+
+slots_middle : (rs : List Row) (r : Row) (ss : List Row)
+    → slots (rs ++ r ∷ ss) ≡ slots rs ++ r.slot ∷ slots ss
+slots_middle rs r ss =
+    slots-append rs (r ∷ ss) ∙ ap (λ (xs : List ℕ). slots rs ++ xs) (slots_cons r ss)
+
+pub first_place : (copies : List ℕ) (rows : List Row)
+    → place_of (first_of (slots rows)) ≡ head_at (entries_in copies rows)
+unfolding head_at slots entries_in entry_of
+first_place copies [] = refl
+first_place copies (r ∷ rs) = refl
+
+pub next_place : (copies : List ℕ) (rows : List Row) (xs : List Entry) (e : Entry)
+    (ys : List Entry) (slot : ℕ) (next : Option ℕ) → entries_in copies rows ≡ xs ++ e ∷ ys
+    → e.at ≡ place slot
+    → ((rs : List Row) (r : Row) (ss : List Row) → rows ≡ rs ++ r ∷ ss → r.slot ≡ slot
+    → next ≡ first_of (slots ss)) → place_of next ≡ head_at ys
+next_place copies rows xs e ys slot next is at h =
+    let c = cut_entries copies rows xs e ys is in
+    ap place_of (h c.front c.row c.back c.is (entry_row copies e c.row slot c.e_is at))
+    ∙ first_place copies c.back ∙ ap head_at (sym c.ys_is)
+
+-- a slot is one of the room, so it has copies
+pub live_below : (rows : Slots) (copies : List ℕ) (slot : ℕ) → AreKept rows copies
+    → IsLive (entries_in copies rows.rows) (place slot) → slot < length copies
+live_below rows copies slot h l =
+    let r = at_row copies rows.rows slot l.tuple l.is_at in
+    omega (
+      arith,
+      h.copied,
+      below_here rows.room (slots r.front) slot (slots r.back) (subst (AreBelow rows.room)
+          (ap slots r.is ∙ slots_middle r.front (record { slot = slot; cells = l.tuple }) r.back)
+          h.rows.below),
+    )
+
+pub its_copies : (rows : Slots) (copies : List ℕ) (slot : ℕ) (u : List ℕ) → AreKept rows copies
+    → IsAt (entries_in copies rows.rows) (place slot) u
+    → copies_at copies slot ≡ supp (entries_in copies rows.rows) u
+its_copies rows copies slot u h a =
+    let c = cut_entries copies rows.rows a.front a.entry a.back a.is in
+    ap (copies_at copies) (sym (entry_row copies a.entry c.row slot c.e_is a.at))
+    ∙ sym (entry_supports copies c.row) ∙ ap (λ (d : Entry). d.supports) (sym c.e_is)
+    ∙ sym (supp_at (entries_in copies rows.rows) a.front a.entry a.back u h.apart a.is a.tuple)
+
+-- other copies of a slot
+
+same_entries : (old new : List ℕ) (slot : ℕ) (rows : List Row) → IsOut slot (slots rows)
+    → ((k : ℕ) → (k ≡ slot → ⊥) → copies_at new k ≡ copies_at old k)
+    → entries_in new rows ≡ entries_in old rows
+unfolding IsOut slots entries_in
+same_entries old new slot [] o h = refl
+same_entries old new slot (r ∷ rs) o h =
+    ap₂ (λ (e : Entry) (es : List Entry). e ∷ es) (entry_like old new r (h r.slot o.0))
+    (same_entries old new slot rs o.1 h)
+
+-- the entries but for one, whose copies have changed
+changed : (old new : List ℕ) (rs : List Row) (r : Row) (ss : List Row)
+    → AreDifferent (slots (rs ++ r ∷ ss))
+    → ((k : ℕ) → (k ≡ r.slot → ⊥) → copies_at new k ≡ copies_at old k)
+    → entries_in new (rs ++ r ∷ ss)
+    ≡ entries_in old rs ++ entry_of new r ∷ entries_in old ss
+changed old new rs r ss d h =
+    let out = different_here (slots rs) r.slot (slots ss)
+    (subst AreDifferent (slots_middle rs r ss) d) in
+    entries_middle new rs r ss
+    ∙ ap₂ (λ (xs ys : List Entry). xs ++ entry_of new r ∷ ys)
+    (same_entries old new r.slot rs (out_front r.slot (slots rs) (slots ss) out) h)
+    (same_entries old new r.slot ss (out_back r.slot (slots rs) (slots ss) out) h)
+
+-- a row comes
+
+pub came : (old new : Slots) (copies more : List ℕ) (slot : ℕ) (u : List ℕ) → AreRows new
+    → new.rows ≡ old.rows ++ record { slot = slot; cells = u } ∷ []
+    → copies_at more slot ≡ 1
+    → ((k : ℕ) → (k ≡ slot → ⊥) → copies_at more k ≡ copies_at copies k)
+    → Appended (entries_in copies old.rows) (entries_in more new.rows) u
+came old new copies more slot u law is one others =
+    let r : Row = record { slot = slot; cells = u } in
+    record {
+      entry = entry_of more r;
+      tuple = entry_tuple more r;
+      single = entry_supports more r ∙ one;
+      is = ap (entries_in more) is
+          ∙ changed copies more old.rows r [] (subst (λ (rs : List Row). AreDifferent (slots rs)) is
+          law.different) others
+          ∙ ap (λ (es : List Entry). entries_in copies old.rows ++ entry_of more r ∷ es)
+          (entries_nil copies);
+    }
+
+pub came_apart : (old new : List Entry) (u : List ℕ) → Appended old new u → AreApart old
+    → cnt old u ≡ 0 → AreApart new
+came_apart old new u a h none =
+    let all : old ++ [] ≡ old = append-nil old in
+    subst AreApart (sym a.is) (apart_in old a.entry [] (subst AreApart (sym all) h)
+    (ap (λ (es : List Entry). cnt es a.entry.tuple) all ∙ ap (cnt old) a.tuple ∙ none))
+
+-- a row goes
+
+pub went : (old new : Slots) (copies : List ℕ) (slot : ℕ) (u : List ℕ)
+    → IsAt (entries_in copies old.rows) (place slot) u
+    → ((xs : List Row) (r : Row) (ys : List Row) → old.rows ≡ xs ++ r ∷ ys → r.slot ≡ slot
+    → new.rows ≡ xs ++ ys)
+    → Dropped (entries_in copies old.rows) (entries_in copies new.rows) u
+went old new copies slot u at removed =
+    let c = at_row copies old.rows slot u at in
+    let r : Row = record { slot = slot; cells = u } in
+    record {
+      front = entries_in copies c.front;
+      back = entries_in copies c.back;
+      entry = entry_of copies r;
+      tuple = entry_tuple copies r;
+      was = ap (entries_in copies) c.is ∙ entries_middle copies c.front r c.back;
+      is = ap (entries_in copies) (removed c.front r c.back c.is refl)
+          ∙ entries-append copies c.front c.back;
+    }
+
+pub went_apart : (old new : List Entry) (u : List ℕ) → Dropped old new u → AreApart old
+    → AreApart new
+went_apart old new u d h =
+    subst AreApart (sym d.is) (apart_out d.front d.entry d.back (subst AreApart d.was h))
+
+-- a row has other copies
+
+set_here : (copies : List ℕ) (slot n : ℕ) → slot < length copies
+    → copies_at (slice_set copies slot n) slot ≡ n
+set_here copies slot n h = get_or-set_same copies slot n 0 h
+
+set_else : (copies : List ℕ) (slot n k : ℕ) → (k ≡ slot → ⊥)
+    → copies_at (slice_set copies slot n) k ≡ copies_at copies k
+set_else copies slot n k h = get_or-set_other copies slot k n 0 h
+
+pub recounted : (rows : Slots) (copies : List ℕ) (slot n : ℕ) (u : List ℕ) → AreKept rows copies
+    → slot < length copies → IsAt (entries_in copies rows.rows) (place slot) u
+    → Supported (entries_in copies rows.rows) (entries_in (slice_set copies slot n) rows.rows) u
+    (supp (entries_in copies rows.rows) u) n
+recounted rows copies slot n u h below at =
+    let c = at_row copies rows.rows slot u at in
+    let r : Row = record { slot = slot; cells = u } in
+    let more = slice_set copies slot n in
+    record {
+      front = entries_in copies c.front;
+      back = entries_in copies c.back;
+      before = entry_of copies r;
+      after = entry_of more r;
+      was = ap (entries_in copies) c.is ∙ entries_middle copies c.front r c.back;
+      is = ap (entries_in more) c.is
+          ∙ changed copies more c.front r c.back (subst (λ (rs : List Row). AreDifferent (slots rs))
+          c.is h.rows.different) (set_else copies slot n);
+      tuple = entry_tuple copies r;
+      same_tuple = entry_tuple more r;
+      same_place = entry_at more r ∙ sym (entry_at copies r);
+      same_mark = entry_marked more r ∙ sym (entry_marked copies r);
+      had = entry_supports copies r ∙ its_copies rows copies slot u h at;
+      has = entry_supports more r ∙ set_here copies slot n below;
+    }
+
+recounted_apart : (old new : List Entry) (u : List ℕ) (from to : ℕ)
+    → Supported old new u from to → AreApart old → AreApart new
+recounted_apart old new u from to s h =
+    subst AreApart (sym s.is) (apart_same s.front s.before s.after s.back
+    (s.same_tuple ∙ sym s.tuple) (subst AreApart s.was h))
+
+pub recounted_kept : (rows : Slots) (copies : List ℕ) (slot n : ℕ) → AreKept rows copies
+    → IsLive (entries_in copies rows.rows) (place slot) → AreKept rows (slice_set copies slot n)
+recounted_kept rows copies slot n h l = record {
+  rows = h.rows;
+  copied = omega (arith, h.copied, length-set copies slot n);
+  apart = recounted_apart (entries_in copies rows.rows)
+      (entries_in (slice_set copies slot n) rows.rows) l.tuple
+      (supp (entries_in copies rows.rows) l.tuple) n
+      (recounted rows copies slot n l.tuple h (live_below rows copies slot h l) l.is_at) h.apart;
+}
+
+-- no rows
+
+no_apart : AreApart []
+unfolding AreApart
+no_apart = tt
+
+pub none_kept : (rows : Slots) (copies : List ℕ) → AreRows rows → rows.room ≡ 0 → rows.rows ≡ []
+    → AreKept rows copies
+none_kept rows copies law room none = record {
+  rows = law;
+  copied = omega (arith, room);
+  apart = subst AreApart (sym (ap (entries_in copies) none ∙ entries_nil copies)) no_apart;
+}

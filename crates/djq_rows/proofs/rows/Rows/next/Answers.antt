@@ -1,0 +1,15 @@
+use Rattle.std.proofs.Common.{◌∙◌, ap, subst, sym}
+use Rattle.djq_index.specs.Table.{IsLive}
+use Rattle.djq_rows.specs.Rows.{Rows, place}
+use Rattle.djq_rows.proofs.Slotted.{live_held, next_place}
+use Rattle.djq_rows.proofs.rows.Rows.next.Goals as goal
+
+pub next-requires : goal.next-requires
+next-requires g c =
+    live_held c.self.inside.copies.items c.self.inside.arena.rows c.args.slot
+    (subst (λ (r : Rows). IsLive r.entries (place c.args.slot)) (sym c.self.view_is) c.requires)
+
+pub returns-clause-next : goal.returns-clause-next
+returns-clause-next g c = λ xs e ys is at.
+    next_place c.self.inside.copies.items c.self.inside.arena.rows xs e ys c.args.slot c.next.result
+    (ap (λ (r : Rows). r.entries) c.self.view_is ∙ is) at c.next.ensures

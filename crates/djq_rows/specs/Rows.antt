@@ -1,0 +1,43 @@
+-- The rows of a relation, in cells, with their copies: the rows of an arena, and beside them an array of
+-- copies by slot.
+use Rattle.std.specs.Prelude.{ℕ, ◌≤◌, false, List, map, length, slice_index_or, Option, Some, None}
+use Rattle.djq_arena.specs.Rows.{Row, Rows as Slots, AreRows}
+use Rattle.djq_index.specs.declared.place.Place.{Place}
+use Rattle.djq_index.specs.Entries.{Entry}
+use Rattle.djq_index.specs.Table.{AreApart}
+
+-- how many cells each row has, and the rows as entries, the oldest first: the supports of each are its
+-- copies, and none is marked
+pub record Rows : Type 0 where
+  pub width : ℕ
+  pub entries : List Entry
+
+-- the copies of the row in a slot
+abbrev pub copies_at : List ℕ → ℕ → ℕ
+copies_at copies slot = slice_index_or copies slot 0
+
+-- a row with its copies
+unfoldable pub entry_of : List ℕ → Row → Entry
+entry_of copies r = record {
+  at = record { slot = r.slot };
+  tuple = r.cells;
+  supports = copies_at copies r.slot;
+  marked = false;
+}
+
+unfoldable pub entries_in : List ℕ → List Row → List Entry
+entries_in copies rows = map (entry_of copies) rows
+
+-- the place of a slot, and of one if there is one
+abbrev pub place : ℕ → Place
+place slot = record { slot = slot }
+
+abbrev pub place_of : Option ℕ → Option Place
+place_of None = None
+place_of (Some slot) = Some (place slot)
+
+-- each slot has copies, and no row stands twice
+pub record AreKept (slots : Slots) (copies : List ℕ) : Type 0 where
+  pub rows : AreRows slots
+  pub copied : slots.room ≤ length copies
+  pub apart : AreApart (entries_in copies slots.rows)
