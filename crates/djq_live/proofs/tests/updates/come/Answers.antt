@@ -23,6 +23,9 @@ told-requires-clause-showable g c =
     (ap (λ (l : Live). (l.reducts).tree) c.outdate.ensures.outdated ∙ c.add.ensures.same.tree)
 
 pub told-requires-clause-kept : goal.told-requires-clause-kept
-told-requires-clause-kept g c = (c.args.catalog.now, (c.outdate.ensures.live c.args.catalog.now
-    (c.in_ok-add.ensures.added c.requires.can.0 c.args.catalog.now c.requires.can.1
-    c.requires.can.2 c.requires.can.3)).kept)
+told-requires-clause-kept g c = (
+  c.args.catalog.now,
+  (c.outdate.ensures.live c.args.catalog.now
+      (c.in_ok-add.ensures.added c.requires.can.0 c.args.catalog.now c.requires.can.1
+      c.requires.can.2 c.requires.can.3)).kept,
+)
