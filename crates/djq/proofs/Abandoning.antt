@@ -47,15 +47,19 @@ batch_ended gate behind log old new how before now is_open step at faults append
       kept = λ found. subst (λ (b : Option (List HeldRow)). WhereTold before.told now.told (λ o n. (start : History)
           → IsKeeping found [] gate start o → IsKeeping found (first_kept b) behind start n)) (sym e)
           (told_so before.told now.told
-          (λ o n. IsIdle (found ++ whole_lines []) gate o.file → Appends (Done behind) (found ++ whole_lines []) abandoning o n)
-          (λ o n. (start : History) → IsKeeping found [] gate start o → IsKeeping found (abandoning ∷ []) behind start n)
-          (λ o n p start keeping. ((keeps_on.more) found [] gate start o keeping).done abandoning behind n (p keeping.idle))
+          (λ o n. IsIdle (found ++ whole_lines []) gate o.file
+          → Appends (Done behind) (found ++ whole_lines []) abandoning o n)
+          (λ o n. (start : History) → IsKeeping found [] gate start o
+          → IsKeeping found (abandoning ∷ []) behind start n)
+          (λ o n p start keeping. ((keeps_on.more) found [] gate start o keeping).done abandoning behind n
+          (p keeping.idle))
           (appended (found ++ whole_lines [])));
       faults = faults;
     }
 
 -- The disk failed as it was to be kept.
-pub fails_to_end : (gate : ℕ) (old : Loading) (before now : DiskSeen) → IsSome old.batch → Counted before.faults now.faults
+pub fails_to_end : (gate : ℕ) (old : Loading) (before now : DiskSeen) → IsSome old.batch
+    → Counted before.faults now.faults
     → Kept Failed gate before now → CantEnd DiskFault gate old before now
 fails_to_end gate old before now is_open counted appended = (
   is_open,

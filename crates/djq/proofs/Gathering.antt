@@ -12,11 +12,13 @@ pub gave_none : (o : Option Reading) → Gave o o []
 gave_none o = record { pieces = []; told = gives_none o; all = refl }
 
 -- a piece more was read
-pub gave_more : (o m n : Option Reading) (bytes piece : Bytes) → Gave o m bytes → GivesPiece m n piece → Gave o n (bytes ++ piece)
+pub gave_more : (o m n : Option Reading) (bytes piece : Bytes) → Gave o m bytes → GivesPiece m n piece
+    → Gave o n (bytes ++ piece)
 gave_more o m n bytes piece g p = record {
   pieces = g.pieces ++ piece ∷ [];
   told = gives_more o m n g.pieces (piece ∷ []) g.told (gives_piece m n piece p);
-  all = ap (λ (xs : Bytes). xs ++ piece) g.all ∙ sym (concat-append g.pieces (piece ∷ []) ∙ ap (λ (xs : Bytes). concat g.pieces ++ xs) (append-nil piece));
+  all = ap (λ (xs : Bytes). xs ++ piece) g.all
+      ∙ sym (concat-append g.pieces (piece ∷ []) ∙ ap (λ (xs : Bytes). concat g.pieces ++ xs) (append-nil piece));
 }
 
 -- nothing more was read

@@ -17,12 +17,19 @@ use Rattle.djq_machine.specs.Call.{Counts}
 use Rattle.djq_machine.specs.declared.machine.Loaded.TheVariants.{Ran}
 use Rattle.djq_machine.specs.Loading.{Loading, loading, LoadStep, Loads}
 use Rattle.djq_run.specs.declared.status.Status.{Status}
-use Rattle.djq_run.specs.declared.status.Status.TheVariants.{Done, Usage, ReadFault, WriteFault, HubFault as HubFailed, TurnsUsed as AllTaken, NoMemory, Schedule, SessionEnded, DiskFault as DiskFailed, LogFull as Filled, BadLog, Mirror}
+use Rattle.djq_run.specs.declared.status.Status.TheVariants.{Done, Usage, ReadFault, WriteFault}
+use Rattle.djq_run.specs.declared.status.Status.TheVariants.{HubFault as HubFailed}
+use Rattle.djq_run.specs.declared.status.Status.TheVariants.{TurnsUsed as AllTaken, NoMemory}
+use Rattle.djq_run.specs.declared.status.Status.TheVariants.{Schedule, SessionEnded}
+use Rattle.djq_run.specs.declared.status.Status.TheVariants.{DiskFault as DiskFailed}
+use Rattle.djq_run.specs.declared.status.Status.TheVariants.{LogFull as Filled, BadLog, Mirror}
 use Rattle.djq_serve.specs.declared.served.Served.{Served}
 use Rattle.djq_serve.specs.declared.served.Served.TheVariants.{Stopped, Over, TurnsUsed, HubFault, DiskFault, LogFull}
 use Rattle.djq_serve.specs.Logged.{AllKept, LastLost, LastLeft, KeepsBy, DiskCounts, IsPlain}
 use Rattle.djq_laws.proofs.Courses.{walk_then}
-use Rattle.djq.specs.Logged.{DiskSeen, LogSeen, log_at, log_seen, SinceOpened, first_kept, Finds, KeptAs, Logs, FoundIn, Begins, LeavesUnloaded, UnloadedFor, Unloaded, NeverBegins}
+use Rattle.djq.specs.Logged.{DiskSeen, LogSeen, log_at, log_seen, SinceOpened, first_kept, Finds}
+use Rattle.djq.specs.Logged.{KeptAs, Logs, FoundIn, Begins, LeavesUnloaded, UnloadedFor, Unloaded}
+use Rattle.djq.specs.Logged.{NeverBegins}
 use Rattle.djq.specs.Parts.{OpensJournal, LoadsLines, StopsLoading, ReadsLog, EndsBatch, CantEnd}
 use Rattle.djq.proofs.Opening.{told_end, opened_finds, opened_leaves}
 
@@ -44,7 +51,13 @@ still_there None found first all gate since m n keeping kept =
     begun : (file : File) → IsKeeping found first gate (from file) m
     begun file = record {
       idle = keeping.idle;
-      leaves = record { more = []; past = sym (append-nil m.past); paths = refl; each = tt; now = (keeping.leaves).now };
+      leaves = record {
+        more = [];
+        past = sym (append-nil m.past);
+        paths = refl;
+        each = tt;
+        now = (keeping.leaves).now;
+      };
     }
 
 -- All groups are kept behind the lines found and what was kept first.
@@ -132,7 +145,8 @@ logs_kept (Some path) found first answer groups (Some gate) gate' before mid now
 )
 
 -- Out of memory before anything was done.
-pub never_began : (path : Option (Bor Bytes)) (disk : DiskSeen) (counted : Counts) → NeverBegins (log_seen path disk disk) NoMemory counted counted
+pub never_began : (path : Option (Bor Bytes)) (disk : DiskSeen) (counted : Counts)
+    → NeverBegins (log_seen path disk disk) NoMemory counted counted
 never_began None disk counted = (refl, refl)
 never_began (Some path) disk counted = record {
   caused = refl;
@@ -177,7 +191,8 @@ pub ended_begins : (path : Bytes) (before mid now : DiskSeen) (gate : ℕ) (log 
     (state start : State) (counted loaded : Counts) (listing : ℕ)
     → ReadsLog (log_at path before mid) gate end state counted.listing listing → EndsBatch gate log end new mid now
     → new.store ≡ start.store → start ≡ record state { store = start.store } → loaded.listing ≡ listing
-    → (found : List Bytes) × (first : List Group) × Begins (Some (log_at path before now)) found first counted start loaded
+    → (found : List Bytes) × (first : List Group)
+    × Begins (Some (log_at path before now)) found first counted start loaded
     × FoundIn (Some (log_at path before now)) found first log
 ended_begins path before mid now gate log end new state start counted loaded listing r e same rest unlisted = (
   r.found,
@@ -194,7 +209,8 @@ ended_begins path before mid now gate log end new state start counted loaded lis
     e.faults ∙ r.faults,
     told_both before.told mid.told now.told (Finds path r.found [] gate) _
         (Finds path r.found (first_kept end.batch) e.behind)
-        (λ o m n p q. record { since = p.since; begins = p.begins; holds = q p.since p.holds }) r.finds (e.kept r.found),
+        (λ o m n p q. record { since = p.since; begins = p.begins; holds = q p.since p.holds }) r.finds
+        (e.kept r.found),
   ),
 )
   where

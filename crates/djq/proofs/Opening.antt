@@ -35,46 +35,59 @@ told_on None (Some n) P Q R so before told = absurd told
 told_on (Some o) (Some n) P Q R so before told = so o n before told
 
 -- Of a moment before, and of what came since.
-pub told_then : (old mid new : Option History) (P Q : History → History → Type 0) (R : History → Type 0) (S : History → History → Type 0)
-    → ((o m n : History) → P o m → R n → Q m n → S o n) → WhereTold old mid P → IfSome new R → WhereTold mid new Q → WhereTold old new S
+pub told_then : (old mid new : Option History) (P Q : History → History → Type 0) (R : History → Type 0)
+    (S : History → History → Type 0)
+    → ((o m n : History) → P o m → R n → Q m n → S o n) → WhereTold old mid P → IfSome new R → WhereTold mid new Q
+    → WhereTold old new S
 told_then old mid None P Q R S so p r q = tt
 told_then old None (Some n) P Q R S so p r q = absurd q
 told_then None (Some m) (Some n) P Q R S so p r q = absurd p
 told_then (Some o) (Some m) (Some n) P Q R S so p r q = so o m n p r q
 
 -- The file was opened and measured.
-pub asked : (path : Bytes) (answer : DiskLen) (old mid new : Option History) → WhereTold old mid (OpensPath path) → WhereTold mid new (Sizes answer)
+pub asked : (path : Bytes) (answer : DiskLen) (old mid new : Option History) → WhereTold old mid (OpensPath path)
+    → WhereTold mid new (Sizes answer)
     → WhereTold old new (λ o n. n ≡ asked_for path o)
-asked path answer old mid new opens sizes = told_both old mid new (OpensPath path) (Sizes answer) (λ o n. n ≡ asked_for path o)
+asked path answer old mid new opens sizes = told_both old mid new (OpensPath path) (Sizes answer)
+    (λ o n. n ≡ asked_for path o)
     (λ o m n p q. same answer m n q ∙ p) opens sizes
   where
     same : (a : DiskLen) (m n : History) → Sizes a m n → n ≡ m
     same (Len k) m n s = s.1
     same DiskLen.Failed m n s = s
 
-pub asked_empty : (path : Bytes) (old mid new : Option History) → WhereTold old mid (OpensPath path) → WhereTold mid new (Sizes (Len 0))
+pub asked_empty : (path : Bytes) (old mid new : Option History) → WhereTold old mid (OpensPath path)
+    → WhereTold mid new (Sizes (Len 0))
     → WhereTold old new (λ o n. (n ≡ asked_for path o) × (o.file.bytes ≡ []))
-asked_empty path old mid new opens sizes = told_both old mid new (OpensPath path) (Sizes (Len 0)) (λ o n. (n ≡ asked_for path o) × (o.file.bytes ≡ []))
+asked_empty path old mid new opens sizes = told_both old mid new (OpensPath path) (Sizes (Len 0))
+    (λ o n. (n ≡ asked_for path o) × (o.file.bytes ≡ []))
     (λ o m n p q. (q.1 ∙ p, sym (ap (λ (h : History). h.file.bytes) p) ∙ none m.file.bytes q.0)) opens sizes
   where
     none : (bytes : List ℕ) → 0 ≡ length bytes → bytes ≡ []
     none [] e = refl
     none (b ∷ bytes) e = absurd (omega (arith, e))
 
-pub has_older : (path : Bytes) (old new : Option History) → WhereTold old new (λ o n. n ≡ asked_for path o) → WhereTold old new (HasFile path)
+pub has_older : (path : Bytes) (old new : Option History) → WhereTold old new (λ o n. n ≡ asked_for path o)
+    → WhereTold old new (HasFile path)
 has_older path old new told = told_so old new (λ o n. n ≡ asked_for path o) (HasFile path) (λ o n is. inl is) told
 
-pub has_made : (path : Bytes) (old mid new : Option History) → WhereTold old mid (λ o n. (n ≡ asked_for path o) × (o.file.bytes ≡ []))
+pub has_made : (path : Bytes) (old mid new : Option History)
+    → WhereTold old mid (λ o n. (n ≡ asked_for path o) × (o.file.bytes ≡ []))
     → WhereTold mid new (Makes Made) → WhereTold old new (HasFile path)
-has_made path old mid new is makes = told_both old mid new (λ o n. (n ≡ asked_for path o) × (o.file.bytes ≡ [])) (Makes Made) (HasFile path)
-    (λ o m n p q. inr (record { empty = p.1; none = refl; paths = q.0 ∙ ap (λ (h : History). h.paths) p.0 }, q.1)) is makes
+has_made path old mid new is makes = told_both old mid new (λ o n. (n ≡ asked_for path o) × (o.file.bytes ≡ []))
+    (Makes Made) (HasFile path)
+    (λ o m n p q. inr (record { empty = p.1; none = refl; paths = q.0 ∙ ap (λ (h : History). h.paths) p.0 }, q.1)) is
+    makes
 
-pub lacks_asked : (path : Bytes) (old new : Option History) → WhereTold old new (λ o n. n ≡ asked_for path o) → WhereTold old new (LacksFile path)
+pub lacks_asked : (path : Bytes) (old new : Option History) → WhereTold old new (λ o n. n ≡ asked_for path o)
+    → WhereTold old new (LacksFile path)
 lacks_asked path old new told = told_so old new (λ o n. n ≡ asked_for path o) (LacksFile path) (λ o n is. inl is) told
 
-pub lacks_made : (path : Bytes) (old mid new : Option History) → WhereTold old mid (λ o n. (n ≡ asked_for path o) × (o.file.bytes ≡ []))
+pub lacks_made : (path : Bytes) (old mid new : Option History)
+    → WhereTold old mid (λ o n. (n ≡ asked_for path o) × (o.file.bytes ≡ []))
     → WhereTold mid new (Makes Unmade) → WhereTold old new (LacksFile path)
-lacks_made path old mid new is makes = told_both old mid new (λ o n. (n ≡ asked_for path o) × (o.file.bytes ≡ [])) (Makes Unmade) (LacksFile path)
+lacks_made path old mid new is makes = told_both old mid new (λ o n. (n ≡ asked_for path o) × (o.file.bytes ≡ []))
+    (Makes Unmade) (LacksFile path)
     (λ o m n p q. inr (record { empty = p.1; paths = q ∙ ap (λ (h : History). h.paths) p.0 })) is makes
 
 -- A journal that was made stays idle behind a sync.
@@ -85,18 +98,22 @@ idle_synced : (gate : ℕ) (h : History) → IsIdle [] gate h.file → IsKeeping
 idle_synced gate h idle =
     let keeping = idle_none gate h idle in
     let same : settled h.file.bytes ≡ h.file = sym idle.still in
-    let now : LeavesOnly (OpensWithin [] [] 0) (settled h.file.bytes) = subst (λ (f : File). LeavesOnly (OpensWithin [] [] 0) f) (sym same) (keeping.leaves).now in
+    let now : LeavesOnly (OpensWithin [] [] 0) (settled h.file.bytes) = subst
+    (λ (f : File). LeavesOnly (OpensWithin [] [] 0) f) (sym same) (keeping.leaves).now in
     record {
       idle = subst (λ (f : File). IsIdle [] gate f) (sym same) idle;
       leaves = leaves_move (OpensWithin [] [] 0) h h (settled h.file.bytes) keeping.leaves now;
     }
 
-made_finds : (path : Bytes) (old since new : History) → IsMade path [] old since → IsKeeping [] [] 8 since new → Finds path [] [] 8 old new
+made_finds : (path : Bytes) (old since new : History) → IsMade path [] old since → IsKeeping [] [] 8 since new
+    → Finds path [] [] 8 old new
 made_finds path old since new made keeping = record { since = since; begins = inl made; holds = keeping }
 
 -- what is left where a journal wasn't opened
-pub lacks_leaves : (path : Bytes) (old new : Option History) → WhereTold old new (LacksFile path) → WhereTold old new (LeavesUnloaded path)
-lacks_leaves path old new told = told_so old new (LacksFile path) (LeavesUnloaded path) (λ o n lacks. left o n lacks) told
+pub lacks_leaves : (path : Bytes) (old new : Option History) → WhereTold old new (LacksFile path)
+    → WhereTold old new (LeavesUnloaded path)
+lacks_leaves path old new told = told_so old new (LacksFile path) (LeavesUnloaded path) (λ o n lacks. left o n lacks)
+    told
   where
     left : (o n : History) → LacksFile path o n → LeavesUnloaded path o n
     left o n (inl is) = inl (inr (inl is))
@@ -116,24 +133,29 @@ leaves_unsynced : (path : Bytes) (o m : History) → HasFile path o m → Leaves
 leaves_unsynced path o m (inl is) = inl (inr (inl is))
 leaves_unsynced path o m (inr (made, idle)) = inr (inr (inl ([], 8, made_finds path o m m made (idle_none 8 m idle))))
 
-pub ready_opened : (path : Bytes) (gate : ℕ) (old mid new : Option History) → WhereTold old mid (HasFile path) → WhereTold mid new (Opens (Ready gate))
+pub ready_opened : (path : Bytes) (gate : ℕ) (old mid new : Option History) → WhereTold old mid (HasFile path)
+    → WhereTold mid new (Opens (Ready gate))
     → WhereTold old new (IsOpened path)
 ready_opened path gate old mid new has opens = told_both old mid new (HasFile path) (Opens (Ready gate)) (IsOpened path)
     (λ o m n p q. opened_synced path o m n p q.0) has opens
 
-pub ready_first : (gate : ℕ) (mid new : Option History) → WhereTold mid new (Opens (Ready gate)) → IfSome new (λ h. IsAt [] gate h.file)
+pub ready_first : (gate : ℕ) (mid new : Option History) → WhereTold mid new (Opens (Ready gate))
+    → IfSome new (λ h. IsAt [] gate h.file)
 ready_first gate mid new opens = told_end mid new (Opens (Ready gate)) (λ h. IsAt [] gate h.file) (λ m n p. p.1) opens
 
-pub bad_leaves : (path : Bytes) (at : ℕ) (old mid new : Option History) → WhereTold old mid (HasFile path) → WhereTold mid new (Opens (NoLog at))
+pub bad_leaves : (path : Bytes) (at : ℕ) (old mid new : Option History) → WhereTold old mid (HasFile path)
+    → WhereTold mid new (Opens (NoLog at))
     → WhereTold old new (LeavesUnloaded path)
 bad_leaves path at old mid new has opens = told_both old mid new (HasFile path) (Opens (NoLog at)) (LeavesUnloaded path)
     (λ o m n p q. leaves_opened path o n (opened_synced path o m n p q.0)) has opens
 
-pub bad_header : (at : ℕ) (mid new : Option History) → WhereTold mid new (Opens (NoLog at)) → IfSome new (HasNoHeader at)
+pub bad_header : (at : ℕ) (mid new : Option History) → WhereTold mid new (Opens (NoLog at))
+    → IfSome new (HasNoHeader at)
 bad_header at mid new opens = told_end mid new (Opens (NoLog at)) (HasNoHeader at)
     (λ m n p. (p.1, λ rest is. p.2 rest (sym (ap (λ (h : History). h.file.bytes) p.0) ∙ is))) opens
 
-pub unopened_leaves : (path : Bytes) (old mid new : Option History) → WhereTold old mid (HasFile path) → WhereTold mid new (Opens Unopened)
+pub unopened_leaves : (path : Bytes) (old mid new : Option History) → WhereTold old mid (HasFile path)
+    → WhereTold mid new (Opens Unopened)
     → WhereTold old new (LeavesUnloaded path)
 unopened_leaves path old mid new has opens = told_both old mid new (HasFile path) (Opens Unopened) (LeavesUnloaded path)
     (λ o m n p q. left o m n p q) has opens
@@ -143,31 +165,42 @@ unopened_leaves path old mid new has opens = told_both old mid new (HasFile path
     left o m n p (inr synced) = leaves_opened path o n (opened_synced path o m n p synced)
 
 -- What was opened is left where its lines weren't loaded: nothing was written.
-pub opened_leaves : (path : Bytes) (old mid new : Option History) → WhereTold old mid (IsOpened path) → WhereTold mid new (λ o n. n ≡ o)
+pub opened_leaves : (path : Bytes) (old mid new : Option History) → WhereTold old mid (IsOpened path)
+    → WhereTold mid new (λ o n. n ≡ o)
     → WhereTold old new (LeavesUnloaded path)
 opened_leaves path old mid new opened same = told_both old mid new (IsOpened path) (λ o n. n ≡ o) (LeavesUnloaded path)
     (λ o m n p q. subst (λ (h : History). LeavesUnloaded path o h) (sym q) (leaves_opened path o m p)) opened same
 
 -- the older journal has these lines
-older_finds : (path : Bytes) (found : List Bytes) (gate : ℕ) (o n : History) → n ≡ after_sync (asked_for path o) → IsIdle found gate n.file → Finds path found [] gate o n
+older_finds : (path : Bytes) (found : List Bytes) (gate : ℕ) (o n : History) → n ≡ after_sync (asked_for path o)
+    → IsIdle found gate n.file → Finds path found [] gate o n
 older_finds path found gate o n is idle = record {
   since = n;
-  begins = inr (record { lines = subst (λ (bytes : List ℕ). OpensTo found bytes) (ap (λ (h : History). h.file.bytes) is) idle.opens; is = is });
+  begins = inr (record {
+    lines = subst (λ (bytes : List ℕ). OpensTo found bytes) (ap (λ (h : History). h.file.bytes) is)
+        idle.opens;
+    is = is;
+  });
   holds = (keeps_on.none) found gate n idle;
 }
 
 -- a journal that was made has none
-made_has_none : (path : Bytes) (found : List Bytes) (gate : ℕ) (o n : History) → Finds path [] [] 8 o n → IsIdle found gate n.file → Finds path found [] gate o n
+made_has_none : (path : Bytes) (found : List Bytes) (gate : ℕ) (o n : History) → Finds path [] [] 8 o n
+    → IsIdle found gate n.file → Finds path found [] gate o n
 made_has_none path found gate o n finds idle =
     let none : [] ≡ found = opens_once [] found n.file.bytes ((finds.holds).idle).opens idle.opens in
-    let place : 8 ≡ gate = ((finds.holds).idle).place ∙ ap (λ (ls : List Bytes). length (front ls)) none ∙ sym idle.place in
+    let place : 8 ≡ gate = ((finds.holds).idle).place ∙ ap (λ (ls : List Bytes). length (front ls)) none
+    ∙ sym idle.place in
     subst (λ (k : ℕ). Finds path found [] k o n) place (subst (λ (ls : List Bytes). Finds path ls [] 8 o n) none finds)
 
 -- All lines were found.
-pub opened_finds : (path : Bytes) (found : List Bytes) (gate : ℕ) (old mid new : Option History) → WhereTold old mid (IsOpened path)
-    → IfSome new (λ h. IsIdle found gate h.file) → WhereTold mid new (λ o n. n ≡ o) → WhereTold old new (Finds path found [] gate)
+pub opened_finds : (path : Bytes) (found : List Bytes) (gate : ℕ) (old mid new : Option History)
+    → WhereTold old mid (IsOpened path)
+    → IfSome new (λ h. IsIdle found gate h.file) → WhereTold mid new (λ o n. n ≡ o)
+    → WhereTold old new (Finds path found [] gate)
 opened_finds path found gate old mid new opened idle same =
-    told_then old mid new (IsOpened path) (λ o n. n ≡ o) (λ h. IsIdle found gate h.file) (Finds path found [] gate) (λ o m n p r q. all o m n p r q) opened idle same
+    told_then old mid new (IsOpened path) (λ o n. n ≡ o) (λ h. IsIdle found gate h.file) (Finds path found [] gate)
+    (λ o m n p r q. all o m n p r q) opened idle same
   where
     at_moment : (o n : History) → IsOpened path o n → IsIdle found gate n.file → Finds path found [] gate o n
     at_moment o n (inl is) r = older_finds path found gate o n is r
@@ -177,51 +210,63 @@ opened_finds path found gate old mid new opened idle same =
     all o m n p r q = at_moment o n (subst (λ (h : History). IsOpened path o h) (sym q) p) r
 
 -- What is read at a journal's place.
-pub read_line : (found : List Bytes) (n gate gate' : ℕ) (buf : List ℕ) (old new : Option History) → IfSome old (λ h. IsAt found gate h.file)
+pub read_line : (found : List Bytes) (n gate gate' : ℕ) (buf : List ℕ) (old new : Option History)
+    → IfSome old (λ h. IsAt found gate h.file)
     → WhereTold old new (λ o n'. (n' ≡ o) × (IsAt found gate o.file → Reads (Got n) found gate gate' buf o.file))
     → IfSome new (λ h. IsAt (found ++ take n buf ∷ []) gate' h.file)
 read_line found n gate gate' buf old new at told =
-    told_on old new (λ o n'. (n' ≡ o) × (IsAt found gate o.file → Reads (Got n) found gate gate' buf o.file)) (λ h. IsAt found gate h.file)
+    told_on old new (λ o n'. (n' ≡ o) × (IsAt found gate o.file → Reads (Got n) found gate gate' buf o.file))
+    (λ h. IsAt found gate h.file)
     (λ h. IsAt (found ++ take n buf ∷ []) gate' h.file)
     (λ o n' is p. subst (λ (h : History). IsAt (found ++ take n buf ∷ []) gate' h.file) (sym p.0) (p.1 is)) at told
 
-pub read_end : (found : List Bytes) (gate gate' : ℕ) (buf : List ℕ) (old new : Option History) → IfSome old (λ h. IsAt found gate h.file)
+pub read_end : (found : List Bytes) (gate gate' : ℕ) (buf : List ℕ) (old new : Option History)
+    → IfSome old (λ h. IsAt found gate h.file)
     → WhereTold old new (λ o n. (n ≡ o) × (IsAt found gate o.file → Reads End found gate gate' buf o.file))
     → IfSome new (λ h. IsIdle found gate h.file)
 read_end found gate gate' buf old new at told =
-    told_on old new (λ o n. (n ≡ o) × (IsAt found gate o.file → Reads End found gate gate' buf o.file)) (λ h. IsAt found gate h.file)
+    told_on old new (λ o n. (n ≡ o) × (IsAt found gate o.file → Reads End found gate gate' buf o.file))
+    (λ h. IsAt found gate h.file)
     (λ h. IsIdle found gate h.file)
     (λ o n is p. subst (λ (h : History). IsIdle found gate h.file) (sym p.0) (p.1 is).0) at told
 
-pub read_bad : (found : List Bytes) (at gate gate' : ℕ) (buf : List ℕ) (old new : Option History) → IfSome old (λ h. IsAt found gate h.file)
+pub read_bad : (found : List Bytes) (at gate gate' : ℕ) (buf : List ℕ) (old new : Option History)
+    → IfSome old (λ h. IsAt found gate h.file)
     → WhereTold old new (λ o n. (n ≡ o) × (IsAt found gate o.file → Reads (BadLine at) found gate gate' buf o.file))
     → IfSome new (λ h. IsAt found at h.file) × IfSome new (λ h. IsBad (drop at h.file.bytes))
 read_bad found at gate gate' buf old new is told =
     let P = λ (o n : History). (n ≡ o) × (IsAt found gate o.file → Reads (BadLine at) found gate gate' buf o.file) in (
       told_on old new P (λ h. IsAt found gate h.file) (λ h. IsAt found at h.file) (λ o n q p. stands o n q p) is told,
-      told_on old new P (λ h. IsAt found gate h.file) (λ h. IsBad (drop at h.file.bytes)) (λ o n q p. bad o n q p) is told,
+      told_on old new P (λ h. IsAt found gate h.file) (λ h. IsBad (drop at h.file.bytes)) (λ o n q p. bad o n q p) is
+          told,
     )
   where
-    stands : (o n : History) → IsAt found gate o.file → (n ≡ o) × (IsAt found gate o.file → Reads (BadLine at) found gate gate' buf o.file) → IsAt found at n.file
-    stands o n q p = subst (λ (h : History). IsAt found at h.file) (sym p.0) (subst (λ (k : ℕ). IsAt found k o.file) (sym (p.1 q).0) q)
+    stands : (o n : History) → IsAt found gate o.file → (n ≡ o)
+        × (IsAt found gate o.file → Reads (BadLine at) found gate gate' buf o.file) → IsAt found at n.file
+    stands o n q p = subst (λ (h : History). IsAt found at h.file) (sym p.0)
+        (subst (λ (k : ℕ). IsAt found k o.file) (sym (p.1 q).0) q)
 
-    bad : (o n : History) → IsAt found gate o.file → (n ≡ o) × (IsAt found gate o.file → Reads (BadLine at) found gate gate' buf o.file) → IsBad (drop at n.file.bytes)
+    bad : (o n : History) → IsAt found gate o.file → (n ≡ o)
+        × (IsAt found gate o.file → Reads (BadLine at) found gate gate' buf o.file) → IsBad (drop at n.file.bytes)
     bad o n q p = subst (λ (h : History). IsBad (drop at h.file.bytes)) (sym p.0)
         (subst (λ (k : ℕ). IsBad (drop k o.file.bytes)) (sym (p.1 q).0) (p.1 q).1)
 
 -- a call that changes nothing of the disk, behind others
 pub same_both : (old mid new : Option History) (R : History → History → Type 0) → WhereTold old mid (λ o n. n ≡ o)
     → WhereTold mid new (λ o n. (n ≡ o) × R o n) → WhereTold old new (λ o n. n ≡ o)
-same_both old mid new R same told = told_both old mid new (λ o n. n ≡ o) (λ o n. (n ≡ o) × R o n) (λ o n. n ≡ o) (λ o m n p q. q.0 ∙ p) same told
+same_both old mid new R same told = told_both old mid new (λ o n. n ≡ o) (λ o n. (n ≡ o) × R o n) (λ o n. n ≡ o)
+    (λ o m n p q. q.0 ∙ p) same told
 
 -- Reading a line changes nothing of the disk.
-pub read_still : (found : List Bytes) (gate : ℕ) (R : History → History → Type 0) (old new : Option History) → IfSome old (λ h. IsAt found gate h.file)
+pub read_still : (found : List Bytes) (gate : ℕ) (R : History → History → Type 0) (old new : Option History)
+    → IfSome old (λ h. IsAt found gate h.file)
     → WhereTold old new (λ o n. (n ≡ o) × R o n) → IfSome new (λ h. IsAt found gate h.file)
 read_still found gate R old new at told =
     told_on old new (λ o n. (n ≡ o) × R o n) (λ h. IsAt found gate h.file) (λ h. IsAt found gate h.file)
     (λ o n is p. subst (λ (h : History). IsAt found gate h.file) (sym p.0) is) at told
 
-pub stands_behind : (found : List Bytes) (line : Bytes) (gate : ℕ) (told : Option History) → IfSome told (λ h. IsAt (found ++ line ∷ []) gate h.file)
+pub stands_behind : (found : List Bytes) (line : Bytes) (gate : ℕ) (told : Option History)
+    → IfSome told (λ h. IsAt (found ++ line ∷ []) gate h.file)
     → IfSome told (λ h. (behind : ℕ) × IsAt (found ++ line ∷ []) behind h.file)
 stands_behind found line gate None at = tt
 stands_behind found line gate (Some h) at = (gate, at)

@@ -28,7 +28,9 @@ use Rattle.djq_serve.specs.Told.{Shown, sent_to}
 use Rattle.djq_serve.specs.Server.{all_told, all_done}
 use Rattle.djq_serve.specs.Ends.{RunsThrough, ServeEnds}
 use Rattle.djq_follow.specs.declared.command.Mirrored.{Mirrored}
-use Rattle.djq_follow.specs.declared.command.Mirrored.TheVariants.{Done, Outside as Halted, ReadFault, WriteFault, TooMany, NoMemory}
+use Rattle.djq_follow.specs.declared.command.Mirrored.TheVariants.{Done, Outside as Halted}
+use Rattle.djq_follow.specs.declared.command.Mirrored.TheVariants.{ReadFault, WriteFault, TooMany}
+use Rattle.djq_follow.specs.declared.command.Mirrored.TheVariants.{NoMemory}
 use Rattle.djq_follow.specs.Ends.{ComesTo, StopsFor, WritesOf, MirrorEnds}
 use Rattle.djq_told.specs.Sayable.{IsSayableStore}
 use Rattle.djq_told.specs.Mirrored.{Shows}
@@ -54,7 +56,8 @@ module _ (q : Listed) (sent : Bytes) (at : State) (held : Held) (input : IsHeld 
   Ends answer writing writing' =
       ((n : ℕ) → answer ≢ Halted n) × (answer ≡ Done → WritesAnswers q at writing writing')
 
-  writes : (answer : Mirrored) (text bytes : Bytes) (reading : Reading) (writing writing' : Option (List Write)) (faults faults' : ℕ)
+  writes : (answer : Mirrored) (text bytes : Bytes) (reading : Reading) (writing writing' : Option (List Write))
+      (faults faults' : ℕ)
       → bytes ++ reading.left ≡ sent → (whole : Mirrored) → ComesTo whole text (listed_name q) bytes (Some reading)
       → WritesOf answer whole text writing writing' faults faults' → Ends answer writing writing'
   writes answer text bytes reading writing writing' faults faults' all Done comes (inl wrote) = (
@@ -82,9 +85,11 @@ module _ (q : Listed) (sent : Bytes) (at : State) (held : Held) (input : IsHeld 
 
       failed_done : WriteFault ≡ Done → ⊥
       failed_done e = absurd cc
-  writes answer text bytes reading writing writing' faults faults' all (Halted n) comes (inl wrote) = absurd (by comes.0)
+  writes answer text bytes reading writing writing' faults faults' all (Halted n) comes (inl wrote) = absurd
+      (by comes.0)
     where
-      by : ((more : Bytes) → IsRefused (listed_name q) (bytes ++ more) n) ⊎ ((reading.left ≡ []) × IsRefused (listed_name q) bytes n) → ⊥
+      by : ((more : Bytes) → IsRefused (listed_name q) (bytes ++ more) n) ⊎
+          ((reading.left ≡ []) × IsRefused (listed_name q) bytes n) → ⊥
       by (inl always) = unrefused n (bytes ++ reading.left) all (always reading.left)
       by (inr here) = unrefused n bytes (to_the_end bytes reading here.0 all) here.1
   writes answer text bytes reading writing writing' faults faults' all ReadFault comes (inl wrote) = absurd comes
@@ -104,7 +109,8 @@ module _ (q : Listed) (sent : Bytes) (at : State) (held : Held) (input : IsHeld 
   mirrors : IsMirroredBack q sent at
   mirrors answer reading reading' read_faults read_faults' writing writing' faults faults' ends is = by ends
     where
-      by : MirrorEnds answer (listed_name q) (Some reading) (Some reading') read_faults read_faults' writing writing' faults faults'
+      by : MirrorEnds answer (listed_name q) (Some reading) (Some reading') read_faults read_faults' writing writing'
+          faults faults'
           → Ends answer writing writing'
       by (inl h) =
           let gave = (h.leaves).gave in
@@ -114,13 +120,15 @@ module _ (q : Listed) (sent : Bytes) (at : State) (held : Held) (input : IsHeld 
 
 -- what is read back, as it was sent
 sent_back : (q : Listed) (sent all : Bytes) (at : State) → sent ≡ all → (held : Held)
-    → IsHeld (listed_name q) all held → (held.mode ≡ Live → Shows held (AnswersOf at.store.relations q)) → IsMirroredBack q sent at
+    → IsHeld (listed_name q) all held → (held.mode ≡ Live → Shows held (AnswersOf at.store.relations q))
+    → IsMirroredBack q sent at
 sent_back q sent all at same held input live =
     mirrors q sent at held (subst (λ (bs : Bytes). IsHeld (listed_name q) bs held) (sym same) input) live
 
 -- ---- the program's runs
 
-pub course_is_read_back : (start : State) → IsStart start → IsSayableStore start.store → (before now : Outside) (state : State)
+pub course_is_read_back : (start : State) → IsStart start → IsSayableStore start.store
+    → (before now : Outside) (state : State)
     (course : Course start before now state) → pending_of state 1 ≡ [] → (q : Listed) (at : State)
     → ReadsSinceOpened q 1 start course.done at state → IsMirroredBack q (bytes_of course.writes) at
 course_is_read_back start h said before now state course none q at reads =
@@ -177,7 +185,8 @@ pub serving_was_read_back : (start : State) → IsStart start → IsSayableStore
     (later : List Did) → RunsThrough start (all_done ends.goes.moves) earlier mid later state
     → (q : Listed) (s : ℕ) (at : State) → ReadsSinceOpened q s start earlier at mid
     → all_taken s earlier ≡ out s earlier → IsMirroredBack q (all_taken s earlier) at
-serving_was_read_back start h said answer turns hub counted hub' counted' state ends earlier mid later through q s at reads same =
+serving_was_read_back start h said answer turns hub counted hub' counted' state ends earlier mid later through q s at
+    reads same =
     let rising = rising_front (all_opened earlier) (all_opened later)
     (subst (λ (is : List ℕ). AllPairs (λ i j. i < j) is)
     (ap (λ (ds : List Did). all_opened ds) through.0 ∙ flat_map-append (λ (d : Did). opened_by d.event) earlier later)

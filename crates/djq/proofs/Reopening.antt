@@ -23,7 +23,8 @@ use Rattle.djq.proofs.Living.{starts}
 use Rattle.djq.proofs.Opening.{told_end}
 
 -- What opens within some groups does within more behind them.
-within_more : (found : List Bytes) (whole : List Group) (last : Group) (groups : List Group) (least : ℕ) (image : List ℕ) → groups ≡ whole ++ last ∷ []
+within_more : (found : List Bytes) (whole : List Group) (last : Group) (groups : List Group) (least : ℕ)
+    (image : List ℕ) → groups ≡ whole ++ last ∷ []
     → OpensWithin found whole least image → OpensWithin found groups least image
 within_more found whole last groups least image cut o = record {
   whole = o.whole;
@@ -68,7 +69,8 @@ behind_first : (first whole : List Group) (last : Group) (groups : List Group) �
 behind_first first whole last groups cut =
     ap (λ (gs : List Group). first ++ gs) cut ∙ sym (append_assoc first whole (last ∷ []))
 
-kept_now : (found : List Bytes) (groups : List Group) (gate : ℕ) (since n : History) → IsKeeping found groups gate since n → LeavesOnly (OpensWithin found groups (length groups)) n.file
+kept_now : (found : List Bytes) (groups : List Group) (gate : ℕ) (since n : History)
+    → IsKeeping found groups gate since n → LeavesOnly (OpensWithin found groups (length groups)) n.file
 kept_now found groups gate since n keeping = ((keeps_on.more) found groups gate since n keeping).now
 
 -- What a stop leaves in the end: what was kept first, and of the groups behind it as many as were answered.

@@ -21,9 +21,11 @@ use Rattle.djq_words.specs.Asks.{IsAsked, Answers}
 use Rattle.djq.specs.Ends.{Serves}
 
 -- The machine was at the start, and no session is open there.
-pub serves : (status : Status) (before now : Outside) (machine start state : State) → machine ≡ start → start.sessions ≡ [] → RunEnds status before now machine state → Serves start status before now
+pub serves : (status : Status) (before now : Outside) (machine start state : State) → machine ≡ start → start.sessions
+    ≡ [] → RunEnds status before now machine state → Serves start status before now
 serves status before now machine start state e none run =
-    let from_start : RunEnds status before now start state = subst (λ (st : State). RunEnds status before now st state) e run in
+    let from_start : RunEnds status before now start state = subst (λ (st : State). RunEnds status before now st state)
+    e run in
     record { state = state; run = from_start; headline = headline start before now state from_start.course none }
 
 -- out of memory before anything was done
@@ -39,7 +41,8 @@ pub asks_for : (words : List Bytes) (o p : Option Asked) → o ≡ p → Answers
 asks_for words o p e h = subst (λ (k : Option Asked). Answers words k) e h
 
 -- The query of which a mirror is asked for is a name.
-pub names_query : (words : List Text) (query : Bor Text) → Answers words (Some (Mirror query)) → is_name query.now ≡ true
+pub names_query : (words : List Text) (query : Bor Text) → Answers words (Some (Mirror query)) → is_name query.now
+    ≡ true
 names_query words query asks = named (subcommand_of djq_app words) asks.1
   where
     named : (o : Option (Text × List Row)) → IsSomeAnd o (λ c. IsAsked c (Mirror query)) → is_name query.now ≡ true

@@ -16,9 +16,13 @@ use Rattle.djq_machine.specs.Call.{Counts}
 use Rattle.djq_machine.specs.declared.machine.Loaded.TheVariants.{Refused as refused}
 use Rattle.djq_machine.specs.Loading.{Loading, loading, LoadStep, Loads}
 use Rattle.djq_run.specs.declared.status.Status.{Status}
-use Rattle.djq_run.specs.declared.status.Status.TheVariants.{Done, NoMemory, HubFault, TurnsUsed, DiskFault, LogFull, BadLog}
+use Rattle.djq_run.specs.declared.status.Status.TheVariants.{Done, NoMemory, HubFault, TurnsUsed}
+use Rattle.djq_run.specs.declared.status.Status.TheVariants.{DiskFault, LogFull, BadLog}
 use Rattle.djq_serve.specs.declared.served.Served.{Served}
-use Rattle.djq_serve.specs.declared.served.Served.TheVariants.{Stopped, Over, TurnsUsed as AllTaken, HubFault as HubFailed, DiskFault as DiskFailed, LogFull as Full}
+use Rattle.djq_serve.specs.declared.served.Served.TheVariants.{Stopped, Over, TurnsUsed as AllTaken}
+use Rattle.djq_serve.specs.declared.served.Served.TheVariants.{HubFault as HubFailed}
+use Rattle.djq_serve.specs.declared.served.Served.TheVariants.{DiskFault as DiskFailed}
+use Rattle.djq_serve.specs.declared.served.Served.TheVariants.{LogFull as Full}
 use Rattle.djq_serve.specs.Logged.{DiskCounts, IsPlain}
 
 -- A disk, as the program shows it: what it went through, where that is told, and its count of faults.

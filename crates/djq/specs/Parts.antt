@@ -18,7 +18,8 @@ use Rattle.djq_machine.specs.Loading.{Loading, loading, Loads}
 use Rattle.djq_run.specs.declared.status.Status.{Status}
 use Rattle.djq_run.specs.declared.status.Status.TheVariants.{NoMemory, DiskFault, LogFull}
 use Rattle.djq_schedule.specs.Sent.{sent_text}
-use Rattle.djq.specs.Logged.{DiskSeen, LogSeen, asked_for, IsMade, abandoning, first_kept, Finds, IsUnmade, UnloadedFor, Begins, FoundIn, NeverBegins}
+use Rattle.djq.specs.Logged.{DiskSeen, LogSeen, asked_for, IsMade, abandoning, first_kept, Finds}
+use Rattle.djq.specs.Logged.{IsUnmade, UnloadedFor, Begins, FoundIn, NeverBegins}
 use Rattle.djq.specs.Replay.{first_fault}
 
 -- A file was opened, and where it had no bytes a journal without lines was made in it.

@@ -1,5 +1,6 @@
 -- How `replay` ends: a schedule is read whole, its hub is served, and what was sent is written.
-use Rattle.std.specs.Prelude.{ℕ, List, [], false, ◌≡◌, ◌+◌, ◌<◌, ◌≤◌, ◌⊎◌, Option, Some, length, take, drop, Result, Ok, Err}
+use Rattle.std.specs.Prelude.{ℕ, List, [], false, ◌≡◌, ◌+◌, ◌<◌, ◌≤◌, ◌⊎◌, Option, Some, length}
+use Rattle.std.specs.Prelude.{take, drop, Result, Ok, Err}
 use Rattle.std.specs.List.{concat}
 use Rattle.djq_io.specs.Faults.{Counted}
 use Rattle.djq_io.specs.Hub.{Ids, no_ids}
@@ -17,7 +18,8 @@ use Rattle.djq_machine.specs.Call.{Counts}
 use Rattle.djq_laws.specs.declared.limits.TheConstants.{MOST_READS}
 use Rattle.djq_laws.specs.Course.{Outside}
 use Rattle.djq_run.specs.declared.status.Status.{Status}
-use Rattle.djq_run.specs.declared.status.Status.TheVariants.{ReadFault, WriteFault, TurnsUsed, NoMemory, Schedule, DiskFault, LogFull}
+use Rattle.djq_run.specs.declared.status.Status.TheVariants.{ReadFault, WriteFault, TurnsUsed}
+use Rattle.djq_run.specs.declared.status.Status.TheVariants.{NoMemory, Schedule, DiskFault, LogFull}
 use Rattle.djq_run.specs.Ends.{IsAtEnd}
 use Rattle.djq_schedule.specs.Schedule.{lines_of}
 use Rattle.djq_schedule.specs.Made.{turns_of}

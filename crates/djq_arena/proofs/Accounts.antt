@@ -1,5 +1,6 @@
 -- What a store's rows say of it.
-use Rattle.std.proofs.Common.{◌≡◌, ℕ, suc, ◌*◌, ◌<◌, List, [], ◌∷◌, ◌++◌, length, None, refl, ap, subst, sym, ◌∙◌, arith, length-take, length-drop}
+use Rattle.std.proofs.Common.{◌≡◌, ℕ, suc, ◌*◌, ◌<◌, List, [], ◌∷◌, ◌++◌, length, None, refl, ap}
+use Rattle.std.proofs.Common.{subst, sym, ◌∙◌, arith, length-take, length-drop}
 use Rattle.djq_arena.specs.declared.store.Store.{Store}
 use Rattle.djq_arena.specs.declared.chain.Ends.{Ends}
 use Rattle.djq_arena.specs.Chains.{AreBelow, first_of, last_of, Linked, pair_at}
@@ -14,17 +15,22 @@ use Rattle.djq_arena.proofs.RowLemmas.{split_at, held_slot, slots_in, same_rows}
 pub row_within : (a : Store) (i : ℕ) → IsSound a → IsHeld (rows_of a) i → i < length a.order.items
 row_within a i h held = held_within a i h (held_slot a i held)
 
-pub row_cells : (a : Store) (i : ℕ) (xs : List Row) (r : Row) (ys : List Row) → rows_of a ≡ xs ++ r ∷ ys → r.slot ≡ i → cells_at a.width a.cells.items i ≡ r.cells
+pub row_cells : (a : Store) (i : ℕ) (xs : List Row) (r : Row) (ys : List Row) → rows_of a ≡ xs ++ r ∷ ys → r.slot ≡ i
+    → cells_at a.width a.cells.items i ≡ r.cells
 row_cells a i xs r ys is at = ap (cells_at a.width a.cells.items) (sym at) ∙ (split_at a xs r ys is).cells
 
-row_chain : (a : Store) (i : ℕ) (xs : List Row) (r : Row) (ys : List Row) → IsSound a → rows_of a ≡ xs ++ r ∷ ys → r.slot ≡ i → Linked a.order.items None (slots xs ++ i ∷ slots ys) None
+row_chain : (a : Store) (i : ℕ) (xs : List Row) (r : Row) (ys : List Row) → IsSound a → rows_of a ≡ xs ++ r ∷ ys
+    → r.slot ≡ i → Linked a.order.items None (slots xs ++ i ∷ slots ys) None
 row_chain a i xs r ys h is at =
-    subst (λ zs. Linked a.order.items None zs None) ((split_at a xs r ys is).live ∙ ap (λ (n : ℕ). slots xs ++ n ∷ slots ys) at) h.store.order
+    subst (λ zs. Linked a.order.items None zs None)
+    ((split_at a xs r ys is).live ∙ ap (λ (n : ℕ). slots xs ++ n ∷ slots ys) at) h.store.order
 
-pub row_next : (a : Store) (i : ℕ) (xs : List Row) (r : Row) (ys : List Row) → IsSound a → rows_of a ≡ xs ++ r ∷ ys → r.slot ≡ i → (pair_at a.order.items i).next ≡ first_of (slots ys)
+pub row_next : (a : Store) (i : ℕ) (xs : List Row) (r : Row) (ys : List Row) → IsSound a → rows_of a ≡ xs ++ r ∷ ys
+    → r.slot ≡ i → (pair_at a.order.items i).next ≡ first_of (slots ys)
 row_next a i xs r ys h is at = next_here a.order.items (slots xs) i (slots ys) (row_chain a i xs r ys h is at)
 
-pub row_prev : (a : Store) (i : ℕ) (xs : List Row) (r : Row) (ys : List Row) → IsSound a → rows_of a ≡ xs ++ r ∷ ys → r.slot ≡ i → (pair_at a.order.items i).prev ≡ last_of (slots xs)
+pub row_prev : (a : Store) (i : ℕ) (xs : List Row) (r : Row) (ys : List Row) → IsSound a → rows_of a ≡ xs ++ r ∷ ys
+    → r.slot ≡ i → (pair_at a.order.items i).prev ≡ last_of (slots xs)
 row_prev a i xs r ys h is at = prev_here a.order.items (slots xs) i (slots ys) (row_chain a i xs r ys h is at)
 
 slots_of : (a : Store) → slots (rows_of a) ≡ live_of a
@@ -49,16 +55,19 @@ row_wide : (w n : ℕ) (cells : List ℕ) (i : ℕ) → length cells ≡ n * w �
 unfolding cells_at
 row_wide w n cells i long h = simp (length-take, length-drop) (omega (arith, row_fits i n w h, long))
 
-rows_wide : (w n : ℕ) (cells : List ℕ) (xs : List ℕ) → length cells ≡ n * w → AreBelow n xs → AreWide w (rows_in w cells xs)
+rows_wide : (w n : ℕ) (cells : List ℕ) (xs : List ℕ) → length cells ≡ n * w → AreBelow n xs
+    → AreWide w (rows_in w cells xs)
 unfolding AreWide rows_in AreBelow
 rows_wide w n cells [] long b = tt
 rows_wide w n cells (x ∷ xs) long b = (row_wide w n cells x long b.0, rows_wide w n cells xs long b.1)
 
 all_wide : (a : Store) → IsSound a → AreWide a.width (rows_of a)
 unfolding rows_of
-all_wide a h = rows_wide a.width (length a.order.items) a.cells.items (live_of a) h.store.cells (below_front (length a.order.items) (live_of a) (free_of a) h.store.below)
+all_wide a h = rows_wide a.width (length a.order.items) a.cells.items (live_of a) h.store.cells
+    (below_front (length a.order.items) (live_of a) (free_of a) h.store.below)
 
-pub rows_law : (a : Store) → IsSound a → AreRows (record { width = a.width; room = length a.order.items; rows = rows_of a })
+pub rows_law : (a : Store) → IsSound a
+    → AreRows (record { width = a.width; room = length a.order.items; rows = rows_of a })
 rows_law a h = record {
   different = rw slots_of (different_front (live_of a) (free_of a) h.store.apart);
   below = rw slots_of (below_front (length a.order.items) (live_of a) (free_of a) h.store.below);

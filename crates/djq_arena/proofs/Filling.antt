@@ -1,15 +1,22 @@
 -- Rows that are written into slots.
-use Rattle.std.proofs.Common.{◌≡◌, ◌≢◌, ℕ, ◌+◌, ◌-◌, ◌*◌, ◌≤◌, ◌<◌, List, [], ◌∷◌, ◌++◌, length, take, drop, Option, Some, None, refl, ap, ap₂, subst, sym, ◌∙◌, arith, length-append, inl, inr, length-take, length-drop, rules, Result, Ok, Err}
+use Rattle.std.proofs.Common.{◌≡◌, ◌≢◌, ℕ, ◌+◌, ◌-◌, ◌*◌, ◌≤◌, ◌<◌, List, [], ◌∷◌, ◌++◌, length}
+use Rattle.std.proofs.Common.{take, drop, Option, Some, None, refl, ap, ap₂, subst, sym, ◌∙◌, arith}
+use Rattle.std.proofs.Common.{length-append, inl, inr, length-take, length-drop, rules, Result, Ok}
+use Rattle.std.proofs.Common.{Err}
 use Rattle.std.specs.Result.{OnErr}
-use Rattle.std.proofs.lemmas.List.{take_all, drop_at, drop-append-le, take-append-le, places, get_or_append_left, same_lists}
+use Rattle.std.proofs.lemmas.List.{take_all, drop_at, drop-append-le, take-append-le, places}
+use Rattle.std.proofs.lemmas.List.{get_or_append_left, same_lists}
 use Rattle.std.proofs.lemmas.Bool.{cases_order, cases_eq}
 use Rattle.djq_arena.specs.declared.chain.Pair.{Pair}
 use Rattle.djq_arena.specs.declared.store.Store.{Store}
 use Rattle.djq_arena.specs.Chains.{pair_at, IsOut, AreBelow, Agree}
 use Rattle.djq_arena.specs.Rows.{Row}
-use Rattle.djq_arena.specs.Store.{class, cells_at, bucket_of, IsStore, live_of, free_of, IsSound, rows_in, rows_of, IsSame, IsPrepared}
+use Rattle.djq_arena.specs.Store.{class, cells_at, bucket_of, IsStore, live_of, free_of, IsSound}
+use Rattle.djq_arena.specs.Store.{rows_in, rows_of, IsSame, IsPrepared}
 use Rattle.djq_arena.specs.Buckets.{AreBuckets}
-use Rattle.djq_arena.proofs.Lists.{out_front, different_out, different_here, below_front, below_back, below_here, below_out, below_more, below_unlike, starts_with, starts_empty, below_at}
+use Rattle.djq_arena.proofs.Lists.{out_front, different_out, different_here, below_front}
+use Rattle.djq_arena.proofs.Lists.{below_back, below_here, below_out, below_more, below_unlike}
+use Rattle.djq_arena.proofs.Lists.{starts_with, starts_empty, below_at}
 use Rattle.djq_arena.proofs.Chaining.{linked_same, onward_same, onward_next, onward_rest}
 use Rattle.djq_arena.proofs.Following.{Keeps, keeps_append, keeps_self}
 use Rattle.djq_arena.proofs.Bucketing.{buckets_kept}
@@ -24,11 +31,13 @@ unfoldable pub Alike : ℕ → List ℕ → List ℕ → List ℕ → Type 0
 Alike w old new [] = Unit {0}
 Alike w old new (x ∷ xs) = (cells_at w new x ≡ cells_at w old x) × Alike w old new xs
 
-alike_both : (w : ℕ) (old new : List ℕ) (x : ℕ) (xs : List ℕ) → Alike w old new (x ∷ xs) → (cells_at w new x ≡ cells_at w old x) × Alike w old new xs
+alike_both : (w : ℕ) (old new : List ℕ) (x : ℕ) (xs : List ℕ) → Alike w old new (x ∷ xs)
+    → (cells_at w new x ≡ cells_at w old x) × Alike w old new xs
 unfolding Alike
 alike_both w old new x xs h = h
 
-pub alike_at : (w : ℕ) (old new : List ℕ) (xs : List ℕ) (i : ℕ) → Alike w old new xs → (IsOut i xs → ⊥) → cells_at w new i ≡ cells_at w old i
+pub alike_at : (w : ℕ) (old new : List ℕ) (xs : List ℕ) (i : ℕ) → Alike w old new xs → (IsOut i xs → ⊥)
+    → cells_at w new i ≡ cells_at w old i
 unfolding IsOut
 alike_at w old new [] i h held = absurd (held tt)
 alike_at w old new (x ∷ xs) i h held =
@@ -40,16 +49,21 @@ alike_at w old new (x ∷ xs) i h held =
 pub rows_alike : (w : ℕ) (old new : List ℕ) (xs : List ℕ) → Alike w old new xs → rows_in w new xs ≡ rows_in w old xs
 unfolding Alike rows_in
 rows_alike w old new [] h = refl
-rows_alike w old new (x ∷ xs) h = ap₂ (λ (u : List ℕ) (rs : List Row). record { slot = x; cells = u } ∷ rs) h.0 (rows_alike w old new xs h.1)
+rows_alike w old new (x ∷ xs) h = ap₂ (λ (u : List ℕ) (rs : List Row). record { slot = x; cells = u } ∷ rs) h.0
+    (rows_alike w old new xs h.1)
 
 pub agree_append : (ls : List Pair) (p : Pair) (xs : List ℕ) → AreBelow (length ls) xs → Agree ls (ls ++ p ∷ []) xs
 unfolding Agree AreBelow
 agree_append ls p [] h = tt
-agree_append ls p (x ∷ xs) h = (get_or_append_left ls (p ∷ []) (record { prev = None; next = None }) x h.0, agree_append ls p xs h.1)
+agree_append ls p (x ∷ xs) h =
+    (get_or_append_left ls (p ∷ []) (record { prev = None; next = None }) x h.0, agree_append ls p xs h.1)
 
-pub buckets_moved : (m w : ℕ) (old new : List ℕ) (bucket more heads : List (Option ℕ)) (xs : List ℕ) → AreBuckets (bucket_of m w old) bucket heads xs → Alike w old new xs → Keeps bucket more xs → AreBuckets (bucket_of m w new) more heads xs
+pub buckets_moved : (m w : ℕ) (old new : List ℕ) (bucket more heads : List (Option ℕ)) (xs : List ℕ)
+    → AreBuckets (bucket_of m w old) bucket heads xs → Alike w old new xs → Keeps bucket more xs
+    → AreBuckets (bucket_of m w new) more heads xs
 buckets_moved m w old new bucket more heads xs b h k =
-    buckets_kept (bucket_of m w old) (bucket_of m w new) bucket more heads xs b (λ i held. ap (class m) (alike_at w old new xs i h held)) k
+    buckets_kept (bucket_of m w old) (bucket_of m w new) bucket more heads xs b
+    (λ i held. ap (class m) (alike_at w old new xs i h held)) k
 
 -- a new slot
 pub record Extends (a b : Store) (u : List ℕ) : Type 0 where
@@ -65,13 +79,16 @@ pub record Extends (a b : Store) (u : List ℕ) : Type 0 where
   pub len : b.len ≡ a.len
   pub spare : b.spare ≡ a.spare
 
-row_stays : (w : ℕ) (cells u : List ℕ) (n x : ℕ) → length cells ≡ n * w → x < n → cells_at w (cells ++ u) x ≡ cells_at w cells x
+row_stays : (w : ℕ) (cells u : List ℕ) (n x : ℕ) → length cells ≡ n * w → x < n → cells_at w (cells ++ u) x
+    ≡ cells_at w cells x
 unfolding cells_at
 row_stays w cells u n x long h =
     let fits : x * w + w ≤ length cells = omega (arith, row_fits x n w h, long) in
-    ap (take w) (drop-append-le (x * w) cells u (omega (arith, fits))) ∙ take-append-le w (drop (x * w) cells) u (simp length-drop (omega (arith, fits)))
+    ap (take w) (drop-append-le (x * w) cells u (omega (arith, fits)))
+    ∙ take-append-le w (drop (x * w) cells) u (simp length-drop (omega (arith, fits)))
 
-rows_stay : (w : ℕ) (cells u : List ℕ) (n : ℕ) (xs : List ℕ) → length cells ≡ n * w → AreBelow n xs → Alike w cells (cells ++ u) xs
+rows_stay : (w : ℕ) (cells u : List ℕ) (n : ℕ) (xs : List ℕ) → length cells ≡ n * w → AreBelow n xs
+    → Alike w cells (cells ++ u) xs
 unfolding Alike AreBelow
 rows_stay w cells u n [] long h = tt
 rows_stay w cells u n (x ∷ xs) long h = (row_stays w cells u n x long h.0, rows_stay w cells u n xs long h.1)
@@ -80,22 +97,33 @@ row_comes : (w : ℕ) (cells u : List ℕ) (n : ℕ) → length cells ≡ n * w 
 unfolding cells_at
 row_comes w cells u n long wide = ap (take w) (drop_at cells u (n * w) long) ∙ take_all w u (omega (arith, wide))
 
-extend_store : (a b : Store) (xs fs u : List ℕ) → IsStore a xs fs → Extends a b u → length u ≡ a.width → length a.order.items < 4294967295 → IsStore b xs fs
+extend_store : (a b : Store) (xs fs u : List ℕ) → IsStore a xs fs → Extends a b u → length u ≡ a.width
+    → length a.order.items < 4294967295 → IsStore b xs fs
 extend_store a b xs fs u h e wide room = record {
   live = e.live ∙ h.live;
   free = e.free ∙ h.free;
   count = h.count ∙ sym e.len;
   spare = h.spare ∙ sym e.spare;
   apart = h.apart;
-  below = subst (λ n. AreBelow n (xs ++ fs)) (sym longer) (below_more (length a.order.items) (length a.order.items + 1) (xs ++ fs) (omega arith) h.below);
-  order = rw e.order (linked_same a.order.items (a.order.items ++ e.pair ∷ []) None xs None (agree_append a.order.items e.pair xs (below_front (length a.order.items) xs fs h.below)) h.order);
-  rest = rw e.order (onward_same a.order.items (a.order.items ++ e.pair ∷ []) fs (agree_append a.order.items e.pair fs (below_back (length a.order.items) xs fs h.below)) h.rest);
-  buckets = rw (e.heads, e.width, e.cells, e.bucket) (buckets_moved (length a.heads.items) a.width a.cells.items (a.cells.items ++ u) a.bucket.items (a.bucket.items ++ e.other ∷ []) a.heads.items xs h.buckets
-      (rows_stay a.width a.cells.items u (length a.order.items) xs h.cells (below_front (length a.order.items) xs fs h.below))
-      (keeps_append a.bucket.items e.other xs (λ i held. below_at (length a.bucket.items) i xs (rw h.pairs (below_front (length a.order.items) xs fs h.below)) held)));
+  below = subst (λ n. AreBelow n (xs ++ fs)) (sym longer)
+      (below_more (length a.order.items) (length a.order.items + 1) (xs ++ fs) (omega arith) h.below);
+  order = rw e.order (linked_same a.order.items (a.order.items ++ e.pair ∷ []) None xs None
+      (agree_append a.order.items e.pair xs (below_front (length a.order.items) xs fs h.below)) h.order);
+  rest = rw e.order (onward_same a.order.items (a.order.items ++ e.pair ∷ []) fs
+      (agree_append a.order.items e.pair fs (below_back (length a.order.items) xs fs h.below)) h.rest);
+  buckets = rw (e.heads, e.width, e.cells, e.bucket)
+      (buckets_moved (length a.heads.items) a.width a.cells.items (a.cells.items ++ u) a.bucket.items
+      (a.bucket.items ++ e.other ∷ []) a.heads.items xs h.buckets
+      (rows_stay a.width a.cells.items u (length a.order.items) xs h.cells
+      (below_front (length a.order.items) xs fs h.below))
+      (keeps_append a.bucket.items e.other xs
+      (λ i held. below_at (length a.bucket.items) i xs
+      (rw h.pairs (below_front (length a.order.items) xs fs h.below)) held)));
   some = rw e.heads h.some;
-  pairs = ap (λ (os : List (Option ℕ)). length os) e.bucket ∙ length-append a.bucket.items (e.other ∷ []) ∙ ap (λ (n : ℕ). n + 1) h.pairs ∙ sym longer;
-  cells = ap (λ (ls : List ℕ). length ls) e.cells ∙ length-append a.cells.items u ∙ grown ∙ sym (ap₂ (λ (n w : ℕ). n * w) longer e.width);
+  pairs = ap (λ (os : List (Option ℕ)). length os) e.bucket ∙ length-append a.bucket.items (e.other ∷ [])
+      ∙ ap (λ (n : ℕ). n + 1) h.pairs ∙ sym longer;
+  cells = ap (λ (ls : List ℕ). length ls) e.cells ∙ length-append a.cells.items u ∙ grown
+      ∙ sym (ap₂ (λ (n w : ℕ). n * w) longer e.width);
   room = omega (arith, h.room, longer, e.len, e.spare);
   numbers = omega (arith, longer, room);
 }
@@ -106,16 +134,19 @@ extend_store a b xs fs u h e wide room = record {
     grown : length a.cells.items + length u ≡ (length a.order.items + 1) * a.width
     grown = omega (arith, h.cells, wide)
 
-pub extends : (a b : Store) (u : List ℕ) → IsSound a → Extends a b u → length u ≡ a.width → length a.order.items < 4294967295 → IsPrepared a b (length a.order.items) u
+pub extends : (a b : Store) (u : List ℕ) → IsSound a → Extends a b u → length u ≡ a.width
+    → length a.order.items < 4294967295 → IsPrepared a b (length a.order.items) u
 unfolding rows_of
 extends a b u h e wide room =
     let s = extend_store a b (live_of a) (free_of a) u h.store e wide room in
     let live = live_is b (live_of a) (free_of a) s in
-    let longer : length b.order.items ≡ length a.order.items + 1 = ap (λ (ls : List Pair). length ls) e.order ∙ length-append a.order.items (e.pair ∷ []) in
+    let longer : length b.order.items ≡ length a.order.items + 1 = ap (λ (ls : List Pair). length ls) e.order
+    ∙ length-append a.order.items (e.pair ∷ []) in
     record {
       sound = sound b (live_of a) (free_of a) s;
       loose = record {
-        out = rw (live, free_is b (live_of a) (free_of a) s) (below_unlike (length a.order.items) (live_of a ++ free_of a) h.store.below);
+        out = rw (live, free_is b (live_of a) (free_of a) s)
+            (below_unlike (length a.order.items) (live_of a ++ free_of a) h.store.below);
         within = omega (arith, longer);
         room = omega (arith, longer, e.len, e.spare, h.store.room);
       };
@@ -129,8 +160,11 @@ extends a b u h e wide room =
     }
   where
     rows_same : live_of b ≡ live_of a → rows_of b ≡ rows_of a
-    rows_same live = ap (λ (xs : List ℕ). rows_in b.width b.cells.items xs) live ∙ ap₂ (λ (w : ℕ) (cs : List ℕ). rows_in w cs (live_of a)) e.width e.cells
-        ∙ rows_alike a.width a.cells.items (a.cells.items ++ u) (live_of a) (rows_stay a.width a.cells.items u (length a.order.items) (live_of a) h.store.cells (below_front (length a.order.items) (live_of a) (free_of a) h.store.below))
+    rows_same live = ap (λ (xs : List ℕ). rows_in b.width b.cells.items xs) live
+        ∙ ap₂ (λ (w : ℕ) (cs : List ℕ). rows_in w cs (live_of a)) e.width e.cells
+        ∙ rows_alike a.width a.cells.items (a.cells.items ++ u) (live_of a)
+        (rows_stay a.width a.cells.items u (length a.order.items) (live_of a) h.store.cells
+        (below_front (length a.order.items) (live_of a) (free_of a) h.store.below))
 
 -- the same store, with arrays that may have moved
 pub record Stays (a b : Store) : Type 0 where
@@ -166,7 +200,13 @@ pub stays : (a b : Store) → IsSound a → Stays a b → IsSame a b
 stays a b h s =
     let k = stay_store a b (live_of a) (free_of a) h.store s in
     record {
-      alike = record { sound = sound b (live_of a) (free_of a) k; width = s.width; cells = s.cells; slots = ap (λ (ls : List Pair). length ls) s.order };
+      alike = record {
+        sound = sound b (live_of a) (free_of a) k;
+        width = s.width;
+        cells = s.cells;
+        slots = ap
+            (λ (ls : List Pair). length ls) s.order;
+      };
       live = live_is b (live_of a) (free_of a) k;
       len = s.len;
       spare = s.spare;
@@ -176,19 +216,23 @@ stays a b h s =
 written : List ℕ → ℕ → List ℕ → List ℕ
 written cells from u = take from cells ++ u ++ drop (from + length u) cells
 
-length_written : (cells : List ℕ) (from : ℕ) (u : List ℕ) → from + length u ≤ length cells → length (written cells from u) ≡ length cells
+length_written : (cells : List ℕ) (from : ℕ) (u : List ℕ) → from + length u ≤ length cells
+    → length (written cells from u) ≡ length cells
 unfolding written
 length_written cells from u h = simp (length-append, length-take, length-drop) (omega (arith, h))
 
-part_before : (cells : List ℕ) (from : ℕ) (u : List ℕ) (j w : ℕ) → from + length u ≤ length cells → j + w ≤ from → take w (drop j (written cells from u)) ≡ take w (drop j cells)
+part_before : (cells : List ℕ) (from : ℕ) (u : List ℕ) (j w : ℕ) → from + length u ≤ length cells → j + w ≤ from
+    → take w (drop j (written cells from u)) ≡ take w (drop j cells)
 unfolding written
 part_before cells from u j w h k = same_lists _ _ (search (rules, places)) (λ i d l. grind (arith, places))
 
-part_after : (cells : List ℕ) (from : ℕ) (u : List ℕ) (j w : ℕ) → from + length u ≤ length cells → from + length u ≤ j → take w (drop j (written cells from u)) ≡ take w (drop j cells)
+part_after : (cells : List ℕ) (from : ℕ) (u : List ℕ) (j w : ℕ) → from + length u ≤ length cells → from + length u ≤ j
+    → take w (drop j (written cells from u)) ≡ take w (drop j cells)
 unfolding written
 part_after cells from u j w h k = same_lists _ _ (search (rules, places)) (λ i d l. grind (arith, places))
 
-part_here : (cells : List ℕ) (from : ℕ) (u : List ℕ) (w : ℕ) → from + length u ≤ length cells → length u ≡ w → take w (drop from (written cells from u)) ≡ u
+part_here : (cells : List ℕ) (from : ℕ) (u : List ℕ) (w : ℕ) → from + length u ≤ length cells → length u ≡ w
+    → take w (drop from (written cells from u)) ≡ u
 unfolding written
 part_here cells from u w h k = same_lists _ _ (search (rules, places)) (λ i d l. grind (arith, places))
 
@@ -204,7 +248,8 @@ pub record Reuses (a b : Store) (i : ℕ) (u : List ℕ) : Type 0 where
   pub len : b.len ≡ a.len
   pub spare : b.spare ≡ a.spare - 1
 
-row_kept : (w : ℕ) (cells : List ℕ) (i : ℕ) (u : List ℕ) (n x : ℕ) → length cells ≡ n * w → length u ≡ w → i < n → x < n → x ≢ i → cells_at w (written cells (i * w) u) x ≡ cells_at w cells x
+row_kept : (w : ℕ) (cells : List ℕ) (i : ℕ) (u : List ℕ) (n x : ℕ) → length cells ≡ n * w → length u ≡ w → i < n → x < n
+    → x ≢ i → cells_at w (written cells (i * w) u) x ≡ cells_at w cells x
 unfolding cells_at
 row_kept w cells i u n x long wide within inside other =
     elim (cases_order x i) [
@@ -216,20 +261,26 @@ row_kept w cells i u n x long wide within inside other =
     fits : i * w + length u ≤ length cells
     fits = omega (arith, row_fits i n w within, long, wide)
 
-rows_kept : (w : ℕ) (cells : List ℕ) (i : ℕ) (u : List ℕ) (n : ℕ) (xs : List ℕ) → length cells ≡ n * w → length u ≡ w → i < n → AreBelow n xs → IsOut i xs → Alike w cells (written cells (i * w) u) xs
+rows_kept : (w : ℕ) (cells : List ℕ) (i : ℕ) (u : List ℕ) (n : ℕ) (xs : List ℕ) → length cells ≡ n * w → length u ≡ w
+    → i < n → AreBelow n xs → IsOut i xs → Alike w cells (written cells (i * w) u) xs
 unfolding Alike AreBelow IsOut
 rows_kept w cells i u n [] long wide within b o = tt
-rows_kept w cells i u n (x ∷ xs) long wide within b o = (row_kept w cells i u n x long wide within b.0 o.0, rows_kept w cells i u n xs long wide within b.1 o.1)
+rows_kept w cells i u n (x ∷ xs) long wide within b o =
+    (row_kept w cells i u n x long wide within b.0 o.0, rows_kept w cells i u n xs long wide within b.1 o.1)
 
-row_written : (w : ℕ) (cells : List ℕ) (i : ℕ) (u : List ℕ) (n : ℕ) → length cells ≡ n * w → length u ≡ w → i < n → cells_at w (written cells (i * w) u) i ≡ u
+row_written : (w : ℕ) (cells : List ℕ) (i : ℕ) (u : List ℕ) (n : ℕ) → length cells ≡ n * w → length u ≡ w → i < n
+    → cells_at w (written cells (i * w) u) i ≡ u
 unfolding cells_at
-row_written w cells i u n long wide within = part_here cells (i * w) u w (omega (arith, row_fits i n w within, long, wide)) wide
+row_written w cells i u n long wide within = part_here cells (i * w) u w
+    (omega (arith, row_fits i n w within, long, wide)) wide
 
-written_is : (cells : List ℕ) (from : ℕ) (u : List ℕ) → written cells from u ≡ take from cells ++ u ++ drop (from + length u) cells
+written_is : (cells : List ℕ) (from : ℕ) (u : List ℕ) → written cells from u
+    ≡ take from cells ++ u ++ drop (from + length u) cells
 unfolding written
 written_is cells from u = refl
 
-module _ (a b : Store) (xs gs : List ℕ) (i : ℕ) (u : List ℕ) (h : IsStore a xs (i ∷ gs)) (r : Reuses a b i u) (wide : length u ≡ a.width) where
+module _ (a b : Store) (xs gs : List ℕ) (i : ℕ) (u : List ℕ) (h : IsStore a xs (i ∷ gs)) (r : Reuses a b i u)
+    (wide : length u ≡ a.width) where
   reuse_cells : b.cells.items ≡ written a.cells.items (i * a.width) u
   reuse_cells = r.cells ∙ sym (written_is a.cells.items (i * a.width) u)
 
@@ -243,10 +294,12 @@ module _ (a b : Store) (xs gs : List ℕ) (i : ℕ) (u : List ℕ) (h : IsStore 
   reuse_inside = below_out (length a.order.items) xs i gs h.below
 
   reuse_alike : Alike a.width a.cells.items (written a.cells.items (i * a.width) u) xs
-  reuse_alike = rows_kept a.width a.cells.items i u (length a.order.items) xs h.cells wide reuse_within (below_front (length a.order.items) xs gs reuse_inside) (out_front i xs gs reuse_out)
+  reuse_alike = rows_kept a.width a.cells.items i u (length a.order.items) xs h.cells wide reuse_within
+      (below_front (length a.order.items) xs gs reuse_inside) (out_front i xs gs reuse_out)
 
   reuse_long : length (written a.cells.items (i * a.width) u) ≡ length a.cells.items
-  reuse_long = length_written a.cells.items (i * a.width) u (omega (arith, row_fits i (length a.order.items) a.width reuse_within, h.cells, wide))
+  reuse_long = length_written a.cells.items (i * a.width) u
+      (omega (arith, row_fits i (length a.order.items) a.width reuse_within, h.cells, wide))
 
   reuse_store : IsStore b xs gs
   reuse_store = record {
@@ -258,7 +311,9 @@ module _ (a b : Store) (xs gs : List ℕ) (i : ℕ) (u : List ℕ) (h : IsStore 
     below = rw r.order reuse_inside;
     order = rw r.order h.order;
     rest = rw r.order (onward_rest a.order.items i gs h.rest);
-    buckets = rw (r.heads, r.width, reuse_cells, r.bucket) (buckets_moved (length a.heads.items) a.width a.cells.items (written a.cells.items (i * a.width) u) a.bucket.items a.bucket.items a.heads.items xs h.buckets reuse_alike (keeps_self a.bucket.items xs));
+    buckets = rw (r.heads, r.width, reuse_cells, r.bucket)
+        (buckets_moved (length a.heads.items) a.width a.cells.items (written a.cells.items (i * a.width) u)
+        a.bucket.items a.bucket.items a.heads.items xs h.buckets reuse_alike (keeps_self a.bucket.items xs));
     some = rw r.heads h.some;
     pairs = rw (r.bucket, r.order) h.pairs;
     cells = rw (reuse_cells, r.width, r.order, reuse_long) h.cells;
@@ -268,8 +323,10 @@ module _ (a b : Store) (xs gs : List ℕ) (i : ℕ) (u : List ℕ) (h : IsStore 
 
   reuse_rows : live_of b ≡ live_of a → live_of a ≡ xs → rows_of b ≡ rows_of a
   unfolding rows_of
-  reuse_rows live is = ap (λ (ys : List ℕ). rows_in b.width b.cells.items ys) (live ∙ is) ∙ ap₂ (λ (w : ℕ) (cs : List ℕ). rows_in w cs xs) r.width reuse_cells
-      ∙ rows_alike a.width a.cells.items (written a.cells.items (i * a.width) u) xs reuse_alike ∙ ap (λ (ys : List ℕ). rows_in a.width a.cells.items ys) (sym is)
+  reuse_rows live is = ap (λ (ys : List ℕ). rows_in b.width b.cells.items ys) (live ∙ is)
+      ∙ ap₂ (λ (w : ℕ) (cs : List ℕ). rows_in w cs xs) r.width reuse_cells
+      ∙ rows_alike a.width a.cells.items (written a.cells.items (i * a.width) u) xs reuse_alike
+      ∙ ap (λ (ys : List ℕ). rows_in a.width a.cells.items ys) (sym is)
 
   reuse_prepared : live_of a ≡ xs → IsPrepared a b i u
   reuse_prepared is =
@@ -283,14 +340,16 @@ module _ (a b : Store) (xs gs : List ℕ) (i : ℕ) (u : List ℕ) (h : IsStore 
         };
         live = live;
         width = r.width;
-        here = rw (r.width, reuse_cells) (row_written a.width a.cells.items i u (length a.order.items) h.cells wide reuse_within);
+        here = rw (r.width, reuse_cells)
+            (row_written a.width a.cells.items i u (length a.order.items) h.cells wide reuse_within);
         rows = reuse_rows live is;
         slots = ap (λ (ls : List Pair). length ls) r.order ∙ omega (arith, reuse_within);
         fits = omega (arith, reuse_within);
         alone = λ tidy. ap (λ (ls : List Pair). length ls) r.order ∙ omega (arith, tidy, r.len, r.spare, h.spare);
       }
 
-pub reuses : (a b : Store) (i : ℕ) (u : List ℕ) → IsSound a → a.free ≡ Some i → Reuses a b i u → length u ≡ a.width → IsPrepared a b i u
+pub reuses : (a b : Store) (i : ℕ) (u : List ℕ) → IsSound a → a.free ≡ Some i → Reuses a b i u → length u ≡ a.width
+    → IsPrepared a b i u
 reuses a b i u h newest r wide =
     let e = starts_with (free_of a) i (sym h.store.free ∙ newest) in
     reuse_prepared a b (live_of a) e.back i u (subst (IsStore a (live_of a)) e.is h.store) r wide refl
@@ -299,19 +358,25 @@ reuses a b i u h newest r wide =
 pub newest_free : (a : Store) (i : ℕ) → IsSound a → a.free ≡ Some i → i < length a.order.items
 newest_free a i h newest =
     let e = starts_with (free_of a) i (sym h.store.free ∙ newest) in
-    below_here (length a.order.items) (live_of a) i e.back (subst (λ fs. AreBelow (length a.order.items) (live_of a ++ fs)) e.is h.store.below)
+    below_here (length a.order.items) (live_of a) i e.back
+    (subst (λ fs. AreBelow (length a.order.items) (live_of a ++ fs)) e.is h.store.below)
 
-pub newest_fits : (a : Store) (i : ℕ) (u : List ℕ) → IsSound a → a.free ≡ Some i → length u ≡ a.width → i * a.width + length u ≤ length a.cells.items
-newest_fits a i u h newest wide = omega (arith, row_fits i (length a.order.items) a.width (newest_free a i h newest), h.store.cells, wide)
+pub newest_fits : (a : Store) (i : ℕ) (u : List ℕ) → IsSound a → a.free ≡ Some i → length u ≡ a.width
+    → i * a.width + length u ≤ length a.cells.items
+newest_fits a i u h newest wide = omega
+    (arith, row_fits i (length a.order.items) a.width (newest_free a i h newest), h.store.cells, wide)
 
 -- what holds anyway holds on an error
 pub on_err : {T E : Type 0} (r : Result T E) (P : Type 0) → P → OnErr r P
 on_err (Ok x) P p = tt
 on_err (Err e) P p = p
 
-pub extends_at : (a b : Store) (u : List ℕ) (n : ℕ) → length a.order.items ≡ n → IsSound a → Extends a b u → length u ≡ a.width → n < 4294967295 → IsPrepared a b n u
-extends_at a b u n long h e wide room = subst (λ m. IsPrepared a b m u) long (extends a b u h e wide (omega (arith, long, room)))
+pub extends_at : (a b : Store) (u : List ℕ) (n : ℕ) → length a.order.items ≡ n → IsSound a → Extends a b u → length u
+    ≡ a.width → n < 4294967295 → IsPrepared a b n u
+extends_at a b u n long h e wide room = subst (λ m. IsPrepared a b m u) long
+    (extends a b u h e wide (omega (arith, long, room)))
 
 -- where no slot is free, each one holds a row
 pub none_free : (a : Store) → IsSound a → a.free ≡ None → a.spare ≡ 0
-none_free a h none = sym h.store.spare ∙ ap (λ (xs : List ℕ). length xs) (starts_empty (free_of a) (sym h.store.free ∙ none))
+none_free a h none = sym h.store.spare
+    ∙ ap (λ (xs : List ℕ). length xs) (starts_empty (free_of a) (sym h.store.free ∙ none))

@@ -1,13 +1,17 @@
 -- A store with other buckets.
-use Rattle.std.proofs.Common.{◌≡◌, ℕ, ◌+◌, ◌<◌, List, [], ◌∷◌, length, slice_set, Option, Some, None, refl, ap, subst, sym, ◌∙◌, inl, inr, arith, length-set, replicate}
+use Rattle.std.proofs.Common.{◌≡◌, ℕ, ◌+◌, ◌<◌, List, [], ◌∷◌, length, slice_set, Option, Some}
+use Rattle.std.proofs.Common.{None, refl, ap, subst, sym, ◌∙◌, inl, inr, arith, length-set}
+use Rattle.std.proofs.Common.{replicate}
 use Rattle.std.proofs.lemmas.Bool.{cases_eq}
 use Rattle.std.proofs.lemmas.List.{length-replicate}
 use Rattle.djq_arena.specs.declared.chain.Pair.{Pair}
 use Rattle.djq_arena.specs.declared.store.Store.{Store}
 use Rattle.djq_arena.specs.Chains.{Linked, Onward, IsOut, AreDifferent, AreBelow}
 use Rattle.djq_arena.specs.Buckets.{link_at}
-use Rattle.djq_arena.specs.Store.{ends_of, class, cells_at, bucket_of, AreListed, IsStore, live_of, free_of, IsSound, rows_in, rows_of, IsSame}
-use Rattle.djq_arena.proofs.Lists.{different_front, below_front, in_or_out, held_not_out, below_at, no_longer, out_first, out_rest, out_more}
+use Rattle.djq_arena.specs.Store.{ends_of, class, cells_at, bucket_of, AreListed, IsStore, live_of}
+use Rattle.djq_arena.specs.Store.{free_of, IsSound, rows_in, rows_of, IsSame}
+use Rattle.djq_arena.proofs.Lists.{different_front, below_front, in_or_out, held_not_out, below_at}
+use Rattle.djq_arena.proofs.Lists.{no_longer, out_first, out_rest, out_more}
 use Rattle.djq_arena.proofs.Bucketing.{buckets_same, empty_buckets, listed_buckets}
 use Rattle.djq_arena.proofs.Storing.{live_is, sound}
 
@@ -15,7 +19,8 @@ out_none : (i : ℕ) → IsOut i []
 unfolding IsOut
 out_none i = tt
 
-pub none_listed : (w : ℕ) (cells : List ℕ) (links heads : List (Option ℕ)) → heads ≡ replicate (length heads) None → AreListed w cells links heads 0
+pub none_listed : (w : ℕ) (cells : List ℕ) (links heads : List (Option ℕ)) → heads ≡ replicate (length heads) None
+    → AreListed w cells links heads 0
 none_listed w cells links heads empty = record {
   slots = [];
   count = refl;
@@ -32,14 +37,17 @@ done_before j i xs done below out =
     ]
 
 -- slot j comes into bucket k
-pub listed_more : (w : ℕ) (cells : List ℕ) (links heads : List (Option ℕ)) (j k : ℕ) → AreListed w cells links heads j → j < length links → k < length heads → k ≡ class (length heads) (cells_at w cells j)
+pub listed_more : (w : ℕ) (cells : List ℕ) (links heads : List (Option ℕ)) (j k : ℕ) → AreListed w cells links heads j
+    → j < length links → k < length heads → k ≡ class (length heads) (cells_at w cells j)
     → AreListed w cells (slice_set links j (link_at heads k)) (slice_set heads k (Some j)) (j + 1)
 listed_more w cells links heads j k r within inside its = record {
   slots = j ∷ r.slots;
   count = omega (arith, r.count);
   done = λ i below out. done_before j i r.slots r.done below out;
   out = λ i above. out_more i j r.slots (λ same. omega (arith, above, same)) (r.out i (omega (arith, above)));
-  buckets = rw length-set (listed_buckets (bucket_of (length heads) w cells) links heads r.slots j k r.buckets (r.out j (omega arith)) within inside (sym its));
+  buckets = rw length-set
+      (listed_buckets (bucket_of (length heads) w cells) links heads r.slots j k r.buckets (r.out j (omega arith))
+      within inside (sym its));
 }
 
 -- the same store in other buckets
@@ -62,7 +70,13 @@ different_with i xs h k = (h, k)
 -- where each slot holds a row, the slots are those of the rows
 pub rebuilt : (a b : Store) → IsSound a → length a.order.items ≡ a.len → Relists a b → IsSame a b
 rebuilt a b h full r = record {
-  alike = record { sound = sound b (live_of a) (free_of a) s; width = r.width; cells = r.cells; slots = ap (λ (ls : List Pair). length ls) r.order };
+  alike = record {
+    sound = sound b (live_of a) (free_of a) s;
+    width = r.width;
+    cells = r.cells;
+    slots = ap
+        (λ (ls : List Pair). length ls) r.order;
+  };
   live = live_is b (live_of a) (free_of a) s;
   len = r.len;
   spare = r.spare;
@@ -76,18 +90,27 @@ rebuilt a b h full r = record {
 
     there : (i : ℕ) → IsOut i r.listed.slots → IsOut i (live_of a)
     there i away = elim (in_or_out i (live_of a)) [
-      | inl held ↦ absurd (r.listed.done i (omega (arith, below_at (length a.order.items) i (live_of a) below (held_not_out i (live_of a) held), full, over)) away)
+      | inl held ↦ absurd (r.listed.done i
+          (omega (
+            arith,
+            below_at (length a.order.items) i (live_of a) below (held_not_out i (live_of a) held),
+            full,
+            over,
+          )) away)
       | inr out ↦ out
     ]
 
     more : (i : ℕ) → IsOut i (live_of a) → (IsOut i r.listed.slots → ⊥) → ⊥
     more i away held =
-        let few = no_longer (i ∷ live_of a) r.listed.slots (different_with i (live_of a) away (different_front (live_of a) (free_of a) h.store.apart))
-        (λ n out. out_more n i (live_of a) (λ same. held (subst (λ m. IsOut m r.listed.slots) (sym same) out)) (there n out)) in
+        let few = no_longer (i ∷ live_of a) r.listed.slots
+        (different_with i (live_of a) away (different_front (live_of a) (free_of a) h.store.apart))
+        (λ n out. out_more n i (live_of a) (λ same. held (subst (λ m. IsOut m r.listed.slots) (sym same) out))
+        (there n out)) in
         omega (arith, few, r.listed.count, h.store.count, over)
 
     back : (i : ℕ) → IsOut i (live_of a) → IsOut i r.listed.slots
-    back i away = elim (in_or_out i r.listed.slots) [ inl held ↦ absurd (more i away (held_not_out i r.listed.slots held)) | inr out ↦ out ]
+    back i away = elim (in_or_out i r.listed.slots)
+        [ inl held ↦ absurd (more i away (held_not_out i r.listed.slots held)) | inr out ↦ out ]
 
     s : IsStore b (live_of a) (free_of a)
     s = record {
@@ -99,7 +122,9 @@ rebuilt a b h full r = record {
       below = rw r.order h.store.below;
       order = rw r.order h.store.order;
       rest = rw r.order h.store.rest;
-      buckets = rw (r.width, r.cells) (buckets_same (bucket_of (length b.heads.items) a.width a.cells.items) b.bucket.items b.heads.items r.listed.slots (live_of a) r.listed.buckets there back);
+      buckets = rw (r.width, r.cells)
+          (buckets_same (bucket_of (length b.heads.items) a.width a.cells.items) b.bucket.items b.heads.items
+          r.listed.slots (live_of a) r.listed.buckets there back);
       some = r.some;
       pairs = rw r.order (r.pairs ∙ h.store.pairs);
       cells = rw (r.cells, r.width, r.order) h.store.cells;
@@ -108,7 +133,8 @@ rebuilt a b h full r = record {
     }
 
 -- a store without rows
-pub empty_store : (s : Store) (n : ℕ) → s.order.items ≡ [] → s.bucket.items ≡ [] → s.cells.items ≡ [] → s.heads.items ≡ replicate n None → 0 < n → s.live ≡ ends_of [] → s.free ≡ None → s.len ≡ 0 → s.spare ≡ 0 → IsStore s [] []
+pub empty_store : (s : Store) (n : ℕ) → s.order.items ≡ [] → s.bucket.items ≡ [] → s.cells.items ≡ [] → s.heads.items
+    ≡ replicate n None → 0 < n → s.live ≡ ends_of [] → s.free ≡ None → s.len ≡ 0 → s.spare ≡ 0 → IsStore s [] []
 unfolding AreDifferent AreBelow Linked Onward
 empty_store s n order bucket cells heads some live free len spare = record {
   live = live;
@@ -119,7 +145,9 @@ empty_store s n order bucket cells heads some live free len spare = record {
   below = tt;
   order = tt;
   rest = tt;
-  buckets = empty_buckets (bucket_of (length s.heads.items) s.width s.cells.items) s.bucket.items s.heads.items (heads ∙ ap (λ (k : ℕ). replicate k None) (sym (ap (λ (ls : List (Option ℕ)). length ls) heads ∙ length-replicate n None)));
+  buckets = empty_buckets (bucket_of (length s.heads.items) s.width s.cells.items) s.bucket.items s.heads.items
+      (heads ∙ ap (λ (k : ℕ). replicate k None)
+      (sym (ap (λ (ls : List (Option ℕ)). length ls) heads ∙ length-replicate n None)));
   some = rw (heads, length-replicate) some;
   pairs = rw (bucket, order) refl;
   cells = rw (cells, order) (omega arith);

@@ -1,7 +1,9 @@
 -- Lists of slots: who stands in them, and who stands first and last.
-use Rattle.std.proofs.Common.{◌≡◌, ◌⊎◌, ℕ, ◌≤◌, ◌<◌, List, [], ◌∷◌, ◌++◌, length, Option, Some, None, refl, ap, subst, sym, arith, inl, inr, length-append}
+use Rattle.std.proofs.Common.{◌≡◌, ◌⊎◌, ℕ, ◌≤◌, ◌<◌, List, [], ◌∷◌, ◌++◌, length, Option, Some}
+use Rattle.std.proofs.Common.{None, refl, ap, subst, sym, arith, inl, inr, length-append}
 use Rattle.std.proofs.lemmas.Bool.{cases_eq}
-use Rattle.djq_arena.specs.Chains.{first_or, last_from, first_of, last_of, IsOut, AreDifferent, AreBelow, IsWithin, Differs, Avoids, AreOut}
+use Rattle.djq_arena.specs.Chains.{first_or, last_from, first_of, last_of, IsOut, AreDifferent}
+use Rattle.djq_arena.specs.Chains.{AreBelow, IsWithin, Differs, Avoids, AreOut}
 use Rattle.djq_arena.specs.Store.{Holds}
 
 pub first_append : (xs ys : List ℕ) (o : Option ℕ) → first_or (xs ++ ys) o ≡ first_or xs (first_or ys o)
@@ -78,10 +80,15 @@ pub out_rest : (x : ℕ) (xs : List ℕ) (y : ℕ) → IsOut y (x ∷ xs) → Is
 unfolding IsOut
 out_rest x xs y h = h.1
 
-pub different_in : (xs : List ℕ) (y : ℕ) (ys : List ℕ) → AreDifferent (xs ++ ys) → IsOut y (xs ++ ys) → AreDifferent (xs ++ y ∷ ys)
+pub different_in : (xs : List ℕ) (y : ℕ) (ys : List ℕ) → AreDifferent (xs ++ ys) → IsOut y (xs ++ ys)
+    → AreDifferent (xs ++ y ∷ ys)
 unfolding AreDifferent
 different_in [] y ys h k = (k, h)
-different_in (x ∷ xs) y ys h k = (out_middle x xs y ys (λ same. out_first x (xs ++ ys) y k (sym same)) h.0, different_in xs y ys h.1 (out_rest x (xs ++ ys) y k))
+different_in (x ∷ xs) y ys h k = (
+  out_middle x xs y ys (λ same. out_first x (xs ++ ys) y k (sym same)) h.0,
+  different_in xs y ys h.1
+      (out_rest x (xs ++ ys) y k),
+)
 
 pub different_append : (xs ys : List ℕ) → AreDifferent xs → AreDifferent ys → AreOut xs ys → AreDifferent (xs ++ ys)
 unfolding AreDifferent AreOut
@@ -109,7 +116,8 @@ outs_swap [] ys h = outs_nil ys
 outs_swap (x ∷ xs) ys h = outs_cons x ys xs h.0 (outs_swap xs ys h.1)
 
 pub different_swap : (xs ys : List ℕ) → AreDifferent (xs ++ ys) → AreDifferent (ys ++ xs)
-different_swap xs ys h = different_append ys xs (different_back xs ys h) (different_front xs ys h) (outs_swap xs ys (outs xs ys h))
+different_swap xs ys h = different_append ys xs (different_back xs ys h) (different_front xs ys h)
+    (outs_swap xs ys (outs xs ys h))
 
 pub below_append : (n : ℕ) (xs ys : List ℕ) → AreBelow n xs → AreBelow n ys → AreBelow n (xs ++ ys)
 unfolding AreBelow
@@ -202,7 +210,8 @@ pub record Ending (xs : List ℕ) (i : ℕ) : Type 0 where
 
 pub ending : (xs : List ℕ) (i : ℕ) (x : ℕ) → last_from (Some x) xs ≡ Some i → Ending (x ∷ xs) i
 ending [] i x h = let k : x ≡ i = cc in record { front = []; is = ap (λ (n : ℕ). n ∷ []) k }
-ending (y ∷ xs) i x h = let e = ending xs i y h in record { front = x ∷ e.front; is = ap (λ (zs : List ℕ). x ∷ zs) e.is }
+ending (y ∷ xs) i x h = let e = ending xs i y h in record
+    { front = x ∷ e.front; is = ap (λ (zs : List ℕ). x ∷ zs) e.is }
 
 pub ends_with : (xs : List ℕ) (i : ℕ) → last_of xs ≡ Some i → Ending xs i
 ends_with [] i h = absurd cc
@@ -223,7 +232,8 @@ starts_empty (x ∷ xs) h = absurd cc
 
 -- without the part in the middle
 pub out_middles : (i : ℕ) (xs ys zs : List ℕ) → IsOut i (xs ++ (ys ++ zs)) → IsOut i (xs ++ zs)
-out_middles i xs ys zs h = out_append i xs zs (out_front i xs (ys ++ zs) h) (out_back i ys zs (out_back i xs (ys ++ zs) h))
+out_middles i xs ys zs h = out_append i xs zs (out_front i xs (ys ++ zs) h)
+    (out_back i ys zs (out_back i xs (ys ++ zs) h))
 
 pub without_middle : (xs ys zs : List ℕ) → AreDifferent (xs ++ (ys ++ zs)) → AreDifferent (xs ++ zs)
 unfolding AreDifferent
@@ -276,7 +286,14 @@ no_longer (z ∷ zs) ys d h =
       | inl same ↦ subst (λ n. IsOut n zs) same d.0
       | inr other ↦ (h i (subst (IsOut i) (sym held.is) (out_middle i held.front z held.back other out))).1
     ]) in
-    omega (arith, rest, ap (λ (xs : List ℕ). length xs) held.is, length-append held.front (z ∷ held.back), length-append held.front held.back)
+    omega (
+      arith,
+      rest,
+      ap (λ (xs : List ℕ). length xs) held.is,
+      length-append held.front (z ∷ held.back),
+      length-append
+          held.front held.back,
+    )
 
 -- out of a list, wherever one of it stands
 pub out_last : (j i : ℕ) (xs : List ℕ) → IsOut j (i ∷ xs) → IsOut j (xs ++ i ∷ [])

@@ -1,5 +1,6 @@
 -- The walk through a bucket.
-use Rattle.std.proofs.Common.{◌≡◌, ◌≢◌, ℕ, ◌+◌, ◌≤◌, ◌<◌, List, [], ◌∷◌, length, Option, Some, None, refl, ap, subst, sym, ◌-◌, arith, inl, inr}
+use Rattle.std.proofs.Common.{◌≡◌, ◌≢◌, ℕ, ◌+◌, ◌≤◌, ◌<◌, List, [], ◌∷◌, length, Option, Some, None}
+use Rattle.std.proofs.Common.{refl, ap, subst, sym, ◌-◌, arith, inl, inr}
 use Rattle.std.proofs.lemmas.Bool.{cases_eq}
 use Rattle.std.proofs.lemmas.Nat.{and_le_r}
 use Rattle.djq_arena.specs.declared.store.Store.{Store}
@@ -13,7 +14,8 @@ use Rattle.djq_arena.proofs.Bucketing.{bucket_short}
 use Rattle.djq_arena.proofs.RowLemmas.{holds_row}
 
 -- a row that no slot has is absent
-missed : (w : ℕ) (cells : List ℕ) (u : List ℕ) (xs : List ℕ) → ((i : ℕ) → (IsOut i xs → ⊥) → cells_at w cells i ≢ u) → IsAbsent (rows_in w cells xs) u
+missed : (w : ℕ) (cells : List ℕ) (u : List ℕ) (xs : List ℕ) → ((i : ℕ) → (IsOut i xs → ⊥) → cells_at w cells i ≢ u)
+    → IsAbsent (rows_in w cells xs) u
 unfolding IsAbsent rows_in IsOut
 missed w cells u [] h = tt
 missed w cells u (x ∷ xs) h = (h x (λ out. out.0 refl), missed w cells u xs (λ i held. h i (λ out. held out.1)))
@@ -26,7 +28,9 @@ pub record Seeking (a : Store) (u : List ℕ) (at : Option ℕ) (step : ℕ) : T
   pub misses : (i : ℕ) → IsOut i ahead → (IsOut i (live_of a) → ⊥) → cells_at a.width a.cells.items i ≢ u
   pub room : length ahead + step ≤ a.len
 
-pub seeking : (a : Store) (u : List ℕ) (at : Option ℕ) → IsSound a → class (length a.heads.items) u < length a.heads.items → at ≡ link_at a.heads.items (class (length a.heads.items) u) → Seeking a u at 0
+pub seeking : (a : Store) (u : List ℕ) (at : Option ℕ) → IsSound a
+    → class (length a.heads.items) u < length a.heads.items → at
+    ≡ link_at a.heads.items (class (length a.heads.items) u) → Seeking a u at 0
 seeking a u at h inside head =
     let k = class (length a.heads.items) u in
     let b = h.store.buckets.each k inside in
@@ -35,20 +39,28 @@ seeking a u at h inside head =
       chained = rw head b.chained;
       only = b.only;
       misses = λ i out held same. held (b.all i (ap (class (length a.heads.items)) same) out);
-      room = omega (arith, bucket_short (bucket_of (length a.heads.items) a.width a.cells.items) k a.bucket.items (link_at a.heads.items k) (live_of a) b, h.store.count);
+      room = omega (
+        arith,
+        bucket_short (bucket_of (length a.heads.items) a.width a.cells.items) k a.bucket.items
+            (link_at a.heads.items k) (live_of a) b,
+        h.store.count,
+      );
     }
 
 out_nil : (i : ℕ) → IsOut i []
 unfolding IsOut
 out_nil i = tt
 
-pub over : (a : Store) (u : List ℕ) (at : Option ℕ) (step : ℕ) → Seeking a u at step → at ≡ None → IsAbsent (rows_of a) u
+pub over : (a : Store) (u : List ℕ) (at : Option ℕ) (step : ℕ) → Seeking a u at step → at ≡ None
+    → IsAbsent (rows_of a) u
 unfolding rows_of
 over a u at step s none =
-    let empty = chained_over a.bucket.items s.ahead (subst (λ (o : Option ℕ). Chained a.bucket.items o s.ahead) none s.chained) in
+    let empty = chained_over a.bucket.items s.ahead
+    (subst (λ (o : Option ℕ). Chained a.bucket.items o s.ahead) none s.chained) in
     missed a.width a.cells.items u (live_of a) (λ i held. s.misses i (subst (IsOut i) (sym empty) (out_nil i)) held)
 
-pub over_steps : (a : Store) (u : List ℕ) (at : Option ℕ) (step : ℕ) → Seeking a u at step → a.len ≤ step → IsAbsent (rows_of a) u
+pub over_steps : (a : Store) (u : List ℕ) (at : Option ℕ) (step : ℕ) → Seeking a u at step → a.len ≤ step
+    → IsAbsent (rows_of a) u
 unfolding rows_of
 over_steps a u at step s h =
     let none = empty s.ahead (omega (arith, s.room, h)) in
@@ -81,12 +93,15 @@ stop_held : (a : Store) (u : List ℕ) (i step : ℕ) → Stop a u i step → Is
 stop_held a u i step s out = not_first_out i s.ahead (s.only i out)
 
 pub stop_within : (a : Store) (u : List ℕ) (i step : ℕ) → IsSound a → Stop a u i step → i < length a.order.items
-stop_within a u i step h s = below_at (length a.order.items) i (live_of a) (below_front (length a.order.items) (live_of a) (free_of a) h.store.below) (stop_held a u i step s)
+stop_within a u i step h s = below_at (length a.order.items) i (live_of a)
+    (below_front (length a.order.items) (live_of a) (free_of a) h.store.below) (stop_held a u i step s)
 
-pub found : (a : Store) (u : List ℕ) (i step : ℕ) → Stop a u i step → cells_at a.width a.cells.items i ≡ u → IsRow (rows_of a) i u
+pub found : (a : Store) (u : List ℕ) (i step : ℕ) → Stop a u i step → cells_at a.width a.cells.items i ≡ u
+    → IsRow (rows_of a) i u
 found a u i step s here = holds_row a i u (holds_in i (live_of a) (stop_held a u i step s)) here
 
-pub further : (a : Store) (u : List ℕ) (i step : ℕ) (next : Option ℕ) → Stop a u i step → cells_at a.width a.cells.items i ≢ u → next ≡ link_at a.bucket.items i → Seeking a u next (step + 1)
+pub further : (a : Store) (u : List ℕ) (i step : ℕ) (next : Option ℕ) → Stop a u i step
+    → cells_at a.width a.cells.items i ≢ u → next ≡ link_at a.bucket.items i → Seeking a u next (step + 1)
 further a u i step next s other is = record {
   ahead = s.ahead;
   chained = rw is s.chained;

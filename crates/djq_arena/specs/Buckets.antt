@@ -1,5 +1,6 @@
 -- Chains of single links over slots: for each slot the one behind it.
-use Rattle.std.specs.Prelude.{◌≡◌, ◌≢◌, ℕ, ◌<◌, List, [], ◌∷◌, ◌++◌, length, slice_index_or, slice_set, Option, Some, None}
+use Rattle.std.specs.Prelude.{◌≡◌, ◌≢◌, ℕ, ◌<◌, List, [], ◌∷◌, ◌++◌, length, slice_index_or}
+use Rattle.std.specs.Prelude.{slice_set, Option, Some, None}
 use Rattle.djq_arena.specs.Chains.{last_of, IsOut, AreDifferent, AreBelow}
 
 -- where the link of a slot, or the head of a bucket, points to

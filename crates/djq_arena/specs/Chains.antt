@@ -1,5 +1,6 @@
 -- Doubly linked chains over slots: for each slot the one before it and the one after it.
-use Rattle.std.specs.Prelude.{◌≡◌, ◌≢◌, ⊤, ℕ, zero, suc, ◌<◌, List, [], ◌∷◌, slice_index_or, slice_set, Option, Some, None}
+use Rattle.std.specs.Prelude.{◌≡◌, ◌≢◌, ⊤, ℕ, zero, suc, ◌<◌, List, [], ◌∷◌, slice_index_or}
+use Rattle.std.specs.Prelude.{slice_set, Option, Some, None}
 use Rattle.djq_arena.specs.declared.chain.Pair.{Pair}
 
 -- the neighbours of a slot
@@ -25,7 +26,8 @@ last_of xs = last_from None xs
 -- the list is chained in this order, between `before` and `after`
 unfoldable pub Linked : List Pair → Option ℕ → List ℕ → Option ℕ → Type 0
 Linked links before [] after = ⊤
-Linked links before (x ∷ xs) after = ((pair_at links x).prev ≡ before) × ((pair_at links x).next ≡ first_or xs after) × Linked links (Some x) xs after
+Linked links before (x ∷ xs) after = ((pair_at links x).prev ≡ before) × ((pair_at links x).next ≡ first_or xs after)
+    × Linked links (Some x) xs after
 
 -- the list is chained in this order by the links to the next ones, whatever the others are
 unfoldable pub Onward : List Pair → List ℕ → Type 0

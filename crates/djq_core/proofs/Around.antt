@@ -1,5 +1,7 @@
 -- One session among others: what is found, what changes, and what is sound of it.
-use Rattle.std.proofs.Common.{ℕ, suc, ◌+◌, ◌<◌, ◌≤◌, ◌≡◌, ◌++◌, Bool, true, false, List, [], ◌∷◌, length, map, find, Some, eqb, refl, sym, ap, ◌∙◌, subst, arith, append_assoc, length-append}
+use Rattle.std.proofs.Common.{ℕ, suc, ◌+◌, ◌<◌, ◌≤◌, ◌≡◌, ◌++◌, Bool, true, false, List, [], ◌∷◌}
+use Rattle.std.proofs.Common.{length, map, find, Some, eqb, refl, sym, ap, ◌∙◌, subst, arith}
+use Rattle.std.proofs.Common.{append_assoc, length-append}
 use Rattle.std.specs.Prelude.{⊤}
 use Rattle.std.proofs.lemmas.Bool.{cond-true, cond-false, eq-eqb, eqb-true}
 use Rattle.djq_model.specs.Data.{change_first}
@@ -9,7 +11,8 @@ use Rattle.djq_engine.specs.Kept.{Kept, Held}
 use Rattle.djq_machine.specs.State.{Session, State, session_of, with_session}
 use Rattle.djq_core.specs.declared.open.OpenSession.{OpenSession}
 use Rattle.djq_core.specs.Views.{Talk, session_in, open_in, state_in}
-use Rattle.djq_core.specs.Sound.{IsBelow, Rises, ids_of, all_ids, AreHeld, AreApart, AreOwned, NoneOnceEnded, AreEndedWithout, AreCounted, IsSound}
+use Rattle.djq_core.specs.Sound.{IsBelow, Rises, ids_of, all_ids, AreHeld, AreApart, AreOwned}
+use Rattle.djq_core.specs.Sound.{NoneOnceEnded, AreEndedWithout, AreCounted, IsSound}
 use Rattle.djq_core.specs.Performs.{among}
 use Rattle.djq_core.proofs.Ids.{held_split, held_join}
 
@@ -51,29 +54,36 @@ rises_push (x ∷ xs) n h a = (below_join x xs (n ∷ []) h.0 (a.0, tt), rises_p
 
 -- The ids and the cursors of sessions.
 
-pub ids_are : (front : List OpenSession) (s : ℕ) (d : Talk) (back : List OpenSession) → map (λ (x : OpenSession). x.id) (among front s d back) ≡ map (λ (x : OpenSession). x.id) front ++ s ∷ map (λ (x : OpenSession). x.id) back
+pub ids_are : (front : List OpenSession) (s : ℕ) (d : Talk) (back : List OpenSession)
+    → map (λ (x : OpenSession). x.id) (among front s d back)
+    ≡ map (λ (x : OpenSession). x.id) front ++ s ∷ map (λ (x : OpenSession). x.id) back
 ids_are [] s d back = refl
 ids_are (x ∷ front) s d back = ap (λ (r : List ℕ). x.id ∷ r) (ids_are front s d back)
 
-pub cursors_are : (front : List OpenSession) (s : ℕ) (d : Talk) (back : List OpenSession) → all_ids (among front s d back) ≡ all_ids front ++ (ids_of d.cursors ++ all_ids back)
+pub cursors_are : (front : List OpenSession) (s : ℕ) (d : Talk) (back : List OpenSession)
+    → all_ids (among front s d back) ≡ all_ids front ++ (ids_of d.cursors ++ all_ids back)
 cursors_are [] s d back = refl
-cursors_are (x ∷ front) s d back = ap (λ (r : List CursorId). ids_of (x.session).cursors ++ r) (cursors_are front s d back) ∙ sym (append_assoc (ids_of (x.session).cursors) (all_ids front) (ids_of d.cursors ++ all_ids back))
+cursors_are (x ∷ front) s d back = ap (λ (r : List CursorId). ids_of (x.session).cursors ++ r)
+    (cursors_are front s d back)
+    ∙ sym (append_assoc (ids_of (x.session).cursors) (all_ids front) (ids_of d.cursors ++ all_ids back))
 
-pub open_are : (hs : List Held) (front : List OpenSession) (s : ℕ) (d : Talk) (back : List OpenSession) → map (open_in hs) (among front s d back) ≡ map (open_in hs) front ++ session_in hs s d ∷ map (open_in hs) back
+pub open_are : (hs : List Held) (front : List OpenSession) (s : ℕ) (d : Talk) (back : List OpenSession)
+    → map (open_in hs) (among front s d back) ≡ map (open_in hs) front ++ session_in hs s d ∷ map (open_in hs) back
 open_are hs front s d back = map_append (open_in hs) front (record { id = s; session = d } ∷ back)
 
 -- What is known of a session and of those around it.
-pub record Around (hs : List Held) (front : List OpenSession) (s : ℕ) (d : Talk) (back : List OpenSession) : Type 0 where
-  pub rising : Rises (map (λ (x : OpenSession). x.id) front ++ s ∷ map (λ (x : OpenSession). x.id) back)
-  pub few : length front + suc (length back) ≤ SESSIONS
-  pub held_front : AreHeld hs (all_ids front)
-  pub held_here : AreHeld hs (ids_of d.cursors)
-  pub held_back : AreHeld hs (all_ids back)
-  pub apart : AreApart (all_ids front ++ (ids_of d.cursors ++ all_ids back))
-  pub owned : AreOwned hs (all_ids front ++ (ids_of d.cursors ++ all_ids back))
-  pub ended_front : AreEndedWithout front
-  pub ended_here : NoneOnceEnded d.cause d.cursors
-  pub ended_back : AreEndedWithout back
+pub record Around (hs : List Held) (front : List OpenSession) (s : ℕ) (d : Talk) (back : List OpenSession) : Type 0
+  where
+    pub rising : Rises (map (λ (x : OpenSession). x.id) front ++ s ∷ map (λ (x : OpenSession). x.id) back)
+    pub few : length front + suc (length back) ≤ SESSIONS
+    pub held_front : AreHeld hs (all_ids front)
+    pub held_here : AreHeld hs (ids_of d.cursors)
+    pub held_back : AreHeld hs (all_ids back)
+    pub apart : AreApart (all_ids front ++ (ids_of d.cursors ++ all_ids back))
+    pub owned : AreOwned hs (all_ids front ++ (ids_of d.cursors ++ all_ids back))
+    pub ended_front : AreEndedWithout front
+    pub ended_here : NoneOnceEnded d.cause d.cursors
+    pub ended_back : AreEndedWithout back
 
 ended_split : (xs ys : List OpenSession) → AreEndedWithout (xs ++ ys) → AreEndedWithout xs × AreEndedWithout ys
 ended_split [] ys h = (tt, h)
@@ -83,7 +93,8 @@ pub ended_join : (xs ys : List OpenSession) → AreEndedWithout xs → AreEndedW
 ended_join [] ys h g = g
 ended_join (x ∷ xs) ys h g = (h.0, ended_join xs ys h.1 g)
 
-pub parts : (k : Kept) (front : List OpenSession) (s : ℕ) (d : Talk) (back : List OpenSession) → IsSound k (among front s d back) → Around k.cursors front s d back
+pub parts : (k : Kept) (front : List OpenSession) (s : ℕ) (d : Talk) (back : List OpenSession)
+    → IsSound k (among front s d back) → Around k.cursors front s d back
 parts k front s d back sound =
     let held = subst (λ (cs : List CursorId). AreHeld k.cursors cs) (cursors_are front s d back) sound.cursors_held in
     let one = held_split k.cursors (all_ids front) (ids_of d.cursors ++ all_ids back) held in
@@ -102,12 +113,15 @@ parts k front s d back sound =
       ended_back = ended.1.1;
     }
 
-pub whole : (k : Kept) (front : List OpenSession) (s : ℕ) (d : Talk) (back : List OpenSession) → Around k.cursors front s d back → AreCounted k.registered (among front s d back) → IsSound k (among front s d back)
+pub whole : (k : Kept) (front : List OpenSession) (s : ℕ) (d : Talk) (back : List OpenSession)
+    → Around k.cursors front s d back → AreCounted k.registered (among front s d back)
+    → IsSound k (among front s d back)
 whole k front s d back p counted = record {
   rising = subst Rises (sym (ids_are front s d back)) p.rising;
   few = omega (arith, p.few, length-append front (record { id = s; session = d } ∷ back));
   cursors_held = subst (λ (cs : List CursorId). AreHeld k.cursors cs) (sym (cursors_are front s d back))
-      (held_join k.cursors (all_ids front) (ids_of d.cursors ++ all_ids back) p.held_front (held_join k.cursors (ids_of d.cursors) (all_ids back) p.held_here p.held_back));
+      (held_join k.cursors (all_ids front) (ids_of d.cursors ++ all_ids back) p.held_front
+      (held_join k.cursors (ids_of d.cursors) (all_ids back) p.held_here p.held_back));
   apart = subst AreApart (sym (cursors_are front s d back)) p.apart;
   owned = subst (AreOwned k.cursors) (sym (cursors_are front s d back)) p.owned;
   ended = ended_join front (record { id = s; session = d } ∷ back) p.ended_front (p.ended_here, p.ended_back);
@@ -126,42 +140,59 @@ not_here hs x s l = step (eqb x.id s) refl
 here : (hs : List Held) (s : ℕ) (d : Talk) → eqb (session_in hs s d).id s ≡ true
 here hs s d = eq-eqb s s refl
 
-found_in : (hs : List Held) (front : List OpenSession) (s : ℕ) (d : Talk) (rest : List Session) → IsAbove s (map (λ (x : OpenSession). x.id) front)
+found_in : (hs : List Held) (front : List OpenSession) (s : ℕ) (d : Talk) (rest : List Session)
+    → IsAbove s (map (λ (x : OpenSession). x.id) front)
     → find (λ (x : Session). eqb x.id s) (map (open_in hs) front ++ session_in hs s d ∷ rest) ≡ Some (session_in hs s d)
 found_in hs [] s d rest a = cond-true _ _ _ (here hs s d)
 found_in hs (x ∷ front) s d rest a = cond-false _ _ _ (not_here hs x s a.0) ∙ found_in hs front s d rest a.1
 
-changed_in : (hs : List Held) (front : List OpenSession) (s : ℕ) (d : Talk) (rest : List Session) (f : Session → Session) → IsAbove s (map (λ (x : OpenSession). x.id) front)
-    → change_first (λ (x : Session). eqb x.id s) f (map (open_in hs) front ++ session_in hs s d ∷ rest) ≡ map (open_in hs) front ++ f (session_in hs s d) ∷ rest
+changed_in : (hs : List Held) (front : List OpenSession) (s : ℕ) (d : Talk) (rest : List Session)
+    (f : Session → Session) → IsAbove s (map (λ (x : OpenSession). x.id) front)
+    → change_first (λ (x : Session). eqb x.id s) f (map (open_in hs) front ++ session_in hs s d ∷ rest)
+    ≡ map (open_in hs) front ++ f (session_in hs s d) ∷ rest
 changed_in hs [] s d rest f a = cond-true _ _ _ (here hs s d)
-changed_in hs (x ∷ front) s d rest f a = cond-false _ _ _ (not_here hs x s a.0) ∙ ap (λ (r : List Session). open_in hs x ∷ r) (changed_in hs front s d rest f a.1)
+changed_in hs (x ∷ front) s d rest f a = cond-false _ _ _ (not_here hs x s a.0)
+    ∙ ap (λ (r : List Session). open_in hs x ∷ r) (changed_in hs front s d rest f a.1)
 
 -- the state with a session among others, as the machine sees it
 abbrev pub around : Kept → Bool → List OpenSession → Session → List OpenSession → State
-around k stopped front x back = record { store = k.store; stopped = stopped; sessions = map (open_in k.cursors) front ++ x ∷ map (open_in k.cursors) back }
+around k stopped front x back = record
+    { store = k.store; stopped = stopped; sessions = map (open_in k.cursors) front ++ x ∷ map (open_in k.cursors) back }
 
 pub state_is : (k : Kept) (stopped : Bool) (front : List OpenSession) (s : ℕ) (d : Talk) (back : List OpenSession)
     → state_in k stopped (among front s d back) ≡ around k stopped front (session_in k.cursors s d) back
-state_is k stopped front s d back = ap (λ (xs : List Session). record { store = k.store; stopped = stopped; sessions = xs }) (open_are k.cursors front s d back)
+state_is k stopped front s d back = ap
+    (λ (xs : List Session). record { store = k.store; stopped = stopped; sessions = xs })
+    (open_are k.cursors front s d back)
 
-pub found : (k : Kept) (stopped : Bool) (front : List OpenSession) (s : ℕ) (d : Talk) (back : List OpenSession) → Around k.cursors front s d back
+pub found : (k : Kept) (stopped : Bool) (front : List OpenSession) (s : ℕ) (d : Talk) (back : List OpenSession)
+    → Around k.cursors front s d back
     → session_of (state_in k stopped (among front s d back)) s ≡ Some (session_in k.cursors s d)
 found k stopped front s d back p =
     let above = above_front (map (λ (x : OpenSession). x.id) front) s (map (λ (x : OpenSession). x.id) back) p.rising in
-    ap (λ (xs : List Session). find (λ (x : Session). eqb x.id s) xs) (open_are k.cursors front s d back) ∙ found_in k.cursors front s d (map (open_in k.cursors) back) above.0
+    ap (λ (xs : List Session). find (λ (x : Session). eqb x.id s) xs) (open_are k.cursors front s d back)
+    ∙ found_in k.cursors front s d (map (open_in k.cursors) back) above.0
 
-pub changed_here : (k : Kept) (stopped : Bool) (front : List OpenSession) (s : ℕ) (d : Talk) (back : List OpenSession) (f : Session → Session) → Around k.cursors front s d back
-    → with_session (state_in k stopped (among front s d back)) s f ≡ around k stopped front (f (session_in k.cursors s d)) back
+pub changed_here : (k : Kept) (stopped : Bool) (front : List OpenSession) (s : ℕ) (d : Talk) (back : List OpenSession)
+    (f : Session → Session) → Around k.cursors front s d back
+    → with_session (state_in k stopped (among front s d back)) s f
+    ≡ around k stopped front (f (session_in k.cursors s d)) back
 changed_here k stopped front s d back f p =
     let above = above_front (map (λ (x : OpenSession). x.id) front) s (map (λ (x : OpenSession). x.id) back) p.rising in
     ap (λ (xs : List Session). record { store = k.store; stopped = stopped; sessions = xs })
-    (ap (λ (xs : List Session). change_first (λ (x : Session). eqb x.id s) f xs) (open_are k.cursors front s d back) ∙ changed_in k.cursors front s d (map (open_in k.cursors) back) f above.0)
+    (ap (λ (xs : List Session). change_first (λ (x : Session). eqb x.id s) f xs) (open_are k.cursors front s d back)
+    ∙ changed_in k.cursors front s d (map (open_in k.cursors) back) f above.0)
 
 -- the same session, whatever room it has
-pub becomes : (k : Kept) (stopped : Bool) (front : List OpenSession) (s : ℕ) (d e : Talk) (back : List OpenSession) (f : Session → Session) → Around k.cursors front s d back
-    → session_in k.cursors s e ≡ f (session_in k.cursors s d) → state_in k stopped (among front s e back) ≡ with_session (state_in k stopped (among front s d back)) s f
-becomes k stopped front s d e back f p same = state_is k stopped front s e back ∙ ap (λ (x : Session). around k stopped front x back) same ∙ sym (changed_here k stopped front s d back f p)
+pub becomes : (k : Kept) (stopped : Bool) (front : List OpenSession) (s : ℕ) (d e : Talk) (back : List OpenSession)
+    (f : Session → Session) → Around k.cursors front s d back
+    → session_in k.cursors s e ≡ f (session_in k.cursors s d) → state_in k stopped (among front s e back)
+    ≡ with_session (state_in k stopped (among front s d back)) s f
+becomes k stopped front s d e back f p same = state_is k stopped front s e back
+    ∙ ap (λ (x : Session). around k stopped front x back) same ∙ sym (changed_here k stopped front s d back f p)
 
 pub looks : (k : Kept) (stopped : Bool) (front : List OpenSession) (s : ℕ) (d e : Talk) (back : List OpenSession)
-    → session_in k.cursors s e ≡ session_in k.cursors s d → state_in k stopped (among front s e back) ≡ state_in k stopped (among front s d back)
-looks k stopped front s d e back same = state_is k stopped front s e back ∙ ap (λ (x : Session). around k stopped front x back) same ∙ sym (state_is k stopped front s d back)
+    → session_in k.cursors s e ≡ session_in k.cursors s d → state_in k stopped (among front s e back)
+    ≡ state_in k stopped (among front s d back)
+looks k stopped front s d e back same = state_is k stopped front s e back
+    ∙ ap (λ (x : Session). around k stopped front x back) same ∙ sym (state_is k stopped front s d back)

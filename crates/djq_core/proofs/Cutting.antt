@@ -27,15 +27,29 @@ use Rattle.djq_core.proofs.Replying.{around_same}
 use Rattle.djq_core.proofs.Watching.{recount, stays_on}
 
 -- Something is done, the cursors stay as they are, and the session is cut off.
-pub cut_off_after : (M : State → ℕ → Session → Effect → State → Type 0) (old mid new : Kept) (before between after : Talk) (was now : ℕ) (kept : Keeping)
-    → SameCursors old.cursors mid.cursors → StaysCounted old.registered before.watches mid.registered before.watches → between ≡ record before { room = between.room } → CutsOff mid between new after → now ≡ was
-    → ((st : State) (s : ℕ) (x : Session) → st.store ≡ old.store → M st s x (to_keep s (Some end_memory) 0 kept) (with_session (record st { store = mid.store }) s (ended_by Memory)))
+pub cut_off_after : (M : State → ℕ → Session → Effect → State → Type 0) (old mid new : Kept)
+    (before between after : Talk) (was now : ℕ) (kept : Keeping)
+    → SameCursors old.cursors mid.cursors → StaysCounted old.registered before.watches mid.registered before.watches
+    → between ≡ record before { room = between.room } → CutsOff mid between new after → now ≡ was
+    → ((st : State) (s : ℕ) (x : Session) → st.store ≡ old.store
+    → M st s x (to_keep s (Some end_memory) 0 kept)
+    (with_session (record st { store = mid.store }) s (ended_by Memory)))
     → Performs M false old before new after was now
 cut_off_after M old mid new before between after was now kept same stays roomy cut counted does =
-    let cut' : CutsOff mid (record before { room = between.room }) new after = subst (λ (d : Talk). CutsOff mid d new after) roomy cut in
+    let cut' : CutsOff mid (record before { room = between.room }) new after = subst
+    (λ (d : Talk). CutsOff mid d new after) roomy cut in
     let g = cut'.gives_up in
-    let up : GivesUp mid before new (record before { cursors = []; watches = [] }) = record { store = g.store; gone = g.gone; others = g.others; session = refl; counted = g.counted } in
-    let left : after ≡ record before { cursors = []; watches = []; room = after.room; cause = Some Memory; batch = None; pending = behind before.pending (Some end_memory) } = cut'.ends in
+    let up : GivesUp mid before new (record before { cursors = []; watches = [] }) = record
+    { store = g.store; gone = g.gone; others = g.others; session = refl; counted = g.counted } in
+    let left : after ≡ record before {
+      cursors = [];
+      watches = [];
+      room = after.room;
+      cause = Some Memory;
+      batch = None;
+      pending = behind
+          before.pending (Some end_memory);
+    } = cut'.ends in
     let around = λ (front back : List OpenSession) (s : ℕ) (sound : IsSound old (among front s before back)).
     around_same old.cursors mid.cursors front s before back same (parts old front s before back sound) in
     record {
@@ -46,39 +60,69 @@ cut_off_after M old mid new before between after was now kept same stays roomy c
       does = λ front back s stopped sound.
           let xs = among front s before back in
           let st = state_in old stopped xs in
-          let step = (ends_among mid new before Memory stopped after.room before.pending up front back s (around front back s sound)).0 in
+          let step = (ends_among mid new before Memory stopped after.room before.pending up front back s
+          (around front back s sound)).0 in
           let seen : state_in mid stopped xs ≡ record st { store = mid.store }
-          = ap (λ (ys : List Session). record { store = mid.store; stopped = stopped; sessions = ys }) (agree_open old.cursors mid.cursors xs (agree_same old.cursors mid.cursors (all_ids xs) same)) in
-          subst (λ (d : Talk). M st s (session_in old.cursors s before) (to_keep s (Some end_memory) 0 kept) (state_in new stopped (among front s (unqueued before d) back))) (sym left)
-          (subst (λ (w : State). M st s (session_in old.cursors s before) (to_keep s (Some end_memory) 0 kept) w) (sym (step ∙ ap (λ (w : State). with_session w s (ended_by Memory)) seen))
+          = ap (λ (ys : List Session). record { store = mid.store; stopped = stopped; sessions = ys })
+          (agree_open old.cursors mid.cursors xs (agree_same old.cursors mid.cursors (all_ids xs) same)) in
+          subst (λ (d : Talk). M st s (session_in old.cursors s before) (to_keep s (Some end_memory) 0 kept)
+          (state_in new stopped (among front s (unqueued before d) back))) (sym left)
+          (subst (λ (w : State). M st s (session_in old.cursors s before) (to_keep s (Some end_memory) 0 kept) w)
+          (sym (step ∙ ap (λ (w : State). with_session w s (ended_by Memory)) seen))
           (does st s (session_in old.cursors s before) refl));
       sound = λ front back s sound.
           subst (λ (d : Talk). IsSound new (among front s d back)) (sym left)
-          (whole new front s (record before { cursors = []; watches = []; room = after.room; cause = Some Memory; batch = None; pending = behind before.pending (Some end_memory) }) back
-          (ends_among mid new before Memory false after.room (behind before.pending (Some end_memory)) up front back s (around front back s sound)).1
-          (recount old new.registered front s before (record before { cursors = []; watches = []; room = after.room; cause = Some Memory; batch = None; pending = behind before.pending (Some end_memory) }) back
-          (stays_on old.registered mid.registered new.registered before.watches before.watches [] stays g.counted) (λ q. refl) sound));
+          (whole new front s (record before {
+            cursors = [];
+            watches = [];
+            room = after.room;
+            cause = Some Memory;
+            batch = None;
+            pending = behind
+                before.pending (Some end_memory);
+          }) back
+          (ends_among mid new before Memory false after.room (behind before.pending (Some end_memory)) up front back s
+          (around front back s sound)).1
+          (recount old new.registered front s before
+          (record before {
+            cursors = [];
+            watches = [];
+            room = after.room;
+            cause = Some Memory;
+            batch = None;
+            pending
+                = behind before.pending (Some end_memory);
+          }) back
+          (stays_on old.registered mid.registered new.registered before.watches before.watches [] stays g.counted)
+          (λ q. refl) sound));
       counted = omega (arith, counted);
     }
 
 -- with other room the session's own cursors are as they were
-pub own_still : (old mid : Kept) (before between : Talk) → SameCursors old.cursors mid.cursors → StaysCounted old.registered before.watches mid.registered before.watches → between ≡ record before { room = between.room } → IsOwn old before → IsOwn mid between
+pub own_still : (old mid : Kept) (before between : Talk) → SameCursors old.cursors mid.cursors
+    → StaysCounted old.registered before.watches mid.registered before.watches → between
+    ≡ record before { room = between.room } → IsOwn old before → IsOwn mid between
 own_still old mid before between same stays roomy own =
     let names = ap (λ (d : Talk). d.cursors) roomy in
     record {
       cursors_held = subst (λ (ns : List (NamedCursor CursorId)). AreHeld mid.cursors (ids_of ns)) (sym names)
-          (agree_held old.cursors mid.cursors (ids_of before.cursors) (agree_same old.cursors mid.cursors (ids_of before.cursors) same) own.cursors_held);
+          (agree_held old.cursors mid.cursors (ids_of before.cursors)
+          (agree_same old.cursors mid.cursors (ids_of before.cursors) same) own.cursors_held);
       apart = subst (λ (ns : List (NamedCursor CursorId)). AreApart (ids_of ns)) (sym names) own.apart;
       counted = subst (λ (ws : List Bytes). HasCount mid.registered ws) (sym (ap (λ (d : Talk). d.watches) roomy))
           ((own.counted).0, stays (own.counted).0 (own.counted).1);
     }
 
 -- the reply to `query` is cut
-pub does_query_cut : (old mid new : Kept) (before between after : Talk) (q : Query) (result : Result QueryOutcome Refusal) (was now : ℕ)
-    → now ≡ was → IsReady old before → RegistersQuery old.store q result mid.store → SameCursors old.cursors mid.cursors → StaysCounted old.registered before.watches mid.registered before.watches → Lacks before between (query_reply result) → CutsOff mid between new after
+pub does_query_cut : (old mid new : Kept) (before between after : Talk) (q : Query)
+    (result : Result QueryOutcome Refusal) (was now : ℕ)
+    → now ≡ was → IsReady old before → RegistersQuery old.store q result mid.store → SameCursors old.cursors mid.cursors
+    → StaysCounted old.registered before.watches mid.registered before.watches
+    → Lacks before between (query_reply result) → CutsOff mid between new after
     → ExecutesKeeping (Register q) (is_registration result) false old before new after was now
 does_query_cut old mid new before between after q result was now counted ready registers same stays lacks cut =
-    cut_off_after _ old mid new before between after was now (kept_where (is_registration result)) same stays lacks.same cut counted (λ st s x e. (
+    cut_off_after _ old mid new before between after was now (kept_where (is_registration result)) same stays lacks.same
+    cut counted (λ st s x e. (
       inr (record {
         result = result;
         store = mid.store;

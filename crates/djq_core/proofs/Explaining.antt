@@ -1,5 +1,7 @@
 -- The reply to `explain`, whole or cut.
-use Rattle.std.proofs.Common.{ℕ, suc, ◌+◌, ◌≤◌, ◌≡◌, ◌++◌, true, false, List, [], ◌∷◌, length, take, map, Option, None, Some, Result, Ok, Err, codes, refl, sym, ap, ◌∙◌, subst, arith, inl, inr, append_assoc, append-nil}
+use Rattle.std.proofs.Common.{ℕ, suc, ◌+◌, ◌≤◌, ◌≡◌, ◌++◌, true, false, List, [], ◌∷◌, length, take}
+use Rattle.std.proofs.Common.{map, Option, None, Some, Result, Ok, Err, codes, refl, sym, ap, ◌∙◌}
+use Rattle.std.proofs.Common.{subst, arith, inl, inr, append_assoc, append-nil}
 use Rattle.std.specs.Prelude.{⊤, MatchOption, IsSomeAnd, is_none, slice_get}
 use Rattle.std.specs.Result.{is_err}
 use Rattle.std.proofs.lemmas.List.{map-append, length-map, take_all}
@@ -9,7 +11,11 @@ use Rattle.djq_model.specs.Listed.{Listed, a_query, a_union, listed_of, members_
 use Rattle.djq_model.specs.declared.query.Query.{Query}
 use Rattle.djq_model.specs.declared.memory.NoMem.{NoMem}
 use Rattle.djq_lines.specs.declared.answer.Refusal.{Refusal}
-use Rattle.djq_lines.specs.declared.answer.Refusal.TheVariants.{Syntax, Taken, NoRelation, NoQuery, NoCursor, Arity, WrongType, HeadUnbound, HeadRepeated, VariableType, Unbound, Member, Limit, NoMemory, InUse, Misplaced}
+use Rattle.djq_lines.specs.declared.answer.Refusal.TheVariants.{Syntax, Taken, NoRelation, NoQuery}
+use Rattle.djq_lines.specs.declared.answer.Refusal.TheVariants.{NoCursor, Arity, WrongType}
+use Rattle.djq_lines.specs.declared.answer.Refusal.TheVariants.{HeadUnbound, HeadRepeated}
+use Rattle.djq_lines.specs.declared.answer.Refusal.TheVariants.{VariableType, Unbound, Member}
+use Rattle.djq_lines.specs.declared.answer.Refusal.TheVariants.{Limit, NoMemory, InUse, Misplaced}
 use Rattle.djq_lines.specs.declared.answer.EndCause.TheVariants.{Memory}
 use Rattle.djq_lines.specs.declared.command.Command.TheVariants.{Explain}
 use Rattle.djq_lines.specs.Reply.{line, member_line, refusal_line, text_of, end_memory}
@@ -37,14 +43,17 @@ use Rattle.djq_core.proofs.Watching.{stays_same}
 
 -- So many lines are put.
 abbrev pub PutsSoFar : Option Listed → ℕ → Bytes → Bytes → Type 0
-PutsSoFar o nth old now = IsSomeAnd o (λ q. now ≡ old ++ text_of (map member_line (take nth (map (λ m. m.name) (members_of q)))))
+PutsSoFar o nth old now = IsSomeAnd o
+    (λ q. now ≡ old ++ text_of (map member_line (take nth (map (λ m. m.name) (members_of q)))))
 
-pub puts_start : (o : Option Listed) (count : ℕ) (old : Bytes) → IsSomeAnd o (λ q. count ≡ length (members_of q)) → PutsSoFar o 0 old old
+pub puts_start : (o : Option Listed) (count : ℕ) (old : Bytes) → IsSomeAnd o (λ q. count ≡ length (members_of q))
+    → PutsSoFar o 0 old old
 puts_start None count old h = absurd h
 puts_start (Some q) count old h = sym (append-nil old)
 
 pub puts_more : (o : Option Listed) (nth : ℕ) (name old now new : Bytes) → PutsSoFar o nth old now
-    → IsSomeAnd o (λ q. slice_get (map (λ m. m.name) (members_of q)) nth ≡ Some name) → new ≡ now ++ member_line name → PutsSoFar o (nth + 1) old new
+    → IsSomeAnd o (λ q. slice_get (map (λ m. m.name) (members_of q)) nth ≡ Some name) → new ≡ now ++ member_line name
+    → PutsSoFar o (nth + 1) old new
 puts_more None nth name old now new h e p = absurd h
 puts_more (Some q) nth name old now new h e p =
     let names = map (λ (m : Query). m.name) (members_of q) in
@@ -54,47 +63,60 @@ puts_more (Some q) nth name old now new h e p =
     p ∙ ap (λ (bs : Bytes). bs ++ member_line name) h ∙ append_assoc old (text_of lines) (member_line name)
     ∙ ap (λ (bs : Bytes). old ++ bs) (sym (ap text_of more ∙ text_last lines (member_line name)))
 
-pub puts_last : (o : Option Listed) (count nth : ℕ) (old now : Bytes) → PutsSoFar o nth old now → IsSomeAnd o (λ q. count ≡ length (members_of q)) → count ≤ nth
+pub puts_last : (o : Option Listed) (count nth : ℕ) (old now : Bytes) → PutsSoFar o nth old now
+    → IsSomeAnd o (λ q. count ≡ length (members_of q)) → count ≤ nth
     → IsSomeAnd o (λ q. now ≡ old ++ text_of (member_lines q))
 puts_last None count nth old now h e le = absurd h
 puts_last (Some q) count nth old now h e le =
     let names = map (λ (m : Query). m.name) (members_of q) in
-    let all : take nth names ≡ names = take_all nth names (omega (arith, length-map (members_of q) (λ (m : Query). m.name), e, le)) in
-    h ∙ ap (λ (ls : List Bytes). old ++ text_of ls) (ap (map member_line) all ∙ map-map member_line (λ (m : Query). m.name) (members_of q))
+    let all : take nth names
+    ≡ names = take_all nth names (omega (arith, length-map (members_of q) (λ (m : Query). m.name), e, le)) in
+    h ∙ ap (λ (ls : List Bytes). old ++ text_of ls)
+    (ap (map member_line) all ∙ map-map member_line (λ (m : Query). m.name) (members_of q))
 
 -- a member at a place below their number
-pub member_there : (o : Option Listed) (count nth : ℕ) → IsSomeAnd o (λ q. count ≡ length (members_of q)) → suc nth ≤ count → IsSomeAnd o (λ q. suc nth ≤ length (members_of q))
+pub member_there : (o : Option Listed) (count nth : ℕ) → IsSomeAnd o (λ q. count ≡ length (members_of q))
+    → suc nth ≤ count → IsSomeAnd o (λ q. suc nth ≤ length (members_of q))
 member_there None count nth h l = absurd h
 member_there (Some q) count nth h l = omega (arith, h, l)
 
 -- ---- what is queued
 
-pub queues_tree : (o : Option Listed) (lines : Bytes) (before after : Talk) (r : Result ⊤ NoMem) → IsSomeAnd o (λ q. Explains q (Tree lines)) → MayQueue before after (lines ++ codes "end\n") r → QueuesExplained o before after r
+pub queues_tree : (o : Option Listed) (lines : Bytes) (before after : Talk) (r : Result ⊤ NoMem)
+    → IsSomeAnd o (λ q. Explains q (Tree lines)) → MayQueue before after (lines ++ codes "end\n") r
+    → QueuesExplained o before after r
 queues_tree None lines before after r h q = absurd h
 queues_tree (Some (a_query k)) lines before after (Ok done) h q = (lines, h, q)
 queues_tree (Some (a_query k)) lines before after (Err e) h q = ((h.tree, h.named), q.same)
 queues_tree (Some (a_union name qs)) lines before after r h q = absurd h
 
-pub counts_members : (o : Option Listed) (count : ℕ) → IsSomeAnd o (λ q. Explains q (Members count)) → IsSomeAnd o (λ q. count ≡ length (members_of q))
+pub counts_members : (o : Option Listed) (count : ℕ) → IsSomeAnd o (λ q. Explains q (Members count))
+    → IsSomeAnd o (λ q. count ≡ length (members_of q))
 counts_members None count h = h
 counts_members (Some (a_query k)) count h = absurd h
 counts_members (Some (a_union name qs)) count h = h
 
-pub queues_members : (o : Option Listed) (count : ℕ) (text : Bytes) (before after : Talk) (r : Result ⊤ NoMem) → IsSomeAnd o (λ q. Explains q (Members count))
-    → IsSomeAnd o (λ q. text ≡ [] ++ text_of (member_lines q)) → MayQueue before after (text ++ codes "end\n") r → QueuesExplained o before after r
+pub queues_members : (o : Option Listed) (count : ℕ) (text : Bytes) (before after : Talk) (r : Result ⊤ NoMem)
+    → IsSomeAnd o (λ q. Explains q (Members count))
+    → IsSomeAnd o (λ q. text ≡ [] ++ text_of (member_lines q)) → MayQueue before after (text ++ codes "end\n") r
+    → QueuesExplained o before after r
 queues_members None count text before after r h t q = absurd h
 queues_members (Some (a_query k)) count text before after r h t q = absurd h
 queues_members (Some (a_union name qs)) count text before after (Ok done) h t q = (text, t, q)
 queues_members (Some (a_union name qs)) count text before after (Err e) h t q = (tt, q.same)
 
-pub queues_nothing : (o : Option Listed) (count : ℕ) (k : Talk) (e : NoMem) → IsSomeAnd o (λ q. Explains q (Members count)) → QueuesExplained o k k (Err e)
+pub queues_nothing : (o : Option Listed) (count : ℕ) (k : Talk) (e : NoMem)
+    → IsSomeAnd o (λ q. Explains q (Members count)) → QueuesExplained o k k (Err e)
 queues_nothing None count k e h = absurd h
 queues_nothing (Some (a_query q)) count k e h = absurd h
 queues_nothing (Some (a_union name qs)) count k e h = (tt, refl)
 
 -- `explain`, where the query is there
-explain_at : (o : Option Listed) (k : Listed) (st st' : State) (s : ℕ) (e : Effect) → o ≡ Some k → ExplainStepOf st s k e st' → MatchOption o (RefusedStep st s NoQuery e st') (λ q. ExplainStepOf st s q e st')
-explain_at o k st st' s e there step = subst (λ (p : Option Listed). MatchOption p (RefusedStep st s NoQuery e st') (λ q. ExplainStepOf st s q e st')) (sym there) step
+explain_at : (o : Option Listed) (k : Listed) (st st' : State) (s : ℕ) (e : Effect) → o ≡ Some k
+    → ExplainStepOf st s k e st' → MatchOption o (RefusedStep st s NoQuery e st') (λ q. ExplainStepOf st s q e st')
+explain_at o k st st' s e there step = subst
+    (λ (p : Option Listed). MatchOption p (RefusedStep st s NoQuery e st') (λ q. ExplainStepOf st s q e st'))
+    (sym there) step
 
 -- the query that is there
 there_is : (P : Listed → Type 0) (o : Option Listed) → IsSomeAnd o P → (q : Listed) × (o ≡ Some q) × P q
@@ -107,7 +129,8 @@ first_line [] l = (l, [], refl)
 first_line (first ∷ ls) l = (first, ls ++ l ∷ [], refl)
 
 -- out of memory none of its lines is told
-explains_cut : (q : Listed) (st st' : State) (s : ℕ) → HasTree q → st' ≡ with_session st s (ended_by Memory) → ExplainStepOf st s q (to_one s (Some end_memory) 0) st'
+explains_cut : (q : Listed) (st st' : State) (s : ℕ) → HasTree q → st' ≡ with_session st s (ended_by Memory)
+    → ExplainStepOf st s q (to_one s (Some end_memory) 0) st'
 explains_cut (a_query q) st st' s tree same =
     let first = first_line _ (line (codes "end")) in
     record { tree = tree.0; named = tree.1; tells = inr ([], first.0, first.1, first.2, (refl, same)) }
@@ -116,30 +139,39 @@ explains_cut (a_union name qs) st st' s tree same =
     inr ([], first.0, first.1, first.2, (refl, same))
 
 -- else all are
-explains_whole : (q : Listed) (lines : Bytes) (st : State) (s : ℕ) → AreExplaining q lines → ExplainStepOf st s q (to_one s (Some (lines ++ codes "end\n")) 0) st
+explains_whole : (q : Listed) (lines : Bytes) (st : State) (s : ℕ) → AreExplaining q lines
+    → ExplainStepOf st s q (to_one s (Some (lines ++ codes "end\n")) 0) st
 explains_whole (a_query q) lines st s h =
-    let same : lines ++ codes "end\n" ≡ text_of (explain_lines q h.tree) = ap (λ (bs : Bytes). bs ++ codes "end\n") h.are ∙ sym (explained q h.tree) in
+    let same : lines ++ codes "end\n"
+    ≡ text_of (explain_lines q h.tree) = ap (λ (bs : Bytes). bs ++ codes "end\n") h.are
+    ∙ sym (explained q h.tree) in
     record { tree = h.tree; named = h.named; tells = inl (ap (λ (bs : Bytes). to_one s (Some bs) 0) same, refl) }
 explains_whole (a_union name qs) lines st s h =
     let ls = map (λ (q : Query). member_line q.name) qs in
-    let same : lines ++ codes "end\n" ≡ text_of (union_lines qs) = ap (λ (bs : Bytes). bs ++ codes "end\n") h ∙ sym (text_last ls (line (codes "end"))) in
+    let same : lines ++ codes "end\n" ≡ text_of (union_lines qs) = ap (λ (bs : Bytes). bs ++ codes "end\n") h
+    ∙ sym (text_last ls (line (codes "end"))) in
     inl (ap (λ (bs : Bytes). to_one s (Some bs) 0) same, refl)
 
 -- Its reply is cut: no line is told.
-cut_explained : (k : Kept) (new : Kept) (before between after : Talk) (name : Bytes) → between ≡ record before { room = between.room } → CutsOff k between new after
+cut_explained : (k : Kept) (new : Kept) (before between after : Talk) (name : Bytes) → between
+    ≡ record before { room = between.room } → CutsOff k between new after
     → IsSomeAnd (listed_of (k.store).queries name) HasTree → Executes (Explain name) false k before new after 0 0
 cut_explained k new before between after name roomy cut tree =
     let q = there_is HasTree (listed_of (k.store).queries name) tree in
-    cut_off_after _ k k new before between after 0 0 no_line (λ id. refl) (stays_same k.registered k.registered before.watches before.watches refl refl) roomy cut refl (λ st s x e.
+    cut_off_after _ k k new before between after 0 0 no_line (λ id. refl)
+    (stays_same k.registered k.registered before.watches before.watches refl refl) roomy cut refl (λ st s x e.
     let new' = with_session (record st { store = k.store }) s (ended_by Memory) in
-    let same : with_session st s (ended_by Memory) ≡ new' = ap (λ (w : Store). with_session (record st { store = w }) s (ended_by Memory)) e in
-    explain_at (listed_of (st.store).queries name) q.0 st new' s (to_one s (Some end_memory) 0) (ap (λ (w : Store). listed_of w.queries name) e ∙ q.1)
+    let same : with_session st s (ended_by Memory)
+    ≡ new' = ap (λ (w : Store). with_session (record st { store = w }) s (ended_by Memory)) e in
+    explain_at (listed_of (st.store).queries name) q.0 st new' s (to_one s (Some end_memory) 0)
+    (ap (λ (w : Store). listed_of w.queries name) e ∙ q.1)
     (explains_cut q.0 st new' s q.2 (sym same)))
 
 -- what `explain` answered of what is there, or isn't
 
 abbrev explain_answers : Option Listed → Result Explained Refusal → Type 0
-explain_answers o r = Answers (first_of ((is_none o, NoQuery) ∷ [])) r (λ explained. IsSomeAnd o (λ q. Explains q explained)) (OutOfMemoryWhere (IsSomeAnd o TakesMemory))
+explain_answers o r = Answers (first_of ((is_none o, NoQuery) ∷ [])) r
+    (λ explained. IsSomeAnd o (λ q. Explains q explained)) (OutOfMemoryWhere (IsSomeAnd o TakesMemory))
 
 told_of : (o : Option Listed) (x : Explained) → explain_answers o (Ok x) → IsSomeAnd o (λ q. Explains q x)
 told_of None x h = absurd h
@@ -151,28 +183,37 @@ lacking_of (Some (a_query q)) h = h
 lacking_of (Some (a_union name qs)) h = absurd h
 
 -- What explains it is there.
-pub is_told : (st : Store) (name : Bytes) (x : Explained) → ExplainGives st name (Ok x) → IsSomeAnd (listed_of st.queries name) (λ q. Explains q x)
+pub is_told : (st : Store) (name : Bytes) (x : Explained) → ExplainGives st name (Ok x)
+    → IsSomeAnd (listed_of st.queries name) (λ q. Explains q x)
 is_told st name x g = told_of (listed_of st.queries name) x g.answer
 
 -- Out of memory before there is a line.
-pub does_explain_lacking : (k new : Kept) (before after : Talk) (name : Bytes) → ExplainGives k.store name (Err NoMemory) → CutsOff k before new after → Executes (Explain name) false k before new after 0 0
-does_explain_lacking k new before after name g cut = cut_explained k new before before after name refl cut (lacking_of (listed_of (k.store).queries name) g.answer)
+pub does_explain_lacking : (k new : Kept) (before after : Talk) (name : Bytes)
+    → ExplainGives k.store name (Err NoMemory) → CutsOff k before new after
+    → Executes (Explain name) false k before new after 0 0
+does_explain_lacking k new before after name g cut = cut_explained k new before before after name refl cut
+    (lacking_of (listed_of (k.store).queries name) g.answer)
 
 -- The lines find no room.
-pub does_explain_cut : (k new : Kept) (before between after : Talk) (name : Bytes) (r : Result ⊤ NoMem) → is_err r ≡ true → QueuesExplained (listed_of (k.store).queries name) before between r
+pub does_explain_cut : (k new : Kept) (before between after : Talk) (name : Bytes) (r : Result ⊤ NoMem) → is_err r
+    ≡ true → QueuesExplained (listed_of (k.store).queries name) before between r
     → CutsOff k between new after → Executes (Explain name) false k before new after 0 0
 does_explain_cut k new before between after name (Ok done) e h cut = absurd (cc (e))
-does_explain_cut k new before between after name (Err r) e h cut = cut_explained k new before between after name h.1 cut h.0
+does_explain_cut k new before between after name (Err r) e h cut = cut_explained k new before between after name h.1 cut
+    h.0
 
 -- All lines are queued.
-pub does_explain_whole : (k : Kept) (before after : Talk) (name : Bytes) (r : Result ⊤ NoMem) → is_err r ≡ false → QueuesExplained (listed_of (k.store).queries name) before after r
+pub does_explain_whole : (k : Kept) (before after : Talk) (name : Bytes) (r : Result ⊤ NoMem) → is_err r ≡ false
+    → QueuesExplained (listed_of (k.store).queries name) before after r
     → Executes (Explain name) false k before k after 0 0
 does_explain_whole k before after name (Err r) e h = absurd (cc (e))
 does_explain_whole k before after name (Ok done) e h =
-    let q = there_is (λ q. (lines : Bytes) × AreExplaining q lines × Queues before after (lines ++ codes "end\n")) (listed_of (k.store).queries name) h in
+    let q = there_is (λ q. (lines : Bytes) × AreExplaining q lines × Queues before after (lines ++ codes "end\n"))
+    (listed_of (k.store).queries name) h in
     let text = q.2.0 ++ codes "end\n" in
     refused _ k before after text (q.2.2).queued (λ st s x f g.
-    explain_at (listed_of (st.store).queries name) q.0 st st s (to_one s (Some text) 0) (ap (λ (w : Store). listed_of w.queries name) f ∙ q.1)
+    explain_at (listed_of (st.store).queries name) q.0 st st s (to_one s (Some text) 0)
+    (ap (λ (w : Store). listed_of w.queries name) f ∙ q.1)
     (explains_whole q.0 q.2.0 st s q.2.1))
 
 -- out of memory is the one late refusal
@@ -194,15 +235,19 @@ late_is P Member h = absurd h
 late_is P Limit h = absurd h
 late_is P InUse h = absurd h
 
-absent_of : (o : Option Listed) (r : Refusal) → (r ≡ NoMemory → ⊥) → explain_answers o (Err r) → (o ≡ None) × (r ≡ NoQuery)
+absent_of : (o : Option Listed) (r : Refusal) → (r ≡ NoMemory → ⊥) → explain_answers o (Err r) → (o ≡ None)
+    × (r ≡ NoQuery)
 absent_of None r other h = (refl, h)
 absent_of (Some q) r other h = absurd (other (late_is (IsSomeAnd (Some q) TakesMemory) r h))
 
 -- There is no such query.
-pub does_explain_refused : (k : Kept) (before after : Talk) (name : Bytes) (r : Refusal) → ExplainGives k.store name (Err r) → (r ≡ NoMemory → ⊥) → Replies before after (refusal_line r)
+pub does_explain_refused : (k : Kept) (before after : Talk) (name : Bytes) (r : Refusal)
+    → ExplainGives k.store name (Err r) → (r ≡ NoMemory → ⊥) → Replies before after (refusal_line r)
     → Executes (Explain name) false k before k after 0 0
 does_explain_refused k before after name r g other reply =
     let why = absent_of (listed_of (k.store).queries name) r other g.answer in
-    refused _ k before after (refusal_line NoQuery) (subst (λ (w : Refusal). Replies before after (refusal_line w)) why.1 reply) (λ st s x e f.
-    subst (λ (p : Option Listed). MatchOption p (RefusedStep st s NoQuery (to_one s (Some (refusal_line NoQuery)) 0) st) (λ q. ExplainStepOf st s q (to_one s (Some (refusal_line NoQuery)) 0) st))
+    refused _ k before after (refusal_line NoQuery)
+    (subst (λ (w : Refusal). Replies before after (refusal_line w)) why.1 reply) (λ st s x e f.
+    subst (λ (p : Option Listed). MatchOption p (RefusedStep st s NoQuery (to_one s (Some (refusal_line NoQuery)) 0) st)
+    (λ q. ExplainStepOf st s q (to_one s (Some (refusal_line NoQuery)) 0) st))
     (sym (ap (λ (w : Store). listed_of w.queries name) e ∙ why.0)) (refl, refl))

@@ -1,5 +1,7 @@
 -- Cursors of the engine: told apart, held, and as they were.
-use Rattle.std.proofs.Common.{ℕ, ◌≡◌, ◌++◌, ◌&&◌, Bool, true, false, List, [], ◌∷◌, map, option_map, cond, Option, None, Some, eqb, refl, sym, ap, ◌∙◌, subst, ap₂, ◌||◌, ◌⊎◌, inl, inr}
+use Rattle.std.proofs.Common.{ℕ, ◌≡◌, ◌++◌, ◌&&◌, Bool, true, false, List, [], ◌∷◌, map, option_map}
+use Rattle.std.proofs.Common.{cond, Option, None, Some, eqb, refl, sym, ap, ◌∙◌, subst, ap₂, ◌||◌}
+use Rattle.std.proofs.Common.{◌⊎◌, inl, inr}
 use Rattle.std.specs.Prelude.{⊤, IsSome}
 use Rattle.std.proofs.lemmas.Bool.{eqb-true, eq-eqb}
 use Rattle.djq_model.specs.Data.{Bytes}
@@ -24,8 +26,11 @@ second_true false b h = absurd (cc)
 -- ids that are told to be the same are
 pub same_id_same : (a b : CursorId) → same_id a b ≡ true → a ≡ b
 same_id_same a b h =
-    let query : a.query.at ≡ b.query.at = eqb-true a.query.at b.query.at (first_true (eqb a.query.at b.query.at) (eqb a.cursor b.cursor) h) in
-    let cursor : a.cursor ≡ b.cursor = eqb-true a.cursor b.cursor (second_true (eqb a.query.at b.query.at) (eqb a.cursor b.cursor) h) in
+    let query : a.query.at
+    ≡ b.query.at = eqb-true a.query.at b.query.at (first_true (eqb a.query.at b.query.at) (eqb a.cursor b.cursor) h)
+    in
+    let cursor : a.cursor
+    ≡ b.cursor = eqb-true a.cursor b.cursor (second_true (eqb a.query.at b.query.at) (eqb a.cursor b.cursor) h) in
     ap₂ id_of query cursor
   where
     id_of : ℕ → ℕ → CursorId
@@ -39,7 +44,8 @@ pub same_id_flip : (a b : CursorId) → same_id a b ≡ false → same_id b a �
 same_id_flip a b h = step (same_id b a) refl
   where
     step : (v : Bool) → same_id b a ≡ v → v ≡ false
-    step true e = let same : b ≡ a = same_id_same b a e in absurd (cc (same_id_refl a, ap (λ (x : CursorId). same_id a x) same))
+    step true e = let same : b
+        ≡ a = same_id_same b a e in absurd (cc (same_id_refl a, ap (λ (x : CursorId). same_id a x) same))
     step false e = refl
 
 -- Cursors told apart.
@@ -53,7 +59,8 @@ apart_join c [] ys h g = g
 apart_join c (x ∷ xs) ys h g = (h.0, apart_join c xs ys h.1 g)
 
 -- One is taken out of those that are apart.
-pub taken_out : (xs : List CursorId) (c : CursorId) (ys : List CursorId) → AreApart (xs ++ c ∷ ys) → IsApart c xs × (IsApart c ys × AreApart (xs ++ ys))
+pub taken_out : (xs : List CursorId) (c : CursorId) (ys : List CursorId) → AreApart (xs ++ c ∷ ys) → IsApart c xs
+    × (IsApart c ys × AreApart (xs ++ ys))
 taken_out [] c ys h = (tt, (h.0, h.1))
 taken_out (x ∷ xs) c ys h =
     let r = taken_out xs c ys h.1 in
@@ -61,7 +68,8 @@ taken_out (x ∷ xs) c ys h =
     ((same_id_flip c x a.1.0, r.0), (r.1.0, (apart_join x xs ys a.0 a.1.1, r.1.1)))
 
 -- One that is apart from all is put among them.
-pub put_in : (xs : List CursorId) (c : CursorId) (ys : List CursorId) → AreApart (xs ++ ys) → IsApart c xs → IsApart c ys → AreApart (xs ++ c ∷ ys)
+pub put_in : (xs : List CursorId) (c : CursorId) (ys : List CursorId) → AreApart (xs ++ ys) → IsApart c xs
+    → IsApart c ys → AreApart (xs ++ c ∷ ys)
 put_in [] c ys h a b = (b, h)
 put_in (x ∷ xs) c ys h a b =
     let r = apart_split x xs ys h.0 in
@@ -78,12 +86,14 @@ held_join hs [] ys h g = g
 held_join hs (x ∷ xs) ys h g = (h.0, held_join hs xs ys h.1 g)
 
 -- A cursor that isn't held is none of those that are.
-pub fresh_apart : (hs : List Held) (c : CursorId) (cs : List CursorId) → held_at hs c ≡ None → AreHeld hs cs → IsApart c cs
+pub fresh_apart : (hs : List Held) (c : CursorId) (cs : List CursorId) → held_at hs c ≡ None → AreHeld hs cs
+    → IsApart c cs
 fresh_apart hs c [] n h = tt
 fresh_apart hs c (d ∷ ds) n h = (step (same_id d c) refl, fresh_apart hs c ds n h.1)
   where
     step : (v : Bool) → same_id d c ≡ v → v ≡ false
-    step true e = let same : d ≡ c = same_id_same d c e in absurd (cc (h.0.1, n, ap (λ (x : CursorId). held_at hs x) same))
+    step true e = let same : d
+        ≡ c = same_id_same d c e in absurd (cc (h.0.1, n, ap (λ (x : CursorId). held_at hs x) same))
     step false e = refl
 
 -- The engine holds these cursors as it did.
@@ -95,7 +105,8 @@ pub agree_same : (old new : List Held) (cs : List CursorId) → SameCursors old 
 agree_same old new [] h = tt
 agree_same old new (c ∷ cs) h = (h c, agree_same old new cs h)
 
-pub agree_others : (old new : List Held) (id : CursorId) (cs : List CursorId) → OthersStay old id new → IsApart id cs → Agree old new cs
+pub agree_others : (old new : List Held) (id : CursorId) (cs : List CursorId) → OthersStay old id new → IsApart id cs
+    → Agree old new cs
 agree_others old new id [] h a = tt
 agree_others old new id (c ∷ cs) h a = (h c a.0, agree_others old new id cs h a.1)
 
@@ -103,23 +114,29 @@ pub agree_held : (old new : List Held) (cs : List CursorId) → Agree old new cs
 agree_held old new [] g h = tt
 agree_held old new (c ∷ cs) g h = ((h.0.0, g.0 ∙ h.0.1, h.0.2), agree_held old new cs g.1 h.1)
 
-pub agree_names : (old new : List Held) (names : List (NamedCursor CursorId)) → Agree old new (ids_of names) → map (cursor_in new) names ≡ map (cursor_in old) names
+pub agree_names : (old new : List Held) (names : List (NamedCursor CursorId)) → Agree old new (ids_of names)
+    → map (cursor_in new) names ≡ map (cursor_in old) names
 agree_names old new [] g = refl
 agree_names old new (n ∷ names) g =
     let rest = agree_names old new names g.1 in
-    let here : cursor_in new n ≡ cursor_in old n = ap (λ (o : Option Held). record { name = n.name; query = query_in o; position = position_in o }) g.0 in cc
+    let here : cursor_in new n
+    ≡ cursor_in old n = ap
+    (λ (o : Option Held). record { name = n.name; query = query_in o; position = position_in o }) g.0 in cc
 
-pub agree_split : (old new : List Held) (xs ys : List CursorId) → Agree old new (xs ++ ys) → Agree old new xs × Agree old new ys
+pub agree_split : (old new : List Held) (xs ys : List CursorId) → Agree old new (xs ++ ys) → Agree old new xs
+    × Agree old new ys
 agree_split old new [] ys g = (tt, g)
 agree_split old new (x ∷ xs) ys g = let r = agree_split old new xs ys g.1 in ((g.0, r.0), r.1)
 
-pub agree_open : (old new : List Held) (xs : List OpenSession) → Agree old new (all_ids xs) → map (open_in new) xs ≡ map (open_in old) xs
+pub agree_open : (old new : List Held) (xs : List OpenSession) → Agree old new (all_ids xs) → map (open_in new) xs
+    ≡ map (open_in old) xs
 agree_open old new [] g = refl
 agree_open old new (x ∷ xs) g =
     let parts = agree_split old new (ids_of (x.session).cursors) (all_ids xs) g in
     let rest = agree_open old new xs parts.1 in
     let names = agree_names old new (x.session).cursors parts.0 in
-    let here : open_in new x ≡ open_in old x = ap (λ (cs : List Cursor). record (open_in old x) { cursors = cs }) names in cc
+    let here : open_in new x
+    ≡ open_in old x = ap (λ (cs : List Cursor). record (open_in old x) { cursors = cs }) names in cc
 
 -- Cursors of the engine, and whose they are.
 
@@ -146,7 +163,8 @@ among_front c xs ys h = among_append c xs ys ∙ ap (λ b. b || is_among c ys) h
 pub among_back : (c : CursorId) (xs ys : List CursorId) → is_among c ys ≡ true → is_among c (xs ++ ys) ≡ true
 among_back c xs ys h = among_append c xs ys ∙ ap (λ b. is_among c xs || b) h ∙ or_true (is_among c xs)
 
-pub among_either : (c : CursorId) (xs ys : List CursorId) → is_among c (xs ++ ys) ≡ true → (is_among c xs ≡ true) ⊎ (is_among c ys ≡ true)
+pub among_either : (c : CursorId) (xs ys : List CursorId) → is_among c (xs ++ ys) ≡ true
+    → (is_among c xs ≡ true) ⊎ (is_among c ys ≡ true)
 among_either c xs ys h = either (is_among c xs) (is_among c ys) (sym (among_append c xs ys) ∙ h)
 
 -- none of these, or one
@@ -154,17 +172,20 @@ pub apart_or : (c : CursorId) (xs : List CursorId) → (IsApart c xs) ⊎ (is_am
 apart_or c [] = inl tt
 apart_or c (x ∷ xs) = step (same_id x c) refl (apart_or c xs)
   where
-    step : (b : Bool) → same_id x c ≡ b → (IsApart c xs) ⊎ (is_among c xs ≡ true) → (IsApart c (x ∷ xs)) ⊎ (is_among c (x ∷ xs) ≡ true)
+    step : (b : Bool) → same_id x c ≡ b → (IsApart c xs) ⊎ (is_among c xs ≡ true)
+        → (IsApart c (x ∷ xs)) ⊎ (is_among c (x ∷ xs) ≡ true)
     step true e r = inr (ap (λ b. b || is_among c xs) e)
     step false e (inl a) = inl (e, a)
     step false e (inr h) = inr (ap (λ b. same_id x c || b) h ∙ or_true (same_id x c))
 
 -- the engine holds no more than it did
-pub owned_still : (old new : List Held) (cs : List CursorId) → ((c : CursorId) → IsSome (held_at new c) → IsSome (held_at old c)) → AreOwned old cs → AreOwned new cs
+pub owned_still : (old new : List Held) (cs : List CursorId)
+    → ((c : CursorId) → IsSome (held_at new c) → IsSome (held_at old c)) → AreOwned old cs → AreOwned new cs
 owned_still old new cs f h c i = h c (f c i)
 
 -- the engine holds one more
-pub owned_more : (old new : List Held) (id : CursorId) (xs ys : List CursorId) → OthersStay old id new → AreOwned old (xs ++ ys) → AreOwned new (xs ++ id ∷ ys)
+pub owned_more : (old new : List Held) (id : CursorId) (xs ys : List CursorId) → OthersStay old id new
+    → AreOwned old (xs ++ ys) → AreOwned new (xs ++ id ∷ ys)
 owned_more old new id xs ys o h c i = step (same_id c id) refl
   where
     behind : (is_among c xs ≡ true) ⊎ (is_among c ys ≡ true) → is_among c (xs ++ id ∷ ys) ≡ true
@@ -178,20 +199,25 @@ owned_more old new id xs ys o h c i = step (same_id c id) refl
     step false e = behind (among_either c xs ys (h c (subst (λ (o : Option Held). IsSome o) (o c e) i)))
 
 -- it holds one less
-pub owned_less : (old new : List Held) (id : CursorId) (xs ys : List CursorId) → held_at new id ≡ None → OthersStay old id new → AreOwned old (xs ++ id ∷ ys) → AreOwned new (xs ++ ys)
+pub owned_less : (old new : List Held) (id : CursorId) (xs ys : List CursorId) → held_at new id ≡ None
+    → OthersStay old id new → AreOwned old (xs ++ id ∷ ys) → AreOwned new (xs ++ ys)
 owned_less old new id xs ys gone o h c i = step (same_id c id) refl
   where
-    behind : same_id c id ≡ false → (is_among c xs ≡ true) ⊎ (is_among c (id ∷ ys) ≡ true) → is_among c (xs ++ ys) ≡ true
+    behind : same_id c id ≡ false → (is_among c xs ≡ true) ⊎ (is_among c (id ∷ ys) ≡ true) → is_among c (xs ++ ys)
+        ≡ true
     behind e (inl f) = among_front c xs ys f
     behind e (inr f) = among_back c xs ys (sym (ap (λ b. b || is_among c ys) (same_id_flip c id e)) ∙ f)
 
     step : (b : Bool) → same_id c id ≡ b → is_among c (xs ++ ys) ≡ true
     step true e =
-        let none : IsSome {T = Held} None = subst (λ (o : Option Held). IsSome o) (ap (held_at new) (same_id_same c id e) ∙ gone) i in absurd (cc)
+        let none : IsSome {T = Held} None = subst (λ (o : Option Held). IsSome o)
+        (ap (held_at new) (same_id_same c id e) ∙ gone) i in absurd (cc)
     step false e = behind e (among_either c xs (id ∷ ys) (h c (subst (λ (o : Option Held). IsSome o) (o c e) i)))
 
 -- it holds none of these any more
-pub owned_without : (old new : List Held) (xs ys zs : List CursorId) → ((c : CursorId) → is_among c ys ≡ true → held_at new c ≡ None) → ((c : CursorId) → IsApart c ys → held_at new c ≡ held_at old c)
+pub owned_without : (old new : List Held) (xs ys zs : List CursorId)
+    → ((c : CursorId) → is_among c ys ≡ true → held_at new c ≡ None)
+    → ((c : CursorId) → IsApart c ys → held_at new c ≡ held_at old c)
     → AreOwned old (xs ++ (ys ++ zs)) → AreOwned new (xs ++ zs)
 owned_without old new xs ys zs gone others h c i = step (apart_or c ys)
   where
@@ -215,24 +241,30 @@ owned_without old new xs ys zs gone others h c i = step (apart_or c ys)
 
 -- each cursor is as the change leaves it
 abbrev pub Outdated : List Listed → (Listed → Option Bytes) → ℕ → List Held → List Held → Type 0
-Outdated queries outdater n old new = (c : CursorId) → held_at new c ≡ option_map (outdated_held queries outdater n) (held_at old c)
+Outdated queries outdater n old new = (c : CursorId) → held_at new c
+    ≡ option_map (outdated_held queries outdater n) (held_at old c)
 
 pub outdated_find : (queries : List Listed) (outdater : Listed → Option Bytes) (n : ℕ) (hs : List Held) (c : CursorId)
-    → held_at (map (outdated_held queries outdater n) hs) c ≡ option_map (outdated_held queries outdater n) (held_at hs c)
+    → held_at (map (outdated_held queries outdater n) hs) c
+    ≡ option_map (outdated_held queries outdater n) (held_at hs c)
 outdated_find queries outdater n [] c = refl
 outdated_find queries outdater n (h ∷ hs) c = step (same_id h.id c) (outdated_find queries outdater n hs c)
   where
-    step : (b : Bool) → held_at (map (outdated_held queries outdater n) hs) c ≡ option_map (outdated_held queries outdater n) (held_at hs c)
-        → cond b (Some (outdated_held queries outdater n h)) (held_at (map (outdated_held queries outdater n) hs) c) ≡ option_map (outdated_held queries outdater n) (cond b (Some h) (held_at hs c))
+    step : (b : Bool) → held_at (map (outdated_held queries outdater n) hs) c
+        ≡ option_map (outdated_held queries outdater n) (held_at hs c)
+        → cond b (Some (outdated_held queries outdater n h)) (held_at (map (outdated_held queries outdater n) hs) c)
+        ≡ option_map (outdated_held queries outdater n) (cond b (Some h) (held_at hs c))
     step true r = refl
     step false r = r
 
-still_apart : (queries : List Listed) (outdater : Listed → Option Bytes) (n : ℕ) (o : Option Bytes) (p : Position) → GivesApart p → GivesApart (outdated o n p)
+still_apart : (queries : List Listed) (outdater : Listed → Option Bytes) (n : ℕ) (o : Option Bytes) (p : Position)
+    → GivesApart p → GivesApart (outdated o n p)
 still_apart queries outdater n None p g = g
 still_apart queries outdater n (Some r) (open_at given ended) g = tt
 still_apart queries outdater n (Some r) (stale s m) g = tt
 
-pub outdated_all_held : (queries : List Listed) (outdater : Listed → Option Bytes) (n : ℕ) (old new : List Held) (cs : List CursorId) → Outdated queries outdater n old new → AreHeld old cs → AreHeld new cs
+pub outdated_all_held : (queries : List Listed) (outdater : Listed → Option Bytes) (n : ℕ) (old new : List Held)
+    (cs : List CursorId) → Outdated queries outdater n old new → AreHeld old cs → AreHeld new cs
 outdated_all_held queries outdater n old new [] out h = tt
 outdated_all_held queries outdater n old new (c ∷ cs) out h = (
   (
@@ -248,24 +280,42 @@ stale_stays None n = refl
 stale_stays (Some r) n = refl
 
 outdated_one : (queries : List Listed) (outdater : Listed → Option Bytes) (n : ℕ) (name : Bytes) (o : Option Held)
-    → record { name = name; query = query_in (option_map (outdated_held queries outdater n) o); position = position_in (option_map (outdated_held queries outdater n) o) }
+    → record {
+      name = name;
+      query = query_in (option_map (outdated_held queries outdater n) o);
+      position = position_in
+          (option_map (outdated_held queries outdater n) o);
+    }
     ≡ outdated_cursor queries outdater n (record { name = name; query = query_in o; position = position_in o })
-outdated_one queries outdater n name None = ap (λ (p : Position). record { name = name; query = []; position = p }) (stale_stays (outdater_of queries outdater []) n)
+outdated_one queries outdater n name None = ap (λ (p : Position). record { name = name; query = []; position = p })
+    (stale_stays (outdater_of queries outdater []) n)
 outdated_one queries outdater n name (Some h) = refl
 
-pub outdated_names : (queries : List Listed) (outdater : Listed → Option Bytes) (n : ℕ) (old new : List Held) (names : List (NamedCursor CursorId)) → Outdated queries outdater n old new
+pub outdated_names : (queries : List Listed) (outdater : Listed → Option Bytes) (n : ℕ) (old new : List Held)
+    (names : List (NamedCursor CursorId)) → Outdated queries outdater n old new
     → map (cursor_in new) names ≡ map (outdated_cursor queries outdater n) (map (cursor_in old) names)
 outdated_names queries outdater n old new [] out = refl
 outdated_names queries outdater n old new (x ∷ names) out =
     let rest = outdated_names queries outdater n old new names out in
-    let moved : cursor_in new x ≡ record { name = x.name; query = query_in (option_map (outdated_held queries outdater n) (held_at old x.cursor)); position = position_in (option_map (outdated_held queries outdater n) (held_at old x.cursor)) }
+    let moved : cursor_in new x
+    ≡ record {
+      name = x.name;
+      query = query_in
+          (option_map (outdated_held queries outdater n) (held_at old x.cursor));
+      position = position_in
+          (option_map (outdated_held queries outdater n) (held_at old x.cursor));
+    }
     = ap (λ (o : Option Held). record { name = x.name; query = query_in o; position = position_in o }) (out x.cursor) in
-    let here : cursor_in new x ≡ outdated_cursor queries outdater n (cursor_in old x) = moved ∙ outdated_one queries outdater n x.name (held_at old x.cursor) in cc
+    let here : cursor_in new x ≡ outdated_cursor queries outdater n (cursor_in old x) = moved
+    ∙ outdated_one queries outdater n x.name (held_at old x.cursor) in cc
 
-pub outdated_open : (queries : List Listed) (outdater : Listed → Option Bytes) (n : ℕ) (old new : List Held) (xs : List OpenSession) → Outdated queries outdater n old new
+pub outdated_open : (queries : List Listed) (outdater : Listed → Option Bytes) (n : ℕ) (old new : List Held)
+    (xs : List OpenSession) → Outdated queries outdater n old new
     → map (open_in new) xs ≡ outdated_sessions queries outdater n (map (open_in old) xs)
 outdated_open queries outdater n old new [] out = refl
 outdated_open queries outdater n old new (x ∷ xs) out =
     let rest = outdated_open queries outdater n old new xs out in
     let names = outdated_names queries outdater n old new (x.session).cursors out in
-    let here : open_in new x ≡ record (open_in old x) { cursors = map (outdated_cursor queries outdater n) (open_in old x).cursors } = ap (λ (cs : List Cursor). record (open_in old x) { cursors = cs }) names in cc
+    let here : open_in new x
+    ≡ record (open_in old x) { cursors = map (outdated_cursor queries outdater n) (open_in old x).cursors } = ap
+    (λ (cs : List Cursor). record (open_in old x) { cursors = cs }) names in cc

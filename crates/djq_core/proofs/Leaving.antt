@@ -30,16 +30,24 @@ IsAlone Stopping = ⊤
 IsAlone (Telling change) = ⊥
 
 -- a command was obeyed behind a line that was taken
-pub line_leaves : (left : Left) (old : Kept) (before mid : Talk) (l rest : Bytes) (command : Command) (new : Kept) (after : Talk) (was now : ℕ)
-    → front_of before.held ≡ a_line l rest → mid ≡ record before { held = rest } → is_blank l ≡ false → length before.pending ≤ PENDING_BYTES
+pub line_leaves : (left : Left) (old : Kept) (before mid : Talk) (l rest : Bytes) (command : Command) (new : Kept)
+    (after : Talk) (was now : ℕ)
+    → front_of before.held ≡ a_line l rest → mid ≡ record before { held = rest } → is_blank l ≡ false
+    → length before.pending ≤ PENDING_BYTES
     → before.cause ≡ None → REPLY_BYTES + LAST_LINE_BYTES ≤ before.room → reading_of l ≡ says command
-    → (IsAlone left → (is_on_row command ≡ false) × (is_misplaced before.batch command ≡ false)) → Obeys command left old mid new after was now → LineLeaves l left old before new after was now
+    → (IsAlone left → (is_on_row command ≡ false) × (is_misplaced before.batch command ≡ false))
+    → Obeys command left old mid new after was now → LineLeaves l left old before new after was now
 line_leaves (Nothing kept) old before mid l rest command new after was now f e said few running room reads alone o =
-    runs kept false old before mid l rest new after was now f e said few (reads_command kept false old mid l command new after was now reads (alone tt).0 (ap (λ (d : Talk). is_misplaced d.batch command) e ∙ (alone tt).1) o)
+    runs kept false old before mid l rest new after was now f e said few
+    (reads_command kept false old mid l command new after was now reads (alone tt).0
+    (ap (λ (d : Talk). is_misplaced d.batch command) e ∙ (alone tt).1) o)
 line_leaves Stopping old before mid l rest command new after was now f e said few running room reads alone o =
-    runs false true old before mid l rest new after was now f e said few (reads_command false true old mid l command new after was now reads (alone tt).0 (ap (λ (d : Talk). is_misplaced d.batch command) e ∙ (alone tt).1) o)
+    runs false true old before mid l rest new after was now f e said few
+    (reads_command false true old mid l command new after was now reads (alone tt).0
+    (ap (λ (d : Talk). is_misplaced d.batch command) e ∙ (alone tt).1) o)
 line_leaves (Telling change) old before mid l rest command new after was now f e said few running room reads alone o =
-    let taken : after ≡ record before { held = rest; batch = None } = o.1 ∙ ap (λ (d : Talk). record d { batch = None }) e in
+    let taken : after ≡ record before { held = rest; batch = None } = o.1
+    ∙ ap (λ (d : Talk). record d { batch = None }) e in
     let same : after.room ≡ before.room = ap (λ (d : Talk). d.room) taken in
     record {
       running = running;
@@ -56,25 +64,36 @@ line_leaves (Telling change) old before mid l rest command new after was now f e
     }
 
 -- What is left of a session without a batch is to tell a change.
-pub tells_alone : (change : Outcome) (old : Kept) (mid : Talk) (new : Kept) (was now : ℕ) (command : Command) → mid.batch ≡ None → IsChange command None old change new was now
+pub tells_alone : (change : Outcome) (old : Kept) (mid : Talk) (new : Kept) (was now : ℕ) (command : Command)
+    → mid.batch ≡ None → IsChange command None old change new was now
     → Obeys command (Telling change) old mid new mid was now
-tells_alone change old mid new was now command e c =
-    (subst (λ (o : Option (List HeldRow)). IsChange command o old change new was now) (sym e) c, ap (λ (o : Option (List HeldRow)). record mid { batch = o }) e)
+tells_alone change old mid new was now command e c = (
+  subst (λ (o : Option (List HeldRow)). IsChange command o old change new was now) (sym e) c,
+  ap
+      (λ (o : Option (List HeldRow)). record mid { batch = o }) e,
+)
 
 -- and of one whose batch is done
-pub tells_done : (change : Outcome) (old : Kept) (mid : Talk) (new : Kept) (after : Talk) (was now : ℕ) → IsSome mid.batch → AddsAll old (rows_held mid.batch) change new was now
+pub tells_done : (change : Outcome) (old : Kept) (mid : Talk) (new : Kept) (after : Talk) (was now : ℕ)
+    → IsSome mid.batch → AddsAll old (rows_held mid.batch) change new was now
     → after ≡ record mid { batch = None } → Obeys Done (Telling change) old mid new after was now
-tells_done change old mid new after was now some c e =
-    (subst (λ (o : Option (List HeldRow)). IsChange Done o old change new was now) (sym (open_rows mid.batch some)) c, e)
+tells_done change old mid new after was now some c e = (
+  subst (λ (o : Option (List HeldRow)). IsChange Done o old change new was now) (sym (open_rows mid.batch some)) c,
+  e,
+)
 
 -- room was kept before
-pub step_leaves : (left : Left) (old : Kept) (before kept : Talk) (l : Bytes) (new : Kept) (after : Talk) (was now : Counts)
+pub step_leaves : (left : Left) (old : Kept) (before kept : Talk) (l : Bytes) (new : Kept) (after : Talk)
+    (was now : Counts)
     → kept ≡ record before { room = kept.room } → before.cause ≡ None
-    → LineLeaves l left old kept new after was.listing now.listing → LeavesTo (Ran (is_kept_by left)) left old before new after was now
+    → LineLeaves l left old kept new after was.listing now.listing
+    → LeavesTo (Ran (is_kept_by left)) left old before new after was now
 step_leaves (Nothing k) old before kept l new after was now e running f =
-    ran_line k false old before new after l was now running (with_room _ false old before kept new after was.listing now.listing e f)
+    ran_line k false old before new after l was now running
+    (with_room _ false old before kept new after was.listing now.listing e f)
 step_leaves Stopping old before kept l new after was now e running f =
-    ran_line false true old before new after l was now running (with_room _ true old before kept new after was.listing now.listing e f)
+    ran_line false true old before new after l was now running
+    (with_room _ true old before kept new after was.listing now.listing e f)
 step_leaves (Telling change) old before kept l new after was now e running c = (
   refl,
   record {

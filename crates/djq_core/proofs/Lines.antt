@@ -12,5 +12,7 @@ pub text_last : (ls : List Bytes) (l : Bytes) → text_of (ls ++ l ∷ []) ≡ t
 text_last ls l = flat_map-append (λ (x : Bytes). x) ls (l ∷ []) ∙ ap (λ (bs : Bytes). text_of ls ++ bs) (append-nil l)
 
 -- an element more
-pub take_next : {X : Type 0} (xs : List X) (n : ℕ) (x : X) → slice_get xs n ≡ Some x → take (n + 1) xs ≡ take n xs ++ x ∷ []
-take_next {X = X} xs n x h = take_more xs n x (slice_get_within xs n x h) ∙ ap (λ (y : X). take n xs ++ y ∷ []) (get_or_from_slice_get xs n x x h)
+pub take_next : {X : Type 0} (xs : List X) (n : ℕ) (x : X) → slice_get xs n ≡ Some x → take (n + 1) xs
+    ≡ take n xs ++ x ∷ []
+take_next {X = X} xs n x h = take_more xs n x (slice_get_within xs n x h)
+    ∙ ap (λ (y : X). take n xs ++ y ∷ []) (get_or_from_slice_get xs n x x h)

@@ -1,5 +1,7 @@
 -- What loading does while no session is open.
-use Rattle.std.proofs.Common.{ℕ, zero, suc, ◌≡◌, ◌∙◌, Bool, true, false, List, [], ◌∷◌, ◌++◌, length, map, cond, Option, None, Some, option_map, Result, Ok, Err, nat_lt, refl, sym, ap, subst, arith, inl, inr}
+use Rattle.std.proofs.Common.{ℕ, zero, suc, ◌≡◌, ◌∙◌, Bool, true, false, List, [], ◌∷◌, ◌++◌}
+use Rattle.std.proofs.Common.{length, map, cond, Option, None, Some, option_map, Result, Ok, Err}
+use Rattle.std.proofs.Common.{nat_lt, refl, sym, ap, subst, arith, inl, inr}
 use Rattle.std.specs.Prelude.{⊤, All, IsSome, IsSomeAnd, find, not}
 use Rattle.std.proofs.lemmas.Bool.{false≢true, lt-ltb}
 use Rattle.std.proofs.lemmas.List.Elements.{All-append, All-cons, All-contains, All-filter, All-head, All-nil, All-tail}
@@ -30,7 +32,8 @@ use Rattle.djq_proto.specs.declared.refusal.LineRefusal.{LineRefusal}
 use Rattle.djq_proto.specs.declared.refusal.LineRefusal.TheVariants.{Syntax as Outside, Range, NoMem}
 use Rattle.djq_proto.specs.Reading.{Reads}
 use Rattle.djq_engine.specs.declared.cursor.CursorId.{CursorId}
-use Rattle.djq_engine.specs.Kept.{Kept, Held, Registered, held_at, is_watched, SameCursors, Outdates, outdated_held, Uses, DropGives, DropsRegistered}
+use Rattle.djq_engine.specs.Kept.{Kept, Held, Registered, held_at, is_watched, SameCursors}
+use Rattle.djq_engine.specs.Kept.{Outdates, outdated_held, Uses, DropGives, DropsRegistered}
 use Rattle.djq_engine.specs.Watching.{Enrols}
 use Rattle.djq_store.specs.Registering.{EnrolsUnion}
 use Rattle.djq_core.specs.declared.open.OpenSession.{OpenSession}
@@ -46,7 +49,8 @@ use Rattle.djq_core.proofs.Suiting.{holds}
 
 -- ---- the core without sessions
 
-pub none_open : (k : Kept) (stopped : Bool) (xs : List OpenSession) (st : State) → state_in k stopped xs ≡ st → st.sessions ≡ [] → xs ≡ []
+pub none_open : (k : Kept) (stopped : Bool) (xs : List OpenSession) (st : State) → state_in k stopped xs ≡ st
+    → st.sessions ≡ [] → xs ≡ []
 none_open k stopped xs st v none = by xs (ap (λ (x : State). x.sessions) v ∙ none)
   where
     by : (ys : List OpenSession) → map (open_in k.cursors) ys ≡ [] → ys ≡ []
@@ -56,7 +60,8 @@ none_open k stopped xs st v none = by xs (ap (λ (x : State). x.sessions) v ∙ 
 idle_sound : (k : Kept) → IsSound k [] → IsIdle k
 idle_sound k sound = record {
   cursorless = λ c. by c (held_at k.cursors c) refl;
-  unwatched = hold_each (λ (r : Registered). is_watched r ≡ false) k.registered (λ r c. ap (λ (n : ℕ). nat_lt 0 n) (sound.counted.counted r c));
+  unwatched = hold_each (λ (r : Registered). is_watched r ≡ false) k.registered
+      (λ r c. ap (λ (n : ℕ). nat_lt 0 n) (sound.counted.counted r c));
 }
   where
     by : (c : CursorId) (o : Option Held) → held_at k.cursors c ≡ o → held_at k.cursors c ≡ None
@@ -72,7 +77,8 @@ sound_idle k idle = record {
   owned = λ c i. absurd (false≢true (subst (λ (o : Option Held). IsSome o) (idle.cursorless c) i));
   ended = tt;
   counted = record {
-    counted = λ r c. nobody r.watchers (All-contains (λ (x : Registered). is_watched x ≡ false) k.registered r idle.unwatched c);
+    counted = λ r c. nobody r.watchers
+        (All-contains (λ (x : Registered). is_watched x ≡ false) k.registered r idle.unwatched c);
     known = λ q l. absurd (omega (arith, l));
     once = tt;
     quiet = tt;
@@ -83,10 +89,12 @@ sound_idle k idle = record {
     nobody zero e = refl
     nobody (suc n) e = absurd (false≢true (sym e ∙ lt-ltb 0 (suc n) (omega arith)))
 
-pub idle_core : (k : Kept) (is : List ℕ) (xs : List OpenSession) (id_room room : ℕ) → IsCore k is xs id_room room → xs ≡ [] → IsIdle k
+pub idle_core : (k : Kept) (is : List ℕ) (xs : List OpenSession) (id_room room : ℕ) → IsCore k is xs id_room room → xs
+    ≡ [] → IsIdle k
 idle_core k is xs id_room room core none = idle_sound k (subst (IsSound k) none core.sound)
 
-pub core_idle : (old new : Kept) (is : List ℕ) (xs : List OpenSession) (id_room room : ℕ) → IsCore old is xs id_room room → xs ≡ [] → IsIdle new → IsCore new is xs id_room room
+pub core_idle : (old new : Kept) (is : List ℕ) (xs : List OpenSession) (id_room room : ℕ)
+    → IsCore old is xs id_room room → xs ≡ [] → IsIdle new → IsCore new is xs id_room room
 core_idle old new is xs id_room room core none idle = record {
   ids_are = core.ids_are;
   sound = subst (IsSound new) (sym none) (sound_idle new idle);
@@ -95,74 +103,99 @@ core_idle old new is xs id_room room core none idle = record {
 }
 
 -- where no session is open, the batch of the loaded lines is the only one
-pub suits_loaded : (st : Store) (batch : Option (List HeldRow)) (xs : List OpenSession) → xs ≡ [] → BatchSuits st batch → AreSuited st (batches_of batch xs)
-suits_loaded st batch xs none h = subst (λ (ys : List OpenSession). AreSuited st (batches_of batch ys)) (sym none) (h, tt)
+pub suits_loaded : (st : Store) (batch : Option (List HeldRow)) (xs : List OpenSession) → xs ≡ [] → BatchSuits st batch
+    → AreSuited st (batches_of batch xs)
+suits_loaded st batch xs none h = subst (λ (ys : List OpenSession). AreSuited st (batches_of batch ys)) (sym none)
+    (h, tt)
 
 -- ---- what the verbs leave
 
-pub idle_same : (old new : Kept) → IsIdle old → SameCursors old.cursors new.cursors → new.registered ≡ old.registered → IsIdle new
+pub idle_same : (old new : Kept) → IsIdle old → SameCursors old.cursors new.cursors → new.registered ≡ old.registered
+    → IsIdle new
 idle_same old new idle same still = record {
   cursorless = λ c. same c ∙ idle.cursorless c;
-  unwatched = subst (λ (rs : List Registered). All (λ (r : Registered). is_watched r ≡ false) rs) (sym still) idle.unwatched;
+  unwatched = subst (λ (rs : List Registered). All (λ (r : Registered). is_watched r ≡ false) rs) (sym still)
+      idle.unwatched;
 }
 
-pub idle_outdated : (old new : Kept) (o : Option RowsChange) → IsIdle old → Outdates old o new → new.registered ≡ old.registered → IsIdle new
+pub idle_outdated : (old new : Kept) (o : Option RowsChange) → IsIdle old → Outdates old o new → new.registered
+    ≡ old.registered → IsIdle new
 idle_outdated old new None idle out still = idle_same old new idle out still
 idle_outdated old new (Some change) idle out still = record {
   cursorless = λ c. out c ∙ outdated_find (old.store).queries change.outdater (new.store).seq old.cursors c
-      ∙ ap (λ (h : Option Held). option_map (outdated_held (old.store).queries change.outdater (new.store).seq) h) (idle.cursorless c);
-  unwatched = subst (λ (rs : List Registered). All (λ (r : Registered). is_watched r ≡ false) rs) (sym still) idle.unwatched;
+      ∙ ap (λ (h : Option Held). option_map (outdated_held (old.store).queries change.outdater (new.store).seq) h)
+      (idle.cursorless c);
+  unwatched = subst (λ (rs : List Registered). All (λ (r : Registered). is_watched r ≡ false) rs) (sym still)
+      idle.unwatched;
 }
 
-enrolled : (old new : List Registered) (q : Query) (result : Result QueryOutcome Refusal) → Enrols old q result new → All (λ (r : Registered). is_watched r ≡ false) old
+enrolled : (old new : List Registered) (q : Query) (result : Result QueryOutcome Refusal) → Enrols old q result new
+    → All (λ (r : Registered). is_watched r ≡ false) old
     → All (λ (r : Registered). is_watched r ≡ false) new
 enrolled old new q (Ok (HasRegistered most)) e h =
     let n : Registered = record { id = e.0; query = a_query q; watchers = 0 } in
     subst (λ (rs : List Registered). All (λ (r : Registered). is_watched r ≡ false) rs) (sym e.2)
-    (All-append (λ (r : Registered). is_watched r ≡ false) old (n ∷ []) h (All-cons (λ (r : Registered). is_watched r ≡ false) n [] refl (All-nil (λ (r : Registered). is_watched r ≡ false))))
-enrolled old new q (Ok (Cyclic rest)) e h = subst (λ (rs : List Registered). All (λ (r : Registered). is_watched r ≡ false) rs) (sym e) h
-enrolled old new q (Ok (NotConnex rest)) e h = subst (λ (rs : List Registered). All (λ (r : Registered). is_watched r ≡ false) rs) (sym e) h
-enrolled old new q (Err r) e h = subst (λ (rs : List Registered). All (λ (r : Registered). is_watched r ≡ false) rs) (sym e) h
+    (All-append (λ (r : Registered). is_watched r ≡ false) old (n ∷ []) h
+    (All-cons (λ (r : Registered). is_watched r ≡ false) n [] refl
+    (All-nil (λ (r : Registered). is_watched r ≡ false))))
+enrolled old new q (Ok (Cyclic rest)) e h = subst
+    (λ (rs : List Registered). All (λ (r : Registered). is_watched r ≡ false) rs) (sym e) h
+enrolled old new q (Ok (NotConnex rest)) e h = subst
+    (λ (rs : List Registered). All (λ (r : Registered). is_watched r ≡ false) rs) (sym e) h
+enrolled old new q (Err r) e h = subst (λ (rs : List Registered). All (λ (r : Registered). is_watched r ≡ false) rs)
+    (sym e) h
 
-pub idle_enrolled : (old new : Kept) (q : Query) (result : Result QueryOutcome Refusal) → IsIdle old → SameCursors old.cursors new.cursors
+pub idle_enrolled : (old new : Kept) (q : Query) (result : Result QueryOutcome Refusal) → IsIdle old
+    → SameCursors old.cursors new.cursors
     → Enrols old.registered q result new.registered → IsIdle new
 idle_enrolled old new q result idle same e = record {
   cursorless = λ c. same c ∙ idle.cursorless c;
   unwatched = enrolled old.registered new.registered q result e idle.unwatched;
 }
 
-united : (old new : Kept) (name : Bytes) (members : List Bytes) (result : Result ℕ Refusal) → EnrolsUnion old name members result new → All (λ (r : Registered). is_watched r ≡ false) old.registered
+united : (old new : Kept) (name : Bytes) (members : List Bytes) (result : Result ℕ Refusal)
+    → EnrolsUnion old name members result new → All (λ (r : Registered). is_watched r ≡ false) old.registered
     → All (λ (r : Registered). is_watched r ≡ false) new.registered
 united old new name members (Ok most) e h =
     let n : Registered = record { id = e.0; query = a_union name e.1; watchers = 0 } in
     subst (λ (rs : List Registered). All (λ (r : Registered). is_watched r ≡ false) rs) (sym e.4)
-    (All-append (λ (r : Registered). is_watched r ≡ false) old.registered (n ∷ []) h (All-cons (λ (r : Registered). is_watched r ≡ false) n [] refl (All-nil (λ (r : Registered). is_watched r ≡ false))))
-united old new name members (Err r) e h = subst (λ (rs : List Registered). All (λ (r : Registered). is_watched r ≡ false) rs) (sym e) h
+    (All-append (λ (r : Registered). is_watched r ≡ false) old.registered (n ∷ []) h
+    (All-cons (λ (r : Registered). is_watched r ≡ false) n [] refl
+    (All-nil (λ (r : Registered). is_watched r ≡ false))))
+united old new name members (Err r) e h = subst
+    (λ (rs : List Registered). All (λ (r : Registered). is_watched r ≡ false) rs) (sym e) h
 
-pub idle_united : (old new : Kept) (name : Bytes) (members : List Bytes) (result : Result ℕ Refusal) → IsIdle old → SameCursors old.cursors new.cursors
+pub idle_united : (old new : Kept) (name : Bytes) (members : List Bytes) (result : Result ℕ Refusal) → IsIdle old
+    → SameCursors old.cursors new.cursors
     → EnrolsUnion old name members result new → IsIdle new
 idle_united old new name members result idle same e = record {
   cursorless = λ c. same c ∙ idle.cursorless c;
   unwatched = united old new name members result e idle.unwatched;
 }
 
-left : (old new : List Registered) (q : Bytes) (result : Result ⊤ Refusal) → DropsRegistered old q result new → All (λ (r : Registered). is_watched r ≡ false) old
+left : (old new : List Registered) (q : Bytes) (result : Result ⊤ Refusal) → DropsRegistered old q result new
+    → All (λ (r : Registered). is_watched r ≡ false) old
     → All (λ (r : Registered). is_watched r ≡ false) new
 left old new q (Ok done) e h =
     subst (λ (rs : List Registered). All (λ (r : Registered). is_watched r ≡ false) rs) (sym e)
-    (All-filter (λ (r : Registered). not (bytes_eq (listed_name r.query) q)) (λ (r : Registered). is_watched r ≡ false) old h)
-left old new q (Err r) e h = subst (λ (rs : List Registered). All (λ (r : Registered). is_watched r ≡ false) rs) (sym e) h
+    (All-filter (λ (r : Registered). not (bytes_eq (listed_name r.query) q)) (λ (r : Registered). is_watched r ≡ false)
+    old h)
+left old new q (Err r) e h = subst (λ (rs : List Registered). All (λ (r : Registered). is_watched r ≡ false) rs) (sym e)
+    h
 
-pub idle_dropped : (old new : Kept) (q : Bytes) (result : Result ⊤ Refusal) → IsIdle old → DropGives old q result new → IsIdle new
+pub idle_dropped : (old new : Kept) (q : Bytes) (result : Result ⊤ Refusal) → IsIdle old → DropGives old q result new
+    → IsIdle new
 idle_dropped old new q result idle d = record {
   cursorless = λ c. (d.cursors c) ∙ idle.cursorless c;
   unwatched = left old.registered new.registered q result d.registered idle.unwatched;
 }
 
 -- a query that nobody watches
-unwatched_found : (p : Registered → Bool) (rs : List Registered) → All (λ (r : Registered). is_watched r ≡ false) rs → IsSomeAnd (find p rs) (λ (r : Registered). is_watched r ≡ true) → ⊥
+unwatched_found : (p : Registered → Bool) (rs : List Registered) → All (λ (r : Registered). is_watched r ≡ false) rs
+    → IsSomeAnd (find p rs) (λ (r : Registered). is_watched r ≡ true) → ⊥
 unwatched_found p [] h f = f
-unwatched_found p (x ∷ rs) h f = by (p x) f (unwatched_found p rs (All-tail (λ (r : Registered). is_watched r ≡ false) x rs h))
+unwatched_found p (x ∷ rs) h f = by (p x) f
+    (unwatched_found p rs (All-tail (λ (r : Registered). is_watched r ≡ false) x rs h))
   where
     by : (b : Bool) → IsSomeAnd (cond b (Some x) (find p rs)) (λ (r : Registered). is_watched r ≡ true)
         → (IsSomeAnd (find p rs) (λ (r : Registered). is_watched r ≡ true) → ⊥) → ⊥
@@ -170,108 +203,160 @@ unwatched_found p (x ∷ rs) h f = by (p x) f (unwatched_found p rs (All-tail (�
     by false f more = more f
 
 -- No query is in use.
-pub drops_unused : (old new : Kept) (q : Bytes) (result : Result ⊤ Refusal) → IsIdle old → DropGives old q result new → DropsQuery old.store false q result new.store
+pub drops_unused : (old new : Kept) (q : Bytes) (result : Result ⊤ Refusal) → IsIdle old → DropGives old q result new
+    → DropsQuery old.store false q result new.store
 drops_unused old new q result idle d = by d.used d.is_used d.store
   where
-    by : (used : Bool) → Uses old q used → DropsQuery old.store used q result new.store → DropsQuery old.store false q result new.store
+    by : (used : Bool) → Uses old q used → DropsQuery old.store used q result new.store
+        → DropsQuery old.store false q result new.store
     by false u s = s
     by true (inl (id, h, there, over)) s = absurd (cc (there, idle.cursorless id))
-    by true (inr w) s = absurd (unwatched_found (λ (r : Registered). bytes_eq (listed_name r.query) q) old.registered idle.unwatched w)
+    by true (inr w) s = absurd
+        (unwatched_found (λ (r : Registered). bytes_eq (listed_name r.query) q) old.registered idle.unwatched w)
 
 -- ---- what results come to
 
-pub comes_by : {A : Type 0} (kept : Result A Refusal → Bool) (r : Result A Refusal) (how : Loaded) (b : Bool) → b ≡ kept r → how ≡ comes_to r b → how ≡ loaded_by kept r
+pub comes_by : {A : Type 0} (kept : Result A Refusal → Bool) (r : Result A Refusal) (how : Loaded) (b : Bool) → b
+    ≡ kept r → how ≡ comes_to r b → how ≡ loaded_by kept r
 comes_by kept (Ok a) how b e h = h ∙ ap (λ (c : Bool). cond c ran refused) e
 comes_by kept (Err r) how b e h = h
 
 -- ---- a line
 
-pub step_loads : (old new : Loading) (line : Bytes) (how : Loaded) → ReadingLoads old line (reading_of line) how new → LoadStep old line how new
+pub step_loads : (old new : Loading) (line : Bytes) (how : Loaded) → ReadingLoads old line (reading_of line) how new
+    → LoadStep old line how new
 step_loads old new line how l =
-    record { mid = new; loads = l; relations = (new.store).relations; reordered = same_relations (new.store).relations; after = refl }
+    record {
+      mid = new;
+      loads = l;
+      relations = (new.store).relations;
+      reordered = same_relations (new.store).relations;
+      after = refl;
+    }
 
 module _ (k : Kept) (line : Bytes) where
   -- outside a batch: one opens
-  pub opens_batch : (c : Command) → Reads line (Ok c) → is_batch c ≡ true → ReadingLoads (loading_by k None) line (reading_of line) ran (loading_by k (Some []))
+  pub opens_batch : (c : Command) → Reads line (Ok c) → is_batch c ≡ true
+      → ReadingLoads (loading_by k None) line (reading_of line) ran (loading_by k (Some []))
   opens_batch c g b =
-      subst (λ (r : Reading). ReadingLoads (loading_by k None) line r ran (loading_by k (Some []))) (sym (reads_as line c g)) (inl (by c b))
+      subst (λ (r : Reading). ReadingLoads (loading_by k None) line r ran (loading_by k (Some [])))
+      (sym (reads_as line c g)) (inl (by c b))
     where
       by : (c : Command) → is_batch c ≡ true → CommandLoads (loading_by k None) line c ran (loading_by k (Some []))
       by Batch e = inl (refl, refl)
       by _ e = absurd (cc (e))
 
   -- or a command is loaded by itself
-  pub said_alone : (new : Kept) (c : Command) (how : Loaded) → Reads line (Ok c) → is_batch c ≡ false → StoreLoads k.store c how new.store
+  pub said_alone : (new : Kept) (c : Command) (how : Loaded) → Reads line (Ok c) → is_batch c ≡ false
+      → StoreLoads k.store c how new.store
       → ReadingLoads (loading_by k None) line (reading_of line) how (loading_by new None)
   said_alone new c how g b l =
-      subst (λ (r : Reading). ReadingLoads (loading_by k None) line r how (loading_by new None)) (sym (reads_as line c g)) (inl (by c b l))
+      subst (λ (r : Reading). ReadingLoads (loading_by k None) line r how (loading_by new None))
+      (sym (reads_as line c g)) (inl (by c b l))
     where
-      by : (c : Command) → is_batch c ≡ false → StoreLoads k.store c how new.store → CommandLoads (loading_by k None) line c how (loading_by new None)
+      by : (c : Command) → is_batch c ≡ false → StoreLoads k.store c how new.store
+          → CommandLoads (loading_by k None) line c how (loading_by new None)
       by Batch e h = absurd (cc (e))
       by _ e h = (h, refl)
 
   -- or the line gives none
-  pub unread_alone : (r : LineRefusal) → Reads line (Err r) → ReadingLoads (loading_by k None) line (reading_of line) (refused_by (refused_as r)) (loading_by k None)
+  pub unread_alone : (r : LineRefusal) → Reads line (Err r)
+      → ReadingLoads (loading_by k None) line (reading_of line) (refused_by (refused_as r)) (loading_by k None)
   unread_alone Outside g =
-      subst (λ (r : Reading). ReadingLoads (loading_by k None) line r refused (loading_by k None)) (sym (in_outside (command_of line) g)) (refl, refl)
+      subst (λ (r : Reading). ReadingLoads (loading_by k None) line r refused (loading_by k None))
+      (sym (in_outside (command_of line) g)) (refl, refl)
   unread_alone Range g =
       let past = in_range_past (command_of line) g in
-      subst (λ (r : Reading). ReadingLoads (loading_by k None) line r refused (loading_by k None)) (sym past.2) (refl, refl)
+      subst (λ (r : Reading). ReadingLoads (loading_by k None) line r refused (loading_by k None)) (sym past.2)
+      (refl, refl)
   unread_alone NoMem g =
       let m = in_memory (command_of line) g in
-      subst (λ (r : Reading). ReadingLoads (loading_by k None) line r no_memory (loading_by k None)) (sym m.2) (inr (m.3, late_alone m.0 (inr m.3), refl, refl))
+      subst (λ (r : Reading). ReadingLoads (loading_by k None) line r no_memory (loading_by k None)) (sym m.2)
+      (inr (m.3, late_alone m.0 (inr m.3), refl, refl))
 
 module _ (k : Kept) (line : Bytes) (held : List HeldRow) where
   -- in a batch: a row is held
-  pub said_hold : (name : Bytes) (row : Tuple) (made : Result HeldRow Refusal) (how : Loaded) (rows : List HeldRow) → reading_of line ≡ says (Add name row)
+  pub said_hold : (name : Bytes) (row : Tuple) (made : Result HeldRow Refusal) (how : Loaded) (rows : List HeldRow)
+      → reading_of line ≡ says (Add name row)
       → MakesRow k.store (length held) line name row made → LoadsRow held made how rows
-      → ReadingLoads (loading_by k (Some held)) line (reading_of line) how (loading_by k (Some rows)) × (BatchSuits k.store (Some held) → BatchSuits k.store (Some rows))
+      → ReadingLoads (loading_by k (Some held)) line (reading_of line) how (loading_by k (Some rows))
+      × (BatchSuits k.store (Some held) → BatchSuits k.store (Some rows))
   said_hold name row made how rows g makes loads = (
-    subst (λ (r : Reading). ReadingLoads (loading_by k (Some held)) line r how (loading_by k (Some rows))) (sym g) (inl (by made (makes held refl) loads).0),
+    subst (λ (r : Reading). ReadingLoads (loading_by k (Some held)) line r how (loading_by k (Some rows))) (sym g)
+        (inl (by made (makes held refl) loads).0),
     (by made (makes held refl) loads).1,
   )
     where
-      made_new : (o : Option Refusal) (new : HeldRow) → Answers {A = HeldRow} o (Ok new) (λ h. h ≡ row_of line name row) (OutOfMemoryWhere ⊤)
-          → (new ≡ row_of line name row) × Answers {A = ⊤} o (Ok tt) (λ d. ⊤) (OutOfMemoryWhere ⊤) × Answers {A = ⊤} o (Err NoMemory) (λ d. ⊤) (OutOfMemoryWhere ⊤)
+      made_new : (o : Option Refusal) (new : HeldRow)
+          → Answers {A = HeldRow} o (Ok new) (λ h. h ≡ row_of line name row) (OutOfMemoryWhere ⊤)
+          → (new ≡ row_of line name row) × Answers {A = ⊤} o (Ok tt) (λ d. ⊤) (OutOfMemoryWhere ⊤)
+          × Answers {A = ⊤} o (Err NoMemory) (λ d. ⊤) (OutOfMemoryWhere ⊤)
       made_new None new a = (a, tt, tt)
       made_new (Some r) new a = absurd a
 
-      made_none : (o : Option Refusal) (r : Refusal) → Answers {A = HeldRow} o (Err r) (λ h. h ≡ row_of line name row) (OutOfMemoryWhere ⊤) → Answers {A = ⊤} o (Err r) (λ d. ⊤) (OutOfMemoryWhere ⊤)
+      made_none : (o : Option Refusal) (r : Refusal)
+          → Answers {A = HeldRow} o (Err r) (λ h. h ≡ row_of line name row) (OutOfMemoryWhere ⊤)
+          → Answers {A = ⊤} o (Err r) (λ d. ⊤) (OutOfMemoryWhere ⊤)
       made_none None r a = a
       made_none (Some q) r a = a
 
-      by : (m : Result HeldRow Refusal) → Answers (hold_refusal k.store held name row) m (λ h. h ≡ row_of line name row) (OutOfMemoryWhere ⊤) → LoadsRow held m how rows
-          → CommandLoads (loading_by k (Some held)) line (Add name row) how (loading_by k (Some rows)) × (BatchSuits k.store (Some held) → BatchSuits k.store (Some rows))
+      by : (m : Result HeldRow Refusal)
+          → Answers (hold_refusal k.store held name row) m (λ h. h ≡ row_of line name row) (OutOfMemoryWhere ⊤)
+          → LoadsRow held m how rows
+          → CommandLoads (loading_by k (Some held)) line (Add name row) how (loading_by k (Some rows))
+          × (BatchSuits k.store (Some held) → BatchSuits k.store (Some rows))
       by (Ok new) a (inl l) =
           let n = made_new (hold_refusal k.store held name row) new a in
           let grown : rows ≡ held ++ row_of line name row ∷ [] = l.1 ∙ ap (λ (h : HeldRow). held ++ h ∷ []) n.0 in (
             (Ok tt, n.1, l.0, ap (λ (hs : List HeldRow). loading_by k (Some hs)) grown),
-            λ h. subst (λ (hs : List HeldRow). BatchSuits k.store (Some hs)) (sym grown) (holds k.store held line name row (Ok tt) n.1 h tt refl),
+            λ h. subst (λ (hs : List HeldRow). BatchSuits k.store (Some hs)) (sym grown)
+                (holds k.store held line name row (Ok tt) n.1 h tt refl),
           )
       by (Ok new) a (inr l) =
-          let n = made_new (hold_refusal k.store held name row) new a in
-          ((Err NoMemory, n.2, l.0, ap (λ (hs : List HeldRow). loading_by k (Some hs)) l.1), λ h. subst (λ (hs : List HeldRow). BatchSuits k.store (Some hs)) (sym l.1) h)
-      by (Err r) a l =
-          ((Err r, made_none (hold_refusal k.store held name row) r a, l.0, ap (λ (hs : List HeldRow). loading_by k (Some hs)) l.1), λ h. subst (λ (hs : List HeldRow). BatchSuits k.store (Some hs)) (sym l.1) h)
+          let n = made_new (hold_refusal k.store held name row) new a in (
+            (Err NoMemory, n.2, l.0, ap (λ (hs : List HeldRow). loading_by k (Some hs)) l.1),
+            λ h. subst
+                (λ (hs : List HeldRow). BatchSuits k.store (Some hs)) (sym l.1) h,
+          )
+      by (Err r) a l = (
+        (
+          Err r,
+          made_none (hold_refusal k.store held name row) r a,
+          l.0,
+          ap
+              (λ (hs : List HeldRow). loading_by k (Some hs)) l.1,
+        ),
+        λ h. subst
+            (λ (hs : List HeldRow). BatchSuits k.store (Some hs)) (sym l.1) h,
+      )
 
   -- it is done
-  pub said_done : (new : Kept) (result : Result ℕ Refusal) (how : Loaded) → reading_of line ≡ says Done → AddsBatch k.store held result new.store → how ≡ loaded_by is_done result
+  pub said_done : (new : Kept) (result : Result ℕ Refusal) (how : Loaded) → reading_of line ≡ says Done
+      → AddsBatch k.store held result new.store → how ≡ loaded_by is_done result
       → ReadingLoads (loading_by k (Some held)) line (reading_of line) how (loading_by new None)
   said_done new result how g adds e =
-      subst (λ (r : Reading). ReadingLoads (loading_by k (Some held)) line r how (loading_by new None)) (sym g) (inl (result, adds, e, refl))
+      subst (λ (r : Reading). ReadingLoads (loading_by k (Some held)) line r how (loading_by new None)) (sym g)
+      (inl (result, adds, e, refl))
 
   -- it is dropped
-  pub said_abandon : reading_of line ≡ says Abandon → ReadingLoads (loading_by k (Some held)) line (reading_of line) ran (loading_by k None)
-  said_abandon g = subst (λ (r : Reading). ReadingLoads (loading_by k (Some held)) line r ran (loading_by k None)) (sym g) (inl (refl, refl))
+  pub said_abandon : reading_of line ≡ says Abandon
+      → ReadingLoads (loading_by k (Some held)) line (reading_of line) ran (loading_by k None)
+  said_abandon g = subst (λ (r : Reading). ReadingLoads (loading_by k (Some held)) line r ran (loading_by k None))
+      (sym g) (inl (refl, refl))
 
   -- a session's end is none of a log's
-  pub said_quit : reading_of line ≡ says Quit → ReadingLoads (loading_by k (Some held)) line (reading_of line) refused (loading_by k (Some held))
-  said_quit g = subst (λ (r : Reading). ReadingLoads (loading_by k (Some held)) line r refused (loading_by k (Some held))) (sym g) (inl (refl, refl))
+  pub said_quit : reading_of line ≡ says Quit
+      → ReadingLoads (loading_by k (Some held)) line (reading_of line) refused (loading_by k (Some held))
+  said_quit g = subst (λ (r : Reading). ReadingLoads (loading_by k (Some held)) line r refused
+      (loading_by k (Some held))) (sym g) (inl (refl, refl))
 
-  pub said_stop : reading_of line ≡ says Stop → ReadingLoads (loading_by k (Some held)) line (reading_of line) refused (loading_by k (Some held))
-  said_stop g = subst (λ (r : Reading). ReadingLoads (loading_by k (Some held)) line r refused (loading_by k (Some held))) (sym g) (inl (refl, refl))
+  pub said_stop : reading_of line ≡ says Stop
+      → ReadingLoads (loading_by k (Some held)) line (reading_of line) refused (loading_by k (Some held))
+  said_stop g = subst (λ (r : Reading). ReadingLoads (loading_by k (Some held)) line r refused
+      (loading_by k (Some held))) (sym g) (inl (refl, refl))
 
-  misplaced_loads : (c : Command) → is_misplaced {A = List HeldRow} (Some []) c ≡ true → CommandLoads (loading_by k (Some held)) line c refused (loading_by k (Some held))
+  misplaced_loads : (c : Command) → is_misplaced {A = List HeldRow} (Some []) c ≡ true
+      → CommandLoads (loading_by k (Some held)) line c refused (loading_by k (Some held))
   misplaced_loads (Add name row) e = absurd (cc (e))
   misplaced_loads Done e = absurd (cc (e))
   misplaced_loads Abandon e = absurd (cc (e))
@@ -284,12 +369,15 @@ module _ (k : Kept) (line : Bytes) (held : List HeldRow) where
   past_is false why e = ap refused_by e
 
   -- or the line is refused
-  pub said_nothing : (why : Refusal) → RefusedBy (Some []) (reading_of line) why → ReadingLoads (loading_by k (Some held)) line (reading_of line) (refused_by why) (loading_by k (Some held))
+  pub said_nothing : (why : Refusal) → RefusedBy (Some []) (reading_of line) why
+      → ReadingLoads (loading_by k (Some held)) line (reading_of line) (refused_by why) (loading_by k (Some held))
   said_nothing why h = by (reading_of line) h
     where
-      by : (r : Reading) → RefusedBy (Some []) r why → ReadingLoads (loading_by k (Some held)) line r (refused_by why) (loading_by k (Some held))
+      by : (r : Reading) → RefusedBy (Some []) r why
+          → ReadingLoads (loading_by k (Some held)) line r (refused_by why) (loading_by k (Some held))
       by outside e = (ap refused_by e, refl)
       by (past_limit c) e = (past_is (is_misplaced {A = List HeldRow} (Some []) c) why e, refl)
       by (says c) (inl (m, e)) =
-          inl (subst (λ (h : Loaded). CommandLoads (loading_by k (Some held)) line c h (loading_by k (Some held))) (sym (ap refused_by e)) (misplaced_loads c m))
+          inl (subst (λ (h : Loaded). CommandLoads (loading_by k (Some held)) line c h (loading_by k (Some held)))
+          (sym (ap refused_by e)) (misplaced_loads c m))
       by (says c) (inr (m, t, e)) = inr (t, in_any_batch held c ∙ m, ap refused_by e, refl)

@@ -1,5 +1,6 @@
 -- The first session to which something is due, as it is kept and as the join machine sees it.
-use Rattle.std.proofs.Common.{ℕ, ◌≡◌, ◌&&◌, Bool, true, false, List, [], ◌∷◌, map, find, cond, Option, Some, eqb, nat_le, refl, sym, ap, ap₂, ◌∙◌, arith}
+use Rattle.std.proofs.Common.{ℕ, ◌≡◌, ◌&&◌, Bool, true, false, List, [], ◌∷◌, map, find, cond}
+use Rattle.std.proofs.Common.{Option, Some, eqb, nat_le, refl, sym, ap, ap₂, ◌∙◌, arith}
 use Rattle.std.specs.Prelude.{option_map, nat_lt, is_some, length, ◌||◌}
 use Rattle.std.proofs.lemmas.Bool.{cond-false, eq-eqb, eqb-true}
 use Rattle.djq_machine.specs.State.{Session, State}
@@ -23,17 +24,20 @@ abbrev first_of : List Held → List OpenSession → ℕ → List ℕ → Option
 first_of hs xs from is = find (λ s. nat_le from s && due_in (at_id hs xs s)) is
 
 -- a session of a lower id is none of these
-behind : (hs : List Held) (x : OpenSession) (xs : List OpenSession) (from : ℕ) (is : List ℕ) → IsBelow x.id is → first_of hs (x ∷ xs) from is ≡ first_of hs xs from is
+behind : (hs : List Held) (x : OpenSession) (xs : List OpenSession) (from : ℕ) (is : List ℕ) → IsBelow x.id is
+    → first_of hs (x ∷ xs) from is ≡ first_of hs xs from is
 behind hs x xs from [] below = refl
 behind hs x xs from (s ∷ is) below =
-    ap₂ (λ (o : Option Session) (r : Option ℕ). cond (nat_le from s && due_in o) (Some s) r) (cond-false _ _ _ (other (eqb x.id s) refl)) (behind hs x xs from is below.1)
+    ap₂ (λ (o : Option Session) (r : Option ℕ). cond (nat_le from s && due_in o) (Some s) r)
+    (cond-false _ _ _ (other (eqb x.id s) refl)) (behind hs x xs from is below.1)
   where
     other : (b : Bool) → eqb x.id s ≡ b → b ≡ false
     other true e = let same : x.id ≡ s = eqb-true x.id s e in absurd (omega (arith, same, below.0))
     other false e = refl
 
 seen_first : (hs : List Held) (xs : List OpenSession) (from : ℕ) → Rises (map (λ (x : OpenSession). x.id) xs)
-    → option_map (λ (x : OpenSession). x.id) (find (λ (x : OpenSession). nat_le from x.id && is_due x.session) xs) ≡ first_of hs xs from (map (λ (x : OpenSession). x.id) xs)
+    → option_map (λ (x : OpenSession). x.id) (find (λ (x : OpenSession). nat_le from x.id && is_due x.session) xs)
+    ≡ first_of hs xs from (map (λ (x : OpenSession). x.id) xs)
 seen_first hs [] from rising = refl
 seen_first hs (x ∷ xs) from rising =
     at_first (nat_le from x.id && is_due x.session)
@@ -41,17 +45,23 @@ seen_first hs (x ∷ xs) from rising =
     (sym (ap (λ (b : Bool). cond b (Some (open_in hs x)) (at_id hs xs x.id)) (eq-eqb x.id x.id refl)))
     (seen_first hs xs from rising.1 ∙ sym (behind hs x xs from (map (λ (y : OpenSession). y.id) xs) rising.0))
   where
-    at_first : (b : Bool) → option_map (λ (y : OpenSession). y.id) (cond b (Some x) (find (λ (y : OpenSession). nat_le from y.id && is_due y.session) xs))
-        ≡ cond b (Some x.id) (option_map (λ (y : OpenSession). y.id) (find (λ (y : OpenSession). nat_le from y.id && is_due y.session) xs))
+    at_first : (b : Bool)
+        → option_map (λ (y : OpenSession). y.id)
+        (cond b (Some x) (find (λ (y : OpenSession). nat_le from y.id && is_due y.session) xs))
+        ≡ cond b (Some x.id) (option_map (λ (y : OpenSession). y.id)
+        (find (λ (y : OpenSession). nat_le from y.id && is_due y.session) xs))
     at_first true = refl
     at_first false = refl
 
-seen_ids : (hs : List Held) (xs : List OpenSession) → map (λ (x : OpenSession). x.id) xs ≡ map (λ (x : Session). x.id) (map (open_in hs) xs)
+seen_ids : (hs : List Held) (xs : List OpenSession) → map (λ (x : OpenSession). x.id) xs
+    ≡ map (λ (x : Session). x.id) (map (open_in hs) xs)
 seen_ids hs [] = refl
 seen_ids hs (x ∷ xs) = ap (λ (is : List ℕ). x.id ∷ is) (seen_ids hs xs)
 
-pub first_is_due : (k : Kept) (stopped : Bool) (is : List ℕ) (xs : List OpenSession) (id_room room from : ℕ) (st : State) → IsCore k is xs id_room room → state_in k stopped xs ≡ st
-    → option_map (λ (x : OpenSession). x.id) (find (λ (x : OpenSession). nat_le from x.id && is_due x.session) xs) ≡ first_due st from
+pub first_is_due : (k : Kept) (stopped : Bool) (is : List ℕ) (xs : List OpenSession) (id_room room from : ℕ)
+    (st : State) → IsCore k is xs id_room room → state_in k stopped xs ≡ st
+    → option_map (λ (x : OpenSession). x.id) (find (λ (x : OpenSession). nat_le from x.id && is_due x.session) xs)
+    ≡ first_due st from
 first_is_due k stopped is xs id_room room from st core seen =
     seen_first k.cursors xs from (core.sound).rising
     ∙ ap (first_of k.cursors xs from) (seen_ids k.cursors xs)

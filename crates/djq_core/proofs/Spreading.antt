@@ -1,5 +1,7 @@
 -- One session after another is told.
-use Rattle.std.proofs.Common.{ℕ, zero, suc, ◌+◌, ◌<◌, ◌≤◌, ◌≡◌, ◌++◌, ◌⊎◌, Bool, true, false, List, [], ◌∷◌, length, map, take, drop, set, get_or, find, cond, Option, None, Some, eqb, refl, sym, ap, ◌∙◌, subst, arith, inl, inr}
+use Rattle.std.proofs.Common.{ℕ, zero, suc, ◌+◌, ◌<◌, ◌≤◌, ◌≡◌, ◌++◌, ◌⊎◌, Bool, true, false, List}
+use Rattle.std.proofs.Common.{[], ◌∷◌, length, map, take, drop, set, get_or, find, cond, Option}
+use Rattle.std.proofs.Common.{None, Some, eqb, refl, sym, ap, ◌∙◌, subst, arith, inl, inr}
 use Rattle.std.specs.Prelude.{MatchOption}
 use Rattle.std.proofs.lemmas.Bool.{cond-false}
 use Rattle.std.proofs.lemmas.List.{drop_all, length-map}
@@ -9,12 +11,14 @@ use Rattle.djq_lines.specs.Reply.{text_of}
 use Rattle.djq_machine.specs.State.{Session, State, ids_of, session_of}
 use Rattle.djq_machine.specs.Walk.{Walk}
 use Rattle.djq_machine.specs.Delta.{delta_lines}
-use Rattle.djq_machine.specs.Watch.{Delta, Telling, is_watching, watching, watcher_of, TellsWatcher, TellsSession, TellsDelta}
+use Rattle.djq_machine.specs.Watch.{Delta, Telling, is_watching, watching, watcher_of, TellsWatcher}
+use Rattle.djq_machine.specs.Watch.{TellsSession, TellsDelta}
 use Rattle.djq_engine.specs.Kept.{Kept}
 use Rattle.djq_core.specs.declared.open.OpenSession.{OpenSession}
 use Rattle.djq_core.specs.Views.{Talk, session_in, open_in, state_in}
 use Rattle.djq_core.specs.Performs.{among, to_keep, unqueued, Performs}
-use Rattle.djq_core.specs.Sound.{IsSound, IsOwn, times_in, watchers_in, is_among_watches, all_ids, ids_of as ids_of_cursors}
+use Rattle.djq_core.specs.Sound.{IsSound, IsOwn, times_in, watchers_in, is_among_watches, all_ids}
+use Rattle.djq_core.specs.Sound.{ids_of as ids_of_cursors}
 use Rattle.djq_core.specs.Telling.{KeepsTold, HearsDelta, WatchesOn, KeepsUntold, ToldSoFar, GoesOnTelling}
 use Rattle.djq_core.proofs.Around.{parts, found, ids_are}
 use Rattle.djq_core.proofs.Lifting.{queued}
@@ -28,17 +32,31 @@ pub kept_same : (k : Kept) → KeepsTold k k
 kept_same k = record { store = refl; listed = refl; affected = refl; told = refl }
 
 pub kept_on : (old mid new : Kept) → KeepsTold old mid → KeepsTold mid new → KeepsTold old new
-kept_on old mid new a b = record { store = b.store ∙ a.store; listed = b.listed ∙ a.listed; affected = b.affected ∙ a.affected; told = b.told ∙ a.told }
+kept_on old mid new a b = record {
+  store = b.store ∙ a.store;
+  listed = b.listed ∙ a.listed;
+  affected = b.affected ∙ a.affected;
+  told = b.told
+      ∙ a.told;
+}
 
 pub goes_on_same : (k : Kept) (xs : List OpenSession) → IsSound k xs → GoesOnTelling k xs k xs
 goes_on_same k xs sound = record { kept = kept_same k; sound = sound; ids = refl; fewer = λ q. omega arith }
 
-pub goes_on_on : (k l n : Kept) (xs ys zs : List OpenSession) → GoesOnTelling k xs l ys → GoesOnTelling l ys n zs → GoesOnTelling k xs n zs
-goes_on_on k l n xs ys zs a b = record { kept = kept_on k l n a.kept b.kept; sound = b.sound; ids = b.ids ∙ a.ids; fewer = λ q. omega (arith, a.fewer q, b.fewer q) }
+pub goes_on_on : (k l n : Kept) (xs ys zs : List OpenSession) → GoesOnTelling k xs l ys → GoesOnTelling l ys n zs
+    → GoesOnTelling k xs n zs
+goes_on_on k l n xs ys zs a b = record {
+  kept = kept_on k l n a.kept b.kept;
+  sound = b.sound;
+  ids = b.ids
+      ∙ a.ids;
+  fewer = λ q. omega (arith, a.fewer q, b.fewer q);
+}
 
 -- What is told of all sessions, as the machine tells it.
 abbrev pub Reaches : (Telling → Telling → Type 0) → Kept → List OpenSession → Kept → List OpenSession → Type 0
-Reaches R old xs new ys = (stopped : Bool) (start : List OpenSession) (m : Telling) → ToldSoFar stopped start m old xs → (m' : Telling) × R m m' × ToldSoFar stopped start m' new ys
+Reaches R old xs new ys = (stopped : Bool) (start : List OpenSession) (m : Telling) → ToldSoFar stopped start m old xs
+    → (m' : Telling) × R m m' × ToldSoFar stopped start m' new ys
 
 pub reaches_on : (R S T : Telling → Telling → Type 0) (k l n : Kept) (xs ys zs : List OpenSession)
     → ((a b c : Telling) → R a b → S b c → T a c) → Reaches R k xs l ys → Reaches S l ys n zs → Reaches T k xs n zs
@@ -49,7 +67,8 @@ reaches_on R S T k l n xs ys zs both f g stopped start m so =
 
 -- Sessions that were told nothing are as before.
 
-untold_more : (ps qs : List (ℕ × Bytes)) (start xs : List OpenSession) → KeepsUntold ps start xs → KeepsUntold (ps ++ qs) start xs
+untold_more : (ps qs : List (ℕ × Bytes)) (start xs : List OpenSession) → KeepsUntold ps start xs
+    → KeepsUntold (ps ++ qs) start xs
 untold_more ps qs [] [] h = tt
 untold_more ps qs (x ∷ start) (y ∷ xs) (i, h, rest) = (i, by h, untold_more ps qs start xs rest)
   where
@@ -59,7 +78,8 @@ untold_more ps qs (x ∷ start) (y ∷ xs) (i, h, rest) = (i, by h, untold_more 
 untold_more ps qs [] (y ∷ xs) h = h
 untold_more ps qs (x ∷ start) [] h = h
 
-untold_told : (ps : List (ℕ × Bytes)) (start front : List OpenSession) (s : ℕ) (d e : Talk) (back : List OpenSession) → has_part s ps ≡ true
+untold_told : (ps : List (ℕ × Bytes)) (start front : List OpenSession) (s : ℕ) (d e : Talk) (back : List OpenSession)
+    → has_part s ps ≡ true
     → KeepsUntold ps start (among front s d back) → KeepsUntold ps start (among front s e back)
 untold_told ps [] [] s d e back p h = h
 untold_told ps [] (y ∷ front) s d e back p h = h
@@ -69,65 +89,96 @@ untold_told ps (x ∷ start) (y ∷ front) s d e back p (i, h, rest) = (i, h, un
 -- One session among others.
 
 -- whether the machine sees the session watching
-sees : (d : Delta) (q : Bytes) (b : Bool) (x : Session) → (listed_name d.query) ≡ q → is_among_watches x.watches q ≡ b → is_watching (listed_name d.query) x ≡ b
+sees : (d : Delta) (q : Bytes) (b : Bool) (x : Session) → (listed_name d.query) ≡ q → is_among_watches x.watches q ≡ b
+    → is_watching (listed_name d.query) x ≡ b
 sees d q b x e h = ap (λ (n : Bytes). is_among_watches x.watches n) e ∙ h
 
-pub told_reaches : (q : Bytes) (whole : Bool) (text : Bytes) (old : Kept) (before : Talk) (new : Kept) (after : Talk) (front : List OpenSession) (s : ℕ) (back : List OpenSession)
-    → Performs (λ st i x e st'. HearsDelta whole text st i x e st') false old before new after 0 0 → IsSound old (among front s before back) → is_among_watches before.watches q ≡ true
-    → (d : Delta) (n : ℕ) → (listed_name d.query) ≡ q → (whole ≡ true → text ≡ text_of (delta_lines (listed_name d.query) d.changes n))
+pub told_reaches : (q : Bytes) (whole : Bool) (text : Bytes) (old : Kept) (before : Talk) (new : Kept) (after : Talk)
+    (front : List OpenSession) (s : ℕ) (back : List OpenSession)
+    → Performs (λ st i x e st'. HearsDelta whole text st i x e st') false old before new after 0 0
+    → IsSound old (among front s before back) → is_among_watches before.watches q ≡ true
+    → (d : Delta) (n : ℕ) → (listed_name d.query) ≡ q
+    → (whole ≡ true → text ≡ text_of (delta_lines (listed_name d.query) d.changes n))
     → Reaches (λ m m'. TellsSession d n m s m') old (among front s before back) new (among front s after back)
 told_reaches q whole text old before new after front s back p sound w d n same fits stopped start m so =
     let x = session_in old.cursors s before in
     let did = p.does front back s stopped sound in
-    let b = bridged d n s m (state_in old stopped (among front s before back)) (state_in new stopped (among front s (unqueued before after) back)) x (to_keep s p.text p.cost p.kept) whole text (sym so.seen)
+    let b = bridged d n s m (state_in old stopped (among front s before back))
+    (state_in new stopped (among front s (unqueued before after) back)) x (to_keep s p.text p.cost p.kept) whole
+    text (sym so.seen)
     (found old stopped front s before back (parts old front s before back sound)) (sees d q true x same w) fits did in (
       b.telling,
       b.tells,
       record {
-        seen = sym (queued new stopped front s before after back p.text p.cost (p.sound front back s sound) p.pending ∙ b.state);
+        seen = sym (queued new stopped front s before after back p.text p.cost (p.sound front back s sound) p.pending
+            ∙ b.state);
         untold = untold_told b.telling.queued start front s before after back b.told
-            (subst (λ ps. KeepsUntold ps start (among front s before back)) (sym b.grows) (untold_more m.queued b.more start (among front s before back) so.untold));
+            (subst (λ ps. KeepsUntold ps start (among front s before back)) (sym b.grows)
+            (untold_more m.queued b.more start (among front s before back) so.untold));
       },
     )
 
 pub untold_reaches : (q : Bytes) (k : Kept) (before : Talk) (front : List OpenSession) (s : ℕ) (back : List OpenSession)
-    → IsSound k (among front s before back) → is_among_watches before.watches q ≡ false → (d : Delta) (n : ℕ) → (listed_name d.query) ≡ q
+    → IsSound k (among front s before back) → is_among_watches before.watches q ≡ false → (d : Delta) (n : ℕ)
+    → (listed_name d.query) ≡ q
     → Reaches (λ m m'. TellsSession d n m s m') k (among front s before back) k (among front s before back)
 untold_reaches q k before front s back sound w d n same stopped start m so =
     let x = session_in k.cursors s before in
     let none : watcher_of m (listed_name d.query) s ≡ None
-    = ap (λ (y : State). watching (listed_name d.query) (session_of y s)) so.seen ∙ ap (watching (listed_name d.query)) (found k stopped front s before back (parts k front s before back sound))
-    ∙ cond-false _ _ _ (sees d q false x same w) in
-    (m, subst (λ (o : Option Session). MatchOption o (m ≡ m) (λ y. TellsWatcher d n s y.pending m m)) (sym none) refl, so)
+    = ap (λ (y : State). watching (listed_name d.query) (session_of y s)) so.seen
+    ∙ ap (watching (listed_name d.query)) (found k stopped front s before back (parts k front s before back sound))
+    ∙ cond-false _ _ _ (sees d q false x same w) in (
+      m,
+      subst (λ (o : Option Session). MatchOption o (m ≡ m) (λ y. TellsWatcher d n s y.pending m m)) (sym none) refl,
+      so,
+    )
 
-ids_stay : (front : List OpenSession) (s : ℕ) (d e : Talk) (back : List OpenSession) → map (λ (x : OpenSession). x.id) (among front s e back) ≡ map (λ (x : OpenSession). x.id) (among front s d back)
+ids_stay : (front : List OpenSession) (s : ℕ) (d e : Talk) (back : List OpenSession)
+    → map (λ (x : OpenSession). x.id) (among front s e back) ≡ map (λ (x : OpenSession). x.id) (among front s d back)
 ids_stay front s d e back = ids_are front s e back ∙ sym (ids_are front s d back)
 
-watches_fewer : (before after : Talk) (q : Bytes) → WatchesOn before after → times_in after.watches q ≤ times_in before.watches q
-watches_fewer before after q (inl e) = subst (λ (ws : List Bytes). times_in ws q ≤ times_in before.watches q) (sym e) (omega arith)
-watches_fewer before after q (inr e) = subst (λ (ws : List Bytes). times_in ws q ≤ times_in before.watches q) (sym e) (omega arith)
+watches_fewer : (before after : Talk) (q : Bytes) → WatchesOn before after
+    → times_in after.watches q ≤ times_in before.watches q
+watches_fewer before after q (inl e) = subst (λ (ws : List Bytes). times_in ws q ≤ times_in before.watches q) (sym e)
+    (omega arith)
+watches_fewer before after q (inr e) = subst (λ (ws : List Bytes). times_in ws q ≤ times_in before.watches q) (sym e)
+    (omega arith)
 
-pub one_goes_on : (whole : Bool) (text : Bytes) (old : Kept) (before : Talk) (new : Kept) (after : Talk) (front : List OpenSession) (s : ℕ) (back : List OpenSession)
-    → Performs (λ st i x e st'. HearsDelta whole text st i x e st') false old before new after 0 0 → KeepsTold old new → WatchesOn before after → IsSound old (among front s before back)
+pub one_goes_on : (whole : Bool) (text : Bytes) (old : Kept) (before : Talk) (new : Kept) (after : Talk)
+    (front : List OpenSession) (s : ℕ) (back : List OpenSession)
+    → Performs (λ st i x e st'. HearsDelta whole text st i x e st') false old before new after 0 0 → KeepsTold old new
+    → WatchesOn before after → IsSound old (among front s before back)
     → GoesOnTelling old (among front s before back) new (among front s after back)
 one_goes_on whole text old before new after front s back p kept w sound = record {
   kept = kept;
   sound = p.sound front back s sound;
   ids = ids_stay front s before after back;
-  fewer = λ q. omega (arith, count_among front s before back q, count_among front s after back q, watches_fewer before after q w);
+  fewer = λ q. omega (
+    arith,
+    count_among front s before back q,
+    count_among front s after back q,
+    watches_fewer before
+        after q w,
+  );
 }
 
 -- All sessions, one after another.
 
 abbrev pub GoesOnFrom : Delta → ℕ → List OpenSession → ℕ → Telling → Telling → Type 0
-GoesOnFrom d n xs at m m' = (last : Telling) → Walk (TellsSession d n) m' (drop at (map (λ (x : OpenSession). x.id) xs)) last → Walk (TellsSession d n) m (map (λ (x : OpenSession). x.id) xs) last
+GoesOnFrom d n xs at m m' = (last : Telling)
+    → Walk (TellsSession d n) m' (drop at (map (λ (x : OpenSession). x.id) xs)) last
+    → Walk (TellsSession d n) m (map (λ (x : OpenSession). x.id) xs) last
 
 -- So many sessions have been told a delta.
-pub record TellsSoFar (q : Bytes) (whole : Bool) (text : Bytes) (old : Kept) (xs : List OpenSession) (at : ℕ) (k : Kept) (ys : List OpenSession) : Type 0 where
+pub record TellsSoFar (q : Bytes) (whole : Bool) (text : Bytes) (old : Kept) (xs : List OpenSession) (at : ℕ) (k : Kept)
+    (ys : List OpenSession) : Type 0 where
   pub goes_on : GoesOnTelling old xs k ys
-  pub reaches : (d : Delta) (n : ℕ) → (listed_name d.query) ≡ q → (whole ≡ true → text ≡ text_of (delta_lines (listed_name d.query) d.changes n)) → Reaches (GoesOnFrom d n xs at) old xs k ys
+  pub reaches : (d : Delta) (n : ℕ) → (listed_name d.query) ≡ q
+      → (whole ≡ true → text ≡ text_of (delta_lines (listed_name d.query) d.changes n))
+      → Reaches (GoesOnFrom d n xs at) old xs k ys
 
-pub telling_starts : (q : Bytes) (whole : Bool) (text : Bytes) (k : Kept) (xs : List OpenSession) → IsSound k xs → TellsSoFar q whole text k xs 0 k xs
+pub telling_starts : (q : Bytes) (whole : Bool) (text : Bytes) (k : Kept) (xs : List OpenSession) → IsSound k xs
+    → TellsSoFar q whole text k xs 0 k xs
 telling_starts q whole text k xs sound = record {
   goes_on = goes_on_same k xs sound;
   reaches = λ d n same fits stopped start m so. (m, (λ last w. w), so);
@@ -138,79 +189,109 @@ drop_first_id [] at l = absurd (omega arith)
 drop_first_id (n ∷ ns) zero l = refl
 drop_first_id (n ∷ ns) (suc at) l = drop_first_id ns at (omega arith)
 
-the_id : (zs : List OpenSession) (i : ℕ) (f : OpenSession) → i < length zs → f ≡ get_or zs i f → get_or (map (λ (x : OpenSession). x.id) zs) i 0 ≡ f.id
+the_id : (zs : List OpenSession) (i : ℕ) (f : OpenSession) → i < length zs → f ≡ get_or zs i f
+    → get_or (map (λ (x : OpenSession). x.id) zs) i 0 ≡ f.id
 the_id [] i f l g = absurd (omega arith)
 the_id (z ∷ zs) zero f l g = ap (λ (y : OpenSession). y.id) (sym g)
 the_id (z ∷ zs) (suc i) f l g = the_id zs i f (omega arith) g
 
 -- the ids from a session's place on
-ids_from : (old k : Kept) (xs ys : List OpenSession) (at : ℕ) (e : OpenSession) → GoesOnTelling old xs k ys → at < length ys → e ≡ get_or ys at e
+ids_from : (old k : Kept) (xs ys : List OpenSession) (at : ℕ) (e : OpenSession) → GoesOnTelling old xs k ys
+    → at < length ys → e ≡ get_or ys at e
     → drop at (map (λ (x : OpenSession). x.id) xs) ≡ e.id ∷ drop (suc at) (map (λ (x : OpenSession). x.id) xs)
 ids_from old k xs ys at e g l h =
-    drop_first_id (map (λ (x : OpenSession). x.id) xs) at (omega (arith, l, length-map ys (λ (x : OpenSession). x.id), ap length g.ids))
-    ∙ ap (λ (n : ℕ). n ∷ drop (suc at) (map (λ (x : OpenSession). x.id) xs)) (ap (λ (ns : List ℕ). get_or ns at 0) (sym g.ids) ∙ the_id ys at e l h)
+    drop_first_id (map (λ (x : OpenSession). x.id) xs) at
+    (omega (arith, l, length-map ys (λ (x : OpenSession). x.id), ap length g.ids))
+    ∙ ap (λ (n : ℕ). n ∷ drop (suc at) (map (λ (x : OpenSession). x.id) xs))
+    (ap (λ (ns : List ℕ). get_or ns at 0) (sym g.ids) ∙ the_id ys at e l h)
 
 -- one more, which comes to this
-one_more : (q : Bytes) (whole : Bool) (text : Bytes) (old : Kept) (xs : List OpenSession) (at : ℕ) (k new : Kept) (ys zs : List OpenSession) (e : OpenSession)
+one_more : (q : Bytes) (whole : Bool) (text : Bytes) (old : Kept) (xs : List OpenSession) (at : ℕ) (k new : Kept)
+    (ys zs : List OpenSession) (e : OpenSession)
     → TellsSoFar q whole text old xs at k ys → at < length ys → e ≡ get_or ys at e → GoesOnTelling k ys new zs
-    → ((d : Delta) (n : ℕ) → (listed_name d.query) ≡ q → (whole ≡ true → text ≡ text_of (delta_lines (listed_name d.query) d.changes n)) → Reaches (λ m m'. TellsSession d n m e.id m') k ys new zs)
+    → ((d : Delta) (n : ℕ) → (listed_name d.query) ≡ q
+    → (whole ≡ true → text ≡ text_of (delta_lines (listed_name d.query) d.changes n))
+    → Reaches (λ m m'. TellsSession d n m e.id m') k ys new zs)
     → TellsSoFar q whole text old xs (suc at) new zs
 one_more q whole text old xs at k new ys zs e so l h g step = record {
   goes_on = goes_on_on old k new xs ys zs so.goes_on g;
   reaches = λ d n same fits.
-      reaches_on (GoesOnFrom d n xs at) (λ m m'. TellsSession d n m e.id m') (GoesOnFrom d n xs (suc at)) old k new xs ys zs
-      (λ a m c before now last rest. before last (subst (λ (ns : List ℕ). Walk (TellsSession d n) m ns last) (sym (ids_from old k xs ys at e so.goes_on l h)) (c, now, rest)))
+      reaches_on (GoesOnFrom d n xs at) (λ m m'. TellsSession d n m e.id m') (GoesOnFrom d n xs (suc at)) old k new xs
+      ys zs
+      (λ a m c before now last rest. before last
+      (subst (λ (ns : List ℕ). Walk (TellsSession d n) m ns last) (sym (ids_from old k xs ys at e so.goes_on l h))
+      (c, now, rest)))
       (so.reaches d n same fits) (step d n same fits);
 }
 
-pub told_one : (q : Bytes) (whole : Bool) (text : Bytes) (old : Kept) (xs : List OpenSession) (at : ℕ) (k new : Kept) (ys : List OpenSession) (e : OpenSession) (d : Talk)
-    → TellsSoFar q whole text old xs at k ys → at < length ys → e ≡ get_or ys at e → is_among_watches (e.session).watches q ≡ true
-    → Performs (λ st i x f st'. HearsDelta whole text st i x f st') false k e.session new d 0 0 → KeepsTold k new → WatchesOn e.session d
+pub told_one : (q : Bytes) (whole : Bool) (text : Bytes) (old : Kept) (xs : List OpenSession) (at : ℕ) (k new : Kept)
+    (ys : List OpenSession) (e : OpenSession) (d : Talk)
+    → TellsSoFar q whole text old xs at k ys → at < length ys → e ≡ get_or ys at e
+    → is_among_watches (e.session).watches q ≡ true
+    → Performs (λ st i x f st'. HearsDelta whole text st i x f st') false k e.session new d 0 0 → KeepsTold k new
+    → WatchesOn e.session d
     → TellsSoFar q whole text old xs (suc at) new (set ys at (record e { session = d }))
 told_one q whole text old xs at k new ys e d so l h w p kept on =
     let front = take at ys in
     let back = drop (suc at) ys in
     let cut : ys ≡ among front e.id e.session back = cut_at ys at e l h in
-    let put : set ys at (record e { session = d }) ≡ among front e.id d back = set_at ys at (record e { session = d }) l in
+    let put : set ys at (record e { session = d })
+    ≡ among front e.id d back = set_at ys at (record e { session = d }) l in
     let sound = subst (IsSound k) cut so.goes_on.sound in
     one_more q whole text old xs at k new ys (set ys at (record e { session = d })) e so l h
     (subst (λ (us : List OpenSession). GoesOnTelling k us new (set ys at (record e { session = d }))) (sym cut)
-    (subst (λ (us : List OpenSession). GoesOnTelling k (among front e.id e.session back) new us) (sym put) (one_goes_on whole text k e.session new d front e.id back p kept on sound)))
-    (λ t n same fits. subst (λ (us : List OpenSession). Reaches (λ m m'. TellsSession t n m e.id m') k us new (set ys at (record e { session = d }))) (sym cut)
-    (subst (λ (us : List OpenSession). Reaches (λ m m'. TellsSession t n m e.id m') k (among front e.id e.session back) new us) (sym put)
+    (subst (λ (us : List OpenSession). GoesOnTelling k (among front e.id e.session back) new us) (sym put)
+    (one_goes_on whole text k e.session new d front e.id back p kept on sound)))
+    (λ t n same fits. subst
+    (λ (us : List OpenSession). Reaches (λ m m'. TellsSession t n m e.id m') k us new
+    (set ys at (record e { session = d }))) (sym cut)
+    (subst (λ (us : List OpenSession). Reaches (λ m m'. TellsSession t n m e.id m') k (among front e.id e.session back)
+    new us) (sym put)
     (told_reaches q whole text k e.session new d front e.id back p sound w t n same fits)))
 
-pub untold_one : (q : Bytes) (whole : Bool) (text : Bytes) (old : Kept) (xs : List OpenSession) (at : ℕ) (k : Kept) (ys : List OpenSession) (e : OpenSession)
-    → TellsSoFar q whole text old xs at k ys → at < length ys → e ≡ get_or ys at e → is_among_watches (e.session).watches q ≡ false
+pub untold_one : (q : Bytes) (whole : Bool) (text : Bytes) (old : Kept) (xs : List OpenSession) (at : ℕ) (k : Kept)
+    (ys : List OpenSession) (e : OpenSession)
+    → TellsSoFar q whole text old xs at k ys → at < length ys → e ≡ get_or ys at e
+    → is_among_watches (e.session).watches q ≡ false
     → TellsSoFar q whole text old xs (suc at) k ys
 untold_one q whole text old xs at k ys e so l h w =
     let front = take at ys in
     let back = drop (suc at) ys in
     let cut : ys ≡ among front e.id e.session back = cut_at ys at e l h in
     one_more q whole text old xs at k k ys ys e so l h (goes_on_same k ys so.goes_on.sound)
-    (λ t n same fits. subst (λ (us : List OpenSession). Reaches (λ m m'. TellsSession t n m e.id m') k us k us) (sym cut)
+    (λ t n same fits. subst (λ (us : List OpenSession). Reaches (λ m m'. TellsSession t n m e.id m') k us k us)
+    (sym cut)
     (untold_reaches q k e.session front e.id back (subst (IsSound k) cut so.goes_on.sound) w t n same))
 
 -- all have been told
-pub told_all : (q : Bytes) (whole : Bool) (text : Bytes) (old : Kept) (xs : List OpenSession) (at : ℕ) (k : Kept) (ys : List OpenSession) → TellsSoFar q whole text old xs at k ys → length ys ≤ at
-    → (d : Delta) (n : ℕ) → (listed_name d.query) ≡ q → (whole ≡ true → text ≡ text_of (delta_lines (listed_name d.query) d.changes n)) → Reaches (λ m m'. TellsDelta n m d m') old xs k ys
+pub told_all : (q : Bytes) (whole : Bool) (text : Bytes) (old : Kept) (xs : List OpenSession) (at : ℕ) (k : Kept)
+    (ys : List OpenSession) → TellsSoFar q whole text old xs at k ys → length ys ≤ at
+    → (d : Delta) (n : ℕ) → (listed_name d.query) ≡ q
+    → (whole ≡ true → text ≡ text_of (delta_lines (listed_name d.query) d.changes n))
+    → Reaches (λ m m'. TellsDelta n m d m') old xs k ys
 told_all q whole text old xs at k ys so l d n same fits stopped start m told =
     let r = so.reaches d n same fits stopped start m told in
     let ns = map (λ (x : OpenSession). x.id) xs in
-    let none : drop at ns ≡ [] = drop_all at ns (omega (arith, l, length-map ys (λ (x : OpenSession). x.id), ap length so.goes_on.ids)) in
-    let walked : Walk (TellsSession d n) m ns r.0 = r.1 r.0 (subst (λ (is : List ℕ). Walk (TellsSession d n) r.0 is r.0) (sym none) refl) in
-    let same_ids : ns ≡ ids_of m.state = sym (ids_seen old stopped xs) ∙ ap ids_of (sym told.seen) ∙ ids_queued m.state m.queued in
+    let none : drop at ns
+    ≡ [] = drop_all at ns (omega (arith, l, length-map ys (λ (x : OpenSession). x.id), ap length so.goes_on.ids)) in
+    let walked : Walk (TellsSession d n) m ns r.0 = r.1 r.0
+    (subst (λ (is : List ℕ). Walk (TellsSession d n) r.0 is r.0) (sym none) refl) in
+    let same_ids : ns ≡ ids_of m.state = sym (ids_seen old stopped xs) ∙ ap ids_of (sym told.seen)
+    ∙ ids_queued m.state m.queued in
     (r.0, subst (λ (is : List ℕ). Walk (TellsSession d n) m is r.0) same_ids walked, r.2)
 
 -- Nobody watches.
-nobody : (k : Kept) (xs : List OpenSession) (q : Bytes) (s : ℕ) → watchers_in xs q ≡ 0 → watching q (find (λ (x : Session). eqb x.id s) (map (open_in k.cursors) xs)) ≡ None
+nobody : (k : Kept) (xs : List OpenSession) (q : Bytes) (s : ℕ) → watchers_in xs q ≡ 0
+    → watching q (find (λ (x : Session). eqb x.id s) (map (open_in k.cursors) xs)) ≡ None
 nobody k [] q s h = refl
 nobody k (x ∷ xs) q s h =
     let z = none_watching x xs q h in
     step (eqb x.id s) z.0 (nobody k xs q s z.1)
   where
-    step : (b : Bool) → times_in (x.session).watches q ≡ 0 → watching q (find (λ (y : Session). eqb y.id s) (map (open_in k.cursors) xs)) ≡ None
-        → watching q (cond b (Some (open_in k.cursors x)) (find (λ (y : Session). eqb y.id s) (map (open_in k.cursors) xs))) ≡ None
+    step : (b : Bool) → times_in (x.session).watches q ≡ 0
+        → watching q (find (λ (y : Session). eqb y.id s) (map (open_in k.cursors) xs)) ≡ None
+        → watching q (cond b (Some (open_in k.cursors x))
+        (find (λ (y : Session). eqb y.id s) (map (open_in k.cursors) xs))) ≡ None
     step true t r = cond-false _ _ _ (unwatched (x.session).watches q t)
     step false t r = r
 
@@ -218,23 +299,30 @@ walks_still : (R : Telling → ℕ → Telling → Type 0) (m : Telling) (ns : L
 walks_still R m [] h = refl
 walks_still R m (n ∷ ns) h = (m, h n, walks_still R m ns h)
 
-pub nobody_reaches : (k : Kept) (xs : List OpenSession) (d : Delta) (n : ℕ) → watchers_in xs (listed_name d.query) ≡ 0 → Reaches (λ m m'. TellsDelta n m d m') k xs k xs
+pub nobody_reaches : (k : Kept) (xs : List OpenSession) (d : Delta) (n : ℕ) → watchers_in xs (listed_name d.query) ≡ 0
+    → Reaches (λ m m'. TellsDelta n m d m') k xs k xs
 nobody_reaches k xs d n h stopped start m so = (
   m,
   walks_still (TellsSession d n) m (ids_of m.state)
-      (λ s. subst (λ (o : Option Session). MatchOption o (m ≡ m) (λ y. TellsWatcher d n s y.pending m m)) (sym (ap (λ (y : State). watching (listed_name d.query) (session_of y s)) so.seen ∙ nobody k xs (listed_name d.query) s h)) refl),
+      (λ s. subst (λ (o : Option Session). MatchOption o (m ≡ m) (λ y. TellsWatcher d n s y.pending m m))
+      (sym (ap (λ (y : State). watching (listed_name d.query) (session_of y s)) so.seen
+      ∙ nobody k xs (listed_name d.query) s h)) refl),
   so,
 )
 
 -- The session of a place.
-pub length_still : (q : Bytes) (whole : Bool) (text : Bytes) (old : Kept) (xs : List OpenSession) (at : ℕ) (k : Kept) (ys : List OpenSession) → TellsSoFar q whole text old xs at k ys → length ys ≡ length xs
+pub length_still : (q : Bytes) (whole : Bool) (text : Bytes) (old : Kept) (xs : List OpenSession) (at : ℕ) (k : Kept)
+    (ys : List OpenSession) → TellsSoFar q whole text old xs at k ys → length ys ≡ length xs
 length_still q whole text old xs at k ys so =
-    sym (length-map ys (λ (x : OpenSession). x.id)) ∙ ap length so.goes_on.ids ∙ length-map xs (λ (x : OpenSession). x.id)
+    sym (length-map ys (λ (x : OpenSession). x.id)) ∙ ap length so.goes_on.ids
+    ∙ length-map xs (λ (x : OpenSession). x.id)
 
-among_at : (k : Kept) (ys : List OpenSession) (at : ℕ) (e : OpenSession) → IsSound k ys → at < length ys → e ≡ get_or ys at e → IsSound k (among (take at ys) e.id e.session (drop (suc at) ys))
+among_at : (k : Kept) (ys : List OpenSession) (at : ℕ) (e : OpenSession) → IsSound k ys → at < length ys → e
+    ≡ get_or ys at e → IsSound k (among (take at ys) e.id e.session (drop (suc at) ys))
 among_at k ys at e sound l h = subst (IsSound k) (cut_at ys at e l h) sound
 
-pub owned_at : (k : Kept) (ys : List OpenSession) (at : ℕ) (e : OpenSession) → IsSound k ys → at < length ys → e ≡ get_or ys at e → IsOwn k e.session
+pub owned_at : (k : Kept) (ys : List OpenSession) (at : ℕ) (e : OpenSession) → IsSound k ys → at < length ys → e
+    ≡ get_or ys at e → IsOwn k e.session
 owned_at k ys at e sound l h =
     let s = among_at k ys at e sound l h in
     let p = parts k (take at ys) e.id e.session (drop (suc at) ys) s in
@@ -244,13 +332,15 @@ owned_at k ys at e sound l h =
       counted = has_count k (take at ys) e.id e.session (drop (suc at) ys) s;
     }
 
-pub runs_at : (k : Kept) (ys : List OpenSession) (at : ℕ) (e : OpenSession) (q : Bytes) → IsSound k ys → at < length ys → e ≡ get_or ys at e → is_among_watches (e.session).watches q ≡ true → (e.session).cause ≡ None
+pub runs_at : (k : Kept) (ys : List OpenSession) (at : ℕ) (e : OpenSession) (q : Bytes) → IsSound k ys → at < length ys
+    → e ≡ get_or ys at e → is_among_watches (e.session).watches q ≡ true → (e.session).cause ≡ None
 runs_at k ys at e q sound l h w =
     let s = among_at k ys at e sound l h in
     goes_on_watching e.session q (quiet_split (take at ys) e.id e.session (drop (suc at) ys) s.counted.quiet).1 w
 
 -- the same place is read twice
-pub same_place : (ys : List OpenSession) (at : ℕ) (e f : OpenSession) → at < length ys → e ≡ get_or ys at e → f ≡ get_or ys at f → f ≡ e
+pub same_place : (ys : List OpenSession) (at : ℕ) (e f : OpenSession) → at < length ys → e ≡ get_or ys at e → f
+    ≡ get_or ys at f → f ≡ e
 same_place [] at e f l g h = absurd (omega (arith, l))
 same_place (y ∷ ys) zero e f l g h = h ∙ sym g
 same_place (y ∷ ys) (suc at) e f l g h = same_place ys at e f (omega (arith, l)) g h

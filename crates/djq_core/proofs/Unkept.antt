@@ -6,7 +6,11 @@ use Rattle.djq_model.specs.Listed.{Listed, a_query, a_union, listed_of}
 use Rattle.djq_lines.specs.declared.answer.Refusal.{Refusal}
 use Rattle.djq_lines.specs.declared.answer.Refusal.TheVariants.{NoQuery, NoCursor}
 use Rattle.djq_lines.specs.declared.command.Command.{Command}
-use Rattle.djq_lines.specs.declared.command.Command.TheVariants.{Rel, Add, Del, Query as Register, Union, Drop, Open, Next, Close, Has, Watch, Unwatch, Explain, Shape, Batch, Done, Abandon, Quit, Stop}
+use Rattle.djq_lines.specs.declared.command.Command.TheVariants.{Rel, Add, Del, Query as Register}
+use Rattle.djq_lines.specs.declared.command.Command.TheVariants.{Union, Drop, Open, Next, Close}
+use Rattle.djq_lines.specs.declared.command.Command.TheVariants.{Has, Watch, Unwatch, Explain}
+use Rattle.djq_lines.specs.declared.command.Command.TheVariants.{Shape, Batch, Done, Abandon, Quit}
+use Rattle.djq_lines.specs.declared.command.Command.TheVariants.{Stop}
 use Rattle.djq_machine.specs.State.{Session, State, Cursor, Position, open_at, stale, cursor_of}
 use Rattle.djq_machine.specs.Keeping.{no_line}
 use Rattle.djq_machine.specs.Effect.{Effect, RefusedStep}
@@ -34,19 +38,23 @@ module _ (st : State) (s : ℕ) (e : Effect) (st' : State) where
   refused_unkept : (r : Refusal) → RefusedStep st s r e st' → e.kept ≡ no_line
   refused_unkept r h = ap (λ (f : Effect). f.kept) h.0
 
-  next_unkept : (c : Bytes) (count : ℕ) (q : Listed) (p : Position) → NextStepAt st s c q count p e st' → e.kept ≡ no_line
+  next_unkept : (c : Bytes) (count : ℕ) (q : Listed) (p : Position) → NextStepAt st s c q count p e st' → e.kept
+      ≡ no_line
   next_unkept c count q (open_at given ended) (inl h) = ap (λ (f : Effect). f.kept) h.effect
   next_unkept c count q (open_at given ended) (inr h) = ap (λ (f : Effect). f.kept) h.effect
   next_unkept c count q (stale relation n) h = ap (λ (f : Effect). f.kept) h.0
 
   read_unkept : (c : Bytes) (count : ℕ) (o : Option Cursor)
-      → MatchOption o (RefusedStep st s NoCursor e st') (λ k. IsSomeAnd (listed_of st.store.queries k.query) (λ q. NextStepAt st s c q count k.position e st')) → e.kept ≡ no_line
+      → MatchOption o (RefusedStep st s NoCursor e st')
+      (λ k. IsSomeAnd (listed_of st.store.queries k.query) (λ q. NextStepAt st s c q count k.position e st'))
+      → e.kept ≡ no_line
   read_unkept c count None h = refused_unkept NoCursor h
   read_unkept c count (Some k) h =
       let f = some_of (λ q. NextStepAt st s c q count k.position e st') (listed_of st.store.queries k.query) h in
       next_unkept c count f.0 k.position f.1
 
-  close_unkept : (c : Bytes) (o : Option Cursor) → MatchOption o (RefusedStep st s NoCursor e st') (λ k. CloseStep st s c e st') → e.kept ≡ no_line
+  close_unkept : (c : Bytes) (o : Option Cursor)
+      → MatchOption o (RefusedStep st s NoCursor e st') (λ k. CloseStep st s c e st') → e.kept ≡ no_line
   close_unkept c None h = refused_unkept NoCursor h
   close_unkept c (Some k) h = ap (λ (f : Effect). f.kept) h.0
 
@@ -54,7 +62,8 @@ module _ (st : State) (s : ℕ) (e : Effect) (st' : State) where
   lines_unkept lines (inl k) = ap (λ (f : Effect). f.kept) k.0
   lines_unkept lines (inr (told, lacking, rest, parts, ends)) = ap (λ (f : Effect). f.kept) ends.0
 
-  explain_unkept : (o : Option Listed) → MatchOption o (RefusedStep st s NoQuery e st') (λ q. ExplainStepOf st s q e st') → e.kept ≡ no_line
+  explain_unkept : (o : Option Listed)
+      → MatchOption o (RefusedStep st s NoQuery e st') (λ q. ExplainStepOf st s q e st') → e.kept ≡ no_line
   explain_unkept None h = refused_unkept NoQuery h
   explain_unkept (Some (a_query q)) h = lines_unkept (explain_lines q h.tree) h.tells
   explain_unkept (Some (a_union name qs)) h = lines_unkept (union_lines qs) h
@@ -81,7 +90,8 @@ module _ (st : State) (s : ℕ) (e : Effect) (st' : State) where
   step_unkept x (Drop q) m h = absurd cc
 
 -- Such a command is done, and its line isn't kept.
-pub unkept : (c : Command) (stops : Bool) (old : Kept) (before : Talk) (new : Kept) (after : Talk) (was now : ℕ) → may_keep c ≡ false
+pub unkept : (c : Command) (stops : Bool) (old : Kept) (before : Talk) (new : Kept) (after : Talk) (was now : ℕ)
+    → may_keep c ≡ false
     → Executes c stops old before new after was now → ExecutesKeeping c false stops old before new after was now
 unkept c stops old before new after was now m p = record {
   text = p.text;

@@ -8,7 +8,9 @@ use Rattle.djq_engine.specs.Kept.{Kept, Registered, registered_of, registered_at
 use Rattle.djq_core.specs.Views.{Talk}
 use Rattle.djq_core.specs.Sound.{HasCount, StaysCounted, listed}
 use Rattle.djq_core.specs.Ends.{GivesUpWatches}
-use Rattle.djq_core.proofs.Watching.{IdsApart, NamesApart, stays_same, stays_on, watches_less, has_watcher, watched_known, found_there, at_its_id, listed_with}
+use Rattle.djq_core.proofs.Watching.{IdsApart, NamesApart, stays_same, stays_on, watches_less}
+use Rattle.djq_core.proofs.Watching.{has_watcher, watched_known, found_there, at_its_id}
+use Rattle.djq_core.proofs.Watching.{listed_with}
 
 pub record GivingWatches (old : Kept) (before : Talk) (k : Kept) (d : Talk) : Type 0 where
   pub counted : StaysCounted old.registered before.watches k.registered d.watches
@@ -27,11 +29,13 @@ watches_start k d own = record {
 }
 
 -- what is counted before the last is popped
-pub popped_count : (k : Kept) (d e : Talk) (q : Bytes) → HasCount k.registered d.watches → PopsWatch d e (Some q) → HasCount k.registered (e.watches ++ q ∷ [])
+pub popped_count : (k : Kept) (d e : Talk) (q : Bytes) → HasCount k.registered d.watches → PopsWatch d e (Some q)
+    → HasCount k.registered (e.watches ++ q ∷ [])
 popped_count k d e q own p = subst (λ (ws : List Bytes). HasCount k.registered ws) p.0 own
 
 -- the registered query of an id that its name gave
-pub of_id : (o : Option Registered) (id : QueryId) → Some id ≡ option_map (λ (r : Registered). r.id) o → (r : Registered) × (o ≡ Some r) × (r.id ≡ id)
+pub of_id : (o : Option Registered) (id : QueryId) → Some id ≡ option_map (λ (r : Registered). r.id) o
+    → (r : Registered) × (o ≡ Some r) × (r.id ≡ id)
 of_id None id h = absurd (cc (h))
 of_id (Some r) id h = (r, refl, cc)
 
@@ -39,7 +43,8 @@ pub is_some_at : (P : Registered → Type 0) (o : Option Registered) (r : Regist
 is_some_at P o r e p = subst (λ (x : Option Registered). IsSomeAnd x P) (sym e) p
 
 -- the query that is popped has a watcher
-pub popped_watched : (k : Kept) (d e : Talk) (q : Bytes) (id : QueryId) → HasCount k.registered d.watches → PopsWatch d e (Some q)
+pub popped_watched : (k : Kept) (d e : Talk) (q : Bytes) (id : QueryId) → HasCount k.registered d.watches
+    → PopsWatch d e (Some q)
     → IdsApart k.registered → Some id ≡ option_map (λ (r : Registered). r.id) (registered_of k.registered q)
     → IsSomeAnd (registered_at k.registered id) (λ r. 0 < r.watchers)
 popped_watched k d e q id own p apart h =
@@ -47,10 +52,13 @@ popped_watched k d e q id own p apart h =
     let f = of_id (registered_of k.registered q) id h in
     subst (λ (i : QueryId). IsSomeAnd (registered_at k.registered i) (λ r. 0 < r.watchers)) f.2
     (is_some_at (λ r. 0 < r.watchers) (registered_at k.registered (f.0).id) f.0
-    (at_its_id k.registered f.0 apart (found_there k.registered q f.0 f.1).0) (has_watcher o.0 k.registered e.watches q f.0 o.1 f.1))
+    (at_its_id k.registered f.0 apart (found_there k.registered q f.0 f.1).0)
+    (has_watcher o.0 k.registered e.watches q f.0 o.1 f.1))
 
-pub watches_go_on : (old : Kept) (before : Talk) (k : Kept) (d e : Talk) (k' : Kept) (q : Bytes) (id : QueryId) → GivingWatches old before k d → PopsWatch d e (Some q)
-    → IdsApart k.registered → NamesApart k.registered → Some id ≡ option_map (λ (r : Registered). r.id) (registered_of k.registered q)
+pub watches_go_on : (old : Kept) (before : Talk) (k : Kept) (d e : Talk) (k' : Kept) (q : Bytes) (id : QueryId)
+    → GivingWatches old before k d → PopsWatch d e (Some q)
+    → IdsApart k.registered → NamesApart k.registered → Some id
+    ≡ option_map (λ (r : Registered). r.id) (registered_of k.registered q)
     → k' ≡ record k { registered = with_watchers id (λ n. n - 1) k.registered } → GivingWatches old before k' e
 watches_go_on old before k d e k' q id g p apart named h u =
     let f = of_id (registered_of k.registered q) id h in
@@ -59,7 +67,8 @@ watches_go_on old before k d e k' q id g p apart named h u =
     let less = watches_less k.registered e.watches q f.0 apart named f.1 in
     let stays : StaysCounted k.registered d.watches k'.registered e.watches
     = subst (λ (qs : List Registered). StaysCounted k.registered d.watches qs e.watches) (sym rs)
-    (subst (λ (ws : List Bytes). StaysCounted k.registered ws (with_watchers (f.0).id (λ n. n - 1) k.registered) e.watches) (sym p.0) less) in
+    (subst (λ (ws : List Bytes). StaysCounted k.registered ws (with_watchers (f.0).id (λ n. n - 1) k.registered)
+    e.watches) (sym p.0) less) in
     record {
       counted = stays_on old.registered k.registered k'.registered before.watches d.watches e.watches g.counted stays;
       own = ((g.own).0, stays (g.own).0 (g.own).1);
@@ -69,7 +78,8 @@ watches_go_on old before k d e k' q id g p apart named h u =
       listed = ap listed (ap (λ (x : Kept). x.registered) u) ∙ listed_with (λ n. n - 1) id k.registered ∙ g.listed;
     }
 
-pub never_unknown : {P : Type 0} (k : Kept) (d e : Talk) (q : Bytes) → HasCount k.registered d.watches → PopsWatch d e (Some q)
+pub never_unknown : {P : Type 0} (k : Kept) (d e : Talk) (q : Bytes) → HasCount k.registered d.watches
+    → PopsWatch d e (Some q)
     → None ≡ option_map (λ (r : Registered). r.id) (registered_of k.registered q) → P
 never_unknown {P} k d e q own p h =
     let o = popped_count k d e q own p in
@@ -79,7 +89,8 @@ never_unknown {P} k d e q own p h =
     by None s h = absurd (cc (s))
     by (Some r) s h = absurd (cc (h))
 
-pub watches_given_up : (old : Kept) (before : Talk) (k : Kept) (d e : Talk) → GivingWatches old before k d → PopsWatch d e None → GivesUpWatches old before k e
+pub watches_given_up : (old : Kept) (before : Talk) (k : Kept) (d e : Talk) → GivingWatches old before k d
+    → PopsWatch d e None → GivesUpWatches old before k e
 watches_given_up old before k d e g p =
     let none : e.watches ≡ [] = ap (λ (x : Talk). x.watches) p.1 ∙ p.0 in record {
       rest = g.rest;

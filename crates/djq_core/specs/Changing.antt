@@ -80,7 +80,8 @@ reply_of (Added result) n = add_reply result n
 reply_of (Deleted result) n = delete_reply result n
 reply_of (Done result held) n = done_reply result n
 
--- What the engine did of a change, whoever watches. Its registered queries are those of the store, and their ids differ.
+-- What the engine did of a change, whoever watches. Its registered queries are those of the store, and their ids
+-- differ.
 pub record Changed (old : Kept) (outcome : RowsOutcome) (new : Kept) (was now : ℕ) : Type 0 where
   pub outdated : Outdates old (tried outcome) new
   pub registered : new.registered ≡ old.registered
@@ -96,11 +97,12 @@ pub record Adds (old : Kept) (name : Bytes) (row : Tuple) (outcome : Outcome) (n
   pub changed : Changed old (add_outcome (row_in (old.store).relations name row) result) new was now
 
 -- A row was to be deleted.
-pub record Deletes (old : Kept) (name : Bytes) (row : Tuple) (outcome : Outcome) (new : Kept) (was now : ℕ) : Type 0 where
-  pub result : Result DeleteOutcome Refusal
-  pub is : outcome ≡ Deleted result
-  pub done : DeletesRow old.store name row result new.store
-  pub changed : Changed old (delete_outcome (row_out (old.store).relations name row) result) new was now
+pub record Deletes (old : Kept) (name : Bytes) (row : Tuple) (outcome : Outcome) (new : Kept) (was now : ℕ) : Type 0
+  where
+    pub result : Result DeleteOutcome Refusal
+    pub is : outcome ≡ Deleted result
+    pub done : DeletesRow old.store name row result new.store
+    pub changed : Changed old (delete_outcome (row_out (old.store).relations name row) result) new was now
 
 -- The rows that a batch held were to be added, at once.
 pub record AddsAll (old : Kept) (held : List HeldRow) (outcome : Outcome) (new : Kept) (was now : ℕ) : Type 0
@@ -117,8 +119,10 @@ IsChange (Del name row) None old outcome new was now = Deletes old name row outc
 IsChange SayDone (Some held) old outcome new was now = AddsAll old held outcome new was now
 IsChange _ _ old outcome new was now = ⊥
 
--- A session's line was taken and its command done. What is left is to tell the change and to answer, for which there is room.
-pub record LeavesChange (outcome : Outcome) (old : Kept) (before : Talk) (new : Kept) (after : Talk) (was now : ℕ) : Type 0 where
+-- A session's line was taken and its command done. What is left is to tell the change and to answer, for which there
+-- is room.
+pub record LeavesChange (outcome : Outcome) (old : Kept) (before : Talk) (new : Kept) (after : Talk) (was now : ℕ) :
+    Type 0 where
   pub running : before.cause ≡ None
   pub line : Bytes
   pub rest : Bytes

@@ -1,5 +1,6 @@
 -- What a listing does to the engine and to a session.
-use Rattle.std.specs.Prelude.{ℕ, List, [], ◌∷◌, ◌≡◌, ◌+◌, ◌*◌, ◌++◌, ◌<◌, ◌≤◌, Bool, Some, Result, Ok, Err, length, map, All}
+use Rattle.std.specs.Prelude.{ℕ, List, [], ◌∷◌, ◌≡◌, ◌+◌, ◌*◌, ◌++◌, ◌<◌, ◌≤◌, Bool, Some, Result}
+use Rattle.std.specs.Prelude.{Ok, Err, length, map, All}
 use Rattle.djq_model.specs.Data.{Bytes, Tuple}
 use Rattle.djq_model.specs.Answer.{AreDifferent}
 use Rattle.djq_model.specs.Listed.{Listed, AnswersOf, listed_of}
@@ -33,7 +34,8 @@ pub record WholeListing (old : Kept) (id : CursorId) (before : Talk) (count : �
   pub queued : after ≡ record before { pending = before.pending ++ text_of (listing_lines told end); room = after.room }
   pub counted : now ≤ was + (length told + 1) * answer_steps q
 
--- Its first lines are queued, and there is no room for the next one: with it the text is above what was kept for a reply.
+-- Its first lines are queued, and there is no room for the next one: with it the text is above what was kept for a
+-- reply.
 pub record CutListing (old : Kept) (id : CursorId) (before : Talk) (count : ℕ) (h : Held)
     (q : Listed) (given : List Tuple) (new : Kept) (after : Talk) (was now : ℕ) : Type 0 where
   pub told : List Tuple
@@ -51,10 +53,13 @@ pub record CutListing (old : Kept) (id : CursorId) (before : Talk) (count : ℕ)
 -- how a listing of a cursor at a position came out
 abbrev pub ListsAt : Kept → CursorId → Talk → ℕ → Held → Listed → Position → HowListed → Kept
     → Talk → ℕ → ℕ → Type 0
-ListsAt old id before count h q (open_at given ended) Whole new after was now = WholeListing old id before count h q given new after was now
-ListsAt old id before count h q (open_at given ended) Cut new after was now = CutListing old id before count h q given new after was now
+ListsAt old id before count h q (open_at given ended) Whole new after was now = WholeListing old id before count h q
+    given new after was now
+ListsAt old id before count h q (open_at given ended) Cut new after was now = CutListing old id before count h q given
+    new after was now
 ListsAt old id before count h q (open_at given ended) (Stale r n) new after was now = ⊥
-ListsAt old id before count h q (stale s m) (Stale r n) new after was now = (r ≡ s) × (n ≡ m) × (new ≡ old) × (after ≡ before) × (now ≤ was)
+ListsAt old id before count h q (stale s m) (Stale r n) new after was now = (r ≡ s) × (n ≡ m) × (new ≡ old)
+    × (after ≡ before) × (now ≤ was)
 ListsAt old id before count h q (stale s m) _ new after was now = ⊥
 
 -- A listing of the engine's cursor is queued to a session, or told to be stale.

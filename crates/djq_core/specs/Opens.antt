@@ -23,8 +23,10 @@ refusal_of k d c q = first_of (
 abbrev pub OpensTo : Kept → Talk → Bytes → Bytes → Result ⊤ Refusal → Kept → Talk → Type 0
 OpensTo old before c q (Ok _) new after = (id : CursorId) × OpensCursor old q id new
     × (after ≡ record before { cursors = before.cursors ++ record { name = c; cursor = id } ∷ [] })
-OpensTo old before c q (Err _) new after = (new.store ≡ old.store) × SameCursors old.cursors new.cursors × (new.registered ≡ old.registered) × (after ≡ before)
+OpensTo old before c q (Err _) new after = (new.store ≡ old.store) × SameCursors old.cursors new.cursors
+    × (new.registered ≡ old.registered) × (after ≡ before)
 
-pub record Opens (old : Kept) (before : Talk) (c q : Bytes) (result : Result ⊤ Refusal) (new : Kept) (after : Talk) : Type 0 where
+pub record Opens (old : Kept) (before : Talk) (c q : Bytes) (result : Result ⊤ Refusal) (new : Kept) (after : Talk) :
+    Type 0 where
   pub answer : Answers (refusal_of old before c q) result (λ _. ⊤) (OutOfMemoryWhere ⊤)
   pub opens : OpensTo old before c q result new after

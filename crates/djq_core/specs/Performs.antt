@@ -37,17 +37,21 @@ behind pending (Some text) = pending ++ text
 abbrev pub unqueued : Talk → Talk → Talk
 unqueued before after = record after { pending = before.pending }
 
--- Something of the machine is done to a session, whatever sessions there are besides: a text may be queued to it, and no
+-- Something of the machine is done to a session, whatever sessions there are besides: a text may be queued to it, and
+-- no
 -- more is counted than that may cost. What holds between calls holds afterwards.
-pub record Performs (Machine : State → ℕ → Session → Effect → State → Type 0) (stops : Bool) (old : Kept) (before : Talk) (new : Kept) (after : Talk) (was now : ℕ) : Type 0 where
+pub record Performs (Machine : State → ℕ → Session → Effect → State → Type 0) (stops : Bool) (old : Kept)
+    (before : Talk) (new : Kept) (after : Talk) (was now : ℕ) : Type 0 where
   pub text : Option Bytes
   pub cost : ℕ
   pub kept : Keeping
   pub pending : after.pending ≡ behind before.pending text
   pub does : (front back : List OpenSession) (s : ℕ) (stopped : Bool) → IsSound old (among front s before back)
-      → Machine (state_in old stopped (among front s before back)) s (session_in old.cursors s before) (to_keep s text cost kept)
+      → Machine (state_in old stopped (among front s before back)) s (session_in old.cursors s before)
+      (to_keep s text cost kept)
       (state_in new (stops || stopped) (among front s (unqueued before after) back))
-  pub sound : (front back : List OpenSession) (s : ℕ) → IsSound old (among front s before back) → IsSound new (among front s after back)
+  pub sound : (front back : List OpenSession) (s : ℕ) → IsSound old (among front s before back)
+      → IsSound new (among front s after back)
   pub counted : now ≤ was + cost
 
 -- What a command that isn't one of a row does: which line says it makes no difference.
@@ -61,4 +65,5 @@ ExecutesKeeping command kept stops old before new after was now =
 
 -- Such a command is done.
 abbrev pub Executes : Command → Bool → Kept → Talk → Kept → Talk → ℕ → ℕ → Type 0
-Executes command stops old before new after was now = Performs (λ st s x e st'. Does command st s x e st') stops old before new after was now
+Executes command stops old before new after was now = Performs (λ st s x e st'. Does command st s x e st') stops old
+    before new after was now

@@ -1,5 +1,6 @@
 -- What holds of the core's sessions between its calls.
-use Rattle.std.specs.Prelude.{ℕ, List, [], ◌∷◌, ◌≡◌, ◌+◌, ◌++◌, ◌<◌, ◌≤◌, Bool, true, false, Option, None, Some, IsSome, Contains, if◌then◌else◌, length, map, ⊤}
+use Rattle.std.specs.Prelude.{ℕ, List, [], ◌∷◌, ◌≡◌, ◌+◌, ◌++◌, ◌<◌, ◌≤◌, Bool, true, false, Option}
+use Rattle.std.specs.Prelude.{None, Some, IsSome, Contains, if◌then◌else◌, length, map, ⊤}
 use Rattle.std.specs.List.{list_any}
 use Rattle.djq_model.specs.Data.{Bytes, bytes_eq}
 use Rattle.djq_model.specs.Answer.{AreDifferent}
@@ -164,7 +165,8 @@ AreSuited st (b ∷ bs) = BatchSuits st b × AreSuited st bs
 abbrev pub batches_of : Option (List HeldRow) → List OpenSession → List (Option (List HeldRow))
 batches_of loading xs = loading ∷ map (λ (x : OpenSession). (x.session).batch) xs
 
--- What holds of the core: the ids are those of the sessions, which are sound, and there is room for as many as may be open.
+-- What holds of the core: the ids are those of the sessions, which are sound, and there is room for as many as may be
+-- open.
 pub record IsCore (k : Kept) (ids : List ℕ) (xs : List OpenSession) (id_room room : ℕ) : Type 0 where
   pub ids_are : ids ≡ map (λ (x : OpenSession). x.id) xs
   pub sound : IsSound k xs

@@ -48,32 +48,39 @@ refused_as NoMem = NoMemory
 
 -- The front of a session's bytes comes to this.
 abbrev pub Fronts : LineOutcome → Bool → Kept → Talk → Kept → Talk → ℕ → ℕ → Type 0
-Fronts outcome stops old before new after was now = Performs (λ st s x e st'. FrontStep st s x outcome e st') stops old before new after was now
+Fronts outcome stops old before new after was now = Performs (λ st s x e st'. FrontStep st s x outcome e st') stops old
+    before new after was now
 
 -- So it does, and its line is kept where this holds.
 abbrev pub FrontsKeeping : LineOutcome → Bool → Bool → Kept → Talk → Kept → Talk → ℕ → ℕ → Type 0
 FrontsKeeping outcome kept stops old before new after was now =
-    Performs (λ st s x e st'. FrontStep st s x outcome e st' × (e.kept ≡ kept_where kept)) stops old before new after was now
+    Performs (λ st s x e st'. FrontStep st s x outcome e st' × (e.kept ≡ kept_where kept)) stops old before new after
+    was now
 
 -- A session ends before its line is run.
 abbrev pub EndsBefore : EndCause → Bool → Kept → Talk → Kept → Talk → Counts → Counts → Type 0
 EndsBefore Long stops old before new after was now = Fronts long stops old before new after was.listing now.listing
-EndsBefore Slow stops old before new after was now = (l : Bytes) × Fronts (slow l) stops old before new after was.listing now.listing
-EndsBefore Memory stops old before new after was now = (l : Bytes) × Fronts (no_room l) stops old before new after was.listing now.listing
+EndsBefore Slow stops old before new after was now = (l : Bytes)
+    × Fronts (slow l) stops old before new after was.listing now.listing
+EndsBefore Memory stops old before new after was now = (l : Bytes)
+    × Fronts (no_room l) stops old before new after was.listing now.listing
 EndsBefore _ stops old before new after was now = ⊥
 
 -- Nothing has changed.
-pub record Unchanged (stops : Bool) (old : Kept) (before : Talk) (new : Kept) (after : Talk) (was now : Counts) : Type 0 where
-  pub goes_on : stops ≡ false
-  pub engine : new ≡ old
-  pub session : after ≡ before
-  pub counted : now ≡ was
+pub record Unchanged (stops : Bool) (old : Kept) (before : Talk) (new : Kept) (after : Talk) (was now : Counts) : Type 0
+  where
+    pub goes_on : stops ≡ false
+    pub engine : new ≡ old
+    pub session : after ≡ before
+    pub counted : now ≡ was
 
 -- What a step of a session answers, and does.
 abbrev pub StepsTo : Stepped → Bool → Kept → Talk → Kept → Talk → Counts → Counts → Type 0
-StepsTo (Ran kept) stops old before new after was now = (before.cause ≡ None) × ((l : Bytes) × (FrontsKeeping (blank l) kept stops old before new after was.listing now.listing
+StepsTo (Ran kept) stops old before new after was now = (before.cause ≡ None)
+    × ((l : Bytes) × (FrontsKeeping (blank l) kept stops old before new after was.listing now.listing
     ⊎ FrontsKeeping (run l) kept stops old before new after was.listing now.listing))
-StepsTo Dry stops old before new after was now = (before.cause ≡ None) × (is_dry before.held ≡ true) × Unchanged stops old before new after was now
+StepsTo Dry stops old before new after was now = (before.cause ≡ None) × (is_dry before.held ≡ true)
+    × Unchanged stops old before new after was now
 StepsTo (Ended c) stops old before new after was now = MatchOption before.cause
     (EndsBefore c stops old before new after was now)
     (λ d. (d ≡ c) × Unchanged stops old before new after was now)
@@ -86,9 +93,11 @@ is_kept_by (Telling outcome) = is_kept outcome
 
 -- A command is done, or what is left of it is to tell a change.
 abbrev pub Obeys : Command → Left → Kept → Talk → Kept → Talk → ℕ → ℕ → Type 0
-Obeys command (Nothing kept) old before new after was now = ExecutesKeeping command kept false old before new after was now
+Obeys command (Nothing kept) old before new after was now = ExecutesKeeping command kept false old before new after was
+    now
 Obeys command Stopping old before new after was now = ExecutesKeeping command false true old before new after was now
-Obeys command (Telling outcome) old before new after was now = IsChange command before.batch old outcome new was now × (after ≡ record before { batch = None })
+Obeys command (Telling outcome) old before new after was now = IsChange command before.batch old outcome new was now
+    × (after ≡ record before { batch = None })
 
 -- So it is of a line.
 abbrev pub LineLeaves : Bytes → Left → Kept → Talk → Kept → Talk → ℕ → ℕ → Type 0
@@ -100,7 +109,8 @@ LineLeaves l (Telling outcome) old before new after was now = LeavesChange outco
 abbrev pub LeavesTo : Stepped → Left → Kept → Talk → Kept → Talk → Counts → Counts → Type 0
 LeavesTo stepped (Nothing kept) old before new after was now = StepsTo stepped false old before new after was now
 LeavesTo stepped Stopping old before new after was now = StepsTo stepped true old before new after was now
-LeavesTo (Ran kept) (Telling outcome) old before new after was now = (kept ≡ is_kept outcome) × LeavesChange outcome old before new after was.listing now.listing
+LeavesTo (Ran kept) (Telling outcome) old before new after was now = (kept ≡ is_kept outcome)
+    × LeavesChange outcome old before new after was.listing now.listing
 LeavesTo Dry (Telling outcome) old before new after was now = ⊥
 LeavesTo (Ended c) (Telling outcome) old before new after was now = ⊥
 

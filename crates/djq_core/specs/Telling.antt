@@ -1,5 +1,6 @@
 -- How a change is told to the sessions that watch, and answered.
-use Rattle.std.specs.Prelude.{ℕ, List, [], ◌∷◌, ◌==◌, ◌≡◌, ◌++◌, ◌<◌, ◌≤◌, ◌⊎◌, Bool, true, None, Some, MatchOption, if◌then◌else◌, All, filter, length, map, ⊤}
+use Rattle.std.specs.Prelude.{ℕ, List, [], ◌∷◌, ◌==◌, ◌≡◌, ◌++◌, ◌<◌, ◌≤◌, ◌⊎◌, Bool, true, None}
+use Rattle.std.specs.Prelude.{Some, MatchOption, if◌then◌else◌, All, filter, length, map, ⊤}
 use Rattle.std.specs.List.{list_any}
 use Rattle.djq_model.specs.Data.{Bytes}
 use Rattle.djq_model.specs.Listed.{listed_name}
@@ -30,7 +31,8 @@ abbrev pub Prints : Kept → QueryId → Bytes → Bool → Bytes → Bytes → 
 Prints k id query whole old new = whole ≡ true → MatchOption (told_at k id) ⊥
     (λ changes. new ≡ old ++ text_of (delta_lines query changes (k.store).seq))
 
--- A session that watches hears of a delta: this text, where it is whole. It ends where too much is pending, or out of memory.
+-- A session that watches hears of a delta: this text, where it is whole. It ends where too much is pending, or out of
+-- memory.
 abbrev pub HearsDelta : Bool → Bytes → State → ℕ → Session → Effect → State → Type 0
 HearsDelta whole text st s x e st' =
     ((PENDING_BYTES < length x.pending) × EndsWith end_slow Slow st s e st')
@@ -50,12 +52,14 @@ AnswersLast roomy reply st s x e st' = MatchOption x.cause
 -- Each session is as it was, or something is queued to it.
 abbrev pub KeepsUntold : List (ℕ × Bytes) → List OpenSession → List OpenSession → Type 0
 KeepsUntold queued [] [] = ⊤
-KeepsUntold queued (x ∷ xs) (y ∷ ys) = (y.id ≡ x.id) × ((list_any (λ part. part.0 == x.id) queued ≡ true) ⊎ (y ≡ x)) × KeepsUntold queued xs ys
+KeepsUntold queued (x ∷ xs) (y ∷ ys) = (y.id ≡ x.id) × ((list_any (λ part. part.0 == x.id) queued ≡ true) ⊎ (y ≡ x))
+    × KeepsUntold queued xs ys
 KeepsUntold queued [] (y ∷ ys) = ⊥
 KeepsUntold queued (x ∷ xs) [] = ⊥
 
 -- So far a change has been told: what the machine has queued is queued to the sessions.
-pub record ToldSoFar (stopped : Bool) (start : List OpenSession) (m : Telling) (k : Kept) (xs : List OpenSession) : Type 0 where
+pub record ToldSoFar (stopped : Bool) (start : List OpenSession) (m : Telling) (k : Kept) (xs : List OpenSession) : Type
+    0 where
   pub seen : queue_all m.state m.queued ≡ state_in k stopped xs
   pub untold : KeepsUntold m.queued start xs
 
@@ -67,7 +71,8 @@ pub record GoesOnTelling (old : Kept) (xs : List OpenSession) (new : Kept) (ys :
   pub fewer : (q : Bytes) → watchers_in ys q ≤ watchers_in xs q
 
 -- A delta is told to all who watch its query.
-pub record TellsQuery (old : Kept) (id : QueryId) (query : Bytes) (xs : List OpenSession) (new : Kept) (ys : List OpenSession) : Type 0 where
+pub record TellsQuery (old : Kept) (id : QueryId) (query : Bytes) (xs : List OpenSession) (new : Kept)
+    (ys : List OpenSession) : Type 0 where
   pub goes_on : GoesOnTelling old xs new ys
   pub quiet : watchers_in xs query ≡ 0 → (new ≡ old) × (ys ≡ xs)
   pub tells : (d : Delta) (stopped : Bool) (start : List OpenSession) (m : Telling) → (listed_name d.query) ≡ query
@@ -84,15 +89,18 @@ pub record AreAffected (k : Kept) (readers : List Registered) (deltas : List Del
 -- The deltas of the affected queries are told, one after another.
 pub record TellsAffected (old : Kept) (xs : List OpenSession) (new : Kept) (ys : List OpenSession) : Type 0 where
   pub goes_on : GoesOnTelling old xs new ys
-  pub tells : (readers : List Registered) (deltas : List Delta) (stopped : Bool) (start : List OpenSession) (m : Telling)
+  pub tells : (readers : List Registered) (deltas : List Delta) (stopped : Bool) (start : List OpenSession)
+      (m : Telling)
       → AreAffected old readers deltas → ToldSoFar stopped start m old xs
       → (m' : Telling) × Walk (TellsDelta (old.store).seq) m deltas m' × ToldSoFar stopped start m' new ys
 
 -- A change is told where it was accepted, and its own session answered last.
-pub record TellsAll (accepted : Bool) (reply : Bytes) (old : Kept) (s : ℕ) (xs : List OpenSession) (new : Kept) (ys : List OpenSession) : Type 0 where
+pub record TellsAll (accepted : Bool) (reply : Bytes) (old : Kept) (s : ℕ) (xs : List OpenSession) (new : Kept)
+    (ys : List OpenSession) : Type 0 where
   pub sound : IsSound new ys
   pub ids : map (λ (x : OpenSession). x.id) ys ≡ map (λ (x : OpenSession). x.id) xs
   pub tells : (readers : List Registered) (deltas : List Delta) (stopped : Bool) (m : Telling)
       → (accepted ≡ true → AreAffected old readers deltas) → m.queued ≡ [] → m.state ≡ state_in old stopped xs
       → (told : Telling) × Walk (TellsDelta (old.store).seq) m (if accepted then deltas else []) told
-      × ((last : Telling) × RepliesLast s reply told last × (queue_all last.state last.queued ≡ state_in new stopped ys))
+      × ((last : Telling) × RepliesLast s reply told last
+      × (queue_all last.state last.queued ≡ state_in new stopped ys))

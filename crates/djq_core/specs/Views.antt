@@ -27,7 +27,8 @@ position_in (Some h) = h.position
 
 -- a cursor of a session
 abbrev pub cursor_in : List Held → NamedCursor CursorId → Cursor
-cursor_in hs n = record { name = n.name; query = query_in (held_at hs n.cursor); position = position_in (held_at hs n.cursor) }
+cursor_in hs n = record
+    { name = n.name; query = query_in (held_at hs n.cursor); position = position_in (held_at hs n.cursor) }
 
 -- a session of this id
 abbrev pub session_in : List Held → ℕ → Talk → Session

@@ -27,12 +27,14 @@ abbrev pub without_query : Bytes → List Bytes → List Bytes
 without_query q ws = drop_first (λ w. bytes_eq w q) ws
 
 -- A session begins to watch a query.
-pub record BeginsWatch (old : Kept) (before : Talk) (q : Bytes) (result : Result ⊤ Refusal) (new : Kept) (after : Talk) : Type 0 where
+pub record BeginsWatch (old : Kept) (before : Talk) (q : Bytes) (result : Result ⊤ Refusal) (new : Kept) (after : Talk)
+    : Type 0 where
   pub answer : Answers (watch_refusal old.store q) result (λ _. ⊤)
       (OutOfMemoryWhere (is_among_watches before.watches q ≡ false))
   pub becomes : RewatchesWhere (with_query q before.watches) old before result new after
 
 -- A session ceases to watch a query.
-pub record CeasesWatch (old : Kept) (before : Talk) (q : Bytes) (result : Result ⊤ Refusal) (new : Kept) (after : Talk) : Type 0 where
+pub record CeasesWatch (old : Kept) (before : Talk) (q : Bytes) (result : Result ⊤ Refusal) (new : Kept) (after : Talk)
+    : Type 0 where
   pub answer : Answers (watch_refusal old.store q) result (λ _. ⊤) (OutOfMemoryWhere ⊥)
   pub becomes : RewatchesWhere (without_query q before.watches) old before result new after

@@ -41,7 +41,8 @@ use Rattle.djq_cursor.specs.Walk.{
   Stands,
   blank,
 }
-use Rattle.djq_cursor.proofs.Walking.{Joins, joins_next, follows_pop, reached_push, length_levels, given_to, given_last, given_next}
+use Rattle.djq_cursor.proofs.Walking.{Joins, joins_next, follows_pop, reached_push, length_levels}
+use Rattle.djq_cursor.proofs.Walking.{given_to, given_last, given_next}
 use Rattle.djq_cursor.proofs.Filling.{reached_within, next_is}
 use Rattle.djq_cursor.proofs.Keeping.{stands_push, stands_pop}
 

@@ -50,7 +50,8 @@ bound : Assignment → List Binding → Assignment
 bound others [] x = others x
 bound others (b ∷ bs) x = cond (bytes_eq b.0 x) b.1 (bound others bs x)
 
-behind_first : (a : Assignment) (b : Binding) (f : Assignment) (bs : List Binding) → a b.0 ≡ b.1 → Holds a bs → Holds f bs
+behind_first : (a : Assignment) (b : Binding) (f : Assignment) (bs : List Binding) → a b.0 ≡ b.1 → Holds a bs
+    → Holds f bs
     → Holds (λ x. cond (bytes_eq b.0 x) b.1 (f x)) bs
 behind_first a b f [] h k l = tt
 behind_first a b f (c ∷ cs) h k l = (step (bytes_eq b.0 c.0) refl, behind_first a b f cs h k.1 l.1)
@@ -64,11 +65,15 @@ bound_holds : (others a : Assignment) (bs : List Binding) → Holds a bs → Hol
 unfolding bound
 bound_holds others a [] h = tt
 bound_holds others a (b ∷ bs) h =
-    let same : bytes_eq b.0 b.0 ≡ true = (bytes_eq-decides b.0 b.0).1 refl in
-    (ap (λ t. cond t b.1 (bound others bs b.0)) same, behind_first a b (bound others bs) bs h.0 h.1 (bound_holds others a bs h.1))
+    let same : bytes_eq b.0 b.0 ≡ true = (bytes_eq-decides b.0 b.0).1 refl in (
+      ap (λ t. cond t b.1 (bound others bs b.0)) same,
+      behind_first a b (bound others bs) bs h.0 h.1
+          (bound_holds others a bs h.1),
+    )
 
 -- and it has each value from there or from the others
-bound_is : (others a : Assignment) (bs : List Binding) (x : Bytes) → Holds a bs → (a x ≡ bound others bs x) ⊎ (others x ≡ bound others bs x)
+bound_is : (others a : Assignment) (bs : List Binding) (x : Bytes) → Holds a bs
+    → (a x ≡ bound others bs x) ⊎ (others x ≡ bound others bs x)
 unfolding bound
 bound_is others a [] x h = inr refl
 bound_is others a (b ∷ bs) x h = step (bytes_eq b.0 x) refl (bound_is others a bs x h.1)
@@ -84,17 +89,21 @@ holds_decided a (b ∷ bs) = step (value_eq (a b.0) b.1) refl (holds_decided a b
   where
     step : (t : Bool) → value_eq (a b.0) b.1 ≡ t → Decided (Holds a bs) → Decided (Holds a (b ∷ bs))
     step true e d = decided_as (λ h. ((value_eq-decides (a b.0) b.1).0 e, h)) (λ h. h.1) d
-    step false e d = inr (λ h. let yes : value_eq (a b.0) b.1 ≡ true = (value_eq-decides (a b.0) b.1).1 h.0 in absurd (cc (yes, e)))
+    step false e d = inr (λ h. let yes : value_eq (a b.0) b.1
+        ≡ true = (value_eq-decides (a b.0) b.1).1 h.0 in absurd (cc (yes, e)))
 
 -- Where what else holds is decided under any values, it is with the terms of an atom against a row, ..
 module _ (P : Assignment → Type 0) (decided : (bs : List Binding) → Decided (Sat P bs)) where
-  terms_decided : (terms : List Term) (row : Tuple) (bs : List Binding) → Decided (Sat (λ a. StandForAll a terms row × P a) bs)
+  terms_decided : (terms : List Term) (row : Tuple) (bs : List Binding)
+      → Decided (Sat (λ a. StandForAll a terms row × P a) bs)
   terms_decided [] [] bs =
-      decided_as (λ s. record { assignment = s.assignment; holds = s.holds; rest = (tt, s.rest) }) (λ s. record { assignment = s.assignment; holds = s.holds; rest = s.rest.1 }) (decided bs)
+      decided_as (λ s. record { assignment = s.assignment; holds = s.holds; rest = (tt, s.rest) })
+      (λ s. record { assignment = s.assignment; holds = s.holds; rest = s.rest.1 }) (decided bs)
   terms_decided [] (v ∷ vs) bs = inr (λ s. absurd s.rest.0)
   terms_decided (t ∷ ts) [] bs = inr (λ s. absurd s.rest.0)
   terms_decided (Variable x ∷ ts) (v ∷ vs) bs =
-      decided_as (λ s. record { assignment = s.assignment; holds = s.holds.1; rest = ((s.holds.0, s.rest.0), s.rest.1) })
+      decided_as (λ s. record
+      { assignment = s.assignment; holds = s.holds.1; rest = ((s.holds.0, s.rest.0), s.rest.1) })
       (λ s. record { assignment = s.assignment; holds = (s.rest.0.0, s.holds); rest = (s.rest.0.1, s.rest.1) })
       (terms_decided ts vs ((x, v) ∷ bs))
   terms_decided (Hole ∷ ts) (v ∷ vs) bs =
@@ -103,17 +112,21 @@ module _ (P : Assignment → Type 0) (decided : (bs : List Binding) → Decided 
       (terms_decided ts vs bs)
   terms_decided (Constant c ∷ ts) (v ∷ vs) bs = step (value_eq c v) refl (terms_decided ts vs bs)
     where
-      step : (t : Bool) → value_eq c v ≡ t → Decided (Sat (λ a. StandForAll a ts vs × P a) bs) → Decided (Sat (λ a. StandForAll a (Constant c ∷ ts) (v ∷ vs) × P a) bs)
+      step : (t : Bool) → value_eq c v ≡ t → Decided (Sat (λ a. StandForAll a ts vs × P a) bs)
+          → Decided (Sat (λ a. StandForAll a (Constant c ∷ ts) (v ∷ vs) × P a) bs)
       step true e d =
-          decided_as (λ s. record { assignment = s.assignment; holds = s.holds; rest = (((value_eq-decides c v).0 e, s.rest.0), s.rest.1) })
+          decided_as (λ s. record
+          { assignment = s.assignment; holds = s.holds; rest = (((value_eq-decides c v).0 e, s.rest.0), s.rest.1) })
           (λ s. record { assignment = s.assignment; holds = s.holds; rest = (s.rest.0.1, s.rest.1) }) d
-      step false e d = inr (λ s. let yes : value_eq c v ≡ true = (value_eq-decides c v).1 s.rest.0.0 in absurd (cc (yes, e)))
+      step false e d = inr (λ s. let yes : value_eq c v
+          ≡ true = (value_eq-decides c v).1 s.rest.0.0 in absurd (cc (yes, e)))
 
   -- .. with those of an atom against some row, ..
   abbrev RowFor : List Term → List Tuple → Assignment → Type 0
   RowFor terms rows a = (row : Tuple) × Contains rows row × StandForAll a terms row
 
-  rows_decided : (terms : List Term) (rows : List Tuple) (bs : List Binding) → Decided (Sat (λ a. RowFor terms rows a × P a) bs)
+  rows_decided : (terms : List Term) (rows : List Tuple) (bs : List Binding)
+      → Decided (Sat (λ a. RowFor terms rows a × P a) bs)
   rows_decided terms [] bs = inr (λ s. nothing_there s.rest.0.0 s.rest.0.1)
   rows_decided terms (r ∷ rs) bs = step (terms_decided terms r bs) (rows_decided terms rs bs)
     where
@@ -122,27 +135,43 @@ module _ (P : Assignment → Type 0) (decided : (bs : List Binding) → Decided 
 
       either : (s : Sat (λ a. RowFor terms (r ∷ rs) a × P a) bs) → (r ≡ s.rest.0.0) ⊎ Contains rs s.rest.0.0
           → Sat (λ a. StandForAll a terms r × P a) bs ⊎ Sat (λ a. RowFor terms rs a × P a) bs
-      either s (inl e) = inl (record { assignment = s.assignment; holds = s.holds; rest = (rw e (s.rest.0.2), s.rest.1) })
-      either s (inr c) = inr (record { assignment = s.assignment; holds = s.holds; rest = ((s.rest.0.0, c, s.rest.0.2), s.rest.1) })
+      either s (inl e) = inl
+          (record { assignment = s.assignment; holds = s.holds; rest = (rw e (s.rest.0.2), s.rest.1) })
+      either s (inr c) = inr
+          (record { assignment = s.assignment; holds = s.holds; rest = ((s.rest.0.0, c, s.rest.0.2), s.rest.1) })
 
       neither : {A B : Type 0} → (A → ⊥) → (B → ⊥) → A ⊎ B → ⊥
       neither f g (inl a) = f a
       neither f g (inr b) = g b
 
-      step : Decided (Sat (λ a. StandForAll a terms r × P a) bs) → Decided (Sat (λ a. RowFor terms rs a × P a) bs) → Decided (Sat (λ a. RowFor terms (r ∷ rs) a × P a) bs)
-      step (inl s) d = inl (record { assignment = s.assignment; holds = s.holds; rest = ((r, first_there r rs r refl, s.rest.0), s.rest.1) })
-      step (inr never) (inl s) = inl (record { assignment = s.assignment; holds = s.holds; rest = later s.assignment s.rest })
+      step : Decided (Sat (λ a. StandForAll a terms r × P a) bs) → Decided (Sat (λ a. RowFor terms rs a × P a) bs)
+          → Decided (Sat (λ a. RowFor terms (r ∷ rs) a × P a) bs)
+      step (inl s) d = inl (record
+          { assignment = s.assignment; holds = s.holds; rest = ((r, first_there r rs r refl, s.rest.0), s.rest.1) })
+      step (inr never) (inl s) = inl
+          (record { assignment = s.assignment; holds = s.holds; rest = later s.assignment s.rest })
       step (inr never) (inr none) = inr (λ s. neither never none (either s (first_or_later r rs s.rest.0.0 s.rest.0.1)))
 
   -- .. and with a tuple against the head
   head_decided : (head : List Bytes) (t : Tuple) (bs : List Binding) → Decided (Sat (λ a. (t ≡ map a head) × P a) bs)
   head_decided [] [] bs =
-      decided_as (λ s. record { assignment = s.assignment; holds = s.holds; rest = (refl, s.rest) }) (λ s. record { assignment = s.assignment; holds = s.holds; rest = s.rest.1 }) (decided bs)
+      decided_as (λ s. record { assignment = s.assignment; holds = s.holds; rest = (refl, s.rest) })
+      (λ s. record { assignment = s.assignment; holds = s.holds; rest = s.rest.1 }) (decided bs)
   head_decided [] (v ∷ vs) bs = inr (λ s. let e = s.rest.0 in absurd cc)
   head_decided (x ∷ xs) [] bs = inr (λ s. let e = s.rest.0 in absurd cc)
   head_decided (x ∷ xs) (v ∷ vs) bs =
-      decided_as (λ s. record { assignment = s.assignment; holds = s.holds.1; rest = (ap₂ (λ (w : Value) (ws : Tuple). w ∷ ws) (sym s.holds.0) s.rest.0, s.rest.1) })
-      (λ s. record { assignment = s.assignment; holds = (first_of s.assignment s.rest.0, s.holds); rest = (rest_of s.assignment s.rest.0, s.rest.1) })
+      decided_as (λ s. record {
+        assignment = s.assignment;
+        holds = s.holds.1;
+        rest =
+            (ap₂ (λ (w : Value) (ws : Tuple). w ∷ ws) (sym s.holds.0) s.rest.0, s.rest.1);
+      })
+      (λ s. record {
+        assignment = s.assignment;
+        holds = (first_of s.assignment s.rest.0, s.holds);
+        rest =
+            (rest_of s.assignment s.rest.0, s.rest.1);
+      })
       (head_decided xs vs ((x, v) ∷ bs))
     where
       first_of : (a : Assignment) → v ∷ vs ≡ a x ∷ map a xs → a x ≡ v
@@ -151,28 +180,35 @@ module _ (P : Assignment → Type 0) (decided : (bs : List Binding) → Decided 
       rest_of : (a : Assignment) → v ∷ vs ≡ a x ∷ map a xs → vs ≡ map a xs
       rest_of a e = cc
 
--- Whether there is an assignment of which comparisons hold is decided: a value that the first values don't give is picked.
+-- Whether there is an assignment of which comparisons hold is decided: a value that the first values don't give is
+-- picked.
 compared_hold : (a : Assignment) (cs : List Comparison) (bs : List Binding) → Holds a bs → All (HoldsOf a) cs
     → All (HoldsOf (bound (pick cs) bs)) cs
-compared_hold a cs bs h k = hold_each (HoldsOf (bound (pick cs) bs)) cs (λ c there. step c there (bound_is (pick cs) a bs c.variable h))
+compared_hold a cs bs h k = hold_each (HoldsOf (bound (pick cs) bs)) cs
+    (λ c there. step c there (bound_is (pick cs) a bs c.variable h))
   where
-    step : (c : Comparison) → Contains cs c → (a c.variable ≡ bound (pick cs) bs c.variable) ⊎ (pick cs c.variable ≡ bound (pick cs) bs c.variable)
+    step : (c : Comparison) → Contains cs c
+        → (a c.variable ≡ bound (pick cs) bs c.variable) ⊎ (pick cs c.variable ≡ bound (pick cs) bs c.variable)
         → HoldsOf (bound (pick cs) bs) c
-    step c there (inl e) = ap (λ (v : Value). compares c.operator v c.constant) (sym e) ∙ All-contains (HoldsOf a) cs c k there
+    step c there (inl e) = ap (λ (v : Value). compares c.operator v c.constant) (sym e)
+        ∙ All-contains (HoldsOf a) cs c k there
     step c there (inr e) = ap (λ (v : Value). compares c.operator v c.constant) (sym e) ∙ picked_holds a cs c k there
 
 all_decided : (a : Assignment) (cs : List Comparison) → Decided (All (HoldsOf a) cs)
 all_decided a [] = inl (All-nil (HoldsOf a))
 all_decided a (c ∷ cs) = step (compares c.operator (a c.variable) c.constant) refl (all_decided a cs)
   where
-    step : (t : Bool) → compares c.operator (a c.variable) c.constant ≡ t → Decided (All (HoldsOf a) cs) → Decided (All (HoldsOf a) (c ∷ cs))
+    step : (t : Bool) → compares c.operator (a c.variable) c.constant ≡ t → Decided (All (HoldsOf a) cs)
+        → Decided (All (HoldsOf a) (c ∷ cs))
     step true e d = decided_as (λ h. All-cons (HoldsOf a) c cs e h) (λ h. All-tail (HoldsOf a) c cs h) d
-    step false e d = inr (λ h. let yes : compares c.operator (a c.variable) c.constant ≡ true = All-head (HoldsOf a) c cs h in absurd (cc (yes, e)))
+    step false e d = inr (λ h. let yes : compares c.operator (a c.variable) c.constant
+        ≡ true = All-head (HoldsOf a) c cs h in absurd (cc (yes, e)))
 
 comparisons_decided : (cs : List Comparison) (bs : List Binding) → Decided (Sat (λ a. All (HoldsOf a) cs) bs)
 comparisons_decided cs bs = step (holds_decided (bound (pick cs) bs) bs) (all_decided (bound (pick cs) bs) cs)
   where
-    step : Decided (Holds (bound (pick cs) bs) bs) → Decided (All (HoldsOf (bound (pick cs) bs)) cs) → Decided (Sat (λ a. All (HoldsOf a) cs) bs)
+    step : Decided (Holds (bound (pick cs) bs) bs) → Decided (All (HoldsOf (bound (pick cs) bs)) cs)
+        → Decided (Sat (λ a. All (HoldsOf a) cs) bs)
     step (inl h) (inl k) = inl (record { assignment = bound (pick cs) bs; holds = h; rest = k })
     step (inl h) (inr never) = inr (λ s. never (compared_hold s.assignment cs bs s.holds s.rest))
     step (inr never) d = inr (λ s. never (bound_holds (pick cs) s.assignment bs s.holds))
@@ -180,7 +216,8 @@ comparisons_decided cs bs = step (holds_decided (bound (pick cs) bs) bs) (all_de
 atoms_decided : (relations : List Relation) (cs : List Comparison) (atoms : List Atom) (bs : List Binding)
     → Decided (Sat (λ a. All (Satisfies relations a) atoms × All (HoldsOf a) cs) bs)
 atoms_decided relations cs [] bs =
-    decided_as (λ s. record { assignment = s.assignment; holds = s.holds; rest = (All-nil (Satisfies relations s.assignment), s.rest) })
+    decided_as (λ s. record
+    { assignment = s.assignment; holds = s.holds; rest = (All-nil (Satisfies relations s.assignment), s.rest) })
     (λ s. record { assignment = s.assignment; holds = s.holds; rest = s.rest.1 }) (comparisons_decided cs bs)
 atoms_decided relations cs (a ∷ more) bs =
     decided_as
@@ -188,7 +225,8 @@ atoms_decided relations cs (a ∷ more) bs =
       assignment = s.assignment;
       holds = s.holds;
       rest = (
-        All-cons (Satisfies relations s.assignment) a more (record { row = s.rest.0.0; is_there = s.rest.0.1; stands = s.rest.0.2 }) s.rest.1.0,
+        All-cons (Satisfies relations s.assignment) a more
+            (record { row = s.rest.0.0; is_there = s.rest.0.1; stands = s.rest.0.2 }) s.rest.1.0,
         s.rest.1.1,
       );
     })
@@ -196,14 +234,19 @@ atoms_decided relations cs (a ∷ more) bs =
     record {
       assignment = s.assignment;
       holds = s.holds;
-      rest = ((first.row, first.is_there, first.stands), (All-tail (Satisfies relations s.assignment) a more s.rest.0, s.rest.1));
+      rest = (
+        (first.row, first.is_there, first.stands),
+        (All-tail (Satisfies relations s.assignment) a more s.rest.0, s.rest.1),
+      );
     })
-    (rows_decided (λ f. All (Satisfies relations f) more × All (HoldsOf f) cs) (λ ds. atoms_decided relations cs more ds) a.terms
+    (rows_decided (λ f. All (Satisfies relations f) more × All (HoldsOf f) cs)
+    (λ ds. atoms_decided relations cs more ds) a.terms
     (rows_of relations a.relation) bs)
 
 pub query_decided : (relations : List Relation) (q : Query) (t : Tuple) → Decided (IsAnswer relations q t)
 query_decided relations q t =
-    decided_as (λ s. record { assignment = s.assignment; satisfies = s.rest.1.0; compared = s.rest.1.1; on_head = s.rest.0 })
+    decided_as (λ s. record
+    { assignment = s.assignment; satisfies = s.rest.1.0; compared = s.rest.1.1; on_head = s.rest.0 })
     (λ h. record { assignment = h.assignment; holds = tt; rest = (h.on_head, (h.satisfies, h.compared)) })
     (head_decided (λ f. All (Satisfies relations f) q.atoms × All (HoldsOf f) q.comparisons)
     (λ bs. atoms_decided relations q.comparisons q.atoms bs) q.head t [])

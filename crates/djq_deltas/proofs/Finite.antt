@@ -106,18 +106,24 @@ unsigned : (s : Sign) (ts : List Tuple) → map (λ (c : Change). c.answer) (sig
 unsigned s [] = refl
 unsigned s (t ∷ ts) = ap (λ (us : List Tuple). t ∷ us) (unsigned s ts)
 
-signed_hold : (P : Change → Type 0) (s : Sign) (ts : List Tuple) → All (λ (t : Tuple). P (record { sign = s; answer = t })) ts → All P (signed s ts)
+signed_hold : (P : Change → Type 0) (s : Sign) (ts : List Tuple)
+    → All (λ (t : Tuple). P (record { sign = s; answer = t })) ts → All P (signed s ts)
 signed_hold P s [] h = All-nil P
-signed_hold P s (t ∷ ts) h = All-cons P (record { sign = s; answer = t }) (signed s ts) (All-head (λ (t : Tuple). P (record { sign = s; answer = t })) t ts h) (signed_hold P s ts (All-tail (λ (t : Tuple). P (record { sign = s; answer = t })) t ts h))
+signed_hold P s (t ∷ ts) h = All-cons P (record { sign = s; answer = t }) (signed s ts)
+    (All-head (λ (t : Tuple). P (record { sign = s; answer = t })) t ts h)
+    (signed_hold P s ts (All-tail (λ (t : Tuple). P (record { sign = s; answer = t })) t ts h))
 
-signed_there : (s : Sign) (ts : List Tuple) (t : Tuple) → Contains ts t → Contains (signed s ts) (record { sign = s; answer = t })
+signed_there : (s : Sign) (ts : List Tuple) (t : Tuple) → Contains ts t
+    → Contains (signed s ts) (record { sign = s; answer = t })
 signed_there s [] t k = absurd (nothing_there t k)
 signed_there s (u ∷ ts) t k = step (first_or_later u ts t k) (λ c. signed_there s ts t c)
   where
     step : (u ≡ t) ⊎ Contains ts t → (Contains ts t → Contains (signed s ts) (record { sign = s; answer = t }))
         → Contains (record { sign = s; answer = u } ∷ signed s ts) (record { sign = s; answer = t })
-    step (inl e) more = first_there (record { sign = s; answer = u }) (signed s ts) (record { sign = s; answer = t }) (ap (λ (v : Tuple). record { sign = s; answer = v }) e)
-    step (inr c) more = later_there (record { sign = s; answer = u }) (signed s ts) (record { sign = s; answer = t }) (more c)
+    step (inl e) more = first_there (record { sign = s; answer = u }) (signed s ts) (record { sign = s; answer = t })
+        (ap (λ (v : Tuple). record { sign = s; answer = v }) e)
+    step (inr c) more = later_there (record { sign = s; answer = u }) (signed s ts) (record { sign = s; answer = t })
+        (more c)
 
 -- of two lists, what the one lacks of the other
 abbrev lacked : List Tuple → List Tuple → List Tuple
@@ -133,7 +139,8 @@ is_not_there ts t lacks = step (has_row ts t) refl
     step true e = absurd (lacks (row_there ts t e))
     step false e = refl
 
-module _ (Before After : Tuple → Type 0) (bs fs : List Tuple) (earlier : IsListing Before bs) (later : IsListing After fs) where
+module _ (Before After : Tuple → Type 0) (bs fs : List Tuple) (earlier : IsListing Before bs)
+    (later : IsListing After fs) where
   abbrev came : List Tuple
   came = lacked bs fs
 
@@ -170,7 +177,8 @@ module _ (Before After : Tuple → Type 0) (bs fs : List Tuple) (earlier : IsLis
       ∙ ap (λ (ts : List Tuple). ts ++ map (λ (c : Change). c.answer) (signed Went went)) (unsigned Came came)
       ∙ ap (λ (ts : List Tuple). came ++ ts) (unsigned Went went)
 
-  all_there_are : (sign : Sign) (t : Tuple) → HasChanged Before After sign t → Contains delta (record { sign = sign; answer = t })
+  all_there_are : (sign : Sign) (t : Tuple) → HasChanged Before After sign t
+      → Contains delta (record { sign = sign; answer = t })
   all_there_are Came t h =
       Contains-append_left (signed Came came) (signed Went went) (record { sign = Came; answer = t })
       (signed_there Came came t (kept_there (λ (t : Tuple). not (has_row bs t)) fs t
@@ -192,5 +200,8 @@ module _ (Before After : Tuple → Type 0) (bs fs : List Tuple) (earlier : IsLis
 pub deltas_exist : DeltasExist
 deltas_exist before after q bound =
     let e = answers_are_finite before q bound in
-    let l = answers_are_finite after q bound in
-    (delta (AnswersOf before q) (AnswersOf after q) e.0 l.0 e.1 l.1, is_delta (AnswersOf before q) (AnswersOf after q) e.0 l.0 e.1 l.1)
+    let l = answers_are_finite after q bound in (
+      delta (AnswersOf before q) (AnswersOf after q) e.0 l.0 e.1 l.1,
+      is_delta (AnswersOf before q) (AnswersOf after q)
+          e.0 l.0 e.1 l.1,
+    )

@@ -1,5 +1,6 @@
 -- Where rows only come, each answer stays one; where they only go, none comes.
-use Rattle.std.specs.Prelude.{List, [], ◌∷◌, ◌≡◌, ◌+◌, ◌++◌, ◌⊎◌, ◌&&◌, ◌||◌, Bool, true, false, not, cond, Option, None, Some, option_map, All, Contains}
+use Rattle.std.specs.Prelude.{List, [], ◌∷◌, ◌≡◌, ◌+◌, ◌++◌, ◌⊎◌, ◌&&◌, ◌||◌, Bool, true, false}
+use Rattle.std.specs.Prelude.{not, cond, Option, None, Some, option_map, All, Contains}
 use Rattle.std.specs.List.{list_any, slice_index_or}
 use Rattle.std.proofs.Common.{refl, sym, ap, ◌∙◌, subst, inl, inr}
 use Rattle.std.proofs.lemmas.List.Elements.{All-nil, All-cons, All-weaker, Contains-append_left}
@@ -7,7 +8,9 @@ use Rattle.djq_model.specs.declared.relation.Relation.{Relation}
 use Rattle.djq_model.specs.declared.relation.CountedRow.{CountedRow}
 use Rattle.djq_model.specs.declared.query.Query.{Query}
 use Rattle.djq_model.specs.declared.query.Atom.{Atom}
-use Rattle.djq_model.specs.Data.{Bytes, Tuple, bytes_eq, tuple_eq, relation_of, tuples_of, counted_in, counted_of, rows_of, without_row, with_row, without_copies}
+use Rattle.djq_model.specs.Data.{Bytes, Tuple, bytes_eq, tuple_eq, relation_of, tuples_of}
+use Rattle.djq_model.specs.Data.{counted_in, counted_of, rows_of, without_row, with_row}
+use Rattle.djq_model.specs.Data.{without_copies}
 use Rattle.djq_model.specs.Answer.{IsAnswer}
 use Rattle.djq_model.specs.Equality.{bytes_eq-decides}
 use Rattle.djq_model.specs.Listed.{Listed, a_query, a_union, AnswersOf}
@@ -21,7 +24,9 @@ use Rattle.djq_machine.specs.Batch.{is_there, with_held, with_all, has_come}
 use Rattle.djq_machine.specs.Delta.{HasChanged}
 use Rattle.djq_machine.proofs.Copies.{relation_here, rows_apart, copies_rows}
 use Rattle.djq_model.specs.Known.{texts_in, all_learned}
-use Rattle.djq_deltas.specs.Growing.{HaveRows, AnswersStay, AnswersCome, AnswersGo, RowComes, RowsCome, RowGoes, ChangesSpareOthers, BatchesSpareOthers, AnswersRest}
+use Rattle.djq_deltas.specs.Growing.{HaveRows, AnswersStay, AnswersCome, AnswersGo, RowComes}
+use Rattle.djq_deltas.specs.Growing.{RowsCome, RowGoes, ChangesSpareOthers, BatchesSpareOthers}
+use Rattle.djq_deltas.specs.Growing.{AnswersRest}
 use Rattle.djq_deltas.proofs.Lists.{nothing_there, first_or_later, first_there, later_there, some_one, one_there}
 
 -- ---- answers over more rows

@@ -69,7 +69,8 @@ pub row_found : (ts : List Tuple) (t : Tuple) → Contains ts t → has_row ts t
 row_found [] t h = absurd (nothing_there t h)
 row_found (r ∷ rs) t h = step (first_or_later r rs t h) (tuple_eq r t) refl (λ k. row_found rs t k)
   where
-    step : (r ≡ t) ⊎ Contains rs t → (b : Bool) → tuple_eq r t ≡ b → (Contains rs t → has_row rs t ≡ true) → cond b true (has_row rs t) ≡ true
+    step : (r ≡ t) ⊎ Contains rs t → (b : Bool) → tuple_eq r t ≡ b → (Contains rs t → has_row rs t ≡ true)
+        → cond b true (has_row rs t) ≡ true
     step o true e more = refl
     step (inl same) false e more = let so : tuple_eq r t ≡ true = (tuple_eq-decides r t).1 same in absurd (cc (so, e))
     step (inr k) false e more = more k
@@ -78,12 +79,14 @@ pub row_there : (ts : List Tuple) (t : Tuple) → has_row ts t ≡ true → Cont
 row_there [] t h = absurd (cc)
 row_there (r ∷ rs) t h = step (tuple_eq r t) refl h (λ k. row_there rs t k)
   where
-    step : (b : Bool) → tuple_eq r t ≡ b → cond b true (has_row rs t) ≡ true → (has_row rs t ≡ true → Contains rs t) → Contains (r ∷ rs) t
+    step : (b : Bool) → tuple_eq r t ≡ b → cond b true (has_row rs t) ≡ true → (has_row rs t ≡ true → Contains rs t)
+        → Contains (r ∷ rs) t
     step true e k more = first_there r rs t ((tuple_eq-decides r t).0 e)
     step false e k more = later_there r rs t (more k)
 
 -- what a filter keeps
-pub kept_hold : {A : Type 0} (P Q : A → Type 0) (p : A → Bool) (xs : List A) → ((x : A) → p x ≡ true → P x → Q x) → All P xs → All Q (filter p xs)
+pub kept_hold : {A : Type 0} (P Q : A → Type 0) (p : A → Bool) (xs : List A) → ((x : A) → p x ≡ true → P x → Q x)
+    → All P xs → All Q (filter p xs)
 kept_hold P Q p [] f h = All-nil Q
 kept_hold P Q p (x ∷ xs) f h = step (p x) refl (kept_hold P Q p xs f (All-tail P x xs h))
   where
@@ -91,11 +94,13 @@ kept_hold P Q p (x ∷ xs) f h = step (p x) refl (kept_hold P Q p xs f (All-tail
     step true e rest = All-cons Q x (filter p xs) (f x e (All-head P x xs h)) rest
     step false e rest = rest
 
-pub kept_there : {A : Type 0} (p : A → Bool) (xs : List A) (x : A) → p x ≡ true → Contains xs x → Contains (filter p xs) x
+pub kept_there : {A : Type 0} (p : A → Bool) (xs : List A) (x : A) → p x ≡ true → Contains xs x
+    → Contains (filter p xs) x
 kept_there p [] x e h = absurd (nothing_there x h)
 kept_there p (y ∷ ys) x e h = step (p y) refl (first_or_later y ys x h) (λ k. kept_there p ys x e k)
   where
-    step : (b : Bool) → p y ≡ b → (y ≡ x) ⊎ Contains ys x → (Contains ys x → Contains (filter p ys) x) → Contains (cond b (y ∷ filter p ys) (filter p ys)) x
+    step : (b : Bool) → p y ≡ b → (y ≡ x) ⊎ Contains ys x → (Contains ys x → Contains (filter p ys) x)
+        → Contains (cond b (y ∷ filter p ys) (filter p ys)) x
     step true k (inl same) more = first_there y (filter p ys) x same
     step true k (inr c) more = later_there y (filter p ys) x (more c)
     step false k (inl same) more = let so : p y ≡ true = ap p same ∙ e in absurd (cc (so, k))
@@ -117,10 +122,12 @@ pairs_head R x xs h = λ k d lt. h 0 (suc k) d (omega arith) (omega (arith, lt))
 pub pairs_tail : {A : Type 0} (R : A → A → Type 0) (x : A) (xs : List A) → AllPairs R (x ∷ xs) → AllPairs R xs
 pairs_tail R x xs h = λ i j d lt within. h (suc i) (suc j) d (omega (arith, lt)) (omega (arith, within))
 
-pub pairs_join : {A : Type 0} (R : A → A → Type 0) (xs ys : List A) → AllPairs R xs → AllPairs R ys → All (λ x. All (R x) ys) xs → AllPairs R (xs ++ ys)
+pub pairs_join : {A : Type 0} (R : A → A → Type 0) (xs ys : List A) → AllPairs R xs → AllPairs R ys
+    → All (λ x. All (R x) ys) xs → AllPairs R (xs ++ ys)
 pairs_join R [] ys h k apart = k
 pairs_join R (x ∷ xs) ys h k apart =
-    AllPairs-cons R x (xs ++ ys) (All-append (R x) xs ys (pairs_head R x xs h) (All-head (λ z. All (R z) ys) x xs apart))
+    AllPairs-cons R x (xs ++ ys)
+    (All-append (R x) xs ys (pairs_head R x xs h) (All-head (λ z. All (R z) ys) x xs apart))
     (pairs_join R xs ys (pairs_tail R x xs h) k (All-tail (λ z. All (R z) ys) x xs apart))
 
 -- what holds of each of a list
@@ -144,7 +151,8 @@ pub once_there : (ts : List Tuple) (u : Tuple) → Contains ts u → Contains (o
 once_there [] u h = h
 once_there (t ∷ ts) u h = step (has_row (once ts) t) refl (first_or_later t ts u h) (λ k. once_there ts u k)
   where
-    step : (b : Bool) → has_row (once ts) t ≡ b → (t ≡ u) ⊎ Contains ts u → (Contains ts u → Contains (once ts) u) → Contains (cond b (once ts) (t ∷ once ts)) u
+    step : (b : Bool) → has_row (once ts) t ≡ b → (t ≡ u) ⊎ Contains ts u → (Contains ts u → Contains (once ts) u)
+        → Contains (cond b (once ts) (t ∷ once ts)) u
     step true e (inl same) more = subst (λ (v : Tuple). Contains (once ts) v) same (row_there (once ts) t e)
     step true e (inr k) more = more k
     step false e (inl same) more = first_there t (once ts) u same
@@ -159,4 +167,6 @@ once_differ (t ∷ ts) = step (has_row (once ts) t) refl (once_differ ts)
     step false e rest =
         AllPairs-cons (λ (r s : Tuple). r ≡ s → ⊥) t (once ts)
         (hold_each (λ (s : Tuple). t ≡ s → ⊥) (once ts)
-        (λ s k same. let so : has_row (once ts) t ≡ true = row_found (once ts) t (subst (λ (v : Tuple). Contains (once ts) v) (sym same) k) in absurd (cc (so, e)))) rest
+        (λ s k same. let so : has_row (once ts) t
+        ≡ true = row_found (once ts) t (subst (λ (v : Tuple). Contains (once ts) v) (sym same) k) in absurd
+        (cc (so, e)))) rest

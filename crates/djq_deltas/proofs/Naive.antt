@@ -12,7 +12,8 @@ use Rattle.djq_model.specs.Data.{Bytes, Tuple, rows_of}
 use Rattle.djq_model.specs.Answer.{Assignment, StandsFor, StandForAll, Satisfies, IsAnswer}
 use Rattle.djq_deltas.specs.Decided.{Decided}
 use Rattle.djq_deltas.specs.Finite.{IsBound}
-use Rattle.djq_deltas.proofs.Lists.{nothing_there, first_or_later, first_there, later_there, kept_hold, kept_there, mapped_there}
+use Rattle.djq_deltas.proofs.Lists.{nothing_there, first_or_later, first_there, later_there}
+use Rattle.djq_deltas.proofs.Lists.{kept_hold, kept_there, mapped_there}
 use Rattle.djq_deltas.proofs.Deciding.{query_decided}
 
 -- The values that the relations of atoms have.
@@ -32,16 +33,19 @@ of_row (s ∷ rs) r v k c = step (first_or_later s rs r k) (λ d. of_row rs r v 
     step (inl e) more = Contains-append_left s (values_in rs) v (subst (λ (t : Tuple). Contains t v) (sym e) c)
     step (inr d) more = Contains-append_right s (values_in rs) v (more d)
 
-its_cell : (b : Assignment) (ts : List Term) (vs : Tuple) (x : Bytes) → StandForAll b ts vs → Contains ts (Variable x) → Contains vs (b x)
+its_cell : (b : Assignment) (ts : List Term) (vs : Tuple) (x : Bytes) → StandForAll b ts vs → Contains ts (Variable x)
+    → Contains vs (b x)
 its_cell b [] vs x h k = absurd (nothing_there (Variable x) k)
 its_cell b (t ∷ ts) [] x h k = absurd h
 its_cell b (t ∷ ts) (v ∷ vs) x h k = step (first_or_later t ts (Variable x) k) (λ c. its_cell b ts vs x h.1 c)
   where
-    step : (t ≡ Variable x) ⊎ Contains ts (Variable x) → (Contains ts (Variable x) → Contains vs (b x)) → Contains (v ∷ vs) (b x)
+    step : (t ≡ Variable x) ⊎ Contains ts (Variable x) → (Contains ts (Variable x) → Contains vs (b x))
+        → Contains (v ∷ vs) (b x)
     step (inl e) more = first_there v vs (b x) (sym (subst (λ (u : Term). StandsFor b u v) e h.0))
     step (inr c) more = later_there v vs (b x) (more c)
 
-pub its_value : (relations : List Relation) (b : Assignment) (ms : List Atom) (m : Atom) (x : Bytes) → All (Satisfies relations b) ms
+pub its_value : (relations : List Relation) (b : Assignment) (ms : List Atom) (m : Atom) (x : Bytes)
+    → All (Satisfies relations b) ms
     → Contains ms m → Contains m.terms (Variable x) → Contains (values relations ms) (b x)
 its_value relations b [] m x h k c = absurd (nothing_there m k)
 its_value relations b (n ∷ ms) m x h k c =
@@ -56,7 +60,8 @@ its_value relations b (n ∷ ms) m x h k c =
         Contains-append_left (values_in (rows_of relations n.relation)) (values relations ms) (b x)
         (of_row (rows_of relations n.relation) s.row (b x) s.is_there
         (its_cell b n.terms s.row x s.stands (subst (λ (o : Atom). Contains o.terms (Variable x)) (sym e) c)))
-    step (inr d) more = Contains-append_right (values_in (rows_of relations n.relation)) (values relations ms) (b x) (more d)
+    step (inr d) more = Contains-append_right (values_in (rows_of relations n.relation)) (values relations ms) (b x)
+        (more d)
 
 -- The tuples of these values, as long as a head.
 abbrev each : (Value → List Tuple) → List Value → List Tuple

@@ -11,7 +11,8 @@ use Rattle.djq_dict.specs.Known.{IsUnknown}
 -- no text behind the candidate is the one that is sought: without a candidate none is
 abbrev pub IsSearched : List (List ℕ) → List ℕ → List ℕ → ℕ → Option ℕ → Type 0
 IsSearched texts hashes text hash None = IsUnknown texts text
-IsSearched texts hashes text hash (Some m) = (m < length texts) × (slice_index hashes m ≡ hash) × ((j : ℕ) (d : List ℕ) → m < j → j < length texts → slice_index_or texts j d ≢ text)
+IsSearched texts hashes text hash (Some m) = (m < length texts) × (slice_index hashes m ≡ hash)
+    × ((j : ℕ) (d : List ℕ) → m < j → j < length texts → slice_index_or texts j d ≢ text)
 
 -- how many candidates there may be yet
 abbrev pub ahead : Option ℕ → ℕ
@@ -19,20 +20,30 @@ ahead None = 0
 ahead (Some m) = m + 1
 
 -- a text has its hash
-hash-text : (texts : List (List ℕ)) (hashes text : List ℕ) (hash j : ℕ) (d : List ℕ) → IsDictionary texts hashes → hash ≡ hash_of text → j < length texts → slice_index_or texts j d ≡ text → slice_index hashes j ≡ hash
-hash-text texts hashes text hash j d h own low same = ap (λ (l : List ℕ). slice_index l j) h.hashed ∙ get_or-map hash_of texts j d 0 low ∙ ap hash_of same ∙ sym own
+hash-text : (texts : List (List ℕ)) (hashes text : List ℕ) (hash j : ℕ) (d : List ℕ) → IsDictionary texts hashes → hash
+    ≡ hash_of text → j < length texts → slice_index_or texts j d ≡ text → slice_index hashes j ≡ hash
+hash-text texts hashes text hash j d h own low same = ap (λ (l : List ℕ). slice_index l j) h.hashed
+    ∙ get_or-map hash_of texts j d 0 low ∙ ap hash_of same ∙ sym own
 
 -- the first candidate
-pub searched-first : (texts : List (List ℕ)) (hashes text : List ℕ) (hash : ℕ) (r : Option ℕ) → IsDictionary texts hashes → hash ≡ hash_of text → IsLastWith hashes hash (length hashes) r → IsSearched texts hashes text hash r
+pub searched-first : (texts : List (List ℕ)) (hashes text : List ℕ) (hash : ℕ) (r : Option ℕ)
+    → IsDictionary texts hashes → hash ≡ hash_of text → IsLastWith hashes hash (length hashes) r
+    → IsSearched texts hashes text hash r
 searched-first texts hashes text hash None h own last =
     let many = ap (λ (l : List ℕ). length l) h.hashed ∙ length-map texts hash_of in
     λ j d low same. last j (omega arith) (omega arith) (hash-text texts hashes text hash j d h own low same)
 searched-first texts hashes text hash (Some m) h own last =
-    let many = ap (λ (l : List ℕ). length l) h.hashed ∙ length-map texts hash_of in
-    (omega (arith, last.0), last.1, λ j d from low same. last.2 j (omega arith) (omega arith) (hash-text texts hashes text hash j d h own low same))
+    let many = ap (λ (l : List ℕ). length l) h.hashed ∙ length-map texts hash_of in (
+      omega (arith, last.0),
+      last.1,
+      λ j d from low same. last.2 j (omega arith) (omega arith)
+          (hash-text texts hashes text hash j d h own low same),
+    )
 
 -- from one candidate on, which isn't the text, none before the next one is it
-between : (texts : List (List ℕ)) (hashes text : List ℕ) (hash m from : ℕ) → IsDictionary texts hashes → hash ≡ hash_of text → IsSearched texts hashes text hash (Some m) → ((d : List ℕ) → slice_index_or texts m d ≢ text) → HasNone hashes hash from m → (j : ℕ) (d : List ℕ) → from ≤ j → j < length texts → slice_index_or texts j d ≢ text
+between : (texts : List (List ℕ)) (hashes text : List ℕ) (hash m from : ℕ) → IsDictionary texts hashes → hash
+    ≡ hash_of text → IsSearched texts hashes text hash (Some m) → ((d : List ℕ) → slice_index_or texts m d ≢ text)
+    → HasNone hashes hash from m → (j : ℕ) (d : List ℕ) → from ≤ j → j < length texts → slice_index_or texts j d ≢ text
 between texts hashes text hash m from h own s other none j d start low same =
     elim (cases_lt j m) [
       | inl before ↦ none j start before (hash-text texts hashes text hash j d h own low same)
@@ -43,15 +54,22 @@ between texts hashes text hash m from h own s other none j d start low same =
     ]
 
 -- the next candidate
-pub searched-next : (texts : List (List ℕ)) (hashes text : List ℕ) (hash m k : ℕ) (r : Option ℕ) → IsDictionary texts hashes → hash ≡ hash_of text → IsSearched texts hashes text hash (Some m) → ((d : List ℕ) → slice_index_or texts m d ≢ text) → IsLastWith hashes (slice_index hashes k) k r → k ≡ m → IsSearched texts hashes text hash r
+pub searched-next : (texts : List (List ℕ)) (hashes text : List ℕ) (hash m k : ℕ) (r : Option ℕ)
+    → IsDictionary texts hashes → hash ≡ hash_of text → IsSearched texts hashes text hash (Some m)
+    → ((d : List ℕ) → slice_index_or texts m d ≢ text) → IsLastWith hashes (slice_index hashes k) k r → k ≡ m
+    → IsSearched texts hashes text hash r
 searched-next texts hashes text hash m k None h own s other last same =
     let none = rw (same, s.1) at last in
     λ j d low equal. between texts hashes text hash m 0 h own s other none j d (omega arith) low equal
 searched-next texts hashes text hash m k (Some n) h own s other last same =
     let below : n < m = omega (arith, last.0) in
     let here = rw (same, s.1) at last.1 in
-    let none = rw (same, s.1) at last.2 in
-    (omega (arith, s.0), here, λ j d from low equal. between texts hashes text hash m (n + 1) h own s other none j d (omega arith) low equal)
+    let none = rw (same, s.1) at last.2 in (
+      omega (arith, s.0),
+      here,
+      λ j d from low equal. between texts hashes text hash m (n + 1) h own s other none j d
+          (omega arith) low equal,
+    )
 
 -- and there are fewer behind it
 pub ahead-next : (hashes : List ℕ) (hash m : ℕ) (r : Option ℕ) → IsLastWith hashes hash m r → ahead r < m + 1

@@ -15,7 +15,8 @@ pub record IsRest (buckets : ℕ) (hashes : List ℕ) (hash n rest : ℕ) : Type
   pub none : HasNone hashes hash rest n
 
 -- a walk begins with a bucket's chain
-pub rest-first : (buckets : ℕ) (hashes : List ℕ) (hash n chain : ℕ) → IsFirst buckets hashes (bucket_of buckets hash) n chain → IsRest buckets hashes hash n chain
+pub rest-first : (buckets : ℕ) (hashes : List ℕ) (hash n chain : ℕ)
+    → IsFirst buckets hashes (bucket_of buckets hash) n chain → IsRest buckets hashes hash n chain
 rest-first buckets hashes hash n chain f = record {
   within = f.within;
   here = f.here;
@@ -23,7 +24,9 @@ rest-first buckets hashes hash n chain f = record {
 }
 
 -- it goes on at the next link
-pub rest-next : (buckets : ℕ) (hashes nexts : List ℕ) (hash n rest : ℕ) → IsLinked buckets hashes nexts → 0 < rest → rest ≤ length hashes → slice_index hashes (rest - 1) ≢ hash → IsRest buckets hashes hash n rest → IsRest buckets hashes hash n (slice_index nexts (rest - 1))
+pub rest-next : (buckets : ℕ) (hashes nexts : List ℕ) (hash n rest : ℕ) → IsLinked buckets hashes nexts → 0 < rest
+    → rest ≤ length hashes → slice_index hashes (rest - 1) ≢ hash → IsRest buckets hashes hash n rest
+    → IsRest buckets hashes hash n (slice_index nexts (rest - 1))
 rest-next buckets hashes nexts hash n rest linked some below other r =
     let f = linked.each (rest - 1) (omega arith) in
     let low = f.within in
@@ -41,34 +44,42 @@ rest-next buckets hashes nexts hash n rest linked some below other r =
     }
 
 -- it is over where a link has the hash
-pub rest-found : (buckets : ℕ) (hashes : List ℕ) (hash n rest : ℕ) → 0 < rest → slice_index hashes (rest - 1) ≡ hash → IsRest buckets hashes hash n rest → IsLastWith hashes hash n (Some (rest - 1))
+pub rest-found : (buckets : ℕ) (hashes : List ℕ) (hash n rest : ℕ) → 0 < rest → slice_index hashes (rest - 1) ≡ hash
+    → IsRest buckets hashes hash n rest → IsLastWith hashes hash n (Some (rest - 1))
 rest-found buckets hashes hash n rest some same r =
     let high = r.within in
     (omega arith, same, λ j low under. r.none j (omega arith) under)
 
 -- or where the chain ends
-pub rest-over : (buckets : ℕ) (hashes : List ℕ) (hash n rest : ℕ) → rest ≡ 0 → IsRest buckets hashes hash n rest → IsLastWith hashes hash n None
+pub rest-over : (buckets : ℕ) (hashes : List ℕ) (hash n rest : ℕ) → rest ≡ 0 → IsRest buckets hashes hash n rest
+    → IsLastWith hashes hash n None
 rest-over buckets hashes hash n rest none r = λ j low under. r.none j (omega arith) under
 
 -- what a walk from a place gives
 abbrev pub Follows : List Link → ℕ → ℕ → Option ℕ → Type 0
-Follows links hash chain r = (buckets n : ℕ) → IsLinked buckets (hashes_of links) (nexts_of links) → IsFirst buckets (hashes_of links) (bucket_of buckets hash) n chain → IsLastWith (hashes_of links) hash n r
+Follows links hash chain r = (buckets n : ℕ) → IsLinked buckets (hashes_of links) (nexts_of links)
+    → IsFirst buckets (hashes_of links) (bucket_of buckets hash) n chain → IsLastWith (hashes_of links) hash n r
 
 -- the chains of an index
-linked : (links : List Link) (heads : List ℕ) → IsIndex links heads → IsLinked (length heads) (hashes_of links) (nexts_of links)
+linked : (links : List Link) (heads : List ℕ) → IsIndex links heads
+    → IsLinked (length heads) (hashes_of links) (nexts_of links)
 linked links heads h =
     let many = length-map links (λ (k : Link). k.hash) in
     rw many h.chained.linked
 
 -- from the head of a bucket it gives the last number with the hash
-pub follows-head : (links : List Link) (heads : List ℕ) (hash bucket head : ℕ) (r : Option ℕ) → IsIndex links heads → bucket < length heads → bucket ≡ bucket_of (length heads) hash → head ≡ slice_index heads bucket → Follows links hash head r → IsLastWith (hashes_of links) hash (length (hashes_of links)) r
+pub follows-head : (links : List Link) (heads : List ℕ) (hash bucket head : ℕ) (r : Option ℕ) → IsIndex links heads
+    → bucket < length heads → bucket ≡ bucket_of (length heads) hash → head ≡ slice_index heads bucket
+    → Follows links hash head r → IsLastWith (hashes_of links) hash (length (hashes_of links)) r
 follows-head links heads hash bucket head r h within own read f =
     let many = length-map links (λ (k : Link). k.hash) in
     let first = rw (← read, own) at (h.chained.headed bucket within) in
     rw many (f (length heads) (length links) (linked links heads h) first)
 
 -- and from a link the last number before it with its hash
-pub follows-link : (links : List Link) (heads : List ℕ) (number : ℕ) (link : Link) (r : Option ℕ) → IsIndex links heads → number < length links → link ≡ get_or links number link → Follows links link.hash link.next r → IsLastWith (hashes_of links) (slice_index (hashes_of links) number) number r
+pub follows-link : (links : List Link) (heads : List ℕ) (number : ℕ) (link : Link) (r : Option ℕ) → IsIndex links heads
+    → number < length links → link ≡ get_or links number link → Follows links link.hash link.next r
+    → IsLastWith (hashes_of links) (slice_index (hashes_of links) number) number r
 follows-link links heads number link r h low read f =
     let hash = hash-at links number link low ∙ ap (λ (k : Link). k.hash) (sym read) in
     let next = next-at links number link low ∙ ap (λ (k : Link). k.next) (sym read) in

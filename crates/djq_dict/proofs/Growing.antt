@@ -7,7 +7,8 @@ use Rattle.std.proofs.lemmas.Option.{get_or_from_slice_get, slice_get-get_or, sl
 use Rattle.djq_dict.specs.Known.{AllDifferent, Learns}
 
 -- a number that was known is that of the same text
-pub learns-keeps : (old : List (List ℕ)) (text : List ℕ) (new : List (List ℕ)) (n : ℕ) (t : List ℕ) → Learns old text new → slice_get old n ≡ Some t → slice_get new n ≡ Some t
+pub learns-keeps : (old : List (List ℕ)) (text : List ℕ) (new : List (List ℕ)) (n : ℕ) (t : List ℕ)
+    → Learns old text new → slice_get old n ≡ Some t → slice_get new n ≡ Some t
 learns-keeps old text new n t (inl known) is = rw known.1 is
 learns-keeps old text new n t (inr unknown) is =
     let low = slice_get_within old n t is in
@@ -17,7 +18,8 @@ learns-keeps old text new n t (inr unknown) is =
     rw (unknown.1, slice_get-get_or (old ++ text ∷ []) n t more, get_or_append_left old (text ∷ []) t n low, read) refl
 
 -- two numbers of one text are one number
-pub one-number : (texts : List (List ℕ)) (m n : ℕ) (t : List ℕ) → AllDifferent texts → slice_get texts m ≡ Some t → slice_get texts n ≡ Some t → m ≡ n
+pub one-number : (texts : List (List ℕ)) (m n : ℕ) (t : List ℕ) → AllDifferent texts → slice_get texts m ≡ Some t
+    → slice_get texts n ≡ Some t → m ≡ n
 one-number texts m n t different first second =
     let low = slice_get_within texts m t first in
     let high = slice_get_within texts n t second in

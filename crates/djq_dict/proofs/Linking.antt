@@ -1,5 +1,6 @@
 -- Links put in front of their chains.
-use Rattle.std.proofs.Common.{◌≡◌, ◌≢◌, ℕ, zero, suc, replicate, ◌+◌, ◌-◌, ◌<◌, ◌≤◌, List, ◌++◌, length, get_or, set, refl, sym, ◌∙◌, ap, inl, inr, arith, below_more}
+use Rattle.std.proofs.Common.{◌≡◌, ◌≢◌, ℕ, zero, suc, replicate, ◌+◌, ◌-◌, ◌<◌, ◌≤◌, List, ◌++◌}
+use Rattle.std.proofs.Common.{length, get_or, set, refl, sym, ◌∙◌, ap, inl, inr, arith, below_more}
 use Rattle.std.specs.Prelude.{slice_index}
 use Rattle.std.proofs.lemmas.Bool.{cases_eq}
 use Rattle.std.proofs.lemmas.Grind.{get_or-set_at}
@@ -9,7 +10,8 @@ use Rattle.djq_dict.specs.declared.chain.Link.{Link}
 use Rattle.djq_dict.specs.Chains.{IsChained, IsFirst, bucket_at, hashes_of, nexts_of}
 
 -- a text is the first of its bucket's chain
-first_itself : (buckets : ℕ) (hashes : List ℕ) (bucket n : ℕ) → bucket_at buckets hashes n ≡ bucket → IsFirst buckets hashes bucket (n + 1) (n + 1)
+first_itself : (buckets : ℕ) (hashes : List ℕ) (bucket n : ℕ) → bucket_at buckets hashes n ≡ bucket
+    → IsFirst buckets hashes bucket (n + 1) (n + 1)
 first_itself buckets hashes bucket n same = record {
   within = omega arith;
   here = λ _. let e : (n + 1) - 1 ≡ n = omega arith in rw e same;
@@ -17,15 +19,20 @@ first_itself buckets hashes bucket n same = record {
 }
 
 -- the chains of the other buckets stay
-first_kept : (buckets : ℕ) (hashes : List ℕ) (bucket n chain : ℕ) → bucket_at buckets hashes n ≢ bucket → IsFirst buckets hashes bucket n chain → IsFirst buckets hashes bucket (n + 1) chain
+first_kept : (buckets : ℕ) (hashes : List ℕ) (bucket n chain : ℕ) → bucket_at buckets hashes n ≢ bucket
+    → IsFirst buckets hashes bucket n chain → IsFirst buckets hashes bucket (n + 1) chain
 first_kept buckets hashes bucket n chain other f = record {
   within = let w = f.within in omega arith;
   here = f.here;
-  last = λ j low high. below_more (λ k. chain ≤ k → bucket_at buckets hashes k ≢ bucket) n (λ k h l. f.last k l h) (λ _. other) j high low;
+  last = λ j low high. below_more (λ k. chain ≤ k → bucket_at buckets hashes k ≢ bucket) n (λ k h l. f.last k l h)
+      (λ _. other) j high low;
 }
 
 -- a text is put in front of its chain
-pub chained-put : (hashes nexts heads : List ℕ) (n : ℕ) → n < length nexts → bucket_at (length heads) hashes n < length heads → IsChained hashes nexts heads n → IsChained hashes (set nexts n (slice_index heads (bucket_at (length heads) hashes n))) (set heads (bucket_at (length heads) hashes n) (n + 1)) (n + 1)
+pub chained-put : (hashes nexts heads : List ℕ) (n : ℕ) → n < length nexts
+    → bucket_at (length heads) hashes n < length heads → IsChained hashes nexts heads n
+    → IsChained hashes (set nexts n (slice_index heads (bucket_at (length heads) hashes n)))
+    (set heads (bucket_at (length heads) hashes n) (n + 1)) (n + 1)
 chained-put hashes nexts heads n below within h =
     let buckets : ℕ = length heads in
     let bucket : ℕ = bucket_at (length heads) hashes n in
@@ -33,7 +40,8 @@ chained-put hashes nexts heads n below within h =
     record {
       headed = rw (length-set heads bucket (n + 1)) (λ b low. elim (cases_eq b bucket) [
         | inl e ↦ rw (get_or-set_at heads bucket b (n + 1) 0 e within) (first_itself buckets hashes b n (sym e))
-        | inr ne ↦ rw (get_or-set_other heads bucket b (n + 1) 0 ne) (first_kept buckets hashes b n (slice_index heads b) (λ x. ne (sym x)) (h.headed b low))
+        | inr ne ↦ rw (get_or-set_other heads bucket b (n + 1) 0 ne)
+            (first_kept buckets hashes b n (slice_index heads b) (λ x. ne (sym x)) (h.headed b low))
       ]);
       linked = rw (length-set heads bucket (n + 1)) (record {
         each = λ i low. elim (cases_eq i n) [
@@ -44,7 +52,8 @@ chained-put hashes nexts heads n below within h =
     }
 
 -- more texts behind those that are in chains change no chain
-first-longer : (buckets : ℕ) (hashes more : List ℕ) (bucket n chain : ℕ) → n ≤ length hashes → IsFirst buckets hashes bucket n chain → IsFirst buckets (hashes ++ more) bucket n chain
+first-longer : (buckets : ℕ) (hashes more : List ℕ) (bucket n chain : ℕ) → n ≤ length hashes
+    → IsFirst buckets hashes bucket n chain → IsFirst buckets (hashes ++ more) bucket n chain
 first-longer buckets hashes more bucket n chain most f = record {
   within = f.within;
   here = λ some.
@@ -56,7 +65,8 @@ first-longer buckets hashes more bucket n chain most f = record {
       rw (get_or_append_left hashes more 0 j below) (f.last j low high);
 }
 
-pub chained-longer : (hashes nexts heads more others : List ℕ) (n : ℕ) → n ≤ length hashes → n ≤ length nexts → IsChained hashes nexts heads n → IsChained (hashes ++ more) (nexts ++ others) heads n
+pub chained-longer : (hashes nexts heads more others : List ℕ) (n : ℕ) → n ≤ length hashes → n ≤ length nexts
+    → IsChained hashes nexts heads n → IsChained (hashes ++ more) (nexts ++ others) heads n
 chained-longer hashes nexts heads more others n most many h = record {
   headed = λ b low. first-longer (length heads) hashes more b n (slice_index heads b) most (h.headed b low);
   linked = record {
@@ -64,7 +74,8 @@ chained-longer hashes nexts heads more others n most many h = record {
         let under : i < length hashes = omega arith in
         let below : i < length nexts = omega arith in
         rw (get_or_append_left nexts others 0 i below, get_or_append_left hashes more 0 i under)
-        (first-longer (length heads) hashes more (bucket_at (length heads) hashes i) i (slice_index nexts i) (omega arith) (h.linked.each i low));
+        (first-longer (length heads) hashes more (bucket_at (length heads) hashes i) i (slice_index nexts i)
+        (omega arith) (h.linked.each i low));
   };
 }
 
@@ -80,20 +91,30 @@ chained-none hashes nexts heads none = record {
 }
 
 -- the same of links that have their hash and their chain side by side
-pub links-put : (links : List Link) (heads : List ℕ) (number : ℕ) (read : Link) (bucket next past : ℕ) → number < length links → bucket < length heads → bucket ≡ bucket_at (length heads) (hashes_of links) number → next ≡ slice_index heads bucket → past ≡ number + 1 → IsChained (hashes_of links) (nexts_of links) heads number → IsChained (hashes_of (set links number (record { hash = (get_or links number read).hash; next = next }))) (nexts_of (set links number (record { hash = (get_or links number read).hash; next = next }))) (set heads bucket past) (number + 1)
+pub links-put : (links : List Link) (heads : List ℕ) (number : ℕ) (read : Link) (bucket next past : ℕ)
+    → number < length links → bucket < length heads → bucket ≡ bucket_at (length heads) (hashes_of links) number → next
+    ≡ slice_index heads bucket → past ≡ number + 1 → IsChained (hashes_of links) (nexts_of links) heads number
+    → IsChained (hashes_of (set links number (record { hash = (get_or links number read).hash; next = next })))
+    (nexts_of (set links number (record { hash = (get_or links number read).hash; next = next })))
+    (set heads bucket past) (number + 1)
 links-put links heads number read bucket next past low within own first at h =
     let link : Link = record { hash = (get_or links number read).hash; next = next } in
-    let hashes : hashes_of (set links number link) ≡ hashes_of links = map-set_same (λ (k : Link). k.hash) links number link read refl in
-    let nexts : nexts_of (set links number link) ≡ set (nexts_of links) number next = map-set (λ (k : Link). k.next) links number link in
+    let hashes : hashes_of (set links number link)
+    ≡ hashes_of links = map-set_same (λ (k : Link). k.hash) links number link read refl in
+    let nexts : nexts_of (set links number link)
+    ≡ set (nexts_of links) number next = map-set (λ (k : Link). k.next) links number link in
     let many : length (nexts_of links) ≡ length links = length-map links (λ (k : Link). k.next) in
-    rw (hashes, nexts, at, first, own) (chained-put (hashes_of links) (nexts_of links) heads number (omega arith) (rw own at within) h)
+    rw (hashes, nexts, at, first, own)
+    (chained-put (hashes_of links) (nexts_of links) heads number (omega arith) (rw own at within) h)
 
 -- the hash of a link
-pub hash-at : (links : List Link) (number : ℕ) (link : Link) → number < length links → slice_index (hashes_of links) number ≡ (get_or links number link).hash
+pub hash-at : (links : List Link) (number : ℕ) (link : Link) → number < length links
+    → slice_index (hashes_of links) number ≡ (get_or links number link).hash
 hash-at links number link low = get_or-map (λ (k : Link). k.hash) links number link 0 low
 
 -- its chain
-pub next-at : (links : List Link) (number : ℕ) (link : Link) → number < length links → slice_index (nexts_of links) number ≡ (get_or links number link).next
+pub next-at : (links : List Link) (number : ℕ) (link : Link) → number < length links
+    → slice_index (nexts_of links) number ≡ (get_or links number link).next
 next-at links number link low = get_or-map (λ (k : Link). k.next) links number link 0 low
 
 -- each of so many zeros is one, and so is what is read behind them

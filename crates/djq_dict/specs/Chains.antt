@@ -1,5 +1,6 @@
 -- How the links of an index hang together in chains, one for each bucket.
-use Rattle.std.specs.Prelude.{◌≡◌, ◌≢◌, ℕ, ◌+◌, ◌-◌, ◌<◌, ◌≤◌, List, length, map, slice_index, bit_and, Option, None, Some}
+use Rattle.std.specs.Prelude.{◌≡◌, ◌≢◌, ℕ, ◌+◌, ◌-◌, ◌<◌, ◌≤◌, List, length, map, slice_index}
+use Rattle.std.specs.Prelude.{bit_and, Option, None, Some}
 use Rattle.djq_dict.specs.declared.chain.Link.{Link}
 
 -- the hashes of the texts, by number

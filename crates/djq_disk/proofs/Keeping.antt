@@ -1,5 +1,7 @@
 -- What a stop leaves of a file that is written.
-use Rattle.std.proofs.Common.{◌≡◌, ℕ, ◌+◌, ◌-◌, ◌<◌, ◌≤◌, inl, inr, List, [], ◌∷◌, ◌++◌, length, take, drop, get_or, replicate, refl, sym, ap, subst, ◌∙◌, arith, append_assoc, append-nil, length-append, length-take, length-drop}
+use Rattle.std.proofs.Common.{◌≡◌, ℕ, ◌+◌, ◌-◌, ◌<◌, ◌≤◌, inl, inr, List, [], ◌∷◌, ◌++◌, length}
+use Rattle.std.proofs.Common.{take, drop, get_or, replicate, refl, sym, ap, subst, ◌∙◌, arith}
+use Rattle.std.proofs.Common.{append_assoc, append-nil, length-append, length-take, length-drop}
 use Rattle.std.specs.List.{AllByRecursion}
 use Rattle.std.proofs.lemmas.List.{length-replicate, get_or_append_left, get_or-take, get_or-drop, get_or-append_right}
 use Rattle.djq_disk.specs.File.{Span, File, IsSettled, settled, with_written, put, Keeps}
@@ -10,11 +12,13 @@ use Rattle.djq_disk.specs.declared.disk.DiskDid.{DiskDid}
 use Rattle.djq_disk.specs.declared.disk.DiskDid.TheVariants.{Done, Failed}
 
 -- what holds of two lists' elements holds of those of both
-pub all_append : {X : Type 0} (P : X → Type 0) (xs ys : List X) → AllByRecursion P xs → AllByRecursion P ys → AllByRecursion P (xs ++ ys)
+pub all_append : {X : Type 0} (P : X → Type 0) (xs ys : List X) → AllByRecursion P xs → AllByRecursion P ys
+    → AllByRecursion P (xs ++ ys)
 all_append P [] ys p q = q
 all_append P (x ∷ xs) ys p q = (p.0, all_append P xs ys p.1 q)
 
-pub all_so : {X : Type 0} (P Q : X → Type 0) (xs : List X) → ((x : X) → P x → Q x) → AllByRecursion P xs → AllByRecursion Q xs
+pub all_so : {X : Type 0} (P Q : X → Type 0) (xs : List X) → ((x : X) → P x → Q x) → AllByRecursion P xs
+    → AllByRecursion Q xs
 all_so P Q [] so p = tt
 all_so P Q (x ∷ xs) so p = (so x p.0, all_so P Q xs so p.1)
 
@@ -34,7 +38,8 @@ leaves_move P old mid file leaves now = record {
 }
 
 -- one stretch of time after another
-pub leaves_more : (P : List ℕ → Type 0) (old mid new : History) → LeavesSince P old mid → LeavesSince P mid new → LeavesSince P old new
+pub leaves_more : (P : List ℕ → Type 0) (old mid new : History) → LeavesSince P old mid → LeavesSince P mid new
+    → LeavesSince P old new
 leaves_more P old mid new p q = record {
   more = p.more ++ q.more;
   past = q.past ∙ ap (λ files. files ++ q.more) p.past ∙ append_assoc old.past p.more q.more;
@@ -44,7 +49,8 @@ leaves_more P old mid new p q = record {
 }
 
 -- what follows of the images
-pub leaves_so : (P Q : List ℕ → Type 0) (old new : History) → ((image : List ℕ) → P image → Q image) → LeavesSince P old new → LeavesSince Q old new
+pub leaves_so : (P Q : List ℕ → Type 0) (old new : History) → ((image : List ℕ) → P image → Q image)
+    → LeavesSince P old new → LeavesSince Q old new
 leaves_so P Q old new so p = record {
   more = p.more;
   past = p.past;
@@ -57,7 +63,8 @@ pub keeps_all : (span : Span) (bytes : List ℕ) → Keeps span bytes bytes
 keeps_all span bytes = record { longer = omega arith; same = λ i within out. refl }
 
 -- a write that was done
-pub put_keeps : (at : ℕ) (piece bytes : List ℕ) → Keeps (record { at = at; size = length piece }) bytes (put at piece bytes)
+pub put_keeps : (at : ℕ) (piece bytes : List ℕ)
+    → Keeps (record { at = at; size = length piece }) bytes (put at piece bytes)
 put_keeps at piece bytes = record {
   longer = omega (arith, sizes, front_size);
   same = λ i within out. elim out [ inl before ↦ before_it i within before | inr behind ↦ behind_it i within behind ];
@@ -70,15 +77,25 @@ put_keeps at piece bytes = record {
     front = take at bytes ++ replicate (at - length bytes) 0 ++ piece
 
     sizes : length (front ++ drop (at + length piece) bytes) ≡ length front + (length bytes - (at + length piece))
-    sizes = length-append front (drop (at + length piece) bytes) ∙ ap (λ n. length front + n) (length-drop (at + length piece) bytes)
+    sizes = length-append front (drop (at + length piece) bytes)
+        ∙ ap (λ n. length front + n) (length-drop (at + length piece) bytes)
 
     front_size : length front ≡ at + length piece
-    front_size = omega (arith, length-append (take at bytes ++ replicate (at - length bytes) 0) piece, length-append (take at bytes) (replicate (at - length bytes) 0), length-take at bytes, length-replicate {A = ℕ} (at - length bytes) 0)
+    front_size = omega (
+      arith,
+      length-append (take at bytes ++ replicate (at - length bytes) 0) piece,
+      length-append
+          (take at bytes) (replicate (at - length bytes) 0),
+      length-take at bytes,
+      length-replicate {A = ℕ}
+          (at - length bytes) 0,
+    )
 
     before_it : (i : ℕ) → i < length bytes → i < at → get_or (put at piece bytes) i 0 ≡ get_or bytes i 0
     before_it i within before =
         let in_take : i < length (take at bytes) = omega (arith, length-take at bytes) in
-        let in_zeros : i < length (take at bytes ++ replicate (at - length bytes) 0) = omega (arith, length-append (take at bytes) (replicate (at - length bytes) 0)) in
+        let in_zeros : i < length (take at bytes ++ replicate (at - length bytes) 0) = omega
+        (arith, length-append (take at bytes) (replicate (at - length bytes) 0)) in
         let in_front : i < length front = omega (arith, front_size) in
         get_or_append_left front (drop (at + length piece) bytes) 0 i in_front
         ∙ get_or_append_left (take at bytes ++ replicate (at - length bytes) 0) piece 0 i in_zeros
@@ -99,14 +116,16 @@ write_keeps Done at piece old new writes = (put at piece old.file.bytes, put_kee
 write_keeps Failed at piece old new writes = (writes.0, writes.1.keeps, writes.2)
 
 -- what a stop leaves of a file that is settled
-pub settled_leaves : (span : Span) (old bytes : List ℕ) → Keeps span old bytes → LeavesOnly (Keeps span old) (settled bytes)
+pub settled_leaves : (span : Span) (old bytes : List ℕ) → Keeps span old bytes
+    → LeavesOnly (Keeps span old) (settled bytes)
 settled_leaves span old bytes keeps image is = record {
   longer = omega (arith, keeps.longer, is.long);
   same = λ i within out. is.kept i (omega (arith, keeps.longer)) tt ∙ keeps.same i within out;
 }
 
 -- and of one that was then written
-pub written_leaves : (span : Span) (old bytes : List ℕ) → Keeps span old bytes → LeavesOnly (Keeps span old) (with_written span bytes (settled old))
+pub written_leaves : (span : Span) (old bytes : List ℕ) → Keeps span old bytes
+    → LeavesOnly (Keeps span old) (with_written span bytes (settled old))
 written_leaves span old bytes keeps image is = record {
   longer = is.long;
   same = λ i within out. is.kept i within (out, tt) ∙ keeps.same i within out;
@@ -117,25 +136,34 @@ pub write_leaves : (span : Span) (bytes : List ℕ) (old : History) → IsSettle
     → LeavesSince (Keeps span old.file.bytes) old (moved_to (with_written span bytes old.file) old)
 write_leaves span bytes old is keeps =
     let P = Keeps span old.file.bytes in
-    let before : LeavesOnly P old.file = subst (λ (f : File). LeavesOnly P f) (sym is) (settled_leaves span old.file.bytes old.file.bytes (keeps_all span old.file.bytes)) in
-    let behind : LeavesOnly P (with_written span bytes old.file) = subst (λ (f : File). LeavesOnly P (with_written span bytes f)) (sym is) (written_leaves span old.file.bytes bytes keeps) in
+    let before : LeavesOnly P old.file = subst (λ (f : File). LeavesOnly P f) (sym is)
+    (settled_leaves span old.file.bytes old.file.bytes (keeps_all span old.file.bytes)) in
+    let behind : LeavesOnly P (with_written span bytes old.file) = subst
+    (λ (f : File). LeavesOnly P (with_written span bytes f)) (sym is)
+    (written_leaves span old.file.bytes bytes keeps) in
     leaves_move P old old (with_written span bytes old.file) (leaves_none P old before) behind
 
 -- a write that failed, and no sync
-pub fails_down : (at : ℕ) (piece : List ℕ) (old new : History) → Writes Failed at piece old new → WritesDown Failed at piece old new
+pub fails_down : (at : ℕ) (piece : List ℕ) (old new : History) → Writes Failed at piece old new
+    → WritesDown Failed at piece old new
 fails_down at piece old new writes =
     let kept = write_keeps Failed at piece old new writes in
     record {
       paths = ap (λ (h : History). h.paths) kept.2;
-      leaves = λ is. subst (λ (h : History). LeavesSince (Keeps (record { at = at; size = length piece }) old.file.bytes) old h) (sym kept.2) (write_leaves _ kept.0 old is kept.1);
+      leaves = λ is. subst (λ (h : History). LeavesSince
+          (Keeps (record { at = at; size = length piece }) old.file.bytes) old h) (sym kept.2)
+          (write_leaves _ kept.0 old is kept.1);
       done = λ wrong. cc;
     }
 
 -- a write that was done, and a sync
-pub writes_down : (did : DiskDid) (at : ℕ) (piece : List ℕ) (old mid new : History) → Writes Done at piece old mid → Syncs did mid new → WritesDown did at piece old new
+pub writes_down : (did : DiskDid) (at : ℕ) (piece : List ℕ) (old mid new : History) → Writes Done at piece old mid
+    → Syncs did mid new → WritesDown did at piece old new
 writes_down Failed at piece old mid new writes syncs = record {
   paths = ap (λ (h : History). h.paths) (syncs ∙ writes);
-  leaves = λ is. subst (λ (h : History). LeavesSince (Keeps (record { at = at; size = length piece }) old.file.bytes) old h) (sym (syncs ∙ writes)) (write_leaves _ (put at piece old.file.bytes) old is (put_keeps at piece old.file.bytes));
+  leaves = λ is. subst (λ (h : History). LeavesSince (Keeps (record { at = at; size = length piece }) old.file.bytes)
+      old h) (sym (syncs ∙ writes))
+      (write_leaves _ (put at piece old.file.bytes) old is (put_keeps at piece old.file.bytes));
   done = λ wrong. cc;
 }
 writes_down Done at piece old mid new writes syncs =
@@ -143,10 +171,12 @@ writes_down Done at piece old mid new writes syncs =
     let bytes = put at piece old.file.bytes in
     let keeps = put_keeps at piece old.file.bytes in
     let file : mid.file.bytes ≡ bytes = ap (λ (h : History). h.file.bytes) writes in
-    let is_new : new ≡ moved_to (settled bytes) (moved_to (with_written span bytes old.file) old) = syncs ∙ ap (λ (h : History). moved_to (settled h.file.bytes) h) writes in
+    let is_new : new ≡ moved_to (settled bytes) (moved_to (with_written span bytes old.file) old) = syncs
+    ∙ ap (λ (h : History). moved_to (settled h.file.bytes) h) writes in
     record {
       paths = ap (λ (h : History). h.paths) is_new;
       leaves = λ is. subst (λ (h : History). LeavesSince (Keeps span old.file.bytes) old h) (sym is_new)
-          (leaves_move (Keeps span old.file.bytes) old (moved_to (with_written span bytes old.file) old) (settled bytes) (write_leaves span bytes old is keeps) (settled_leaves span old.file.bytes bytes keeps));
+          (leaves_move (Keeps span old.file.bytes) old (moved_to (with_written span bytes old.file) old) (settled bytes)
+          (write_leaves span bytes old is keeps) (settled_leaves span old.file.bytes bytes keeps));
       done = λ _. ap (λ (h : History). h.file) is_new;
     }

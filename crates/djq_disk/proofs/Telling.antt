@@ -27,15 +27,18 @@ told_both old None (Some n) P Q R both p q = absurd q
 told_both None (Some m) (Some n) P Q R both p q = absurd p
 told_both (Some o) (Some m) (Some n) P Q R both p q = both o m n p q
 
-after_one_more : (h : History) (calls : List DiskCall) (call : DiskCall) → after_calls h (calls ++ call ∷ []) ≡ after_call (after_calls h calls) call
+after_one_more : (h : History) (calls : List DiskCall) (call : DiskCall) → after_calls h (calls ++ call ∷ [])
+    ≡ after_call (after_calls h calls) call
 after_one_more h [] call = refl
 after_one_more h (c ∷ cs) call = after_one_more (after_call h c) cs call
 
 told_gained : (first : List ℕ) (old new : Option (List DiskCall)) (call : DiskCall) → Gains old new (call ∷ [])
-    → WhereTold (told_by (record { first = first; calls = old })) (told_by (record { first = first; calls = new })) (λ o n. n ≡ after_call o call)
+    → WhereTold (told_by (record { first = first; calls = old })) (told_by (record { first = first; calls = new }))
+    (λ o n. n ≡ after_call o call)
 told_gained first old None call gains = tt
 told_gained first None (Some n) call gains = absurd gains
-told_gained first (Some o) (Some n) call gains = ap (after_calls (untouched first)) gains ∙ after_one_more (untouched first) o call
+told_gained first (Some o) (Some n) call gains = ap (after_calls (untouched first)) gains
+    ∙ after_one_more (untouched first) o call
 
 -- A call that a disk in memory keeps is what became of its history.
 pub told_call : (old new : Calls) (call : DiskCall) → new.first ≡ old.first → Gains old.calls new.calls (call ∷ [])
@@ -45,6 +48,7 @@ told_call old new call first gains = rw first (told_gained old.first old.calls n
 -- So it is where the call may have been lost.
 pub told_made : (call : Result DiskCall AllocError) (old new : Calls) → new.first ≡ old.first
     → MatchResult call (λ made. Gains old.calls new.calls (made ∷ [])) (λ _. new.calls ≡ None)
-    → MatchResult call (λ made. WhereTold (told_by old) (told_by new) (λ o n. n ≡ after_call o made)) (λ _. told_by new ≡ None)
+    → MatchResult call (λ made. WhereTold (told_by old) (told_by new) (λ o n. n ≡ after_call o made))
+    (λ _. told_by new ≡ None)
 told_made (Ok call) old new first made = told_call old new call first made
 told_made (Err e) old new first made = rw made refl

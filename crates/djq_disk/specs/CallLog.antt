@@ -15,7 +15,8 @@ untouched bytes = record { paths = []; past = []; file = settled bytes }
 
 -- the history after a write of a disk in memory, which leaves its part as it was where it fails
 abbrev pub after_write : History → ℕ → List ℕ → DiskDid → History
-after_write h at piece Done = moved_to (with_written (record { at = at; size = length piece }) (put at piece h.file.bytes) h.file) h
+after_write h at piece Done = moved_to
+    (with_written (record { at = at; size = length piece }) (put at piece h.file.bytes) h.file) h
 after_write h at piece Failed = moved_to (with_written (record { at = at; size = length piece }) h.file.bytes h.file) h
 
 -- the history after a sync

@@ -28,7 +28,8 @@ ReadsAsImage file = IsImage file file.bytes
 -- It stays so in each call of a disk, whatever it answers.
 pub record StaysAnImage : Type 0 where
   pub opening : (path : List ℕ) (old new : History) → Opens path old new → ReadsAsImage old.file → ReadsAsImage new.file
-  pub sizing : (answer : DiskLen) (old new : History) → Sizes answer old new → ReadsAsImage old.file → ReadsAsImage new.file
+  pub sizing : (answer : DiskLen) (old new : History) → Sizes answer old new → ReadsAsImage old.file
+      → ReadsAsImage new.file
   pub reading : (answer : DiskRead) (at : ℕ) (buf : List ℕ) (old new : History) → Reads answer at buf old new
       → ReadsAsImage old.file → ReadsAsImage new.file
   pub writing : (did : DiskDid) (at : ℕ) (piece : List ℕ) (old new : History) → Writes did at piece old new

@@ -1,7 +1,9 @@
 -- What a change of rows makes known of the watched queries that it outdates, whichever relations it
 -- changes.
-use Rattle.std.proofs.Common.{ℕ, zero, suc, List, [], ◌∷◌, ◌+◌, ◌≡◌, ◌≤◌, ◌⊎◌, inl, inr, Bool, true, false, refl, sym, ap, ◌∙◌, subst, arith}
-use Rattle.std.specs.Prelude.{◌==◌, ◌&&◌, ◌||◌, Option, None, Some, is_some, cond, map, filter, sum_by, slice_index_or, All}
+use Rattle.std.proofs.Common.{ℕ, zero, suc, List, [], ◌∷◌, ◌+◌, ◌≡◌, ◌≤◌, ◌⊎◌, inl, inr, Bool, true}
+use Rattle.std.proofs.Common.{false, refl, sym, ap, ◌∙◌, subst, arith}
+use Rattle.std.specs.Prelude.{◌==◌, ◌&&◌, ◌||◌, Option, None, Some, is_some, cond, map, filter}
+use Rattle.std.specs.Prelude.{sum_by, slice_index_or, All}
 use Rattle.std.proofs.lemmas.Bool.{eq-eqb, false≢true}
 use Rattle.std.proofs.lemmas.List.Sums.{sum_by-cons}
 use Rattle.djq_model.specs.declared.relation.Relation.{Relation}
@@ -30,7 +32,8 @@ use Rattle.djq_engine.proofs.Told.{AlikeAt, AreAlike, told_is, told_alike_at}
 
 -- ---- lists that are made from places
 
-pub all_made : {A : Type 0} (P : A → Type 0) (g : ℕ → A) (xs : List ℕ) → ((i : ℕ) → is_reader xs i ≡ true → P (g i)) → All P (map g xs)
+pub all_made : {A : Type 0} (P : A → Type 0) (g : ℕ → A) (xs : List ℕ) → ((i : ℕ) → is_reader xs i ≡ true → P (g i))
+    → All P (map g xs)
 all_made P g [] h k d l = absurd (omega (arith, l))
 all_made P g (x ∷ xs) h zero d l = h x (ap (λ b. b || is_reader xs x) (eq-eqb x x refl))
 all_made P g (x ∷ xs) h (suc k) d l = all_made P g xs (λ i e. h i (step i (x == i) e)) k d (omega (arith, l))
@@ -46,15 +49,18 @@ both_true false b e = absurd (false≢true e)
 -- ---- the deltas
 
 -- a query has no parts
-no_parts : (before : List Relation) (change : RowsChange) (changes : List Change) (o : Option Live) → ArePartsOf before change (record { query = query_in o; changes = changes; parts = [] })
+no_parts : (before : List Relation) (change : RowsChange) (changes : List Change) (o : Option Live)
+    → ArePartsOf before change (record { query = query_in o; changes = changes; parts = [] })
 no_parts before change changes None = record { of_members = refl; are_deltas = λ k d low. absurd (omega (arith, low)) }
-no_parts before change changes (Some l) = record { of_members = refl; are_deltas = λ k d low. absurd (omega (arith, low)) }
+no_parts before change changes (Some l) = record
+    { of_members = refl; are_deltas = λ k d low. absurd (omega (arith, low)) }
 
 -- the places of the queries that a change outdates, in order of registration
 abbrev pub outdated_places : List (Option Live) → List ℕ → RowsChange → List ℕ
 outdated_places gs order change = filter (λ i. is_outdated change (query_in (place_at gs i))) order
 
-module _ (c : Catalog) (gs : List (Option Live)) (order : List ℕ) (readers : List (List ℕ)) (s : IsSound c gs order readers) (ws : List ℕ)
+module _ (c : Catalog) (gs : List (Option Live)) (order : List ℕ) (readers : List (List ℕ))
+    (s : IsSound c gs order readers) (ws : List ℕ)
     (change : RowsChange) (places : List ℕ) (are : places ≡ outdated_places gs order change) where
   abbrev watched : List ℕ
   watched = filter (watched_at ws) places
@@ -94,17 +100,22 @@ module _ (c : Catalog) (gs : List (Option Live)) (order : List ℕ) (readers : L
   reader_there : (i : ℕ) → is_reader places i ≡ true → There gs i
   reader_there i e = live_there gs i (both_true (is_live gs i) _ (sym (place_is i) ∙ e)).0
 
-  pub listed_with : (f : ℕ → List Change) → AreFor f → AreDeltas c.relations change (map (λ r. r.query) (affected_of (registered_in gs ws order) change)) (deltas_with f)
+  pub listed_with : (f : ℕ → List Change) → AreFor f
+      → AreDeltas c.relations change (map (λ r. r.query) (affected_of (registered_in gs ws order) change))
+      (deltas_with f)
   listed_with f h = record {
     of_queries =
         map_mapped (λ (d : Delta). d.query) (delta_at f) watched
         ∙ sym (map_mapped (λ (r : Registered). r.query) (registered_as gs ws) watched)
         ∙ ap (map (λ (r : Registered). r.query)) (sym affected_here);
-    are_deltas = all_made (λ d. IsDelta (AnswersOf c.relations d.query) (AnswersOf change.after d.query) d.changes) (delta_at f) watched (λ i e.
+    are_deltas = all_made (λ d. IsDelta (AnswersOf c.relations d.query) (AnswersOf change.after d.query) d.changes)
+        (delta_at f) watched (λ i e.
         let b = both_true (is_reader places i) (watched_at ws i) (sym (reader_filter (watched_at ws) places i) ∙ e) in
         let t = reader_there i b.0 in
-        subst (λ (o : Option Live). IsDelta (AnswersOf c.relations (query_in o)) (AnswersOf change.after (query_in o)) (f i)) (sym t.is) (h i t.query b.0 b.1 t.is));
-    have_parts = all_made (ArePartsOf c.relations change) (delta_at f) watched (λ i e. no_parts c.relations change (f i) (place_at gs i));
+        subst (λ (o : Option Live). IsDelta (AnswersOf c.relations (query_in o)) (AnswersOf change.after (query_in o))
+        (f i)) (sym t.is) (h i t.query b.0 b.1 t.is));
+    have_parts = all_made (ArePartsOf c.relations change) (delta_at f) watched
+        (λ i e. no_parts c.relations change (f i) (place_at gs i));
   }
 
   -- where a cost of each place is bounded, so is that of all
@@ -126,11 +137,14 @@ module _ (c : Catalog) (gs : List (Option Live)) (order : List ℕ) (readers : L
           behind i true e = refl
           behind i false e = e
 
-          step : (b : Bool) → watched_at ws x ≡ b → sum_by cost xs ≤ sum_by (delta_steps change) (map (delta_at f) (filter (watched_at ws) xs))
-              → sum_by cost (x ∷ xs) ≤ sum_by (delta_steps change) (map (delta_at f) (cond b (x ∷ filter (watched_at ws) xs) (filter (watched_at ws) xs)))
+          step : (b : Bool) → watched_at ws x ≡ b
+              → sum_by cost xs ≤ sum_by (delta_steps change) (map (delta_at f) (filter (watched_at ws) xs))
+              → sum_by cost (x ∷ xs) ≤ sum_by (delta_steps change)
+              (map (delta_at f) (cond b (x ∷ filter (watched_at ws) xs) (filter (watched_at ws) xs)))
           step true e more =
               let first = sum_by-cons cost x xs in
-              let second = sum_by-cons (delta_steps change) (delta_at f x) (map (delta_at f) (filter (watched_at ws) xs)) in
+              let second = sum_by-cons (delta_steps change) (delta_at f x)
+              (map (delta_at f) (filter (watched_at ws) xs)) in
               let bound = some x here e in
               omega (arith, first, second, bound, more)
           step false e more =
@@ -143,22 +157,30 @@ module _ (c : Catalog) (gs : List (Option Live)) (order : List ℕ) (readers : L
       sym (map_mapped (λ (r : Registered). r.id) (registered_as gs ws) places)
       ∙ ap (map (λ (r : Registered). r.id)) (sym outdated_are)
 
-  pub logs_with : (f : ℕ → List Change) (new : Kept) → ((i : ℕ) → is_reader places i ≡ true → LogTells new (registered_as gs ws i) (delta_at f i))
+  pub logs_with : (f : ℕ → List Change) (new : Kept)
+      → ((i : ℕ) → is_reader places i ≡ true → LogTells new (registered_as gs ws i) (delta_at f i))
       → LogsTell new (affected_of (registered_in gs ws order) change) (deltas_with f)
   logs_with f new h =
       subst (λ (rs : List Registered). LogsTell new rs (deltas_with f)) (sym affected_here)
-      (over watched (λ i e. h i (both_true (is_reader places i) (watched_at ws i) (sym (reader_filter (watched_at ws) places i) ∙ e)).0))
+      (over watched (λ i e. h i
+      (both_true (is_reader places i) (watched_at ws i) (sym (reader_filter (watched_at ws) places i) ∙ e)).0))
     where
-      over : (xs : List ℕ) → ((i : ℕ) → is_reader xs i ≡ true → LogTells new (registered_as gs ws i) (delta_at f i)) → LogsTell new (registered_in gs ws xs) (map (delta_at f) xs)
+      over : (xs : List ℕ) → ((i : ℕ) → is_reader xs i ≡ true → LogTells new (registered_as gs ws i) (delta_at f i))
+          → LogsTell new (registered_in gs ws xs) (map (delta_at f) xs)
       over [] k = tt
-      over (x ∷ xs) k = (k x (ap (λ b. b || is_reader xs x) (eq-eqb x x refl)), over xs (λ i e. k i (behind i (x == i) e)))
+      over (x ∷ xs) k = (
+        k x (ap (λ b. b || is_reader xs x) (eq-eqb x x refl)),
+        over xs
+            (λ i e. k i (behind i (x == i) e)),
+      )
         where
           behind : (i : ℕ) (b : Bool) → is_reader xs i ≡ true → (b || is_reader xs i) ≡ true
           behind i true e = refl
           behind i false e = e
 
   -- a delta of each query, as one exists
-  module _ (have : (i : ℕ) (l : Live) → place_at gs i ≡ Some l → (changes : List Change) × IsDelta (IsAnswer c.relations l.query) (IsAnswer change.after l.query) changes) where
+  module _ (have : (i : ℕ) (l : Live) → place_at gs i ≡ Some l → (changes : List Change)
+      × IsDelta (IsAnswer c.relations l.query) (IsAnswer change.after l.query) changes) where
     some_in : (i : ℕ) (o : Option Live) → place_at gs i ≡ o → List Change
     some_in i None e = []
     some_in i (Some l) e = (have i l e).0
@@ -166,16 +188,20 @@ module _ (c : Catalog) (gs : List (Option Live)) (order : List ℕ) (readers : L
     pub some_changes : ℕ → List Change
     some_changes i = some_in i (place_at gs i) refl
 
-    pub some_are : (i : ℕ) (l : Live) → place_at gs i ≡ Some l → IsDelta (IsAnswer c.relations l.query) (IsAnswer change.after l.query) (some_changes i)
+    pub some_are : (i : ℕ) (l : Live) → place_at gs i ≡ Some l
+        → IsDelta (IsAnswer c.relations l.query) (IsAnswer change.after l.query) (some_changes i)
     unfolding some_changes some_in
     some_are i l there = by_place (place_at gs i) refl there
       where
         same_some : (x y : Live) → Some x ≡ Some y → x ≡ y
         same_some x y f = cc
 
-        by_place : (o : Option Live) (e : place_at gs i ≡ o) → o ≡ Some l → IsDelta (IsAnswer c.relations l.query) (IsAnswer change.after l.query) (some_in i o e)
+        by_place : (o : Option Live) (e : place_at gs i ≡ o) → o ≡ Some l
+            → IsDelta (IsAnswer c.relations l.query) (IsAnswer change.after l.query) (some_in i o e)
         by_place None e f = absurd cc
-        by_place (Some m) e f = subst (λ (x : Live). IsDelta (IsAnswer c.relations x.query) (IsAnswer change.after x.query) (have i m e).0) (same_some m l f) (have i m e).1
+        by_place (Some m) e f = subst
+            (λ (x : Live). IsDelta (IsAnswer c.relations x.query) (IsAnswer change.after x.query) (have i m e).0)
+            (same_some m l f) (have i m e).1
 
     -- the delta that a log tells, or else one that exists
     told_or : ℕ → Option (List Change) → List Change
@@ -185,12 +211,17 @@ module _ (c : Catalog) (gs : List (Option Live)) (order : List ℕ) (readers : L
     pub told_changes : Kept → ℕ → List Change
     told_changes new i = told_or i (told_at new (id_at i))
 
-    pub told_are : (new : Kept) → ((i : ℕ) (l : Live) → is_reader places i ≡ true → watched_at ws i ≡ true → place_at gs i ≡ Some l → (changes : List Change)
-        → told_at new (id_at i) ≡ Some changes → IsDelta (IsAnswer c.relations l.query) (IsAnswer change.after l.query) changes) → AreFor (told_changes new)
+    pub told_are : (new : Kept)
+        → ((i : ℕ) (l : Live) → is_reader places i ≡ true → watched_at ws i ≡ true → place_at gs i ≡ Some l
+        → (changes : List Change)
+        → told_at new (id_at i) ≡ Some changes
+        → IsDelta (IsAnswer c.relations l.query) (IsAnswer change.after l.query) changes)
+        → AreFor (told_changes new)
     unfolding told_changes told_or some_changes
     told_are new h i l r w there = by_told (told_at new (id_at i)) refl
       where
-        by_told : (o : Option (List Change)) → told_at new (id_at i) ≡ o → IsDelta (IsAnswer c.relations l.query) (IsAnswer change.after l.query) (told_or i o)
+        by_told : (o : Option (List Change)) → told_at new (id_at i) ≡ o
+            → IsDelta (IsAnswer c.relations l.query) (IsAnswer change.after l.query) (told_or i o)
         by_told None e = some_are i l there
         by_told (Some changes) e = h i l r w there changes e
 
@@ -198,22 +229,29 @@ module _ (c : Catalog) (gs : List (Option Live)) (order : List ℕ) (readers : L
     unfolding told_changes told_or
     told_by_log new i = by_told (told_at new (id_at i)) refl
       where
-        by_told : (o : Option (List Change)) → told_at new (id_at i) ≡ o → (told_at new (id_at i) ≡ None) ⊎ (told_at new (id_at i) ≡ Some (told_or i o))
+        by_told : (o : Option (List Change)) → told_at new (id_at i) ≡ o
+            → (told_at new (id_at i) ≡ None) ⊎ (told_at new (id_at i) ≡ Some (told_or i o))
         by_told None e = inl e
         by_told (Some changes) e = inr e
 
 -- ---- what a log of a watched reader tells, as contracts see it
 
-pub told_delta : (texts : List Bytes) (hs : List (Option Live)) (logs : List Log) (i : ℕ) (l : Live) (D : List Change → Type 0) → AlikeAt (Some l) (place_at hs i)
-    → ((log_at logs i).lost ≡ false → D (map (change_of texts l) (log_at logs i).lines)) → (changes : List Change) → slice_index_or (told_from texts hs logs) i None ≡ Some changes → D changes
+pub told_delta : (texts : List Bytes) (hs : List (Option Live)) (logs : List Log) (i : ℕ) (l : Live)
+    (D : List Change → Type 0) → AlikeAt (Some l) (place_at hs i)
+    → ((log_at logs i).lost ≡ false → D (map (change_of texts l) (log_at logs i).lines)) → (changes : List Change)
+    → slice_index_or (told_from texts hs logs) i None ≡ Some changes → D changes
 told_delta texts hs logs i l D alike h changes e =
-    by_lost (log_at logs i).lost refl (sym (told_is texts hs logs i ∙ told_alike_at texts (log_at logs i) (Some l) (place_at hs i) alike) ∙ e)
+    by_lost (log_at logs i).lost refl
+    (sym (told_is texts hs logs i ∙ told_alike_at texts (log_at logs i) (Some l) (place_at hs i) alike) ∙ e)
   where
     same_some : (x y : List Change) → Some x ≡ Some y → x ≡ y
     same_some x y f = cc
 
-    by_lost : (b : Bool) → (log_at logs i).lost ≡ b → cond (log_at logs i).lost None (Some (map (change_of texts l) (log_at logs i).lines)) ≡ Some changes → D changes
-    by_lost true f g = let none : cond (log_at logs i).lost None (Some (map (change_of texts l) (log_at logs i).lines)) ≡ None = ap (λ b. cond b None (Some (map (change_of texts l) (log_at logs i).lines))) f in absurd cc
+    by_lost : (b : Bool) → (log_at logs i).lost ≡ b
+        → cond (log_at logs i).lost None (Some (map (change_of texts l) (log_at logs i).lines)) ≡ Some changes
+        → D changes
+    by_lost true f g = let none : cond (log_at logs i).lost None (Some (map (change_of texts l) (log_at logs i).lines))
+        ≡ None = ap (λ b. cond b None (Some (map (change_of texts l) (log_at logs i).lines))) f in absurd cc
     by_lost false f g =
         subst D (same_some (map (change_of texts l) (log_at logs i).lines) changes
         (sym (ap (λ b. cond b None (Some (map (change_of texts l) (log_at logs i).lines))) f) ∙ g)) (h f)
@@ -230,22 +268,35 @@ pub record Discards (old : Parts) (reached : ℕ → Bool) (new : Parts) : Type 
   pub emptied : (i : ℕ) → reached i ≡ true → told_at (kept_in new) (id_at i) ≡ Some []
   pub others : KeepsLogs reached old new
 
-module _ (old : Parts) (s : IsWhole old) (change : RowsChange) (places : List ℕ) (are : places ≡ outdated_places old.queries.items old.order change)
+module _ (old : Parts) (s : IsWhole old) (change : RowsChange) (places : List ℕ)
+    (are : places ≡ outdated_places old.queries.items old.order change)
     (have : (i : ℕ) (l : Live) → place_at old.queries.items i ≡ Some l → (changes : List Change)
     × IsDelta (IsAnswer (old.catalog).relations l.query) (IsAnswer change.after l.query) changes) (before now : ℕ)
-    (counts : (f : ℕ → List Change) → AreFor old.catalog old.queries.items old.order old.readers.items s old.watchers.items change places are f → now ≤ before + sum_by (delta_steps change) (deltas_with old.catalog old.queries.items old.order old.readers.items s old.watchers.items change places are f)) where
-  outdated_here : (i : ℕ) → There old.queries.items i → is_reader places i ≡ is_outdated change (query_in (place_at old.queries.items i))
-  outdated_here = place_outdated old.catalog old.queries.items old.order old.readers.items s old.watchers.items change places are
+    (counts : (f : ℕ → List Change)
+    → AreFor old.catalog old.queries.items old.order old.readers.items s old.watchers.items change places are f
+    → now ≤ before + sum_by (delta_steps change)
+    (deltas_with old.catalog old.queries.items old.order old.readers.items s old.watchers.items change places are
+    f)) where
+  outdated_here : (i : ℕ) → There old.queries.items i → is_reader places i
+      ≡ is_outdated change (query_in (place_at old.queries.items i))
+  outdated_here = place_outdated old.catalog old.queries.items old.order old.readers.items s old.watchers.items change
+      places are
 
   -- where memory was refused
-  pub refused_tells : (new : Parts) → (kept_in new).affected ≡ (kept_in old).affected → Discards old (is_reader places) new → ToldStay old new
+  pub refused_tells : (new : Parts) → (kept_in new).affected ≡ (kept_in old).affected
+      → Discards old (is_reader places) new → ToldStay old new
       → TellsChange (kept_in old) (out_of_memory change) (kept_in new) before now
   refused_tells new affected empty told =
-      let f = some_changes old.catalog old.queries.items old.order old.readers.items s old.watchers.items change places are have in
-      let be = λ (i : ℕ) (l : Live) (r : is_reader places i ≡ true) (w : watched_at old.watchers.items i ≡ true) (there : place_at old.queries.items i ≡ Some l). some_are old.catalog old.queries.items old.order old.readers.items s old.watchers.items change places are have i l there in
+      let f = some_changes old.catalog old.queries.items old.order old.readers.items s old.watchers.items change places
+      are have in
+      let be = λ (i : ℕ) (l : Live) (r : is_reader places i ≡ true) (w : watched_at old.watchers.items i ≡ true)
+      (there : place_at old.queries.items i ≡ Some l). some_are old.catalog old.queries.items old.order
+      old.readers.items s old.watchers.items change places are have i l there in
       record {
-        deltas = deltas_with old.catalog old.queries.items old.order old.readers.items s old.watchers.items change places are f;
-        listed = listed_with old.catalog old.queries.items old.order old.readers.items s old.watchers.items change places are f be;
+        deltas = deltas_with old.catalog old.queries.items old.order old.readers.items s old.watchers.items change
+            places are f;
+        listed = listed_with old.catalog old.queries.items old.order old.readers.items s old.watchers.items change
+            places are f be;
         counted = counts f be;
         affected = affected;
         logs = tt;
@@ -260,23 +311,35 @@ module _ (old : Parts) (s : IsWhole old) (change : RowsChange) (places : List �
       }
 
   -- where the change was accepted
-  pub accepted_tells : (new : Parts) → ((i : ℕ) (l : Live) → is_reader places i ≡ true → watched_at old.watchers.items i ≡ true
+  pub accepted_tells : (new : Parts)
+      → ((i : ℕ) (l : Live) → is_reader places i ≡ true → watched_at old.watchers.items i ≡ true
       → place_at old.queries.items i ≡ Some l → (log_at new.logs.items i).lost ≡ false
-      → IsDelta (IsAnswer (old.catalog).relations l.query) (IsAnswer change.after l.query) (map (change_of (new.catalog).texts l) (log_at new.logs.items i).lines))
+      → IsDelta (IsAnswer (old.catalog).relations l.query) (IsAnswer change.after l.query)
+      (map (change_of (new.catalog).texts l) (log_at new.logs.items i).lines))
       → AreAlike old.queries.items new.queries.items → new.affected.items ≡ places
       → KeepsLogs (λ i. is_reader places i && watched_at old.watchers.items i) old new → ToldStay old new
       → TellsChange (kept_in old) (accepted change) (kept_in new) before now
   accepted_tells new tells alike affected quiet told =
-      let f = told_changes old.catalog old.queries.items old.order old.readers.items s old.watchers.items change places are have (kept_in new) in
-      let be = told_are old.catalog old.queries.items old.order old.readers.items s old.watchers.items change places are have (kept_in new)
-      (λ i l r w there changes e. told_delta (new.catalog).texts new.queries.items new.logs.items i l (λ (cs : List Change). IsDelta (IsAnswer (old.catalog).relations l.query) (IsAnswer change.after l.query) cs)
-      (subst (λ (o : Option Live). AlikeAt o (place_at new.queries.items i)) there (alike i)) (tells i l r w there) changes e) in
+      let f = told_changes old.catalog old.queries.items old.order old.readers.items s old.watchers.items change places
+      are have (kept_in new) in
+      let be = told_are old.catalog old.queries.items old.order old.readers.items s old.watchers.items change places are
+      have (kept_in new)
+      (λ i l r w there changes e. told_delta (new.catalog).texts new.queries.items new.logs.items i l
+      (λ (cs : List Change). IsDelta (IsAnswer (old.catalog).relations l.query) (IsAnswer change.after l.query) cs)
+      (subst (λ (o : Option Live). AlikeAt o (place_at new.queries.items i)) there (alike i)) (tells i l r w there)
+      changes e) in
       record {
-        deltas = deltas_with old.catalog old.queries.items old.order old.readers.items s old.watchers.items change places are f;
-        listed = listed_with old.catalog old.queries.items old.order old.readers.items s old.watchers.items change places are f be;
+        deltas = deltas_with old.catalog old.queries.items old.order old.readers.items s old.watchers.items change
+            places are f;
+        listed = listed_with old.catalog old.queries.items old.order old.readers.items s old.watchers.items change
+            places are f be;
         counted = counts f be;
-        affected = ap (map id_at) affected ∙ affected_with old.catalog old.queries.items old.order old.readers.items s old.watchers.items change places are;
-        logs = logs_with old.catalog old.queries.items old.order old.readers.items s old.watchers.items change places are f (kept_in new) (λ i r. told_by_log old.catalog old.queries.items old.order old.readers.items s old.watchers.items change places are have (kept_in new) i);
+        affected = ap (map id_at) affected
+            ∙ affected_with old.catalog old.queries.items old.order old.readers.items s old.watchers.items change places
+            are;
+        logs = logs_with old.catalog old.queries.items old.order old.readers.items s old.watchers.items change places
+            are f (kept_in new) (λ i r. told_by_log old.catalog old.queries.items old.order old.readers.items s
+            old.watchers.items change places are have (kept_in new) i);
         discards = tt;
         stays = λ id h.
             let r = registered_has old.catalog old.queries.items old.order old.readers.items old.watchers.items s id

@@ -1,6 +1,7 @@
 -- The queries that read a relation are carried over and their cursors become stale: what is kept,
 -- and where all cursors stand.
-use Rattle.std.proofs.Common.{ℕ, zero, suc, List, [], ◌∷◌, ◌≡◌, ◌<◌, Bool, true, false, refl, sym, ap, ◌∙◌, subst, length, arith}
+use Rattle.std.proofs.Common.{ℕ, zero, suc, List, [], ◌∷◌, ◌≡◌, ◌<◌, Bool, true, false, refl, sym}
+use Rattle.std.proofs.Common.{ap, ◌∙◌, subst, length, arith}
 use Rattle.std.specs.Prelude.{Option, None, Some, IsSomeAnd, is_some, option_map, map, cond, ⊤}
 use Rattle.djq_model.specs.declared.query.Query.{Query}
 use Rattle.djq_model.specs.Data.{Bytes}
@@ -31,13 +32,15 @@ pub record Turns (d : Catalog) (name : Bytes) (n : ℕ) (l m : Live) : Type 0 wh
   pub cursors : m.cursors ≡ outdated_slots name n l.cursors
   pub live : IsLive d m
 
-pub turned : (d : Catalog) (name : Bytes) (n : ℕ) (ps : List ℕ) (gs hs ks : List (Option Live)) → Reach ps (Renews d) gs hs → Reach ps (Ages name n) hs ks → Reach ps (Turns d name n) gs ks
+pub turned : (d : Catalog) (name : Bytes) (n : ℕ) (ps : List ℕ) (gs hs ks : List (Option Live))
+    → Reach ps (Renews d) gs hs → Reach ps (Ages name n) hs ks → Reach ps (Turns d name n) gs ks
 turned d name n ps gs hs ks a b = record {
   length = b.length ∙ a.length;
   each = λ i. both (is_reader ps i) (place_at gs i) (place_at hs i) (place_at ks i) (a.each i) (b.each i);
 }
   where
-    both : (e : Bool) (o p q : Option Live) → DoneAt (Renews d) e o p → DoneAt (Ages name n) e p q → DoneAt (Turns d name n) e o q
+    both : (e : Bool) (o p q : Option Live) → DoneAt (Renews d) e o p → DoneAt (Ages name n) e p q
+        → DoneAt (Turns d name n) e o q
     both false o p q t u = u ∙ t
     both true None None None t u = tt
     both true None None (Some k) t u = absurd u
@@ -51,9 +54,11 @@ turned d name n ps gs hs ks a b = record {
     }
 
 -- the readers are there once they are carried over
-pub carried_there : (d : Catalog) (ps : List ℕ) (gs hs : List (Option Live)) → AllAt ps gs (λ l. ⊤) → Reach ps (Renews d) gs hs → AllAt ps hs (λ l. ⊤)
+pub carried_there : (d : Catalog) (ps : List ℕ) (gs hs : List (Option Live)) → AllAt ps gs (λ l. ⊤)
+    → Reach ps (Renews d) gs hs → AllAt ps hs (λ l. ⊤)
 carried_there d ps gs hs all r i e =
-    by_place (place_at gs i) (place_at hs i) (subst (λ (b : Bool). DoneAt (Renews d) b (place_at gs i) (place_at hs i)) e (r.each i)) (all i e)
+    by_place (place_at gs i) (place_at hs i)
+    (subst (λ (b : Bool). DoneAt (Renews d) b (place_at gs i) (place_at hs i)) e (r.each i)) (all i e)
   where
     by_place : (o p : Option Live) → DoneAt (Renews d) true o p → IsSomeAnd o (λ l. ⊤) → IsSomeAnd p (λ l. ⊤)
     by_place None None t h = h
@@ -62,7 +67,8 @@ carried_there d ps gs hs all r i e =
     by_place (Some l) (Some m) t h = tt
 
 -- one slot after a change
-pub outdated_at : (name : Bytes) (n : ℕ) (slots : List (Option Progress)) (k : ℕ) → slot_at (outdated_slots name n slots) k ≡ option_map (outdated_progress name n) (slot_at slots k)
+pub outdated_at : (name : Bytes) (n : ℕ) (slots : List (Option Progress)) (k : ℕ)
+    → slot_at (outdated_slots name n slots) k ≡ option_map (outdated_progress name n) (slot_at slots k)
 outdated_at name n [] zero = refl
 outdated_at name n [] (suc k) = refl
 outdated_at name n (s ∷ slots) zero = refl
@@ -76,11 +82,14 @@ pub record SameNames (c d : Catalog) : Type 0 where
   pub long : length d.relations ≡ length c.relations
   pub names : (r : ℕ) → (relation_at d.relations r).name ≡ (relation_at c.relations r).name
 
-module _ (c d : Catalog) (gs ks : List (Option Live)) (order : List ℕ) (readers : List (List ℕ)) (s : IsSound c gs order readers) (at : ℕ) (low : at < length c.relations)
+module _ (c d : Catalog) (gs ks : List (Option Live)) (order : List ℕ) (readers : List (List ℕ))
+    (s : IsSound c gs order readers) (at : ℕ) (low : at < length c.relations)
     (n : ℕ) (turns : Reach (readers_at readers at) (Turns d (relation_at c.relations at).name n) gs ks)
-    (stay : (i : ℕ) (l : Live) → place_at gs i ≡ Some l → is_reader (readers_at readers at) i ≡ false → StaysOver c d l) (names : SameNames c d) where
+    (stay : (i : ℕ) (l : Live) → place_at gs i ≡ Some l → is_reader (readers_at readers at) i ≡ false → StaysOver c d l)
+    (names : SameNames c d) where
   -- what doesn't see the tables of a query is as before
-  same_field : {A : Type 0} (f : Option Live → A) → ((l m : Live) → m.query ≡ l.query → f (Some m) ≡ f (Some l)) → (i : ℕ) → f (place_at ks i) ≡ f (place_at gs i)
+  same_field : {A : Type 0} (f : Option Live → A) → ((l m : Live) → m.query ≡ l.query → f (Some m) ≡ f (Some l))
+      → (i : ℕ) → f (place_at ks i) ≡ f (place_at gs i)
   same_field f h i = by_place (is_reader (readers_at readers at) i) (place_at gs i) (place_at ks i) (turns.each i)
     where
       by_place : (b : Bool) (o p : Option Live) → DoneAt (Turns d (relation_at c.relations at).name n) b o p → f p ≡ f o
@@ -102,10 +111,14 @@ module _ (c d : Catalog) (gs ks : List (Option Live)) (order : List ℕ) (reader
   live_now : (i : ℕ) (m : Live) → place_at ks i ≡ Some m → IsLive d m
   live_now i m e = by_place (is_reader (readers_at readers at) i) refl (place_at gs i) refl (turns.each i)
     where
-      by_place : (b : Bool) → is_reader (readers_at readers at) i ≡ b → (o : Option Live) → place_at gs i ≡ o → DoneAt (Turns d (relation_at c.relations at).name n) b o (place_at ks i) → IsLive d m
+      by_place : (b : Bool) → is_reader (readers_at readers at) i ≡ b → (o : Option Live) → place_at gs i ≡ o
+          → DoneAt (Turns d (relation_at c.relations at).name n) b o (place_at ks i) → IsLive d m
       by_place false f o g t = (stay i m (g ∙ sym t ∙ e) f).live
-      by_place true f None g t = absurd (subst (λ (p : Option Live). DoneAt (Turns d (relation_at c.relations at).name n) true None p) e t)
-      by_place true f (Some l) g t = (let u : Turns d (relation_at c.relations at).name n l m = subst (λ (p : Option Live). DoneAt (Turns d (relation_at c.relations at).name n) true (Some l) p) e t in u).live
+      by_place true f None g t = absurd
+          (subst (λ (p : Option Live). DoneAt (Turns d (relation_at c.relations at).name n) true None p) e t)
+      by_place true f (Some l) g t =
+          (let u : Turns d (relation_at c.relations at).name n l m = subst
+          (λ (p : Option Live). DoneAt (Turns d (relation_at c.relations at).name n) true (Some l) p) e t in u).live
 
   was : (i : ℕ) (m : Live) → place_at ks i ≡ Some m → (l : Live) × (place_at gs i ≡ Some l) × (m.query ≡ l.query)
   was i m e = by_place (place_at gs i) refl (sym (same_live i) ∙ ap is_some e) (sym (same_query i) ∙ ap query_in e)
@@ -113,7 +126,8 @@ module _ (c d : Catalog) (gs ks : List (Option Live)) (order : List ℕ) (reader
       same_listed : (x y : Query) → a_query x ≡ a_query y → x ≡ y
       same_listed x y e = cc
 
-      by_place : (o : Option Live) → place_at gs i ≡ o → is_some (place_at gs i) ≡ true → query_in (place_at gs i) ≡ a_query m.query → (l : Live) × (place_at gs i ≡ Some l) × (m.query ≡ l.query)
+      by_place : (o : Option Live) → place_at gs i ≡ o → is_some (place_at gs i) ≡ true → query_in (place_at gs i)
+          ≡ a_query m.query → (l : Live) × (place_at gs i ≡ Some l) × (m.query ≡ l.query)
       by_place None g h q = let none : is_some (place_at gs i) ≡ false = ap is_some g in absurd cc
       by_place (Some l) g h q = (l, g, same_listed m.query l.query (sym q ∙ ap query_in g))
 
@@ -130,51 +144,72 @@ module _ (c d : Catalog) (gs ks : List (Option Live)) (order : List ℕ) (reader
     bounded = omega (arith, s.bounded, turns.length);
     long = s.long ∙ sym names.long;
     reading = λ r l. s.reading r (subst (λ (k : ℕ). r < k) names.long l)
-        ∙ filter_members (λ i. reads_place (relation_at c.relations r).name (place_at gs i)) (λ i. reads_place (relation_at d.relations r).name (place_at ks i)) order
-        (λ i h. ap (λ (b : Bytes). reads_place b (place_at gs i)) (sym (names.names r)) ∙ sym (same_reads (relation_at d.relations r).name i));
+        ∙ filter_members (λ i. reads_place (relation_at c.relations r).name (place_at gs i))
+        (λ i. reads_place (relation_at d.relations r).name (place_at ks i)) order
+        (λ i h. ap (λ (b : Bytes). reads_place b (place_at gs i)) (sym (names.names r))
+        ∙ sym (same_reads (relation_at d.relations r).name i));
   }
 
   pub turned_queries : queries_in ks order ≡ queries_in gs order
-  turned_queries = map_members (λ i. query_in (place_at ks i)) (λ i. query_in (place_at gs i)) order (λ i h. same_query i)
+  turned_queries = map_members (λ i. query_in (place_at ks i)) (λ i. query_in (place_at gs i)) order
+      (λ i h. same_query i)
 
   -- cursors
 
   outdater_is : (i : ℕ) (l : Live) → place_at gs i ≡ Some l → (b : Bool) → is_reader (readers_at readers at) i ≡ b
-      → outdater_of (queries_in gs order) (by_relation (relation_at c.relations at).name) l.query.name ≡ cond b (Some (relation_at c.relations at).name) None
+      → outdater_of (queries_in gs order) (by_relation (relation_at c.relations at).name) l.query.name
+      ≡ cond b (Some (relation_at c.relations at).name) None
   outdater_is i l e b f =
       ap (λ o. outdater_by o) (query_kept c gs order readers s i l e)
-      ∙ ap (λ x. cond x (Some (relation_at c.relations at).name) None) (sym (reader_reads c gs order readers s at low i l e) ∙ f)
+      ∙ ap (λ x. cond x (Some (relation_at c.relations at).name) None)
+      (sym (reader_reads c gs order readers s at low i l e) ∙ f)
     where
       outdater_by : Option Listed → Option Bytes
       outdater_by None = None
       outdater_by (Some q) = by_relation (relation_at c.relations at).name q
 
-  step_reader : (id : CursorId) (l m : Live) → m.query ≡ l.query → outdater_of (queries_in gs order) (by_relation (relation_at c.relations at).name) l.query.name ≡ Some (relation_at c.relations at).name → (o : Option Progress)
-      → option_map (held_as d.texts m id) (option_map (outdated_progress (relation_at c.relations at).name n) o) ≡ option_map (outdated_held (queries_in gs order) (by_relation (relation_at c.relations at).name) n) (option_map (held_as c.texts l id) o)
+  step_reader : (id : CursorId) (l m : Live) → m.query ≡ l.query
+      → outdater_of (queries_in gs order) (by_relation (relation_at c.relations at).name) l.query.name
+      ≡ Some (relation_at c.relations at).name → (o : Option Progress)
+      → option_map (held_as d.texts m id) (option_map (outdated_progress (relation_at c.relations at).name n) o)
+      ≡ option_map (outdated_held (queries_in gs order) (by_relation (relation_at c.relations at).name) n)
+      (option_map (held_as c.texts l id) o)
   step_reader id l m q e None = refl
   step_reader id l m q e (Some (Open cursor ended)) =
       ap (λ (x : Query). Some (held_with id x.name (stale (relation_at c.relations at).name n))) q
-      ∙ ap (λ (o : Option Bytes). Some (held_with id l.query.name (outdated o n (position_of c.texts l (Open cursor ended))))) (sym e)
+      ∙ ap (λ (o : Option Bytes). Some
+      (held_with id l.query.name (outdated o n (position_of c.texts l (Open cursor ended))))) (sym e)
   step_reader id l m q e (Some (Stale r k)) =
       ap (λ (x : Query). Some (held_with id x.name (stale r k))) q
       ∙ ap (λ (o : Option Bytes). Some (held_with id l.query.name (outdated o n (stale r k)))) (sym e)
 
-  step_other : (id : CursorId) (l : Live) → outdater_of (queries_in gs order) (by_relation (relation_at c.relations at).name) l.query.name ≡ None → (o : Option Progress) → ((p : Progress) → o ≡ Some p → position_of d.texts l p ≡ position_of c.texts l p)
-      → option_map (held_as d.texts l id) o ≡ option_map (outdated_held (queries_in gs order) (by_relation (relation_at c.relations at).name) n) (option_map (held_as c.texts l id) o)
+  step_other : (id : CursorId) (l : Live)
+      → outdater_of (queries_in gs order) (by_relation (relation_at c.relations at).name) l.query.name ≡ None
+      → (o : Option Progress) → ((p : Progress) → o ≡ Some p → position_of d.texts l p ≡ position_of c.texts l p)
+      → option_map (held_as d.texts l id) o
+      ≡ option_map (outdated_held (queries_in gs order) (by_relation (relation_at c.relations at).name) n)
+      (option_map (held_as c.texts l id) o)
   step_other id l e None h = refl
   step_other id l e (Some p) h =
       ap (λ (x : Position). Some (held_with id l.query.name x)) (h p refl)
       ∙ ap (λ (o : Option Bytes). Some (held_with id l.query.name (outdated o n (position_of c.texts l p)))) (sym e)
 
-  held_now : (id : CursorId) → held_of d.texts id (place_at ks id.query.at) ≡ option_map (outdated_held (queries_in gs order) (by_relation (relation_at c.relations at).name) n) (held_of c.texts id (place_at gs id.query.at))
-  held_now id = by_place (is_reader (readers_at readers at) id.query.at) refl (place_at gs id.query.at) refl (place_at ks id.query.at) (turns.each id.query.at)
+  held_now : (id : CursorId) → held_of d.texts id (place_at ks id.query.at)
+      ≡ option_map (outdated_held (queries_in gs order) (by_relation (relation_at c.relations at).name) n)
+      (held_of c.texts id (place_at gs id.query.at))
+  held_now id = by_place (is_reader (readers_at readers at) id.query.at) refl (place_at gs id.query.at) refl
+      (place_at ks id.query.at) (turns.each id.query.at)
     where
-      by_place : (b : Bool) → is_reader (readers_at readers at) id.query.at ≡ b → (o : Option Live) → place_at gs id.query.at ≡ o → (p : Option Live) → DoneAt (Turns d (relation_at c.relations at).name n) b o p
-          → held_of d.texts id p ≡ option_map (outdated_held (queries_in gs order) (by_relation (relation_at c.relations at).name) n) (held_of c.texts id o)
+      by_place : (b : Bool) → is_reader (readers_at readers at) id.query.at ≡ b → (o : Option Live)
+          → place_at gs id.query.at ≡ o → (p : Option Live) → DoneAt (Turns d (relation_at c.relations at).name n) b o p
+          → held_of d.texts id p
+          ≡ option_map (outdated_held (queries_in gs order) (by_relation (relation_at c.relations at).name) n)
+          (held_of c.texts id o)
       by_place false f None g p t = ap (held_of d.texts id) t
       by_place false f (Some l) g p t =
           ap (held_of d.texts id) t
-          ∙ step_other id l (outdater_is id.query.at l g false f) (slot_at l.cursors id.cursor) (λ q h. (stay id.query.at l g f).stands id.cursor q h)
+          ∙ step_other id l (outdater_is id.query.at l g false f) (slot_at l.cursors id.cursor)
+          (λ q h. (stay id.query.at l g f).stands id.cursor q h)
       by_place true f None g None t = refl
       by_place true f None g (Some m) t = absurd t
       by_place true f (Some l) g None t = absurd t
@@ -183,19 +218,29 @@ module _ (c d : Catalog) (gs ks : List (Option Live)) (order : List ℕ) (reader
           ∙ ap (option_map (held_as d.texts m id)) (outdated_at (relation_at c.relations at).name n l.cursors id.cursor)
           ∙ step_reader id l m t.query (outdater_is id.query.at l g true f) (slot_at l.cursors id.cursor)
 
-  pub turned_held : (id : CursorId) → held_at (held_from d.texts zero ks) id ≡ held_at (map (outdated_held (queries_in gs order) (by_relation (relation_at c.relations at).name) n) (held_from c.texts zero gs)) id
+  pub turned_held : (id : CursorId) → held_at (held_from d.texts zero ks) id
+      ≡ held_at (map (outdated_held (queries_in gs order) (by_relation (relation_at c.relations at).name) n)
+      (held_from c.texts zero gs)) id
   turned_held id =
       held_is d.texts ks id ∙ held_now id
-      ∙ sym (find_mapped (λ h. same_id h.id id) (outdated_held (queries_in gs order) (by_relation (relation_at c.relations at).name) n) (held_from c.texts zero gs) ∙ ap (option_map (outdated_held (queries_in gs order) (by_relation (relation_at c.relations at).name) n)) (held_is c.texts gs id))
+      ∙ sym (find_mapped (λ h. same_id h.id id)
+      (outdated_held (queries_in gs order) (by_relation (relation_at c.relations at).name) n)
+      (held_from c.texts zero gs)
+      ∙ ap (option_map (outdated_held (queries_in gs order) (by_relation (relation_at c.relations at).name) n))
+      (held_is c.texts gs id))
 
 -- where no query is reached, all cursors stand where they stood
-pub rested_held : (c d : Catalog) (gs : List (Option Live)) → ((i : ℕ) (l : Live) → place_at gs i ≡ Some l → StaysOver c d l)
+pub rested_held : (c d : Catalog) (gs : List (Option Live))
+    → ((i : ℕ) (l : Live) → place_at gs i ≡ Some l → StaysOver c d l)
     → (id : CursorId) → held_at (held_from d.texts zero gs) id ≡ held_at (held_from c.texts zero gs) id
-rested_held c d gs stay id = held_is d.texts gs id ∙ by_place (place_at gs id.query.at) refl ∙ sym (held_is c.texts gs id)
+rested_held c d gs stay id = held_is d.texts gs id ∙ by_place (place_at gs id.query.at) refl
+    ∙ sym (held_is c.texts gs id)
   where
-    by_slot : (l : Live) → place_at gs id.query.at ≡ Some l → (o : Option Progress) → slot_at l.cursors id.cursor ≡ o → option_map (held_as d.texts l id) o ≡ option_map (held_as c.texts l id) o
+    by_slot : (l : Live) → place_at gs id.query.at ≡ Some l → (o : Option Progress) → slot_at l.cursors id.cursor ≡ o
+        → option_map (held_as d.texts l id) o ≡ option_map (held_as c.texts l id) o
     by_slot l e None f = refl
-    by_slot l e (Some p) f = ap (λ (x : Position). Some (held_with id l.query.name x)) ((stay id.query.at l e).stands id.cursor p f)
+    by_slot l e (Some p) f = ap (λ (x : Position). Some (held_with id l.query.name x))
+        ((stay id.query.at l e).stands id.cursor p f)
 
     by_place : (o : Option Live) → place_at gs id.query.at ≡ o → held_of d.texts id o ≡ held_of c.texts id o
     by_place None e = refl

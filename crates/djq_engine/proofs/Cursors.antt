@@ -1,6 +1,8 @@
 -- What opening, reading and closing a cursor gives.
-use Rattle.std.proofs.Common.{ℕ, zero, List, [], ◌∷◌, ◌++◌, ◌+◌, ◌≡◌, ◌≤◌, Bool, true, false, refl, sym, ap, ◌∙◌, subst, length, get_or, set}
-use Rattle.std.specs.Prelude.{Option, None, Some, is_none, IsSome, IsSomeAnd, option_map, position, map, Result, Ok, Err, IfOk, ⊤}
+use Rattle.std.proofs.Common.{ℕ, zero, List, [], ◌∷◌, ◌++◌, ◌+◌, ◌≡◌, ◌≤◌, Bool, true, false, refl}
+use Rattle.std.proofs.Common.{sym, ap, ◌∙◌, subst, length, get_or, set}
+use Rattle.std.specs.Prelude.{Option, None, Some, is_none, IsSome, IsSomeAnd, option_map, position}
+use Rattle.std.specs.Prelude.{map, Result, Ok, Err, IfOk, ⊤}
 use Rattle.std.proofs.lemmas.List.{set-get_or}
 use Rattle.djq_model.specs.declared.query.Query.{Query}
 use Rattle.djq_model.specs.Data.{Bytes}
@@ -19,7 +21,9 @@ use Rattle.djq_live.specs.Cursors.{slot_at}
 use Rattle.djq_live.specs.Live.{Live, IsLive, position_of, values_of}
 use Rattle.djq_live.specs.Reading as live
 use Rattle.djq_engine.specs.declared.cursor.CursorId.{CursorId}
-use Rattle.djq_engine.specs.Kept.{Held, Kept, held_at, MovesCursor, OpensCursor, OpenGives, ClosesCursor, NextGives, NextGivesAt, read_steps, MoreGives, MoreGivesAt, IsHeld, IsThere, AnswerIs, IsFresh, IsOpenAt}
+use Rattle.djq_engine.specs.Kept.{Held, Kept, held_at, MovesCursor, OpensCursor, OpenGives}
+use Rattle.djq_engine.specs.Kept.{ClosesCursor, NextGives, NextGivesAt, read_steps, MoreGives}
+use Rattle.djq_engine.specs.Kept.{MoreGivesAt, IsHeld, IsThere, AnswerIs, IsFresh, IsOpenAt}
 use Rattle.djq_reach.specs.Places.{place_at}
 use Rattle.djq_engine.specs.Places.{queries_in, held_as, held_from, held_of, kept_of, is_query, Watches, told_of}
 use Rattle.djq_engine.specs.Sound.{IsSound}
@@ -28,15 +32,19 @@ use Rattle.djq_engine.proofs.Conditions.{answers_refused, answers_done, answers_
 use Rattle.djq_engine.proofs.Holding.{held_is}
 use Rattle.djq_engine.proofs.Naming.{Named, query_kept, query_named, no_query_of}
 use Rattle.djq_reach.proofs.Reaching.{below_some, place_read}
-use Rattle.djq_engine.proofs.Shifting.{slot_set, place_here, moved_sound, moved_store, moved_registered, moved_there, moved_others}
+use Rattle.djq_engine.proofs.Shifting.{slot_set, place_here, moved_sound, moved_store}
+use Rattle.djq_engine.proofs.Shifting.{moved_registered, moved_there, moved_others}
 use Rattle.djq_engine.proofs.Told.{told_set}
 
 -- the query in a place, as the code reads it
 
-pub read_all : (gs : List (Option Live)) (i : ℕ) (p : Option Live) (l : Live) (P : Live → Type 0) → IsSomeAnd (place_at gs i) P → p ≡ get_or gs i p → p ≡ Some l → P l
-read_all gs i p l P h is some = subst (λ (o : Option Live). IsSomeAnd o P) (place_read gs i p l (below_some gs i P h) is some) h
+pub read_all : (gs : List (Option Live)) (i : ℕ) (p : Option Live) (l : Live) (P : Live → Type 0)
+    → IsSomeAnd (place_at gs i) P → p ≡ get_or gs i p → p ≡ Some l → P l
+read_all gs i p l P h is some = subst (λ (o : Option Live). IsSomeAnd o P)
+    (place_read gs i p l (below_some gs i P h) is some) h
 
-pub moves_read : (Does : Live → Live → Type 0) (gs : List (Option Live)) (i : ℕ) (p : Option Live) (l m : Live) (P : Live → Type 0) → IsSomeAnd (place_at gs i) P
+pub moves_read : (Does : Live → Live → Type 0) (gs : List (Option Live)) (i : ℕ) (p : Option Live) (l m : Live)
+    (P : Live → Type 0) → IsSomeAnd (place_at gs i) P
     → p ≡ get_or gs i p → p ≡ Some l → Does l m → Moves Does i gs (set gs i (Some m))
 moves_read Does gs i p l m P h is some does = record {
   old = l;
@@ -46,9 +54,12 @@ moves_read Does gs i p l m P h is some does = record {
   is = refl;
 }
 
-pub opens_read : {E : Type 0} (gs : List (Option Live)) (i : ℕ) (p : Option Live) (l m : Live) (result : Result ℕ E) → IsSomeAnd (place_at gs i) (λ l. ⊤)
-    → p ≡ get_or gs i p → p ≡ Some l → IfOk result (λ k. live.OpensIn l k m) → ((c : Catalog) → IsLive c l → IsLive c m) → IfOk result (λ k. Moves (OpensAt k) i gs (set gs i (Some m)))
-opens_read gs i p l m (Ok k) h is some o lives = moves_read (OpensAt k) gs i p l m (λ l. ⊤) h is some (record { opens = o; live = lives })
+pub opens_read : {E : Type 0} (gs : List (Option Live)) (i : ℕ) (p : Option Live) (l m : Live) (result : Result ℕ E)
+    → IsSomeAnd (place_at gs i) (λ l. ⊤)
+    → p ≡ get_or gs i p → p ≡ Some l → IfOk result (λ k. live.OpensIn l k m) → ((c : Catalog) → IsLive c l → IsLive c m)
+    → IfOk result (λ k. Moves (OpensAt k) i gs (set gs i (Some m)))
+opens_read gs i p l m (Ok k) h is some o lives = moves_read (OpensAt k) gs i p l m (λ l. ⊤) h is some
+    (record { opens = o; live = lives })
 opens_read gs i p l m (Err r) h is some o lives = tt
 
 -- a cursor that is held stands in a slot
@@ -59,16 +70,20 @@ pub record HeldCursor (gs : List (Option Live)) (id : CursorId) : Type 0 where
   pub progress : Progress
   pub slot : slot_at query.cursors id.cursor ≡ Some progress
 
-found : (texts : List Bytes) (gs : List (Option Live)) (id : CursorId) (o : Option Live) → place_at gs id.query.at ≡ o → IsSome (held_of texts id o) → HeldCursor gs id
+found : (texts : List Bytes) (gs : List (Option Live)) (id : CursorId) (o : Option Live) → place_at gs id.query.at ≡ o
+    → IsSome (held_of texts id o) → HeldCursor gs id
 found texts gs id None e h = absurd cc
 found texts gs id (Some l) e h = by_slot (slot_at l.cursors id.cursor) refl h
   where
-    by_slot : (o : Option Progress) → slot_at l.cursors id.cursor ≡ o → IsSome (option_map (held_as texts l id) o) → HeldCursor gs id
+    by_slot : (o : Option Progress) → slot_at l.cursors id.cursor ≡ o → IsSome (option_map (held_as texts l id) o)
+        → HeldCursor gs id
     by_slot None f h = absurd cc
     by_slot (Some p) f h = record { query = l; there = e; progress = p; slot = f }
 
-pub held_cursor : (c : Catalog) (gs : List (Option Live)) (order : List ℕ) (seq : ℕ) (w : Watches) (id : CursorId) → IsHeld (kept_of c gs order seq w) id → HeldCursor gs id
-held_cursor c gs order seq w id h = found c.texts gs id (place_at gs id.query.at) refl (subst (λ (o : Option Held). IsSome o) (held_is c.texts gs id) h)
+pub held_cursor : (c : Catalog) (gs : List (Option Live)) (order : List ℕ) (seq : ℕ) (w : Watches) (id : CursorId)
+    → IsHeld (kept_of c gs order seq w) id → HeldCursor gs id
+held_cursor c gs order seq w id h = found c.texts gs id (place_at gs id.query.at) refl
+    (subst (λ (o : Option Held). IsSome o) (held_is c.texts gs id) h)
 
 some_held : (o : Option Held) (P : Held → Type 0) → IsSomeAnd o P → IsSome o
 some_held None P h = absurd h
@@ -77,57 +92,80 @@ some_held (Some x) P h = refl
 pub fresh_held : (k : Kept) (id : CursorId) → IsFresh k id → IsHeld k id
 fresh_held k id h = some_held (held_at k.cursors id) (λ h. IsOpenAt h.position) h
 
-pub some_slot : (slots : List (Option Progress)) (k : ℕ) (p : Progress) → slot_at slots k ≡ Some p → IsSome (slot_at slots k)
+pub some_slot : (slots : List (Option Progress)) (k : ℕ) (p : Progress) → slot_at slots k ≡ Some p
+    → IsSome (slot_at slots k)
 some_slot slots k p e = subst (λ (o : Option Progress). IsSome o) (sym e) refl
 
 same_live : (x y : Live) (o : Option Live) → o ≡ Some x → o ≡ Some y → x ≡ y
 same_live x y o e f = cc
 
-module _ (c : Catalog) (gs : List (Option Live)) (order : List ℕ) (readers : List (List ℕ)) (seq : ℕ) (w : Watches) (s : IsSound c gs order readers) (id : CursorId) (h : HeldCursor gs id) where
+module _ (c : Catalog) (gs : List (Option Live)) (order : List ℕ) (readers : List (List ℕ)) (seq : ℕ) (w : Watches)
+    (s : IsSound c gs order readers) (id : CursorId) (h : HeldCursor gs id) where
   pub readable : IsSomeAnd (place_at gs id.query.at) (IsReadable id.cursor)
   readable = subst (λ (o : Option Live). IsSomeAnd o (IsReadable id.cursor)) (sym h.there)
-      (record { there = some_slot h.query.cursors id.cursor h.progress h.slot; fits = (s.live id.query.at h.query h.there).fits id.cursor })
+      (record {
+        there = some_slot h.query.cursors id.cursor h.progress h.slot;
+        fits =
+            (s.live id.query.at h.query h.there).fits id.cursor;
+      })
 
   pub cursor_found : held_at (held_from c.texts zero gs) id ≡ Some (held_as c.texts h.query id h.progress)
-  cursor_found = held_is c.texts gs id ∙ ap (held_of c.texts id) h.there ∙ ap (option_map (held_as c.texts h.query id)) h.slot
+  cursor_found = held_is c.texts gs id ∙ ap (held_of c.texts id) h.there
+      ∙ ap (option_map (held_as c.texts h.query id)) h.slot
 
   -- what holds of the cursor and its query
   of_both : (P : Held → Listed → Type 0) → P (held_as c.texts h.query id h.progress) (a_query h.query.query)
-      → IsSomeAnd (held_at (held_from c.texts zero gs) id) (λ x. IsSomeAnd (listed_of (queries_in gs order) x.query) (λ q. P x q))
+      → IsSomeAnd (held_at (held_from c.texts zero gs) id)
+      (λ x. IsSomeAnd (listed_of (queries_in gs order) x.query) (λ q. P x q))
   of_both P x =
-      subst (λ (o : Option Held). IsSomeAnd o (λ x. IsSomeAnd (listed_of (queries_in gs order) x.query) (λ q. P x q))) (sym cursor_found)
-      (subst (λ (o : Option Listed). IsSomeAnd o (λ q. P (held_as c.texts h.query id h.progress) q)) (sym (query_kept c gs order readers s id.query.at h.query h.there)) x)
+      subst (λ (o : Option Held). IsSomeAnd o (λ x. IsSomeAnd (listed_of (queries_in gs order) x.query) (λ q. P x q)))
+      (sym cursor_found)
+      (subst (λ (o : Option Listed). IsSomeAnd o (λ q. P (held_as c.texts h.query id h.progress) q))
+      (sym (query_kept c gs order readers s id.query.at h.query h.there)) x)
 
   -- a fresh cursor is open
   pub freshly : IsFresh (kept_of c gs order seq w) id → IsSomeAnd (place_at gs id.query.at) (IsFreshly id.cursor)
   freshly f =
       subst (λ (o : Option Live). IsSomeAnd o (IsFreshly id.cursor)) (sym h.there)
-      (record { fresh = by_progress h.progress h.slot (subst (λ (o : Option Held). IsSomeAnd o (λ x. IsOpenAt x.position)) cursor_found f); fits = (s.live id.query.at h.query h.there).fits id.cursor })
+      (record {
+        fresh = by_progress h.progress h.slot
+            (subst (λ (o : Option Held). IsSomeAnd o (λ x. IsOpenAt x.position)) cursor_found f);
+        fits =
+            (s.live id.query.at h.query h.there).fits id.cursor;
+      })
     where
-      by_progress : (p : Progress) → slot_at h.query.cursors id.cursor ≡ Some p → IsOpenAt (position_of c.texts h.query p) → live.IsFreshIn h.query id.cursor
+      by_progress : (p : Progress) → slot_at h.query.cursors id.cursor ≡ Some p
+          → IsOpenAt (position_of c.texts h.query p) → live.IsFreshIn h.query id.cursor
       by_progress (Open cursor ended) e o = (cursor, (ended, e))
       by_progress (Stale r n) e o = absurd o
 
   module _ (hs : List (Option Live)) (m : Live) (is : hs ≡ set gs id.query.at (Some m)) where
     -- the cursor is moved
     moves : (position : Position) → live.MovesTo c h.query id.cursor position m
-        → IsSound c hs order readers × MovesCursor (kept_of c gs order seq w) (held_as c.texts h.query id h.progress) position (kept_of c hs order seq w)
+        → IsSound c hs order readers
+        × MovesCursor (kept_of c gs order seq w) (held_as c.texts h.query id h.progress) position
+        (kept_of c hs order seq w)
     moves position t =
         let same : m.query ≡ h.query.query = ap (λ (x : Live). x.query) t.moved in
         let sets = slot_set h.query.cursors id.cursor h.progress (Some t.progress) h.slot in
         let cs = set h.query.cursors id.cursor (Some t.progress) in (
-          subst (λ (xs : List (Option Live)). IsSound c xs order readers) (sym is) (moved_sound c gs order readers s id h.query m h.there same t.live),
-          subst (λ (xs : List (Option Live)). MovesCursor (kept_of c gs order seq w) (held_as c.texts h.query id h.progress) position (kept_of c xs order seq w)) (sym is)
+          subst (λ (xs : List (Option Live)). IsSound c xs order readers) (sym is)
+              (moved_sound c gs order readers s id h.query m h.there same t.live),
+          subst (λ (xs : List (Option Live)). MovesCursor (kept_of c gs order seq w)
+              (held_as c.texts h.query id h.progress) position (kept_of c xs order seq w)) (sym is)
               (record {
                 there = moved_there c gs order readers s id h.query m h.there same (Some t.progress) cs t.moved sets
-                    ∙ ap (λ (p : Position). (let x : Option Held = Some (record { id = id; query = h.query.query.name; position = p }) in x)) t.stands;
+                    ∙ ap (λ (p : Position).
+                    (let x : Option Held = Some (record { id = id; query = h.query.query.name; position = p }) in
+                    x)) t.stands;
                 others = moved_others c gs order readers s id h.query m h.there same (Some t.progress) cs t.moved sets;
                 store = moved_store c gs order readers s id h.query m h.there same seq;
                 registered = moved_registered c gs order readers s id h.query m h.there same w.watchers;
                 tellings = record {
                   affected = refl;
                   told = told_set c.texts gs w.logs id.query.at (Some m)
-                      (λ log. ap (λ (x : Live). told_of c.texts (Some x) log) t.moved ∙ ap (λ (o : Option Live). told_of c.texts o log) (sym h.there));
+                      (λ log. ap (λ (x : Live). told_of c.texts (Some x) log) t.moved
+                      ∙ ap (λ (o : Option Live). told_of c.texts o log) (sym h.there));
                 };
               }),
         )
@@ -139,17 +177,24 @@ module _ (c : Catalog) (gs : List (Option Live)) (order : List ℕ) (readers : L
         set_same xs i l f = ap (set xs i) (sym f) ∙ set-get_or xs i None
 
     -- an answer that was given is there to be lent
-    lends : (u : List ℕ) (position : Position) (t : live.MovesTo c h.query id.cursor position m) → IsAnswerOf h.query.reducts u
-        → IsThere (kept_of c hs order seq w) id u × AnswerIs (kept_of c hs order seq w) id u (values_of c.texts h.query u)
+    lends : (u : List ℕ) (position : Position) (t : live.MovesTo c h.query id.cursor position m)
+        → IsAnswerOf h.query.reducts u
+        → IsThere (kept_of c hs order seq w) id u
+        × AnswerIs (kept_of c hs order seq w) id u (values_of c.texts h.query u)
     lends u position t a =
         let same : m.query ≡ h.query.query = ap (λ (x : Live). x.query) t.moved in
-        let here : place_at hs id.query.at ≡ Some m = ap (λ (xs : List (Option Live)). place_at xs id.query.at) is ∙ place_here c gs order readers s id h.query m h.there same in (
-          subst (λ (o : Option Live). IsSomeAnd o (λ l. IsAnswerOf l.reducts u)) (sym here) (subst (λ (x : Live). IsAnswerOf x.reducts u) (sym t.moved) a),
-          subst (λ (o : Option Live). IsSomeAnd o (λ l. values_of c.texts h.query u ≡ values_of c.texts l u)) (sym here) (ap (λ (x : Live). values_of c.texts x u) (sym t.moved)),
+        let here : place_at hs id.query.at ≡ Some m = ap (λ (xs : List (Option Live)). place_at xs id.query.at) is
+        ∙ place_here c gs order readers s id h.query m h.there same in (
+          subst (λ (o : Option Live). IsSomeAnd o (λ l. IsAnswerOf l.reducts u)) (sym here)
+              (subst (λ (x : Live). IsAnswerOf x.reducts u) (sym t.moved) a),
+          subst (λ (o : Option Live). IsSomeAnd o (λ l. values_of c.texts h.query u ≡ values_of c.texts l u)) (sym here)
+              (ap (λ (x : Live). values_of c.texts x u) (sym t.moved)),
         )
 
     next_by : (p : Position) (result : Next) (u : List ℕ) → live.NextGivesAt c h.query id.cursor p result u m
-        → IsSound c hs order readers × NextGivesAt (kept_of c gs order seq w) (held_as c.texts h.query id h.progress) (a_query h.query.query) p result u (kept_of c hs order seq w)
+        → IsSound c hs order readers
+        × NextGivesAt (kept_of c gs order seq w) (held_as c.texts h.query id h.progress) (a_query h.query.query) p
+        result u (kept_of c hs order seq w)
     next_by (open_at given ended) Given u x =
         let y = moves (open_at (given ++ values_of c.texts h.query u ∷ []) false) x.2 in
         let z = lends u (open_at (given ++ values_of c.texts h.query u ∷ []) false) x.2 x.0 in
@@ -157,13 +202,17 @@ module _ (c : Catalog) (gs : List (Option Live)) (order : List ℕ) (readers : L
     next_by (open_at given ended) End u x = let y = moves (open_at given true) x.1 in (y.0, (x.0, y.1))
     next_by (open_at given ended) (StaleNext r n) u x = absurd x
     next_by (stale r n) (StaleNext relation k) u x =
-        let e = kept_as x.2 in
-        (subst (λ (xs : List (Option Live)). IsSound c xs order readers) (sym e) s, (x.0, x.1, ap (λ (xs : List (Option Live)). kept_of c xs order seq w) e))
+        let e = kept_as x.2 in (
+          subst (λ (xs : List (Option Live)). IsSound c xs order readers) (sym e) s,
+          (x.0, x.1, ap (λ (xs : List (Option Live)). kept_of c xs order seq w) e),
+        )
     next_by (stale r n) Given u x = absurd x
     next_by (stale r n) End u x = absurd x
 
     more_by : (p : Position) (result : Bool) → live.MoreGivesAt c h.query id.cursor p result m
-        → IsSound c hs order readers × MoreGivesAt (kept_of c gs order seq w) (held_as c.texts h.query id h.progress) (a_query h.query.query) p result (kept_of c hs order seq w)
+        → IsSound c hs order readers
+        × MoreGivesAt (kept_of c gs order seq w) (held_as c.texts h.query id h.progress) (a_query h.query.query) p
+        result (kept_of c hs order seq w)
     more_by (open_at given ended) true x = let y = moves (open_at given false) x.1 in (y.0, (x.0, y.1))
     more_by (open_at given ended) false x = let y = moves (open_at given true) x.1 in (y.0, (x.0, y.1))
     more_by (stale r n) true x = absurd x
@@ -174,37 +223,48 @@ module _ (c : Catalog) (gs : List (Option Live)) (order : List ℕ) (readers : L
   steps_same End q = refl
   steps_same (StaleNext r k) q = refl
 
-  pub next_gives : (hs : List (Option Live)) (result : Next) (u : List ℕ) (before now : ℕ) → Moves (ReadsAt id.cursor result u before now) id.query.at gs hs
-      → IsSound c hs order readers × NextGives (kept_of c gs order seq w) id result u (kept_of c hs order seq w) before now
+  pub next_gives : (hs : List (Option Live)) (result : Next) (u : List ℕ) (before now : ℕ)
+      → Moves (ReadsAt id.cursor result u before now) id.query.at gs hs
+      → IsSound c hs order readers
+      × NextGives (kept_of c gs order seq w) id result u (kept_of c hs order seq w) before now
   next_gives hs result u before now v =
       let e : v.old ≡ h.query = same_live v.old h.query (place_at gs id.query.at) v.there h.there in
       let d = subst (λ (x : Live). ReadsAt id.cursor result u before now x v.new) e v.done in
       let live_now = s.live id.query.at h.query h.there in
-      let g = subst (λ (o : Option Progress). IsSomeAnd o (λ p. live.NextGivesAt c h.query id.cursor (position_of c.texts h.query p) result u v.new)) h.slot (d.gives c live_now) in
+      let g = subst (λ (o : Option Progress). IsSomeAnd o
+      (λ p. live.NextGivesAt c h.query id.cursor (position_of c.texts h.query p) result u v.new)) h.slot
+      (d.gives c live_now) in
       let y = next_by hs v.new v.is (position_of c.texts h.query h.progress) result u g in (
         y.0,
         record {
-          gives = of_both (λ x q. NextGivesAt (kept_of c gs order seq w) x q x.position result u (kept_of c hs order seq w) × (now ≤ before + read_steps result q))
+          gives = of_both (λ x q. NextGivesAt (kept_of c gs order seq w) x q x.position result u
+              (kept_of c hs order seq w) × (now ≤ before + read_steps result q))
               (y.1, subst (λ (n : ℕ). now ≤ before + n) (steps_same result h.query.query) (d.counted c live_now));
         },
       )
 
-  pub more_gives : (hs : List (Option Live)) (result : Bool) (before now : ℕ) → Moves (TellsAt id.cursor result before now) id.query.at gs hs
-      → IsSound c hs order readers × MoreGives (kept_of c gs order seq w) id result (kept_of c hs order seq w) before now
+  pub more_gives : (hs : List (Option Live)) (result : Bool) (before now : ℕ)
+      → Moves (TellsAt id.cursor result before now) id.query.at gs hs
+      → IsSound c hs order readers
+      × MoreGives (kept_of c gs order seq w) id result (kept_of c hs order seq w) before now
   more_gives hs result before now v =
       let e : v.old ≡ h.query = same_live v.old h.query (place_at gs id.query.at) v.there h.there in
       let d = subst (λ (x : Live). TellsAt id.cursor result before now x v.new) e v.done in
       let live_now = s.live id.query.at h.query h.there in
-      let g = subst (λ (o : Option Progress). IsSomeAnd o (λ p. live.MoreGivesAt c h.query id.cursor (position_of c.texts h.query p) result v.new)) h.slot (d.gives c live_now) in
+      let g = subst (λ (o : Option Progress). IsSomeAnd o
+      (λ p. live.MoreGivesAt c h.query id.cursor (position_of c.texts h.query p) result v.new)) h.slot
+      (d.gives c live_now) in
       let y = more_by hs v.new v.is (position_of c.texts h.query h.progress) result g in (
         y.0,
         record {
-          gives = of_both (λ x q. MoreGivesAt (kept_of c gs order seq w) x q x.position result (kept_of c hs order seq w) × (now ≤ before + answer_steps q))
+          gives = of_both (λ x q. MoreGivesAt (kept_of c gs order seq w) x q x.position result
+              (kept_of c hs order seq w) × (now ≤ before + answer_steps q))
               (y.1, d.counted c live_now);
         },
       )
 
-  pub closes : (hs : List (Option Live)) → Moves (ClosesAt id.cursor) id.query.at gs hs → IsSound c hs order readers × ClosesCursor (kept_of c gs order seq w) id (kept_of c hs order seq w)
+  pub closes : (hs : List (Option Live)) → Moves (ClosesAt id.cursor) id.query.at gs hs → IsSound c hs order readers
+      × ClosesCursor (kept_of c gs order seq w) id (kept_of c hs order seq w)
   closes hs v =
       let e : v.old ≡ h.query = same_live v.old h.query (place_at gs id.query.at) v.there h.there in
       let d = subst (λ (x : Live). ClosesAt id.cursor x v.new) e v.done in
@@ -212,8 +272,10 @@ module _ (c : Catalog) (gs : List (Option Live)) (order : List ℕ) (readers : L
       let same : (v.new).query ≡ h.query.query = ap (λ (x : Live). x.query) d.closes in
       let sets = slot_set h.query.cursors id.cursor h.progress None h.slot in
       let cs = set h.query.cursors id.cursor None in (
-        subst (λ (xs : List (Option Live)). IsSound c xs order readers) (sym v.is) (moved_sound c gs order readers s id h.query v.new h.there same (d.live c live_now)),
-        subst (λ (xs : List (Option Live)). ClosesCursor (kept_of c gs order seq w) id (kept_of c xs order seq w)) (sym v.is)
+        subst (λ (xs : List (Option Live)). IsSound c xs order readers) (sym v.is)
+            (moved_sound c gs order readers s id h.query v.new h.there same (d.live c live_now)),
+        subst (λ (xs : List (Option Live)). ClosesCursor (kept_of c gs order seq w) id (kept_of c xs order seq w))
+            (sym v.is)
             (record {
               gone = moved_there c gs order readers s id h.query v.new h.there same None cs d.closes sets;
               others = moved_others c gs order readers s id h.query v.new h.there same None cs d.closes sets;
@@ -222,34 +284,45 @@ module _ (c : Catalog) (gs : List (Option Live)) (order : List ℕ) (readers : L
               tellings = record {
                 affected = refl;
                 told = told_set c.texts gs w.logs id.query.at (Some v.new)
-                    (λ log. ap (λ (x : Live). told_of c.texts (Some x) log) d.closes ∙ ap (λ (o : Option Live). told_of c.texts o log) (sym h.there));
+                    (λ log. ap (λ (x : Live). told_of c.texts (Some x) log) d.closes
+                    ∙ ap (λ (o : Option Live). told_of c.texts o log) (sym h.there));
               };
             }),
       )
 
 -- `open`
 
-module _ (c : Catalog) (gs : List (Option Live)) (order : List ℕ) (readers : List (List ℕ)) (seq : ℕ) (w : Watches) (s : IsSound c gs order readers) (query : Bytes) where
-  pub open_refused : None ≡ position (is_query query) gs → OpenGives (kept_of c gs order seq w) query (Err NoQuery) (kept_of c gs order seq w)
+module _ (c : Catalog) (gs : List (Option Live)) (order : List ℕ) (readers : List (List ℕ)) (seq : ℕ) (w : Watches)
+    (s : IsSound c gs order readers) (query : Bytes) where
+  pub open_refused : None ≡ position (is_query query) gs
+      → OpenGives (kept_of c gs order seq w) query (Err NoQuery) (kept_of c gs order seq w)
   open_refused e = record {
-    answer = answers_refused (first_of ((is_none (listed_of (queries_in gs order) query), NoQuery) ∷ [])) NoQuery (λ id. OpensCursor (kept_of c gs order seq w) query id (kept_of c gs order seq w)) _
+    answer = answers_refused (first_of ((is_none (listed_of (queries_in gs order) query), NoQuery) ∷ [])) NoQuery
+        (λ id. OpensCursor (kept_of c gs order seq w) query id (kept_of c gs order seq w)) _
         (ap (λ (o : Option Listed). first_of ((is_none o, NoQuery) ∷ [])) (no_query_of c gs order readers s query e));
     stays = λ r f. refl;
   }
 
-  passes : (at : ℕ) → Named gs query at → first_of ((is_none (listed_of (queries_in gs order) query), NoQuery) ∷ []) ≡ None
-  passes at n = ap (λ (o : Option Listed). first_of ((is_none o, NoQuery) ∷ [])) (query_named c gs order readers s query at n)
+  passes : (at : ℕ) → Named gs query at → first_of ((is_none (listed_of (queries_in gs order) query), NoQuery) ∷ [])
+      ≡ None
+  passes at n = ap (λ (o : Option Listed). first_of ((is_none o, NoQuery) ∷ []))
+      (query_named c gs order readers s query at n)
 
-  pub open_lacks : (at : ℕ) (hs : List (Option Live)) → Named gs query at → hs ≡ gs → IsSound c hs order readers × OpenGives (kept_of c gs order seq w) query (Err NoMemory) (kept_of c hs order seq w)
+  pub open_lacks : (at : ℕ) (hs : List (Option Live)) → Named gs query at → hs ≡ gs → IsSound c hs order readers
+      × OpenGives (kept_of c gs order seq w) query (Err NoMemory) (kept_of c hs order seq w)
   open_lacks at hs n e = (
     subst (λ (xs : List (Option Live)). IsSound c xs order readers) (sym e) s,
-    subst (λ (xs : List (Option Live)). OpenGives (kept_of c gs order seq w) query (Err NoMemory) (kept_of c xs order seq w)) (sym e) (record {
-      answer = answers_lacking (first_of ((is_none (listed_of (queries_in gs order) query), NoQuery) ∷ [])) (λ id. OpensCursor (kept_of c gs order seq w) query id (kept_of c gs order seq w)) _ (passes at n) tt;
-      stays = λ r f. refl;
-    }),
+    subst (λ (xs : List (Option Live)). OpenGives (kept_of c gs order seq w) query (Err NoMemory)
+        (kept_of c xs order seq w)) (sym e) (record {
+          answer = answers_lacking (first_of ((is_none (listed_of (queries_in gs order) query), NoQuery) ∷ []))
+              (λ id. OpensCursor (kept_of c gs order seq w) query id (kept_of c gs order seq w)) _ (passes at n) tt;
+          stays = λ r f. refl;
+        }),
   )
 
-  opened : (id : CursorId) (hs : List (Option Live)) → Named gs query id.query.at → Moves (OpensAt id.cursor) id.query.at gs hs → IsSound c hs order readers × OpensCursor (kept_of c gs order seq w) query id (kept_of c hs order seq w)
+  opened : (id : CursorId) (hs : List (Option Live)) → Named gs query id.query.at
+      → Moves (OpensAt id.cursor) id.query.at gs hs → IsSound c hs order readers
+      × OpensCursor (kept_of c gs order seq w) query id (kept_of c hs order seq w)
   opened id hs n v =
       let l = n.query in
       let e : v.old ≡ l = same_live v.old l (place_at gs id.query.at) v.there n.there in
@@ -259,29 +332,46 @@ module _ (c : Catalog) (gs : List (Option Live)) (order : List ℕ) (readers : L
       let same : (v.new).query ≡ l.query = ap (λ (x : Live). x.query) o.others in (
         subst (λ (xs : List (Option Live)). IsSound c xs order readers) (sym v.is)
             (moved_sound c gs order readers s id l v.new n.there same (d.live c (s.live id.query.at l n.there))),
-        subst (λ (xs : List (Option Live)). OpensCursor (kept_of c gs order seq w) query id (kept_of c xs order seq w)) (sym v.is)
+        subst (λ (xs : List (Option Live)). OpensCursor (kept_of c gs order seq w) query id (kept_of c xs order seq w))
+            (sym v.is)
             (record {
-              fresh = held_is c.texts gs id ∙ ap (held_of c.texts id) n.there ∙ ap (option_map (held_as c.texts l id)) o.free;
-              there = moved_there c gs order readers s id l v.new n.there same (Some (Open o.cursor false)) cs o.others o.sets
-                  ∙ ap (λ (us : List (List ℕ)). (let x : Option Held = Some (record { id = id; query = l.query.name; position = open_at (map (values_of c.texts l) us) false }) in x)) (o.none l.reducts)
-                  ∙ ap (λ (name : Bytes). (let x : Option Held = Some (record { id = id; query = name; position = open_at [] false }) in x)) n.called;
-              others = moved_others c gs order readers s id l v.new n.there same (Some (Open o.cursor false)) cs o.others o.sets;
+              fresh = held_is c.texts gs id ∙ ap (held_of c.texts id) n.there
+                  ∙ ap (option_map (held_as c.texts l id)) o.free;
+              there = moved_there c gs order readers s id l v.new n.there same (Some (Open o.cursor false)) cs o.others
+                  o.sets
+                  ∙ ap (λ (us : List (List ℕ)).
+                  (let x : Option Held = Some
+                  (record {
+                    id = id;
+                    query = l.query.name;
+                    position = open_at (map (values_of c.texts l) us) false;
+                  }) in x)) (o.none l.reducts)
+                  ∙ ap (λ (name : Bytes).
+                  (let x : Option Held = Some (record { id = id; query = name; position = open_at [] false }) in x))
+                  n.called;
+              others = moved_others c gs order readers s id l v.new n.there same (Some (Open o.cursor false)) cs
+                  o.others o.sets;
               store = moved_store c gs order readers s id l v.new n.there same seq;
               registered = moved_registered c gs order readers s id l v.new n.there same w.watchers;
               tellings = record {
                 affected = refl;
                 told = told_set c.texts gs w.logs id.query.at (Some v.new)
-                    (λ log. ap (λ (x : Live). told_of c.texts (Some x) log) o.others ∙ ap (λ (p : Option Live). told_of c.texts p log) (sym n.there));
+                    (λ log. ap (λ (x : Live). told_of c.texts (Some x) log) o.others
+                    ∙ ap (λ (p : Option Live). told_of c.texts p log) (sym n.there));
               };
             }),
       )
 
-  pub open_gives : (id : CursorId) (hs : List (Option Live)) → Named gs query id.query.at → Moves (OpensAt id.cursor) id.query.at gs hs → IsSound c hs order readers × OpenGives (kept_of c gs order seq w) query (Ok id) (kept_of c hs order seq w)
+  pub open_gives : (id : CursorId) (hs : List (Option Live)) → Named gs query id.query.at
+      → Moves (OpensAt id.cursor) id.query.at gs hs → IsSound c hs order readers
+      × OpenGives (kept_of c gs order seq w) query (Ok id) (kept_of c hs order seq w)
   open_gives id hs n v =
       let y = opened id hs n v in (
         y.0,
         record {
-          answer = answers_done (first_of ((is_none (listed_of (queries_in gs order) query), NoQuery) ∷ [])) id (λ id. OpensCursor (kept_of c gs order seq w) query id (kept_of c hs order seq w)) _ (passes id.query.at n) y.1;
+          answer = answers_done (first_of ((is_none (listed_of (queries_in gs order) query), NoQuery) ∷ [])) id
+              (λ id. OpensCursor (kept_of c gs order seq w) query id (kept_of c hs order seq w)) _
+              (passes id.query.at n) y.1;
           stays = λ r e. absurd (cc);
         },
       )

@@ -1,7 +1,9 @@
 -- The registered queries as contracts see them: which one an id or a name stands for, and how they
 -- change.
-use Rattle.std.proofs.Common.{ℕ, zero, suc, List, [], ◌∷◌, ◌++◌, ◌≡◌, ◌≢◌, ◌<◌, Bool, true, false, refl, sym, ap, ap₂, ◌∙◌, subst, length, get_or, arith}
-use Rattle.std.specs.Prelude.{◌==◌, ◌&&◌, ◌||◌, not, Option, None, Some, is_some, IsSome, IsSomeAnd, option_map, find, map, filter, cond, position, All, AllPairs}
+use Rattle.std.proofs.Common.{ℕ, zero, suc, List, [], ◌∷◌, ◌++◌, ◌≡◌, ◌≢◌, ◌<◌, Bool, true, false}
+use Rattle.std.proofs.Common.{refl, sym, ap, ap₂, ◌∙◌, subst, length, get_or, arith}
+use Rattle.std.specs.Prelude.{◌==◌, ◌&&◌, ◌||◌, not, Option, None, Some, is_some, IsSome, IsSomeAnd}
+use Rattle.std.specs.Prelude.{option_map, find, map, filter, cond, position, All, AllPairs}
 use Rattle.std.proofs.lemmas.Bool.{eqb-true, eq-eqb, false≢true}
 use Rattle.std.proofs.lemmas.List.{map-append}
 use Rattle.std.proofs.lemmas.List.Elements.{All-cons, All-filter, All-head, All-nil, All-tail}
@@ -14,7 +16,8 @@ use Rattle.djq_machine.specs.Changes.{one_change}
 use Rattle.djq_rows.specs.Catalog.{Catalog, relation_at}
 use Rattle.djq_live.specs.Live.{Live}
 use Rattle.djq_engine.specs.declared.cursor.QueryId.{QueryId}
-use Rattle.djq_engine.specs.Kept.{Registered, same_query, registered_at, registered_of, with_watchers, is_watched, readers_of, affected_of}
+use Rattle.djq_engine.specs.Kept.{Registered, same_query, registered_at, registered_of}
+use Rattle.djq_engine.specs.Kept.{with_watchers, is_watched, readers_of, affected_of}
 use Rattle.djq_reach.specs.Places.{place_at, is_reader, readers_at, reads_place, watchers_at, watched_at, AreOnce}
 use Rattle.djq_engine.specs.Places.{is_live, query_in, queries_in, is_query, id_at, registered_as, registered_in}
 use Rattle.djq_engine.specs.Sound.{IsSound}
@@ -54,22 +57,28 @@ find_place p (x ∷ xs) i there passes alone =
 
 no_place : (p : ℕ → Bool) (xs : List ℕ) → ((j : ℕ) → is_reader xs j ≡ true → p j ≡ false) → find p xs ≡ None
 no_place p [] h = refl
-no_place p (x ∷ xs) h = ap (λ b. cond b (Some x) (find p xs)) (h x (here x xs)) ∙ no_place p xs (λ j e. h j (behind x xs j e))
+no_place p (x ∷ xs) h = ap (λ b. cond b (Some x) (find p xs)) (h x (here x xs))
+    ∙ no_place p xs (λ j e. h j (behind x xs j e))
 
 -- what is found in a list, seen through a function
-found_mapped : {A : Type 0} (p : A → Bool) (f : ℕ → A) (xs : List ℕ) → find p (map f xs) ≡ option_map f (find (λ i. p (f i)) xs)
+found_mapped : {A : Type 0} (p : A → Bool) (f : ℕ → A) (xs : List ℕ) → find p (map f xs)
+    ≡ option_map f (find (λ i. p (f i)) xs)
 found_mapped p f [] = refl
 found_mapped p f (x ∷ xs) = step (p (f x)) (found_mapped p f xs)
   where
-    step : (b : Bool) → find p (map f xs) ≡ option_map f (find (λ i. p (f i)) xs) → cond b (Some (f x)) (find p (map f xs)) ≡ option_map f (cond b (Some x) (find (λ i. p (f i)) xs))
+    step : (b : Bool) → find p (map f xs) ≡ option_map f (find (λ i. p (f i)) xs)
+        → cond b (Some (f x)) (find p (map f xs)) ≡ option_map f (cond b (Some x) (find (λ i. p (f i)) xs))
     step true e = refl
     step false e = e
 
-pub filter_mapped : {A : Type 0} (p : A → Bool) (f : ℕ → A) (xs : List ℕ) → filter p (map f xs) ≡ map f (filter (λ i. p (f i)) xs)
+pub filter_mapped : {A : Type 0} (p : A → Bool) (f : ℕ → A) (xs : List ℕ) → filter p (map f xs)
+    ≡ map f (filter (λ i. p (f i)) xs)
 filter_mapped p f [] = refl
 filter_mapped p f (x ∷ xs) = step (p (f x)) (filter_mapped p f xs)
   where
-    step : (b : Bool) → filter p (map f xs) ≡ map f (filter (λ i. p (f i)) xs) → cond b (f x ∷ filter p (map f xs)) (filter p (map f xs)) ≡ map f (cond b (x ∷ filter (λ i. p (f i)) xs) (filter (λ i. p (f i)) xs))
+    step : (b : Bool) → filter p (map f xs) ≡ map f (filter (λ i. p (f i)) xs)
+        → cond b (f x ∷ filter p (map f xs)) (filter p (map f xs))
+        ≡ map f (cond b (x ∷ filter (λ i. p (f i)) xs) (filter (λ i. p (f i)) xs))
     step true e = ap (λ l. f x ∷ l) e
     step false e = e
 
@@ -87,56 +96,75 @@ outdated_reads name q = step (listed_reads q name)
     step true = refl
     step false = refl
 
-module _ (c : Catalog) (gs : List (Option Live)) (order : List ℕ) (readers : List (List ℕ)) (ws : List ℕ) (s : IsSound c gs order readers) where
-  found_is : (id : QueryId) (xs : List ℕ) → registered_at (registered_in gs ws xs) id ≡ cond (is_reader xs id.at) (Some (registered_as gs ws id.at)) None
+module _ (c : Catalog) (gs : List (Option Live)) (order : List ℕ) (readers : List (List ℕ)) (ws : List ℕ)
+    (s : IsSound c gs order readers) where
+  found_is : (id : QueryId) (xs : List ℕ) → registered_at (registered_in gs ws xs) id
+      ≡ cond (is_reader xs id.at) (Some (registered_as gs ws id.at)) None
   found_is id [] = refl
   found_is id (x ∷ xs) = step (x == id.at) refl (found_is id xs)
     where
-      step : (b : Bool) → (x == id.at) ≡ b → registered_at (registered_in gs ws xs) id ≡ cond (is_reader xs id.at) (Some (registered_as gs ws id.at)) None
-          → cond b (Some (registered_as gs ws x)) (registered_at (registered_in gs ws xs) id) ≡ cond (b || is_reader xs id.at) (Some (registered_as gs ws id.at)) None
+      step : (b : Bool) → (x == id.at) ≡ b → registered_at (registered_in gs ws xs) id
+          ≡ cond (is_reader xs id.at) (Some (registered_as gs ws id.at)) None
+          → cond b (Some (registered_as gs ws x)) (registered_at (registered_in gs ws xs) id)
+          ≡ cond (b || is_reader xs id.at) (Some (registered_as gs ws id.at)) None
       step true e h = ap (λ (j : ℕ). Some (registered_as gs ws j)) (eqb-true x id.at e)
       step false e h = h
 
-  pub registered_is : (id : QueryId) → registered_at (registered_in gs ws order) id ≡ cond (is_live gs id.at) (Some (registered_as gs ws id.at)) None
+  pub registered_is : (id : QueryId) → registered_at (registered_in gs ws order) id
+      ≡ cond (is_live gs id.at) (Some (registered_as gs ws id.at)) None
   registered_is id = found_is id order ∙ ap (λ b. cond b (Some (registered_as gs ws id.at)) None) (s.listed id.at)
 
   -- that an id stands for a query, as the code knows it
   pub registered_there : (id : QueryId) → IsSome (registered_at (registered_in gs ws order) id) → There gs id.at
-  registered_there id h = by_live (is_live gs id.at) refl (subst (λ (o : Option Registered). IsSome o) (registered_is id) h)
+  registered_there id h = by_live (is_live gs id.at) refl
+      (subst (λ (o : Option Registered). IsSome o) (registered_is id) h)
     where
-      by_live : (b : Bool) → is_live gs id.at ≡ b → IsSome (cond b (Some (registered_as gs ws id.at)) None) → There gs id.at
+      by_live : (b : Bool) → is_live gs id.at ≡ b → IsSome (cond b (Some (registered_as gs ws id.at)) None)
+          → There gs id.at
       by_live true e k = live_there gs id.at e
       by_live false e k = absurd (false≢true k)
 
-  pub registered_has : (id : QueryId) (P : Registered → Type 0) → IsSomeAnd (registered_at (registered_in gs ws order) id) P → There gs id.at × P (registered_as gs ws id.at)
-  registered_has id P h = by_live (is_live gs id.at) refl (subst (λ (o : Option Registered). IsSomeAnd o P) (registered_is id) h)
+  pub registered_has : (id : QueryId) (P : Registered → Type 0)
+      → IsSomeAnd (registered_at (registered_in gs ws order) id) P → There gs id.at × P (registered_as gs ws id.at)
+  registered_has id P h = by_live (is_live gs id.at) refl
+      (subst (λ (o : Option Registered). IsSomeAnd o P) (registered_is id) h)
     where
-      by_live : (b : Bool) → is_live gs id.at ≡ b → IsSomeAnd (cond b (Some (registered_as gs ws id.at)) None) P → There gs id.at × P (registered_as gs ws id.at)
+      by_live : (b : Bool) → is_live gs id.at ≡ b → IsSomeAnd (cond b (Some (registered_as gs ws id.at)) None) P
+          → There gs id.at × P (registered_as gs ws id.at)
       by_live true e k = (live_there gs id.at e, k)
       by_live false e k = absurd k
 
-  pub registered_gives : (id : QueryId) (P : Registered → Type 0) → There gs id.at → P (registered_as gs ws id.at) → IsSomeAnd (registered_at (registered_in gs ws order) id) P
-  registered_gives id P t h = subst (λ (o : Option Registered). IsSomeAnd o P) (sym (registered_is id ∙ ap (λ b. cond b (Some (registered_as gs ws id.at)) None) (ap is_some t.is))) h
+  pub registered_gives : (id : QueryId) (P : Registered → Type 0) → There gs id.at → P (registered_as gs ws id.at)
+      → IsSomeAnd (registered_at (registered_in gs ws order) id) P
+  registered_gives id P t h = subst (λ (o : Option Registered). IsSomeAnd o P)
+      (sym (registered_is id ∙ ap (λ b. cond b (Some (registered_as gs ws id.at)) None) (ap is_some t.is))) h
 
   pub registered_none : (id : QueryId) → place_at gs id.at ≡ None → registered_at (registered_in gs ws order) id ≡ None
   registered_none id e = registered_is id ∙ ap (λ b. cond b (Some (registered_as gs ws id.at)) None) (ap is_some e)
 
   -- ---- what a name stands for
 
-  pub name_found : (name : Bytes) (at : ℕ) → Named gs name at → registered_of (registered_in gs ws order) name ≡ Some (registered_as gs ws at)
+  pub name_found : (name : Bytes) (at : ℕ) → Named gs name at → registered_of (registered_in gs ws order) name
+      ≡ Some (registered_as gs ws at)
   name_found name at n =
       found_mapped (λ r. bytes_eq (listed_name r.query) name) (registered_as gs ws) order
-      ∙ ap (option_map (registered_as gs ws)) (find_place (λ i. bytes_eq (listed_name (query_in (place_at gs i))) name) order at (s.listed at ∙ ap is_some n.there)
-      (ap (λ (o : Option Live). bytes_eq (listed_name (query_in o)) name) n.there ∙ (bytes_eq-decides n.query.query.name name).1 n.called)
+      ∙ ap (option_map (registered_as gs ws))
+      (find_place (λ i. bytes_eq (listed_name (query_in (place_at gs i))) name) order at
+      (s.listed at ∙ ap is_some n.there)
+      (ap (λ (o : Option Live). bytes_eq (listed_name (query_in o)) name) n.there
+      ∙ (bytes_eq-decides n.query.query.name name).1 n.called)
       (λ j there m.
       let t = order_there c gs order readers s j there in
       s.named j at t.query n.query t.is n.there
-      ((bytes_eq-decides t.query.query.name name).0 (ap (λ (o : Option Live). bytes_eq (listed_name (query_in o)) name) (sym t.is) ∙ m) ∙ sym n.called)))
+      ((bytes_eq-decides t.query.query.name name).0
+      (ap (λ (o : Option Live). bytes_eq (listed_name (query_in o)) name) (sym t.is) ∙ m) ∙ sym n.called)))
 
-  pub name_unknown : (name : Bytes) → None ≡ position (is_query name) gs → registered_of (registered_in gs ws order) name ≡ None
+  pub name_unknown : (name : Bytes) → None ≡ position (is_query name) gs
+      → registered_of (registered_in gs ws order) name ≡ None
   name_unknown name e =
       found_mapped (λ r. bytes_eq (listed_name r.query) name) (registered_as gs ws) order
-      ∙ ap (option_map (registered_as gs ws)) (no_place (λ i. bytes_eq (listed_name (query_in (place_at gs i))) name) order
+      ∙ ap (option_map (registered_as gs ws))
+      (no_place (λ i. bytes_eq (listed_name (query_in (place_at gs i))) name) order
       (λ j h. let t = order_there c gs order readers s j h in
       ap (λ (o : Option Live). bytes_eq (listed_name (query_in o)) name) t.is ∙ unnamed gs name j t.query e t.is))
 
@@ -146,60 +174,77 @@ module _ (c : Catalog) (gs : List (Option Live)) (order : List ℕ) (readers : L
   queries_are = map_mapped (λ (r : Registered). r.query) (registered_as gs ws) order
 
   -- what holds of the queries in any two different places of a list
-  all_pairs : (P : Registered → Registered → Type 0) (xs : List ℕ) → AreOnce xs → ((i j : ℕ) → is_reader xs i ≡ true → is_reader xs j ≡ true → i ≢ j → P (registered_as gs ws i) (registered_as gs ws j))
+  all_pairs : (P : Registered → Registered → Type 0) (xs : List ℕ) → AreOnce xs
+      → ((i j : ℕ) → is_reader xs i ≡ true → is_reader xs j ≡ true → i ≢ j
+      → P (registered_as gs ws i) (registered_as gs ws j))
       → AllPairs P (registered_in gs ws xs)
   all_pairs P [] once h i j d l m = absurd (omega (arith, m))
   all_pairs P (x ∷ xs) once h zero zero d l m = absurd (omega (arith, l))
-  all_pairs P (x ∷ xs) once h zero (suc j) d l m = behind_all xs j (omega (arith, m)) (λ y e. h x y (here x xs) (behind x xs y e) (λ f. false≢true (sym once.0 ∙ ap (is_reader xs) f ∙ e)))
+  all_pairs P (x ∷ xs) once h zero (suc j) d l m = behind_all xs j (omega (arith, m))
+      (λ y e. h x y (here x xs) (behind x xs y e) (λ f. false≢true (sym once.0 ∙ ap (is_reader xs) f ∙ e)))
     where
-      behind_all : (ys : List ℕ) (k : ℕ) → k < length (registered_in gs ws ys) → ((y : ℕ) → is_reader ys y ≡ true → P (registered_as gs ws x) (registered_as gs ws y)) → P (registered_as gs ws x) (get_or (registered_in gs ws ys) k d)
+      behind_all : (ys : List ℕ) (k : ℕ) → k < length (registered_in gs ws ys)
+          → ((y : ℕ) → is_reader ys y ≡ true → P (registered_as gs ws x) (registered_as gs ws y))
+          → P (registered_as gs ws x) (get_or (registered_in gs ws ys) k d)
       behind_all [] k low f = absurd (omega (arith, low))
       behind_all (y ∷ ys) zero low f = f y (here y ys)
       behind_all (y ∷ ys) (suc k) low f = behind_all ys k (omega (arith, low)) (λ z e. f z (behind y ys z e))
   all_pairs P (x ∷ xs) once h (suc i) zero d l m = absurd (omega (arith, l))
-  all_pairs P (x ∷ xs) once h (suc i) (suc j) d l m = all_pairs P xs once.1 (λ a b e f. h a b (behind x xs a e) (behind x xs b f)) i j d (omega (arith, l)) (omega (arith, m))
+  all_pairs P (x ∷ xs) once h (suc i) (suc j) d l m = all_pairs P xs once.1
+      (λ a b e f. h a b (behind x xs a e) (behind x xs b f)) i j d (omega (arith, l)) (omega (arith, m))
 
   pub ids_differ : AllPairs (λ r t. same_query r.id t.id ≡ false) (registered_in gs ws order)
   ids_differ = all_pairs (λ r t. same_query r.id t.id ≡ false) order s.once (λ i j e f d. apart i j d)
 
-  pub names_differ : AllPairs (λ r t. bytes_eq (listed_name r.query) (listed_name t.query) ≡ false) (registered_in gs ws order)
+  pub names_differ : AllPairs (λ r t. bytes_eq (listed_name r.query) (listed_name t.query) ≡ false)
+      (registered_in gs ws order)
   names_differ = all_pairs (λ r t. bytes_eq (listed_name r.query) (listed_name t.query) ≡ false) order s.once unlike
     where
-      unlike : (i j : ℕ) → is_reader order i ≡ true → is_reader order j ≡ true → i ≢ j → bytes_eq (listed_name (query_in (place_at gs i))) (listed_name (query_in (place_at gs j))) ≡ false
+      unlike : (i j : ℕ) → is_reader order i ≡ true → is_reader order j ≡ true → i ≢ j
+          → bytes_eq (listed_name (query_in (place_at gs i))) (listed_name (query_in (place_at gs j))) ≡ false
       unlike i j e f d =
           let a = order_there c gs order readers s i e in
           let b = order_there c gs order readers s j f in
           ap₂ (λ (o p : Option Live). bytes_eq (listed_name (query_in o)) (listed_name (query_in p))) a.is b.is
           ∙ by_test (bytes_eq a.query.query.name b.query.query.name) refl
         where
-          by_test : (t : Bool) → bytes_eq (order_there c gs order readers s i e).query.query.name (order_there c gs order readers s j f).query.query.name ≡ t → t ≡ false
+          by_test : (t : Bool) → bytes_eq (order_there c gs order readers s i e).query.query.name
+              (order_there c gs order readers s j f).query.query.name ≡ t → t ≡ false
           by_test false h = refl
           by_test true h =
               let a = order_there c gs order readers s i e in
               let b = order_there c gs order readers s j f in
-              absurd (d (s.named i j a.query b.query a.is b.is ((bytes_eq-decides a.query.query.name b.query.query.name).0 h)))
+              absurd (d (s.named i j a.query b.query a.is b.is
+              ((bytes_eq-decides a.query.query.name b.query.query.name).0 h)))
 
   -- ---- readers
 
-  reads_as : (name : Bytes) (i : ℕ) → is_reader order i ≡ true → listed_reads (query_in (place_at gs i)) name ≡ reads_place name (place_at gs i)
+  reads_as : (name : Bytes) (i : ℕ) → is_reader order i ≡ true → listed_reads (query_in (place_at gs i)) name
+      ≡ reads_place name (place_at gs i)
   reads_as name i e =
       let t = order_there c gs order readers s i e in
       ap (λ (o : Option Live). listed_reads (query_in o) name) t.is ∙ sym (ap (reads_place name) t.is)
 
   pub readers_read : (at : ℕ) → at < length c.relations
-      → filter (λ r. listed_reads r.query (relation_at c.relations at).name) (registered_in gs ws order) ≡ registered_in gs ws (readers_at readers at)
+      → filter (λ r. listed_reads r.query (relation_at c.relations at).name) (registered_in gs ws order)
+      ≡ registered_in gs ws (readers_at readers at)
   readers_read at low =
       let name = (relation_at c.relations at).name in
       filter_mapped (λ r. listed_reads r.query name) (registered_as gs ws) order
-      ∙ ap (registered_in gs ws) (filter_members (λ i. listed_reads (query_in (place_at gs i)) name) (λ i. reads_place name (place_at gs i)) order (reads_as name)
+      ∙ ap (registered_in gs ws)
+      (filter_members (λ i. listed_reads (query_in (place_at gs i)) name) (λ i. reads_place name (place_at gs i))
+      order (reads_as name)
       ∙ sym (s.reading at low))
 
   pub readers_are : (at : ℕ) → at < length c.relations → (after : List Relation)
-      → readers_of (registered_in gs ws order) (one_change (relation_at c.relations at).name after) ≡ registered_in gs ws (readers_at readers at)
+      → readers_of (registered_in gs ws order) (one_change (relation_at c.relations at).name after)
+      ≡ registered_in gs ws (readers_at readers at)
   readers_are at low after =
       let name = (relation_at c.relations at).name in
       filter_mapped (λ r. is_some (by_relation name r.query)) (registered_as gs ws) order
-      ∙ ap (registered_in gs ws) (filter_members (λ i. is_some (by_relation name (query_in (place_at gs i)))) (λ i. reads_place name (place_at gs i)) order
+      ∙ ap (registered_in gs ws)
+      (filter_members (λ i. is_some (by_relation name (query_in (place_at gs i))))
+      (λ i. reads_place name (place_at gs i)) order
       (λ i e. outdated_reads name (query_in (place_at gs i)) ∙ reads_as name i e) ∙ sym (s.reading at low))
 
   pub filter_both : {A : Type 0} (p q : A → Bool) (xs : List A) → filter (λ x. p x && q x) xs ≡ filter q (filter p xs)
@@ -207,54 +252,73 @@ module _ (c : Catalog) (gs : List (Option Live)) (order : List ℕ) (readers : L
   filter_both p q (x ∷ xs) = step (p x) (filter_both p q xs)
     where
       step : (b : Bool) → filter (λ x. p x && q x) xs ≡ filter q (filter p xs)
-          → cond (b && q x) (x ∷ filter (λ x. p x && q x) xs) (filter (λ x. p x && q x) xs) ≡ filter q (cond b (x ∷ filter p xs) (filter p xs))
+          → cond (b && q x) (x ∷ filter (λ x. p x && q x) xs) (filter (λ x. p x && q x) xs)
+          ≡ filter q (cond b (x ∷ filter p xs) (filter p xs))
       step true e = ap (λ l. cond (q x) (x ∷ l) l) e
       step false e = e
 
   pub affected_are : (at : ℕ) → at < length c.relations → (after : List Relation)
-      → affected_of (registered_in gs ws order) (one_change (relation_at c.relations at).name after) ≡ registered_in gs ws (filter (watched_at ws) (readers_at readers at))
+      → affected_of (registered_in gs ws order) (one_change (relation_at c.relations at).name after)
+      ≡ registered_in gs ws (filter (watched_at ws) (readers_at readers at))
   affected_are at low after =
-      filter_both (λ r. is_some (by_relation (relation_at c.relations at).name r.query)) is_watched (registered_in gs ws order)
+      filter_both (λ r. is_some (by_relation (relation_at c.relations at).name r.query)) is_watched
+      (registered_in gs ws order)
       ∙ ap (filter is_watched) (readers_are at low after)
       ∙ filter_mapped is_watched (registered_as gs ws) (readers_at readers at)
 
   -- where nobody watches a query, nobody watches the readers of a relation
-  pub unwatched_readers : (at : ℕ) → at < length c.relations → All (λ r. is_watched r ≡ false) (registered_in gs ws order) → All (λ i. watched_at ws i ≡ false) (readers_at readers at)
+  pub unwatched_readers : (at : ℕ) → at < length c.relations
+      → All (λ r. is_watched r ≡ false) (registered_in gs ws order)
+      → All (λ i. watched_at ws i ≡ false) (readers_at readers at)
   unwatched_readers at low none =
       subst (λ (xs : List ℕ). All (λ i. watched_at ws i ≡ false) xs) (sym (s.reading at low))
-      (All-filter (λ i. reads_place (relation_at c.relations at).name (place_at gs i)) (λ i. watched_at ws i ≡ false) order (by_place order none))
+      (All-filter (λ i. reads_place (relation_at c.relations at).name (place_at gs i)) (λ i. watched_at ws i ≡ false)
+      order (by_place order none))
     where
-      by_place : (xs : List ℕ) → All (λ r. is_watched r ≡ false) (map (registered_as gs ws) xs) → All (λ i. watched_at ws i ≡ false) xs
+      by_place : (xs : List ℕ) → All (λ r. is_watched r ≡ false) (map (registered_as gs ws) xs)
+          → All (λ i. watched_at ws i ≡ false) xs
       by_place [] h = All-nil (λ i. watched_at ws i ≡ false)
       by_place (x ∷ xs) h =
-          All-cons (λ i. watched_at ws i ≡ false) x xs (All-head (λ r. is_watched r ≡ false) (registered_as gs ws x) (map (registered_as gs ws) xs) h)
+          All-cons (λ i. watched_at ws i ≡ false) x xs
+          (All-head (λ r. is_watched r ≡ false) (registered_as gs ws x) (map (registered_as gs ws) xs) h)
           (by_place xs (All-tail (λ r. is_watched r ≡ false) (registered_as gs ws x) (map (registered_as gs ws) xs) h))
 
 -- ---- other watchers
 
-module _ (gs : List (Option Live)) (ws vs : List ℕ) (id : QueryId) (f : ℕ → ℕ) (at_id : watchers_at vs id.at ≡ f (watchers_at ws id.at)) (others : (j : ℕ) → j ≢ id.at → watchers_at vs j ≡ watchers_at ws j) where
+module _ (gs : List (Option Live)) (ws vs : List ℕ) (id : QueryId) (f : ℕ → ℕ)
+    (at_id : watchers_at vs id.at ≡ f (watchers_at ws id.at))
+    (others : (j : ℕ) → j ≢ id.at → watchers_at vs j ≡ watchers_at ws j) where
   as_before : (j : ℕ) → j ≢ id.at → registered_as gs vs j ≡ registered_as gs ws j
   as_before j d = ap (λ (n : ℕ). registered_with (id_at j) (query_in (place_at gs j)) n) (others j d)
 
-  pub watchers_with : (xs : List ℕ) → AreOnce xs → is_reader xs id.at ≡ true → registered_in gs vs xs ≡ with_watchers id f (registered_in gs ws xs)
+  pub watchers_with : (xs : List ℕ) → AreOnce xs → is_reader xs id.at ≡ true → registered_in gs vs xs
+      ≡ with_watchers id f (registered_in gs ws xs)
   watchers_with [] once h = absurd (false≢true h)
   watchers_with (x ∷ xs) once h = step (x == id.at) refl h (watchers_with xs once.1)
     where
-      step : (b : Bool) → (x == id.at) ≡ b → (b || is_reader xs id.at) ≡ true → (is_reader xs id.at ≡ true → registered_in gs vs xs ≡ with_watchers id f (registered_in gs ws xs))
-          → registered_as gs vs x ∷ registered_in gs vs xs ≡ cond b (registered_with (id_at x) (query_in (place_at gs x)) (f (watchers_at ws x)) ∷ registered_in gs ws xs) (registered_as gs ws x ∷ with_watchers id f (registered_in gs ws xs))
+      step : (b : Bool) → (x == id.at) ≡ b → (b || is_reader xs id.at) ≡ true
+          → (is_reader xs id.at ≡ true → registered_in gs vs xs ≡ with_watchers id f (registered_in gs ws xs))
+          → registered_as gs vs x ∷ registered_in gs vs xs
+          ≡ cond b (registered_with (id_at x) (query_in (place_at gs x)) (f (watchers_at ws x)) ∷ registered_in gs
+          ws xs) (registered_as gs ws x ∷ with_watchers id f (registered_in gs ws xs))
       step true e k more =
           let same = eqb-true x id.at e in
           ap₂ (λ (n : ℕ) (rs : List Registered). registered_with (id_at x) (query_in (place_at gs x)) n ∷ rs)
           (ap (watchers_at vs) same ∙ at_id ∙ ap (λ (i : ℕ). f (watchers_at ws i)) (sym same))
-          (map_members (registered_as gs vs) (registered_as gs ws) xs (λ j m. as_before j (λ d. false≢true (sym once.0 ∙ ap (is_reader xs) (same ∙ sym d) ∙ m))))
+          (map_members (registered_as gs vs) (registered_as gs ws) xs
+          (λ j m. as_before j (λ d. false≢true (sym once.0 ∙ ap (is_reader xs) (same ∙ sym d) ∙ m))))
       step false e k more =
-          ap₂ (λ (r : Registered) (rs : List Registered). r ∷ rs) (as_before x (λ d. false≢true (sym e ∙ eq-eqb x id.at d))) (more k)
+          ap₂ (λ (r : Registered) (rs : List Registered). r ∷ rs)
+          (as_before x (λ d. false≢true (sym e ∙ eq-eqb x id.at d))) (more k)
 
 -- ---- a query more, and one less
 
-pub enlisted : (gs hs : List (Option Live)) (ws vs : List ℕ) (order : List ℕ) (place : ℕ) (q : Live) → is_reader order place ≡ false → place_at hs place ≡ Some q → watchers_at vs place ≡ 0
-    → ((i : ℕ) → i ≢ place → place_at hs i ≡ place_at gs i) → ((i : ℕ) → i ≢ place → watchers_at vs i ≡ watchers_at ws i)
-    → registered_in hs vs (order ++ place ∷ []) ≡ registered_in gs ws order ++ registered_with (id_at place) (a_query q.query) 0 ∷ []
+pub enlisted : (gs hs : List (Option Live)) (ws vs : List ℕ) (order : List ℕ) (place : ℕ) (q : Live)
+    → is_reader order place ≡ false → place_at hs place ≡ Some q → watchers_at vs place ≡ 0
+    → ((i : ℕ) → i ≢ place → place_at hs i ≡ place_at gs i)
+    → ((i : ℕ) → i ≢ place → watchers_at vs i ≡ watchers_at ws i)
+    → registered_in hs vs (order ++ place ∷ [])
+    ≡ registered_in gs ws order ++ registered_with (id_at place) (a_query q.query) 0 ∷ []
 enlisted gs hs ws vs order place q out at none others watched =
     map-append (registered_as hs vs) order (place ∷ [])
     ∙ ap₂ (λ (rs : List Registered) (r : Registered). rs ++ r ∷ [])
@@ -263,22 +327,31 @@ enlisted gs hs ws vs order place q out at none others watched =
     ap₂ (λ (o : Option Live) (n : ℕ). registered_with (id_at i) (query_in o) n) (others i d) (watched i d)))
     (ap₂ (λ (o : Option Live) (n : ℕ). registered_with (id_at place) (query_in o) n) at none)
 
-pub registered_same : (gs hs : List (Option Live)) (ws vs : List ℕ) (order : List ℕ) → ((i : ℕ) → query_in (place_at hs i) ≡ query_in (place_at gs i)) → ((i : ℕ) → watchers_at vs i ≡ watchers_at ws i)
+pub registered_same : (gs hs : List (Option Live)) (ws vs : List ℕ) (order : List ℕ)
+    → ((i : ℕ) → query_in (place_at hs i) ≡ query_in (place_at gs i)) → ((i : ℕ) → watchers_at vs i ≡ watchers_at ws i)
     → registered_in hs vs order ≡ registered_in gs ws order
 registered_same gs hs ws vs order e f =
-    map_members (registered_as hs vs) (registered_as gs ws) order (λ i h. ap₂ (λ (q : Listed) (n : ℕ). registered_with (id_at i) q n) (e i) (f i))
+    map_members (registered_as hs vs) (registered_as gs ws) order
+    (λ i h. ap₂ (λ (q : Listed) (n : ℕ). registered_with (id_at i) q n) (e i) (f i))
 
-pub delisted : (gs hs : List (Option Live)) (ws : List ℕ) (order : List ℕ) (at : ℕ) (name : Bytes) → ((i : ℕ) → i ≢ at → place_at hs i ≡ place_at gs i)
+pub delisted : (gs hs : List (Option Live)) (ws : List ℕ) (order : List ℕ) (at : ℕ) (name : Bytes)
+    → ((i : ℕ) → i ≢ at → place_at hs i ≡ place_at gs i)
     → ((j : ℕ) → is_reader order j ≡ true → bytes_eq (listed_name (query_in (place_at gs j))) name ≡ (j == at))
-    → registered_in hs ws (filter (λ i. not (i == at)) order) ≡ filter (λ r. not (bytes_eq (listed_name r.query) name)) (registered_in gs ws order)
+    → registered_in hs ws (filter (λ i. not (i == at)) order)
+    ≡ filter (λ r. not (bytes_eq (listed_name r.query) name)) (registered_in gs ws order)
 delisted gs hs ws [] at name others named = refl
 delisted gs hs ws (x ∷ xs) at name others named =
     step (x == at) refl (delisted gs hs ws xs at name others (λ j e. named j (behind x xs j e)))
-    ∙ sym (ap (λ b. cond (not b) (registered_as gs ws x ∷ filter (λ r. not (bytes_eq (listed_name r.query) name)) (registered_in gs ws xs)) (filter (λ r. not (bytes_eq (listed_name r.query) name)) (registered_in gs ws xs))) (named x (here x xs)))
+    ∙ sym (ap (λ b. cond (not b)
+    (registered_as gs ws x ∷ filter (λ r. not (bytes_eq (listed_name r.query) name)) (registered_in gs ws xs))
+    (filter (λ r. not (bytes_eq (listed_name r.query) name)) (registered_in gs ws xs))) (named x (here x xs)))
   where
-    step : (b : Bool) → (x == at) ≡ b → registered_in hs ws (filter (λ i. not (i == at)) xs) ≡ filter (λ r. not (bytes_eq (listed_name r.query) name)) (registered_in gs ws xs)
+    step : (b : Bool) → (x == at) ≡ b → registered_in hs ws (filter (λ i. not (i == at)) xs)
+        ≡ filter (λ r. not (bytes_eq (listed_name r.query) name)) (registered_in gs ws xs)
         → registered_in hs ws (cond (not b) (x ∷ filter (λ i. not (i == at)) xs) (filter (λ i. not (i == at)) xs))
-        ≡ cond (not b) (registered_as gs ws x ∷ filter (λ r. not (bytes_eq (listed_name r.query) name)) (registered_in gs ws xs)) (filter (λ r. not (bytes_eq (listed_name r.query) name)) (registered_in gs ws xs))
+        ≡ cond (not b) (registered_as gs ws x ∷ filter (λ r. not (bytes_eq (listed_name r.query) name))
+        (registered_in gs ws xs)) (filter (λ r. not (bytes_eq (listed_name r.query) name)) (registered_in gs ws xs))
     step true e h = h
     step false e h =
-        ap₂ (λ (o : Option Live) (rs : List Registered). registered_with (id_at x) (query_in o) (watchers_at ws x) ∷ rs) (others x (λ d. false≢true (sym e ∙ eq-eqb x at d))) h
+        ap₂ (λ (o : Option Live) (rs : List Registered). registered_with (id_at x) (query_in o) (watchers_at ws x) ∷ rs)
+        (others x (λ d. false≢true (sym e ∙ eq-eqb x at d))) h

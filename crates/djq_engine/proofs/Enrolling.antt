@@ -1,5 +1,7 @@
 -- A query more, or a query less: what is kept, and where all cursors stand.
-use Rattle.std.proofs.Common.{ℕ, zero, suc, List, [], ◌∷◌, ◌++◌, ◌≡◌, ◌≢◌, ◌<◌, ◌≤◌, ◌⊎◌, inl, inr, Bool, true, false, refl, sym, ap, ap₂, ◌∙◌, subst, length, set, length-set, arith, length-append, append-nil}
+use Rattle.std.proofs.Common.{ℕ, zero, suc, List, [], ◌∷◌, ◌++◌, ◌≡◌, ◌≢◌, ◌<◌, ◌≤◌, ◌⊎◌, inl, inr}
+use Rattle.std.proofs.Common.{Bool, true, false, refl, sym, ap, ap₂, ◌∙◌, subst, length, set}
+use Rattle.std.proofs.Common.{length-set, arith, length-append, append-nil}
 use Rattle.std.specs.Prelude.{◌==◌, ◌&&◌, ◌||◌, not, Option, None, Some, is_some, count_by, option_map, filter, cond}
 use Rattle.std.proofs.lemmas.Bool.{cases_lt, eqb-true, eq-eqb, false≢true}
 use Rattle.std.proofs.lemmas.List.Elements.{filter-append}
@@ -21,7 +23,8 @@ use Rattle.djq_engine.specs.Sound.{IsSound}
 use Rattle.djq_engine.specs.Placing.{SamePlaces, SameLists, LeavesAll, JoinsReaders, JoinsSome, AllOnce}
 use Rattle.djq_engine.proofs.Holding.{held_is, slot_none}
 use Rattle.djq_reach.proofs.Among.{apart, reader_more, or_true, or_false}
-use Rattle.djq_engine.proofs.Listing.{reader_filter, once_filter, once_push, filter_members, map_members, all_but, drop_listed, filter_twice}
+use Rattle.djq_engine.proofs.Listing.{reader_filter, once_filter, once_push, filter_members}
+use Rattle.djq_engine.proofs.Listing.{map_members, all_but, drop_listed, filter_twice}
 use Rattle.djq_engine.proofs.Naming.{query_there}
 use Rattle.djq_reach.proofs.Reaching.{everywhere, place_below}
 
@@ -33,12 +36,16 @@ none_some x o e f = cc
 
 -- ---- a query more
 
-module _ (c : Catalog) (gs hs : List (Option Live)) (order order' : List ℕ) (readers readers' : List (List ℕ)) (s : IsSound c gs order readers) (q : Live) (live : IsLive c q) (idle : q.cursors ≡ [])
-    (place : ℕ) (vacant : place_at gs place ≡ None) (here : place_at hs place ≡ Some q) (others : (i : ℕ) → i ≢ place → place_at hs i ≡ place_at gs i)
+module _ (c : Catalog) (gs hs : List (Option Live)) (order order' : List ℕ) (readers readers' : List (List ℕ))
+    (s : IsSound c gs order readers) (q : Live) (live : IsLive c q) (idle : q.cursors ≡ [])
+    (place : ℕ) (vacant : place_at gs place ≡ None) (here : place_at hs place ≡ Some q)
+    (others : (i : ℕ) → i ≢ place → place_at hs i ≡ place_at gs i)
     (last : order' ≡ order ++ place ∷ []) (joins : JoinsReaders c.relations q.query place readers readers')
-    (fresh : listed_of (queries_in gs order) q.query.name ≡ None) (few : length order < QUERIES) (bounded : length hs ≤ QUERIES) where
+    (fresh : listed_of (queries_in gs order) q.query.name ≡ None) (few : length order < QUERIES)
+    (bounded : length hs ≤ QUERIES) where
   unnamed_now : (j : ℕ) (m : Live) → place_at gs j ≡ Some m → m.query.name ≡ q.query.name → ⊥
-  unnamed_now j m e n = let found = query_there c gs order readers s q.query.name j m e n in let none = fresh in absurd (cc)
+  unnamed_now j m e n = let found = query_there c gs order readers s q.query.name j m e n in let none = fresh in absurd
+      (cc)
 
   not_listed : is_reader order place ≡ false
   not_listed = s.listed place ∙ ap is_some vacant
@@ -47,40 +54,54 @@ module _ (c : Catalog) (gs hs : List (Option Live)) (order order' : List ℕ) (r
   not_here i e same = false≢true (sym not_listed ∙ ap (is_reader order) (sym same) ∙ e)
 
   -- what holds of each query before and of the new one, holds of all
-  all_queries : (P : ℕ → Live → Type 0) → ((i : ℕ) (m : Live) → place_at gs i ≡ Some m → P i m) → P place q → (i : ℕ) (m : Live) → place_at hs i ≡ Some m → P i m
+  all_queries : (P : ℕ → Live → Type 0) → ((i : ℕ) (m : Live) → place_at gs i ≡ Some m → P i m) → P place q
+      → (i : ℕ) (m : Live) → place_at hs i ≡ Some m → P i m
   all_queries P old new = everywhere (λ i. (m : Live) → place_at hs i ≡ Some m → P i m) place
       (λ m e. subst (λ (x : Live). P place x) (same_some q m (sym here ∙ e)) new)
       (λ i d m e. old i m (sym (others i d) ∙ e))
 
-  named_all : (i j : ℕ) (l m : Live) → place_at hs i ≡ Some l → place_at hs j ≡ Some m → l.query.name ≡ m.query.name → i ≡ j
+  named_all : (i j : ℕ) (l m : Live) → place_at hs i ≡ Some l → place_at hs j ≡ Some m → l.query.name ≡ m.query.name → i
+      ≡ j
   named_all i j l m e f = all_queries (λ i l. (m : Live) → place_at hs j ≡ Some m → l.query.name ≡ m.query.name → i ≡ j)
-      (λ i l e m f. all_queries (λ j m. l.query.name ≡ m.query.name → i ≡ j) (λ j m f n. s.named i j l m e f n) (λ n. absurd (unnamed_now i l e n)) j m f)
-      (λ m f. all_queries (λ j m. q.query.name ≡ m.query.name → place ≡ j) (λ j m f n. absurd (unnamed_now j m f (sym n))) (λ n. refl) j m f) i l e m f
+      (λ i l e m f. all_queries (λ j m. l.query.name ≡ m.query.name → i ≡ j) (λ j m f n. s.named i j l m e f n)
+      (λ n. absurd (unnamed_now i l e n)) j m f)
+      (λ m f. all_queries (λ j m. q.query.name ≡ m.query.name → place ≡ j)
+      (λ j m f n. absurd (unnamed_now j m f (sym n))) (λ n. refl) j m f) i l e m f
 
   listed_all : (i : ℕ) → is_reader (order ++ place ∷ []) i ≡ is_live hs i
   listed_all = everywhere (λ i. is_reader (order ++ place ∷ []) i ≡ is_live hs i) place
-      (reader_more order place place ∙ ap (λ b. is_reader order place || b) (eq-eqb place place refl) ∙ or_true (is_reader order place) ∙ sym (ap is_some here))
-      (λ i d. reader_more order place i ∙ ap (λ b. is_reader order i || b) (apart place i (λ e. d (sym e))) ∙ or_false (is_reader order i) ∙ s.listed i
+      (reader_more order place place ∙ ap (λ b. is_reader order place || b) (eq-eqb place place refl)
+      ∙ or_true (is_reader order place) ∙ sym (ap is_some here))
+      (λ i d. reader_more order place i ∙ ap (λ b. is_reader order i || b) (apart place i (λ e. d (sym e)))
+      ∙ or_false (is_reader order i) ∙ s.listed i
       ∙ sym (ap is_some (others i d)))
 
-  over_before : (name : Bytes) → filter (λ i. reads_place name (place_at hs i)) order ≡ filter (λ i. reads_place name (place_at gs i)) order
-  over_before name = filter_members (λ i. reads_place name (place_at hs i)) (λ i. reads_place name (place_at gs i)) order
+  over_before : (name : Bytes) → filter (λ i. reads_place name (place_at hs i)) order
+      ≡ filter (λ i. reads_place name (place_at gs i)) order
+  over_before name = filter_members (λ i. reads_place name (place_at hs i)) (λ i. reads_place name (place_at gs i))
+      order
       (λ i e. ap (reads_place name) (others i (not_here i e)))
 
   over_new : (name : Bytes) (b : Bool) → reads q.query name ≡ b
-      → filter (λ i. reads_place name (place_at hs i)) (order ++ place ∷ []) ≡ filter (λ i. reads_place name (place_at gs i)) order ++ cond b (place ∷ []) []
+      → filter (λ i. reads_place name (place_at hs i)) (order ++ place ∷ [])
+      ≡ filter (λ i. reads_place name (place_at gs i)) order ++ cond b (place ∷ []) []
   over_new name b e =
       filter-append (λ i. reads_place name (place_at hs i)) order (place ∷ [])
       ∙ ap₂ (λ xs d. xs ++ cond d (place ∷ []) []) (over_before name) (ap (reads_place name) here ∙ e)
 
   readers_all : (r : ℕ) → r < length c.relations → (b : Bool) → reads q.query (relation_at c.relations r).name ≡ b
-      → readers_at readers' r ≡ filter (λ i. reads_place (relation_at c.relations r).name (place_at hs i)) (order ++ place ∷ [])
+      → readers_at readers' r
+      ≡ filter (λ i. reads_place (relation_at c.relations r).name (place_at hs i)) (order ++ place ∷ [])
   readers_all r low true e =
-      joins.each r (subst (λ (n : ℕ). r < n) (sym s.long) low) ∙ ap (λ b. cond b (readers_at readers r ++ place ∷ []) (readers_at readers r)) e
+      joins.each r (subst (λ (n : ℕ). r < n) (sym s.long) low)
+      ∙ ap (λ b. cond b (readers_at readers r ++ place ∷ []) (readers_at readers r)) e
       ∙ ap (λ xs. xs ++ place ∷ []) (s.reading r low) ∙ sym (over_new (relation_at c.relations r).name true e)
   readers_all r low false e =
-      joins.each r (subst (λ (n : ℕ). r < n) (sym s.long) low) ∙ ap (λ b. cond b (readers_at readers r ++ place ∷ []) (readers_at readers r)) e
-      ∙ s.reading r low ∙ sym (append-nil (filter (λ i. reads_place (relation_at c.relations r).name (place_at gs i)) order)) ∙ sym (over_new (relation_at c.relations r).name false e)
+      joins.each r (subst (λ (n : ℕ). r < n) (sym s.long) low)
+      ∙ ap (λ b. cond b (readers_at readers r ++ place ∷ []) (readers_at readers r)) e
+      ∙ s.reading r low ∙ sym
+      (append-nil (filter (λ i. reads_place (relation_at c.relations r).name (place_at gs i)) order))
+      ∙ sym (over_new (relation_at c.relations r).name false e)
 
   sound_with : IsSound c hs (order ++ place ∷ []) readers'
   sound_with = record {
@@ -98,8 +119,10 @@ module _ (c : Catalog) (gs hs : List (Option Live)) (order order' : List ℕ) (r
   registered_sound = subst (λ xs. IsSound c hs xs readers') (sym last) sound_with
 
   pub registered_cursors : SameCursors (held_from c.texts zero gs) (held_from c.texts zero hs)
-  registered_cursors id = held_is c.texts hs id ∙ everywhere (λ i. held_of c.texts id (place_at hs i) ≡ held_of c.texts id (place_at gs i)) place
-      (ap (held_of c.texts id) here ∙ ap (λ slots. option_map (held_as c.texts q id) (slot_at slots id.cursor)) idle ∙ ap (option_map (held_as c.texts q id)) (slot_none id.cursor)
+  registered_cursors id = held_is c.texts hs id
+      ∙ everywhere (λ i. held_of c.texts id (place_at hs i) ≡ held_of c.texts id (place_at gs i)) place
+      (ap (held_of c.texts id) here ∙ ap (λ slots. option_map (held_as c.texts q id) (slot_at slots id.cursor)) idle
+      ∙ ap (option_map (held_as c.texts q id)) (slot_none id.cursor)
       ∙ sym (ap (held_of c.texts id) vacant))
       (λ i d. ap (held_of c.texts id) (others i d)) id.query.at ∙ sym (held_is c.texts gs id)
 
@@ -107,7 +130,8 @@ module _ (c : Catalog) (gs hs : List (Option Live)) (order order' : List ℕ) (r
   registered_queries =
       ap (queries_in hs) last ∙ map-append (λ i. query_in (place_at hs i)) order (place ∷ [])
       ∙ ap₂ (λ (qs : List Listed) (x : Listed). qs ++ x ∷ [])
-      (map_members (λ i. query_in (place_at hs i)) (λ i. query_in (place_at gs i)) order (λ i e. ap query_in (others i (not_here i e))))
+      (map_members (λ i. query_in (place_at hs i)) (λ i. query_in (place_at gs i)) order
+      (λ i e. ap query_in (others i (not_here i e))))
       (ap query_in here)
 
 -- ---- a query less
@@ -116,7 +140,8 @@ filter_short : (p : ℕ → Bool) (xs : List ℕ) → length (filter p xs) ≤ l
 filter_short p [] = omega arith
 filter_short p (x ∷ xs) = step (p x) (filter_short p xs)
   where
-    step : (b : Bool) → length (filter p xs) ≤ length xs → length (cond b (x ∷ filter p xs) (filter p xs)) ≤ suc (length xs)
+    step : (b : Bool) → length (filter p xs) ≤ length xs
+        → length (cond b (x ∷ filter p xs) (filter p xs)) ≤ suc (length xs)
     step true h = omega (arith, h)
     step false h = omega (arith, h)
 
@@ -132,9 +157,11 @@ pub all_empty : (slots : List (Option Progress)) → count_by is_some slots ≡ 
 all_empty [] e k = slot_none k
 all_empty (None ∷ slots) e zero = refl
 all_empty (None ∷ slots) e (suc k) = all_empty slots e k
-all_empty (Some p ∷ slots) e k = absurd (omega (arith, e, sum_by-cons (λ (o : Option Progress). cond (is_some o) 1 0) (Some p) slots))
+all_empty (Some p ∷ slots) e k = absurd
+    (omega (arith, e, sum_by-cons (λ (o : Option Progress). cond (is_some o) 1 0) (Some p) slots))
 
-module _ (c : Catalog) (gs hs : List (Option Live)) (order order' : List ℕ) (readers readers' : List (List ℕ)) (s : IsSound c gs order readers) (at : ℕ) (l : Live) (there : place_at gs at ≡ Some l)
+module _ (c : Catalog) (gs hs : List (Option Live)) (order order' : List ℕ) (readers readers' : List (List ℕ))
+    (s : IsSound c gs order readers) (at : ℕ) (l : Live) (there : place_at gs at ≡ Some l)
     (is : hs ≡ set gs at None) (places : order' ≡ left at order) (leaves : LeavesAll at readers readers') where
   gone : place_at hs at ≡ None
   gone = ap (λ xs. place_at xs at) is ∙ get_or-set_same gs at None None (place_below gs at l there)
@@ -151,8 +178,10 @@ module _ (c : Catalog) (gs hs : List (Option Live)) (order order' : List ℕ) (r
     where
       by_place : (i : ℕ) → (is_reader order i && not (i == at)) ≡ is_live hs i
       by_place = everywhere (λ i. (is_reader order i && not (i == at)) ≡ is_live hs i) at
-          (ap (λ b. is_reader order at && not b) (eq-eqb at at refl) ∙ none_and (is_reader order at) ∙ sym (ap is_some gone))
-          (λ i d. ap (λ b. is_reader order i && not b) (apart i at d) ∙ all_and (is_reader order i) ∙ s.listed i ∙ sym (ap is_some (others i d)))
+          (ap (λ b. is_reader order at && not b) (eq-eqb at at refl) ∙ none_and (is_reader order at)
+          ∙ sym (ap is_some gone))
+          (λ i d. ap (λ b. is_reader order i && not b) (apart i at d) ∙ all_and (is_reader order i) ∙ s.listed i
+          ∙ sym (ap is_some (others i d)))
 
   member_apart : (i : ℕ) → is_reader (left at order) i ≡ true → i ≡ at → ⊥
   member_apart i e same = false≢true (sym (listed_left i ∙ ap (is_live hs) same ∙ ap is_some gone) ∙ e)
@@ -168,41 +197,55 @@ module _ (c : Catalog) (gs hs : List (Option Live)) (order order' : List ℕ) (r
     long = leaves.long ∙ s.long;
     reading = λ r low. leaves.each r ∙ ap (left at) (s.reading r low)
         ∙ filter_twice (λ j. not (j == at)) (λ i. reads_place (relation_at c.relations r).name (place_at gs i)) order
-        ∙ filter_members (λ i. reads_place (relation_at c.relations r).name (place_at gs i)) (λ i. reads_place (relation_at c.relations r).name (place_at hs i)) (left at order)
+        ∙ filter_members (λ i. reads_place (relation_at c.relations r).name (place_at gs i))
+        (λ i. reads_place (relation_at c.relations r).name (place_at hs i)) (left at order)
         (λ i e. ap (reads_place (relation_at c.relations r).name) (sym (others i (member_apart i e))));
   }
 
   pub dropped_sound : IsSound c hs order' readers'
   dropped_sound = subst (λ xs. IsSound c hs xs readers') (sym places) sound_left
 
-  pub dropped_cursors : are_vacant l.cursors ≡ true → SameCursors (held_from c.texts zero gs) (held_from c.texts zero hs)
-  dropped_cursors e id = held_is c.texts hs id ∙ everywhere (λ i. held_of c.texts id (place_at hs i) ≡ held_of c.texts id (place_at gs i)) at
+  pub dropped_cursors : are_vacant l.cursors ≡ true
+      → SameCursors (held_from c.texts zero gs) (held_from c.texts zero hs)
+  dropped_cursors e id = held_is c.texts hs id
+      ∙ everywhere (λ i. held_of c.texts id (place_at hs i) ≡ held_of c.texts id (place_at gs i)) at
       (ap (held_of c.texts id) gone
-      ∙ sym (ap (held_of c.texts id) there ∙ ap (option_map (held_as c.texts l id)) (all_empty l.cursors (eqb-true (count_by is_some l.cursors) 0 e) id.cursor)))
+      ∙ sym (ap (held_of c.texts id) there
+      ∙ ap (option_map (held_as c.texts l id))
+      (all_empty l.cursors (eqb-true (count_by is_some l.cursors) 0 e) id.cursor)))
       (λ i d. ap (held_of c.texts id) (others i d)) id.query.at ∙ sym (held_is c.texts gs id)
 
-  pub by_name : (j : ℕ) → is_reader order j ≡ true → bytes_eq (listed_name (query_in (place_at gs j))) l.query.name ≡ (j == at)
+  pub by_name : (j : ℕ) → is_reader order j ≡ true → bytes_eq (listed_name (query_in (place_at gs j))) l.query.name
+      ≡ (j == at)
   by_name j e = by_there (place_at gs j) refl (sym (s.listed j) ∙ e)
     where
-      by_test : (m : Live) → place_at gs j ≡ Some m → (b : Bool) → bytes_eq m.query.name l.query.name ≡ b → b ≡ (j == at)
-      by_test m f true h = sym (eq-eqb j at (s.named j at m l f there ((bytes_eq-decides m.query.name l.query.name).0 h)))
+      by_test : (m : Live) → place_at gs j ≡ Some m → (b : Bool) → bytes_eq m.query.name l.query.name ≡ b → b
+          ≡ (j == at)
+      by_test m f true h = sym
+          (eq-eqb j at (s.named j at m l f there ((bytes_eq-decides m.query.name l.query.name).0 h)))
       by_test m f false h = sym (apart j at (λ same.
           let equal : m ≡ l = same_some m l (sym f ∙ ap (place_at gs) same ∙ there) in
           false≢true (sym h ∙ (bytes_eq-decides m.query.name l.query.name).1 (ap (λ (x : Live). x.query.name) equal))))
 
-      by_there : (o : Option Live) → place_at gs j ≡ o → is_some (place_at gs j) ≡ true → bytes_eq (listed_name (query_in (place_at gs j))) l.query.name ≡ (j == at)
+      by_there : (o : Option Live) → place_at gs j ≡ o → is_some (place_at gs j) ≡ true
+          → bytes_eq (listed_name (query_in (place_at gs j))) l.query.name ≡ (j == at)
       by_there None f h = absurd (false≢true (sym (ap is_some f) ∙ h))
-      by_there (Some m) f h = ap (λ (o : Option Live). bytes_eq (listed_name (query_in o)) l.query.name) f ∙ by_test m f (bytes_eq m.query.name l.query.name) refl
+      by_there (Some m) f h = ap (λ (o : Option Live). bytes_eq (listed_name (query_in o)) l.query.name) f
+          ∙ by_test m f (bytes_eq m.query.name l.query.name) refl
 
-  pub dropped_queries : queries_in hs order' ≡ drop_first (λ q. bytes_eq (listed_name q) l.query.name) (queries_in gs order)
+  pub dropped_queries : queries_in hs order'
+      ≡ drop_first (λ q. bytes_eq (listed_name q) l.query.name) (queries_in gs order)
   dropped_queries =
       ap (queries_in hs) places
-      ∙ map_members (λ i. query_in (place_at hs i)) (λ i. query_in (place_at gs i)) (left at order) (λ i e. ap query_in (others i (member_apart i e)))
+      ∙ map_members (λ i. query_in (place_at hs i)) (λ i. query_in (place_at gs i)) (left at order)
+      (λ i e. ap query_in (others i (member_apart i e)))
       ∙ sym (drop_listed (λ i. query_in (place_at gs i)) order l.query.name at s.once by_name)
 
 -- ---- places and lists in which the same stands
 
-pub sound_same : (c : Catalog) (gs hs : List (Option Live)) (order : List ℕ) (readers readers' : List (List ℕ)) → SamePlaces gs hs → SameLists readers readers' → length hs ≤ QUERIES → IsSound c gs order readers → IsSound c hs order readers'
+pub sound_same : (c : Catalog) (gs hs : List (Option Live)) (order : List ℕ) (readers readers' : List (List ℕ))
+    → SamePlaces gs hs → SameLists readers readers' → length hs ≤ QUERIES → IsSound c gs order readers
+    → IsSound c hs order readers'
 sound_same c gs hs order readers readers' e f bounded s = record {
   live = λ i l h. s.live i l (sym (e i) ∙ h);
   named = λ i j l m h k n. s.named i j l m (sym (e i) ∙ h) (sym (e j) ∙ k) n;
@@ -212,33 +255,42 @@ sound_same c gs hs order readers readers' e f bounded s = record {
   bounded = bounded;
   long = f.long ∙ s.long;
   reading = λ r low. f.each r ∙ s.reading r low
-      ∙ filter_members (λ i. reads_place (relation_at c.relations r).name (place_at gs i)) (λ i. reads_place (relation_at c.relations r).name (place_at hs i)) order
+      ∙ filter_members (λ i. reads_place (relation_at c.relations r).name (place_at gs i))
+      (λ i. reads_place (relation_at c.relations r).name (place_at hs i)) order
       (λ i h. ap (reads_place (relation_at c.relations r).name) (sym (e i)));
 }
 
-pub queries_same : (gs hs : List (Option Live)) (order : List ℕ) → SamePlaces gs hs → queries_in hs order ≡ queries_in gs order
-queries_same gs hs order e = map_members (λ i. query_in (place_at hs i)) (λ i. query_in (place_at gs i)) order (λ i h. ap query_in (e i))
+pub queries_same : (gs hs : List (Option Live)) (order : List ℕ) → SamePlaces gs hs → queries_in hs order
+    ≡ queries_in gs order
+queries_same gs hs order e = map_members (λ i. query_in (place_at hs i)) (λ i. query_in (place_at gs i)) order
+    (λ i h. ap query_in (e i))
 
-pub cursors_same : (texts : List Bytes) (gs hs : List (Option Live)) → SamePlaces gs hs → SameCursors (held_from texts zero gs) (held_from texts zero hs)
+pub cursors_same : (texts : List Bytes) (gs hs : List (Option Live)) → SamePlaces gs hs
+    → SameCursors (held_from texts zero gs) (held_from texts zero hs)
 cursors_same texts gs hs e id = held_is texts hs id ∙ ap (held_of texts id) (e id.query.at) ∙ sym (held_is texts gs id)
 
 -- ---- the readers of all relations
 
-pub lists_once : (c : Catalog) (gs : List (Option Live)) (order : List ℕ) (readers : List (List ℕ)) → IsSound c gs order readers → AllOnce readers
+pub lists_once : (c : Catalog) (gs : List (Option Live)) (order : List ℕ) (readers : List (List ℕ))
+    → IsSound c gs order readers → AllOnce readers
 lists_once c gs order readers s r = by_length (cases_lt r (length c.relations))
   where
     by_length : (r < length c.relations) ⊎ (length c.relations ≤ r) → AreOnce (readers_at readers r)
-    by_length (inl low) = subst AreOnce (sym (s.reading r low)) (once_filter (λ i. reads_place (relation_at c.relations r).name (place_at gs i)) order s.once)
+    by_length (inl low) = subst AreOnce (sym (s.reading r low))
+        (once_filter (λ i. reads_place (relation_at c.relations r).name (place_at gs i)) order s.once)
     by_length (inr high) = subst AreOnce (sym (get_or_past readers r [] (omega (arith, high, s.long)))) tt
 
 -- a vacant place is in no list
-pub lists_without : (c : Catalog) (gs : List (Option Live)) (order : List ℕ) (readers : List (List ℕ)) (place : ℕ) → IsSound c gs order readers → place_at gs place ≡ None → (r : ℕ) → is_reader (readers_at readers r) place ≡ false
+pub lists_without : (c : Catalog) (gs : List (Option Live)) (order : List ℕ) (readers : List (List ℕ)) (place : ℕ)
+    → IsSound c gs order readers → place_at gs place ≡ None → (r : ℕ) → is_reader (readers_at readers r) place ≡ false
 lists_without c gs order readers place s vacant r = by_length (cases_lt r (length c.relations))
   where
     by_length : (r < length c.relations) ⊎ (length c.relations ≤ r) → is_reader (readers_at readers r) place ≡ false
     by_length (inl low) =
-        ap (λ xs. is_reader xs place) (s.reading r low) ∙ reader_filter (λ i. reads_place (relation_at c.relations r).name (place_at gs i)) order place
-        ∙ ap (λ b. is_reader order place && b) (ap (reads_place (relation_at c.relations r).name) vacant) ∙ none_and (is_reader order place)
+        ap (λ xs. is_reader xs place) (s.reading r low)
+        ∙ reader_filter (λ i. reads_place (relation_at c.relations r).name (place_at gs i)) order place
+        ∙ ap (λ b. is_reader order place && b) (ap (reads_place (relation_at c.relations r).name) vacant)
+        ∙ none_and (is_reader order place)
     by_length (inr high) = ap (λ xs. is_reader xs place) (get_or_past readers r [] (omega (arith, high, s.long)))
 
 left_pushed : (xs : List ℕ) (i : ℕ) → is_reader xs i ≡ false → left i (xs ++ i ∷ []) ≡ xs
@@ -247,19 +299,23 @@ left_pushed xs i e =
     ∙ append-nil (left i xs) ∙ all_but xs i e
 
 -- a place that joined some lists, and left them again
-pub joined_once : (place : ℕ) (old new : List (List ℕ)) → AllOnce old → ((r : ℕ) → is_reader (readers_at old r) place ≡ false) → JoinsSome place old new → AllOnce new
+pub joined_once : (place : ℕ) (old new : List (List ℕ)) → AllOnce old
+    → ((r : ℕ) → is_reader (readers_at old r) place ≡ false) → JoinsSome place old new → AllOnce new
 joined_once place old new once out joins r = by_case (joins.each r)
   where
-    by_case : (readers_at new r ≡ readers_at old r) ⊎ (readers_at new r ≡ readers_at old r ++ place ∷ []) → AreOnce (readers_at new r)
+    by_case : (readers_at new r ≡ readers_at old r) ⊎ (readers_at new r ≡ readers_at old r ++ place ∷ [])
+        → AreOnce (readers_at new r)
     by_case (inl e) = subst AreOnce (sym e) (once r)
     by_case (inr e) = subst AreOnce (sym e) (once_push (readers_at old r) place (once r) (out r))
 
-pub joined_left : (place : ℕ) (old mid new : List (List ℕ)) → ((r : ℕ) → is_reader (readers_at old r) place ≡ false) → JoinsSome place old mid → LeavesAll place mid new → SameLists old new
+pub joined_left : (place : ℕ) (old mid new : List (List ℕ)) → ((r : ℕ) → is_reader (readers_at old r) place ≡ false)
+    → JoinsSome place old mid → LeavesAll place mid new → SameLists old new
 joined_left place old mid new out joins leaves = record {
   long = leaves.long ∙ joins.long;
   each = λ r. leaves.each r ∙ by_case r (joins.each r);
 }
   where
-    by_case : (r : ℕ) → (readers_at mid r ≡ readers_at old r) ⊎ (readers_at mid r ≡ readers_at old r ++ place ∷ []) → left place (readers_at mid r) ≡ readers_at old r
+    by_case : (r : ℕ) → (readers_at mid r ≡ readers_at old r) ⊎ (readers_at mid r ≡ readers_at old r ++ place ∷ [])
+        → left place (readers_at mid r) ≡ readers_at old r
     by_case r (inl e) = ap (left place) e ∙ all_but (readers_at old r) place (out r)
     by_case r (inr e) = ap (left place) e ∙ left_pushed (readers_at old r) place (out r)

@@ -1,5 +1,6 @@
 -- What the place of the first that passes tells of look-ups and changes.
-use Rattle.std.proofs.Common.{ℕ, zero, suc, List, [], ◌∷◌, ◌++◌, ◌≡◌, ◌<◌, ◌⊎◌, inl, inr, Bool, true, false, refl, ap, ◌∙◌, length, get_or, set, arith, length-append}
+use Rattle.std.proofs.Common.{ℕ, zero, suc, List, [], ◌∷◌, ◌++◌, ◌≡◌, ◌<◌, ◌⊎◌, inl, inr, Bool}
+use Rattle.std.proofs.Common.{true, false, refl, ap, ◌∙◌, length, get_or, set, arith, length-append}
 use Rattle.std.specs.Prelude.{None, Some, find, position, cond, map, option_map, nat_lt}
 use Rattle.std.specs.List.{position_or_len}
 use Rattle.std.proofs.lemmas.Bool.{ltb-false, cases_order}
@@ -27,23 +28,28 @@ none_below false n e = refl
 pub none_of_position : {A : Type 0} (p : A → Bool) (xs : List A) → position p xs ≡ None → find p xs ≡ None
 none_of_position p xs e =
     find_at p xs ∙ slice_get_past xs (position_or_len p xs)
-    (ltb-false (position_or_len p xs) (length xs) (none_below (nat_lt (position_or_len p xs) (length xs)) (position_or_len p xs) e))
+    (ltb-false (position_or_len p xs) (length xs)
+    (none_below (nat_lt (position_or_len p xs) (length xs)) (position_or_len p xs) e))
 
 -- a first one, and look-ups
 
-pub first_behind : {A : Type 0} (p : A → Bool) (x : A) (xs : List A) (i : ℕ) → IsFirst p (x ∷ xs) (suc i) → IsFirst p xs i
+pub first_behind : {A : Type 0} (p : A → Bool) (x : A) (xs : List A) (i : ℕ) → IsFirst p (x ∷ xs) (suc i)
+    → IsFirst p xs i
 first_behind p x xs i h = record {
   below = omega (arith, h.below);
   passes = λ d. h.passes d;
   before = λ k d l. h.before (suc k) d (omega arith);
 }
 
-pub first_found : {A : Type 0} (p : A → Bool) (xs : List A) (i : ℕ) (d : A) → IsFirst p xs i → find p xs ≡ Some (get_or xs i d)
+pub first_found : {A : Type 0} (p : A → Bool) (xs : List A) (i : ℕ) (d : A) → IsFirst p xs i → find p xs
+    ≡ Some (get_or xs i d)
 first_found p [] i d h = absurd (omega (arith, h.below))
 first_found p (x ∷ xs) zero d h = let e : p x ≡ true = h.passes d in rw e refl
-first_found p (x ∷ xs) (suc i) d h = let e : p x ≡ false = h.before zero d (omega arith) in rw e (first_found p xs i d (first_behind p x xs i h))
+first_found p (x ∷ xs) (suc i) d h = let e : p x
+    ≡ false = h.before zero d (omega arith) in rw e (first_found p xs i d (first_behind p x xs i h))
 
-pub first_changed : {A : Type 0} (p : A → Bool) (f : A → A) (xs : List A) (i : ℕ) (d : A) → IsFirst p xs i → change_first p f xs ≡ set xs i (f (get_or xs i d))
+pub first_changed : {A : Type 0} (p : A → Bool) (f : A → A) (xs : List A) (i : ℕ) (d : A) → IsFirst p xs i
+    → change_first p f xs ≡ set xs i (f (get_or xs i d))
 first_changed p f [] i d h = absurd (omega (arith, h.below))
 first_changed p f (x ∷ xs) zero d h = let e : p x ≡ true = h.passes d in rw e refl
 first_changed p f (x ∷ xs) (suc i) d h = let e : p x ≡ false = h.before zero d (omega arith) in
@@ -64,7 +70,8 @@ firsts_same p xs i j d f g = by_order (cases_order i j)
 
 -- the same test, on images and on longer lists
 
-pub first_mapped : {A B : Type 0} (p : B → Bool) (f : A → B) (xs : List A) (i : ℕ) (b : B) → IsFirst (λ x. p (f x)) xs i → IsFirst p (map f xs) i
+pub first_mapped : {A B : Type 0} (p : B → Bool) (f : A → B) (xs : List A) (i : ℕ) (b : B) → IsFirst (λ x. p (f x)) xs i
+    → IsFirst p (map f xs) i
 first_mapped p f [] i b h = absurd (omega (arith, h.below))
 first_mapped p f (x ∷ xs) i b h =
     let size = length-map (x ∷ xs) f in record {
@@ -73,7 +80,8 @@ first_mapped p f (x ∷ xs) i b h =
       before = λ k d l. ap p (get_or-map f (x ∷ xs) k x d (omega (arith, h.below))) ∙ h.before k x l;
     }
 
-pub find_mapped : {A B : Type 0} (p : B → Bool) (f : A → B) (xs : List A) → find p (map f xs) ≡ option_map f (find (λ x. p (f x)) xs)
+pub find_mapped : {A B : Type 0} (p : B → Bool) (f : A → B) (xs : List A) → find p (map f xs)
+    ≡ option_map f (find (λ x. p (f x)) xs)
 find_mapped p f [] = refl
 find_mapped p f (x ∷ xs) = step (p (f x)) (find_mapped p f xs)
   where
@@ -90,7 +98,8 @@ first_more p xs ys i h = record {
 }
 
 -- the same list but for what the test doesn't see
-pub first_as : {A : Type 0} (p : A → Bool) (xs ys : List A) (i : ℕ) (e : A) → length ys ≡ length xs → ((k : ℕ) (d : A) → k < length xs → p (get_or ys k d) ≡ p (get_or xs k d))
+pub first_as : {A : Type 0} (p : A → Bool) (xs ys : List A) (i : ℕ) (e : A) → length ys ≡ length xs
+    → ((k : ℕ) (d : A) → k < length xs → p (get_or ys k d) ≡ p (get_or xs k d))
     → IsFirst p xs i → IsFirst p ys i
 first_as p xs ys i e size same h = record {
   below = omega (arith, h.below, size);

@@ -1,5 +1,6 @@
 -- Rows in front of a batch, of each of whose relations one came: these outdate what all outdate.
-use Rattle.std.proofs.Common.{ℕ, zero, suc, List, [], ◌∷◌, ◌++◌, ◌+◌, ◌≡◌, ◌≤◌, Bool, true, false, refl, sym, ap, ◌∙◌, subst, length, take, drop, arith}
+use Rattle.std.proofs.Common.{ℕ, zero, suc, List, [], ◌∷◌, ◌++◌, ◌+◌, ◌≡◌, ◌≤◌, Bool, true, false}
+use Rattle.std.proofs.Common.{refl, sym, ap, ◌∙◌, subst, length, take, drop, arith}
 use Rattle.std.specs.Prelude.{◌&&◌, ◌||◌, ◌==◌, not, cond, Option, None, Some, find, map}
 use Rattle.std.specs.List.{list_any}
 use Rattle.std.proofs.lemmas.Bool.{eqb-true, false≢true}
@@ -28,7 +29,8 @@ both_true true c e = (refl, e)
 both_true false c e = absurd (false≢true e)
 
 -- where there are no more groups behind it, a row of the same relation came before
-module _ (st : Store) (xs : List HeldRow) (c : Catalog) (count : ℕ) (groups : List Group) (p : PutsAll st xs c count groups)
+module _ (st : Store) (xs : List HeldRow) (c : Catalog) (count : ℕ) (groups : List Group)
+    (p : PutsAll st xs c count groups)
     (h : HeldRow) (seq : ℕ) (d : Catalog) (after : List Group) where
   came_before : (n : ℕ) → PutsOne c groups h seq n d after → length after ≡ length groups
       → is_there (with_all st xs) h ≡ false → has_come st xs h.relation ≡ true
@@ -78,7 +80,8 @@ module _ (st : Store) (xs : List HeldRow) (c : Catalog) (count : ℕ) (groups : 
         behind : has_come st (xs ++ h ∷ []) name ≡ true
         behind = subst (λ (ys : List HeldRow). has_come st ys name ≡ true) next hit
 
-        by : (b : Bool) → (length groups == length after) ≡ b → now ≡ cond b first (at + 1) → has_come st (take now held) name ≡ true
+        by : (b : Bool) → (length groups == length after) ≡ b → now ≡ cond b first (at + 1)
+            → has_come st (take now held) name ≡ true
         by true e k = subst (λ (m : ℕ). has_come st (take m held) name ≡ true) (sym k)
             (before name (front n one (sym (eqb-true (length groups) (length after) e)) name behind))
         by false e k = subst (λ (m : ℕ). has_come st (take m held) name ≡ true) (sym k) hit
@@ -102,7 +105,8 @@ find_front {A = A} p (x ∷ xs) ys front = by (p x) refl (λ f. find_front p xs 
     by false e rest = rest (λ y k. sym (ap (λ b. b || list_any p xs) e) ∙ front y k)
 
 -- a name that passes, and of which a row came, is among those of the rows
-came_passes : (st : Store) (xs : List HeldRow) (p : Bytes → Bool) (name : Bytes) → p name ≡ true → has_come st xs name ≡ true
+came_passes : (st : Store) (xs : List HeldRow) (p : Bytes → Bool) (name : Bytes) → p name ≡ true → has_come st xs name
+    ≡ true
     → list_any p (map (λ (h : HeldRow). h.relation) xs) ≡ true
 came_passes st [] p name pass hit = absurd (false≢true hit)
 came_passes st (x ∷ xs) p name pass hit =
@@ -115,7 +119,8 @@ came_passes st (x ∷ xs) p name pass hit =
     or_true true = refl
     or_true false = refl
 
-    by : (b : Bool) → bytes_eq x.relation name ≡ b → (t : Bool) → ((b && not t) || has_come (with_held st x) xs name) ≡ true
+    by : (b : Bool) → bytes_eq x.relation name ≡ b → (t : Bool) → ((b && not t) || has_come (with_held st x) xs name)
+        ≡ true
         → (has_come (with_held st x) xs name ≡ true → rest ≡ true) → (p x.relation || rest) ≡ true
     by true e t k more = ap (λ b. b || rest) (ap p ((bytes_eq-decides x.relation name).0 e) ∙ pass)
     by false e t k more = ap (λ b. p x.relation || b) (more k) ∙ or_true (p x.relation)
@@ -124,7 +129,8 @@ module _ (st : Store) (held : List HeldRow) (first : ℕ) (c : ComeFirst st held
   same_read : (q : Listed) → first_read (take first held) (has_come st held) q ≡ first_read held (has_come st held) q
   same_read q =
       sym (find_front passes names (map (λ (h : HeldRow). h.relation) (drop first held))
-      (λ name e. came_passes st (take first held) passes name e (c name (both_true (has_come st held name) (listed_reads q name) e).0)))
+      (λ name e. came_passes st (take first held) passes name e
+      (c name (both_true (has_come st held name) (listed_reads q name) e).0)))
       ∙ ap (find passes) (sym (map-append (λ (h : HeldRow). h.relation) (take first held) (drop first held))
       ∙ ap (map (λ (h : HeldRow). h.relation)) (take-append-drop first held))
     where
@@ -134,7 +140,8 @@ module _ (st : Store) (held : List HeldRow) (first : ℕ) (c : ComeFirst st held
       names : List Bytes
       names = map (λ (h : HeldRow). h.relation) (take first held)
 
-  pub ages_first : (n : ℕ) (gs hs : List (Option Live)) → AgesAll (first_read (take first held) (has_come st held)) n gs hs
+  pub ages_first : (n : ℕ) (gs hs : List (Option Live))
+      → AgesAll (first_read (take first held) (has_come st held)) n gs hs
       → AgesAll (first_read held (has_come st held)) n gs hs
   ages_first n gs hs a = record { long = a.long; each = λ i. by (place_at gs i) (place_at hs i) (a.each i) }
     where

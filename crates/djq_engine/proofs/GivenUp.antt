@@ -1,5 +1,6 @@
 -- A batch for which memory lacks: what is kept, where cursors stand, and what is told.
-use Rattle.std.proofs.Common.{ℕ, List, [], ◌∷◌, ◌++◌, ◌+◌, ◌≡◌, ◌<◌, ◌≤◌, ◌⊎◌, inl, inr, Bool, true, false, refl, sym, ap, ap₂, ◌∙◌, subst, length, get_or, arith}
+use Rattle.std.proofs.Common.{ℕ, List, [], ◌∷◌, ◌++◌, ◌+◌, ◌≡◌, ◌<◌, ◌≤◌, ◌⊎◌, inl, inr, Bool, true}
+use Rattle.std.proofs.Common.{false, refl, sym, ap, ap₂, ◌∙◌, subst, length, get_or, arith}
 use Rattle.std.specs.Prelude.{◌&&◌, Option, None, Some, is_some, IsSome, sum_by, All}
 use Rattle.std.proofs.lemmas.Bool.{cases_lt, false≢true}
 use Rattle.std.proofs.lemmas.List.{get_or_past}
@@ -36,7 +37,8 @@ use Rattle.djq_engine.specs.Outdating.{AreReaders, AgesAll, GivesUp, reads_held}
 use Rattle.djq_engine.specs.Watching.{TellsChange}
 use Rattle.djq_engine.specs.Whole.{kept_in, IsWhole, IsTended}
 use Rattle.djq_engine.proofs.Adding.{names_kept}
-use Rattle.djq_engine.proofs.Affecting.{outdated_places, place_is, both_true, AreFor, deltas_with, Discards, refused_tells}
+use Rattle.djq_engine.proofs.Affecting.{outdated_places, place_is, both_true, AreFor, deltas_with}
+use Rattle.djq_engine.proofs.Affecting.{Discards, refused_tells}
 use Rattle.djq_engine.proofs.Carrying.{readers_once, reader_is}
 use Rattle.djq_engine.proofs.Naming.{There, live_there}
 use Rattle.djq_engine.proofs.Outdated.{reads_first}
@@ -50,41 +52,52 @@ use Rattle.djq_engine.proofs.Told.{AlikeAt, AreAlike, told_is, told_empty}
 
 -- ---- what holds before
 
-pub sound_readers : (c : Catalog) (gs : List (Option Live)) (order : List ℕ) (readers : List (List ℕ)) → IsSound c gs order readers → AreReaders c.relations readers gs
+pub sound_readers : (c : Catalog) (gs : List (Option Live)) (order : List ℕ) (readers : List (List ℕ))
+    → IsSound c gs order readers → AreReaders c.relations readers gs
 sound_readers c gs order readers s = record {
   long = s.long;
   once = λ r. by_length r (cases_lt r (length c.relations));
-  reading = λ r i low. reader_is c gs order readers s r low i ∙ by_place (relation_at c.relations r).name (place_at gs i);
+  reading = λ r i low. reader_is c gs order readers s r low i
+      ∙ by_place (relation_at c.relations r).name (place_at gs i);
 }
   where
     by_length : (r : ℕ) → (r < length c.relations) ⊎ (length c.relations ≤ r) → AreOnce (readers_at readers r)
     by_length r (inl low) = readers_once c gs order readers s r low
-    by_length r (inr high) = subst (λ (ps : List ℕ). AreOnce ps) (sym (get_or_past readers r [] (omega (arith, high, s.long)))) tt
+    by_length r (inr high) = subst (λ (ps : List ℕ). AreOnce ps)
+        (sym (get_or_past readers r [] (omega (arith, high, s.long)))) tt
 
     by_place : (name : Bytes) (o : Option Live) → (is_some o && reads_place name o) ≡ reads_place name o
     by_place name None = refl
     by_place name (Some l) = refl
 
 -- a place of a reader has a log
-pub readers_logged : (p : Parts) → IsWhole p → IsTended p → (r i : ℕ) → is_reader (readers_at p.readers.items r) i ≡ true → i < length p.logs.items
+pub readers_logged : (p : Parts) → IsWhole p → IsTended p → (r i : ℕ) → is_reader (readers_at p.readers.items r) i
+    ≡ true → i < length p.logs.items
 readers_logged p s t r i e = by_length (cases_lt r (length (p.catalog).relations))
   where
     by_length : (r < length (p.catalog).relations) ⊎ (length (p.catalog).relations ≤ r) → i < length p.logs.items
     by_length (inl low) =
-        let there = live_there p.queries.items i (both_true (is_live p.queries.items i) _ (sym (reader_is p.catalog p.queries.items p.order p.readers.items s r low i) ∙ e)).0 in
+        let there = live_there p.queries.items i
+        (both_true (is_live p.queries.items i) _
+        (sym (reader_is p.catalog p.queries.items p.order p.readers.items s r low i) ∙ e)).0 in
         let below = place_below p.queries.items i there.query there.is in
         omega (arith, below, t.logged)
-    by_length (inr high) = absurd (false≢true (sym (ap (λ (ps : List ℕ). is_reader ps i) (get_or_past p.readers.items r [] (omega (arith, high, s.long)))) ∙ e))
+    by_length (inr high) = absurd
+        (false≢true (sym (ap (λ (ps : List ℕ). is_reader ps i)
+        (get_or_past p.readers.items r [] (omega (arith, high, s.long)))) ∙ e))
 
 -- held rows that suit have their relations
-pub suits_found : (st : Store) (h : HeldRow) → suit_refusal st h.relation h.row ≡ None → IsSome (relation_of st.relations h.relation)
+pub suits_found : (st : Store) (h : HeldRow) → suit_refusal st h.relation h.row ≡ None
+    → IsSome (relation_of st.relations h.relation)
 suits_found st h e = by_relation (relation_of st.relations h.relation) refl
   where
     by_relation : (o : Option Relation) → relation_of st.relations h.relation ≡ o → IsSome o
-    by_relation None f = let k : suit_refusal st h.relation h.row ≡ Some NoRelation = suited_none st.relations h.relation h.row f in absurd cc
+    by_relation None f = let k : suit_refusal st h.relation h.row
+        ≡ Some NoRelation = suited_none st.relations h.relation h.row f in absurd cc
     by_relation (Some r) f = refl
 
-pub all_found : (st : Store) (held : List HeldRow) → SuitAll st held → All (λ h. IsSome (relation_of st.relations h.relation)) held
+pub all_found : (st : Store) (held : List HeldRow) → SuitAll st held
+    → All (λ h. IsSome (relation_of st.relations h.relation)) held
 all_found st held suit k d low = suits_found st (get_or held k d) (suit k d low)
 
 -- ---- what is kept once it is given up
@@ -94,8 +107,10 @@ module _ (old mid new : Parts) (s : IsWhole old) (t : IsTended old) (held : List
     (reach : Reach places (Renews mid.catalog) old.queries.items mid.queries.items)
     (stay : (i : ℕ) (l : Live) → place_at old.queries.items i ≡ Some l → StaysOver old.catalog mid.catalog l)
     (within : (i : ℕ) → is_reader places i ≡ true → reads_held held (place_at old.queries.items i) ≡ true)
-    (relations : (mid.catalog).relations ≡ (old.catalog).relations) (more : List Bytes) (texts : (mid.catalog).texts ≡ (old.catalog).texts ++ more)
-    (rest : KeepsRest old mid) (logs : KeepsLogs (λ i. reads_held held (place_at old.queries.items i)) old mid) (g : GivesUp held mid new) where
+    (relations : (mid.catalog).relations ≡ (old.catalog).relations) (more : List Bytes)
+    (texts : (mid.catalog).texts ≡ (old.catalog).texts ++ more)
+    (rest : KeepsRest old mid) (logs : KeepsLogs (λ i. reads_held held (place_at old.queries.items i)) old mid)
+    (g : GivesUp held mid new) where
   abbrev outdater : Listed → Option Bytes
   outdater = first_read held (λ name. true)
 
@@ -103,12 +118,14 @@ module _ (old mid new : Parts) (s : IsWhole old) (t : IsTended old) (held : List
   change = rows_tried (kept_in old).store held
 
   -- whether a query reads a held relation
-  reads_there : (i : ℕ) (x : There old.queries.items i) → reads_held held (place_at old.queries.items i) ≡ is_some (outdater (query_in (place_at old.queries.items i)))
+  reads_there : (i : ℕ) (x : There old.queries.items i) → reads_held held (place_at old.queries.items i)
+      ≡ is_some (outdater (query_in (place_at old.queries.items i)))
   reads_there i x =
       ap (reads_held held) x.is ∙ reads_first held x.query
       ∙ ap (λ (o : Option Live). is_some (outdater (query_in o))) (sym x.is)
 
-  reader_there : (i : ℕ) (o : Option Live) → place_at old.queries.items i ≡ o → reads_held held o ≡ true → There old.queries.items i
+  reader_there : (i : ℕ) (o : Option Live) → place_at old.queries.items i ≡ o → reads_held held o ≡ true
+      → There old.queries.items i
   reader_there i None e h = absurd (false≢true (sym (no_place held) ∙ h))
     where
       no_place : (xs : List HeldRow) → reads_held xs None ≡ false
@@ -120,7 +137,8 @@ module _ (old mid new : Parts) (s : IsWhole old) (t : IsTended old) (held : List
   turned = record {
     reach = reach;
     stay = λ i l e f. stay i l e;
-    within = λ i e. (let r = within i e in sym (reads_there i (reader_there i (place_at old.queries.items i) refl r)) ∙ r);
+    within = λ i e. (let r = within i e in sym (reads_there i (reader_there i (place_at old.queries.items i) refl r))
+        ∙ r);
     names = names_kept old.catalog mid.catalog relations;
     ages = subst (λ (n : ℕ). AgesAll outdater n mid.queries.items new.queries.items) (sym g.rest.seq) g.queries;
     catalog = g.catalog;
@@ -147,18 +165,25 @@ module _ (old mid new : Parts) (s : IsWhole old) (t : IsTended old) (held : List
   -- but for texts the store is as it was
   pub given_store : (kept_in new).store ≡ record (kept_in old).store { texts = (kept_in new).store.texts }
   given_store =
-      ap₂ (λ (rs : List Relation) (n : ℕ). (let x : Store = record { relations = rs; texts = (new.catalog).texts; queries = queries_in new.queries.items new.order; seq = n } in x))
+      ap₂ (λ (rs : List Relation) (n : ℕ).
+      (let x : Store = record
+      { relations = rs; texts = (new.catalog).texts; queries = queries_in new.queries.items new.order; seq = n } in
+      x))
       (ap (λ (x : Catalog). x.relations) g.catalog ∙ relations) (g.rest.seq ∙ rest.seq)
-      ∙ ap (λ (qs : List Listed). (let x : Store = record { relations = (old.catalog).relations; texts = (new.catalog).texts; queries = qs; seq = old.seq } in x))
+      ∙ ap (λ (qs : List Listed).
+      (let x : Store = record
+      { relations = (old.catalog).relations; texts = (new.catalog).texts; queries = qs; seq = old.seq } in x))
       (queries_then outdater places old mid new s turned)
 
   reads_mid : (i : ℕ) → reads_held held (place_at mid.queries.items i) ≡ reads_held held (place_at old.queries.items i)
-  reads_mid i = by_place (is_reader places i) (place_at old.queries.items i) (place_at mid.queries.items i) (reach.each i)
+  reads_mid i = by_place (is_reader places i) (place_at old.queries.items i) (place_at mid.queries.items i)
+      (reach.each i)
     where
       same : (xs : List HeldRow) (l m : Live) → m.query ≡ l.query → reads_held xs (Some m) ≡ reads_held xs (Some l)
       same xs l m e = ap (λ (q : Query). list_any (λ h. reads q h.relation) xs) e
 
-      by_place : (b : Bool) (o p : Option Live) → DoneAt (Renews mid.catalog) b o p → reads_held held p ≡ reads_held held o
+      by_place : (b : Bool) (o p : Option Live) → DoneAt (Renews mid.catalog) b o p → reads_held held p
+          ≡ reads_held held o
       by_place false o p d = ap (reads_held held) d
       by_place true None None d = refl
       by_place true None (Some m) d = absurd d
@@ -169,41 +194,54 @@ module _ (old mid new : Parts) (s : IsWhole old) (t : IsTended old) (held : List
   log_emptied : (i : ℕ) → reads_held held (place_at old.queries.items i) ≡ true → IsEmpty (log_at new.logs.items i)
   log_emptied i e = g.logs.emptied i (reads_mid i ∙ e)
 
-  log_kept : (i : ℕ) (l : Live) → place_at old.queries.items i ≡ Some l → reads_held held (place_at old.queries.items i) ≡ false → log_at new.logs.items i ≡ log_at old.logs.items i
+  log_kept : (i : ℕ) (l : Live) → place_at old.queries.items i ≡ Some l → reads_held held (place_at old.queries.items i)
+      ≡ false → log_at new.logs.items i ≡ log_at old.logs.items i
   log_kept i l there e = g.logs.others i (reads_mid i ∙ e) ∙ logs i l there e
 
   shown_now : ShowableStays → AreShown (mid.catalog).texts new.queries.items new.logs.items
-  shown_now law i m there kept = by_place (place_at old.queries.items i) refl (subst (λ (o : Option Live). AlikeAt (place_at old.queries.items i) o) there (given_alike i))
+  shown_now law i m there kept = by_place (place_at old.queries.items i) refl
+      (subst (λ (o : Option Live). AlikeAt (place_at old.queries.items i) o) there (given_alike i))
     where
-      by_reads : (l : Live) → place_at old.queries.items i ≡ Some l → SameShape l m → (b : Bool) → reads_held held (place_at old.queries.items i) ≡ b
+      by_reads : (l : Live) → place_at old.queries.items i ≡ Some l → SameShape l m → (b : Bool)
+          → reads_held held (place_at old.queries.items i) ≡ b
           → All (λ k. IsShowable (mid.catalog).texts m k.answer) (log_at new.logs.items i).lines
-      by_reads l e a true f = all_none (λ k. IsShowable (mid.catalog).texts m k.answer) (log_at new.logs.items i).lines (log_emptied i f).lines
+      by_reads l e a true f = all_none (λ k. IsShowable (mid.catalog).texts m k.answer) (log_at new.logs.items i).lines
+          (log_emptied i f).lines
       by_reads l e a false f =
           let same = log_kept i l e f in
           subst (λ (x : Log). All (λ k. IsShowable (mid.catalog).texts m k.answer) x.lines) (sym same)
           (λ k d low. showable_alike (mid.catalog).texts _ l m a
-          (shown_more law (old.catalog).texts more (mid.catalog).texts texts old.queries.items old.logs.items t.shown i l e (ap (λ (x : Log). x.lost) (sym same) ∙ kept) k d low))
+          (shown_more law (old.catalog).texts more (mid.catalog).texts texts old.queries.items old.logs.items t.shown i
+          l e (ap (λ (x : Log). x.lost) (sym same) ∙ kept) k d low))
 
-      by_place : (o : Option Live) → place_at old.queries.items i ≡ o → AlikeAt o (Some m) → All (λ k. IsShowable (mid.catalog).texts m k.answer) (log_at new.logs.items i).lines
+      by_place : (o : Option Live) → place_at old.queries.items i ≡ o → AlikeAt o (Some m)
+          → All (λ k. IsShowable (mid.catalog).texts m k.answer) (log_at new.logs.items i).lines
       by_place None e a = absurd a
       by_place (Some l) e a = by_reads l e a (reads_held held (place_at old.queries.items i)) refl
 
   pub given_tended : ShowableStays → IsTended new
   given_tended law = record {
-    watched = ap (λ (xs : List ℕ). length xs) (g.rest.watchers ∙ rest.watchers) ∙ t.watched ∙ sym (g.queries.long ∙ reach.length);
+    watched = ap (λ (xs : List ℕ). length xs) (g.rest.watchers ∙ rest.watchers) ∙ t.watched
+        ∙ sym (g.queries.long ∙ reach.length);
     logged = g.logs.long ∙ rest.long ∙ t.logged ∙ sym (g.queries.long ∙ reach.length);
     shown = subst (λ (x : Catalog). AreShown x.texts new.queries.items new.logs.items) (sym g.catalog) (shown_now law);
     room = omega (arith, t.room, rest.room, g.rest.room, ap (λ (xs : List ℕ). length xs) (g.rest.order ∙ rest.order));
   }
 
   -- what is told
-  module _ (law : ShowableStays) (have : (i : ℕ) (l : Live) → place_at old.queries.items i ≡ Some l → (changes : List Change)
+  module _ (law : ShowableStays)
+      (have : (i : ℕ) (l : Live) → place_at old.queries.items i ≡ Some l → (changes : List Change)
       × IsDelta (IsAnswer (old.catalog).relations l.query) (IsAnswer change.after l.query) changes) (before now : ℕ)
       (counts : (f : ℕ → List Change)
-      → AreFor old.catalog old.queries.items old.order old.readers.items s old.watchers.items change (outdated_places old.queries.items old.order change) refl f
-      → now ≤ before + sum_by (delta_steps change) (deltas_with old.catalog old.queries.items old.order old.readers.items s old.watchers.items change (outdated_places old.queries.items old.order change) refl f)) where
-    outdated_is : (i : ℕ) → is_reader (outdated_places old.queries.items old.order change) i ≡ (is_live old.queries.items i && is_outdated change (query_in (place_at old.queries.items i)))
-    outdated_is = place_is old.catalog old.queries.items old.order old.readers.items s old.watchers.items change (outdated_places old.queries.items old.order change) refl
+      → AreFor old.catalog old.queries.items old.order old.readers.items s old.watchers.items change
+      (outdated_places old.queries.items old.order change) refl f
+      → now ≤ before + sum_by (delta_steps change)
+      (deltas_with old.catalog old.queries.items old.order old.readers.items s old.watchers.items change
+      (outdated_places old.queries.items old.order change) refl f)) where
+    outdated_is : (i : ℕ) → is_reader (outdated_places old.queries.items old.order change) i
+        ≡ (is_live old.queries.items i && is_outdated change (query_in (place_at old.queries.items i)))
+    outdated_is = place_is old.catalog old.queries.items old.order old.readers.items s old.watchers.items change
+        (outdated_places old.queries.items old.order change) refl
 
     discards : Discards old (is_reader (outdated_places old.queries.items old.order change)) new
     discards = record {
@@ -212,11 +250,14 @@ module _ (old mid new : Parts) (s : IsWhole old) (t : IsTended old) (held : List
           let x = live_there old.queries.items i b.0 in
           told_is (new.catalog).texts new.queries.items new.logs.items i
           ∙ told_empty (new.catalog).texts x.query (place_at new.queries.items i)
-          (subst (λ (o : Option Live). AlikeAt o (place_at new.queries.items i)) x.is (given_alike i)) (log_at new.logs.items i)
+          (subst (λ (o : Option Live). AlikeAt o (place_at new.queries.items i)) x.is (given_alike i))
+          (log_at new.logs.items i)
           (log_emptied i (reads_there i x ∙ b.1));
       others = λ i l there e.
           let x : There old.queries.items i = record { query = l; is = there } in
-          log_kept i l there (reads_there i x ∙ sym (outdated_is i ∙ ap (λ b. b && is_outdated change (query_in (place_at old.queries.items i))) (ap is_some there)) ∙ e);
+          log_kept i l there (reads_there i x
+          ∙ sym (outdated_is i ∙ ap (λ b. b && is_outdated change (query_in (place_at old.queries.items i)))
+          (ap is_some there)) ∙ e);
     }
 
     pub given_tells : TellsChange (kept_in old) (out_of_memory change) (kept_in new) before now

@@ -1,11 +1,14 @@
 -- What held rows do to a store, one after another.
-use Rattle.std.proofs.Common.{ℕ, List, [], ◌∷◌, ◌++◌, ◌+◌, ◌≡◌, ◌≢◌, ◌≤◌, Bool, true, false, refl, sym, ap, ◌∙◌, length, arith}
+use Rattle.std.proofs.Common.{ℕ, List, [], ◌∷◌, ◌++◌, ◌+◌, ◌≡◌, ◌≢◌, ◌≤◌, Bool, true, false, refl}
+use Rattle.std.proofs.Common.{sym, ap, ◌∙◌, length, arith}
 use Rattle.std.specs.Prelude.{◌&&◌, ◌||◌, ◌==◌, not, Option, None, Some, is_none, option_map, cond, find, AllPairs}
 use Rattle.std.proofs.lemmas.Bool.{false≢true}
 use Rattle.djq_model.specs.declared.relation.Relation.{Relation}
 use Rattle.djq_model.specs.declared.relation.CountedRow.{CountedRow}
 use Rattle.djq_model.specs.declared.relation.ColumnType.{ColumnType}
-use Rattle.djq_model.specs.Data.{Bytes, Tuple, bytes_eq, change_first, relation_of, counted_in, counted_of, tuples_of, has_row, copies_among, with_row, with_copies}
+use Rattle.djq_model.specs.Data.{Bytes, Tuple, bytes_eq, change_first, relation_of, counted_in}
+use Rattle.djq_model.specs.Data.{counted_of, tuples_of, has_row, copies_among, with_row}
+use Rattle.djq_model.specs.Data.{with_copies}
 use Rattle.djq_model.specs.Known.{texts_in, all_learned}
 use Rattle.djq_model.specs.Typed.{fits}
 use Rattle.djq_lines.specs.Columns.{types_of}
@@ -16,7 +19,8 @@ use Rattle.djq_lines.specs.declared.held.HeldRow.{HeldRow}
 use Rattle.djq_machine.specs.State.{Store}
 use Rattle.djq_machine.specs.Conditions.{first_of}
 use Rattle.djq_machine.specs.Store.{with_rows}
-use Rattle.djq_machine.specs.Batch.{suit_refusal, is_there, with_held, with_all, count_came, has_come, place_refusal, HavePlaces}
+use Rattle.djq_machine.specs.Batch.{suit_refusal, is_there, with_held, with_all, count_came}
+use Rattle.djq_machine.specs.Batch.{has_come, place_refusal, HavePlaces}
 use Rattle.djq_rows.specs.Laws.{NamesTell}
 use Rattle.djq_rows.specs.Catalog.{counted_at, rows_at, with_rows_at}
 use Rattle.djq_engine.specs.Judging.{Suits}
@@ -31,9 +35,11 @@ module _ (st : Store) (h : HeldRow) (at : ℕ) (s : Suits st.relations h.relatio
   there_here = ap (λ (rows : List CountedRow). has_row (tuples_of rows) h.row) counted_here
 
   -- other rows by name are other rows in its place
-  rows_here : NamesTell → AllPairs (λ r s. r.name ≢ s.name) st.relations → (rows : List CountedRow) → with_rows st.relations h.relation rows ≡ with_rows_at st.relations at rows
+  rows_here : NamesTell → AllPairs (λ r s. r.name ≢ s.name) st.relations → (rows : List CountedRow)
+      → with_rows st.relations h.relation rows ≡ with_rows_at st.relations at rows
   rows_here law differ rows =
-      ap (λ (x : Bytes). change_first (λ r. bytes_eq r.name x) (λ (r : Relation). record r { rows = rows }) st.relations) (sym s.named)
+      ap (λ (x : Bytes). change_first (λ r. bytes_eq r.name x) (λ (r : Relation). record r { rows = rows })
+      st.relations) (sym s.named)
       ∙ law st.relations at rows differ s.below
 
   -- where it wasn't there
@@ -46,8 +52,18 @@ module _ (st : Store) (h : HeldRow) (at : ℕ) (s : Suits st.relations h.relatio
         ∙ ap (λ (rows : List CountedRow). with_rows_at st.relations at (with_row rows h.row)) counted_here
       where
         held_relations : (b : Bool) → b ≡ false
-            → (let x : Store = cond b (record st { relations = with_rows st.relations h.relation (with_copies (counted_of st.relations h.relation) h.row (copies_among (counted_of st.relations h.relation) h.row + 1)) })
-            (record st { relations = with_rows st.relations h.relation (with_row (counted_of st.relations h.relation) h.row); texts = all_learned st.texts (texts_in h.row) }) in x).relations
+            → (let x : Store = cond b
+            (record st {
+              relations = with_rows st.relations h.relation
+                  (with_copies (counted_of st.relations h.relation) h.row
+                  (copies_among (counted_of st.relations h.relation) h.row + 1));
+            })
+            (record st {
+              relations = with_rows st.relations h.relation
+                  (with_row (counted_of st.relations h.relation) h.row);
+              texts = all_learned st.texts (texts_in h.row);
+            })
+            in x).relations
             ≡ with_rows st.relations h.relation (with_row (counted_of st.relations h.relation) h.row)
         held_relations true e = absurd (false≢true (sym e))
         held_relations false e = refl
@@ -55,60 +71,106 @@ module _ (st : Store) (h : HeldRow) (at : ℕ) (s : Suits st.relations h.relatio
   -- where it was
   module _ (there : is_there st h ≡ true) where
     pub more_relations : NamesTell → AllPairs (λ r s. r.name ≢ s.name) st.relations
-        → (with_held st h).relations ≡ with_rows_at st.relations at (with_copies (counted_at st.relations at) h.row (copies_among (counted_at st.relations at) h.row + 1))
+        → (with_held st h).relations
+        ≡ with_rows_at st.relations at
+        (with_copies (counted_at st.relations at) h.row (copies_among (counted_at st.relations at) h.row + 1))
     more_relations law differ =
         held_relations (is_there st h) there
-        ∙ rows_here law differ (with_copies (counted_of st.relations h.relation) h.row (copies_among (counted_of st.relations h.relation) h.row + 1))
-        ∙ ap (λ (rows : List CountedRow). with_rows_at st.relations at (with_copies rows h.row (copies_among rows h.row + 1))) counted_here
+        ∙ rows_here law differ
+        (with_copies (counted_of st.relations h.relation) h.row
+        (copies_among (counted_of st.relations h.relation) h.row + 1))
+        ∙ ap (λ (rows : List CountedRow). with_rows_at st.relations at
+        (with_copies rows h.row (copies_among rows h.row + 1))) counted_here
       where
         held_relations : (b : Bool) → b ≡ true
-            → (let x : Store = cond b (record st { relations = with_rows st.relations h.relation (with_copies (counted_of st.relations h.relation) h.row (copies_among (counted_of st.relations h.relation) h.row + 1)) })
-            (record st { relations = with_rows st.relations h.relation (with_row (counted_of st.relations h.relation) h.row); texts = all_learned st.texts (texts_in h.row) }) in x).relations
-            ≡ with_rows st.relations h.relation (with_copies (counted_of st.relations h.relation) h.row (copies_among (counted_of st.relations h.relation) h.row + 1))
+            → (let x : Store = cond b
+            (record st {
+              relations = with_rows st.relations h.relation
+                  (with_copies (counted_of st.relations h.relation) h.row
+                  (copies_among (counted_of st.relations h.relation) h.row + 1));
+            })
+            (record st {
+              relations = with_rows st.relations h.relation
+                  (with_row (counted_of st.relations h.relation) h.row);
+              texts = all_learned st.texts (texts_in h.row);
+            })
+            in x).relations
+            ≡ with_rows st.relations h.relation
+            (with_copies (counted_of st.relations h.relation) h.row
+            (copies_among (counted_of st.relations h.relation) h.row + 1))
         held_relations true e = refl
         held_relations false e = absurd (false≢true e)
 
 pub held_seq : (st : Store) (h : HeldRow) → (with_held st h).seq ≡ st.seq
 held_seq st h = by (is_there st h)
   where
-    by : (b : Bool) → (let x : Store = cond b (record st { relations = with_rows st.relations h.relation (with_copies (counted_of st.relations h.relation) h.row (copies_among (counted_of st.relations h.relation) h.row + 1)) })
-        (record st { relations = with_rows st.relations h.relation (with_row (counted_of st.relations h.relation) h.row); texts = all_learned st.texts (texts_in h.row) }) in x).seq ≡ st.seq
+    by : (b : Bool) → (let x : Store = cond b
+        (record st {
+          relations = with_rows st.relations h.relation
+              (with_copies (counted_of st.relations h.relation) h.row
+              (copies_among (counted_of st.relations h.relation) h.row + 1));
+        })
+        (record st {
+          relations = with_rows st.relations h.relation
+              (with_row (counted_of st.relations h.relation) h.row);
+          texts = all_learned st.texts (texts_in h.row);
+        }) in
+        x).seq ≡ st.seq
     by true = refl
     by false = refl
 
 pub held_queries : (st : Store) (h : HeldRow) → (with_held st h).queries ≡ st.queries
 held_queries st h = by (is_there st h)
   where
-    by : (b : Bool) → (let x : Store = cond b (record st { relations = with_rows st.relations h.relation (with_copies (counted_of st.relations h.relation) h.row (copies_among (counted_of st.relations h.relation) h.row + 1)) })
-        (record st { relations = with_rows st.relations h.relation (with_row (counted_of st.relations h.relation) h.row); texts = all_learned st.texts (texts_in h.row) }) in x).queries ≡ st.queries
+    by : (b : Bool) → (let x : Store = cond b
+        (record st {
+          relations = with_rows st.relations h.relation
+              (with_copies (counted_of st.relations h.relation) h.row
+              (copies_among (counted_of st.relations h.relation) h.row + 1));
+        })
+        (record st {
+          relations = with_rows st.relations h.relation
+              (with_row (counted_of st.relations h.relation) h.row);
+          texts = all_learned st.texts (texts_in h.row);
+        }) in
+        x).queries ≡ st.queries
     by true = refl
     by false = refl
 
 -- ---- one more
 
-pub all_more : (st : Store) (xs : List HeldRow) (h : HeldRow) → with_all st (xs ++ h ∷ []) ≡ with_held (with_all st xs) h
+pub all_more : (st : Store) (xs : List HeldRow) (h : HeldRow) → with_all st (xs ++ h ∷ [])
+    ≡ with_held (with_all st xs) h
 all_more st [] h = refl
 all_more st (x ∷ xs) h = all_more (with_held st x) xs h
 
-pub count_more : (st : Store) (xs : List HeldRow) (h : HeldRow) → count_came st (xs ++ h ∷ []) ≡ count_came st xs + cond (is_there (with_all st xs) h) 0 1
+pub count_more : (st : Store) (xs : List HeldRow) (h : HeldRow) → count_came st (xs ++ h ∷ [])
+    ≡ count_came st xs + cond (is_there (with_all st xs) h) 0 1
 count_more st [] h = omega arith
 count_more st (x ∷ xs) h = omega (arith, count_more (with_held st x) xs h)
 
 pub come_more : (st : Store) (xs : List HeldRow) (h : HeldRow) (name : Bytes)
-    → has_come st (xs ++ h ∷ []) name ≡ (has_come st xs name || (bytes_eq h.relation name && not (is_there (with_all st xs) h)))
+    → has_come st (xs ++ h ∷ []) name
+    ≡ (has_come st xs name || (bytes_eq h.relation name && not (is_there (with_all st xs) h)))
 come_more st [] h name = by (bytes_eq h.relation name && not (is_there st h))
   where
     by : (b : Bool) → (b || false) ≡ b
     by true = refl
     by false = refl
-come_more st (x ∷ xs) h name = by (bytes_eq x.relation name && not (is_there st x)) (come_more (with_held st x) xs h name)
+come_more st (x ∷ xs) h name = by (bytes_eq x.relation name && not (is_there st x))
+    (come_more (with_held st x) xs h name)
   where
-    by : (b : Bool) → has_come (with_held st x) (xs ++ h ∷ []) name ≡ (has_come (with_held st x) xs name || (bytes_eq h.relation name && not (is_there (with_all (with_held st x) xs) h)))
-        → (b || has_come (with_held st x) (xs ++ h ∷ []) name) ≡ ((b || has_come (with_held st x) xs name) || (bytes_eq h.relation name && not (is_there (with_all (with_held st x) xs) h)))
+    by : (b : Bool) → has_come (with_held st x) (xs ++ h ∷ []) name
+        ≡ (has_come (with_held st x) xs name ||
+        (bytes_eq h.relation name && not (is_there (with_all (with_held st x) xs) h)))
+        → (b || has_come (with_held st x) (xs ++ h ∷ []) name)
+        ≡ ((b || has_come (with_held st x) xs name) ||
+        (bytes_eq h.relation name && not (is_there (with_all (with_held st x) xs) h)))
     by true e = refl
     by false e = e
 
-pub places_more : (st : Store) (xs : List HeldRow) (h : HeldRow) → HavePlaces st xs → place_refusal (with_all st xs) h ≡ None
+pub places_more : (st : Store) (xs : List HeldRow) (h : HeldRow) → HavePlaces st xs → place_refusal (with_all st xs) h
+    ≡ None
     → length (with_held (with_all st xs) h).texts ≤ TEXTS → HavePlaces st (xs ++ h ∷ [])
 places_more st [] h p e few = (e, few, tt)
 places_more st (x ∷ xs) h p e few = (p.0, p.1, places_more (with_held st x) xs h p.2 e few)
@@ -125,7 +187,8 @@ all_queries st (x ∷ xs) = all_queries (with_held st x) xs ∙ held_queries st 
 
 refusal_by : Option Relation → Tuple → Option Refusal
 refusal_by o row =
-    first_of ((is_none o, NoRelation) ∷ (not (length row == length (types_of o)), Arity) ∷ (not (fits (types_of o) row), WrongType) ∷ [])
+    first_of ((is_none o, NoRelation) ∷ (not (length row == length (types_of o)), Arity) ∷
+    (not (fits (types_of o) row), WrongType) ∷ [])
 
 columns : Option Relation → Option (List ColumnType)
 columns o = option_map (λ (r : Relation). r.types) o
@@ -139,55 +202,97 @@ unfolding refusal_by columns refusal_as
 refusal_is None row = refl
 refusal_is (Some r) row = refl
 
-columns_with : (rs : List Relation) (name : Bytes) (rows : List CountedRow) (n : Bytes) → columns (relation_of (with_rows rs name rows) n) ≡ columns (relation_of rs n)
+columns_with : (rs : List Relation) (name : Bytes) (rows : List CountedRow) (n : Bytes)
+    → columns (relation_of (with_rows rs name rows) n) ≡ columns (relation_of rs n)
 unfolding columns
 columns_with [] name rows n = refl
 columns_with (r ∷ rs) name rows n = by (bytes_eq r.name name) (bytes_eq r.name n) (columns_with rs name rows n)
   where
     by : (b c : Bool) → columns (relation_of (with_rows rs name rows) n) ≡ columns (relation_of rs n)
-        → columns (find (λ (x : Relation). bytes_eq x.name n) (cond b (record r { rows = rows } ∷ rs) (r ∷ with_rows rs name rows)))
+        → columns (find (λ (x : Relation). bytes_eq x.name n)
+        (cond b (record r { rows = rows } ∷ rs) (r ∷ with_rows rs name rows)))
         ≡ columns (cond (bytes_eq r.name n) (Some r) (relation_of rs n))
     by true c e = same (bytes_eq r.name n)
       where
-        same : (d : Bool) → columns (cond d (Some (record r { rows = rows })) (relation_of rs n)) ≡ columns (cond d (Some r) (relation_of rs n))
+        same : (d : Bool) → columns (cond d (Some (record r { rows = rows })) (relation_of rs n))
+            ≡ columns (cond d (Some r) (relation_of rs n))
         same true = refl
         same false = refl
     by false c e = rest (bytes_eq r.name n)
       where
-        rest : (d : Bool) → columns (cond d (Some r) (relation_of (with_rows rs name rows) n)) ≡ columns (cond d (Some r) (relation_of rs n))
+        rest : (d : Bool) → columns (cond d (Some r) (relation_of (with_rows rs name rows) n))
+            ≡ columns (cond d (Some r) (relation_of rs n))
         rest true = refl
         rest false = e
 
-suit_as : (st : Store) (name : Bytes) (row : Tuple) → suit_refusal st name row ≡ refusal_as (columns (relation_of st.relations name)) row
+suit_as : (st : Store) (name : Bytes) (row : Tuple) → suit_refusal st name row
+    ≡ refusal_as (columns (relation_of st.relations name)) row
 unfolding refusal_by
 suit_as st name row = refusal_is (relation_of st.relations name) row
 
-suits_rows : (st new : Store) (name : Bytes) (rows : List CountedRow) → new.relations ≡ with_rows st.relations name rows → (n : Bytes) (row : Tuple) → suit_refusal new n row ≡ suit_refusal st n row
+suits_rows : (st new : Store) (name : Bytes) (rows : List CountedRow) → new.relations ≡ with_rows st.relations name rows
+    → (n : Bytes) (row : Tuple) → suit_refusal new n row ≡ suit_refusal st n row
 suits_rows st new name rows e n row =
     suit_as new n row
     ∙ ap (λ (rs : List Relation). refusal_as (columns (relation_of rs n)) row) e
     ∙ ap (λ (o : Option (List ColumnType)). refusal_as o row) (columns_with st.relations name rows n)
     ∙ sym (suit_as st n row)
 
-pub suits_held : (st : Store) (h : HeldRow) (n : Bytes) (row : Tuple) → suit_refusal (with_held st h) n row ≡ suit_refusal st n row
+pub suits_held : (st : Store) (h : HeldRow) (n : Bytes) (row : Tuple) → suit_refusal (with_held st h) n row
+    ≡ suit_refusal st n row
 suits_held st h n row = by (is_there st h)
   where
-    by : (b : Bool) → suit_refusal (cond b (record st { relations = with_rows st.relations h.relation (with_copies (counted_of st.relations h.relation) h.row (copies_among (counted_of st.relations h.relation) h.row + 1)) })
-        (record st { relations = with_rows st.relations h.relation (with_row (counted_of st.relations h.relation) h.row); texts = all_learned st.texts (texts_in h.row) })) n row ≡ suit_refusal st n row
-    by true = suits_rows st (record st { relations = with_rows st.relations h.relation (with_copies (counted_of st.relations h.relation) h.row (copies_among (counted_of st.relations h.relation) h.row + 1)) }) h.relation (with_copies (counted_of st.relations h.relation) h.row (copies_among (counted_of st.relations h.relation) h.row + 1)) refl n row
-    by false = suits_rows st (record st { relations = with_rows st.relations h.relation (with_row (counted_of st.relations h.relation) h.row); texts = all_learned st.texts (texts_in h.row) }) h.relation (with_row (counted_of st.relations h.relation) h.row) refl n row
+    by : (b : Bool) → suit_refusal
+        (cond b (record st {
+          relations = with_rows st.relations h.relation
+              (with_copies (counted_of st.relations h.relation) h.row
+              (copies_among (counted_of st.relations h.relation) h.row + 1));
+        })
+        (record st {
+          relations = with_rows st.relations h.relation
+              (with_row (counted_of st.relations h.relation) h.row);
+          texts = all_learned st.texts (texts_in h.row);
+        })) n
+        row ≡ suit_refusal st n row
+    by true = suits_rows st
+        (record st {
+          relations = with_rows st.relations h.relation
+              (with_copies (counted_of st.relations h.relation) h.row
+              (copies_among (counted_of st.relations h.relation) h.row + 1));
+        }) h.relation
+        (with_copies (counted_of st.relations h.relation) h.row
+        (copies_among (counted_of st.relations h.relation) h.row + 1)) refl n row
+    by false = suits_rows st
+        (record st {
+          relations = with_rows st.relations h.relation
+              (with_row (counted_of st.relations h.relation) h.row);
+          texts = all_learned st.texts (texts_in h.row);
+        })
+        h.relation (with_row (counted_of st.relations h.relation) h.row) refl n row
 
-pub suits_all : (st : Store) (xs : List HeldRow) (n : Bytes) (row : Tuple) → suit_refusal (with_all st xs) n row ≡ suit_refusal st n row
+pub suits_all : (st : Store) (xs : List HeldRow) (n : Bytes) (row : Tuple) → suit_refusal (with_all st xs) n row
+    ≡ suit_refusal st n row
 suits_all st [] n row = refl
 suits_all st (x ∷ xs) n row = suits_all (with_held st x) xs n row ∙ suits_held st x n row
 
 -- the texts behind a held row
-pub held_texts_new : (st : Store) (h : HeldRow) → is_there st h ≡ false → (with_held st h).texts ≡ all_learned st.texts (texts_in h.row)
+pub held_texts_new : (st : Store) (h : HeldRow) → is_there st h ≡ false → (with_held st h).texts
+    ≡ all_learned st.texts (texts_in h.row)
 held_texts_new st h e = by (is_there st h) e
   where
     by : (b : Bool) → b ≡ false
-        → (let x : Store = cond b (record st { relations = with_rows st.relations h.relation (with_copies (counted_of st.relations h.relation) h.row (copies_among (counted_of st.relations h.relation) h.row + 1)) })
-        (record st { relations = with_rows st.relations h.relation (with_row (counted_of st.relations h.relation) h.row); texts = all_learned st.texts (texts_in h.row) }) in x).texts
+        → (let x : Store = cond b
+        (record st {
+          relations = with_rows st.relations h.relation
+              (with_copies (counted_of st.relations h.relation) h.row
+              (copies_among (counted_of st.relations h.relation) h.row + 1));
+        })
+        (record st {
+          relations = with_rows st.relations h.relation
+              (with_row (counted_of st.relations h.relation) h.row);
+          texts = all_learned st.texts (texts_in h.row);
+        }) in
+        x).texts
         ≡ all_learned st.texts (texts_in h.row)
     by true f = absurd (false≢true (sym f))
     by false f = refl
@@ -196,8 +301,18 @@ pub held_texts_there : (st : Store) (h : HeldRow) → is_there st h ≡ true →
 held_texts_there st h e = by (is_there st h) e
   where
     by : (b : Bool) → b ≡ true
-        → (let x : Store = cond b (record st { relations = with_rows st.relations h.relation (with_copies (counted_of st.relations h.relation) h.row (copies_among (counted_of st.relations h.relation) h.row + 1)) })
-        (record st { relations = with_rows st.relations h.relation (with_row (counted_of st.relations h.relation) h.row); texts = all_learned st.texts (texts_in h.row) }) in x).texts
+        → (let x : Store = cond b
+        (record st {
+          relations = with_rows st.relations h.relation
+              (with_copies (counted_of st.relations h.relation) h.row
+              (copies_among (counted_of st.relations h.relation) h.row + 1));
+        })
+        (record st {
+          relations = with_rows st.relations h.relation
+              (with_row (counted_of st.relations h.relation) h.row);
+          texts = all_learned st.texts (texts_in h.row);
+        }) in
+        x).texts
         ≡ st.texts
     by true f = refl
     by false f = absurd (false≢true f)

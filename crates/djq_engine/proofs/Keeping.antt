@@ -32,7 +32,8 @@ same_tables l m e = record {
   reducts = ap (λ (x : Live). x.reducts) e;
 }
 
-next_tables : (c : Catalog) (l m : Live) (k : ℕ) (p : Position) (result : Next) (u : List ℕ) → live.NextGivesAt c l k p result u m → SameTables l m
+next_tables : (c : Catalog) (l m : Live) (k : ℕ) (p : Position) (result : Next) (u : List ℕ)
+    → live.NextGivesAt c l k p result u m → SameTables l m
 next_tables c l m k (open_at given ended) Given u h = but_cursors l m _ h.2.moved
 next_tables c l m k (open_at given ended) End u h = but_cursors l m _ h.1.moved
 next_tables c l m k (open_at given ended) (StaleNext r n) u h = absurd h
@@ -40,12 +41,14 @@ next_tables c l m k (stale r n) (StaleNext relation j) u h = same_tables l m h.2
 next_tables c l m k (stale r n) Given u h = absurd h
 next_tables c l m k (stale r n) End u h = absurd h
 
-more_tables : (c : Catalog) (l m : Live) (k : ℕ) (p : Position) (result : Bool) → live.MoreGivesAt c l k p result m → SameTables l m
+more_tables : (c : Catalog) (l m : Live) (k : ℕ) (p : Position) (result : Bool) → live.MoreGivesAt c l k p result m
+    → SameTables l m
 more_tables c l m k (open_at given ended) true h = but_cursors l m _ h.1.moved
 more_tables c l m k (open_at given ended) false h = but_cursors l m _ h.1.moved
 more_tables c l m k (stale r n) result h = absurd h
 
-at_slot : (c : Catalog) (l : Live) (o : Option Progress) (P : Position → Type 0) (Q : Type 0) → ((p : Position) → P p → Q) → IsSomeAnd o (λ p. P (position_of c.texts l p)) → Q
+at_slot : (c : Catalog) (l : Live) (o : Option Progress) (P : Position → Type 0) (Q : Type 0)
+    → ((p : Position) → P p → Q) → IsSomeAnd o (λ p. P (position_of c.texts l p)) → Q
 at_slot c l None P Q f h = absurd h
 at_slot c l (Some p) P Q f h = f (position_of c.texts l p) h
 
@@ -55,7 +58,8 @@ pub record Kept (c : Catalog) (logs : List Log) (gs hs : List (Option Live)) : T
   pub shown : AreShown c.texts gs logs → AreShown c.texts hs logs
   pub places : KeepsIn (λ q. false) gs hs
 
-kept_by : (Does : Live → Live → Type 0) (at : ℕ) (c : Catalog) (logs : List Log) (gs hs : List (Option Live)) → Moves Does at gs hs → ((l m : Live) → place_at gs at ≡ Some l → Does l m → SameTables l m) → Kept c logs gs hs
+kept_by : (Does : Live → Live → Type 0) (at : ℕ) (c : Catalog) (logs : List Log) (gs hs : List (Option Live))
+    → Moves Does at gs hs → ((l m : Live) → place_at gs at ≡ Some l → Does l m → SameTables l m) → Kept c logs gs hs
 kept_by Does at c logs gs hs v f =
     let same = f v.old v.new v.there v.done in
     record {
@@ -64,17 +68,21 @@ kept_by Does at c logs gs hs v f =
       places = keeps_moved at gs hs v.old v.new v.there v.is same (λ q. false);
     }
 
-module _ (c : Catalog) (gs hs : List (Option Live)) (order : List ℕ) (readers : List (List ℕ)) (s : IsSound c gs order readers) (logs : List Log) (at k : ℕ) where
+module _ (c : Catalog) (gs hs : List (Option Live)) (order : List ℕ) (readers : List (List ℕ))
+    (s : IsSound c gs order readers) (logs : List Log) (at k : ℕ) where
   pub opened_kept : Moves (OpensAt k) at gs hs → Kept c logs gs hs
   opened_kept v = kept_by (OpensAt k) at c logs gs hs v (λ l m e d. but_cursors l m m.cursors d.opens.others)
 
   pub closed_kept : Moves (ClosesAt k) at gs hs → Kept c logs gs hs
   closed_kept v = kept_by (ClosesAt k) at c logs gs hs v (λ l m e d. but_cursors l m _ d.closes)
 
-  pub read_kept : (result : Next) (u : List ℕ) (before now : ℕ) → Moves (ReadsAt k result u before now) at gs hs → Kept c logs gs hs
+  pub read_kept : (result : Next) (u : List ℕ) (before now : ℕ) → Moves (ReadsAt k result u before now) at gs hs
+      → Kept c logs gs hs
   read_kept result u before now v = kept_by (ReadsAt k result u before now) at c logs gs hs v
-      (λ l m e d. at_slot c l (slot_at l.cursors k) (λ p. live.NextGivesAt c l k p result u m) (SameTables l m) (λ p h. next_tables c l m k p result u h) (d.gives c (s.live at l e)))
+      (λ l m e d. at_slot c l (slot_at l.cursors k) (λ p. live.NextGivesAt c l k p result u m) (SameTables l m)
+      (λ p h. next_tables c l m k p result u h) (d.gives c (s.live at l e)))
 
   pub looked_kept : (result : Bool) (before now : ℕ) → Moves (TellsAt k result before now) at gs hs → Kept c logs gs hs
   looked_kept result before now v = kept_by (TellsAt k result before now) at c logs gs hs v
-      (λ l m e d. at_slot c l (slot_at l.cursors k) (λ p. live.MoreGivesAt c l k p result m) (SameTables l m) (λ p h. more_tables c l m k p result h) (d.gives c (s.live at l e)))
+      (λ l m e d. at_slot c l (slot_at l.cursors k) (λ p. live.MoreGivesAt c l k p result m) (SameTables l m)
+      (λ p h. more_tables c l m k p result h) (d.gives c (s.live at l e)))

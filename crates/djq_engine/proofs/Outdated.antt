@@ -1,5 +1,6 @@
 -- What becomes of queries that read relations of held rows, one relation after another.
-use Rattle.std.proofs.Common.{ℕ, List, [], ◌∷◌, ◌++◌, ◌+◌, ◌≡◌, ◌<◌, Bool, true, false, refl, sym, ap, ap₂, ◌∙◌, subst, length, take, get_or}
+use Rattle.std.proofs.Common.{ℕ, List, [], ◌∷◌, ◌++◌, ◌+◌, ◌≡◌, ◌<◌, Bool, true, false, refl, sym}
+use Rattle.std.proofs.Common.{ap, ap₂, ◌∙◌, subst, length, take, get_or}
 use Rattle.std.specs.Prelude.{◌&&◌, ◌||◌, ◌==◌, Option, None, Some, is_some, cond}
 use Rattle.std.specs.List.{list_any}
 use Rattle.std.proofs.lemmas.Bool.{false≢true}
@@ -27,18 +28,22 @@ use Rattle.djq_engine.specs.Outdating.{AreReaders, AgesBy, AgesAt, AgesAll, Clea
 
 -- ---- cursors
 
-slots_twice : (x y : Bytes) (n : ℕ) (slots : List (Option Progress)) → outdated_slots y n (outdated_slots x n slots) ≡ outdated_slots x n slots
+slots_twice : (x y : Bytes) (n : ℕ) (slots : List (Option Progress)) → outdated_slots y n (outdated_slots x n slots)
+    ≡ outdated_slots x n slots
 slots_twice x y n [] = refl
 slots_twice x y n (None ∷ slots) = ap (λ (s : List (Option Progress)). None ∷ s) (slots_twice x y n slots)
-slots_twice x y n (Some (Open cursor ended) ∷ slots) = ap (λ (s : List (Option Progress)). Some (Stale x n) ∷ s) (slots_twice x y n slots)
-slots_twice x y n (Some (Stale r k) ∷ slots) = ap (λ (s : List (Option Progress)). Some (Stale r k) ∷ s) (slots_twice x y n slots)
+slots_twice x y n (Some (Open cursor ended) ∷ slots) = ap (λ (s : List (Option Progress)). Some (Stale x n) ∷ s)
+    (slots_twice x y n slots)
+slots_twice x y n (Some (Stale r k) ∷ slots) = ap (λ (s : List (Option Progress)). Some (Stale r k) ∷ s)
+    (slots_twice x y n slots)
 
 -- the first of two, where there is one
 pub or_first : Option Bytes → Option Bytes → Option Bytes
 or_first None o = o
 or_first (Some x) o = Some x
 
-ages_then : (n : ℕ) (l : Live) (p q : Option Live) (a : Option Bytes) (by : Live → Option Bytes) → ((m : Live) → m.query ≡ l.query → by m ≡ by l) → AgesBy a n l p
+ages_then : (n : ℕ) (l : Live) (p q : Option Live) (a : Option Bytes) (by : Live → Option Bytes)
+    → ((m : Live) → m.query ≡ l.query → by m ≡ by l) → AgesBy a n l p
     → ((m : Live) → p ≡ Some m → AgesBy (by m) n m q) → AgesBy (or_first a (by l)) n l q
 unfolding or_first
 ages_then n l p q None by same h k = k l h
@@ -51,15 +56,18 @@ ages_then n l (Some m) q (Some x) by same h k = by_then (by m) q (k m refl)
     by_then (Some y) (Some k) a = record {
       outdated = a.outdated
           ∙ ap (λ (z : Live). (let w : Live = record z { cursors = outdated_slots y n z.cursors } in w)) h.outdated
-          ∙ ap (λ (slots : List (Option Progress)). (let w : Live = record l { cursors = slots } in w)) (slots_twice x y n l.cursors);
+          ∙ ap (λ (slots : List (Option Progress)). (let w : Live = record l { cursors = slots } in w))
+          (slots_twice x y n l.cursors);
       live = λ c kept. a.live c (h.live c kept).kept;
     }
 
-same_by : (outdater : Listed → Option Bytes) (l m : Live) → m.query ≡ l.query → outdater (a_query m.query) ≡ outdater (a_query l.query)
+same_by : (outdater : Listed → Option Bytes) (l m : Live) → m.query ≡ l.query → outdater (a_query m.query)
+    ≡ outdater (a_query l.query)
 same_by outdater l m e = ap (λ (q : Query). outdater (a_query q)) e
 
 -- one outdater after another
-pub ages_both : (f g h : Listed → Option Bytes) (n : ℕ) (gs hs ks : List (Option Live)) → ((q : Listed) → h q ≡ or_first (f q) (g q)) → AgesAll f n gs hs → AgesAll g n hs ks → AgesAll h n gs ks
+pub ages_both : (f g h : Listed → Option Bytes) (n : ℕ) (gs hs ks : List (Option Live))
+    → ((q : Listed) → h q ≡ or_first (f q) (g q)) → AgesAll f n gs hs → AgesAll g n hs ks → AgesAll h n gs ks
 ages_both f g h n gs hs ks both a b = record {
   long = b.long ∙ a.long;
   each = λ i. by_place (place_at gs i) (place_at hs i) (place_at ks i) (a.each i) (b.each i);
@@ -73,7 +81,8 @@ ages_both f g h n gs hs ks both a b = record {
         (λ m e. (let u : AgesAt g n (Some m) q = subst (λ (x : Option Live). AgesAt g n x q) e t in u)))
 
 -- nothing becomes stale by no relation
-pub ages_none : (f : Listed → Option Bytes) (n : ℕ) (gs : List (Option Live)) → ((q : Listed) → f q ≡ None) → AgesAll f n gs gs
+pub ages_none : (f : Listed → Option Bytes) (n : ℕ) (gs : List (Option Live)) → ((q : Listed) → f q ≡ None)
+    → AgesAll f n gs gs
 ages_none f n gs none = record { long = refl; each = λ i. by_place (place_at gs i) }
   where
     by_place : (o : Option Live) → AgesAt f n o o
@@ -82,39 +91,49 @@ ages_none f n gs none = record { long = refl; each = λ i. by_place (place_at gs
 
 -- the first relation of one row more
 pub first_more : (xs : List HeldRow) (h : HeldRow) (test : Bytes → Bool) (q : Listed)
-    → first_read (xs ++ h ∷ []) test q ≡ or_first (first_read xs test q) (cond (test h.relation && listed_reads q h.relation) (Some h.relation) None)
+    → first_read (xs ++ h ∷ []) test q
+    ≡ or_first (first_read xs test q) (cond (test h.relation && listed_reads q h.relation) (Some h.relation) None)
 unfolding or_first
 first_more [] h test q = refl
 first_more (x ∷ xs) h test q = step (test x.relation && listed_reads q x.relation) (first_more xs h test q)
   where
-    step : (b : Bool) → first_read (xs ++ h ∷ []) test q ≡ or_first (first_read xs test q) (cond (test h.relation && listed_reads q h.relation) (Some h.relation) None)
+    step : (b : Bool) → first_read (xs ++ h ∷ []) test q
+        ≡ or_first (first_read xs test q) (cond (test h.relation && listed_reads q h.relation) (Some h.relation) None)
         → cond b (Some x.relation) (first_read (xs ++ h ∷ []) test q)
-        ≡ or_first (cond b (Some x.relation) (first_read xs test q)) (cond (test h.relation && listed_reads q h.relation) (Some h.relation) None)
+        ≡ or_first (cond b (Some x.relation) (first_read xs test q))
+        (cond (test h.relation && listed_reads q h.relation) (Some h.relation) None)
     step true e = refl
     step false e = e
 
 -- one row more, whose relation counts
-pub outdates_next : (held : List HeldRow) (k : ℕ) (d : HeldRow) (test : Bytes → Bool) (n : ℕ) (gs hs ks : List (Option Live)) → k < length held
-    → test (get_or held k d).relation ≡ true → AgesAll (first_read (take k held) test) n gs hs → AgesAll (by_relation (get_or held k d).relation) n hs ks
+pub outdates_next : (held : List HeldRow) (k : ℕ) (d : HeldRow) (test : Bytes → Bool) (n : ℕ)
+    (gs hs ks : List (Option Live)) → k < length held
+    → test (get_or held k d).relation ≡ true → AgesAll (first_read (take k held) test) n gs hs
+    → AgesAll (by_relation (get_or held k d).relation) n hs ks
     → AgesAll (first_read (take (k + 1) held) test) n gs ks
 outdates_next held k d test n gs hs ks low counts a b =
-    ages_both (first_read (take k held) test) (by_relation (get_or held k d).relation) (first_read (take (k + 1) held) test) n gs hs ks
+    ages_both (first_read (take k held) test) (by_relation (get_or held k d).relation)
+    (first_read (take (k + 1) held) test) n gs hs ks
     (λ q. ap (λ (xs : List HeldRow). first_read xs test q) (take_more held k d low)
     ∙ first_more (take k held) (get_or held k d) test q
-    ∙ ap (λ (t : Bool). or_first (first_read (take k held) test q) (cond (t && listed_reads q (get_or held k d).relation) (Some (get_or held k d).relation) None)) counts) a b
+    ∙ ap (λ (t : Bool). or_first (first_read (take k held) test q)
+    (cond (t && listed_reads q (get_or held k d).relation) (Some (get_or held k d).relation) None)) counts) a b
 
 -- one row more, whose relation doesn't count
-pub outdates_still : (held : List HeldRow) (k : ℕ) (d : HeldRow) (test : Bytes → Bool) (n : ℕ) (gs hs : List (Option Live)) → k < length held
+pub outdates_still : (held : List HeldRow) (k : ℕ) (d : HeldRow) (test : Bytes → Bool) (n : ℕ)
+    (gs hs : List (Option Live)) → k < length held
     → test (get_or held k d).relation ≡ false → AgesAll (first_read (take k held) test) n gs hs
     → AgesAll (first_read (take (k + 1) held) test) n gs hs
 outdates_still held k d test n gs hs low counts a =
     ages_both (first_read (take k held) test) (λ q. None) (first_read (take (k + 1) held) test) n gs hs hs
     (λ q. ap (λ (xs : List HeldRow). first_read xs test q) (take_more held k d low)
     ∙ first_more (take k held) (get_or held k d) test q
-    ∙ ap (λ (t : Bool). or_first (first_read (take k held) test q) (cond (t && listed_reads q (get_or held k d).relation) (Some (get_or held k d).relation) None)) counts) a
+    ∙ ap (λ (t : Bool). or_first (first_read (take k held) test q)
+    (cond (t && listed_reads q (get_or held k d).relation) (Some (get_or held k d).relation) None)) counts) a
     (ages_none (λ q. None) n hs (λ q. refl))
 
-ages_as : (f g : Listed → Option Bytes) (n : ℕ) (gs hs : List (Option Live)) → ((q : Listed) → g q ≡ f q) → AgesAll f n gs hs → AgesAll g n gs hs
+ages_as : (f g : Listed → Option Bytes) (n : ℕ) (gs hs : List (Option Live)) → ((q : Listed) → g q ≡ f q)
+    → AgesAll f n gs hs → AgesAll g n gs hs
 ages_as f g n gs hs same a = record { long = a.long; each = λ i. by_place (place_at gs i) (place_at hs i) (a.each i) }
   where
     by_place : (o p : Option Live) → AgesAt f n o p → AgesAt g n o p
@@ -122,32 +141,42 @@ ages_as f g n gs hs same a = record { long = a.long; each = λ i. by_place (plac
     by_place (Some l) p h = subst (λ (x : Option Bytes). AgesBy x n l p) (sym (same (a_query l.query))) h
 
 -- a relation that passes the test outdates those that read it, and another one none
-pub ages_passed : (test : Bytes → Bool) (name : Bytes) (n : ℕ) (gs hs : List (Option Live)) → test name ≡ true → AgesAll (by_relation name) n gs hs → AgesAll (by_tested test name) n gs hs
-ages_passed test name n gs hs e a = ages_as (by_relation name) (by_tested test name) n gs hs (λ q. ap (λ b. cond b (by_relation name q) None) e) a
+pub ages_passed : (test : Bytes → Bool) (name : Bytes) (n : ℕ) (gs hs : List (Option Live)) → test name ≡ true
+    → AgesAll (by_relation name) n gs hs → AgesAll (by_tested test name) n gs hs
+ages_passed test name n gs hs e a = ages_as (by_relation name) (by_tested test name) n gs hs
+    (λ q. ap (λ b. cond b (by_relation name q) None) e) a
 
-pub ages_failed : (test : Bytes → Bool) (name : Bytes) (n : ℕ) (gs : List (Option Live)) → test name ≡ false → AgesAll (by_tested test name) n gs gs
+pub ages_failed : (test : Bytes → Bool) (name : Bytes) (n : ℕ) (gs : List (Option Live)) → test name ≡ false
+    → AgesAll (by_tested test name) n gs gs
 ages_failed test name n gs e = ages_none (by_tested test name) n gs (λ q. ap (λ b. cond b (by_relation name q) None) e)
 
 -- one row more, whose relation is tested
-pub outdates_tested : (held : List HeldRow) (k : ℕ) (d : HeldRow) (test : Bytes → Bool) (n : ℕ) (gs hs ks : List (Option Live)) → k < length held
-    → AgesAll (first_read (take k held) test) n gs hs → AgesAll (by_tested test (get_or held k d).relation) n hs ks → AgesAll (first_read (take (k + 1) held) test) n gs ks
+pub outdates_tested : (held : List HeldRow) (k : ℕ) (d : HeldRow) (test : Bytes → Bool) (n : ℕ)
+    (gs hs ks : List (Option Live)) → k < length held
+    → AgesAll (first_read (take k held) test) n gs hs → AgesAll (by_tested test (get_or held k d).relation) n hs ks
+    → AgesAll (first_read (take (k + 1) held) test) n gs ks
 outdates_tested held k d test n gs hs ks low a b =
-    ages_both (first_read (take k held) test) (by_tested test (get_or held k d).relation) (first_read (take (k + 1) held) test) n gs hs ks
+    ages_both (first_read (take k held) test) (by_tested test (get_or held k d).relation)
+    (first_read (take (k + 1) held) test) n gs hs ks
     (λ q. ap (λ (xs : List HeldRow). first_read xs test q) (take_more held k d low)
     ∙ first_more (take k held) (get_or held k d) test q
-    ∙ ap (or_first (first_read (take k held) test q)) (both (test (get_or held k d).relation) (listed_reads q (get_or held k d).relation) (get_or held k d).relation)) a b
+    ∙ ap (or_first (first_read (take k held) test q))
+    (both (test (get_or held k d).relation) (listed_reads q (get_or held k d).relation) (get_or held k d).relation))
+    a b
   where
     both : (t r : Bool) (name : Bytes) → cond (t && r) (Some name) None ≡ cond t (cond r (Some name) None) None
     both true r name = refl
     both false r name = refl
 
-pub group_any : (groups : List Group) (at : ℕ) → list_any (λ g. g.relation.at == at) groups ≡ is_reader (relations_of groups) at
+pub group_any : (groups : List Group) (at : ℕ) → list_any (λ g. g.relation.at == at) groups
+    ≡ is_reader (relations_of groups) at
 group_any [] at = refl
 group_any (g ∷ groups) at = ap (λ b. (g.relation.at == at) || b) (group_any groups at)
 
 -- ---- who reads a relation
 
-same_reads : (f : Listed → Option Bytes) (n : ℕ) (r : Bytes) (o p : Option Live) → AgesAt f n o p → reads_place r p ≡ reads_place r o
+same_reads : (f : Listed → Option Bytes) (n : ℕ) (r : Bytes) (o p : Option Live) → AgesAt f n o p → reads_place r p
+    ≡ reads_place r o
 same_reads f n r None p a = ap (reads_place r) a
 same_reads f n r (Some l) p a = by_outdater (f (a_query l.query)) p a
   where
@@ -157,24 +186,30 @@ same_reads f n r (Some l) p a = by_outdater (f (a_query l.query)) p a
     by_outdater (Some x) (Some m) a = ap (λ (z : Live). reads z.query r) a.outdated
 
 -- the readers stay the readers
-pub readers_aged : (relations : List Relation) (readers : List (List ℕ)) (f : Listed → Option Bytes) (n : ℕ) (gs hs : List (Option Live)) → AreReaders relations readers gs → AgesAll f n gs hs
+pub readers_aged : (relations : List Relation) (readers : List (List ℕ)) (f : Listed → Option Bytes) (n : ℕ)
+    (gs hs : List (Option Live)) → AreReaders relations readers gs → AgesAll f n gs hs
     → AreReaders relations readers hs
 readers_aged relations readers f n gs hs r a = record {
   long = r.long;
   once = r.once;
-  reading = λ k i low. r.reading k i low ∙ sym (same_reads f n (relation_at relations k).name (place_at gs i) (place_at hs i) (a.each i));
+  reading = λ k i low. r.reading k i low
+      ∙ sym (same_reads f n (relation_at relations k).name (place_at gs i) (place_at hs i) (a.each i));
 }
 
 -- what was done to the readers of one relation
-pub ages_readers : (relations : List Relation) (readers : List (List ℕ)) (at : ℕ) (name : Bytes) (n : ℕ) (gs hs : List (Option Live)) → AreReaders relations readers gs → at < length relations
-    → (relation_at relations at).name ≡ name → Reach (readers_at readers at) (Ages name n) gs hs → AgesAll (by_relation name) n gs hs
+pub ages_readers : (relations : List Relation) (readers : List (List ℕ)) (at : ℕ) (name : Bytes) (n : ℕ)
+    (gs hs : List (Option Live)) → AreReaders relations readers gs → at < length relations
+    → (relation_at relations at).name ≡ name → Reach (readers_at readers at) (Ages name n) gs hs
+    → AgesAll (by_relation name) n gs hs
 ages_readers relations readers at name n gs hs r low named reach = record {
   long = reach.length;
   each = λ i. by_place (place_at gs i) (place_at hs i)
-      (subst (λ (b : Bool). DoneAt (Ages name n) b (place_at gs i) (place_at hs i)) (r.reading at i low ∙ ap (λ (x : Bytes). reads_place x (place_at gs i)) named) (reach.each i));
+      (subst (λ (b : Bool). DoneAt (Ages name n) b (place_at gs i) (place_at hs i))
+      (r.reading at i low ∙ ap (λ (x : Bytes). reads_place x (place_at gs i)) named) (reach.each i));
 }
   where
-    by_reads : (b : Bool) (l : Live) (p : Option Live) → DoneAt (Ages name n) b (Some l) p → AgesBy (cond b (Some name) None) n l p
+    by_reads : (b : Bool) (l : Live) (p : Option Live) → DoneAt (Ages name n) b (Some l) p
+        → AgesBy (cond b (Some name) None) n l p
     by_reads false l p d = d
     by_reads true l None d = d
     by_reads true l (Some m) d = d
@@ -188,7 +223,8 @@ ages_readers relations readers at name n gs hs r low named reach = record {
 pub clears_none : (logs : List Log) → ClearsLogs (λ i. false) logs logs
 clears_none logs = record { long = refl; emptied = λ i e. absurd (false≢true e); others = λ i e. refl }
 
-clears_both : (p q r : ℕ → Bool) (a b c : List Log) → ((i : ℕ) → r i ≡ (p i || q i)) → ClearsLogs p a b → ClearsLogs q b c → ClearsLogs r a c
+clears_both : (p q r : ℕ → Bool) (a b c : List Log) → ((i : ℕ) → r i ≡ (p i || q i)) → ClearsLogs p a b
+    → ClearsLogs q b c → ClearsLogs r a c
 clears_both p q r a b c both x y = record {
   long = y.long ∙ x.long;
   emptied = λ i e. by_last i (p i) (q i) refl refl (sym (both i) ∙ e);
@@ -205,7 +241,8 @@ clears_both p q r a b c both x y = record {
     by_none i true t f g e = absurd (false≢true (sym e ∙ ap (λ (u : Bool). u || q i) f))
     by_none i false true f g e = absurd (false≢true (sym e ∙ ap₂ (λ (u v : Bool). u || v) f g))
 
-any_more : (xs : List HeldRow) (h : HeldRow) (o : Option Live) → reads_held (xs ++ h ∷ []) o ≡ (reads_held xs o || reads_place h.relation o)
+any_more : (xs : List HeldRow) (h : HeldRow) (o : Option Live) → reads_held (xs ++ h ∷ []) o
+    ≡ (reads_held xs o || reads_place h.relation o)
 any_more [] h o = or_none (reads_place h.relation o)
   where
     or_none : (b : Bool) → (b || false) ≡ b
@@ -213,21 +250,29 @@ any_more [] h o = or_none (reads_place h.relation o)
     or_none false = refl
 any_more (x ∷ xs) h o = step (reads_place x.relation o) (any_more xs h o)
   where
-    step : (b : Bool) → reads_held (xs ++ h ∷ []) o ≡ (reads_held xs o || reads_place h.relation o) → (b || reads_held (xs ++ h ∷ []) o) ≡ ((b || reads_held xs o) || reads_place h.relation o)
+    step : (b : Bool) → reads_held (xs ++ h ∷ []) o ≡ (reads_held xs o || reads_place h.relation o)
+        → (b || reads_held (xs ++ h ∷ []) o) ≡ ((b || reads_held xs o) || reads_place h.relation o)
     step true e = refl
     step false e = e
 
 -- the logs of the readers of one more row's relation
-pub clears_next : (held : List HeldRow) (k : ℕ) (d : HeldRow) (gs : List (Option Live)) (a b c : List Log) → k < length held
-    → ClearsLogs (λ i. reads_held (take k held) (place_at gs i)) a b → ClearsLogs (λ i. reads_place (get_or held k d).relation (place_at gs i)) b c
+pub clears_next : (held : List HeldRow) (k : ℕ) (d : HeldRow) (gs : List (Option Live)) (a b c : List Log)
+    → k < length held
+    → ClearsLogs (λ i. reads_held (take k held) (place_at gs i)) a b
+    → ClearsLogs (λ i. reads_place (get_or held k d).relation (place_at gs i)) b c
     → ClearsLogs (λ i. reads_held (take (k + 1) held) (place_at gs i)) a c
 clears_next held k d gs a b c low x y =
-    clears_both (λ i. reads_held (take k held) (place_at gs i)) (λ i. reads_place (get_or held k d).relation (place_at gs i)) (λ i. reads_held (take (k + 1) held) (place_at gs i)) a b c
-    (λ i. ap (λ (xs : List HeldRow). reads_held xs (place_at gs i)) (take_more held k d low) ∙ any_more (take k held) (get_or held k d) (place_at gs i)) x y
+    clears_both (λ i. reads_held (take k held) (place_at gs i))
+    (λ i. reads_place (get_or held k d).relation (place_at gs i))
+    (λ i. reads_held (take (k + 1) held) (place_at gs i)) a b c
+    (λ i. ap (λ (xs : List HeldRow). reads_held xs (place_at gs i)) (take_more held k d low)
+    ∙ any_more (take k held) (get_or held k d) (place_at gs i)) x y
 
 -- those in these places were emptied, which are the readers of a relation
-pub clears_readers : (relations : List Relation) (readers : List (List ℕ)) (at : ℕ) (name : Bytes) (gs : List (Option Live)) (a b : List Log) → AreReaders relations readers gs → at < length relations
-    → (relation_at relations at).name ≡ name → Empties (readers_at readers at) a b → ClearsLogs (λ i. reads_place name (place_at gs i)) a b
+pub clears_readers : (relations : List Relation) (readers : List (List ℕ)) (at : ℕ) (name : Bytes)
+    (gs : List (Option Live)) (a b : List Log) → AreReaders relations readers gs → at < length relations
+    → (relation_at relations at).name ≡ name → Empties (readers_at readers at) a b
+    → ClearsLogs (λ i. reads_place name (place_at gs i)) a b
 clears_readers relations readers at name gs a b r low named e = record {
   long = e.long;
   emptied = λ i h. e.emptied i (is i ∙ h);
@@ -238,11 +283,13 @@ clears_readers relations readers at name gs a b r low named e = record {
     is i = r.reading at i low ∙ ap (λ (x : Bytes). reads_place x (place_at gs i)) named
 
 -- a query reads the relation of a held row where one of them outdates it
-pub reads_first : (held : List HeldRow) (l : Live) → reads_held held (Some l) ≡ is_some (first_read held (λ name. true) (a_query l.query))
+pub reads_first : (held : List HeldRow) (l : Live) → reads_held held (Some l)
+    ≡ is_some (first_read held (λ name. true) (a_query l.query))
 reads_first [] l = refl
 reads_first (h ∷ held) l = step (reads l.query h.relation) (reads_first held l)
   where
     step : (b : Bool) → reads_held held (Some l) ≡ is_some (first_read held (λ name. true) (a_query l.query))
-        → (b || reads_held held (Some l)) ≡ is_some (cond b (Some h.relation) (first_read held (λ name. true) (a_query l.query)))
+        → (b || reads_held held (Some l))
+        ≡ is_some (cond b (Some h.relation) (first_read held (λ name. true) (a_query l.query)))
     step true e = refl
     step false e = e

@@ -125,7 +125,8 @@ module _ (old mid new : Parts) (s : IsWhole old) (at : ℕ) (name : Bytes) (afte
     (carries : Carries (readers_at old.readers.items at) old.catalog old.queries.items mid.catalog mid.queries.items)
     (readers : mid.readers.items ≡ old.readers.items) (a : AgesReaders at name mid new) where
   untouched : (i : ℕ) (l : Live) → place_at old.queries.items i ≡ Some l
-      → is_outdated (one_change name after) (a_query l.query) ≡ false → is_reader (readers_at old.readers.items at) i ≡ false
+      → is_outdated (one_change name after) (a_query l.query) ≡ false → is_reader (readers_at old.readers.items at) i
+      ≡ false
   untouched i l e out =
       reader_reads old.catalog old.queries.items old.order old.readers.items s at low i l e
       ∙ ap (reads l.query) named
@@ -146,7 +147,8 @@ module _ (old mid new : Parts) (s : IsWhole old) (at : ℕ) (name : Bytes) (afte
 -- ---- a change of several
 
 pub keeps_turned : (outdater : Listed → Option Bytes) (reached : Listed → Bool) (places : List ℕ)
-    (old mid new : Parts) (s : IsWhole old) → ((q : Listed) → reached q ≡ is_some (outdater q)) → Turned outdater places old mid new
+    (old mid new : Parts) (s : IsWhole old) → ((q : Listed) → reached q ≡ is_some (outdater q))
+    → Turned outdater places old mid new
     → KeepsIn reached old.queries.items new.queries.items
 keeps_turned outdater reached places old mid new s by b =
     keeps_alike reached old.queries.items new.queries.items (alike_then outdater places old mid new s b)

@@ -40,12 +40,15 @@ TurnsAt c d outdater n (Some l) new = TurnsBy c d (outdater (a_query l.query)) n
 
 -- Queries were carried over, and then their cursors outdated: each that was carried is outdated.
 module _ (c d : Catalog) (outdater : Listed → Option Bytes) (n : ℕ) (places : List ℕ) (gs hs ks : List (Option Live))
-    (reach : Reach places (Renews d) gs hs) (stay : (i : ℕ) (l : Live) → place_at gs i ≡ Some l → is_reader places i ≡ false → StaysOver c d l)
+    (reach : Reach places (Renews d) gs hs)
+    (stay : (i : ℕ) (l : Live) → place_at gs i ≡ Some l → is_reader places i ≡ false → StaysOver c d l)
     (within : (i : ℕ) → is_reader places i ≡ true → is_some (outdater (query_in (place_at gs i))) ≡ true)
     (ages : AgesAll outdater n hs ks) where
-  turns_here : (l m : Live) (p : Option Live) → Renews d l m → AgesAt outdater n (Some m) p → (o : Option Bytes) → outdater (a_query l.query) ≡ o → is_some o ≡ true → TurnsBy c d o n l p
+  turns_here : (l m : Live) (p : Option Live) → Renews d l m → AgesAt outdater n (Some m) p → (o : Option Bytes)
+      → outdater (a_query l.query) ≡ o → is_some o ≡ true → TurnsBy c d o n l p
   turns_here l m p r a None e some = absurd (false≢true some)
-  turns_here l m p r a (Some relation) e some = by_place p (subst (λ (o : Option Bytes). AgesBy o n m p) (ap (λ (q : Query). outdater (a_query q)) r.same.query ∙ e) a)
+  turns_here l m p r a (Some relation) e some = by_place p
+      (subst (λ (o : Option Bytes). AgesBy o n m p) (ap (λ (q : Query). outdater (a_query q)) r.same.query ∙ e) a)
     where
       by_place : (p : Option Live) → AgesBy (Some relation) n m p → TurnsBy c d (Some relation) n l p
       by_place None b = b
@@ -55,7 +58,8 @@ module _ (c d : Catalog) (outdater : Listed → Option Bytes) (n : ℕ) (places 
         live = b.live d r.kept;
       }
 
-  turns_there : (l : Live) (p : Option Live) → StaysOver c d l → (o : Option Bytes) → AgesBy o n l p → TurnsBy c d o n l p
+  turns_there : (l : Live) (p : Option Live) → StaysOver c d l → (o : Option Bytes) → AgesBy o n l p
+      → TurnsBy c d o n l p
   turns_there l p s None a = (a, s)
   turns_there l None s (Some relation) a = a
   turns_there l (Some k) s (Some relation) a = record {
@@ -67,15 +71,18 @@ module _ (c d : Catalog) (outdater : Listed → Option Bytes) (n : ℕ) (places 
   pub turned_all : (i : ℕ) → TurnsAt c d outdater n (place_at gs i) (place_at ks i)
   turned_all i = by_place (is_reader places i) refl (place_at gs i) refl (place_at hs i) (reach.each i) (ages.each i)
     where
-      by_place : (b : Bool) → is_reader places i ≡ b → (o : Option Live) → place_at gs i ≡ o → (p : Option Live) → DoneAt (Renews d) b o p → AgesAt outdater n p (place_at ks i)
+      by_place : (b : Bool) → is_reader places i ≡ b → (o : Option Live) → place_at gs i ≡ o → (p : Option Live)
+          → DoneAt (Renews d) b o p → AgesAt outdater n p (place_at ks i)
           → TurnsAt c d outdater n o (place_at ks i)
       by_place false e None f p t a = subst (λ (x : Option Live). AgesAt outdater n x (place_at ks i)) t a
-      by_place false e (Some l) f p t a = turns_there l (place_at ks i) (stay i l f e) (outdater (a_query l.query)) (subst (λ (x : Option Live). AgesAt outdater n x (place_at ks i)) t a)
+      by_place false e (Some l) f p t a = turns_there l (place_at ks i) (stay i l f e) (outdater (a_query l.query))
+          (subst (λ (x : Option Live). AgesAt outdater n x (place_at ks i)) t a)
       by_place true e None f None t a = a
       by_place true e None f (Some m) t a = absurd t
       by_place true e (Some l) f None t a = absurd t
       by_place true e (Some l) f (Some m) t a =
-          turns_here l m (place_at ks i) t a (outdater (a_query l.query)) refl (ap (λ (o : Option Live). is_some (outdater (query_in o))) (sym f) ∙ within i e)
+          turns_here l m (place_at ks i) t a (outdater (a_query l.query)) refl
+          (ap (λ (o : Option Live). is_some (outdater (query_in o))) (sym f) ∙ within i e)
 
   -- what doesn't see the cursors is alike
   pub turned_alike : AreAlike gs ks
@@ -92,23 +99,31 @@ module _ (c d : Catalog) (outdater : Listed → Option Bytes) (n : ℕ) (places 
 
       renewed : (l m : Live) (p : Option Live) → Renews d l m → AlikeAt (Some m) p → AlikeAt (Some l) p
       renewed l m None r a = a
-      renewed l m (Some k) r a = record { query = a.query ∙ r.same.query; numbered = a.numbered ∙ r.same.numbered; tree = a.tree ∙ r.same.tree }
+      renewed l m (Some k) r a = record
+          { query = a.query ∙ r.same.query; numbered = a.numbered ∙ r.same.numbered; tree = a.tree ∙ r.same.tree }
 
       still : (o p : Option Live) → AgesAt outdater n o p → AlikeAt o p
       still None p a = subst (λ (x : Option Live). AlikeAt None x) (sym a) tt
       still (Some l) p a = aged l p (outdater (a_query l.query)) a
 
-      by_place : (b : Bool) (o p : Option Live) → DoneAt (Renews d) b o p → AgesAt outdater n p (place_at ks i) → AlikeAt o (place_at ks i)
-      by_place false o p t a = still o (place_at ks i) (subst (λ (x : Option Live). AgesAt outdater n x (place_at ks i)) t a)
+      by_place : (b : Bool) (o p : Option Live) → DoneAt (Renews d) b o p → AgesAt outdater n p (place_at ks i)
+          → AlikeAt o (place_at ks i)
+      by_place false o p t a = still o (place_at ks i)
+          (subst (λ (x : Option Live). AgesAt outdater n x (place_at ks i)) t a)
       by_place true None None t a = still None (place_at ks i) a
       by_place true None (Some m) t a = absurd t
       by_place true (Some l) None t a = absurd t
-      by_place true (Some l) (Some m) t a = renewed l m (place_at ks i) t (aged m (place_at ks i) (outdater (a_query m.query)) a)
+      by_place true (Some l) (Some m) t a = renewed l m (place_at ks i) t
+          (aged m (place_at ks i) (outdater (a_query m.query)) a)
 
-module _ (c d : Catalog) (gs ks : List (Option Live)) (order : List ℕ) (readers : List (List ℕ)) (s : IsSound c gs order readers)
-    (outdater : Listed → Option Bytes) (n : ℕ) (turns : (i : ℕ) → TurnsAt c d outdater n (place_at gs i) (place_at ks i)) (many : length ks ≡ length gs) (names : SameNames c d) where
+module _ (c d : Catalog) (gs ks : List (Option Live)) (order : List ℕ) (readers : List (List ℕ))
+    (s : IsSound c gs order readers)
+    (outdater : Listed → Option Bytes) (n : ℕ)
+    (turns : (i : ℕ) → TurnsAt c d outdater n (place_at gs i) (place_at ks i)) (many : length ks ≡ length gs)
+    (names : SameNames c d) where
   -- what doesn't see the tables of a query is as before
-  same_field : {A : Type 0} (f : Option Live → A) → ((l m : Live) → m.query ≡ l.query → f (Some m) ≡ f (Some l)) → (i : ℕ) → f (place_at ks i) ≡ f (place_at gs i)
+  same_field : {A : Type 0} (f : Option Live → A) → ((l m : Live) → m.query ≡ l.query → f (Some m) ≡ f (Some l))
+      → (i : ℕ) → f (place_at ks i) ≡ f (place_at gs i)
   same_field f h i = by_place (place_at gs i) (place_at ks i) (turns i)
     where
       by_outdater : (l : Live) (p : Option Live) (r : Option Bytes) → TurnsBy c d r n l p → f p ≡ f (Some l)
@@ -150,7 +165,8 @@ module _ (c d : Catalog) (gs ks : List (Option Live)) (order : List ℕ) (reader
       same_listed : (x y : Query) → a_query x ≡ a_query y → x ≡ y
       same_listed x y e = cc
 
-      by_place : (o : Option Live) → place_at gs i ≡ o → is_some (place_at gs i) ≡ true → query_in (place_at gs i) ≡ a_query m.query → (l : Live) × (place_at gs i ≡ Some l) × (m.query ≡ l.query)
+      by_place : (o : Option Live) → place_at gs i ≡ o → is_some (place_at gs i) ≡ true → query_in (place_at gs i)
+          ≡ a_query m.query → (l : Live) × (place_at gs i ≡ Some l) × (m.query ≡ l.query)
       by_place None g h q = let none : is_some (place_at gs i) ≡ false = ap is_some g in absurd cc
       by_place (Some l) g h q = (l, g, same_listed m.query l.query (sym q ∙ ap query_in g))
 
@@ -167,61 +183,75 @@ module _ (c d : Catalog) (gs ks : List (Option Live)) (order : List ℕ) (reader
     bounded = omega (arith, s.bounded, many);
     long = s.long ∙ sym names.long;
     reading = λ r l. s.reading r (subst (λ (k : ℕ). r < k) names.long l)
-        ∙ filter_members (λ i. reads_place (relation_at c.relations r).name (place_at gs i)) (λ i. reads_place (relation_at d.relations r).name (place_at ks i)) order
-        (λ i h. ap (λ (b : Bytes). reads_place b (place_at gs i)) (sym (names.names r)) ∙ sym (same_reads (relation_at d.relations r).name i));
+        ∙ filter_members (λ i. reads_place (relation_at c.relations r).name (place_at gs i))
+        (λ i. reads_place (relation_at d.relations r).name (place_at ks i)) order
+        (λ i h. ap (λ (b : Bytes). reads_place b (place_at gs i)) (sym (names.names r))
+        ∙ sym (same_reads (relation_at d.relations r).name i));
   }
 
   pub outdated_queries : queries_in ks order ≡ queries_in gs order
-  outdated_queries = map_members (λ i. query_in (place_at ks i)) (λ i. query_in (place_at gs i)) order (λ i h. same_query i)
+  outdated_queries = map_members (λ i. query_in (place_at ks i)) (λ i. query_in (place_at gs i)) order
+      (λ i h. same_query i)
 
   -- cursors
 
   abbrev aged : Held → Held
   aged = outdated_held (queries_in gs order) outdater n
 
-  outdater_is : (i : ℕ) (l : Live) → place_at gs i ≡ Some l → outdater_of (queries_in gs order) outdater l.query.name ≡ outdater (a_query l.query)
+  outdater_is : (i : ℕ) (l : Live) → place_at gs i ≡ Some l → outdater_of (queries_in gs order) outdater l.query.name
+      ≡ outdater (a_query l.query)
   outdater_is i l e = ap (λ o. outdater_by o) (query_kept c gs order readers s i l e)
     where
       outdater_by : Option Listed → Option Bytes
       outdater_by None = None
       outdater_by (Some q) = outdater q
 
-  step_outdated : (id : CursorId) (l m : Live) (r : Bytes) → m.query ≡ l.query → outdater_of (queries_in gs order) outdater l.query.name ≡ Some r → (o : Option Progress)
-      → option_map (held_as d.texts m id) (option_map (outdated_progress r n) o) ≡ option_map aged (option_map (held_as c.texts l id) o)
+  step_outdated : (id : CursorId) (l m : Live) (r : Bytes) → m.query ≡ l.query
+      → outdater_of (queries_in gs order) outdater l.query.name ≡ Some r → (o : Option Progress)
+      → option_map (held_as d.texts m id) (option_map (outdated_progress r n) o)
+      ≡ option_map aged (option_map (held_as c.texts l id) o)
   step_outdated id l m r q e None = refl
   step_outdated id l m r q e (Some (Open cursor ended)) =
       ap (λ (x : Query). Some (held_with id x.name (stale r n))) q
-      ∙ ap (λ (o : Option Bytes). Some (held_with id l.query.name (outdated o n (position_of c.texts l (Open cursor ended))))) (sym e)
+      ∙ ap (λ (o : Option Bytes). Some
+      (held_with id l.query.name (outdated o n (position_of c.texts l (Open cursor ended))))) (sym e)
   step_outdated id l m r q e (Some (Stale x k)) =
       ap (λ (y : Query). Some (held_with id y.name (stale x k))) q
       ∙ ap (λ (o : Option Bytes). Some (held_with id l.query.name (outdated o n (stale x k)))) (sym e)
 
-  step_other : (id : CursorId) (l : Live) → outdater_of (queries_in gs order) outdater l.query.name ≡ None → (o : Option Progress) → ((p : Progress) → o ≡ Some p → position_of d.texts l p ≡ position_of c.texts l p)
+  step_other : (id : CursorId) (l : Live) → outdater_of (queries_in gs order) outdater l.query.name ≡ None
+      → (o : Option Progress) → ((p : Progress) → o ≡ Some p → position_of d.texts l p ≡ position_of c.texts l p)
       → option_map (held_as d.texts l id) o ≡ option_map aged (option_map (held_as c.texts l id) o)
   step_other id l e None h = refl
   step_other id l e (Some p) h =
       ap (λ (x : Position). Some (held_with id l.query.name x)) (h p refl)
       ∙ ap (λ (o : Option Bytes). Some (held_with id l.query.name (outdated o n (position_of c.texts l p)))) (sym e)
 
-  held_now : (id : CursorId) → held_of d.texts id (place_at ks id.query.at) ≡ option_map aged (held_of c.texts id (place_at gs id.query.at))
+  held_now : (id : CursorId) → held_of d.texts id (place_at ks id.query.at)
+      ≡ option_map aged (held_of c.texts id (place_at gs id.query.at))
   held_now id = by_place (place_at gs id.query.at) refl (place_at ks id.query.at) (turns id.query.at)
     where
-      by_outdater : (l : Live) → place_at gs id.query.at ≡ Some l → (p : Option Live) (r : Option Bytes) → outdater (a_query l.query) ≡ r → TurnsBy c d r n l p
+      by_outdater : (l : Live) → place_at gs id.query.at ≡ Some l → (p : Option Live) (r : Option Bytes)
+          → outdater (a_query l.query) ≡ r → TurnsBy c d r n l p
           → held_of d.texts id p ≡ option_map aged (held_of c.texts id (Some l))
       by_outdater l g p None e t =
           ap (held_of d.texts id) t.0
-          ∙ step_other id l (outdater_is id.query.at l g ∙ e) (slot_at l.cursors id.cursor) (λ q h. t.1.stands id.cursor q h)
+          ∙ step_other id l (outdater_is id.query.at l g ∙ e) (slot_at l.cursors id.cursor)
+          (λ q h. t.1.stands id.cursor q h)
       by_outdater l g None (Some r) e t = absurd t
       by_outdater l g (Some m) (Some r) e t =
           ap (λ (slots : List (Option Progress)). option_map (held_as d.texts m id) (slot_at slots id.cursor)) t.cursors
           ∙ ap (option_map (held_as d.texts m id)) (outdated_at r n l.cursors id.cursor)
           ∙ step_outdated id l m r t.query (outdater_is id.query.at l g ∙ e) (slot_at l.cursors id.cursor)
 
-      by_place : (o : Option Live) → place_at gs id.query.at ≡ o → (p : Option Live) → TurnsAt c d outdater n o p → held_of d.texts id p ≡ option_map aged (held_of c.texts id o)
+      by_place : (o : Option Live) → place_at gs id.query.at ≡ o → (p : Option Live) → TurnsAt c d outdater n o p
+          → held_of d.texts id p ≡ option_map aged (held_of c.texts id o)
       by_place None g p t = ap (held_of d.texts id) t
       by_place (Some l) g p t = by_outdater l g p (outdater (a_query l.query)) refl t
 
-  pub outdated_cursors : (id : CursorId) → held_at (held_from d.texts zero ks) id ≡ held_at (map aged (held_from c.texts zero gs)) id
+  pub outdated_cursors : (id : CursorId) → held_at (held_from d.texts zero ks) id
+      ≡ held_at (map aged (held_from c.texts zero gs)) id
   outdated_cursors id =
       held_is d.texts ks id ∙ held_now id
-      ∙ sym (find_mapped (λ h. same_id h.id id) aged (held_from c.texts zero gs) ∙ ap (option_map aged) (held_is c.texts gs id))
+      ∙ sym (find_mapped (λ h. same_id h.id id) aged (held_from c.texts zero gs)
+      ∙ ap (option_map aged) (held_is c.texts gs id))

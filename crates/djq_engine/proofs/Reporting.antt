@@ -1,13 +1,17 @@
 -- What a change of rows makes known of the watched queries that read its relation.
-use Rattle.std.proofs.Common.{ℕ, List, [], ◌∷◌, ◌++◌, ◌+◌, ◌≡◌, ◌≢◌, ◌<◌, ◌≤◌, Bool, true, false, refl, sym, ap, ap₂, ◌∙◌, subst, length, arith}
-use Rattle.std.specs.Prelude.{◌==◌, ◌&&◌, Option, None, Some, IsSomeAnd, cond, map, filter, sum_by, slice_index_or, vec_capacity, AllPairs, not, is_none, nat_le, Ok, Err, Result, IsErr, IfErr}
+use Rattle.std.proofs.Common.{ℕ, List, [], ◌∷◌, ◌++◌, ◌+◌, ◌≡◌, ◌≢◌, ◌<◌, ◌≤◌, Bool, true, false}
+use Rattle.std.proofs.Common.{refl, sym, ap, ap₂, ◌∙◌, subst, length, arith}
+use Rattle.std.specs.Prelude.{◌==◌, ◌&&◌, Option, None, Some, IsSomeAnd, cond, map, filter, sum_by}
+use Rattle.std.specs.Prelude.{slice_index_or, vec_capacity, AllPairs, not, is_none, nat_le, Ok, Err}
+use Rattle.std.specs.Prelude.{Result, IsErr, IfErr}
 use Rattle.std.proofs.lemmas.Bool.{eqb-true, false≢true}
 use Rattle.std.proofs.lemmas.List.{append-nil}
 use Rattle.std.proofs.lemmas.Nat.{mul-le}
 use Rattle.djq_model.specs.declared.relation.Relation.{Relation}
 use Rattle.djq_model.specs.declared.query.Atom.{Atom}
 use Rattle.djq_model.specs.declared.relation.CountedRow.{CountedRow}
-use Rattle.djq_model.specs.Data.{Bytes, Tuple, bytes_eq, change_first, relation_of, has_row, copies_among, counted_of, rows_of, with_row, without_copies}
+use Rattle.djq_model.specs.Data.{Bytes, Tuple, bytes_eq, change_first, relation_of, has_row}
+use Rattle.djq_model.specs.Data.{copies_among, counted_of, rows_of, with_row, without_copies}
 use Rattle.djq_model.specs.Typed.{fits}
 use Rattle.djq_lines.specs.Columns.{types_of}
 use Rattle.djq_lines.specs.declared.limits.TheConstants.{ROWS, COPIES, LAST_SEQ}
@@ -15,7 +19,9 @@ use Rattle.djq_lines.specs.declared.answer.Refusal.{Refusal}
 use Rattle.djq_lines.specs.declared.answer.Refusal.TheVariants.{NoRelation, Arity, WrongType, Limit}
 use Rattle.djq_lines.specs.declared.answer.AddOutcome.{AddOutcome}
 use Rattle.djq_lines.specs.declared.answer.DeleteOutcome.{DeleteOutcome}
-use Rattle.djq_machine.specs.Changes.{RowsChange, RowsOutcome, accepted, out_of_memory, unchanged, one_change, new_rows, row_in, row_out, add_outcome, delete_outcome, is_outdated}
+use Rattle.djq_machine.specs.Changes.{RowsChange, RowsOutcome, accepted, out_of_memory, unchanged}
+use Rattle.djq_machine.specs.Changes.{one_change, new_rows, row_in, row_out, add_outcome}
+use Rattle.djq_machine.specs.Changes.{delete_outcome, is_outdated}
 use Rattle.djq_model.specs.Answer.{IsAnswer}
 use Rattle.djq_model.specs.Listed.{a_query}
 use Rattle.djq_model.specs.Equality.{bytes_eq-decides}
@@ -42,16 +48,20 @@ use Rattle.djq_reach.specs.Tending.{AreShown, Empties, HaveLogs, cost_of, cost_a
 use Rattle.djq_engine.proofs.Tending.{shown_alike}
 use Rattle.djq_engine.specs.declared.parts.Parts.{Parts}
 use Rattle.djq_reach.specs.Reaching.{Carries}
-use Rattle.djq_engine.specs.Changing.{IsDeltaWith, TellsRows, CountsRows, KeepsRest, KeepsLogs, AgesReaders, LacksMemory, NoPlace, for_copies, for_texts, LacksPlace, PutsRow, Drops, reads_at, tells_at}
+use Rattle.djq_engine.specs.Changing.{IsDeltaWith, TellsRows, CountsRows, KeepsRest, KeepsLogs}
+use Rattle.djq_engine.specs.Changing.{AgesReaders, LacksMemory, NoPlace, for_copies, for_texts}
+use Rattle.djq_engine.specs.Changing.{LacksPlace, PutsRow, Drops, reads_at, tells_at}
 use Rattle.djq_engine.specs.Watching.{TellsChange, reaches}
 use Rattle.djq_engine.specs.Whole.{kept_in, IsWhole, IsTended}
 use Rattle.djq_engine.specs.Judging.{bare, Suits}
 use Rattle.djq_engine.proofs.Judged.{counted_found}
 use Rattle.djq_engine.proofs.Listing.{filter_members}
 use Rattle.djq_engine.proofs.Carrying.{reader_is, reader_reads}
-use Rattle.djq_engine.proofs.Affecting.{both_true, outdated_places, AreFor, deltas_with, steps_by, ToldStay, Discards, refused_tells, accepted_tells}
+use Rattle.djq_engine.proofs.Affecting.{both_true, outdated_places, AreFor, deltas_with, steps_by}
+use Rattle.djq_engine.proofs.Affecting.{ToldStay, Discards, refused_tells, accepted_tells}
 use Rattle.djq_engine.proofs.Enlisted.{outdated_reads, registered_same}
-use Rattle.djq_engine.proofs.Told.{AlikeAt, AreAlike, aged_alike, told_is, told_empty, told_stays, query_alike_at, alike_same}
+use Rattle.djq_engine.proofs.Told.{AlikeAt, AreAlike, aged_alike, told_is, told_empty, told_stays}
+use Rattle.djq_engine.proofs.Told.{query_alike_at, alike_same}
 use Rattle.djq_engine.proofs.Naming.{There, live_there, order_there}
 use Rattle.djq_reach.proofs.Reaching.{place_below}
 
@@ -59,27 +69,38 @@ use Rattle.djq_reach.proofs.Reaching.{place_below}
 
 pub atoms_of : (c : Catalog) (at : ℕ) (variables : List Variable) (atoms : List Atom) (ms : List NumberedAtom)
     → AreAtomsOf c variables atoms ms
-    → length (filter (λ m. m.relation == at) ms) ≤ length (filter (λ a. bytes_eq a.relation (relation_at c.relations at).name) atoms)
+    → length (filter (λ m. m.relation == at) ms) ≤ length
+    (filter (λ a. bytes_eq a.relation (relation_at c.relations at).name) atoms)
 atoms_of c at variables [] [] h = omega arith
 atoms_of c at variables [] (m ∷ ms) h = absurd h
 atoms_of c at variables (a ∷ atoms) [] h = absurd h
-atoms_of c at variables (a ∷ atoms) (m ∷ ms) h = step (m.relation == at) refl (bytes_eq a.relation (relation_at c.relations at).name) refl (atoms_of c at variables atoms ms h.1)
+atoms_of c at variables (a ∷ atoms) (m ∷ ms) h = step (m.relation == at) refl
+    (bytes_eq a.relation (relation_at c.relations at).name) refl (atoms_of c at variables atoms ms h.1)
   where
     step : (b : Bool) → (m.relation == at) ≡ b → (t : Bool) → bytes_eq a.relation (relation_at c.relations at).name ≡ t
-        → length (filter (λ m. m.relation == at) ms) ≤ length (filter (λ a. bytes_eq a.relation (relation_at c.relations at).name) atoms)
+        → length (filter (λ m. m.relation == at) ms) ≤ length
+        (filter (λ a. bytes_eq a.relation (relation_at c.relations at).name) atoms)
         → length (cond b (m ∷ filter (λ m. m.relation == at) ms) (filter (λ m. m.relation == at) ms))
-        ≤ length (cond t (a ∷ filter (λ a. bytes_eq a.relation (relation_at c.relations at).name) atoms) (filter (λ a. bytes_eq a.relation (relation_at c.relations at).name) atoms))
+        ≤ length (cond t (a ∷ filter (λ a. bytes_eq a.relation (relation_at c.relations at).name) atoms)
+        (filter (λ a. bytes_eq a.relation (relation_at c.relations at).name) atoms))
     step true e true f k = omega (arith, k)
     step true e false f k =
-        absurd (false≢true (sym f ∙ (bytes_eq-decides a.relation (relation_at c.relations at).name).1 (sym h.0.named ∙ ap (λ (i : ℕ). (relation_at c.relations i).name) (eqb-true m.relation at e))))
+        absurd (false≢true (sym f
+        ∙ (bytes_eq-decides a.relation (relation_at c.relations at).name).1
+        (sym h.0.named ∙ ap (λ (i : ℕ). (relation_at c.relations i).name) (eqb-true m.relation at e))))
     step false e true f k = omega (arith, k)
     step false e false f k = k
 
 pub bound_steps : (c : Catalog) (at : ℕ) (l : Live) (changes : List Change) (after : List Relation) → IsKept c l
-    → delta_bound l at changes ≤ delta_steps (one_change (relation_at c.relations at).name after) (record { query = a_query l.query; changes = changes; parts = [] })
+    → delta_bound l at changes ≤ delta_steps (one_change (relation_at c.relations at).name after)
+    (record { query = a_query l.query; changes = changes; parts = [] })
 bound_steps c at l changes after k =
-    let fewer : atoms_over l at ≤ length (filter (λ a. bytes_eq a.relation (relation_at c.relations at).name) l.query.atoms) = atoms_of c at l.numbered.variables l.query.atoms l.numbered.atoms k.over.asked.atoms in
-    mul-le (length changes + atoms_over l at) (most_steps (length l.query.head)) (length changes + length (filter (λ a. bytes_eq a.relation (relation_at c.relations at).name) l.query.atoms)) (most_steps (length l.query.head)) (omega (arith, fewer)) (omega arith)
+    let fewer : atoms_over l at ≤ length
+    (filter (λ a. bytes_eq a.relation (relation_at c.relations at).name) l.query.atoms) = atoms_of c at
+    l.numbered.variables l.query.atoms l.numbered.atoms k.over.asked.atoms in
+    mul-le (length changes + atoms_over l at) (most_steps (length l.query.head))
+    (length changes + length (filter (λ a. bytes_eq a.relation (relation_at c.relations at).name) l.query.atoms))
+    (most_steps (length l.query.head)) (omega (arith, fewer)) (omega arith)
 
 -- ---- the parts of an engine
 
@@ -134,13 +155,16 @@ told_by law texts old new learned e t alike = let k = texts (old.catalog).texts 
     (e ∙ k.1) t alike
 
 -- the same is told by the same logs
-pub told_same : (old new : Parts) → (new.catalog).texts ≡ (old.catalog).texts → new.queries.items ≡ old.queries.items → new.logs.items ≡ old.logs.items
+pub told_same : (old new : Parts) → (new.catalog).texts ≡ (old.catalog).texts → new.queries.items ≡ old.queries.items
+    → new.logs.items ≡ old.logs.items
     → (i : ℕ) → told_at (kept_in new) (id_at i) ≡ told_at (kept_in old) (id_at i)
 told_same old new texts queries logs i =
     ap (λ (ts : List Bytes). slice_index_or (told_from ts new.queries.items new.logs.items) i None) texts
-    ∙ ap₂ (λ (gs : List (Option Live)) (ls : List Log). slice_index_or (told_from (old.catalog).texts gs ls) i None) queries logs
+    ∙ ap₂ (λ (gs : List (Option Live)) (ls : List Log). slice_index_or (told_from (old.catalog).texts gs ls) i None)
+    queries logs
 
-pub told_full : ShowableStays → TextsStay → (old new : Parts) (at : ℕ) (row : Tuple) → LacksPlace at row old new → IsTended old
+pub told_full : ShowableStays → TextsStay → (old new : Parts) (at : ℕ) (row : Tuple) → LacksPlace at row old new
+    → IsTended old
     → (i : ℕ) → told_at (kept_in new) (id_at i) ≡ told_at (kept_in old) (id_at i)
 told_full law texts old new at row l t i = by_cause l.why
   where
@@ -172,7 +196,8 @@ told_drop law old mid new at row p same t alike =
     alike
 
 -- the same queries are affected
-pub affected_same : (old new : Parts) → new.affected.items ≡ old.affected.items → (kept_in new).affected ≡ (kept_in old).affected
+pub affected_same : (old new : Parts) → new.affected.items ≡ old.affected.items → (kept_in new).affected
+    ≡ (kept_in old).affected
 affected_same old new same = ap (map id_at) same
 
 -- nothing is told
@@ -190,14 +215,18 @@ tells_nothing old new before now h affected stays = record {
   stays = stays;
 }
 
-module _ (old : Parts) (s : IsWhole old) (at : ℕ) (low : at < length (old.catalog).relations) (name : Bytes) (named : (relation_at (old.catalog).relations at).name ≡ name) (rows : List CountedRow)
+module _ (old : Parts) (s : IsWhole old) (at : ℕ) (low : at < length (old.catalog).relations) (name : Bytes)
+    (named : (relation_at (old.catalog).relations at).name ≡ name) (rows : List CountedRow)
     (law : NamesTell) (differ : AllPairs (λ r s. r.name ≢ s.name) (old.catalog).relations)
     (have : (i : ℕ) (l : Live) → place_at old.queries.items i ≡ Some l → (changes : List Change)
-    × IsDelta (IsAnswer (old.catalog).relations l.query) (IsAnswer (with_rows_at (old.catalog).relations at rows) l.query) changes) (before now : ℕ) (counts : CountsRows at rows old before now) where
+    × IsDelta (IsAnswer (old.catalog).relations l.query)
+    (IsAnswer (with_rows_at (old.catalog).relations at rows) l.query) changes) (before now : ℕ)
+    (counts : CountsRows at rows old before now) where
   after_is : with_rows_at (old.catalog).relations at rows ≡ with_rows (old.catalog).relations name rows
   after_is =
       sym (law (old.catalog).relations at rows differ low)
-      ∙ ap (λ (x : Bytes). change_first (λ r. bytes_eq r.name x) (λ (r : Relation). record r { rows = rows }) (old.catalog).relations) named
+      ∙ ap (λ (x : Bytes). change_first (λ r. bytes_eq r.name x) (λ (r : Relation). record r { rows = rows })
+      (old.catalog).relations) named
 
   -- the change, and that the query in a place reads the relation, by place and by name
   abbrev one : RowsChange
@@ -212,7 +241,9 @@ module _ (old : Parts) (s : IsWhole old) (at : ℕ) (low : at < length (old.cata
       ∙ sym (outdated_reads name (query_in (place_at old.queries.items i)))
 
   places_are : readers_at old.readers.items at ≡ outdated_places old.queries.items old.order one
-  places_are = s.reading at low ∙ filter_members (λ i. reads_place (relation_at (old.catalog).relations at).name (place_at old.queries.items i)) (λ i. is_outdated one (query_in (place_at old.queries.items i))) old.order
+  places_are = s.reading at low
+      ∙ filter_members (λ i. reads_place (relation_at (old.catalog).relations at).name (place_at old.queries.items i))
+      (λ i. is_outdated one (query_in (place_at old.queries.items i))) old.order
       (λ i e.
       let t = order_there old.catalog old.queries.items old.order old.readers.items s i e in
       ap (reads_place (relation_at (old.catalog).relations at).name) t.is
@@ -221,59 +252,88 @@ module _ (old : Parts) (s : IsWhole old) (at : ℕ) (low : at < length (old.cata
 
   have_one : (i : ℕ) (l : Live) → place_at old.queries.items i ≡ Some l → (changes : List Change)
       × IsDelta (IsAnswer (old.catalog).relations l.query) (IsAnswer one.after l.query) changes
-  have_one = subst (λ (rs : List Relation). (i : ℕ) (l : Live) → place_at old.queries.items i ≡ Some l → (changes : List Change)
+  have_one = subst (λ (rs : List Relation). (i : ℕ) (l : Live) → place_at old.queries.items i ≡ Some l
+      → (changes : List Change)
       × IsDelta (IsAnswer (old.catalog).relations l.query) (IsAnswer rs l.query) changes) after_is have
 
   counts_one : (f : ℕ → List Change)
-      → AreFor old.catalog old.queries.items old.order old.readers.items s old.watchers.items one (readers_at old.readers.items at) places_are f
-      → now ≤ before + sum_by (delta_steps one) (deltas_with old.catalog old.queries.items old.order old.readers.items s old.watchers.items one (readers_at old.readers.items at) places_are f)
+      → AreFor old.catalog old.queries.items old.order old.readers.items s old.watchers.items one
+      (readers_at old.readers.items at) places_are f
+      → now ≤ before + sum_by (delta_steps one)
+      (deltas_with old.catalog old.queries.items old.order old.readers.items s old.watchers.items one
+      (readers_at old.readers.items at) places_are f)
   counts_one f h =
-      let total = counts f (λ i l r w there. subst (λ (rs : List Relation). IsDelta (IsAnswer (old.catalog).relations l.query) (IsAnswer rs l.query) (f i)) (sym after_is) (h i l r w there)) in
-      let steps = steps_by old.catalog old.queries.items old.order old.readers.items s old.watchers.items one (readers_at old.readers.items at) places_are
+      let total = counts f (λ i l r w there. subst
+      (λ (rs : List Relation). IsDelta (IsAnswer (old.catalog).relations l.query) (IsAnswer rs l.query) (f i))
+      (sym after_is) (h i l r w there)) in
+      let steps = steps_by old.catalog old.queries.items old.order old.readers.items s old.watchers.items one
+      (readers_at old.readers.items at) places_are
       (cost_at old.watchers.items old.queries.items at f) f
       (λ i e w. ap (λ b. cond b (cost_of at (f i) (place_at old.queries.items i)) 0) w)
       (λ i e w.
-      let t = live_there old.queries.items i (both_true (is_live old.queries.items i) _ (sym (reader_is old.catalog old.queries.items old.order old.readers.items s at low i) ∙ e)).0 in
-      let bound : cost_of at (f i) (place_at old.queries.items i) ≤ delta_steps one (record { query = query_in (place_at old.queries.items i); changes = f i; parts = [] }) =
-      subst (λ (o : Option Live). cost_of at (f i) o ≤ delta_steps one (record { query = query_in o; changes = f i; parts = [] })) (sym t.is)
-      (subst (λ (x : Bytes). delta_bound t.query at (f i) ≤ delta_steps (one_change x (with_rows (old.catalog).relations name rows)) (record { query = a_query t.query.query; changes = f i; parts = [] })) named
-      (bound_steps old.catalog at t.query (f i) (with_rows (old.catalog).relations name rows) (s.live i t.query t.is).kept)) in
-      let cost : cost_at old.watchers.items old.queries.items at f i ≡ cost_of at (f i) (place_at old.queries.items i) = ap (λ b. cond b (cost_of at (f i) (place_at old.queries.items i)) 0) w in
+      let t = live_there old.queries.items i
+      (both_true (is_live old.queries.items i) _
+      (sym (reader_is old.catalog old.queries.items old.order old.readers.items s at low i) ∙ e)).0 in
+      let bound : cost_of at (f i) (place_at old.queries.items i) ≤ delta_steps one
+      (record { query = query_in (place_at old.queries.items i); changes = f i; parts = [] }) =
+      subst (λ (o : Option Live). cost_of at (f i) o ≤ delta_steps one
+      (record { query = query_in o; changes = f i; parts = [] })) (sym t.is)
+      (subst (λ (x : Bytes). delta_bound t.query at (f i) ≤ delta_steps
+      (one_change x (with_rows (old.catalog).relations name rows))
+      (record { query = a_query t.query.query; changes = f i; parts = [] })) named
+      (bound_steps old.catalog at t.query (f i) (with_rows (old.catalog).relations name rows)
+      (s.live i t.query t.is).kept)) in
+      let cost : cost_at old.watchers.items old.queries.items at f i
+      ≡ cost_of at (f i) (place_at old.queries.items i) = ap
+      (λ b. cond b (cost_of at (f i) (place_at old.queries.items i)) 0) w in
       omega (arith, cost, bound)) in
       omega (arith, total, steps)
 
   -- where memory was refused
-  pub tells_refused : (new : Parts) → (kept_in new).affected ≡ (kept_in old).affected → Discards old (reads_at old at) new → ToldStay old new
+  pub tells_refused : (new : Parts) → (kept_in new).affected ≡ (kept_in old).affected
+      → Discards old (reads_at old at) new → ToldStay old new
       → TellsChange (kept_in old) (out_of_memory one) (kept_in new) before now
   tells_refused = refused_tells old s one (readers_at old.readers.items at) places_are have_one before now counts_one
 
   -- where the change was accepted
-  pub tells_done : (new : Parts) → ((i : ℕ) (l : Live) → is_reader (readers_at old.readers.items at) i ≡ true → watched_at old.watchers.items i ≡ true
+  pub tells_done : (new : Parts)
+      → ((i : ℕ) (l : Live) → is_reader (readers_at old.readers.items at) i ≡ true → watched_at old.watchers.items i
+      ≡ true
       → place_at old.queries.items i ≡ Some l → (log_at new.logs.items i).lost ≡ false
-      → IsDeltaWith at rows (old.catalog).relations l (map (change_of (new.catalog).texts l) (log_at new.logs.items i).lines))
+      → IsDeltaWith at rows (old.catalog).relations l
+      (map (change_of (new.catalog).texts l) (log_at new.logs.items i).lines))
       → AreAlike old.queries.items new.queries.items → new.affected.items ≡ readers_at old.readers.items at
       → KeepsLogs (tells_at old at) old new → ToldStay old new
       → TellsChange (kept_in old) (accepted one) (kept_in new) before now
   tells_done new tells =
       accepted_tells old s one (readers_at old.readers.items at) places_are have_one before now counts_one new
-      (λ i l r w there lost. subst (λ (rs : List Relation). IsDelta (IsAnswer (old.catalog).relations l.query) (IsAnswer rs l.query) (map (change_of (new.catalog).texts l) (log_at new.logs.items i).lines)) after_is (tells i l r w there lost))
+      (λ i l r w there lost. subst
+      (λ (rs : List Relation). IsDelta (IsAnswer (old.catalog).relations l.query) (IsAnswer rs l.query)
+      (map (change_of (new.catalog).texts l) (log_at new.logs.items i).lines)) after_is (tells i l r w there lost))
 
 -- ---- what is kept once readers were reached and their cursors outdated
 
-module _ (old mid new : Parts) (at : ℕ) (name : Bytes) (carries : Carries (readers_at old.readers.items at) old.catalog old.queries.items mid.catalog mid.queries.items)
-    (watchers : mid.watchers.items ≡ old.watchers.items) (order : mid.order ≡ old.order) (long : length mid.logs.items ≡ length old.logs.items) (a : AgesReaders at name mid new) where
+module _ (old mid new : Parts) (at : ℕ) (name : Bytes)
+    (carries : Carries (readers_at old.readers.items at) old.catalog old.queries.items mid.catalog mid.queries.items)
+    (watchers : mid.watchers.items ≡ old.watchers.items) (order : mid.order ≡ old.order)
+    (long : length mid.logs.items ≡ length old.logs.items) (a : AgesReaders at name mid new) where
   pub alike_now : AreAlike old.queries.items new.queries.items
-  alike_now = aged_alike mid.catalog name mid.seq (readers_at old.readers.items at) (readers_at mid.readers.items at) old.queries.items mid.queries.items new.queries.items carries.reach a.reach
+  alike_now = aged_alike mid.catalog name mid.seq (readers_at old.readers.items at) (readers_at mid.readers.items at)
+      old.queries.items mid.queries.items new.queries.items carries.reach a.reach
 
-  pub registered_now : registered_in new.queries.items new.watchers.items new.order ≡ registered_in old.queries.items old.watchers.items old.order
+  pub registered_now : registered_in new.queries.items new.watchers.items new.order
+      ≡ registered_in old.queries.items old.watchers.items old.order
   registered_now =
-      ap₂ (λ (xs ys : List ℕ). registered_in new.queries.items xs ys) (a.rest.watchers ∙ watchers) (a.rest.order ∙ order)
+      ap₂ (λ (xs ys : List ℕ). registered_in new.queries.items xs ys) (a.rest.watchers ∙ watchers)
+      (a.rest.order ∙ order)
       ∙ registered_same old.queries.items new.queries.items old.watchers.items old.watchers.items old.order
       (λ i. query_alike_at (place_at old.queries.items i) (place_at new.queries.items i) (alike_now i)) (λ i. refl)
 
-  pub tended_now : IsTended old → length mid.order ≤ vec_capacity mid.affected → AreShown (mid.catalog).texts old.queries.items mid.logs.items → IsTended new
+  pub tended_now : IsTended old → length mid.order ≤ vec_capacity mid.affected
+      → AreShown (mid.catalog).texts old.queries.items mid.logs.items → IsTended new
   tended_now t room h = record {
-    watched = ap (λ (xs : List ℕ). length xs) (a.rest.watchers ∙ watchers) ∙ t.watched ∙ sym (a.reach.length ∙ carries.reach.length);
+    watched = ap (λ (xs : List ℕ). length xs) (a.rest.watchers ∙ watchers) ∙ t.watched
+        ∙ sym (a.reach.length ∙ carries.reach.length);
     logged = ap (λ (xs : List Log). length xs) a.logs ∙ long ∙ t.logged ∙ sym (a.reach.length ∙ carries.reach.length);
     shown = subst (λ (x : Catalog). AreShown x.texts new.queries.items new.logs.items) (sym a.catalog)
         (subst (λ (xs : List Log). AreShown (mid.catalog).texts new.queries.items xs) (sym a.logs)
@@ -285,7 +345,8 @@ pub filter_few : (p : ℕ → Bool) (xs : List ℕ) → length (filter p xs) ≤
 filter_few p [] = omega arith
 filter_few p (x ∷ xs) = step (p x) (filter_few p xs)
   where
-    step : (b : Bool) → length (filter p xs) ≤ length xs → length (cond b (x ∷ filter p xs) (filter p xs)) ≤ length (x ∷ xs)
+    step : (b : Bool) → length (filter p xs) ≤ length xs
+        → length (cond b (x ∷ filter p xs) (filter p xs)) ≤ length (x ∷ xs)
     step true h = omega (arith, h)
     step false h = omega (arith, h)
 
@@ -296,30 +357,39 @@ room_kept old new t k = omega (arith, t.room, k.room, ap (λ (xs : List ℕ). le
 pub readers_few : (old mid : Parts) → IsWhole old → (at : ℕ) → at < length (old.catalog).relations
     → KeepsRest old mid → IsTended old → length (readers_at mid.readers.items at) ≤ vec_capacity mid.affected
 readers_few old mid s at low k t =
-    let few = filter_few (λ i. reads_place (relation_at (old.catalog).relations at).name (place_at old.queries.items i)) old.order in
-    let long = ap (λ (rs : List (List ℕ)). length (readers_at rs at)) k.readers ∙ ap (λ (xs : List ℕ). length xs) (s.reading at low) in
+    let few = filter_few (λ i. reads_place (relation_at (old.catalog).relations at).name (place_at old.queries.items i))
+    old.order in
+    let long = ap (λ (rs : List (List ℕ)). length (readers_at rs at)) k.readers
+    ∙ ap (λ (xs : List ℕ). length xs) (s.reading at low) in
     omega (arith, few, long, t.room, k.room)
 
-pub tended_still : (old new : Parts) → IsTended old → KeepsRest old new → new.queries.items ≡ old.queries.items → AreShown (new.catalog).texts old.queries.items new.logs.items → IsTended new
+pub tended_still : (old new : Parts) → IsTended old → KeepsRest old new → new.queries.items ≡ old.queries.items
+    → AreShown (new.catalog).texts old.queries.items new.logs.items → IsTended new
 tended_still old new t k q h = record {
-  watched = ap (λ (xs : List ℕ). length xs) k.watchers ∙ t.watched ∙ sym (ap (λ (gs : List (Option Live)). length gs) q);
+  watched = ap (λ (xs : List ℕ). length xs) k.watchers ∙ t.watched
+      ∙ sym (ap (λ (gs : List (Option Live)). length gs) q);
   logged = k.long ∙ t.logged ∙ sym (ap (λ (gs : List (Option Live)). length gs) q);
   shown = subst (λ (gs : List (Option Live)). AreShown (new.catalog).texts gs new.logs.items) (sym q) h;
   room = room_kept old new t k;
 }
 
-pub registered_still : (old new : Parts) → KeepsRest old new → new.queries.items ≡ old.queries.items → registered_in new.queries.items new.watchers.items new.order ≡ registered_in old.queries.items old.watchers.items old.order
+pub registered_still : (old new : Parts) → KeepsRest old new → new.queries.items ≡ old.queries.items
+    → registered_in new.queries.items new.watchers.items new.order
+    ≡ registered_in old.queries.items old.watchers.items old.order
 registered_still old new k q =
     ap (λ (gs : List (Option Live)). registered_in gs new.watchers.items new.order) q
     ∙ ap₂ (λ (xs ys : List ℕ). registered_in old.queries.items xs ys) k.watchers k.order
 
 -- ---- a row that is added or deleted
 
-module _ (old : Parts) (s : IsWhole old) (name : Bytes) (row : Tuple) (at : ℕ) (m : Suits (old.catalog).relations name row at) (exist : DeltasExist) (bound : HeadsAreBound) (law : NamesTell)
+module _ (old : Parts) (s : IsWhole old) (name : Bytes) (row : Tuple) (at : ℕ)
+    (m : Suits (old.catalog).relations name row at) (exist : DeltasExist) (bound : HeadsAreBound) (law : NamesTell)
     (differ : AllPairs (λ r s. r.name ≢ s.name) (old.catalog).relations) (before now : ℕ) where
   have : (rows : List CountedRow) (i : ℕ) (l : Live) → place_at old.queries.items i ≡ Some l → (changes : List Change)
-      × IsDelta (IsAnswer (old.catalog).relations l.query) (IsAnswer (with_rows_at (old.catalog).relations at rows) l.query) changes
-  have rows i l there = exist (old.catalog).relations (with_rows_at (old.catalog).relations at rows) (a_query l.query) (bound old.catalog l (s.live i l there).kept)
+      × IsDelta (IsAnswer (old.catalog).relations l.query)
+      (IsAnswer (with_rows_at (old.catalog).relations at rows) l.query) changes
+  have rows i l there = exist (old.catalog).relations (with_rows_at (old.catalog).relations at rows) (a_query l.query)
+      (bound old.catalog l (s.live i l there).kept)
 
   rows_are : counted_of (old.catalog).relations name ≡ counted_at (old.catalog).relations at
   rows_are = counted_found (old.catalog).relations name row old.seq at m
@@ -334,26 +404,35 @@ module _ (old : Parts) (s : IsWhole old) (name : Bytes) (row : Tuple) (at : ℕ)
       (have (with_row (counted_at (old.catalog).relations at) row)) before now counts new affected empty told)
 
   module _ (mid new : Parts) (logs : new.logs.items ≡ mid.logs.items) (catalog : new.catalog ≡ mid.catalog)
-      (alike : AreAlike old.queries.items new.queries.items) (places : new.affected.items ≡ readers_at old.readers.items at)
+      (alike : AreAlike old.queries.items new.queries.items)
+      (places : new.affected.items ≡ readers_at old.readers.items at)
       (quiet : KeepsLogs (tells_at old at) old mid) (told : ToldStay old new) where
     done : (rows : List CountedRow) → CountsRows at rows old before now → TellsRows at rows old mid
         → TellsChange (kept_in old) (accepted (new_rows (old.catalog).relations name rows)) (kept_in new) before now
     done rows counts tells = tells_done old s at m.below name m.named rows law differ (have rows) before now counts new
-        (λ i l r w there. subst (λ (ls : List Log). (log_at ls i).lost ≡ false → IsDeltaWith at rows (old.catalog).relations l (map (change_of (new.catalog).texts l) (log_at ls i).lines)) (sym logs)
-        (subst (λ (x : Catalog). (log_at mid.logs.items i).lost ≡ false → IsDeltaWith at rows (old.catalog).relations l (map (change_of x.texts l) (log_at mid.logs.items i).lines)) (sym catalog) (tells i l r w there)))
+        (λ i l r w there. subst
+        (λ (ls : List Log). (log_at ls i).lost ≡ false
+        → IsDeltaWith at rows (old.catalog).relations l (map (change_of (new.catalog).texts l) (log_at ls i).lines))
+        (sym logs)
+        (subst (λ (x : Catalog). (log_at mid.logs.items i).lost ≡ false
+        → IsDeltaWith at rows (old.catalog).relations l (map (change_of x.texts l) (log_at mid.logs.items i).lines))
+        (sym catalog) (tells i l r w there)))
         alike places
         (λ i l there e. ap (λ (ls : List Log). log_at ls i) logs ∙ quiet i l there e) told
 
-    pub adds_done : CountsRows at (with_row (counted_at (old.catalog).relations at) row) old before now → TellsRows at (with_row (counted_at (old.catalog).relations at) row) old mid
+    pub adds_done : CountsRows at (with_row (counted_at (old.catalog).relations at) row) old before now
+        → TellsRows at (with_row (counted_at (old.catalog).relations at) row) old mid
         → TellsChange (kept_in old) (accepted (row_in (old.catalog).relations name row)) (kept_in new) before now
     adds_done counts tells = subst (λ (rows : List CountedRow). TellsChange (kept_in old)
         (accepted (new_rows (old.catalog).relations name (with_row rows row))) (kept_in new) before now) (sym rows_are)
         (done (with_row (counted_at (old.catalog).relations at) row) counts tells)
 
-    pub deletes_done : CountsRows at (without_copies (counted_at (old.catalog).relations at) row) old before now → TellsRows at (without_copies (counted_at (old.catalog).relations at) row) old mid
+    pub deletes_done : CountsRows at (without_copies (counted_at (old.catalog).relations at) row) old before now
+        → TellsRows at (without_copies (counted_at (old.catalog).relations at) row) old mid
         → TellsChange (kept_in old) (accepted (row_out (old.catalog).relations name row)) (kept_in new) before now
     deletes_done counts tells = subst (λ (rows : List CountedRow). TellsChange (kept_in old)
-        (accepted (new_rows (old.catalog).relations name (without_copies rows row))) (kept_in new) before now) (sym rows_are)
+        (accepted (new_rows (old.catalog).relations name (without_copies rows row))) (kept_in new) before now)
+        (sym rows_are)
         (done (without_copies (counted_at (old.catalog).relations at) row) counts tells)
 
 -- a row that is refused by a condition changes nothing
@@ -362,16 +441,23 @@ outcome_by : RowsChange → Option Refusal → RowsOutcome
 outcome_by change None = unchanged
 outcome_by change (Some r) = add_outcome change (Err r)
 
-pub refused_quietly : (change : RowsChange) (relations : List Relation) (name : Bytes) (row : Tuple) (seq : ℕ) (r : Refusal) → add_refusal (bare relations seq) name row ≡ Some r
+pub refused_quietly : (change : RowsChange) (relations : List Relation) (name : Bytes) (row : Tuple) (seq : ℕ)
+    (r : Refusal) → add_refusal (bare relations seq) name row ≡ Some r
     → add_outcome change (Err r) ≡ unchanged
 unfolding outcome_by
 refused_quietly change relations name row seq r e =
     sym (ap (outcome_by change) e)
-    ∙ by_tests (is_none (relation_of relations name)) (not (length row == length (types_of (relation_of relations name)))) (not (fits (types_of (relation_of relations name)) row))
+    ∙ by_tests (is_none (relation_of relations name))
+    (not (length row == length (types_of (relation_of relations name))))
+    (not (fits (types_of (relation_of relations name)) row))
     (nat_le COPIES (copies_among (counted_of relations name) row))
-    (not (has_row (rows_of relations name) row) && nat_le ROWS (length (rows_of relations name))) (not (has_row (rows_of relations name) row) && nat_le LAST_SEQ seq)
+    (not (has_row (rows_of relations name) row) && nat_le ROWS (length (rows_of relations name)))
+    (not (has_row (rows_of relations name) row) && nat_le LAST_SEQ seq)
   where
-    by_tests : (a b c d f g : Bool) → outcome_by change (cond a (Some NoRelation) (cond b (Some Arity) (cond c (Some WrongType) (cond d (Some Limit) (cond f (Some Limit) (cond g (Some Limit) None)))))) ≡ unchanged
+    by_tests : (a b c d f g : Bool)
+        → outcome_by change (cond a (Some NoRelation)
+        (cond b (Some Arity) (cond c (Some WrongType)
+        (cond d (Some Limit) (cond f (Some Limit) (cond g (Some Limit) None)))))) ≡ unchanged
     by_tests true b c d f g = refl
     by_tests false true c d f g = refl
     by_tests false false true d f g = refl
@@ -384,18 +470,22 @@ abbrev pub TellsAdd : Parts → Bytes → Tuple → Result AddOutcome Refusal �
 TellsAdd old name row result n =
     TellsChange (kept_in old) (add_outcome (row_in (old.catalog).relations name row) result) (kept_in old) n n
 
-add_err_tells : (old : Parts) (name : Bytes) (row : Tuple) (r : Refusal) → add_refusal (bare (old.catalog).relations old.seq) name row ≡ Some r → (n : ℕ) → TellsAdd old name row (Err r) n
+add_err_tells : (old : Parts) (name : Bytes) (row : Tuple) (r : Refusal)
+    → add_refusal (bare (old.catalog).relations old.seq) name row ≡ Some r → (n : ℕ) → TellsAdd old name row (Err r) n
 add_err_tells old name row r h n =
     subst (λ (o : RowsOutcome). TellsChange (kept_in old) o (kept_in old) n n)
     (sym (refused_quietly (row_in (old.catalog).relations name row) (old.catalog).relations name row old.seq r h))
     (tells_nothing (kept_in old) (kept_in old) n n (omega arith) refl (λ id k. refl))
 
 pub add_refused_tells : (old : Parts) (name : Bytes) (row : Tuple) (result : Result AddOutcome Refusal) → IsErr result
-    → IfErr result (λ r. add_refusal (bare (old.catalog).relations old.seq) name row ≡ Some r) → (n : ℕ) → TellsAdd old name row result n
+    → IfErr result (λ r. add_refusal (bare (old.catalog).relations old.seq) name row ≡ Some r) → (n : ℕ)
+    → TellsAdd old name row result n
 add_refused_tells old name row (Ok x) e h n = absurd (false≢true e)
 add_refused_tells old name row (Err r) e h n = add_err_tells old name row r h n
 
-pub delete_refused_tells : (old : Parts) (name : Bytes) (row : Tuple) (result : Result DeleteOutcome Refusal) → IsErr result → (n : ℕ)
+pub delete_refused_tells : (old : Parts) (name : Bytes) (row : Tuple) (result : Result DeleteOutcome Refusal)
+    → IsErr result → (n : ℕ)
     → TellsChange (kept_in old) (delete_outcome (row_out (old.catalog).relations name row) result) (kept_in old) n n
 delete_refused_tells old name row (Ok x) e n = absurd (false≢true e)
-delete_refused_tells old name row (Err r) e n = tells_nothing (kept_in old) (kept_in old) n n (omega arith) refl (λ id k. refl)
+delete_refused_tells old name row (Err r) e n = tells_nothing (kept_in old) (kept_in old) n n (omega arith) refl
+    (λ id k. refl)

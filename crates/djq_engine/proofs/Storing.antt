@@ -1,5 +1,6 @@
 -- A row goes into the catalog and the queries, or out of them.
-use Rattle.std.proofs.Common.{ℕ, Bool, List, [], ◌∷◌, ◌++◌, ◌≡◌, ◌<◌, ◌≤◌, true, false, refl, sym, ap, ap₂, ◌∙◌, subst, length, get_or, arith}
+use Rattle.std.proofs.Common.{ℕ, Bool, List, [], ◌∷◌, ◌++◌, ◌≡◌, ◌<◌, ◌≤◌, true, false, refl, sym}
+use Rattle.std.proofs.Common.{ap, ap₂, ◌∙◌, subst, length, get_or, arith}
 use Rattle.std.specs.Prelude.{Option, Some, Result, Ok, Err, Contains}
 use Rattle.std.proofs.lemmas.Bool.{false≢true}
 use Rattle.std.proofs.lemmas.List.{get_or_default, append-nil}
@@ -18,7 +19,8 @@ use Rattle.djq_dict.specs.declared.refusal.InternRefusal.{InternRefusal}
 use Rattle.djq_dict.specs.declared.refusal.InternRefusal.TheVariants.{Full as TextsFull, NoMem as NoMemForTexts}
 use Rattle.djq_rows.specs.Cells.{StandFor, HaveCells, cells_of}
 use Rattle.djq_model.specs.Typed.{fits}
-use Rattle.djq_rows.specs.Catalog.{Catalog, IsCatalog, StandForRow, no_relation, relation_at, counted_at, rows_at, with_rows_at}
+use Rattle.djq_rows.specs.Catalog.{Catalog, IsCatalog, StandForRow, no_relation, relation_at}
+use Rattle.djq_rows.specs.Catalog.{counted_at, rows_at, with_rows_at}
 use Rattle.djq_rows.specs.Changes.{AddsRow, DeletesRow, HasNoPlace, InternsRow}
 use Rattle.djq_rows.specs.Laws.{TextsStay}
 use Rattle.djq_live.specs.Changes.{HasSameRows, Came, Went, AddedCame, DeletedWent, CopiesKeepRows}
@@ -29,20 +31,28 @@ use Rattle.djq_engine.specs.declared.parts.Parts.{Parts}
 use Rattle.djq_reach.specs.Places.{place_at, readers_at, AreOnce}
 use Rattle.djq_engine.specs.Sound.{IsSound}
 use Rattle.djq_reach.specs.Reaching.{Reach, AllAt, CanCome, CanGo, TakesIn, LetsOut, GivesBack, Carries}
-use Rattle.djq_engine.specs.Changing.{IsNew, IsOld, LacksMemory, Puts, Waits, PutsRow, NoPlace, for_copies, for_texts, HasCopies, HasMore, AddsCells, AddsTo, IfCame, IfLacking, IfStill}
+use Rattle.djq_engine.specs.Changing.{IsNew, IsOld, LacksMemory, Puts, Waits, PutsRow, NoPlace}
+use Rattle.djq_engine.specs.Changing.{for_copies, for_texts, HasCopies, HasMore, AddsCells, AddsTo}
+use Rattle.djq_engine.specs.Changing.{IfCame, IfLacking, IfStill}
 use Rattle.djq_lines.specs.declared.limits.TheConstants.{TEXTS, ROWS, COPIES}
-use Rattle.djq_engine.proofs.Carrying.{has_contains, without_last, last_there, rows_with, field_with, long_with, back_with, readers_once, readers_kept, came_carries, went_carries, back_carries, idle_carries, stays_itself, texts_then}
+use Rattle.djq_engine.proofs.Carrying.{has_contains, without_last, last_there, rows_with}
+use Rattle.djq_engine.proofs.Carrying.{field_with, long_with, back_with, readers_once, readers_kept}
+use Rattle.djq_engine.proofs.Carrying.{came_carries, went_carries, back_carries, idle_carries}
+use Rattle.djq_engine.proofs.Carrying.{stays_itself, texts_then}
 
 -- the readers of a relation, as the code reads them
-pub places_read : (readers : List (List ℕ)) (at : ℕ) (x places : List ℕ) → at < length readers → x ≡ get_or readers at x → places ≡ x → places ≡ readers_at readers at
+pub places_read : (readers : List (List ℕ)) (at : ℕ) (x places : List ℕ) → at < length readers → x ≡ get_or readers at x
+    → places ≡ x → places ≡ readers_at readers at
 places_read readers at x places low is same = same ∙ is ∙ get_or_default readers at x [] low
 
 pub catalog_same : (c d : Catalog) → d.relations ≡ c.relations → d.texts ≡ c.texts → d ≡ c
-catalog_same c d e f = ap₂ (λ (rs : List Relation) (ts : List Bytes). (let x : Catalog = record { relations = rs; texts = ts } in x)) e f
+catalog_same c d e f = ap₂
+    (λ (rs : List Relation) (ts : List Bytes). (let x : Catalog = record { relations = rs; texts = ts } in x)) e f
 
 -- ---- more texts
 
-pub same_rows : (c d : Catalog) → IsCatalog d → d.relations ≡ c.relations → (more : List Bytes) → d.texts ≡ c.texts ++ more → HasSameRows c d
+pub same_rows : (c d : Catalog) → IsCatalog d → d.relations ≡ c.relations → (more : List Bytes) → d.texts
+    ≡ c.texts ++ more → HasSameRows c d
 same_rows c d h e more f = record {
   later = record {
     catalog = h;
@@ -55,21 +65,26 @@ same_rows c d h e more f = record {
   same = λ at low. ap (λ (rs : List Relation). rows_at rs at) e;
 }
 
-pub learned_rows : TextsStay → (c d : Catalog) (ts : List Bytes) → IsCatalog d → d.relations ≡ c.relations → d.texts ≡ all_learned c.texts ts → HasSameRows c d
+pub learned_rows : TextsStay → (c d : Catalog) (ts : List Bytes) → IsCatalog d → d.relations ≡ c.relations → d.texts
+    ≡ all_learned c.texts ts → HasSameRows c d
 learned_rows law c d ts h e f = let k = law c.texts ts in same_rows c d h e k.0 (f ∙ k.1)
 
 -- what an interned row learned
-pub interned : (old : List Bytes) (row : Tuple) (result : Result (List ℕ) InternRefusal) (new : List Bytes) → InternsRow old row result new → (ts : List Bytes) × (new ≡ all_learned old ts)
+pub interned : (old : List Bytes) (row : Tuple) (result : Result (List ℕ) InternRefusal) (new : List Bytes)
+    → InternsRow old row result new → (ts : List Bytes) × (new ≡ all_learned old ts)
 interned old row (Ok cells) new h = (texts_in row, h.0)
 interned old row (Err TextsFull) new h = (h.1.first, h.1.learned)
 interned old row (Err NoMemForTexts) new h = (h.first, h.learned)
 
-pub all_stay : LiveStays → (c d : Catalog) (gs : List (Option Live)) (order : List ℕ) (readers : List (List ℕ)) → IsSound c gs order readers → HasSameRows c d
+pub all_stay : LiveStays → (c d : Catalog) (gs : List (Option Live)) (order : List ℕ) (readers : List (List ℕ))
+    → IsSound c gs order readers → HasSameRows c d
     → (i : ℕ) (l : Live) → place_at gs i ≡ Some l → StaysOver c d l
 all_stay law c d gs order readers s h i l e = law c d l h (s.live i l e)
 
 -- a row that is refused for a text
-pub lacks_of : (at : ℕ) (row : Tuple) (old new : Parts) (r : InternRefusal) → InternsRow (old.catalog).texts row (Err r) (new.catalog).texts → (new.catalog).relations ≡ (old.catalog).relations → new.queries.items ≡ old.queries.items
+pub lacks_of : (at : ℕ) (row : Tuple) (old new : Parts) (r : InternRefusal)
+    → InternsRow (old.catalog).texts row (Err r) (new.catalog).texts → (new.catalog).relations ≡ (old.catalog).relations
+    → new.queries.items ≡ old.queries.items
     → new.logs.items ≡ old.logs.items → length (new.catalog).texts ≤ TEXTS
     → ((i : ℕ) (l : Live) → place_at old.queries.items i ≡ Some l → StaysOver old.catalog new.catalog l)
     → has_row (rows_at (old.catalog).relations at) row ≡ false → AddsTo at row old (Err r) new
@@ -92,7 +107,8 @@ lacks_of at row old new NoMemForTexts h e q logs many stay absent = (
     learns = record { first = h.first; rest = h.rest; parts = h.parts; learned = h.learned };
     many = many;
     relations = e;
-    carries = subst (λ (hs : List (Option Live)). Carries (readers_at old.readers.items at) old.catalog old.queries.items new.catalog hs) (sym q)
+    carries = subst (λ (hs : List (Option Live)). Carries (readers_at old.readers.items at) old.catalog
+        old.queries.items new.catalog hs) (sym q)
         (idle_carries old.catalog new.catalog old.queries.items (readers_at old.readers.items at) stay);
   },
 )
@@ -100,29 +116,34 @@ lacks_of at row old new NoMemForTexts h e q logs many stay absent = (
 -- ---- a row more
 
 -- the cells of a row that came stand for one that wasn't there
-pub came_new : (c : Catalog) (at : ℕ) (cells : List ℕ) (row : Tuple) (new : List Relation) → StandForRow c at cells row → AddsRow c.relations at row (Ok First) new → IsNew c at cells row
+pub came_new : (c : Catalog) (at : ℕ) (cells : List ℕ) (row : Tuple) (new : List Relation) → StandForRow c at cells row
+    → AddsRow c.relations at row (Ok First) new → IsNew c at cells row
 came_new c at cells row new stand h = record { stand = stand; absent = h.0; room = h.1 }
 
 -- a row with one copy goes
-pub deleted_is : (rs new : List Relation) (at : ℕ) (row : Tuple) (o : DeleteOutcome) → DeletesRow rs at row o new → has_row (rows_at rs at) row ≡ true → copies_among (counted_at rs at) row ≡ 1
+pub deleted_is : (rs new : List Relation) (at : ℕ) (row : Tuple) (o : DeleteOutcome) → DeletesRow rs at row o new
+    → has_row (rows_at rs at) row ≡ true → copies_among (counted_at rs at) row ≡ 1
     → new ≡ with_rows_at rs at (without_copies (counted_at rs at) row)
 deleted_is rs new at row Last h e one = h.2
 deleted_is rs new at row (Left n) h e one = absurd (omega (arith, h.1, h.2, one))
 deleted_is rs new at row Absent h e one = absurd (false≢true (sym h.0 ∙ e))
 
-module _ (c d : Catalog) (at : ℕ) (low : at < length c.relations) (cells : List ℕ) (row : Tuple) (new : IsNew c at cells row) (ic : IsCatalog c) (id : IsCatalog d) (texts : d.texts ≡ c.texts)
+module _ (c d : Catalog) (at : ℕ) (low : at < length c.relations) (cells : List ℕ) (row : Tuple)
+    (new : IsNew c at cells row) (ic : IsCatalog c) (id : IsCatalog d) (texts : d.texts ≡ c.texts)
     (is : d.relations ≡ with_rows_at c.relations at (with_row (counted_at c.relations at) row)) where
   pub came : AddedCame → Came c d at cells row
   came law = law c d at cells row id low new.stand texts is
 
   counted_now : counted_at d.relations at ≡ with_row (counted_at c.relations at) row
-  counted_now = ap (λ (rs : List Relation). counted_at rs at) is ∙ rows_with c.relations at (with_row (counted_at c.relations at) row) low
+  counted_now = ap (λ (rs : List Relation). counted_at rs at) is
+      ∙ rows_with c.relations at (with_row (counted_at c.relations at) row) low
 
   pub rows_now : rows_at d.relations at ≡ rows_at c.relations at ++ row ∷ []
   rows_now = ap tuples_of counted_now ∙ tuples_with_row (counted_at c.relations at) row
 
   one_now : copies_among (counted_at d.relations at) row ≡ 1
-  one_now = ap (λ (rows : List CountedRow). copies_among rows row) counted_now ∙ came_copies (counted_at c.relations at) row new.absent
+  one_now = ap (λ (rows : List CountedRow). copies_among rows row) counted_now
+      ∙ came_copies (counted_at c.relations at) row new.absent
 
   pub there_now : Contains (rows_at d.relations at) row
   there_now = subst (λ (rows : List Tuple). Contains rows row) (sym rows_now) (in_last row (rows_at c.relations at))
@@ -131,10 +152,12 @@ module _ (c d : Catalog) (at : ℕ) (low : at < length c.relations) (cells : Lis
   has_now = ap (λ (rows : List Tuple). has_row rows row) rows_now ∙ last_there (rows_at c.relations at) row
 
   pub low_now : at < length d.relations
-  low_now = subst (λ (rs : List Relation). at < length rs) (sym is) (omega (arith, low, long_with c.relations at (with_row (counted_at c.relations at) row)))
+  low_now = subst (λ (rs : List Relation). at < length rs) (sym is)
+      (omega (arith, low, long_with c.relations at (with_row (counted_at c.relations at) row)))
 
   types_now : (relation_at d.relations at).types ≡ (relation_at c.relations at).types
-  types_now = ap (λ (rs : List Relation). (relation_at rs at).types) is ∙ field_with (λ r. r.types) c.relations at (with_row (counted_at c.relations at) row) low refl at
+  types_now = ap (λ (rs : List Relation). (relation_at rs at).types) is
+      ∙ field_with (λ r. r.types) c.relations at (with_row (counted_at c.relations at) row) low refl at
 
   pub stand_now : StandForRow d at cells row
   stand_now = subst (λ (ts : List Bytes). StandFor ts (relation_at d.relations at).types cells row) (sym texts)
@@ -151,10 +174,13 @@ module _ (c d : Catalog) (at : ℕ) (low : at < length c.relations) (cells : Lis
   went_back law = law d c at cells row ic low_now stand_now (sym texts) (sym back_is)
 
   -- the catalog once the row has gone again
-  pub catalog_back : (e : Catalog) (o : DeleteOutcome) → DeletesRow d.relations at row o e.relations → e.texts ≡ d.texts → e ≡ c
-  catalog_back e o h f = catalog_same c e (deleted_is d.relations e.relations at row o h has_now one_now ∙ back_is) (f ∙ texts)
+  pub catalog_back : (e : Catalog) (o : DeleteOutcome) → DeletesRow d.relations at row o e.relations → e.texts ≡ d.texts
+      → e ≡ c
+  catalog_back e o h f = catalog_same c e (deleted_is d.relations e.relations at row o h has_now one_now ∙ back_is)
+      (f ∙ texts)
 
-  module _ (gs : List (Option Live)) (order : List ℕ) (readers : List (List ℕ)) (s : IsSound c gs order readers) (places : List ℕ) (read : places ≡ readers_at readers at) where
+  module _ (gs : List (Option Live)) (order : List ℕ) (readers : List (List ℕ)) (s : IsSound c gs order readers)
+      (places : List ℕ) (read : places ≡ readers_at readers at) where
     pub places_once : AreOnce places
     places_once = subst AreOnce (sym read) (readers_once c gs order readers s at low)
 
@@ -166,29 +192,38 @@ module _ (c d : Catalog) (at : ℕ) (low : at < length c.relations) (cells : Lis
       came = came law;
       there = there_now;
       went = went_back law';
-      kept = subst (λ (ps : List ℕ). AllAt ps gs (λ l. IsKept c l)) (sym read) (readers_kept c gs order readers s at low);
+      kept = subst (λ (ps : List ℕ). AllAt ps gs (λ l. IsKept c l)) (sym read)
+          (readers_kept c gs order readers s at low);
     }
 
-    pub put_carries : AddedCame → CamePasses → (hs : List (Option Live)) → Reach places (TakesIn at cells) gs hs → Carries (readers_at readers at) c gs d hs
+    pub put_carries : AddedCame → CamePasses → (hs : List (Option Live)) → Reach places (TakesIn at cells) gs hs
+        → Carries (readers_at readers at) c gs d hs
     put_carries law passes hs r =
-        came_carries c d gs hs order readers s at low cells row passes (came law) (subst (λ (ps : List ℕ). Reach ps (TakesIn at cells) gs hs) read r)
+        came_carries c d gs hs order readers s at low cells row passes (came law)
+        (subst (λ (ps : List ℕ). Reach ps (TakesIn at cells) gs hs) read r)
 
-    pub wait_carries : AddedCame → DeletedWent → (hs : List (Option Live)) → Reach places (GivesBack at cells) gs hs → (e : Catalog) → e ≡ c → Carries (readers_at readers at) c gs e hs
+    pub wait_carries : AddedCame → DeletedWent → (hs : List (Option Live)) → Reach places (GivesBack at cells) gs hs
+        → (e : Catalog) → e ≡ c → Carries (readers_at readers at) c gs e hs
     wait_carries law law' hs r e same =
         subst (λ (x : Catalog). Carries (readers_at readers at) c gs x hs) (sym same)
-        (back_carries c d gs hs order readers s at low cells row (came law) (went_back law') (subst (λ (ps : List ℕ). Reach ps (GivesBack at cells) gs hs) read r))
+        (back_carries c d gs hs order readers s at low cells row (came law) (went_back law')
+        (subst (λ (ps : List ℕ). Reach ps (GivesBack at cells) gs hs) read r))
 
 -- nothing was added
-pub unput_carries : (c e : Catalog) (gs : List (Option Live)) (order : List ℕ) (readers : List (List ℕ)) (at : ℕ) → IsSound c gs order readers → e ≡ c → Carries (readers_at readers at) c gs e gs
+pub unput_carries : (c e : Catalog) (gs : List (Option Live)) (order : List ℕ) (readers : List (List ℕ)) (at : ℕ)
+    → IsSound c gs order readers → e ≡ c → Carries (readers_at readers at) c gs e gs
 unput_carries c e gs order readers at s same =
     subst (λ (x : Catalog). Carries (readers_at readers at) c gs x gs) (sym same)
     (idle_carries c c gs (readers_at readers at) (λ i l f. stays_itself c l (s.live i l f)))
 
 -- ---- a row less
 
-module _ (c d : Catalog) (at : ℕ) (low : at < length c.relations) (cells : List ℕ) (row : Tuple) (old : IsOld c at cells row) (id : IsCatalog d) (texts : d.texts ≡ c.texts)
-    (is : d.relations ≡ with_rows_at c.relations at (without_copies (counted_at c.relations at) row)) (law : DeletedWent)
-    (gs : List (Option Live)) (order : List ℕ) (readers : List (List ℕ)) (s : IsSound c gs order readers) (places : List ℕ) (read : places ≡ readers_at readers at) where
+module _ (c d : Catalog) (at : ℕ) (low : at < length c.relations) (cells : List ℕ) (row : Tuple)
+    (old : IsOld c at cells row) (id : IsCatalog d) (texts : d.texts ≡ c.texts)
+    (is : d.relations ≡ with_rows_at c.relations at (without_copies (counted_at c.relations at) row))
+    (law : DeletedWent)
+    (gs : List (Option Live)) (order : List ℕ) (readers : List (List ℕ)) (s : IsSound c gs order readers)
+    (places : List ℕ) (read : places ≡ readers_at readers at) where
   pub went : Went c d at cells row
   went = law c d at cells row id low old.stand texts is
 
@@ -205,25 +240,32 @@ module _ (c d : Catalog) (at : ℕ) (low : at < length c.relations) (cells : Lis
     kept = subst (λ (ps : List ℕ). AllAt ps gs (λ l. IsKept c l)) (sym read) (readers_kept c gs order readers s at low);
   }
 
-  pub drop_carries : WentPasses → (hs : List (Option Live)) → Reach places (LetsOut at cells) gs hs → Carries (readers_at readers at) c gs d hs
+  pub drop_carries : WentPasses → (hs : List (Option Live)) → Reach places (LetsOut at cells) gs hs
+      → Carries (readers_at readers at) c gs d hs
   drop_carries passes hs r =
-      went_carries c d gs hs order readers s at low cells row passes went (subst (λ (ps : List ℕ). Reach ps (LetsOut at cells) gs hs) read r)
+      went_carries c d gs hs order readers s at low cells row passes went
+      (subst (λ (ps : List ℕ). Reach ps (LetsOut at cells) gs hs) read r)
 
 -- ---- a row whose texts became known before
 
-pub puts_row : (at : ℕ) (row : Tuple) (old new : Parts) (c1 : Catalog) → c1.relations ≡ (old.catalog).relations → c1.texts ≡ all_learned (old.catalog).texts (texts_in row) → length c1.texts ≤ TEXTS
-    → ((i : ℕ) (l : Live) → place_at old.queries.items i ≡ Some l → StaysOver old.catalog c1 l) → Puts at row (record old { catalog = c1 }) new → PutsRow at row old new
+pub puts_row : (at : ℕ) (row : Tuple) (old new : Parts) (c1 : Catalog) → c1.relations ≡ (old.catalog).relations
+    → c1.texts ≡ all_learned (old.catalog).texts (texts_in row) → length c1.texts ≤ TEXTS
+    → ((i : ℕ) (l : Live) → place_at old.queries.items i ≡ Some l → StaysOver old.catalog c1 l)
+    → Puts at row (record old { catalog = c1 }) new → PutsRow at row old new
 puts_row at row old new c1 rel learn many stay p = record {
   learns = (p.texts ∙ learn, subst (λ (ts : List Bytes). length ts ≤ TEXTS) (sym p.texts) many);
   has = record {
     relations = p.has.relations ∙ ap (λ (rs : List Relation). with_rows_at rs at (with_row (counted_at rs at) row)) rel;
-    carries = texts_then old.catalog c1 new.catalog old.queries.items new.queries.items (readers_at old.readers.items at) stay p.has.carries;
+    carries = texts_then old.catalog c1 new.catalog old.queries.items new.queries.items
+        (readers_at old.readers.items at) stay p.has.carries;
   };
 }
 
-pub waits_row : (at : ℕ) (row : Tuple) (old new : Parts) (c1 : Catalog) → c1.relations ≡ (old.catalog).relations → c1.texts ≡ all_learned (old.catalog).texts (texts_in row)
+pub waits_row : (at : ℕ) (row : Tuple) (old new : Parts) (c1 : Catalog) → c1.relations ≡ (old.catalog).relations
+    → c1.texts ≡ all_learned (old.catalog).texts (texts_in row)
     → length c1.texts ≤ TEXTS
-    → ((i : ℕ) (l : Live) → place_at old.queries.items i ≡ Some l → StaysOver old.catalog c1 l) → Waits at (record old { catalog = c1 }) new → LacksMemory at row old new
+    → ((i : ℕ) (l : Live) → place_at old.queries.items i ≡ Some l → StaysOver old.catalog c1 l)
+    → Waits at (record old { catalog = c1 }) new → LacksMemory at row old new
 waits_row at row old new c1 rel learn many stay w = record {
   learns = record {
     first = texts_in row;
@@ -233,11 +275,13 @@ waits_row at row old new c1 rel learn many stay w = record {
   };
   many = subst (λ (x : Catalog). length x.texts ≤ TEXTS) (sym w.catalog) many;
   relations = ap (λ (x : Catalog). x.relations) w.catalog ∙ rel;
-  carries = texts_then old.catalog c1 new.catalog old.queries.items new.queries.items (readers_at old.readers.items at) stay w.carries;
+  carries = texts_then old.catalog c1 new.catalog old.queries.items new.queries.items (readers_at old.readers.items at)
+      stay w.carries;
 }
 
 -- the cells stand for the row once its texts are known
-pub same_stand : (c d : Catalog) (at : ℕ) (cells : List ℕ) (row : Tuple) → d.relations ≡ c.relations → fits (relation_at c.relations at).types row ≡ true → HaveCells d.texts row → cells ≡ cells_of d.texts row
+pub same_stand : (c d : Catalog) (at : ℕ) (cells : List ℕ) (row : Tuple) → d.relations ≡ c.relations
+    → fits (relation_at c.relations at).types row ≡ true → HaveCells d.texts row → cells ≡ cells_of d.texts row
     → StandForRow d at cells row
 same_stand c d at cells row e of have are = record {
   of = ap (λ (rs : List Relation). fits (relation_at rs at).types row) e ∙ of;
@@ -247,16 +291,19 @@ same_stand c d at cells row e of have are = record {
 
 -- ---- a row with other copies
 
-pub has_copies : CopiesKeepRows → LiveStays → (old new : Parts) (at : ℕ) (row : Tuple) (n : ℕ) → IsSound old.catalog old.queries.items old.order old.readers.items
+pub has_copies : CopiesKeepRows → LiveStays → (old new : Parts) (at : ℕ) (row : Tuple) (n : ℕ)
+    → IsSound old.catalog old.queries.items old.order old.readers.items
     → IsCatalog new.catalog → at < length (old.catalog).relations → (new.catalog).texts ≡ (old.catalog).texts
-    → (new.catalog).relations ≡ with_rows_at (old.catalog).relations at (with_copies (counted_at (old.catalog).relations at) row n)
+    → (new.catalog).relations
+    ≡ with_rows_at (old.catalog).relations at (with_copies (counted_at (old.catalog).relations at) row n)
     → new.queries.items ≡ old.queries.items → new.logs.items ≡ old.logs.items → HasCopies at row n old new
 has_copies law stays old new at row n s sound low texts rel queries logs = record {
   relations = rel;
   texts = texts;
   queries = queries;
   logs = logs;
-  stay = all_stay stays old.catalog new.catalog old.queries.items old.order old.readers.items s (law old.catalog new.catalog at row n sound low texts rel);
+  stay = all_stay stays old.catalog new.catalog old.queries.items old.order old.readers.items s
+      (law old.catalog new.catalog at row n sound low texts rel);
 }
 
 -- ---- a row whose texts were known before learns none
@@ -270,36 +317,45 @@ none_learned texts (Int i ∷ vs) h = none_learned texts vs h.1
 none_learned texts (Text t ∷ vs) h =
     ap (λ (known : List Bytes). all_learned known (texts_in vs)) (learned_known texts t h.0) ∙ none_learned texts vs h.1
 
-pub known_there : (c : Catalog) (at : ℕ) (row : Tuple) → IsCatalog c → at < length c.relations → has_row (rows_at c.relations at) row ≡ true → HaveCells c.texts row
+pub known_there : (c : Catalog) (at : ℕ) (row : Tuple) → IsCatalog c → at < length c.relations
+    → has_row (rows_at c.relations at) row ≡ true → HaveCells c.texts row
 known_there c at row ic low e =
     let h = has_contains (rows_at c.relations at) row e in
     subst (HaveCells c.texts) h.2 ((ic.kept at no_relation low).cells h.0 row h.1)
 
-module _ (old new : Parts) (c1 : Catalog) (at : ℕ) (row : Tuple) (ic : IsCatalog old.catalog) (low : at < length (old.catalog).relations)
-    (rel : c1.relations ≡ (old.catalog).relations) (learn : c1.texts ≡ all_learned (old.catalog).texts (texts_in row)) (many : length c1.texts ≤ TEXTS)
+module _ (old new : Parts) (c1 : Catalog) (at : ℕ) (row : Tuple) (ic : IsCatalog old.catalog)
+    (low : at < length (old.catalog).relations)
+    (rel : c1.relations ≡ (old.catalog).relations) (learn : c1.texts ≡ all_learned (old.catalog).texts (texts_in row))
+    (many : length c1.texts ≤ TEXTS)
     (stay : (i : ℕ) (l : Live) → place_at old.queries.items i ≡ Some l → StaysOver old.catalog c1 l)
-    (room : has_row (rows_at (old.catalog).relations at) row ≡ false → length (rows_at (old.catalog).relations at) < ROWS) where
+    (room : has_row (rows_at (old.catalog).relations at) row ≡ false
+    → length (rows_at (old.catalog).relations at) < ROWS) where
   has_is : has_row (rows_at c1.relations at) row ≡ has_row (rows_at (old.catalog).relations at) row
   has_is = ap (λ (rs : List Relation). has_row (rows_at rs at) row) rel
 
   -- the row is there, so that its texts were known
   same_catalog : has_row (rows_at (old.catalog).relations at) row ≡ true → c1 ≡ old.catalog
-  same_catalog e = catalog_same old.catalog c1 rel (learn ∙ none_learned (old.catalog).texts row (known_there old.catalog at row ic low e))
+  same_catalog e = catalog_same old.catalog c1 rel
+      (learn ∙ none_learned (old.catalog).texts row (known_there old.catalog at row ic low e))
 
   no_place : HasNoPlace c1.relations at row → new.catalog ≡ c1 → NoPlace at row old new
   no_place h same = by_test (has_row (rows_at (old.catalog).relations at) row) refl
     where
       by_test : (b : Bool) → has_row (rows_at (old.catalog).relations at) row ≡ b → NoPlace at row old new
       by_test true e =
-          for_copies (subst (λ (rs : List Relation). COPIES ≤ copies_among (counted_at rs at) row) rel (h.copies (has_is ∙ e)))
+          for_copies (subst (λ (rs : List Relation). COPIES ≤ copies_among (counted_at rs at) row) rel
+          (h.copies (has_is ∙ e)))
           (ap (λ (x : Catalog). x.texts) (same ∙ same_catalog e))
       by_test false e =
-          absurd (let many_rows = subst (λ (rs : List Relation). ROWS ≤ length (rows_at rs at)) rel (h.rows (has_is ∙ e)) in
+          absurd (let many_rows = subst (λ (rs : List Relation). ROWS ≤ length (rows_at rs at)) rel
+          (h.rows (has_is ∙ e)) in
           let few = room e in omega (arith, many_rows, few))
 
-  pub adds_to : (r : Result AddOutcome InternRefusal) → AddsCells at row (record old { catalog = c1 }) r new → AddsTo at row old r new
+  pub adds_to : (r : Result AddOutcome InternRefusal) → AddsCells at row (record old { catalog = c1 }) r new
+      → AddsTo at row old r new
   adds_to (Ok First) h = (sym has_is ∙ h.0, puts_row at row old new c1 rel learn many stay h.1)
-  adds_to (Ok (More n)) h = subst (λ (x : Catalog). HasMore at row n (record old { catalog = x }) new) (same_catalog (sym has_is ∙ h.there)) h
+  adds_to (Ok (More n)) h = subst (λ (x : Catalog). HasMore at row n (record old { catalog = x }) new)
+      (same_catalog (sym has_is ∙ h.there)) h
   adds_to (Err TextsFull) h = record {
     why = no_place h.0 h.1;
     rests = record {

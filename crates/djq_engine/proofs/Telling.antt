@@ -12,7 +12,8 @@ use Rattle.djq_lines.specs.declared.answer.Shape.{Shape}
 use Rattle.djq_lines.specs.Hypergraph.{variable_names}
 use Rattle.djq_tree.specs.Explaining.{explain_of}
 use Rattle.djq_machine.specs.Conditions.{first_of}
-use Rattle.djq_machine.specs.Store.{TellsWhether, Tells, has_refusal, has_steps, answer_types, listed_types, misfit, TellsShape, IsShapeOf}
+use Rattle.djq_machine.specs.Store.{TellsWhether, Tells, has_refusal, has_steps, answer_types}
+use Rattle.djq_machine.specs.Store.{listed_types, misfit, TellsShape, IsShapeOf}
 use Rattle.djq_rows.specs.Catalog.{Catalog}
 use Rattle.djq_live.specs.declared.cursors.Progress.{Progress}
 use Rattle.djq_live.specs.Cursors.{slot_at}
@@ -37,11 +38,13 @@ same_live : (x y : Live) (o : Option Live) → o ≡ Some x → o ≡ Some y →
 same_live x y o e f = cc
 
 -- the query in a place, as the code reads it
-pub named_read : (gs : List (Option Live)) (name : Bytes) (at : ℕ) (n : Named gs name at) (p : Option Live) (l : Live) → p ≡ get_or gs at p → p ≡ Some l → place_at gs at ≡ Some l
+pub named_read : (gs : List (Option Live)) (name : Bytes) (at : ℕ) (n : Named gs name at) (p : Option Live) (l : Live)
+    → p ≡ get_or gs at p → p ≡ Some l → place_at gs at ≡ Some l
 named_read gs name at n p l is some = place_read gs at p l (place_below gs at n.query n.there) is some
 
 -- a place with a query isn't vacant
-pub named_there : (gs : List (Option Live)) (name : Bytes) (at : ℕ) (n : Named gs name at) (p : Option Live) → p ≡ get_or gs at p → p ≡ None → ⊥
+pub named_there : (gs : List (Option Live)) (name : Bytes) (at : ℕ) (n : Named gs name at) (p : Option Live) → p
+    ≡ get_or gs at p → p ≡ None → ⊥
 named_there gs name at n p is none =
     let same : place_at gs at ≡ p = sym (get_or_default gs at p None (place_below gs at n.query n.there)) ∙ sym is in
     differ n.query (place_at gs at) n.there (same ∙ none)
@@ -49,29 +52,41 @@ named_there gs name at n p is none =
     differ : (x : Live) (o : Option Live) → o ≡ Some x → o ≡ None → ⊥
     differ x o e f = cc
 
-module _ (c : Catalog) (gs : List (Option Live)) (order : List ℕ) (readers : List (List ℕ)) (seq : ℕ) (s : IsSound c gs order readers) (name : Bytes) (tuple : Tuple) where
+module _ (c : Catalog) (gs : List (Option Live)) (order : List ℕ) (readers : List (List ℕ)) (seq : ℕ)
+    (s : IsSound c gs order readers) (name : Bytes) (tuple : Tuple) where
   pub tells_none : None ≡ position (is_query name) gs → TellsWhether (store_of c gs order seq) name tuple (Err NoQuery)
   tells_none e = record {
     answer = answers_refused (has_refusal (store_of c gs order seq) name tuple) NoQuery _ _
-        (ap (λ (o : Option Listed). first_of ((is_none o, NoQuery) ∷ (not (length tuple == length (listed_types c.relations o)), Arity) ∷ (not (fits (listed_types c.relations o) tuple), WrongType) ∷ []))
+        (ap (λ (o : Option Listed). first_of
+        ((is_none o, NoQuery) ∷ (not (length tuple == length (listed_types c.relations o)), Arity) ∷
+        (not (fits (listed_types c.relations o) tuple), WrongType) ∷ []))
         (no_query_of c gs order readers s name e));
   }
 
   module _ (at : ℕ) (n : Named gs name at) (l : Live) (there : place_at gs at ≡ Some l) where
     found : listed_of (queries_in gs order) name ≡ Some (a_query l.query)
-    found = query_named c gs order readers s name at n ∙ ap (λ (x : Live). Some (a_query x.query)) (same_live n.query l (place_at gs at) n.there there)
+    found = query_named c gs order readers s name at n
+        ∙ ap (λ (x : Live). Some (a_query x.query)) (same_live n.query l (place_at gs at) n.there there)
 
     refusal_is : has_refusal (store_of c gs order seq) name tuple ≡ misfit (answer_types c.relations l.query) tuple
-    refusal_is = ap (λ (o : Option Listed). first_of ((is_none o, NoQuery) ∷ (not (length tuple == length (listed_types c.relations o)), Arity) ∷ (not (fits (listed_types c.relations o) tuple), WrongType) ∷ [])) found
+    refusal_is = ap (λ (o : Option Listed). first_of
+        ((is_none o, NoQuery) ∷ (not (length tuple == length (listed_types c.relations o)), Arity) ∷
+        (not (fits (listed_types c.relations o) tuple), WrongType) ∷ [])) found
 
-    pub tells_err : (r : Refusal) → misfit (answer_types c.relations l.query) tuple ≡ Some r → TellsWhether (store_of c gs order seq) name tuple (Err r)
-    tells_err r e = record { answer = answers_refused (has_refusal (store_of c gs order seq) name tuple) r _ _ (refusal_is ∙ e) }
+    pub tells_err : (r : Refusal) → misfit (answer_types c.relations l.query) tuple ≡ Some r
+        → TellsWhether (store_of c gs order seq) name tuple (Err r)
+    tells_err r e = record
+        { answer = answers_refused (has_refusal (store_of c gs order seq) name tuple) r _ _ (refusal_is ∙ e) }
 
-    pub tells_ok : (whether : Bool) → misfit (answer_types c.relations l.query) tuple ≡ None → Tells (IsAnswer c.relations l.query tuple) whether → TellsWhether (store_of c gs order seq) name tuple (Ok whether)
+    pub tells_ok : (whether : Bool) → misfit (answer_types c.relations l.query) tuple ≡ None
+        → Tells (IsAnswer c.relations l.query tuple) whether
+        → TellsWhether (store_of c gs order seq) name tuple (Ok whether)
     tells_ok whether e t = record {
       answer = answers_done (has_refusal (store_of c gs order seq) name tuple) whether
-          (λ b. IsSomeAnd (listed_of (queries_in gs order) name) (λ q. Tells (AnswersOf c.relations q tuple) b)) _ (refusal_is ∙ e)
-          (subst (λ (o : Option Listed). IsSomeAnd o (λ q. Tells (AnswersOf c.relations q tuple) whether)) (sym found) t);
+          (λ b. IsSomeAnd (listed_of (queries_in gs order) name) (λ q. Tells (AnswersOf c.relations q tuple) b)) _
+          (refusal_is ∙ e)
+          (subst (λ (o : Option Listed). IsSomeAnd o (λ q. Tells (AnswersOf c.relations q tuple) whether)) (sym found)
+          t);
     }
 
     pub steps_are : has_steps (listed_of (queries_in gs order) name) ≡ length l.query.atoms
@@ -79,14 +94,21 @@ module _ (c : Catalog) (gs : List (Option Live)) (order : List ℕ) (readers : L
 
   -- `explain` and `shape`
 
-  missing : None ≡ position (is_query name) gs → first_of ((is_none (listed_of (queries_in gs order) name), NoQuery) ∷ []) ≡ Some NoQuery
+  missing : None ≡ position (is_query name) gs
+      → first_of ((is_none (listed_of (queries_in gs order) name), NoQuery) ∷ []) ≡ Some NoQuery
   missing e = ap (λ (o : Option Listed). first_of ((is_none o, NoQuery) ∷ [])) (no_query_of c gs order readers s name e)
 
   pub explain_none : None ≡ position (is_query name) gs → ExplainGives (store_of c gs order seq) name (Err NoQuery)
-  explain_none e = record { answer = answers_refused (first_of ((is_none (listed_of (queries_in gs order) name), NoQuery) ∷ [])) NoQuery _ _ (missing e) }
+  explain_none e = record {
+    answer = answers_refused (first_of ((is_none (listed_of (queries_in gs order) name), NoQuery) ∷ [])) NoQuery _ _
+        (missing e);
+  }
 
   pub shape_none : None ≡ position (is_query name) gs → TellsShape (store_of c gs order seq) name (Err NoQuery)
-  shape_none e = record { answer = answers_refused (first_of ((is_none (listed_of (queries_in gs order) name), NoQuery) ∷ [])) NoQuery _ _ (missing e) }
+  shape_none e = record {
+    answer = answers_refused (first_of ((is_none (listed_of (queries_in gs order) name), NoQuery) ∷ [])) NoQuery _ _
+        (missing e);
+  }
 
   module _ (at : ℕ) (n : Named gs name at) (l : Live) (there : place_at gs at ≡ Some l) where
     passes : first_of ((is_none (listed_of (queries_in gs order) name), NoQuery) ∷ []) ≡ None
@@ -103,7 +125,8 @@ module _ (c : Catalog) (gs : List (Option Live)) (order : List ℕ) (readers : L
           (l.reducts.tree, (s.live at l there).kept.named));
     }
 
-    pub explain_done : (lines : List ℕ) → lines ≡ explain_of (map (λ a. a.relation) l.query.atoms) (variable_names l.query) l.reducts.tree
+    pub explain_done : (lines : List ℕ) → lines
+        ≡ explain_of (map (λ a. a.relation) l.query.atoms) (variable_names l.query) l.reducts.tree
         → ExplainGives (store_of c gs order seq) name (Ok lines)
     explain_done lines e = record {
       answer = answers_done (first_of ((is_none (listed_of (queries_in gs order) name), NoQuery) ∷ [])) lines
@@ -112,7 +135,8 @@ module _ (c : Catalog) (gs : List (Option Live)) (order : List ℕ) (readers : L
           (record { tree = l.reducts.tree; named = (s.live at l there).kept.named; are = e }));
     }
 
-    pub shape_done : (shape : Shape) → IsShapeOf (a_query l.query) shape → TellsShape (store_of c gs order seq) name (Ok shape)
+    pub shape_done : (shape : Shape) → IsShapeOf (a_query l.query) shape
+        → TellsShape (store_of c gs order seq) name (Ok shape)
     shape_done shape is = record {
       answer = answers_done (first_of ((is_none (listed_of (queries_in gs order) name), NoQuery) ∷ [])) shape
           (λ shape. IsSomeAnd (listed_of (queries_in gs order) name) (λ q. IsShapeOf q shape)) _ passes
@@ -120,7 +144,8 @@ module _ (c : Catalog) (gs : List (Option Live)) (order : List ℕ) (readers : L
     }
 
 -- an answer that is there is one of the query that is read
-pub answer_read : (gs : List (Option Live)) (at : ℕ) (p : Option Live) (l : Live) (P : Live → Type 0) → IsSomeAnd (place_at gs at) P → p ≡ get_or gs at p → p ≡ Some l → (place_at gs at ≡ Some l) × P l
+pub answer_read : (gs : List (Option Live)) (at : ℕ) (p : Option Live) (l : Live) (P : Live → Type 0)
+    → IsSomeAnd (place_at gs at) P → p ≡ get_or gs at p → p ≡ Some l → (place_at gs at ≡ Some l) × P l
 answer_read gs at p l P h is some =
     let there = place_read gs at p l (below_some gs at P h) is some in
     (there, subst (λ (o : Option Live). IsSomeAnd o P) there h)
@@ -138,7 +163,8 @@ lends p s id l there law =
     let c = p.catalog in
     let kept = (s.live id.at l there).kept in
     record {
-      query = registered_gives c p.queries.items p.order p.readers.items p.watchers.items s id (λ r. r.query ≡ a_query l.query)
+      query = registered_gives c p.queries.items p.order p.readers.items p.watchers.items s id
+          (λ r. r.query ≡ a_query l.query)
           (record { query = l; is = there }) (ap query_in there);
       place = there;
       catalog = c;

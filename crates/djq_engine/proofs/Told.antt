@@ -1,5 +1,6 @@
 -- What the logs tell, by place.
-use Rattle.std.proofs.Common.{ℕ, zero, suc, List, [], ◌∷◌, ◌++◌, ◌≡◌, Bool, true, false, refl, sym, ap, ap₂, ◌∙◌, subst, set, get_or, arith}
+use Rattle.std.proofs.Common.{ℕ, zero, suc, List, [], ◌∷◌, ◌++◌, ◌≡◌, Bool, true, false, refl, sym}
+use Rattle.std.proofs.Common.{ap, ap₂, ◌∙◌, subst, set, get_or, arith}
 use Rattle.std.specs.Prelude.{Option, None, Some, All, map, cond, slice_index_or, ⊤}
 use Rattle.djq_model.specs.Data.{Bytes, Tuple}
 use Rattle.djq_model.specs.Listed.{a_query}
@@ -19,21 +20,24 @@ use Rattle.djq_engine.specs.Places.{query_in, told_of, told_from}
 use Rattle.djq_reach.specs.Reaching.{DoneAt, Reach, Renews, Ages}
 
 -- another query in a place, of which the logs tell the same
-pub told_set : (texts : List Bytes) (gs : List (Option Live)) (logs : List Log) (i : ℕ) (o : Option Live) → ((log : Log) → told_of texts o log ≡ told_of texts (place_at gs i) log)
+pub told_set : (texts : List Bytes) (gs : List (Option Live)) (logs : List Log) (i : ℕ) (o : Option Live)
+    → ((log : Log) → told_of texts o log ≡ told_of texts (place_at gs i) log)
     → told_from texts (set gs i o) logs ≡ told_from texts gs logs
 told_set texts [] logs zero o h = refl
 told_set texts [] logs (suc i) o h = refl
 told_set texts (g ∷ gs) [] zero o h = refl
 told_set texts (g ∷ gs) [] (suc i) o h = refl
 told_set texts (g ∷ gs) (log ∷ logs) zero o h = ap (λ (t : Option (List Change)). t ∷ told_from texts gs logs) (h log)
-told_set texts (g ∷ gs) (log ∷ logs) (suc i) o h = ap (λ (ts : List (Option (List Change))). told_of texts g log ∷ ts) (told_set texts gs logs i o h)
+told_set texts (g ∷ gs) (log ∷ logs) (suc i) o h = ap (λ (ts : List (Option (List Change))). told_of texts g log ∷ ts)
+    (told_set texts gs logs i o h)
 
 told_no_log : (texts : List Bytes) (o : Option Live) → told_of texts o no_log ≡ None
 told_no_log texts None = refl
 told_no_log texts (Some l) = refl
 
 -- what is told of the query in a place
-pub told_is : (texts : List Bytes) (gs : List (Option Live)) (logs : List Log) (i : ℕ) → slice_index_or (told_from texts gs logs) i None ≡ told_of texts (place_at gs i) (log_at logs i)
+pub told_is : (texts : List Bytes) (gs : List (Option Live)) (logs : List Log) (i : ℕ)
+    → slice_index_or (told_from texts gs logs) i None ≡ told_of texts (place_at gs i) (log_at logs i)
 told_is texts [] logs zero = refl
 told_is texts [] logs (suc i) = refl
 told_is texts (g ∷ gs) [] zero = sym (told_no_log texts g)
@@ -42,11 +46,15 @@ told_is texts (g ∷ gs) (log ∷ logs) zero = refl
 told_is texts (g ∷ gs) (log ∷ logs) (suc i) = told_is texts gs logs i
 
 -- two states of a query of which a log tells the same
-pub told_alike : (texts : List Bytes) (log : Log) (l m : Live) → m.numbered ≡ l.numbered → (m.reducts).tree ≡ (l.reducts).tree → told_of texts (Some m) log ≡ told_of texts (Some l) log
+pub told_alike : (texts : List Bytes) (log : Log) (l m : Live) → m.numbered ≡ l.numbered → (m.reducts).tree
+    ≡ (l.reducts).tree → told_of texts (Some m) log ≡ told_of texts (Some l) log
 told_alike texts log l m e f = ap₂ (λ (n : Numbered) (t : Tree). told_with n t) e f
   where
     told_with : Numbered → Tree → Option (List Change)
-    told_with n t = cond log.lost None (Some (map (λ (k : Line). (let x : Change = record { sign = cond k.came HasCome HasGone; answer = shown texts n t.head k.answer } in x)) log.lines))
+    told_with n t = cond log.lost None
+        (Some (map (λ (k : Line).
+        (let x : Change = record { sign = cond k.came HasCome HasGone; answer = shown texts n t.head k.answer } in x))
+        log.lines))
 
 -- the queries of places, as they were and as they are
 abbrev pub AlikeAt : Option Live → Option Live → Type 0
@@ -71,9 +79,11 @@ alike_then None None (Some n) a b = absurd b
 alike_then None (Some m) q a b = absurd a
 alike_then (Some l) None q a b = absurd a
 alike_then (Some l) (Some m) None a b = absurd b
-alike_then (Some l) (Some m) (Some n) a b = record { query = b.query ∙ a.query; numbered = b.numbered ∙ a.numbered; tree = b.tree ∙ a.tree }
+alike_then (Some l) (Some m) (Some n) a b = record
+    { query = b.query ∙ a.query; numbered = b.numbered ∙ a.numbered; tree = b.tree ∙ a.tree }
 
-pub reach_alike : (Does : Live → Live → Type 0) (ps : List ℕ) (gs hs : List (Option Live)) → ((l m : Live) → Does l m → SameShape l m) → Reach ps Does gs hs → AreAlike gs hs
+pub reach_alike : (Does : Live → Live → Type 0) (ps : List ℕ) (gs hs : List (Option Live))
+    → ((l m : Live) → Does l m → SameShape l m) → Reach ps Does gs hs → AreAlike gs hs
 reach_alike Does ps gs hs f r i = by_place (is_reader ps i) (place_at gs i) (place_at hs i) (r.each i)
   where
     by_place : (b : Bool) (o p : Option Live) → DoneAt Does b o p → AlikeAt o p
@@ -83,10 +93,12 @@ reach_alike Does ps gs hs f r i = by_place (is_reader ps i) (place_at gs i) (pla
     by_place true (Some l) None d = absurd d
     by_place true (Some l) (Some m) d = f l m d
 
-pub aged_alike : (d : Catalog) (name : Bytes) (n : ℕ) (ps qs : List ℕ) (gs hs ks : List (Option Live)) → Reach ps (Renews d) gs hs → Reach qs (Ages name n) hs ks → AreAlike gs ks
+pub aged_alike : (d : Catalog) (name : Bytes) (n : ℕ) (ps qs : List ℕ) (gs hs ks : List (Option Live))
+    → Reach ps (Renews d) gs hs → Reach qs (Ages name n) hs ks → AreAlike gs ks
 aged_alike d name n ps qs gs hs ks a b i =
     alike_then (place_at gs i) (place_at hs i) (place_at ks i)
-    (reach_alike (Renews d) ps gs hs (λ l m r. record { query = r.same.query; numbered = r.same.numbered; tree = r.same.tree }) a i)
+    (reach_alike (Renews d) ps gs hs
+    (λ l m r. record { query = r.same.query; numbered = r.same.numbered; tree = r.same.tree }) a i)
     (reach_alike (Ages name n) qs hs ks (λ l m r. record {
       query = ap (λ (x : Live). x.query) r.outdated;
       numbered = ap (λ (x : Live). x.numbered) r.outdated;
@@ -132,7 +144,8 @@ told_empty texts l None a log h = absurd a
 told_empty texts l (Some m) a log h = ap₂ (λ (b : Bool) (ls : List Line). cond b None
     (Some (map (change_of texts m) ls))) h.kept h.lines
 
-pub told_alike_at : (texts : List Bytes) (log : Log) (o p : Option Live) → AlikeAt o p → told_of texts p log ≡ told_of texts o log
+pub told_alike_at : (texts : List Bytes) (log : Log) (o p : Option Live) → AlikeAt o p → told_of texts p log
+    ≡ told_of texts o log
 told_alike_at texts log None None a = refl
 told_alike_at texts log None (Some m) a = absurd a
 told_alike_at texts log (Some l) None a = absurd a

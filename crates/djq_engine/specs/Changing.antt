@@ -1,5 +1,6 @@
 -- What the parts of a change of rows do.
-use Rattle.std.specs.Prelude.{ℕ, List, ◌+◌, ◌≡◌, ◌<◌, ◌≤◌, ◌&&◌, Bool, true, false, Some, Result, Ok, Err, length, map, sum_by, vec_capacity, ⊤}
+use Rattle.std.specs.Prelude.{ℕ, List, ◌+◌, ◌≡◌, ◌<◌, ◌≤◌, ◌&&◌, Bool, true, false, Some, Result}
+use Rattle.std.specs.Prelude.{Ok, Err, length, map, sum_by, vec_capacity, ⊤}
 use Rattle.djq_model.specs.Data.{Bytes, Tuple, has_row, copies_among, with_row, with_copies, without_copies}
 use Rattle.djq_model.specs.declared.relation.Relation.{Relation}
 use Rattle.djq_model.specs.declared.relation.CountedRow.{CountedRow}

@@ -1,5 +1,6 @@
 -- The first of a list that passes a test.
-use Rattle.std.specs.Prelude.{ℕ, List, ◌≡◌, ◌<◌, Bool, true, false, Option, None, MatchOption, find, length, slice_index_or}
+use Rattle.std.specs.Prelude.{ℕ, List, ◌≡◌, ◌<◌, Bool, true, false, Option, None, MatchOption, find}
+use Rattle.std.specs.Prelude.{length, slice_index_or}
 
 -- The first that passes stands at this place.
 pub record IsFirst {A : Type 0} (p : A → Bool) (xs : List A) (i : ℕ) : Type 0 where

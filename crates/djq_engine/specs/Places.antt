@@ -1,6 +1,7 @@
 -- The registered queries in their places and their cursors, as the engine keeps them, and what
 -- contracts see of them.
-use Rattle.std.specs.Prelude.{ℕ, zero, suc, List, [], ◌∷◌, ◌++◌, ◌==◌, Bool, false, not, Option, None, Some, is_some, option_map, if◌then◌else◌, map, filter}
+use Rattle.std.specs.Prelude.{ℕ, zero, suc, List, [], ◌∷◌, ◌++◌, ◌==◌, Bool, false, not, Option}
+use Rattle.std.specs.Prelude.{None, Some, is_some, option_map, if◌then◌else◌, map, filter}
 use Rattle.djq_model.specs.Data.{Bytes, bytes_eq}
 use Rattle.djq_model.specs.Listed.{Listed, a_query}
 use Rattle.djq_machine.specs.State.{Store}

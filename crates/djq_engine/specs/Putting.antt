@@ -1,5 +1,6 @@
 -- The rows of a batch go into the catalog, one after another.
-use Rattle.std.specs.Prelude.{ℕ, zero, suc, List, [], ◌∷◌, ◌++◌, ◌==◌, ◌≡◌, ◌<◌, ◌≤◌, ◌+◌, ◌||◌, true, false, Option, None, Some, if◌then◌else◌, length, take, All}
+use Rattle.std.specs.Prelude.{ℕ, zero, suc, List, [], ◌∷◌, ◌++◌, ◌==◌, ◌≡◌, ◌<◌, ◌≤◌, ◌+◌, ◌||◌}
+use Rattle.std.specs.Prelude.{true, false, Option, None, Some, if◌then◌else◌, length, take, All}
 use Rattle.djq_model.specs.declared.relation.Relation.{Relation}
 use Rattle.djq_model.specs.Data.{Bytes, Tuple, has_row, copies_among, with_row, with_copies}
 use Rattle.djq_model.specs.Known.{texts_in}
@@ -7,7 +8,8 @@ use Rattle.djq_lines.specs.declared.answer.Refusal.{Refusal}
 use Rattle.djq_lines.specs.declared.held.HeldRow.{HeldRow}
 use Rattle.djq_machine.specs.State.{Store}
 use Rattle.djq_machine.specs.Store.{LearnsAll}
-use Rattle.djq_machine.specs.Batch.{suit_refusal, SuitAll, HavePlaces, StopsAt, with_held, with_all, count_came, has_come}
+use Rattle.djq_machine.specs.Batch.{suit_refusal, SuitAll, HavePlaces, StopsAt, with_held, with_all}
+use Rattle.djq_machine.specs.Batch.{count_came, has_come}
 use Rattle.djq_rows.specs.Cells.{HaveCells, cells_of}
 use Rattle.djq_rows.specs.Catalog.{Catalog, relation_at, counted_at, rows_at, with_rows_at}
 use Rattle.djq_rows.specs.declared.relation_id.RelationId.{RelationId}

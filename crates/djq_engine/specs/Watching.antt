@@ -1,5 +1,7 @@
 -- What an engine says of the queries that sessions watch.
-use Rattle.std.specs.Prelude.{ℕ, List, [], ◌∷◌, ◌++◌, ◌≡◌, ◌≤◌, ◌+◌, ◌*◌, ◌⊎◌, ◌&&◌, Bool, true, false, None, Some, IsSomeAnd, Result, Ok, Err, min, filter, length, map, sum_by, ⊤}
+use Rattle.std.specs.Prelude.{ℕ, List, [], ◌∷◌, ◌++◌, ◌≡◌, ◌≤◌, ◌+◌, ◌*◌, ◌⊎◌, ◌&&◌, Bool, true}
+use Rattle.std.specs.Prelude.{false, None, Some, IsSomeAnd, Result, Ok, Err, min, filter, length}
+use Rattle.std.specs.Prelude.{map, sum_by, ⊤}
 use Rattle.djq_model.specs.declared.query.Query.{Query}
 use Rattle.djq_model.specs.declared.relation.Relation.{Relation}
 use Rattle.djq_model.specs.Data.{Bytes, rows_of}
@@ -21,7 +23,8 @@ use Rattle.djq_machine.specs.Batch.{rows_in}
 use Rattle.djq_machine.specs.Store.{IsShapeOf}
 use Rattle.djq_machine.specs.Watch.{Delta, ListsDeltas, deltas_steps}
 use Rattle.djq_engine.specs.declared.cursor.QueryId.{QueryId}
-use Rattle.djq_engine.specs.Kept.{Kept, Registered, registered_at, registered_of, TellsOf, is_watched, readers_of, affected_of, told_at}
+use Rattle.djq_engine.specs.Kept.{Kept, Registered, registered_at, registered_of, TellsOf}
+use Rattle.djq_engine.specs.Kept.{is_watched, readers_of, affected_of, told_at}
 
 -- The log of a query tells a delta, or was lost.
 abbrev pub LogTells : Kept → Registered → Delta → Type 0

@@ -1,6 +1,8 @@
 -- Lines that are followed, one after another, and the first that can't be.
-use Rattle.std.specs.Prelude.{ℕ, zero, suc, List, [], ◌∷◌, ◌++◌, ◌==◌, ◌≡◌, ◌≢◌, ◌+◌, ◌<◌, ◌≤◌, ◌⊎◌, Bool, true, false, All, Option, Some, None, length, take, drop}
-use Rattle.std.proofs.Common.{refl, sym, ap, ◌∙◌, subst, inl, inr, get_or, arith, append_assoc, append-nil, length-append}
+use Rattle.std.specs.Prelude.{ℕ, zero, suc, List, [], ◌∷◌, ◌++◌, ◌==◌, ◌≡◌, ◌≢◌, ◌+◌, ◌<◌, ◌≤◌, ◌⊎◌}
+use Rattle.std.specs.Prelude.{Bool, true, false, All, Option, Some, None, length, take, drop}
+use Rattle.std.proofs.Common.{refl, sym, ap, ◌∙◌, subst, inl, inr, get_or, arith, append_assoc}
+use Rattle.std.proofs.Common.{append-nil, length-append}
 use Rattle.std.proofs.lemmas.Bool.Decides.{eqb_tells}
 use Rattle.std.proofs.lemmas.Grind.{flat_map-append, get_or_default_zero}
 use Rattle.std.proofs.lemmas.List.Elements.{All-append, All-cons}
@@ -15,7 +17,9 @@ use Rattle.djq_follow.specs.declared.follower.Halt.{Halt}
 use Rattle.djq_follow.specs.declared.follower.Halt.TheVariants.{Outside, TooMany, NoMem}
 use Rattle.djq_follow.specs.declared.reading.Followed.{Followed}
 use Rattle.djq_follow.specs.declared.reading.Followed.TheVariants.{Halted}
-use Rattle.djq_follow.specs.Follow.{Following, most_lines, Stopping, Takes, Halts, CountsOut, TakesPiece, TakesLine, KeepsFront, EndsInput, HasGivenAll, AreFollowed, FollowedAs}
+use Rattle.djq_follow.specs.Follow.{Following, most_lines, Stopping, Takes, Halts, CountsOut}
+use Rattle.djq_follow.specs.Follow.{TakesPiece, TakesLine, KeepsFront, EndsInput, HasGivenAll}
+use Rattle.djq_follow.specs.Follow.{AreFollowed, FollowedAs}
 
 -- lines behind lines
 pub follows_more : (name : Bytes) (a b c : Held) (ls ms : List Bytes) → FollowsAll name a ls b → FollowsAll name b ms c
@@ -29,7 +33,8 @@ pub text_more : (ls ms : List Bytes) → lines_text (ls ++ ms) ≡ lines_text ls
 text_more ls ms = flat_map-append line ls ms
 
 -- pieces behind one another
-joined : (a x y b rest : Bytes) (ls : List Bytes) → a ++ x ≡ lines_text ls ++ b → (ms : List Bytes) → b ++ y ≡ lines_text ms ++ rest
+joined : (a x y b rest : Bytes) (ls : List Bytes) → a ++ x ≡ lines_text ls ++ b → (ms : List Bytes) → b ++ y
+    ≡ lines_text ms ++ rest
     → a ++ (x ++ y) ≡ lines_text (ls ++ ms) ++ rest
 joined a x y b rest ls first ms second =
     sym (append_assoc a x y)
@@ -168,7 +173,8 @@ line_halts old last tail n new own after h = record {
 
 -- ---- the front of a line
 
-pub takes_front : (old new : Following) (front : Bytes) → HasNoLf old.begun → HasNoLf front → KeepsFront old front None new
+pub takes_front : (old new : Following) (front : Bytes) → HasNoLf old.begun → HasNoLf front
+    → KeepsFront old front None new
     → Takes old front new
 takes_front old new front own after h = subst (λ (f : Following). Takes old front f) (sym h) (record {
   lines = [];
@@ -193,7 +199,8 @@ front_halts old new front n own after h = record {
   stops = inr (refl, h.1);
 }
 
-pub counts_out_here : (old : Following) (bytes : Bytes) → HasNoLf old.begun → old.count ≡ most_lines → CountsOut old bytes
+pub counts_out_here : (old : Following) (bytes : Bytes) → HasNoLf old.begun → old.count ≡ most_lines
+    → CountsOut old bytes
 counts_out_here old bytes own full = record {
   mid = old;
   front = [];
@@ -256,7 +263,8 @@ are_followed f new bytes first h = record {
 }
 
 -- the whole input was followed
-pub is_held : (f new : Following) (bytes : Bytes) → IsFirst f → Takes f bytes new → new.begun ≡ [] → IsHeld f.name bytes new.held
+pub is_held : (f new : Following) (bytes : Bytes) → IsFirst f → Takes f bytes new → new.begun ≡ []
+    → IsHeld f.name bytes new.held
 is_held f new bytes first h none = record {
   lines = h.lines;
   is = none_begun f bytes (lines_text h.lines ++ new.begun) first h.is
@@ -281,7 +289,8 @@ is_unfinished f new bytes n first h some number = record {
 }
 
 -- A line that is too long is no line, whatever comes of it.
-too_long : (name : Bytes) (held : Held) (bad more : Bytes) → REPLY_LINE_BYTES < length bad → IsOutside name held (bad ++ more)
+too_long : (name : Bytes) (held : Held) (bad more : Bytes) → REPLY_LINE_BYTES < length bad
+    → IsOutside name held (bad ++ more)
 too_long name held bad more long r is = absurd (omega (arith, long, is.short, length-append bad more))
 
 -- what comes up to the next LF, and behind it
@@ -323,11 +332,13 @@ is_refused f bytes n more first h = elim h.stops [
         ∙ append_assoc (lines_text h.lines) (h.bad ++ behind) more
         ∙ ap (λ (xs : Bytes). lines_text h.lines ++ xs) (append_assoc h.bad behind more)
 
-    stops_there : (front rest : Bytes) → REPLY_LINE_BYTES < length h.bad → (rest ≡ []) ⊎ ((tail : Bytes) × (rest ≡ 10 ∷ tail))
+    stops_there : (front rest : Bytes) → REPLY_LINE_BYTES < length h.bad
+        → (rest ≡ []) ⊎ ((tail : Bytes) × (rest ≡ 10 ∷ tail))
         → Stops f.name h.held (h.bad ++ front) rest
     stops_there front rest long (inl none) = subst (λ (xs : Bytes). Stops f.name h.held (h.bad ++ front) xs) (sym none)
         (some_left (h.bad ++ front) (omega (arith, long, length-append h.bad front)))
-    stops_there front rest long (inr (tail, is)) = subst (λ (xs : Bytes). Stops f.name h.held (h.bad ++ front) xs) (sym is)
+    stops_there front rest long (inr (tail, is)) = subst (λ (xs : Bytes). Stops f.name h.held (h.bad ++ front) xs)
+        (sym is)
         (refl, too_long f.name h.held h.bad front long)
 
     long_line : h.behind ≡ [] → REPLY_LINE_BYTES < length h.bad
@@ -379,7 +390,8 @@ unfinished_bytes f new bytes first h full = counted_bytes f bytes first (record 
 })
 
 -- what a piece that goes no further comes to
-pub halted_as : (f mid : Following) (bytes piece : Bytes) (halt : Halt) (new : Following) (now : Option Reading) (held : Held)
+pub halted_as : (f mid : Following) (bytes piece : Bytes) (halt : Halt) (new : Following) (now : Option Reading)
+    (held : Held)
     → IsFirst f → Takes f bytes mid → TakesPiece mid piece (Some halt) new
     → FollowedAs (Halted halt) f.name (bytes ++ piece) now held
 halted_as f mid bytes piece (Outside n) new now held first h k =
@@ -389,7 +401,8 @@ halted_as f mid bytes piece TooMany new now held first h k =
 halted_as f mid bytes piece NoMem new now held first h k = tt
 
 -- what the end of the input comes to behind a line that has begun
-pub ended_as : (f new : Following) (bytes : Bytes) (halt : Halt) (now : Option Reading) (held : Held) → IsFirst f → Takes f bytes new
+pub ended_as : (f new : Following) (bytes : Bytes) (halt : Halt) (now : Option Reading) (held : Held) → IsFirst f
+    → Takes f bytes new
     → HasGivenAll now → EndsInput new (Some halt) → FollowedAs (Halted halt) f.name bytes now held
 ended_as f new bytes (Outside n) now held first h end (some, number) =
     inr (end, is_unfinished f new bytes n first h some number)

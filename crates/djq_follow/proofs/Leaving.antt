@@ -5,7 +5,9 @@ use Rattle.djq_io.specs.Source.{Reading}
 use Rattle.djq_model.specs.Data.{Bytes}
 use Rattle.djq_mirror.specs.Mirror.{Held, written}
 use Rattle.djq_follow.specs.declared.follower.Halt.{Halt}
-use Rattle.djq_follow.specs.declared.follower.Halt.TheVariants.{Outside as HaltsOutside, TooMany as HaltsFull, NoMem as HaltsLacking}
+use Rattle.djq_follow.specs.declared.follower.Halt.TheVariants.{Outside as HaltsOutside}
+use Rattle.djq_follow.specs.declared.follower.Halt.TheVariants.{TooMany as HaltsFull}
+use Rattle.djq_follow.specs.declared.follower.Halt.TheVariants.{NoMem as HaltsLacking}
 use Rattle.djq_follow.specs.declared.reading.Followed.{Followed}
 use Rattle.djq_follow.specs.declared.reading.Followed.TheVariants.{Whole, Halted, ReadFault as FailedRead}
 use Rattle.djq_follow.specs.declared.command.Mirrored.{Mirrored}
@@ -19,7 +21,8 @@ either (Ok a) P P' Q Q' f g h = f a h
 either (Err b) P P' Q Q' f g h = g b h
 
 module _ (name : Bytes) (before now : Option Reading) (faults faults' : ℕ) where
-  pub leaves_whole : (held : Held) (text : Bytes) (answer : Mirrored) → FollowEnds Whole name before now faults faults' held
+  pub leaves_whole : (held : Held) (text : Bytes) (answer : Mirrored)
+      → FollowEnds Whole name before now faults faults' held
       → text ≡ written held → answer ≡ Done → Leaves answer text name before now faults faults'
   leaves_whole held text answer e is done = record {
     bytes = e.bytes;
@@ -40,7 +43,8 @@ module _ (name : Bytes) (before now : Option Reading) (faults faults' : ℕ) whe
   leaves_halted held HaltsFull text answer e none = absurd none
   leaves_halted held HaltsLacking text answer e none = absurd none
 
-  pub lacks_whole : (held : Held) (answer : Mirrored) → FollowEnds Whole name before now faults faults' held → answer ≡ NoMemory
+  pub lacks_whole : (held : Held) (answer : Mirrored) → FollowEnds Whole name before now faults faults' held → answer
+      ≡ NoMemory
       → LeavesNone answer name before now faults faults'
   lacks_whole held answer e is = record {
     bytes = e.bytes;
@@ -48,7 +52,8 @@ module _ (name : Bytes) (before now : Option Reading) (faults faults' : ℕ) whe
     stops = subst (λ (m : Mirrored). StopsFor m name e.bytes faults faults') (sym is) e.counted;
   }
 
-  pub lacks_halted : (held : Held) (halt : Halt) (answer : Mirrored) → FollowEnds (Halted halt) name before now faults faults' held
+  pub lacks_halted : (held : Held) (halt : Halt) (answer : Mirrored)
+      → FollowEnds (Halted halt) name before now faults faults' held
       → IsUntold halt answer → LeavesNone answer name before now faults faults'
   lacks_halted held (HaltsOutside n) answer e is = record {
     bytes = e.bytes;
@@ -66,5 +71,6 @@ module _ (name : Bytes) (before now : Option Reading) (faults faults' : ℕ) whe
     stops = subst (λ (m : Mirrored). StopsFor m name e.bytes faults faults') (sym is) e.counted;
   }
 
-  pub fails : (held : Held) → FollowEnds FailedRead name before now faults faults' held → LeavesNone ReadFault name before now faults faults'
+  pub fails : (held : Held) → FollowEnds FailedRead name before now faults faults' held
+      → LeavesNone ReadFault name before now faults faults'
   fails held e = record { bytes = e.bytes; gave = e.gave; stops = (e.counted, e.comes) }

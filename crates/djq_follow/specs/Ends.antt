@@ -10,9 +10,12 @@ use Rattle.djq_laws.specs.declared.limits.TheConstants.{MOST_READS}
 use Rattle.djq_mirror.specs.Mirror.{Held, written}
 use Rattle.djq_mirror.specs.Inputs.{IsHeld}
 use Rattle.djq_follow.specs.declared.follower.Halt.{Halt}
-use Rattle.djq_follow.specs.declared.follower.Halt.TheVariants.{Outside as HaltsOutside, TooMany as HaltsFull, NoMem as HaltsLacking}
+use Rattle.djq_follow.specs.declared.follower.Halt.TheVariants.{Outside as HaltsOutside}
+use Rattle.djq_follow.specs.declared.follower.Halt.TheVariants.{TooMany as HaltsFull}
+use Rattle.djq_follow.specs.declared.follower.Halt.TheVariants.{NoMem as HaltsLacking}
 use Rattle.djq_follow.specs.declared.command.Mirrored.{Mirrored}
-use Rattle.djq_follow.specs.declared.command.Mirrored.TheVariants.{Done, Outside, ReadFault, WriteFault, TooMany, NoMemory}
+use Rattle.djq_follow.specs.declared.command.Mirrored.TheVariants.{Done, Outside, ReadFault}
+use Rattle.djq_follow.specs.declared.command.Mirrored.TheVariants.{WriteFault, TooMany, NoMemory}
 use Rattle.djq_follow.specs.Follow.{Gave, HasGivenAll, StopsAt, AreFollowed}
 
 -- the line that says which line can't be followed

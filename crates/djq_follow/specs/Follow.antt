@@ -1,5 +1,6 @@
 -- What a mirror comes to that follows, piece by piece, what a session was sent.
-use Rattle.std.specs.Prelude.{ℕ, List, [], ◌∷◌, ◌++◌, ◌≡◌, ◌≢◌, ◌+◌, ◌<◌, ◌≤◌, ◌⊎◌, Option, None, Some, IfSome, Result, Ok, Err, length}
+use Rattle.std.specs.Prelude.{ℕ, List, [], ◌∷◌, ◌++◌, ◌≡◌, ◌≢◌, ◌+◌, ◌<◌, ◌≤◌, ◌⊎◌, Option, None}
+use Rattle.std.specs.Prelude.{Some, IfSome, Result, Ok, Err, length}
 use Rattle.std.specs.List.{concat}
 use Rattle.djq_io.specs.Faults.{Counted}
 use Rattle.djq_io.specs.Source.{Reading, Gives}

@@ -1,5 +1,6 @@
 -- The searches for a step.
-use Rattle.std.specs.Prelude.{◌≡◌, ℕ, ◌+◌, ◌<◌, min, true, ◌==◌, List, [], ◌∷◌, length, take, slice_get, Some, None, refl}
+use Rattle.std.specs.Prelude.{◌≡◌, ℕ, ◌+◌, ◌<◌, min, true, ◌==◌, List, [], ◌∷◌, length, take}
+use Rattle.std.specs.Prelude.{slice_get, Some, None, refl}
 use Rattle.std.proofs.Common.{sym, ap, ◌∙◌, arith}
 use Rattle.std.proofs.lemmas.Bool.{eq-eqb, eqb-true}
 use Rattle.djq_hyper.specs.Hypergraph.{member, degree, intersection, edge_at}
@@ -22,17 +23,25 @@ first_none [] h = refl
 first_none (y ∷ l) h = absurd cc
 
 -- a variable of an edge and of those that lie in one edge only is a step
-pub vertex_step : (E : List (List ℕ)) (i x : ℕ) (e own shared : List ℕ) → i < length E → e ≡ edge_at E i → ((y : ℕ) → member y own ≡ (degree y E == 1)) → shared ≡ intersection e own → Some x ≡ slice_get shared 0 → IsStep E (Vertex i x)
+pub vertex_step : (E : List (List ℕ)) (i x : ℕ) (e own shared : List ℕ) → i < length E → e ≡ edge_at E i
+    → ((y : ℕ) → member y own ≡ (degree y E == 1)) → shared ≡ intersection e own → Some x ≡ slice_get shared 0
+    → IsStep E (Vertex i x)
 vertex_step E i x e own shared within is alone both first =
     let lies = from_true (member x shared) (first_in x shared first) in
     let w : has x shared ≡ min (has x e) (has x own) = ap (λ (l : List ℕ). has x l) both ∙ has_intersection x e own in
-    let here : has x e ≡ has x (edge_at E i) = ap (λ (l : List ℕ). has x l) is in
-    (within, one_true (member x (edge_at E i)) (omega arith), eqb-true (degree x E) 1 (sym (alone x) ∙ one_true (member x own) (omega arith)))
+    let here : has x e ≡ has x (edge_at E i) = ap (λ (l : List ℕ). has x l) is in (
+      within,
+      one_true (member x (edge_at E i)) (omega arith),
+      eqb-true (degree x E) 1
+          (sym (alone x) ∙ one_true (member x own) (omega arith)),
+    )
 
-pub no_vertex : (E : List (List ℕ)) (i : ℕ) (e own shared : List ℕ) → e ≡ edge_at E i → ((y : ℕ) → member y own ≡ (degree y E == 1)) → shared ≡ intersection e own → None ≡ slice_get shared 0
+pub no_vertex : (E : List (List ℕ)) (i : ℕ) (e own shared : List ℕ) → e ≡ edge_at E i
+    → ((y : ℕ) → member y own ≡ (degree y E == 1)) → shared ≡ intersection e own → None ≡ slice_get shared 0
     → (x : ℕ) → member x (edge_at E i) ≡ true → degree x E ≡ 1 → ⊥
 no_vertex E i e own shared is alone both none x lies once =
-    let w : 0 ≡ min (has x e) (has x own) = ap (λ (l : List ℕ). has x l) (sym (first_none shared none) ∙ both) ∙ has_intersection x e own in
+    let w : 0 ≡ min (has x e) (has x own) = ap (λ (l : List ℕ). has x l) (sym (first_none shared none) ∙ both)
+    ∙ has_intersection x e own in
     let here : has x e ≡ has x (edge_at E i) = ap (λ (l : List ℕ). has x l) is in
     let a = from_true (member x (edge_at E i)) lies in
     let b = from_true (member x own) (alone x ∙ eq-eqb (degree x E) 1 once) in
@@ -44,13 +53,15 @@ pub irreducible_of : (E : List (List ℕ)) → HasNoOwn E → ((i j : ℕ) → I
 irreducible_of E own inner (Vertex i x) h = own i x h.0 h.1 h.2
 irreducible_of E own inner (Edge i j) h = inner i j h
 
-pub variable_of : (E : List (List ℕ)) (i x : ℕ) (e : List ℕ) → i < length E → e ≡ edge_at E i → Some x ≡ slice_get e 0 → 0 < degree x E
+pub variable_of : (E : List (List ℕ)) (i x : ℕ) (e : List ℕ) → i < length E → e ≡ edge_at E i → Some x ≡ slice_get e 0
+    → 0 < degree x E
 variable_of E i x e within is first =
     let here : has x e ≡ has x (edge_at E i) = ap (λ (l : List ℕ). has x l) is in
     let lies = from_true (member x e) (first_in x e first) in
     degree_in x (edge_at E i) E (stands_at E i within) (omega arith)
 
-pub bare_more : (E : List (List ℕ)) (i : ℕ) (e : List ℕ) → i < length E → e ≡ edge_at E i → None ≡ slice_get e 0 → ((x : ℕ) → degree x (take i E) ≡ 0) → (x : ℕ) → degree x (take (i + 1) E) ≡ 0
+pub bare_more : (E : List (List ℕ)) (i : ℕ) (e : List ℕ) → i < length E → e ≡ edge_at E i → None ≡ slice_get e 0
+    → ((x : ℕ) → degree x (take i E) ≡ 0) → (x : ℕ) → degree x (take (i + 1) E) ≡ 0
 bare_more E i e within is none bare x =
     let here : 0 ≡ has x (edge_at E i) = ap (λ (l : List ℕ). has x l) (sym (first_none e none) ∙ is) in
     omega (arith, degree_more x E i within, bare x)

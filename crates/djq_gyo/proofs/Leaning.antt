@@ -16,7 +16,8 @@ use Rattle.djq_gyo.proofs.Places.{at_place, set_place}
 step_falls : (E : List (List ℕ)) (s : Step) (x : ℕ) → IsStep E s → degree x (reduced E s) ≤ degree x E
 step_falls E (Vertex i y) x h =
     let a = degree_same x E (edge_at E i ∷ remove E i) (at_place E i h.0) in
-    let b = degree_same x (reduced E (Vertex i y)) (difference (edge_at E i) (y ∷ []) ∷ remove E i) (set_place E i (difference (edge_at E i) (y ∷ [])) h.0) in
+    let b = degree_same x (reduced E (Vertex i y)) (difference (edge_at E i) (y ∷ []) ∷ remove E i)
+    (set_place E i (difference (edge_at E i) (y ∷ [])) h.0) in
     let m = has_difference x (edge_at E i) (y ∷ []) in
     omega arith
 step_falls E (Edge i j) x h = let a = degree_same x E (edge_at E i ∷ remove E i) (at_place E i h.0) in omega arith
@@ -39,15 +40,26 @@ no_empty_edge : (E R : List (List ℕ)) → IsRest E R → (i : ℕ) → i < len
 no_empty_edge E R r i low none =
     let w = edge_with R r.variable r.lies in
     let has_it = from_true (member r.variable (edge_at R w.0)) w.1 in
-    let apart : i ≢ w.0 = λ same. (let e : has r.variable (edge_at R w.0) ≡ has r.variable [] = ap (λ (k : ℕ). has r.variable (edge_at R k)) (sym same) ∙ ap (has r.variable) none in omega arith) in
-    r.irreducible (Edge i w.0) (low, edge_low R w.0 r.variable has_it, apart, ap (λ (l : List ℕ). subset l (edge_at R w.0)) none)
+    let apart : i ≢ w.0 = λ same.
+    (let e : has r.variable (edge_at R w.0)
+    ≡ has r.variable [] = ap (λ (k : ℕ). has r.variable (edge_at R k)) (sym same)
+    ∙ ap (has r.variable) none in omega arith) in
+    r.irreducible (Edge i w.0)
+    (low, edge_low R w.0 r.variable has_it, apart, ap (λ (l : List ℕ). subset l (edge_at R w.0)) none)
 
-no_equal_edges : (E R : List (List ℕ)) → IsRest E R → (i j : ℕ) → i < length R → j < length R → edge_at R i ≡ edge_at R j → i ≡ j
+no_equal_edges : (E R : List (List ℕ)) → IsRest E R → (i j : ℕ) → i < length R → j < length R → edge_at R i
+    ≡ edge_at R j → i ≡ j
 no_equal_edges E R r i j low low2 same =
     elim (cases_eq i j) [
       | inl e ↦ e
       | inr apart ↦
-          absurd (r.irreducible (Edge i j) (low, low2, apart, subset_from (edge_at R i) (edge_at R j) (λ x. let e : has x (edge_at R i) ≡ has x (edge_at R j) = ap (has x) same in omega arith)))
+          absurd (r.irreducible (Edge i j) (
+            low,
+            low2,
+            apart,
+            subset_from (edge_at R i) (edge_at R j)
+                (λ x. let e : has x (edge_at R i) ≡ has x (edge_at R j) = ap (has x) same in omega arith),
+          ))
     ]
 
 pub lean_of : (E R : List (List ℕ)) → IsRest E R → IsLean E R

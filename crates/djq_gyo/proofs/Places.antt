@@ -1,5 +1,6 @@
 -- From positions in a list of edges to the list up to order.
-use Rattle.std.specs.Prelude.{◌≡◌, ◌≢◌, ℕ, zero, suc, ◌+◌, ◌<◌, Bool, true, false, cond, List, [], ◌∷◌, length, slice_set, remove, refl}
+use Rattle.std.specs.Prelude.{◌≡◌, ◌≢◌, ℕ, zero, suc, ◌+◌, ◌<◌, Bool, true, false, cond, List, []}
+use Rattle.std.specs.Prelude.{◌∷◌, length, slice_set, remove, refl}
 use Rattle.std.proofs.Common.{sym, ap, arith, inl, inr}
 use Rattle.std.proofs.lemmas.Bool.{cases_lt}
 use Rattle.djq_hyper.specs.Hypergraph.{one, edge_at}
@@ -25,12 +26,14 @@ stands_at (e ∷ E) zero within = count_self e E
 stands_at (e ∷ E) (suc i) within = omega (arith, stands_at E i (omega arith))
 
 -- an edge at another position is among the others
-pub other_place : (E : List (List ℕ)) (i j : ℕ) → i ≢ j → i < length E → j < length E → 0 < count (edge_at E j) (remove E i)
+pub other_place : (E : List (List ℕ)) (i j : ℕ) → i ≢ j → i < length E → j < length E
+    → 0 < count (edge_at E j) (remove E i)
 other_place [] i j apart low high = absurd (omega arith)
 other_place (e ∷ E) zero zero apart low high = absurd (apart refl)
 other_place (e ∷ E) zero (suc j) apart low high = stands_at E j (omega arith)
 other_place (e ∷ E) (suc i) zero apart low high = count_self e (remove E i)
-other_place (e ∷ E) (suc i) (suc j) apart low high = omega (arith, other_place E i j (λ s. apart (ap suc s)) (omega arith) (omega arith))
+other_place (e ∷ E) (suc i) (suc j) apart low high = omega
+    (arith, other_place E i j (λ s. apart (ap suc s)) (omega arith) (omega arith))
 
 -- where an edge stands
 pub record At (E : List (List ℕ)) (a : List ℕ) : Type 0 where
@@ -43,7 +46,8 @@ place_of [] a stands = absurd (omega arith)
 place_of (e ∷ E) a stands =
     elim (cases_lt 0 (one (equal a e))) [
       | inl here ↦ record { place = 0; within = omega arith; is = sym (same_item labels a e here) }
-      | inr none ↦ let r = place_of E a (omega arith) in record { place = suc r.place; within = let w = r.within in omega arith; is = r.is }
+      | inr none ↦ let r = place_of E a (omega arith) in record
+          { place = suc r.place; within = let w = r.within in omega arith; is = r.is }
     ]
 
 -- where two edges stand
@@ -52,12 +56,17 @@ pub record Apart (E : List (List ℕ)) (a b : List ℕ) : Type 0 where
   pub second : At E b
   pub apart : first.place ≢ second.place
 
-apart_step : (t : Bool) (e : List ℕ) (E : List (List ℕ)) (a b : List ℕ) → t ≡ equal a e → 0 < one t + count a E → 0 < count b (cond t E (e ∷ out_of labels a E))
+apart_step : (t : Bool) (e : List ℕ) (E : List (List ℕ)) (a b : List ℕ) → t ≡ equal a e → 0 < one t + count a E
+    → 0 < count b (cond t E (e ∷ out_of labels a E))
     → (0 < count a E → 0 < count b (out_of labels a E) → Apart E a b) → Apart (e ∷ E) a b
 apart_step true e E a b is stands other r =
     let q = place_of E b other in
     record {
-      first = record { place = 0; within = omega arith; is = sym (same_item labels a e (from_true (equal a e) (sym is))) };
+      first = record {
+        place = 0;
+        within = omega arith;
+        is = sym (same_item labels a e (from_true (equal a e) (sym is)));
+      };
       second = record { place = suc q.place; within = let w = q.within in omega arith; is = q.is };
       apart = λ same. omega arith;
     }
@@ -73,8 +82,17 @@ apart_step false e E a b is stands other r =
       | inr there ↦
           let p = r (omega arith) (omega arith) in
           record {
-            first = record { place = suc p.first.place; within = let w = p.first.within in omega arith; is = p.first.is };
-            second = record { place = suc p.second.place; within = let w = p.second.within in omega arith; is = p.second.is };
+            first = record {
+              place = suc p.first.place;
+              within = let w = p.first.within in omega arith;
+              is = p.first.is;
+            };
+            second = record {
+              place = suc p.second.place;
+              within = let w = p.second.within in omega arith;
+              is =
+                  p.second.is;
+            };
             apart = λ same. p.apart (omega arith);
           }
     ]

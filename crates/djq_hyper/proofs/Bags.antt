@@ -1,5 +1,6 @@
 -- Lists up to order: two lists are alike where each item stands as often in the one as in the other.
-use Rattle.std.specs.Prelude.{◌≡◌, ◌⊎◌, ℕ, ◌+◌, ◌<◌, Bool, true, false, cond, ◌==◌, List, [], ◌∷◌, ◌++◌, map, refl, length, ◌≤◌}
+use Rattle.std.specs.Prelude.{◌≡◌, ◌⊎◌, ℕ, ◌+◌, ◌<◌, Bool, true, false, cond, ◌==◌, List, [], ◌∷◌}
+use Rattle.std.specs.Prelude.{◌++◌, map, refl, length, ◌≤◌}
 use Rattle.std.proofs.Common.{sym, ap, ap₂, ◌∙◌, arith, inl, inr}
 use Rattle.std.proofs.lemmas.Bool.{cases_Bool, eq-eqb, eqb-true}
 use Rattle.djq_hyper.specs.Hypergraph.{one}
@@ -37,7 +38,9 @@ module _ {A : Type 0} (T : Test A) where
   pub same_item : (a b : A) → 0 < one (T.eq a b) → a ≡ b
   same_item a b h = T.alike a b (one_true (T.eq a b) h)
 
-  out_step : (b : Bool) (a l : A) (L : List A) (g : A → ℕ) → b ≡ T.eq a l → 0 < one b + times a L → (0 < times a L → total g L ≡ g a + total g (out_of a L)) → g l + total g L ≡ g a + total g (cond b L (l ∷ out_of a L))
+  out_step : (b : Bool) (a l : A) (L : List A) (g : A → ℕ) → b ≡ T.eq a l → 0 < one b + times a L
+      → (0 < times a L → total g L ≡ g a + total g (out_of a L)) → g l + total g L
+      ≡ g a + total g (cond b L (l ∷ out_of a L))
   out_step true a l L g e h r = let k : a ≡ l = T.alike a l (sym e) in rw k refl
   out_step false a l L g e h r = let k = r (omega arith) in omega arith
 
@@ -83,7 +86,8 @@ module _ {A : Type 0} (T : Test A) where
   full (l ∷ L) M h same =
       let stands : 0 < times l M = omega (arith, h l, times_itself l) in
       let out = out_same l M stands in
-      let r = full L (out_of l M) (λ a. let p = h a in let q = out a in omega arith) (omega (arith, length_same M (l ∷ out_of l M) out)) in
+      let r = full L (out_of l M) (λ a. let p = h a in let q = out a in omega arith)
+      (omega (arith, length_same M (l ∷ out_of l M) out)) in
       λ a. let p = r a in let q = out a in omega arith
 
   -- two lists with other heads that are alike have the same rest
@@ -97,7 +101,11 @@ module _ {A : Type 0} (T : Test A) where
       elim (cases_Bool (T.eq g e)) [
         | inl same ↦
             let k : g ≡ e = T.alike g e same in
-            inl (k, λ d. let q = h d in let w : one (T.eq d g) ≡ one (T.eq d e) = ap (λ (z : A). one (T.eq d z)) k in omega arith)
+            inl (
+              k,
+              λ d. let q = h d in let w : one (T.eq d g)
+                  ≡ one (T.eq d e) = ap (λ (z : A). one (T.eq d z)) k in omega arith,
+            )
         | inr other ↦
             let stands : 0 < times g M = omega (arith, h g, times_itself g, from_false (T.eq g e) other) in
             inr (record {
@@ -130,9 +138,14 @@ module _ {A B : Type 0} (T : Test A) (U : Test B) (f : A → B) where
   no_images [] h = refl
   no_images (s ∷ S) h = absurd (omega (arith, h (f s), times_itself U (f s)))
 
-  drawn_step : (e : B) (L : List B) (S : List A) (a : A) → e ≡ f a → 0 < times T a S → (R : List A) → Bag T R (out_of T a S) → map f R ≡ L → (R' : List A) × Bag T R' S × (map f R' ≡ e ∷ L)
-  drawn_step e L S a is stands R those images =
-      (a ∷ R, λ d. let k = those d in let o = out_same T a S stands d in omega arith, ap₂ (λ (x : B) (xs : List B). x ∷ xs) (sym is) images)
+  drawn_step : (e : B) (L : List B) (S : List A) (a : A) → e ≡ f a → 0 < times T a S → (R : List A)
+      → Bag T R (out_of T a S) → map f R ≡ L → (R' : List A) × Bag T R' S × (map f R' ≡ e ∷ L)
+  drawn_step e L S a is stands R those images = (
+    a ∷ R,
+    λ d. let k = those d in let o = out_same T a S stands d in omega arith,
+    ap₂
+        (λ (x : B) (xs : List B). x ∷ xs) (sym is) images,
+  )
 
   -- a list that is like the images of S is the images of a list like S
   pub drawn : (L : List B) (S : List A) → Bag U L (map f S) → (R : List A) × Bag T R S × (map f R ≡ L)

@@ -1,5 +1,7 @@
 -- A proposed tree, link by link, from the root on.
-use Rattle.std.specs.Prelude.{◌≡◌, ◌↔◌, ℕ, zero, suc, ◌+◌, ◌<◌, ◌≤◌, min, Bool, true, false, IsTrue, ◌==◌, ◌||◌, nat_lt, List, [], ◌∷◌, ◌++◌, length, take, drop, reverse, slice_index_or, refl}
+use Rattle.std.specs.Prelude.{◌≡◌, ◌↔◌, ℕ, zero, suc, ◌+◌, ◌<◌, ◌≤◌, min, Bool, true, false, IsTrue}
+use Rattle.std.specs.Prelude.{◌==◌, ◌||◌, nat_lt, List, [], ◌∷◌, ◌++◌, length, take, drop, reverse}
+use Rattle.std.specs.Prelude.{slice_index_or, refl}
 use Rattle.std.proofs.Common.{sym, ap, ◌∙◌, subst, arith, inl, inr, ltb-true, ltb-false, lt-ltb, le-ltb}
 use Rattle.std.proofs.lemmas.Bool.{cases_lt, cases_eq, eq-eqb, ne_eqb}
 use Rattle.std.proofs.lemmas.List.{reverse-append, length-reverse, take_more, get_or_read_under}
@@ -19,7 +21,8 @@ places_append : (p : ℕ) (P Q : List Link) → places p (P ++ Q) ≡ places p P
 places_append p [] Q = omega arith
 places_append p (k ∷ P) Q = omega (arith, places_append p P Q)
 
-below_append : (x : ℕ) (E : List (List ℕ)) (P Q : List Link) → degree x (edges_of E (P ++ Q)) ≡ degree x (edges_of E P) + degree x (edges_of E Q)
+below_append : (x : ℕ) (E : List (List ℕ)) (P Q : List Link) → degree x (edges_of E (P ++ Q))
+    ≡ degree x (edges_of E P) + degree x (edges_of E Q)
 below_append x E [] Q = omega arith
 below_append x E (k ∷ P) Q = omega (arith, below_append x E P Q)
 
@@ -28,11 +31,14 @@ reverse_head k P = reverse-append (k ∷ []) P
 
 pub places_reverse : (p : ℕ) (P : List Link) → places p (reverse P) ≡ places p P
 places_reverse p [] = refl
-places_reverse p (k ∷ P) = ap (λ (Q : List Link). places p Q) (reverse_head k P) ∙ omega (arith, places_append p (reverse P) (k ∷ []), places_reverse p P)
+places_reverse p (k ∷ P) = ap (λ (Q : List Link). places p Q) (reverse_head k P)
+    ∙ omega (arith, places_append p (reverse P) (k ∷ []), places_reverse p P)
 
-pub below_reverse : (x : ℕ) (E : List (List ℕ)) (P : List Link) → degree x (edges_of E (reverse P)) ≡ degree x (edges_of E P)
+pub below_reverse : (x : ℕ) (E : List (List ℕ)) (P : List Link) → degree x (edges_of E (reverse P))
+    ≡ degree x (edges_of E P)
 below_reverse x E [] = refl
-below_reverse x E (k ∷ P) = ap (λ (Q : List Link). degree x (edges_of E Q)) (reverse_head k P) ∙ omega (arith, below_append x E (reverse P) (k ∷ []), below_reverse x E P)
+below_reverse x E (k ∷ P) = ap (λ (Q : List Link). degree x (edges_of E Q)) (reverse_head k P)
+    ∙ omega (arith, below_append x E (reverse P) (k ∷ []), below_reverse x E P)
 
 pub reverse_last : (P : List Link) (k : Link) → reverse (P ++ k ∷ []) ≡ k ∷ reverse P
 reverse_last P k = reverse-append P (k ∷ [])
@@ -67,7 +73,8 @@ so_far_more E P k s f =
     let turned : k ∷ reverse P ≡ reverse (P ++ k ∷ []) = sym (reverse_last P k) in
     let ordered : IsOrder (k ∷ reverse P) = (
       places_reverse k.edge P ∙ f.fresh,
-      under_of k (reverse P) (λ some. let q = f.under (omega arith) in let w = places_reverse k.parent P in omega arith),
+      under_of k (reverse P)
+          (λ some. let q = f.under (omega arith) in let w = places_reverse k.parent P in omega arith),
       s.ordered,
     ) in
     let keeps : Keeps E (k ∷ reverse P) = (
@@ -75,7 +82,8 @@ so_far_more E P k s f =
           let w = below_reverse x E P in
           let some = below_some x E (reverse P) below in
           let q = f.keeps (omega arith) x within (omega arith) in
-          let o : has x (parent_edge E k (reverse P)) ≡ has x (edge_at E k.parent) = ap (λ (z : List ℕ). has x z) (over_of E k (reverse P) some) in
+          let o : has x (parent_edge E k (reverse P))
+          ≡ has x (edge_at E k.parent) = ap (λ (z : List ℕ). has x z) (over_of E k (reverse P) some) in
           omega arith,
       s.keeps,
     ) in
@@ -128,7 +136,8 @@ so_far_all E B s same =
           omega arith
       | inr none ↦ omega arith
     ] in
-    let size : length (spots R) ≡ length (upto (length E)) = omega (arith, length_spots R, length-reverse B, length_upto (length E)) in
+    let size : length (spots R)
+    ≡ length (upto (length E)) = omega (arith, length_spots R, length-reverse B, length_upto (length E)) in
     let like = full numbers (spots R) (upto (length E)) most size in
     join_tree_of E R (λ p. sym (times_spots p R) ∙ like p ∙ times_upto p (length E)) s.ordered s.keeps
 
@@ -136,8 +145,15 @@ so_far_all E B s same =
 
 pub length_of : (E : List (List ℕ)) (B : List Link) → IsJoinTree E (reverse B) → length B ≡ length E
 length_of E B t =
-    let like : Bag numbers (spots (reverse B)) (upto (length E)) = λ p. times_spots p (reverse B) ∙ t.covers p ∙ sym (times_upto p (length E)) in
-    omega (arith, length_same numbers (spots (reverse B)) (upto (length E)) like, length_spots (reverse B), length-reverse B, length_upto (length E))
+    let like : Bag numbers (spots (reverse B)) (upto (length E)) = λ p. times_spots p (reverse B) ∙ t.covers p
+    ∙ sym (times_upto p (length E)) in
+    omega (
+      arith,
+      length_same numbers (spots (reverse B)) (upto (length E)) like,
+      length_spots (reverse B),
+      length-reverse B,
+      length_upto (length E),
+    )
 
 order_rest : (Q R : List Link) → IsOrder (Q ++ R) → IsOrder R
 order_rest [] R h = h
@@ -147,7 +163,8 @@ keeps_rest : (E : List (List ℕ)) (Q R : List Link) → Keeps E (Q ++ R) → Ke
 keeps_rest E [] R h = h
 keeps_rest E (k ∷ Q) R h = keeps_rest E Q R h.1
 
-split_at : (B : List Link) (i : ℕ) (d : Link) → i < length B → (Y : List Link) × (reverse B ≡ Y ++ slice_index_or B i d ∷ reverse (take i B))
+split_at : (B : List Link) (i : ℕ) (d : Link) → i < length B → (Y : List Link)
+    × (reverse B ≡ Y ++ slice_index_or B i d ∷ reverse (take i B))
 split_at B i d within =
     let next : suc i ≡ i + 1 = omega arith in
     let whole : B ≡ (take i B ++ slice_index_or B i d ∷ []) ++ drop (i + 1) B =
@@ -157,26 +174,33 @@ split_at B i d within =
           ∙ ap (λ (P : List Link). reverse (drop (i + 1) B) ++ P) (reverse_last (take i B) (slice_index_or B i d)),
     )
 
-pub all_fit : (E : List (List ℕ)) (B : List Link) (i : ℕ) (d : Link) → i < length B → IsJoinTree E (reverse B) → Fits E (take i B) (slice_index_or B i d)
+pub all_fit : (E : List (List ℕ)) (B : List Link) (i : ℕ) (d : Link) → i < length B → IsJoinTree E (reverse B)
+    → Fits E (take i B) (slice_index_or B i d)
 all_fit E B i d within t =
     let s = split_at B i d within in
     let k = slice_index_or B i d in
     let P = take i B in
-    let ordered : IsOrder (k ∷ reverse P) = order_rest s.0 (k ∷ reverse P) (subst (λ (R : List Link). IsOrder R) s.1 t.ordered) in
-    let keeps : Keeps E (k ∷ reverse P) = keeps_rest E s.0 (k ∷ reverse P) (subst (λ (R : List Link). Keeps E R) s.1 (keeps_of E (reverse B) t)) in
+    let ordered : IsOrder (k ∷ reverse P) = order_rest s.0 (k ∷ reverse P)
+    (subst (λ (R : List Link). IsOrder R) s.1 t.ordered) in
+    let keeps : Keeps E (k ∷ reverse P) = keeps_rest E s.0 (k ∷ reverse P)
+    (subst (λ (R : List Link). Keeps E R) s.1 (keeps_of E (reverse B) t)) in
     let n = length-reverse P in
     record {
       below =
           let here : one (k.edge == k.edge) ≡ 1 = rw (eq-eqb k.edge k.edge refl) refl in
           let c = t.covers k.edge in
-          let w : places k.edge (reverse B) ≡ places k.edge (s.0 ++ k ∷ reverse P) = ap (λ (R : List Link). places k.edge R) s.1 in
-          ltb-true k.edge (length E) (one_true (nat_lt k.edge (length E)) (omega (arith, places_append k.edge s.0 (k ∷ reverse P))));
+          let w : places k.edge (reverse B)
+          ≡ places k.edge (s.0 ++ k ∷ reverse P) = ap (λ (R : List Link). places k.edge R) s.1 in
+          ltb-true k.edge (length E)
+          (one_true (nat_lt k.edge (length E)) (omega (arith, places_append k.edge s.0 (k ∷ reverse P))));
       fresh = sym (places_reverse k.edge P) ∙ ordered.0;
-      under = λ some. let q = under_says k (reverse P) ordered.1 (omega arith) in let w = places_reverse k.parent P in omega arith;
+      under = λ some. let q = under_says k (reverse P) ordered.1 (omega arith) in let w = places_reverse k.parent P in
+          omega arith;
       keeps = λ some x within below.
           let w = below_reverse x E P in
           let q = keeps.0 x within (omega arith) in
-          let o : has x (parent_edge E k (reverse P)) ≡ has x (edge_at E k.parent) = ap (λ (z : List ℕ). has x z) (over_of E k (reverse P) (omega arith)) in
+          let o : has x (parent_edge E k (reverse P))
+          ≡ has x (edge_at E k.parent) = ap (λ (z : List ℕ). has x z) (over_of E k (reverse P) (omega arith)) in
           omega arith;
     }
 
@@ -200,11 +224,14 @@ any_none p P h = let q = ltb-false 0 (places p P) (sym (any_places p P) ∙ h) i
 
 -- the variables seen are those of the links before
 has_seen : (x n : ℕ) (seen : List ℕ) → member x seen ≡ nat_lt 0 n → (0 < has x seen → 0 < n) × (0 < n → 0 < has x seen)
-has_seen x n seen h = (λ m. ltb-true 0 n (sym h ∙ one_true (member x seen) m), λ m. from_true (member x seen) (h ∙ lt-ltb 0 n m))
+has_seen x n seen h =
+    (λ m. ltb-true 0 n (sym h ∙ one_true (member x seen) m), λ m. from_true (member x seen) (h ∙ lt-ltb 0 n m))
 
 -- the last test: what the edge shares with those before lies in its parent
-pub last_test : (E : List (List ℕ)) (P : List Link) (k : Link) (seen : List ℕ) (test : Bool) → ((x : ℕ) → member x seen ≡ nat_lt 0 (degree x (edges_of E P)))
-    → k.edge < length E → places k.edge P ≡ 0 → 0 < length P → 0 < places k.parent P → test ≡ subset (intersection (edge_at E k.edge) seen) (edge_at E k.parent) → IsTrue test ↔ Fits E P k
+pub last_test : (E : List (List ℕ)) (P : List Link) (k : Link) (seen : List ℕ) (test : Bool)
+    → ((x : ℕ) → member x seen ≡ nat_lt 0 (degree x (edges_of E P)))
+    → k.edge < length E → places k.edge P ≡ 0 → 0 < length P → 0 < places k.parent P → test
+    ≡ subset (intersection (edge_at E k.edge) seen) (edge_at E k.parent) → IsTrue test ↔ Fits E P k
 last_test E P k seen test saw below fresh some under is = (
   λ holds. record {
     below = below;
@@ -234,11 +261,16 @@ pub read_at : (E : List (List ℕ)) (p : ℕ) (e : List ℕ) → p < length E �
 read_at E p e within is = get_or_read_under E p (length E) e [] is within refl
 
 -- the variables of the links so far and of one more
-pub seen_more : (E : List (List ℕ)) (P Q : List Link) (k : Link) (old new : List ℕ) → Q ≡ P ++ k ∷ [] → ((x : ℕ) → member x old ≡ nat_lt 0 (degree x (edges_of E P)))
-    → ((x : ℕ) → member x new ≡ (member x old || member x (edge_at E k.edge))) → (x : ℕ) → member x new ≡ nat_lt 0 (degree x (edges_of E Q))
+pub seen_more : (E : List (List ℕ)) (P Q : List Link) (k : Link) (old new : List ℕ) → Q ≡ P ++ k ∷ []
+    → ((x : ℕ) → member x old ≡ nat_lt 0 (degree x (edges_of E P)))
+    → ((x : ℕ) → member x new ≡ (member x old || member x (edge_at E k.edge))) → (x : ℕ) → member x new
+    ≡ nat_lt 0 (degree x (edges_of E Q))
 seen_more E P Q k old new is saw union x =
-    let more : degree x (edges_of E Q) ≡ degree x (edges_of E P) + has x (edge_at E k.edge) = ap (λ (R : List Link). degree x (edges_of E R)) is ∙ omega (arith, below_append x E P (k ∷ [])) in
-    union x ∙ or_more (member x old) (member x (edge_at E k.edge)) (degree x (edges_of E P)) (degree x (edges_of E Q)) (saw x) more
+    let more : degree x (edges_of E Q)
+    ≡ degree x (edges_of E P) + has x (edge_at E k.edge) = ap (λ (R : List Link). degree x (edges_of E R)) is
+    ∙ omega (arith, below_append x E P (k ∷ [])) in
+    union x ∙ or_more (member x old) (member x (edge_at E k.edge)) (degree x (edges_of E P)) (degree x (edges_of E Q))
+    (saw x) more
   where
     or_more : (a b : Bool) (m n : ℕ) → a ≡ nat_lt 0 m → n ≡ m + one b → (a || b) ≡ nat_lt 0 n
     or_more true b m n e f = let some = ltb-true 0 m (sym e) in sym (lt-ltb 0 n (omega arith))
@@ -246,5 +278,7 @@ seen_more E P Q k old new is saw union x =
     or_more false false m n e f = let none = ltb-false 0 m (sym e) in sym (le-ltb 0 n (omega arith))
 
 -- the same lists under other names
-pub tree_moved : (E D : List (List ℕ)) (B C : List Link) → E ≡ D → B ≡ C → IsJoinTree E (reverse B) → IsJoinTree D (reverse C)
-tree_moved E D B C e f t = subst (λ (X : List (List ℕ)). IsJoinTree X (reverse C)) e (subst (λ (P : List Link). IsJoinTree E (reverse P)) f t)
+pub tree_moved : (E D : List (List ℕ)) (B C : List Link) → E ≡ D → B ≡ C → IsJoinTree E (reverse B)
+    → IsJoinTree D (reverse C)
+tree_moved E D B C e f t = subst (λ (X : List (List ℕ)). IsJoinTree X (reverse C)) e
+    (subst (λ (P : List Link). IsJoinTree E (reverse P)) f t)

@@ -46,7 +46,12 @@ outside (x ∷ e) f h =
           let rest : subset e f ≡ false = in_rest (member x f) (subset e f) in_f h in
           let o = outside e f rest in
           record { var = o.var; within = omega (arith, o.within, has_tail o.var x e); without = o.without }
-      | inr out_f ↦ record { var = x; within = omega (arith, has_here x x e refl); without = from_false (member x f) out_f }
+      | inr out_f ↦ record {
+        var = x;
+        within = omega (arith, has_here x x e refl);
+        without = from_false (member x f)
+            out_f;
+      }
     ]
   where
     in_rest : (a b : Bool) → a ≡ true → a && b ≡ false → b ≡ false

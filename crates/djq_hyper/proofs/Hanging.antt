@@ -1,5 +1,6 @@
 -- A join tree by its leaves: each link's edge shares with those behind it only what its parent has.
-use Rattle.std.specs.Prelude.{◌≡◌, ℕ, zero, suc, ◌+◌, ◌-◌, ◌<◌, ◌≤◌, Bool, true, false, not, ◌==◌, ◌&&◌, nat_lt, List, [], ◌∷◌, ◌++◌, map, length, take, refl}
+use Rattle.std.specs.Prelude.{◌≡◌, ℕ, zero, suc, ◌+◌, ◌-◌, ◌<◌, ◌≤◌, Bool, true, false, not, ◌==◌}
+use Rattle.std.specs.Prelude.{◌&&◌, nat_lt, List, [], ◌∷◌, ◌++◌, map, length, take, refl}
 use Rattle.std.proofs.Common.{sym, ap, ◌∙◌, subst, arith, inl, inr, lt-ltb, le-ltb, take_all}
 use Rattle.std.proofs.lemmas.Bool.{cases_lt, cases_eq, eq-eqb, ne_eqb}
 use Rattle.std.proofs.lemmas.List.{take_more}
@@ -14,7 +15,8 @@ use Rattle.djq_hyper.proofs.Counting.{count, Same, count_self, degree_same}
 -- the leaf form, for all links
 abbrev pub Keeps : List (List ℕ) → List Link → Type 0
 Keeps E [] = Unit {0}
-Keeps E (k ∷ R) = ((x : ℕ) → 0 < has x (edge_at E k.edge) → 0 < degree x (edges_of E R) → 0 < has x (parent_edge E k R)) × Keeps E R
+Keeps E (k ∷ R) = ((x : ℕ) → 0 < has x (edge_at E k.edge) → 0 < degree x (edges_of E R) → 0 < has x (parent_edge E k R))
+    × Keeps E R
 
 top_one : (a b : Bool) → one (a && not b) ≡ one a - one b
 top_one true true = refl
@@ -22,14 +24,17 @@ top_one true false = refl
 top_one false true = refl
 top_one false false = refl
 
-pub tops_step : (x : ℕ) (E : List (List ℕ)) (k : Link) (R : List Link) → tops x E (k ∷ R) ≡ (has x (edge_at E k.edge) - has x (parent_edge E k R)) + tops x E R
+pub tops_step : (x : ℕ) (E : List (List ℕ)) (k : Link) (R : List Link) → tops x E (k ∷ R)
+    ≡ (has x (edge_at E k.edge) - has x (parent_edge E k R)) + tops x E R
 tops_step x E k R = ap (λ n. n + tops x E R) (top_one (member x (edge_at E k.edge)) (member x (parent_edge E k R)))
 
-pub place_below : (p x : ℕ) (E : List (List ℕ)) (R : List Link) → 0 < places p R → 0 < has x (edge_at E p) → 0 < degree x (edges_of E R)
+pub place_below : (p x : ℕ) (E : List (List ℕ)) (R : List Link) → 0 < places p R → 0 < has x (edge_at E p)
+    → 0 < degree x (edges_of E R)
 place_below p x E [] stands within = absurd (omega arith)
 place_below p x E (k ∷ R) stands within =
     elim (cases_eq p k.edge) [
-      | inl same ↦ let s : has x (edge_at E p) ≡ has x (edge_at E k.edge) = ap (λ (q : ℕ). has x (edge_at E q)) same in omega arith
+      | inl same ↦ let s : has x (edge_at E p)
+          ≡ has x (edge_at E k.edge) = ap (λ (q : ℕ). has x (edge_at E q)) same in omega arith
       | inr apart ↦
           let here : one (p == k.edge) ≡ 0 = rw (ne_eqb p k.edge apart) refl in
           omega (arith, place_below p x E R (omega arith) within)
@@ -41,13 +46,15 @@ place_counts p E (k ∷ R) stands =
     elim (cases_eq p k.edge) [
       | inl same ↦
           let s : edge_at E k.edge ≡ edge_at E p = ap (λ (q : ℕ). edge_at E q) (sym same) in
-          subst (λ (l : List ℕ). 0 < count l (edge_at E k.edge ∷ edges_of E R)) s (count_self (edge_at E k.edge) (edges_of E R))
+          subst (λ (l : List ℕ). 0 < count l (edge_at E k.edge ∷ edges_of E R)) s
+          (count_self (edge_at E k.edge) (edges_of E R))
       | inr apart ↦
           let here : one (p == k.edge) ≡ 0 = rw (ne_eqb p k.edge apart) refl in
           omega (arith, place_counts p E R (omega arith))
     ]
 
-over_below : (x : ℕ) (E : List (List ℕ)) (k : Link) (R : List Link) → IsUnder k R → 0 < has x (parent_edge E k R) → 0 < degree x (edges_of E R)
+over_below : (x : ℕ) (E : List (List ℕ)) (k : Link) (R : List Link) → IsUnder k R → 0 < has x (parent_edge E k R)
+    → 0 < degree x (edges_of E R)
 over_below x E k [] under within = absurd (omega arith)
 over_below x E k (j ∷ R) under within = place_below k.parent x E (j ∷ R) under within
 
@@ -72,7 +79,8 @@ no_top x E (k ∷ R) none = omega (arith, tops_step x E k R, no_top x E R (omega
 pub keeps_from : (E : List (List ℕ)) (R : List Link) → IsOrder R → ((x : ℕ) → tops x E R ≤ 1) → Keeps E R
 keeps_from E [] ordered h = tt
 keeps_from E (k ∷ R) ordered h = (
-  λ x within below. let step = tops_step x E k R in let q = some_top x E R ordered.2 below in let p = h x in omega arith,
+  λ x within below. let step = tops_step x E k R in let q = some_top x E R ordered.2 below in let p = h x in omega
+      arith,
   keeps_from E R ordered.2 (λ x. let step = tops_step x E k R in let p = h x in omega arith),
 )
 
@@ -133,17 +141,22 @@ upto_take : (E : List (List ℕ)) (n : ℕ) → n ≤ length E → Same (map (λ
 upto_take E zero within a = refl
 upto_take E (suc n) within a =
     let next : suc n ≡ n + 1 = omega arith in
-    let more : take (suc n) E ≡ take n E ++ edge_at E n ∷ [] = ap (λ (m : ℕ). take m E) next ∙ take_more E n [] (omega arith) in
+    let more : take (suc n) E ≡ take n E ++ edge_at E n ∷ [] = ap (λ (m : ℕ). take m E) next
+    ∙ take_more E n [] (omega arith) in
     let q = upto_take E n (omega arith) a in
-    let w : count a (take (suc n) E) ≡ count a (take n E ++ edge_at E n ∷ []) = ap (λ (L : List (List ℕ)). count a L) more in
+    let w : count a (take (suc n) E)
+    ≡ count a (take n E ++ edge_at E n ∷ []) = ap (λ (L : List (List ℕ)). count a L) more in
     omega (arith, times_append labels a (take n E) (edge_at E n ∷ []))
 
 pub upto_same : (E : List (List ℕ)) → Same (map (λ p. edge_at E p) (upto (length E))) E
-upto_same E a = upto_take E (length E) (omega arith) a ∙ ap (λ (L : List (List ℕ)). count a L) (take_all (length E) E (omega arith))
+upto_same E a = upto_take E (length E) (omega arith) a
+    ∙ ap (λ (L : List (List ℕ)). count a L) (take_all (length E) E (omega arith))
 
-pub edges_same : (E : List (List ℕ)) (R : List Link) → ((p : ℕ) → places p R ≡ one (nat_lt p (length E))) → Same (edges_of E R) E
+pub edges_same : (E : List (List ℕ)) (R : List Link) → ((p : ℕ) → places p R ≡ one (nat_lt p (length E)))
+    → Same (edges_of E R) E
 edges_same E R covers a =
-    let spots_same : Bag numbers (spots R) (upto (length E)) = λ p. times_spots p R ∙ covers p ∙ sym (times_upto p (length E)) in
+    let spots_same : Bag numbers (spots R) (upto (length E)) = λ p. times_spots p R ∙ covers p
+    ∙ sym (times_upto p (length E)) in
     ap (λ (L : List (List ℕ)). count a L) (edges_map E R)
     ∙ map_same numbers labels (λ p. edge_at E p) (spots R) (upto (length E)) spots_same a
     ∙ upto_same E a
@@ -159,7 +172,8 @@ keeps_of E R t =
       | inr c ↦ let q = no_top x E R (omega arith) in omega arith
     ])
 
-pub join_tree_of : (E : List (List ℕ)) (R : List Link) → ((p : ℕ) → places p R ≡ one (nat_lt p (length E))) → IsOrder R → Keeps E R → IsJoinTree E R
+pub join_tree_of : (E : List (List ℕ)) (R : List Link) → ((p : ℕ) → places p R ≡ one (nat_lt p (length E))) → IsOrder R
+    → Keeps E R → IsJoinTree E R
 join_tree_of E R covers ordered keeps =
     record {
       covers = covers;

@@ -4,27 +4,37 @@ use Rattle.std.proofs.Common.{sym, ap, ◌∙◌, subst, arith, inl, inr}
 use Rattle.std.proofs.lemmas.Bool.{cases_lt, eq-eqb}
 use Rattle.djq_hyper.specs.declared.join_tree.Link.{Link}
 use Rattle.djq_hyper.specs.Hypergraph.{one, degree, edge_at}
-use Rattle.djq_hyper.specs.JoinTree.{places, parent_edge, IsUnder, IsOrder, IsJoinTree, IsRootedAt, HasJoinTree, HasJoinTreeFrom, IsFreeConnex}
+use Rattle.djq_hyper.specs.JoinTree.{places, parent_edge, IsUnder, IsOrder, IsJoinTree, IsRootedAt}
+use Rattle.djq_hyper.specs.JoinTree.{HasJoinTree, HasJoinTreeFrom, IsFreeConnex}
 use Rattle.djq_hyper.proofs.Members.{has, one_le}
 use Rattle.djq_hyper.proofs.Bags.{labels, numbers, times, times_append, times_itself, same_item, Bag, from_map, drawn}
 use Rattle.djq_hyper.proofs.Counting.{count, count_self}
 use Rattle.djq_hyper.proofs.Rooting.{Tree, Rooted}
 use Rattle.djq_hyper.proofs.Rerooting.{rerooted}
-use Rattle.djq_hyper.proofs.Hanging.{edges_of, Keeps, place_counts, spots, times_spots, edges_map, upto, times_upto, upto_same, edges_same, keeps_of, join_tree_of}
+use Rattle.djq_hyper.proofs.Hanging.{edges_of, Keeps, place_counts, spots, times_spots, edges_map}
+use Rattle.djq_hyper.proofs.Hanging.{upto, times_upto, upto_same, edges_same, keeps_of}
+use Rattle.djq_hyper.proofs.Hanging.{join_tree_of}
 
 -- ---- from links to labels
 
-over_counts : (E : List (List ℕ)) (k : Link) (R : List Link) → IsUnder k R → 0 < count (parent_edge E k R) ([] ∷ edges_of E R)
+over_counts : (E : List (List ℕ)) (k : Link) (R : List Link) → IsUnder k R
+    → 0 < count (parent_edge E k R) ([] ∷ edges_of E R)
 over_counts E k [] under = count_self [] []
 over_counts E k (j ∷ R) under = omega (arith, place_counts k.parent E (j ∷ R) under)
 
 tree_of : (E : List (List ℕ)) (R : List Link) → IsOrder R → Keeps E R → Tree [] (edges_of E R)
 tree_of E [] ordered keeps = tt
-tree_of E (k ∷ R) ordered keeps =
-    (parent_edge E k R, record { stands = over_counts E k R ordered.1; keeps = λ x within below. keeps.0 x within (omega arith) }, tree_of E R ordered.2 keeps.1)
+tree_of E (k ∷ R) ordered keeps = (
+  parent_edge E k R,
+  record
+      { stands = over_counts E k R ordered.1; keeps = λ x within below. keeps.0 x within (omega arith) },
+  tree_of E R
+      ordered.2 keeps.1,
+)
 
 pub rooted_of : (E : List (List ℕ)) (R : List Link) → IsJoinTree E R → Rooted [] E
-rooted_of E R t = record { order = edges_of E R; those = edges_same E R t.covers; tree = tree_of E R t.ordered (keeps_of E R t) }
+rooted_of E R t = record
+    { order = edges_of E R; those = edges_same E R t.covers; tree = tree_of E R t.ordered (keeps_of E R t) }
 
 -- an edge followed by the others with any join tree roots the others
 pub rooted_at : (F : List ℕ) (E : List (List ℕ)) → HasJoinTree (F ∷ E) → Rooted F E
@@ -42,24 +52,33 @@ pub record Linked (E : List (List ℕ)) (qs : List ℕ) : Type 0 where
 linked_places : (E : List (List ℕ)) (qs : List ℕ) (r : Linked E qs) (p : ℕ) → places p r.links ≡ times numbers p qs
 linked_places E qs r p = sym (times_spots p r.links) ∙ ap (λ (l : List ℕ). times numbers p l) r.stand
 
-linked_degrees : (E : List (List ℕ)) (qs : List ℕ) (r : Linked E qs) (x : ℕ) → degree x (edges_of E r.links) ≡ degree x (map (λ p. edge_at E p) qs)
-linked_degrees E qs r x = ap (λ (L : List (List ℕ)). degree x L) (edges_map E r.links ∙ ap (λ (l : List ℕ). map (λ p. edge_at E p) l) r.stand)
+linked_degrees : (E : List (List ℕ)) (qs : List ℕ) (r : Linked E qs) (x : ℕ) → degree x (edges_of E r.links)
+    ≡ degree x (map (λ p. edge_at E p) qs)
+linked_degrees E qs r x = ap (λ (L : List (List ℕ)). degree x L)
+    (edges_map E r.links ∙ ap (λ (l : List ℕ). map (λ p. edge_at E p) l) r.stand)
 
 under_from : (k : Link) (R : List Link) → (R ≡ []) ⊎ (0 < places k.parent R) → IsUnder k R
 under_from k [] h = tt
 under_from k (j ∷ R) h = elim h [ inl e ↦ absurd cc | inr s ↦ s ]
 
-over_is : (E : List (List ℕ)) (k : Link) (R : List Link) → 0 < places k.parent R → parent_edge E k R ≡ edge_at E k.parent
+over_is : (E : List (List ℕ)) (k : Link) (R : List Link) → 0 < places k.parent R → parent_edge E k R
+    ≡ edge_at E k.parent
 over_is E k [] stands = absurd (omega arith)
 over_is E k (j ∷ R) stands = refl
 
 -- any position, if there is one
 any_place : (R : List Link) → (q : ℕ) × ((R ≡ []) ⊎ (0 < places q R))
 any_place [] = (0, inl refl)
-any_place (k ∷ R) = (k.edge, inr (let here : one (k.edge == k.edge) ≡ 1 = rw (eq-eqb k.edge k.edge refl) refl in omega arith))
+any_place (k ∷ R) = (
+  k.edge,
+  inr
+      (let here : one (k.edge == k.edge) ≡ 1 = rw (eq-eqb k.edge k.edge refl) refl in omega arith),
+)
 
-link_on : (E : List (List ℕ)) (k : Link) (qs : List ℕ) (r : Linked E qs) → times numbers k.edge qs ≡ 0 → IsUnder k r.links
-    → ((x : ℕ) → 0 < has x (edge_at E k.edge) → 0 < degree x (map (λ p. edge_at E p) qs) → 0 < has x (parent_edge E k r.links)) → Linked E (k.edge ∷ qs)
+link_on : (E : List (List ℕ)) (k : Link) (qs : List ℕ) (r : Linked E qs) → times numbers k.edge qs ≡ 0
+    → IsUnder k r.links
+    → ((x : ℕ) → 0 < has x (edge_at E k.edge) → 0 < degree x (map (λ p. edge_at E p) qs)
+    → 0 < has x (parent_edge E k r.links)) → Linked E (k.edge ∷ qs)
 link_on E k qs r fresh under keep =
     record {
       links = k ∷ r.links;
@@ -69,17 +88,20 @@ link_on E k qs r fresh under keep =
     }
 
 -- the link on a position that has the label f
-link_to : (E : List (List ℕ)) (p q : ℕ) (qs : List ℕ) (r : Linked E qs) (f : List ℕ) → times numbers p qs ≡ 0 → 0 < times numbers q qs → f ≡ edge_at E q
+link_to : (E : List (List ℕ)) (p q : ℕ) (qs : List ℕ) (r : Linked E qs) (f : List ℕ) → times numbers p qs ≡ 0
+    → 0 < times numbers q qs → f ≡ edge_at E q
     → ((x : ℕ) → 0 < has x (edge_at E p) → 0 < degree x (map (λ p. edge_at E p) qs) → 0 < has x f) → Linked E (p ∷ qs)
 link_to E p q qs r f fresh stands is keep =
     let k : Link = record { edge = p; parent = q } in
     let s : 0 < places q r.links = let w = linked_places E qs r q in omega arith in
     link_on E k qs r fresh (under_from k r.links (inr s)) (λ x within below.
-    let w : has x f ≡ has x (parent_edge E k r.links) = ap (λ (z : List ℕ). has x z) (is ∙ sym (over_is E k r.links s)) in
+    let w : has x f ≡ has x (parent_edge E k r.links) = ap (λ (z : List ℕ). has x z) (is ∙ sym (over_is E k r.links s))
+    in
     let m = keep x within below in
     omega arith)
 
-link_up : (E : List (List ℕ)) (ps : List ℕ) → ((p : ℕ) → times numbers p ps ≤ 1) → Tree [] (map (λ p. edge_at E p) ps) → Linked E ps
+link_up : (E : List (List ℕ)) (ps : List ℕ) → ((p : ℕ) → times numbers p ps ≤ 1) → Tree [] (map (λ p. edge_at E p) ps)
+    → Linked E ps
 link_up E [] once t = record { links = []; stand = refl; ordered = tt; keeps = tt }
 link_up E (p ∷ ps) once t =
     let r : Linked E ps = link_up E ps (λ q. let w = once q in omega arith) t.2 in
@@ -101,13 +123,19 @@ link_up E (p ∷ ps) once t =
 
 pub join_tree_from : (E : List (List ℕ)) → Rooted [] E → HasJoinTree E
 join_tree_from E r =
-    let positions = drawn numbers labels (λ p. edge_at E p) r.order (upto (length E)) (λ a. r.those a ∙ sym (upto_same E a)) in
+    let positions = drawn numbers labels (λ p. edge_at E p) r.order (upto (length E))
+    (λ a. r.those a ∙ sym (upto_same E a)) in
     linked_up positions.0 positions.1 positions.2
   where
     linked_up : (ps : List ℕ) → Bag numbers ps (upto (length E)) → map (λ p. edge_at E p) ps ≡ r.order → HasJoinTree E
     linked_up ps those images =
-        let l : Linked E ps = link_up E ps (λ p. omega (arith, those p, times_upto p (length E), one_le (nat_lt p (length E)))) (subst (λ (L : List (List ℕ)). Tree [] L) (sym images) r.tree) in
-        (l.links, join_tree_of E l.links (λ p. linked_places E ps l p ∙ those p ∙ times_upto p (length E)) l.ordered l.keeps)
+        let l : Linked E ps = link_up E ps
+        (λ p. omega (arith, those p, times_upto p (length E), one_le (nat_lt p (length E))))
+        (subst (λ (L : List (List ℕ)). Tree [] L) (sym images) r.tree) in (
+          l.links,
+          join_tree_of E l.links (λ p. linked_places E ps l p ∙ those p ∙ times_upto p (length E)) l.ordered
+              l.keeps,
+        )
 
 -- ---- with the edge at position 0 as the root
 
@@ -122,12 +150,14 @@ root_is (k ∷ []) (p ∷ ps) q e = absurd (no_end ps q cc)
 root_is (k ∷ j ∷ R) [] q e = absurd cc
 root_is (k ∷ j ∷ R) (p ∷ ps) q e = root_is (j ∷ R) ps q cc
 
-root_degree : (x : ℕ) (F : List ℕ) (E : List (List ℕ)) (qs : List ℕ) → degree x (map (λ p. edge_at (F ∷ E) p) (qs ++ 0 ∷ [])) ≡ degree x (F ∷ map (λ p. edge_at (F ∷ E) p) qs)
+root_degree : (x : ℕ) (F : List ℕ) (E : List (List ℕ)) (qs : List ℕ)
+    → degree x (map (λ p. edge_at (F ∷ E) p) (qs ++ 0 ∷ [])) ≡ degree x (F ∷ map (λ p. edge_at (F ∷ E) p) qs)
 root_degree x F E [] = refl
 root_degree x F E (q ∷ qs) = let w = root_degree x F E qs in omega arith
 
 -- every position is put before the root's
-link_from : (F : List ℕ) (E : List (List ℕ)) (ps : List ℕ) → ((p : ℕ) → times numbers p (ps ++ 0 ∷ []) ≤ 1) → Tree F (map (λ p. edge_at (F ∷ E) p) ps) → Linked (F ∷ E) (ps ++ 0 ∷ [])
+link_from : (F : List ℕ) (E : List (List ℕ)) (ps : List ℕ) → ((p : ℕ) → times numbers p (ps ++ 0 ∷ []) ≤ 1)
+    → Tree F (map (λ p. edge_at (F ∷ E) p) ps) → Linked (F ∷ E) (ps ++ 0 ∷ [])
 link_from F E [] once t =
     record {
       links = record { edge = 0; parent = 0 } ∷ [];
@@ -141,12 +171,14 @@ link_from F E (p ∷ ps) once t =
     elim (cases_lt 0 (count t.0 (map (λ p. edge_at (F ∷ E) p) ps))) [
       | inl c ↦
           let q = from_map numbers labels (λ p. edge_at (F ∷ E) p) t.0 ps c in
-          link_to (F ∷ E) p q.0 (ps ++ 0 ∷ []) r t.0 fresh (omega (arith, q.2, times_append numbers q.0 ps (0 ∷ []))) q.1
+          link_to (F ∷ E) p q.0 (ps ++ 0 ∷ []) r t.0 fresh (omega (arith, q.2, times_append numbers q.0 ps (0 ∷ [])))
+          q.1
           (λ x within below. let w = root_degree x F E ps in t.1.keeps x within (omega arith))
       | inr c ↦
           let w = t.1.stands in
           let is_root : t.0 ≡ F = same_item labels t.0 F (omega arith) in
-          link_to (F ∷ E) p 0 (ps ++ 0 ∷ []) r t.0 fresh (omega (arith, times_append numbers 0 ps (0 ∷ []), times_itself numbers 0)) is_root
+          link_to (F ∷ E) p 0 (ps ++ 0 ∷ []) r t.0 fresh
+          (omega (arith, times_append numbers 0 ps (0 ∷ []), times_itself numbers 0)) is_root
           (λ x within below. let w = root_degree x F E ps in t.1.keeps x within (omega arith))
     ]
 
@@ -158,22 +190,38 @@ after_first (suc n) = ap (λ (l : List ℕ). suc n ∷ l) (after_first n)
 times_after : (p n : ℕ) → times numbers p (map (λ p. suc p) (upto n) ++ 0 ∷ []) ≡ one (nat_lt p (suc n))
 times_after p n = ap (λ (l : List ℕ). times numbers p l) (after_first n) ∙ times_upto p (suc n)
 
-edges_after : (F : List ℕ) (E : List (List ℕ)) (n : ℕ) → map (λ p. edge_at (F ∷ E) p) (map (λ p. suc p) (upto n)) ≡ map (λ p. edge_at E p) (upto n)
+edges_after : (F : List ℕ) (E : List (List ℕ)) (n : ℕ) → map (λ p. edge_at (F ∷ E) p) (map (λ p. suc p) (upto n))
+    ≡ map (λ p. edge_at E p) (upto n)
 edges_after F E zero = refl
 edges_after F E (suc n) = ap (λ (L : List (List ℕ)). edge_at E n ∷ L) (edges_after F E n)
 
 pub tree_at : (F : List ℕ) (E : List (List ℕ)) → Rooted F E → HasJoinTreeFrom F E
 tree_at F E r =
     let after = map (λ p. suc p) (upto (length E)) in
-    let positions = drawn numbers labels (λ p. edge_at (F ∷ E) p) r.order after (λ a. r.those a ∙ sym (upto_same E a) ∙ sym (ap (λ (L : List (List ℕ)). count a L) (edges_after F E (length E)))) in
+    let positions = drawn numbers labels (λ p. edge_at (F ∷ E) p) r.order after
+    (λ a. r.those a ∙ sym (upto_same E a)
+    ∙ sym (ap (λ (L : List (List ℕ)). count a L) (edges_after F E (length E)))) in
     linked_from positions.0 positions.1 positions.2
   where
-    linked_from : (ps : List ℕ) → Bag numbers ps (map (λ p. suc p) (upto (length E))) → map (λ p. edge_at (F ∷ E) p) ps ≡ r.order → HasJoinTreeFrom F E
+    linked_from : (ps : List ℕ) → Bag numbers ps (map (λ p. suc p) (upto (length E))) → map (λ p. edge_at (F ∷ E) p) ps
+        ≡ r.order → HasJoinTreeFrom F E
     linked_from ps those images =
         let covers : (p : ℕ) → times numbers p (ps ++ 0 ∷ []) ≡ one (nat_lt p (suc (length E))) = λ p.
-        omega (arith, those p, times_append numbers p ps (0 ∷ []), times_append numbers p (map (λ p. suc p) (upto (length E))) (0 ∷ []), times_after p (length E)) in
-        let l = link_from F E ps (λ p. omega (arith, covers p, one_le (nat_lt p (suc (length E))))) (subst (λ (L : List (List ℕ)). Tree F L) (sym images) r.tree) in
-        (l.links, join_tree_of (F ∷ E) l.links (λ p. linked_places (F ∷ E) (ps ++ 0 ∷ []) l p ∙ covers p) l.ordered l.keeps, root_is l.links ps 0 l.stand)
+        omega (
+          arith,
+          those p,
+          times_append numbers p ps (0 ∷ []),
+          times_append numbers p
+              (map (λ p. suc p) (upto (length E))) (0 ∷ []),
+          times_after p (length E),
+        ) in
+        let l = link_from F E ps (λ p. omega (arith, covers p, one_le (nat_lt p (suc (length E)))))
+        (subst (λ (L : List (List ℕ)). Tree F L) (sym images) r.tree) in (
+          l.links,
+          join_tree_of (F ∷ E) l.links (λ p. linked_places (F ∷ E) (ps ++ 0 ∷ []) l p ∙ covers p) l.ordered
+              l.keeps,
+          root_is l.links ps 0 l.stand,
+        )
 
 -- a query is free-connex where its edges have a tree below the empty root and one below its head
 pub free_connex_from : (E : List (List ℕ)) (F : List ℕ) → Rooted [] E → Rooted F E → IsFreeConnex E F

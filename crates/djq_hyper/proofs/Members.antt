@@ -1,5 +1,6 @@
 -- Membership as a number: facts about it are linear, and `omega` proves most of them.
-use Rattle.std.specs.Prelude.{◌≡◌, ℕ, ◌-◌, ◌<◌, ◌≤◌, min, max, Bool, true, false, cond, not, ◌==◌, ◌&&◌, ◌||◌, List, [], ◌∷◌, filter, refl}
+use Rattle.std.specs.Prelude.{◌≡◌, ℕ, ◌-◌, ◌<◌, ◌≤◌, min, max, Bool, true, false, cond, not, ◌==◌}
+use Rattle.std.specs.Prelude.{◌&&◌, ◌||◌, List, [], ◌∷◌, filter, refl}
 use Rattle.std.proofs.Common.{sym, ap, ◌∙◌, arith, inl, inr}
 use Rattle.std.proofs.lemmas.Bool.{cases_eq, eq-eqb, ne_eqb}
 use Rattle.djq_hyper.specs.Hypergraph.{member, subset, difference, intersection, one}
@@ -81,14 +82,16 @@ subset_says (x ∷ e) f h y =
     ]
 
 -- a filter keeps the variables that pass
-keep_step : (b : Bool) (p : ℕ → Bool) (x y : ℕ) (l : List ℕ) → b ≡ p y → has x (filter p l) ≡ min (has x l) (one (p x)) → has x (cond b (y ∷ filter p l) (filter p l)) ≡ min (has x (y ∷ l)) (one (p x))
+keep_step : (b : Bool) (p : ℕ → Bool) (x y : ℕ) (l : List ℕ) → b ≡ p y → has x (filter p l) ≡ min (has x l) (one (p x))
+    → has x (cond b (y ∷ filter p l) (filter p l)) ≡ min (has x (y ∷ l)) (one (p x))
 keep_step b p x y l e h =
     elim (cases_eq x y) [
       | inl same ↦ at_same b e same
       | inr apart ↦ at_other b (has_other x y l apart) (has_other x y (filter p l) apart)
     ]
   where
-    at_same : (b : Bool) → b ≡ p y → x ≡ y → has x (cond b (y ∷ filter p l) (filter p l)) ≡ min (has x (y ∷ l)) (one (p x))
+    at_same : (b : Bool) → b ≡ p y → x ≡ y → has x (cond b (y ∷ filter p l) (filter p l))
+        ≡ min (has x (y ∷ l)) (one (p x))
     at_same true e same =
         let q : one true ≡ one (p x) = ap one e ∙ ap (λ z. one (p z)) (sym same) in
         omega (arith, has_here x y l same, has_here x y (filter p l) same)
@@ -96,7 +99,8 @@ keep_step b p x y l e h =
         let q : one false ≡ one (p x) = ap one e ∙ ap (λ z. one (p z)) (sym same) in
         omega (arith, has_here x y l same)
 
-    at_other : (b : Bool) → has x (y ∷ l) ≡ has x l → has x (y ∷ filter p l) ≡ has x (filter p l) → has x (cond b (y ∷ filter p l) (filter p l)) ≡ min (has x (y ∷ l)) (one (p x))
+    at_other : (b : Bool) → has x (y ∷ l) ≡ has x l → has x (y ∷ filter p l) ≡ has x (filter p l)
+        → has x (cond b (y ∷ filter p l) (filter p l)) ≡ min (has x (y ∷ l)) (one (p x))
     at_other true f g = omega (arith, h)
     at_other false f g = omega (arith, h)
 

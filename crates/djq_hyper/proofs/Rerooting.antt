@@ -14,7 +14,11 @@ hang F [] t apart = tt
 hang F (e ∷ L) t apart =
     let rest : Tree F L = hang F L t.2 (λ x within. let q = apart x within in omega arith) in
     elim (cases_lt 0 (count t.0 L)) [
-      | inl c ↦ (t.0, record { stands = omega arith; keeps = λ x within below. grind (arith, apart x, t.1.keeps x) }, rest)
+      | inl c ↦ (
+        t.0,
+        record { stands = omega arith; keeps = λ x within below. grind (arith, apart x, t.1.keeps x) },
+        rest,
+      )
       | inr c ↦
           let w = t.1.stands in
           let none : t.0 ≡ [] = same_item labels t.0 [] (omega arith) in (
@@ -30,7 +34,8 @@ hang F (e ∷ L) t apart =
     ]
 
 -- the root becomes a label below a new one
-pub appended : (F f : List ℕ) (L : List (List ℕ)) → Tree f L → ((x : ℕ) → 0 < has x F → 0 < degree x (f ∷ L) → 0 < has x f) → Tree F (L ++ f ∷ [])
+pub appended : (F f : List ℕ) (L : List (List ℕ)) → Tree f L
+    → ((x : ℕ) → 0 < has x F → 0 < degree x (f ∷ L) → 0 < has x f) → Tree F (L ++ f ∷ [])
 appended F f [] t shared = (F, record { stands = count_self F []; keeps = λ x within below. omega arith }, tt)
 appended F f (e ∷ L) t shared =
     let rest : Tree F (L ++ f ∷ []) = appended F f L t.2 (λ x within below. shared x within (omega arith)) in (
@@ -85,7 +90,8 @@ reroot (g ∷ L) F E t h =
           let r = reroot L F n.rest t.2 n.left in
           let lies = λ (x : ℕ). degree_same x L (F ∷ n.rest) n.left in
           elim (cases_lt 0 (count t.0 (F ∷ n.rest))) [
-            | inl c ↦ hung_on F g t.0 E n.rest r n.right c (λ x within below. let j = lies x in t.1.keeps x within (omega arith))
+            | inl c ↦ hung_on F g t.0 E n.rest r n.right c
+                (λ x within below. let j = lies x in t.1.keeps x within (omega arith))
             | inr c ↦
                 let w = t.1.stands in
                 let j = n.left t.0 in

@@ -1,5 +1,6 @@
 -- Sets of variables as rising lists: the members tell the list.
-use Rattle.std.specs.Prelude.{◌≡◌, ◌==◌, ℕ, zero, suc, ◌<◌, true, false, List, [], ◌∷◌, length, slice_index_or, AllPairs, refl}
+use Rattle.std.specs.Prelude.{◌≡◌, ◌==◌, ℕ, zero, suc, ◌<◌, true, false, List, [], ◌∷◌, length}
+use Rattle.std.specs.Prelude.{slice_index_or, AllPairs, refl}
 use Rattle.std.proofs.Common.{ap₂, sym, ◌∙◌, inl, inr, arith}
 use Rattle.std.proofs.lemmas.Bool.{cases_Bool, cases_eq, eq-eqb, ne_eqb, eqb-true, false≢true, or_cases}
 use Rattle.djq_hyper.specs.Hypergraph.{member}
@@ -35,7 +36,8 @@ first_is x l = rw (eq-eqb x x refl) refl
 member_past : (x y : ℕ) (l : List ℕ) → (x ≡ y → ⊥) → member x (y ∷ l) ≡ member x l
 member_past x y l apart = rw (ne_eqb x y apart) refl
 
-same_first : (x y : ℕ) (xs ys : List ℕ) → Rising (x ∷ xs) → Rising (y ∷ ys) → member x (y ∷ ys) ≡ true → member y (x ∷ xs) ≡ true → x ≡ y
+same_first : (x y : ℕ) (xs ys : List ℕ) → Rising (x ∷ xs) → Rising (y ∷ ys) → member x (y ∷ ys) ≡ true
+    → member y (x ∷ xs) ≡ true → x ≡ y
 same_first x y xs ys p q a b =
     elim (cases_eq x y) [
       | inl e ↦ e
@@ -45,7 +47,8 @@ same_first x y xs ys p q a b =
           absurd (omega arith)
     ]
 
-same_rest : (x y z : ℕ) (xs ys : List ℕ) → x ≡ y → Rising (x ∷ xs) → Rising (y ∷ ys) → member z (x ∷ xs) ≡ member z (y ∷ ys) → member z xs ≡ member z ys
+same_rest : (x y z : ℕ) (xs ys : List ℕ) → x ≡ y → Rising (x ∷ xs) → Rising (y ∷ ys) → member z (x ∷ xs)
+    ≡ member z (y ∷ ys) → member z xs ≡ member z ys
 same_rest x y z xs ys e p q h =
     elim (cases_eq z x) [
       | inl is ↦ first_alone x z xs p is ∙ sym (first_alone y z ys q (is ∙ e))

@@ -25,10 +25,12 @@ pub record Rooted (F : List ℕ) (E : List (List ℕ)) : Type 0 where
   pub tree : Tree F order
 
 pub rooted_same : (F : List ℕ) (E D : List (List ℕ)) → Same E D → Rooted F E → Rooted F D
-rooted_same F E D h r = record { order = r.order; those = λ a. let p = r.those a in let q = h a in omega arith; tree = r.tree }
+rooted_same F E D h r = record
+    { order = r.order; those = λ a. let p = r.those a in let q = h a in omega arith; tree = r.tree }
 
 -- one more label is hung on
-pub hung_on : (F g f : List ℕ) (E N : List (List ℕ)) → Rooted F N → Same E (g ∷ N) → 0 < count f (F ∷ N) → ((x : ℕ) → 0 < has x g → 0 < degree x (F ∷ N) → 0 < has x f) → Rooted F E
+pub hung_on : (F g f : List ℕ) (E N : List (List ℕ)) → Rooted F N → Same E (g ∷ N) → 0 < count f (F ∷ N)
+    → ((x : ℕ) → 0 < has x g → 0 < degree x (F ∷ N) → 0 < has x f) → Rooted F E
 hung_on F g f E N r here stands keep =
     record {
       order = g ∷ r.order;
@@ -47,10 +49,12 @@ hung_on F g f E N r here stands keep =
 pub all_plugged : (F : List ℕ) (L : List (List ℕ)) → ((a : List ℕ) → 0 < count a L → Sub a F) → Rooted F L
 all_plugged F [] h = record { order = []; those = λ a. refl; tree = tt }
 all_plugged F (e ∷ L) h =
-    hung_on F e F (e ∷ L) L (all_plugged F L (λ a m. h a (omega arith))) (λ a. refl) (count_self F L) (λ x within below. let q = h e (count_self e L) x in omega arith)
+    hung_on F e F (e ∷ L) L (all_plugged F L (λ a m. h a (omega arith))) (λ a. refl) (count_self F L)
+    (λ x within below. let q = h e (count_self e L) x in omega arith)
 
 -- a label gives way to one with the same of the others' variables
-pub replaced : (F : List ℕ) (L : List (List ℕ)) (e : List ℕ) (E : List (List ℕ)) (g : List ℕ) → Tree F L → Same L (e ∷ E) → ((x : ℕ) → 0 < degree x (F ∷ E) → has x e ≡ has x g) → Rooted F (g ∷ E)
+pub replaced : (F : List ℕ) (L : List (List ℕ)) (e : List ℕ) (E : List (List ℕ)) (g : List ℕ) → Tree F L
+    → Same L (e ∷ E) → ((x : ℕ) → 0 < degree x (F ∷ E) → has x e ≡ has x g) → Rooted F (g ∷ E)
 replaced F [] e E g t h agree = absurd (omega (arith, h e, count_self e E))
 replaced F (a ∷ L) e E g t h agree =
     elim (two_heads labels a e L E h) [
@@ -66,7 +70,8 @@ replaced F (a ∷ L) e E g t h agree =
       | inr n ↦
           let lies = λ (x : ℕ). degree_same x E (a ∷ n.rest) n.right in
           let lies_left = λ (x : ℕ). degree_same x L (e ∷ n.rest) n.left in
-          let r : Rooted F (g ∷ n.rest) = replaced F L e n.rest g t.2 n.left (λ x below. let j = lies x in agree x (omega arith)) in
+          let r : Rooted F (g ∷ n.rest) = replaced F L e n.rest g t.2 n.left
+          (λ x below. let j = lies x in agree x (omega arith)) in
           let here : Same (g ∷ E) (a ∷ g ∷ n.rest) = λ d. let q = n.right d in omega arith in
           elim (cases_lt 0 (count t.0 (F ∷ n.rest))) [
             | inl c ↦
@@ -92,7 +97,8 @@ replaced F (a ∷ L) e E g t h agree =
     ]
 
 -- a label that lies within the root or within another label is taken out
-pub deleted : (F : List ℕ) (L : List (List ℕ)) (e : List ℕ) (E : List (List ℕ)) (g : List ℕ) → Tree F L → Same L (e ∷ E) → Sub e g → 0 < count g (F ∷ E) → Rooted F E
+pub deleted : (F : List ℕ) (L : List (List ℕ)) (e : List ℕ) (E : List (List ℕ)) (g : List ℕ) → Tree F L → Same L (e ∷ E)
+    → Sub e g → 0 < count g (F ∷ E) → Rooted F E
 deleted F [] e E g t h inside there = absurd (omega (arith, h e, count_self e E))
 deleted F (a ∷ L) e E g t h inside there =
     elim (two_heads labels a e L E h) [
@@ -103,7 +109,8 @@ deleted F (a ∷ L) e E g t h inside there =
             | inl c ↦
                 let r = deleted F L e n.rest g t.2 n.left inside c in
                 elim (cases_lt 0 (count t.0 (F ∷ n.rest))) [
-                  | inl d ↦ hung_on F a t.0 E n.rest r n.right d (λ x within below. let j = lies x in t.1.keeps x within (omega arith))
+                  | inl d ↦ hung_on F a t.0 E n.rest r n.right d
+                      (λ x within below. let j = lies x in t.1.keeps x within (omega arith))
                   | inr d ↦
                       let w = t.1.stands in
                       let j = n.left t.0 in
@@ -164,7 +171,8 @@ pub record Inner (E : List (List ℕ)) : Type 0 where
   pub inside : Sub label over
 
 -- a tree has a step unless all its labels lie in the root
-pub progress : (F : List ℕ) (L : List (List ℕ)) → Tree F L → ((a : List ℕ) → 0 < count a L → Sub a F) ⊎ (Own F L ⊎ Inner L)
+pub progress : (F : List ℕ) (L : List (List ℕ)) → Tree F L
+    → ((a : List ℕ) → 0 < count a L → Sub a F) ⊎ (Own F L ⊎ Inner L)
 progress F [] t = inl (λ a m. absurd (omega arith))
 progress F (e ∷ L) t =
     elim (cases_Bool (subset e F)) [
@@ -236,12 +244,14 @@ progress F (e ∷ L) t =
 
 -- ---- the steps, both ways
 
-pub trimmed : (F e X : List ℕ) (N : List (List ℕ)) → ((x : ℕ) → 0 < has x X → degree x (F ∷ N) ≡ 0) → Rooted F (e ∷ N) → Rooted F (difference e X ∷ N)
+pub trimmed : (F e X : List ℕ) (N : List (List ℕ)) → ((x : ℕ) → 0 < has x X → degree x (F ∷ N) ≡ 0) → Rooted F (e ∷ N)
+    → Rooted F (difference e X ∷ N)
 trimmed F e X N own r =
     replaced F r.order e N (difference e X) r.tree r.those
     (λ x below. let w = has_difference x e X in grind (arith, own x, one_le (member x e)))
 
-pub untrimmed : (F e X : List ℕ) (N : List (List ℕ)) → ((x : ℕ) → 0 < has x X → degree x (F ∷ N) ≡ 0) → Rooted F (difference e X ∷ N) → Rooted F (e ∷ N)
+pub untrimmed : (F e X : List ℕ) (N : List (List ℕ)) → ((x : ℕ) → 0 < has x X → degree x (F ∷ N) ≡ 0)
+    → Rooted F (difference e X ∷ N) → Rooted F (e ∷ N)
 untrimmed F e X N own r =
     replaced F r.order (difference e X) N e r.tree r.those
     (λ x below. let w = has_difference x e X in grind (arith, own x, one_le (member x e)))

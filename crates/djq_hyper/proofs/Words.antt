@@ -1,5 +1,8 @@
 -- The operations on words are those on sets of variables.
-use Rattle.std.specs.Prelude.{◌≡◌, ◌≢◌, ℕ, zero, suc, ◌+◌, ◌-◌, ◌*◌, ◌/◌, ◌%◌, ◌^◌, ◌<◌, ◌≤◌, min, max, Bool, true, false, cond, not, ◌==◌, ◌&&◌, ◌||◌, nat_eq, nat_lt, List, [], ◌∷◌, length, filter, slice_get, All, Some, bit_and, bit_or, refl}
+use Rattle.std.specs.Prelude.{◌≡◌, ◌≢◌, ℕ, zero, suc, ◌+◌, ◌-◌, ◌*◌, ◌/◌, ◌%◌, ◌^◌, ◌<◌, ◌≤◌, min}
+use Rattle.std.specs.Prelude.{max, Bool, true, false, cond, not, ◌==◌, ◌&&◌, ◌||◌, nat_eq, nat_lt}
+use Rattle.std.specs.Prelude.{List, [], ◌∷◌, length, filter, slice_get, All, Some, bit_and, bit_or}
+use Rattle.std.specs.Prelude.{refl}
 use Rattle.std.specs.Int.{bit_at, trailing_zeros, w128 as word}
 use Rattle.std.specs.List.{range_with_len}
 use Rattle.std.specs.List.Sorted.{IsStrictlyIncreasing}
@@ -10,7 +13,10 @@ use Rattle.std.proofs.Common.{sym, ap, ◌∙◌, arith, inl, inr, shr-shr, pow-
 use Rattle.std.proofs.lemmas.Bool.{cases_lt, cases_eq, cases_Bool, eq-eqb, ne_eqb, le-ltb}
 use Rattle.std.proofs.lemmas.Nat.{or_lt, and_le_l}
 use Rattle.std.specs.Int.Count.{ones, ones_step}
-use Rattle.std.proofs.lemmas.Nat.Bits.{bit_at-zero, bit_at-lt, bit_at_and, bit_at_or, bit_at_not, bit_at_above, same_from_bits, shr_and_one, bit_at-trailing_zeros, bit_at_set_same, bit_at_set_other, bit_at_clear_same, bit_at_clear_other}
+use Rattle.std.proofs.lemmas.Nat.Bits.{bit_at-zero, bit_at-lt, bit_at_and, bit_at_or, bit_at_not}
+use Rattle.std.proofs.lemmas.Nat.Bits.{bit_at_above, same_from_bits, shr_and_one}
+use Rattle.std.proofs.lemmas.Nat.Bits.{bit_at-trailing_zeros, bit_at_set_same, bit_at_set_other}
+use Rattle.std.proofs.lemmas.Nat.Bits.{bit_at_clear_same, bit_at_clear_other}
 use Rattle.djq_hyper.specs.Hypergraph.{member, subset, difference, intersection, one}
 use Rattle.djq_hyper.specs.declared.var_set.TheConstants.{VARIABLES}
 use Rattle.djq_hyper.specs.Masks.{variables_of, has_variables, has}
@@ -33,7 +39,9 @@ word_empty n l e fits =
       | inr some ↦
           elim (cases_eq (length l) 0) [
             | inl none ↦
-                absurd (some (same_from_bits n 0 (λ x. sym (has_variables x n fits) ∙ ap (λ k. has x k) e ∙ length_none l none x ∙ sym (bit_at-zero x))))
+                absurd (some (same_from_bits n 0
+                (λ x. sym (has_variables x n fits) ∙ ap (λ k. has x k) e ∙ length_none l none x
+                ∙ sym (bit_at-zero x))))
             | inr more ↦ rw (ne_eqb n 0 some, ne_eqb (length l) 0 more) refl
           ]
     ]
@@ -44,43 +52,51 @@ bit_test : (d : ℕ) (b : Bool) → one b ≡ d → (d == 1) ≡ b
 bit_test d true e = rw (← e) refl
 bit_test d false e = rw (← e) refl
 
-pub word_member : (n x : ℕ) (l : List ℕ) → variables_of n ≡ l → n < 2 ^ VARIABLES → nat_eq (bit_and (n / 2 ^ x) 1) 1 ≡ member x l
+pub word_member : (n x : ℕ) (l : List ℕ) → variables_of n ≡ l → n < 2 ^ VARIABLES → nat_eq (bit_and (n / 2 ^ x) 1) 1
+    ≡ member x l
 word_member n x l e fits =
     let h : one (member x l) ≡ bit_at n x = ap (λ k. has x k) (sym e) ∙ has_variables x n fits in
     rw (shr_and_one n x) (bit_test (bit_at n x) (member x l) h)
 
-pub word_above : (n x : ℕ) (l : List ℕ) → variables_of n ≡ l → n < 2 ^ VARIABLES → VARIABLES ≤ x → nat_lt x VARIABLES ≡ member x l
+pub word_above : (n x : ℕ) (l : List ℕ) → variables_of n ≡ l → n < 2 ^ VARIABLES → VARIABLES ≤ x → nat_lt x VARIABLES
+    ≡ member x l
 word_above n x l e fits above =
     let h : one (member x l) ≡ bit_at n x = ap (λ k. has x k) (sym e) ∙ has_variables x n fits in
     rw (le-ltb x VARIABLES above) (sym (one_false (member x l) (h ∙ bit_at_above n VARIABLES x fits above)))
 
 -- ---- containment
 
-pub word_subset : (m n : ℕ) (a b : List ℕ) → variables_of m ≡ a → variables_of n ≡ b → m < 2 ^ VARIABLES → n < 2 ^ VARIABLES → nat_eq (bit_and m n) m ≡ subset a b
+pub word_subset : (m n : ℕ) (a b : List ℕ) → variables_of m ≡ a → variables_of n ≡ b → m < 2 ^ VARIABLES
+    → n < 2 ^ VARIABLES → nat_eq (bit_and m n) m ≡ subset a b
 word_subset m n a b e f fits_m fits_n =
     let of_a = λ (x : ℕ). sym (ap (λ k. has x k) e) ∙ has_variables x m fits_m in
     let of_b = λ (x : ℕ). sym (ap (λ k. has x k) f) ∙ has_variables x n fits_n in
     elim (cases_eq (bit_and m n) m) [
       | inl same ↦
-          let s : subset a b ≡ true = subset_from a b (λ x. omega (arith, of_a x, of_b x, bit_at_and m n x, ap (λ k. bit_at k x) same)) in
+          let s : subset a b ≡ true = subset_from a b
+          (λ x. omega (arith, of_a x, of_b x, bit_at_and m n x, ap (λ k. bit_at k x) same)) in
           rw (eq-eqb (bit_and m n) m same, s) refl
       | inr apart ↦
           elim (cases_Bool (subset a b)) [
             | inl holds ↦
-                absurd (apart (same_from_bits (bit_and m n) m (λ x. omega (arith, of_a x, of_b x, bit_at_and m n x, subset_says a b holds x))))
+                absurd (apart (same_from_bits (bit_and m n) m
+                (λ x. omega (arith, of_a x, of_b x, bit_at_and m n x, subset_says a b holds x))))
             | inr fails ↦ rw (ne_eqb (bit_and m n) m apart, fails) refl
           ]
     ]
 
 -- ---- one filter after another
 
-twice_step : (q r : Bool) (p : ℕ → Bool) (a : ℕ) (Q R : List ℕ) → r ≡ (q && p a) → R ≡ filter p Q → cond r (a ∷ R) R ≡ filter p (cond q (a ∷ Q) Q)
+twice_step : (q r : Bool) (p : ℕ → Bool) (a : ℕ) (Q R : List ℕ) → r ≡ (q && p a) → R ≡ filter p Q → cond r (a ∷ R) R
+    ≡ filter p (cond q (a ∷ Q) Q)
 twice_step true r p a Q R e f = rw (e, f) refl
 twice_step false r p a Q R e f = rw e f
 
-filter_twice : (p q r : ℕ → Bool) (a n : ℕ) → ((x : ℕ) → x < a + n → r x ≡ (q x && p x)) → filter r (range_with_len a n) ≡ filter p (filter q (range_with_len a n))
+filter_twice : (p q r : ℕ → Bool) (a n : ℕ) → ((x : ℕ) → x < a + n → r x ≡ (q x && p x)) → filter r (range_with_len a n)
+    ≡ filter p (filter q (range_with_len a n))
 filter_twice p q r a zero h = refl
-filter_twice p q r a (suc n) h = twice_step (q a) (r a) p a (filter q (range_with_len (a + 1) n)) (filter r (range_with_len (a + 1) n)) (h a (omega arith)) (filter_twice p q r (a + 1) n (λ x k. h x (omega arith)))
+filter_twice p q r a (suc n) h = twice_step (q a) (r a) p a (filter q (range_with_len (a + 1) n))
+    (filter r (range_with_len (a + 1) n)) (h a (omega arith)) (filter_twice p q r (a + 1) n (λ x k. h x (omega arith)))
 
 difference_bit : (b c d : ℕ) (e : Bool) → b < 2 → one e ≡ c → d ≡ min b (1 - c) → (d == 1) ≡ ((b == 1) && not e)
 difference_bit zero c d e low f g = let k : d ≡ 0 = omega arith in rw k refl
@@ -95,28 +111,41 @@ intersection_bit (suc zero) c d false low f g = let k : d ≡ 0 = omega arith in
 intersection_bit (suc (suc b)) c d e low f g = absurd (omega arith)
 
 -- k is m without the variables of b
-difference_word : (k m : ℕ) (b : List ℕ) → ((x : ℕ) → x < VARIABLES → bit_at k x ≡ min (bit_at m x) (1 - has x b)) → variables_of k ≡ difference (variables_of m) b
+difference_word : (k m : ℕ) (b : List ℕ) → ((x : ℕ) → x < VARIABLES → bit_at k x ≡ min (bit_at m x) (1 - has x b))
+    → variables_of k ≡ difference (variables_of m) b
 unfolding variables_of
 difference_word k m b h =
     filter_twice (λ x. not (member x b)) (λ x. bit_at m x == 1) (λ x. bit_at k x == 1) 0 VARIABLES
     (λ x low. difference_bit (bit_at m x) (has x b) (bit_at k x) (member x b) (bit_at-lt m x) refl (h x (omega arith)))
 
-intersection_word : (k m : ℕ) (b : List ℕ) → ((x : ℕ) → x < VARIABLES → bit_at k x ≡ min (bit_at m x) (has x b)) → variables_of k ≡ intersection (variables_of m) b
+intersection_word : (k m : ℕ) (b : List ℕ) → ((x : ℕ) → x < VARIABLES → bit_at k x ≡ min (bit_at m x) (has x b))
+    → variables_of k ≡ intersection (variables_of m) b
 unfolding variables_of
 intersection_word k m b h =
     filter_twice (λ x. member x b) (λ x. bit_at m x == 1) (λ x. bit_at k x == 1) 0 VARIABLES
-    (λ x low. intersection_bit (bit_at m x) (has x b) (bit_at k x) (member x b) (bit_at-lt m x) refl (h x (omega arith)))
+    (λ x low. intersection_bit (bit_at m x) (has x b) (bit_at k x) (member x b) (bit_at-lt m x) refl
+    (h x (omega arith)))
 
-pub word_difference : (m n : ℕ) (a b : List ℕ) → variables_of m ≡ a → variables_of n ≡ b → m < 2 ^ VARIABLES → n < 2 ^ VARIABLES → variables_of (bit_and m (2 ^ VARIABLES - 1 - n)) ≡ difference a b
+pub word_difference : (m n : ℕ) (a b : List ℕ) → variables_of m ≡ a → variables_of n ≡ b → m < 2 ^ VARIABLES
+    → n < 2 ^ VARIABLES → variables_of (bit_and m (2 ^ VARIABLES - 1 - n)) ≡ difference a b
 word_difference m n a b e f fits_m fits_n =
     rw (← e) (difference_word (bit_and m (2 ^ VARIABLES - 1 - n)) m b
-    (λ x low. omega (arith, bit_at_and m (2 ^ VARIABLES - 1 - n) x, bit_at_not word n x fits_n low, sym (ap (λ k. has x k) f) ∙ has_variables x n fits_n)))
+    (λ x low. omega (
+      arith,
+      bit_at_and m (2 ^ VARIABLES - 1 - n) x,
+      bit_at_not word n x fits_n low,
+      sym
+          (ap (λ k. has x k) f) ∙ has_variables x n fits_n,
+    )))
 
-pub word_intersection : (m n : ℕ) (a b : List ℕ) → variables_of m ≡ a → variables_of n ≡ b → m < 2 ^ VARIABLES → n < 2 ^ VARIABLES → variables_of (bit_and m n) ≡ intersection a b
+pub word_intersection : (m n : ℕ) (a b : List ℕ) → variables_of m ≡ a → variables_of n ≡ b → m < 2 ^ VARIABLES
+    → n < 2 ^ VARIABLES → variables_of (bit_and m n) ≡ intersection a b
 word_intersection m n a b e f fits_m fits_n =
-    rw (← e) (intersection_word (bit_and m n) m b (λ x low. omega (arith, bit_at_and m n x, sym (ap (λ k. has x k) f) ∙ has_variables x n fits_n)))
+    rw (← e) (intersection_word (bit_and m n) m b
+    (λ x low. omega (arith, bit_at_and m n x, sym (ap (λ k. has x k) f) ∙ has_variables x n fits_n)))
 
-pub word_without : (m v : ℕ) (a : List ℕ) → variables_of m ≡ a → m < 2 ^ VARIABLES → v < VARIABLES → variables_of (bit_and m (2 ^ VARIABLES - 1 - 1 * 2 ^ v % 2 ^ VARIABLES)) ≡ difference a (v ∷ [])
+pub word_without : (m v : ℕ) (a : List ℕ) → variables_of m ≡ a → m < 2 ^ VARIABLES → v < VARIABLES
+    → variables_of (bit_and m (2 ^ VARIABLES - 1 - 1 * 2 ^ v % 2 ^ VARIABLES)) ≡ difference a (v ∷ [])
 word_without m v a e fits within =
     rw (← e) (difference_word (bit_and m (2 ^ VARIABLES - 1 - 1 * 2 ^ v % 2 ^ VARIABLES)) m (v ∷ [])
     (λ x low.
@@ -139,12 +168,21 @@ or_test true false c h = same_one c true h
 or_test false true c h = same_one c true h
 or_test false false c h = same_one c false h
 
-pub word_union : (m n : ℕ) (a b : List ℕ) → variables_of m ≡ a → variables_of n ≡ b → m < 2 ^ VARIABLES → n < 2 ^ VARIABLES → (x : ℕ) → member x (variables_of (bit_or m n)) ≡ (member x a || member x b)
+pub word_union : (m n : ℕ) (a b : List ℕ) → variables_of m ≡ a → variables_of n ≡ b → m < 2 ^ VARIABLES
+    → n < 2 ^ VARIABLES → (x : ℕ) → member x (variables_of (bit_or m n)) ≡ (member x a || member x b)
 word_union m n a b e f fits_m fits_n x =
     or_test (member x a) (member x b) (member x (variables_of (bit_or m n)))
-    (omega (arith, has_variables x (bit_or m n) (word_fits m n fits_m fits_n), bit_at_or m n x, sym (ap (λ k. has x k) e) ∙ has_variables x m fits_m, sym (ap (λ k. has x k) f) ∙ has_variables x n fits_n))
+    (omega (
+      arith,
+      has_variables x (bit_or m n) (word_fits m n fits_m fits_n),
+      bit_at_or m n x,
+      sym
+          (ap (λ k. has x k) e) ∙ has_variables x m fits_m,
+      sym (ap (λ k. has x k) f) ∙ has_variables x n fits_n,
+    ))
 
-pub word_insert : (m v : ℕ) (a : List ℕ) → variables_of m ≡ a → m < 2 ^ VARIABLES → v < VARIABLES → (x : ℕ) → member x (variables_of (bit_or m (1 * 2 ^ v % 2 ^ VARIABLES))) ≡ ((x == v) || member x a)
+pub word_insert : (m v : ℕ) (a : List ℕ) → variables_of m ≡ a → m < 2 ^ VARIABLES → v < VARIABLES → (x : ℕ)
+    → member x (variables_of (bit_or m (1 * 2 ^ v % 2 ^ VARIABLES))) ≡ ((x == v) || member x a)
 word_insert m v a e fits within x =
     let k = bit_or m (1 * 2 ^ v % 2 ^ VARIABLES) in
     let of_k : has x (variables_of k) ≡ bit_at k x = has_variables x k (word_insert_fits m v fits) in
@@ -164,7 +202,8 @@ step_length zero x l low = omega arith
 step_length (suc zero) x l low = omega arith
 step_length (suc (suc d)) x l low = absurd (omega arith)
 
-count_from : (d a m n : ℕ) → m ≡ n / 2 ^ a → m < 2 ^ d → ones m ≡ length (filter (λ x. bit_at n x == 1) (range_with_len a d))
+count_from : (d a m n : ℕ) → m ≡ n / 2 ^ a → m < 2 ^ d → ones m
+    ≡ length (filter (λ x. bit_at n x == 1) (range_with_len a d))
 unfolding ones
 count_from zero a m n e fits =
     let none : m ≡ 0 = omega arith in
@@ -173,14 +212,20 @@ count_from (suc d) a m n e fits =
     let half : m / 2 ≡ n / 2 ^ (a + 1) = ap (λ (k : ℕ). k / 2) e ∙ shr-shr n a 1 in
     let low : m % 2 ≡ bit_at n a = ap (λ (k : ℕ). k % 2) e in
     let rest = count_from d (a + 1) (m / 2) n half (omega (arith, pow-suc 2 d)) in
-    omega (arith, ones_step m, step_length (bit_at n a) a (filter (λ x. bit_at n x == 1) (range_with_len (a + 1) d)) (bit_at-lt n a))
+    omega (
+      arith,
+      ones_step m,
+      step_length (bit_at n a) a (filter (λ x. bit_at n x == 1) (range_with_len (a + 1) d))
+          (bit_at-lt n a),
+    )
 
 pub word_length : (n : ℕ) (l : List ℕ) → variables_of n ≡ l → n < 2 ^ VARIABLES → ones n ≡ length l
 unfolding variables_of
 word_length n l e fits = count_from VARIABLES 0 n n (sym (div-one n)) fits ∙ ap length e
 
 -- a filter of a range that begins with k numbers that don't pass
-pass_over : (p : ℕ → Bool) (a k n m : ℕ) → m ≡ k + n → ((x : ℕ) → a ≤ x → x < a + k → p x ≡ false) → filter p (range_with_len a m) ≡ filter p (range_with_len (a + k) n)
+pass_over : (p : ℕ → Bool) (a k n m : ℕ) → m ≡ k + n → ((x : ℕ) → a ≤ x → x < a + k → p x ≡ false)
+    → filter p (range_with_len a m) ≡ filter p (range_with_len (a + k) n)
 pass_over p a zero n m e h =
     let f : m ≡ n = omega arith in
     let g : a + 0 ≡ a = omega arith in
@@ -188,29 +233,39 @@ pass_over p a zero n m e h =
 pass_over p a (suc k) n m e h =
     let f : m ≡ suc (k + n) = omega arith in
     let g : a + suc k ≡ a + 1 + k = omega arith in
-    rw (f, h a (omega arith) (omega arith), g) (pass_over p (a + 1) k n (k + n) refl (λ x i j. h x (omega arith) (omega arith)))
+    rw (f, h a (omega arith) (omega arith), g)
+    (pass_over p (a + 1) k n (k + n) refl (λ x i j. h x (omega arith) (omega arith)))
 
-filter_alike : (p q : ℕ → Bool) (a n : ℕ) → ((x : ℕ) → a ≤ x → p x ≡ q x) → filter p (range_with_len a n) ≡ filter q (range_with_len a n)
+filter_alike : (p q : ℕ → Bool) (a n : ℕ) → ((x : ℕ) → a ≤ x → p x ≡ q x) → filter p (range_with_len a n)
+    ≡ filter q (range_with_len a n)
 filter_alike p q a zero h = refl
 filter_alike p q a (suc n) h = rw (h a (omega arith), filter_alike p q (a + 1) n (λ x i. h x (omega arith))) refl
 
 -- the lowest variable t, and the word k without it
-split_at_lowest : (n k t : ℕ) → t < VARIABLES → bit_at n t ≡ 1 → ((x : ℕ) → x < t → bit_at n x ≡ 0) → bit_at k t ≡ 0 → ((x : ℕ) → x < VARIABLES → x ≢ t → bit_at k x ≡ bit_at n x) → n < 2 ^ VARIABLES → k < 2 ^ VARIABLES → variables_of n ≡ t ∷ variables_of k
+split_at_lowest : (n k t : ℕ) → t < VARIABLES → bit_at n t ≡ 1 → ((x : ℕ) → x < t → bit_at n x ≡ 0) → bit_at k t ≡ 0
+    → ((x : ℕ) → x < VARIABLES → x ≢ t → bit_at k x ≡ bit_at n x) → n < 2 ^ VARIABLES → k < 2 ^ VARIABLES
+    → variables_of n ≡ t ∷ variables_of k
 unfolding variables_of
 split_at_lowest n k t within here below gone others fits_n fits_k =
     let p : ℕ → Bool = λ x. bit_at n x == 1 in
     let q : ℕ → Bool = λ x. bit_at k x == 1 in
     let room : VARIABLES ≡ t + suc (VARIABLES - 1 - t) = omega arith in
     let room' : VARIABLES ≡ suc t + (VARIABLES - 1 - t) = omega arith in
-    let start : filter p (range_with_len 0 VARIABLES) ≡ filter p (range_with_len (0 + t) (suc (VARIABLES - 1 - t))) = pass_over p 0 t (suc (VARIABLES - 1 - t)) VARIABLES room (λ x i j. ap (λ (d : ℕ). d == 1) (below x (omega arith))) in
-    let after : filter q (range_with_len 0 VARIABLES) ≡ filter q (range_with_len (0 + suc t) (VARIABLES - 1 - t)) = pass_over q 0 (suc t) (VARIABLES - 1 - t) VARIABLES room' (λ x i j. ap (λ (d : ℕ). d == 1) (gone_at x (omega arith))) in
+    let start : filter p (range_with_len 0 VARIABLES)
+    ≡ filter p (range_with_len (0 + t) (suc (VARIABLES - 1 - t))) = pass_over p 0 t (suc (VARIABLES - 1 - t))
+    VARIABLES room (λ x i j. ap (λ (d : ℕ). d == 1) (below x (omega arith))) in
+    let after : filter q (range_with_len 0 VARIABLES)
+    ≡ filter q (range_with_len (0 + suc t) (VARIABLES - 1 - t)) = pass_over q 0 (suc t) (VARIABLES - 1 - t)
+    VARIABLES room' (λ x i j. ap (λ (d : ℕ). d == 1) (gone_at x (omega arith))) in
     let from_t : 0 + t ≡ t = omega arith in
     let from_next : 0 + suc t ≡ t + 1 = omega arith in
     start ∙ ap (λ (a : ℕ). filter p (range_with_len a (suc (VARIABLES - 1 - t)))) from_t ∙ here_is
-    ∙ ap (λ (l : List ℕ). t ∷ l) (sym (after ∙ ap (λ (a : ℕ). filter q (range_with_len a (VARIABLES - 1 - t))) from_next))
+    ∙ ap (λ (l : List ℕ). t ∷ l)
+    (sym (after ∙ ap (λ (a : ℕ). filter q (range_with_len a (VARIABLES - 1 - t))) from_next))
   where
     gone_at : (x : ℕ) → x ≤ t → bit_at k x ≡ 0
-    gone_at x i = elim (cases_eq x t) [ inl same ↦ rw same gone | inr apart ↦ others x (omega arith) apart ∙ below x (omega arith) ]
+    gone_at x i = elim (cases_eq x t)
+        [ inl same ↦ rw same gone | inr apart ↦ others x (omega arith) apart ∙ below x (omega arith) ]
 
     bits_same : (x : ℕ) → t + 1 ≤ x → bit_at n x ≡ bit_at k x
     bits_same x i =
@@ -219,18 +274,25 @@ split_at_lowest n k t within here below gone others fits_n fits_k =
           | inr high ↦ bit_at_above n VARIABLES x fits_n high ∙ sym (bit_at_above k VARIABLES x fits_k high)
         ]
 
-    here_is : filter (λ x. bit_at n x == 1) (range_with_len t (suc (VARIABLES - 1 - t))) ≡ t ∷ filter (λ x. bit_at k x == 1) (range_with_len (t + 1) (VARIABLES - 1 - t))
+    here_is : filter (λ x. bit_at n x == 1) (range_with_len t (suc (VARIABLES - 1 - t)))
+        ≡ t ∷ filter (λ x. bit_at k x == 1) (range_with_len (t + 1) (VARIABLES - 1 - t))
     here_is =
-        rw here (ap (λ (l : List ℕ). t ∷ l) (filter_alike (λ x. bit_at n x == 1) (λ x. bit_at k x == 1) (t + 1) (VARIABLES - 1 - t) (λ x i. ap (λ (d : ℕ). d == 1) (bits_same x i))))
+        rw here (ap (λ (l : List ℕ). t ∷ l)
+        (filter_alike (λ x. bit_at n x == 1) (λ x. bit_at k x == 1) (t + 1) (VARIABLES - 1 - t)
+        (λ x i. ap (λ (d : ℕ). d == 1) (bits_same x i))))
 
-pub word_split : (n t : ℕ) (l : List ℕ) → variables_of n ≡ l → n < 2 ^ VARIABLES → 0 < n → t ≡ trailing_zeros word n → l ≡ t ∷ variables_of (bit_and n (2 ^ VARIABLES - 1 - 1 * 2 ^ t % 2 ^ VARIABLES))
+pub word_split : (n t : ℕ) (l : List ℕ) → variables_of n ≡ l → n < 2 ^ VARIABLES → 0 < n → t ≡ trailing_zeros word n → l
+    ≡ t ∷ variables_of (bit_and n (2 ^ VARIABLES - 1 - 1 * 2 ^ t % 2 ^ VARIABLES))
 word_split n t l e fits some is =
     let lowest = bit_at-trailing_zeros word n some fits in
     let within : t < VARIABLES = rw is lowest.0 in
     let k = bit_and n (2 ^ VARIABLES - 1 - 1 * 2 ^ t % 2 ^ VARIABLES) in
-    sym e ∙ split_at_lowest n k t within (rw is lowest.1) (λ x i. lowest.2 x (rw (← is) i)) (bit_at_clear_same word n t within) (bit_at_clear_other word n t within) fits (lt_of_le_of_lt (and_le_l n (2 ^ VARIABLES - 1 - 1 * 2 ^ t % 2 ^ VARIABLES)) fits)
+    sym e ∙ split_at_lowest n k t within (rw is lowest.1) (λ x i. lowest.2 x (rw (← is) i))
+    (bit_at_clear_same word n t within) (bit_at_clear_other word n t within) fits
+    (lt_of_le_of_lt (and_le_l n (2 ^ VARIABLES - 1 - 1 * 2 ^ t % 2 ^ VARIABLES)) fits)
 
-pub word_first : (n t : ℕ) (l : List ℕ) → variables_of n ≡ l → n < 2 ^ VARIABLES → 0 < n → t ≡ trailing_zeros word n → Some t ≡ slice_get l 0
+pub word_first : (n t : ℕ) (l : List ℕ) → variables_of n ≡ l → n < 2 ^ VARIABLES → 0 < n → t ≡ trailing_zeros word n
+    → Some t ≡ slice_get l 0
 word_first n t l e fits some is = rw (word_split n t l e fits some is) refl
 
 pub word_none : (n : ℕ) (l : List ℕ) → variables_of n ≡ l → n ≡ 0 → l ≡ []
@@ -250,8 +312,11 @@ range_below a n b low k d within =
 
 pub word_rises : (n : ℕ) (l : List ℕ) → variables_of n ≡ l → IsStrictlyIncreasing l
 unfolding variables_of
-word_rises n l e = rw (← e) (IsStrictlyIncreasing-filter (λ x. bit_at n x == 1) (range_with_len 0 VARIABLES) (range_rises 0 VARIABLES))
+word_rises n l e = rw (← e)
+    (IsStrictlyIncreasing-filter (λ x. bit_at n x == 1) (range_with_len 0 VARIABLES) (range_rises 0 VARIABLES))
 
 pub word_below : (n : ℕ) (l : List ℕ) → variables_of n ≡ l → All (λ x. x < VARIABLES) l
 unfolding variables_of
-word_below n l e = rw (← e) (All-filter (λ x. bit_at n x == 1) (λ x. x < VARIABLES) (range_with_len 0 VARIABLES) (range_below 0 VARIABLES VARIABLES (omega arith)))
+word_below n l e = rw (← e)
+    (All-filter (λ x. bit_at n x == 1) (λ x. x < VARIABLES) (range_with_len 0 VARIABLES)
+    (range_below 0 VARIABLES VARIABLES (omega arith)))

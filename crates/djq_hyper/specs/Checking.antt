@@ -9,4 +9,5 @@ pub record Fits (E : List (List ℕ)) (before : List Link) (k : Link) : Type 0 w
   pub below : k.edge < length E
   pub fresh : places k.edge before ≡ 0
   pub under : 0 < length before → 0 < places k.parent before
-  pub keeps : 0 < length before → (x : ℕ) → 0 < one (member x (edge_at E k.edge)) → 0 < degree x (edges_of E before) → 0 < one (member x (edge_at E k.parent))
+  pub keeps : 0 < length before → (x : ℕ) → 0 < one (member x (edge_at E k.edge)) → 0 < degree x (edges_of E before)
+      → 0 < one (member x (edge_at E k.parent))

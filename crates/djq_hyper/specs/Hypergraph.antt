@@ -1,5 +1,6 @@
 -- A hypergraph is a list of edges, and an edge is a list of variables. The order of neither matters.
-use Rattle.std.specs.Prelude.{ℕ, zero, suc, ◌+◌, Bool, true, false, cond, not, ◌==◌, ◌&&◌, ◌||◌, List, [], ◌∷◌, ◌++◌, filter, slice_index_or}
+use Rattle.std.specs.Prelude.{ℕ, zero, suc, ◌+◌, Bool, true, false, cond, not, ◌==◌, ◌&&◌, ◌||◌}
+use Rattle.std.specs.Prelude.{List, [], ◌∷◌, ◌++◌, filter, slice_index_or}
 
 -- whether the variable lies in the edge
 abbrev pub member : ℕ → List ℕ → Bool

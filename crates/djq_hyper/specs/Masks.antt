@@ -1,10 +1,12 @@
 -- A machine word as a set of variables: bit x is set where the variable x is in.
-use Rattle.std.specs.Prelude.{◌≡◌, ◌≢◌, ◌⊎◌, ℕ, zero, suc, ◌+◌, ◌^◌, ◌<◌, ◌≤◌, Bool, true, false, cond, ◌==◌, List, [], ◌∷◌, filter, bit_or, refl}
+use Rattle.std.specs.Prelude.{◌≡◌, ◌≢◌, ◌⊎◌, ℕ, zero, suc, ◌+◌, ◌^◌, ◌<◌, ◌≤◌, Bool, true, false}
+use Rattle.std.specs.Prelude.{cond, ◌==◌, List, [], ◌∷◌, filter, bit_or, refl}
 use Rattle.std.specs.Int.{bit_at}
 use Rattle.std.specs.List.{range_with_len}
 use Rattle.std.proofs.Common.{sym, ◌∙◌, ⊎_elim, arith, inl, inr}
 use Rattle.std.proofs.lemmas.Bool.{cases_lt, cases_eq, eq-eqb, ne_eqb}
-use Rattle.std.proofs.lemmas.Nat.Bits.{bit_at-zero, bit_at-lt, bit_at_or, bit_at-pow_same, bit_at-pow_other, bit_at_above, same_from_bits}
+use Rattle.std.proofs.lemmas.Nat.Bits.{bit_at-zero, bit_at-lt, bit_at_or, bit_at-pow_same}
+use Rattle.std.proofs.lemmas.Nat.Bits.{bit_at-pow_other, bit_at_above, same_from_bits}
 use Rattle.djq_hyper.specs.declared.var_set.TheConstants.{VARIABLES}
 use Rattle.djq_hyper.specs.Hypergraph.{member, one}
 
@@ -34,16 +36,19 @@ pub range_outside : (p : ℕ → Bool) (x a n : ℕ) → (x < a) ⊎ (a + n ≤ 
 range_outside p x a zero out = refl
 range_outside p x a (suc n) out =
     let apart : x ≢ a = ⊎_elim (λ h. omega arith) (λ h. omega arith) out in
-    kept_other (p a) x a (filter p (range_with_len (a + 1) n)) apart ∙ range_outside p x (a + 1) n (⊎_elim (λ h. inl (omega arith)) (λ h. inr (omega arith)) out)
+    kept_other (p a) x a (filter p (range_with_len (a + 1) n)) apart
+    ∙ range_outside p x (a + 1) n (⊎_elim (λ h. inl (omega arith)) (λ h. inr (omega arith)) out)
 
 pub range_within : (p : ℕ → Bool) (x a n : ℕ) → a ≤ x → x < a + n → has x (filter p (range_with_len a n)) ≡ one (p x)
 range_within p x a zero from below = absurd (omega arith)
 range_within p x a (suc n) from below =
     elim (cases_eq x a) [
       | inl e ↦
-          let k : has a (cond (p a) (a ∷ filter p (range_with_len (a + 1) n)) (filter p (range_with_len (a + 1) n))) ≡ one (p a) = kept_same (p a) a _ (range_outside p a (a + 1) n (inl (omega arith))) in
+          let k : has a (cond (p a) (a ∷ filter p (range_with_len (a + 1) n)) (filter p (range_with_len (a + 1) n)))
+          ≡ one (p a) = kept_same (p a) a _ (range_outside p a (a + 1) n (inl (omega arith))) in
           rw e k
-      | inr apart ↦ kept_other (p a) x a (filter p (range_with_len (a + 1) n)) apart ∙ range_within p x (a + 1) n (omega arith) (omega arith)
+      | inr apart ↦ kept_other (p a) x a (filter p (range_with_len (a + 1) n)) apart
+          ∙ range_within p x (a + 1) n (omega arith) (omega arith)
     ]
 
 one_bit : (d : ℕ) → d < 2 → one (d == 1) ≡ d
@@ -56,8 +61,10 @@ pub has_variables : (x n : ℕ) → n < 2 ^ VARIABLES → has x (variables_of n)
 unfolding variables_of
 has_variables x n fits =
     ⊎_elim
-    (λ below. range_within (λ i. bit_at n i == 1) x 0 VARIABLES (omega arith) (omega arith) ∙ one_bit (bit_at n x) (bit_at-lt n x))
-    (λ above. range_outside (λ i. bit_at n i == 1) x 0 VARIABLES (inr (omega arith)) ∙ sym (bit_at_above n VARIABLES x fits above))
+    (λ below. range_within (λ i. bit_at n i == 1) x 0 VARIABLES (omega arith) (omega arith)
+    ∙ one_bit (bit_at n x) (bit_at-lt n x))
+    (λ above. range_outside (λ i. bit_at n i == 1) x 0 VARIABLES (inr (omega arith))
+    ∙ sym (bit_at_above n VARIABLES x fits above))
     (cases_lt x VARIABLES)
 
 pub bit_at_mask : (x : ℕ) (l : List ℕ) → bit_at (mask_of l) x ≡ has x l
@@ -76,4 +83,5 @@ bit_at_mask x (y ∷ ys) =
 
 -- the variables of a word give it back
 pub mask_back : (n : ℕ) → n < 2 ^ VARIABLES → mask_of (variables_of n) ≡ n
-mask_back n fits = same_from_bits (mask_of (variables_of n)) n (λ x. bit_at_mask x (variables_of n) ∙ has_variables x n fits)
+mask_back n fits = same_from_bits (mask_of (variables_of n)) n
+    (λ x. bit_at_mask x (variables_of n) ∙ has_variables x n fits)

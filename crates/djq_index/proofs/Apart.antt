@@ -1,5 +1,6 @@
 -- Lists in which no tuple stands twice.
-use Rattle.std.proofs.Common.{◌≡◌, ℕ, zero, suc, ◌+◌, ◌≤◌, ◌<◌, true, false, cond, List, [], ◌∷◌, ◌++◌, refl, ap, subst, sym, ◌∙◌, arith, inl, inr}
+use Rattle.std.proofs.Common.{◌≡◌, ℕ, zero, suc, ◌+◌, ◌≤◌, ◌<◌, true, false, cond, List, [], ◌∷◌}
+use Rattle.std.proofs.Common.{◌++◌, refl, ap, subst, sym, ◌∙◌, arith, inl, inr}
 use Rattle.djq_index.specs.Tuple.{same, one}
 use Rattle.djq_index.specs.Entries.{Entry, supp, cnt}
 use Rattle.djq_index.specs.Table.{AreApart, AreSupported}
@@ -15,7 +16,8 @@ pub record Stands (es : List Entry) (u : List ℕ) : Type 0 where
   pub tuple : entry.tuple ≡ u
 
 further : (e : Entry) (es : List Entry) (u : List ℕ) → Stands es u → Stands (e ∷ es) u
-further e es u s = record { front = e ∷ s.front; back = s.back; entry = s.entry; is = ap (λ (xs : List Entry). e ∷ xs) s.is; tuple = s.tuple }
+further e es u s = record
+    { front = e ∷ s.front; back = s.back; entry = s.entry; is = ap (λ (xs : List Entry). e ∷ xs) s.is; tuple = s.tuple }
 
 none : (u : List ℕ) → 0 < cnt [] u → ⊥
 unfolding cnt
@@ -35,7 +37,8 @@ unfolding AreApart cnt
 cnt_once [] u h = omega arith
 cnt_once (e ∷ es) u h =
     elim (same_cases e.tuple u) [
-      | inl here ↦ let none : cnt es u ≡ 0 = subst (λ v. cnt es v ≡ 0) here h.0 in omega (arith, none, one_le (same e.tuple u))
+      | inl here ↦ let none : cnt es u
+          ≡ 0 = subst (λ v. cnt es v ≡ 0) here h.0 in omega (arith, none, one_le (same e.tuple u))
       | inr other ↦ omega (arith, one_other e.tuple u other, cnt_once es u h.1)
     ]
 
@@ -44,15 +47,21 @@ flipped : (u v : List ℕ) → same u v ≡ false → same v u ≡ false
 flipped u v h = sym (same_sym u v) ∙ h
 
 unlike : (u v : List ℕ) (n : ℕ) → one (same u v) + n ≡ 0 → same u v ≡ false
-unlike u v n h = elim (same_cases u v) [ inl here ↦ absurd (omega (arith, h, one_true (same u v) (is_same u v here))) | inr other ↦ other ]
+unlike u v n h = elim (same_cases u v)
+    [ inl here ↦ absurd (omega (arith, h, one_true (same u v) (is_same u v here))) | inr other ↦ other ]
 
-pub apart_in : (xs : List Entry) (e : Entry) (ys : List Entry) → AreApart (xs ++ ys) → cnt (xs ++ ys) e.tuple ≡ 0 → AreApart (xs ++ e ∷ ys)
+pub apart_in : (xs : List Entry) (e : Entry) (ys : List Entry) → AreApart (xs ++ ys) → cnt (xs ++ ys) e.tuple ≡ 0
+    → AreApart (xs ++ e ∷ ys)
 unfolding AreApart
 apart_in [] e ys h none = (none, h)
 apart_in (x ∷ xs) e ys h none =
-    let apart : same x.tuple e.tuple ≡ false = unlike x.tuple e.tuple (cnt (xs ++ ys) e.tuple) (sym (cnt_cons x (xs ++ ys) e.tuple) ∙ none) in
-    let swapped : one (same e.tuple x.tuple) ≡ 0 = one_other e.tuple x.tuple (flipped x.tuple e.tuple apart) in
-    (omega (arith, cnt_middle xs e ys x.tuple, h.0, swapped), apart_in xs e ys h.1 (omega (arith, none, cnt_cons x (xs ++ ys) e.tuple)))
+    let apart : same x.tuple e.tuple
+    ≡ false = unlike x.tuple e.tuple (cnt (xs ++ ys) e.tuple) (sym (cnt_cons x (xs ++ ys) e.tuple) ∙ none) in
+    let swapped : one (same e.tuple x.tuple) ≡ 0 = one_other e.tuple x.tuple (flipped x.tuple e.tuple apart) in (
+      omega (arith, cnt_middle xs e ys x.tuple, h.0, swapped),
+      apart_in xs e ys h.1
+          (omega (arith, none, cnt_cons x (xs ++ ys) e.tuple)),
+    )
 
 pub apart_out : (xs : List Entry) (e : Entry) (ys : List Entry) → AreApart (xs ++ e ∷ ys) → AreApart (xs ++ ys)
 unfolding AreApart
@@ -64,8 +73,10 @@ pub apart_here : (xs : List Entry) (e : Entry) (ys : List Entry) → AreApart (x
 apart_here xs e ys h = omega (arith, cnt_once (xs ++ e ∷ ys) e.tuple h, cnt_middle xs e ys e.tuple, one_same e.tuple)
 
 -- only the tuples matter
-pub apart_same : (xs : List Entry) (d e : Entry) (ys : List Entry) → e.tuple ≡ d.tuple → AreApart (xs ++ d ∷ ys) → AreApart (xs ++ e ∷ ys)
-apart_same xs d e ys h apart = apart_in xs e ys (apart_out xs d ys apart) (subst (λ u. cnt (xs ++ ys) u ≡ 0) (sym h) (apart_here xs d ys apart))
+pub apart_same : (xs : List Entry) (d e : Entry) (ys : List Entry) → e.tuple ≡ d.tuple → AreApart (xs ++ d ∷ ys)
+    → AreApart (xs ++ e ∷ ys)
+apart_same xs d e ys h apart = apart_in xs e ys (apart_out xs d ys apart)
+    (subst (λ u. cnt (xs ++ ys) u ≡ 0) (sym h) (apart_here xs d ys apart))
 
 -- an absent tuple has no supports
 pub supp_none : (es : List Entry) (u : List ℕ) → cnt es u ≡ 0 → supp es u ≡ 0
@@ -73,20 +84,24 @@ unfolding supp cnt
 supp_none [] u h = refl
 supp_none (e ∷ es) u h =
     elim (same_cases e.tuple u) [
-      | inl here ↦ absurd (omega (arith, h, one_true (same e.tuple u) (subst (λ v. same e.tuple v ≡ true) here (same_refl e.tuple))))
+      | inl here ↦ absurd (omega
+          (arith, h, one_true (same e.tuple u) (subst (λ v. same e.tuple v ≡ true) here (same_refl e.tuple))))
       | inr other ↦ rw other (omega (arith, supp_none es u (omega (arith, h))))
     ]
 
-pub supp_here : (xs : List Entry) (e : Entry) (ys : List Entry) → AreApart (xs ++ e ∷ ys) → supp (xs ++ e ∷ ys) e.tuple ≡ e.supports
+pub supp_here : (xs : List Entry) (e : Entry) (ys : List Entry) → AreApart (xs ++ e ∷ ys) → supp (xs ++ e ∷ ys) e.tuple
+    ≡ e.supports
 supp_here xs e ys h = rw (supp_middle, same_refl) (omega (arith, supp_none (xs ++ ys) e.tuple (apart_here xs e ys h)))
 
-pub supp_at : (es : List Entry) (xs : List Entry) (e : Entry) (ys : List Entry) (u : List ℕ) → AreApart es → es ≡ xs ++ e ∷ ys → e.tuple ≡ u → supp es u ≡ e.supports
+pub supp_at : (es : List Entry) (xs : List Entry) (e : Entry) (ys : List Entry) (u : List ℕ) → AreApart es → es
+    ≡ xs ++ e ∷ ys → e.tuple ≡ u → supp es u ≡ e.supports
 supp_at es xs e ys u apart is here = rw (is, ← here) (supp_here xs e ys (subst AreApart is apart))
 
 pub cnt_here : (xs : List Entry) (e : Entry) (ys : List Entry) → 0 < cnt (xs ++ e ∷ ys) e.tuple
 cnt_here xs e ys = omega (arith, cnt_middle xs e ys e.tuple, one_same e.tuple)
 
-pub there : (es : List Entry) (xs : List Entry) (e : Entry) (ys : List Entry) (u : List ℕ) → es ≡ xs ++ e ∷ ys → e.tuple ≡ u → 0 < cnt es u
+pub there : (es : List Entry) (xs : List Entry) (e : Entry) (ys : List Entry) (u : List ℕ) → es ≡ xs ++ e ∷ ys → e.tuple
+    ≡ u → 0 < cnt es u
 there es xs e ys u is here = rw (is, ← here) (cnt_here xs e ys)
 
 -- where each tuple has a support, a tuple without one is absent
@@ -95,19 +110,27 @@ unfolding supp cnt AreSupported
 cnt_none [] u s h = refl
 cnt_none (e ∷ es) u s h =
     elim (same_cases e.tuple u) [
-      | inl here ↦ absurd (let k : e.supports + supp es u ≡ 0 = subst (λ b. cond b e.supports 0 + supp es u ≡ 0) (subst (λ v. same e.tuple v ≡ true) here (same_refl e.tuple)) h in let pos : 0 < e.supports = s.0 in omega arith)
-      | inr other ↦ let k : cond false e.supports 0 + supp es u ≡ 0 = subst (λ b. cond b e.supports 0 + supp es u ≡ 0) other h in omega (arith, one_other e.tuple u other, cnt_none es u s.1 (omega (arith, k)))
+      | inl here ↦ absurd (let k : e.supports + supp es u
+          ≡ 0 = subst (λ b. cond b e.supports 0 + supp es u ≡ 0)
+          (subst (λ v. same e.tuple v ≡ true) here (same_refl e.tuple)) h in let pos : 0 < e.supports = s.0 in omega
+          arith)
+      | inr other ↦ let k : cond false e.supports 0 + supp es u
+          ≡ 0 = subst (λ b. cond b e.supports 0 + supp es u ≡ 0) other h in omega
+          (arith, one_other e.tuple u other, cnt_none es u s.1 (omega (arith, k)))
     ]
 
-pub supported_out : (xs : List Entry) (e : Entry) (ys : List Entry) → AreSupported (xs ++ e ∷ ys) → AreSupported (xs ++ ys)
+pub supported_out : (xs : List Entry) (e : Entry) (ys : List Entry) → AreSupported (xs ++ e ∷ ys)
+    → AreSupported (xs ++ ys)
 unfolding AreSupported
 supported_out [] e ys h = h.1
 supported_out (x ∷ xs) e ys h = (h.0, supported_out xs e ys h.1)
 
-pub supported_in : (xs : List Entry) (e : Entry) (ys : List Entry) → 0 < e.supports → AreSupported (xs ++ ys) → AreSupported (xs ++ e ∷ ys)
+pub supported_in : (xs : List Entry) (e : Entry) (ys : List Entry) → 0 < e.supports → AreSupported (xs ++ ys)
+    → AreSupported (xs ++ e ∷ ys)
 unfolding AreSupported
 supported_in [] e ys s h = (s, h)
 supported_in (x ∷ xs) e ys s h = (h.0, supported_in xs e ys s h.1)
 
 pub cnt_supp : (es : List Entry) (u : List ℕ) → AreSupported es → 0 < cnt es u → 0 < supp es u
-cnt_supp es u s h = elim (supp es u) as (λ n. supp es u ≡ n → 0 < n) [ zero ↦ (λ k. absurd (let none = cnt_none es u s k in omega arith)) | suc n ↦ (λ k. omega arith) ] refl
+cnt_supp es u s h = elim (supp es u) as (λ n. supp es u ≡ n → 0 < n)
+    [ zero ↦ (λ k. absurd (let none = cnt_none es u s k in omega arith)) | suc n ↦ (λ k. omega arith) ] refl

@@ -1,5 +1,6 @@
 -- A table has at most as many tuples as there are numbers for slots.
-use Rattle.std.proofs.Common.{◌≡◌, ℕ, zero, suc, ◌≤◌, List, [], ◌∷◌, ◌++◌, length, ap, subst, arith, ◌⊎◌, inl, inr, length-append}
+use Rattle.std.proofs.Common.{◌≡◌, ℕ, zero, suc, ◌≤◌, List, [], ◌∷◌, ◌++◌, length, ap, subst, arith}
+use Rattle.std.proofs.Common.{◌⊎◌, inl, inr, length-append}
 use Rattle.std.proofs.lemmas.Bool.{cases_eq}
 use Rattle.std.proofs.lemmas.List.{length-map}
 use Rattle.djq_arena.specs.Chains.{IsOut, AreDifferent, AreBelow}
@@ -17,7 +18,10 @@ pub record Split (i : ℕ) (xs : List ℕ) : Type 0 where
 split_next : (i x : ℕ) (xs : List ℕ) → (IsOut i xs) ⊎ Split i xs → (IsOut i (x ∷ xs)) ⊎ Split i (x ∷ xs)
 unfolding IsOut
 split_next i x xs (inr s) = inr (record { front = x ∷ s.front; back = s.back; is = ap (λ (l : List ℕ). x ∷ l) s.is })
-split_next i x xs (inl out) = elim (cases_eq x i) [ inl same ↦ inr (record { front = []; back = xs; is = ap (λ (y : ℕ). y ∷ xs) same }) | inr apart ↦ inl (apart, out) ]
+split_next i x xs (inl out) = elim (cases_eq x i) [
+  | inl same ↦ inr (record { front = []; back = xs; is = ap (λ (y : ℕ). y ∷ xs) same })
+  | inr apart ↦ inl (apart, out)
+]
 
 split_at : (i : ℕ) (xs : List ℕ) → (IsOut i xs) ⊎ Split i xs
 unfolding IsOut
@@ -48,8 +52,16 @@ length_below (suc n) xs d b =
       | inr s ↦ (
           let d2 : AreDifferent (s.front ++ n ∷ s.back) = subst AreDifferent s.is d in
           let b2 : AreBelow (suc n) (s.front ++ n ∷ s.back) = subst (λ (l : List ℕ). AreBelow (suc n) l) s.is b in
-          let h = length_below n (s.front ++ s.back) (different_out s.front n s.back d2) (below_less n (s.front ++ s.back) (below_out (suc n) s.front n s.back b2) (different_here s.front n s.back d2)) in
-          omega (arith, ap (λ (l : List ℕ). length l) s.is, length-append s.front (n ∷ s.back), length-append s.front s.back))
+          let h = length_below n (s.front ++ s.back) (different_out s.front n s.back d2)
+          (below_less n (s.front ++ s.back) (below_out (suc n) s.front n s.back b2)
+          (different_here s.front n s.back d2)) in
+          omega (
+            arith,
+            ap (λ (l : List ℕ). length l) s.is,
+            length-append s.front (n ∷ s.back),
+            length-append s.front
+                s.back,
+          ))
     ]
 
 pub slots_length : (rows : List Row) → length (slots rows) ≡ length rows
@@ -62,4 +74,10 @@ entries_length r = length_entries r.notes.items r.rows.rows
 pub few_entries : (r : Raw) → IsRaw r → length (entries_of r) ≤ 4294967295
 few_entries r h =
     let n = h.bare.rows.numbers in
-    omega (arith, entries_length r, slots_length r.rows.rows, length_below r.rows.room (slots r.rows.rows) h.bare.rows.different h.bare.rows.below)
+    omega (
+      arith,
+      entries_length r,
+      slots_length r.rows.rows,
+      length_below r.rows.room (slots r.rows.rows)
+          h.bare.rows.different h.bare.rows.below,
+    )

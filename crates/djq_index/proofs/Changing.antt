@@ -1,5 +1,6 @@
 -- What a change of a table does to its numbers.
-use Rattle.std.proofs.Common.{◌≡◌, ℕ, ◌+◌, Bool, true, false, cond, List, ◌∷◌, ◌++◌, length, refl, ap, subst, sym, ◌∙◌, arith, length-append}
+use Rattle.std.proofs.Common.{◌≡◌, ℕ, ◌+◌, Bool, true, false, cond, List, ◌∷◌, ◌++◌, length, refl}
+use Rattle.std.proofs.Common.{ap, subst, sym, ◌∙◌, arith, length-append}
 use Rattle.djq_index.specs.declared.place.Place.{Place}
 use Rattle.djq_index.specs.Tuple.{same, pick, one}
 use Rattle.djq_index.specs.Entries.{Entry, supp, cnt, many, marks, plain}
@@ -16,10 +17,12 @@ length_middle xs e ys = omega (arith, length-append xs (e ∷ ys), length-append
 one_of : (e : Entry) (u v : List ℕ) → e.tuple ≡ u → one (same e.tuple v) ≡ one (same u v)
 one_of e u v h = ap (λ w. one (same w v)) h
 
-one_key : (key : List ℕ) (e : Entry) (u w : List ℕ) → e.tuple ≡ u → one (same (pick key e.tuple) w) ≡ one (same (pick key u) w)
+one_key : (key : List ℕ) (e : Entry) (u w : List ℕ) → e.tuple ≡ u → one (same (pick key e.tuple) w)
+    ≡ one (same (pick key u) w)
 one_key key e u w h = ap (λ v. one (same (pick key v) w)) h
 
-cond_of : (e : Entry) (u v : List ℕ) (n : ℕ) → e.tuple ≡ u → e.supports ≡ n → cond (same e.tuple v) e.supports 0 ≡ cond (same u v) n 0
+cond_of : (e : Entry) (u v : List ℕ) (n : ℕ) → e.tuple ≡ u → e.supports ≡ n → cond (same e.tuple v) e.supports 0
+    ≡ cond (same u v) n 0
 cond_of e u v n h k = rw (h, k) refl
 
 cond_unit : (u v : List ℕ) → cond (same u v) 1 0 ≡ one (same u v)
@@ -27,38 +30,62 @@ unfolding one
 cond_unit u v = refl
 
 -- an insertion
-pub inserted_cnt : {m : Bool} (key : List ℕ) (old new : List Entry) (u : List ℕ) → InsertedAs m key old new u → (v : List ℕ) → cnt new v ≡ cnt old v + one (same u v)
-inserted_cnt {m} key old new u i v = rw (i.was, i.is) (omega (arith, cnt_middle i.front i.entry i.back v, one_of i.entry u v i.tuple))
+pub inserted_cnt : {m : Bool} (key : List ℕ) (old new : List Entry) (u : List ℕ) → InsertedAs m key old new u
+    → (v : List ℕ) → cnt new v ≡ cnt old v + one (same u v)
+inserted_cnt {m} key old new u i v = rw (i.was, i.is)
+    (omega (arith, cnt_middle i.front i.entry i.back v, one_of i.entry u v i.tuple))
 
-pub inserted_supp : {m : Bool} (key : List ℕ) (old new : List Entry) (u : List ℕ) → InsertedAs m key old new u → (v : List ℕ) → supp new v ≡ supp old v + one (same u v)
-inserted_supp {m} key old new u i v = rw (i.was, i.is) (omega (arith, supp_middle i.front i.entry i.back v, cond_of i.entry u v 1 i.tuple i.supports, cond_unit u v))
+pub inserted_supp : {m : Bool} (key : List ℕ) (old new : List Entry) (u : List ℕ) → InsertedAs m key old new u
+    → (v : List ℕ) → supp new v ≡ supp old v + one (same u v)
+inserted_supp {m} key old new u i v = rw (i.was, i.is)
+    (omega (arith, supp_middle i.front i.entry i.back v, cond_of i.entry u v 1 i.tuple i.supports, cond_unit u v))
 
-pub inserted_many : {m : Bool} (key : List ℕ) (old new : List Entry) (u : List ℕ) → InsertedAs m key old new u → (columns w : List ℕ) → many columns new w ≡ many columns old w + one (same (pick columns u) w)
-inserted_many {m} key old new u i columns w = rw (i.was, i.is) (omega (arith, many_middle columns i.front i.entry i.back w, one_key columns i.entry u w i.tuple))
+pub inserted_many : {m : Bool} (key : List ℕ) (old new : List Entry) (u : List ℕ) → InsertedAs m key old new u
+    → (columns w : List ℕ) → many columns new w ≡ many columns old w + one (same (pick columns u) w)
+inserted_many {m} key old new u i columns w = rw (i.was, i.is)
+    (omega (arith, many_middle columns i.front i.entry i.back w, one_key columns i.entry u w i.tuple))
 
-pub inserted_length : {m : Bool} (key : List ℕ) (old new : List Entry) (u : List ℕ) → InsertedAs m key old new u → length new ≡ length old + 1
+pub inserted_length : {m : Bool} (key : List ℕ) (old new : List Entry) (u : List ℕ) → InsertedAs m key old new u
+    → length new ≡ length old + 1
 inserted_length {m} key old new u i = rw (i.was, i.is) (length_middle i.front i.entry i.back)
 
 pub inserted_plain : (key : List ℕ) (old new : List Entry) (u : List ℕ) → Inserted key old new u → plain new ≡ plain old
 inserted_plain key old new u i = rw (i.was, i.is) (plain_middle i.front i.entry i.back i.marked)
 
-pub inserted_marks : (key : List ℕ) (old new : List Entry) (u : List ℕ) → Inserted key old new u → (v : List ℕ) → cnt (marks new) v ≡ cnt (marks old) v + one (same u v)
-inserted_marks key old new u i v = omega (arith, inserted_cnt key old new u i v, cnt_split new v, cnt_split old v, ap (λ es. cnt es v) (inserted_plain key old new u i))
+pub inserted_marks : (key : List ℕ) (old new : List Entry) (u : List ℕ) → Inserted key old new u → (v : List ℕ)
+    → cnt (marks new) v ≡ cnt (marks old) v + one (same u v)
+inserted_marks key old new u i v = omega (
+  arith,
+  inserted_cnt key old new u i v,
+  cnt_split new v,
+  cnt_split old v,
+  ap (λ es. cnt es v)
+      (inserted_plain key old new u i),
+)
 
-pub inserted_apart : {m : Bool} (key : List ℕ) (old new : List Entry) (u : List ℕ) → InsertedAs m key old new u → AreApart old → cnt old u ≡ 0 → AreApart new
+pub inserted_apart : {m : Bool} (key : List ℕ) (old new : List Entry) (u : List ℕ) → InsertedAs m key old new u
+    → AreApart old → cnt old u ≡ 0 → AreApart new
 inserted_apart {m} key old new u i h none =
-    subst AreApart (sym i.is) (apart_in i.front i.entry i.back (subst AreApart i.was h) (subst (λ v. cnt (i.front ++ i.back) v ≡ 0) (sym i.tuple) (subst (λ es. cnt es u ≡ 0) i.was none)))
+    subst AreApart (sym i.is)
+    (apart_in i.front i.entry i.back (subst AreApart i.was h)
+    (subst (λ v. cnt (i.front ++ i.back) v ≡ 0) (sym i.tuple) (subst (λ es. cnt es u ≡ 0) i.was none)))
 
-pub inserted_supported : {m : Bool} (key : List ℕ) (old new : List Entry) (u : List ℕ) → InsertedAs m key old new u → AreSupported old → AreSupported new
+pub inserted_supported : {m : Bool} (key : List ℕ) (old new : List Entry) (u : List ℕ) → InsertedAs m key old new u
+    → AreSupported old → AreSupported new
 inserted_supported {m} key old new u i h =
-    subst AreSupported (sym i.is) (supported_in i.front i.entry i.back (omega (arith, i.supports)) (subst AreSupported i.was h))
+    subst AreSupported (sym i.is)
+    (supported_in i.front i.entry i.back (omega (arith, i.supports)) (subst AreSupported i.was h))
 
 -- a removal
-pub removed_cnt : (old new : List Entry) (u : List ℕ) → Removed old new u → (v : List ℕ) → cnt old v ≡ cnt new v + one (same u v)
-removed_cnt old new u r v = rw (r.was, r.is) (omega (arith, cnt_middle r.front r.entry r.back v, one_of r.entry u v r.tuple))
+pub removed_cnt : (old new : List Entry) (u : List ℕ) → Removed old new u → (v : List ℕ) → cnt old v
+    ≡ cnt new v + one (same u v)
+removed_cnt old new u r v = rw (r.was, r.is)
+    (omega (arith, cnt_middle r.front r.entry r.back v, one_of r.entry u v r.tuple))
 
-pub removed_many : (old new : List Entry) (u : List ℕ) → Removed old new u → (columns w : List ℕ) → many columns old w ≡ many columns new w + one (same (pick columns u) w)
-removed_many old new u r columns w = rw (r.was, r.is) (omega (arith, many_middle columns r.front r.entry r.back w, one_key columns r.entry u w r.tuple))
+pub removed_many : (old new : List Entry) (u : List ℕ) → Removed old new u → (columns w : List ℕ) → many columns old w
+    ≡ many columns new w + one (same (pick columns u) w)
+removed_many old new u r columns w = rw (r.was, r.is)
+    (omega (arith, many_middle columns r.front r.entry r.back w, one_key columns r.entry u w r.tuple))
 
 pub removed_length : (old new : List Entry) (u : List ℕ) → Removed old new u → length old ≡ length new + 1
 removed_length old new u r = rw (r.was, r.is) (length_middle r.front r.entry r.back)
@@ -67,80 +94,173 @@ pub removed_apart : (old new : List Entry) (u : List ℕ) → Removed old new u 
 removed_apart old new u r h = subst AreApart (sym r.is) (apart_out r.front r.entry r.back (subst AreApart r.was h))
 
 pub removed_supported : (old new : List Entry) (u : List ℕ) → Removed old new u → AreSupported old → AreSupported new
-removed_supported old new u r h = subst AreSupported (sym r.is) (supported_out r.front r.entry r.back (subst AreSupported r.was h))
+removed_supported old new u r h = subst AreSupported (sym r.is)
+    (supported_out r.front r.entry r.back (subst AreSupported r.was h))
 
-pub removed_supp : (old new : List Entry) (u : List ℕ) → Removed old new u → AreApart old → (v : List ℕ) → supp old v ≡ supp new v + cond (same u v) (supp old u) 0
+pub removed_supp : (old new : List Entry) (u : List ℕ) → Removed old new u → AreApart old → (v : List ℕ) → supp old v
+    ≡ supp new v + cond (same u v) (supp old u) 0
 removed_supp old new u r h v =
     let here : supp old u ≡ r.entry.supports = supp_at old r.front r.entry r.back u h r.was r.tuple in
-    let sum : supp old v ≡ cond (same r.entry.tuple v) r.entry.supports 0 + supp new v = rw (r.was, r.is) (supp_middle r.front r.entry r.back v) in
+    let sum : supp old v ≡ cond (same r.entry.tuple v) r.entry.supports 0 + supp new v = rw (r.was, r.is)
+    (supp_middle r.front r.entry r.back v) in
     omega (arith, sum, cond_of r.entry u v (supp old u) r.tuple (sym here))
 
 -- a change of supports
-pub supported_cnt : (old new : List Entry) (u : List ℕ) (from to : ℕ) → Supported old new u from to → (v : List ℕ) → cnt new v ≡ cnt old v
+pub supported_cnt : (old new : List Entry) (u : List ℕ) (from to : ℕ) → Supported old new u from to → (v : List ℕ)
+    → cnt new v ≡ cnt old v
 supported_cnt old new u from to s v =
-    rw (s.was, s.is) (omega (arith, cnt_middle s.front s.before s.back v, cnt_middle s.front s.after s.back v, one_of s.before u v s.tuple, one_of s.after u v s.same_tuple))
+    rw (s.was, s.is) (omega (
+      arith,
+      cnt_middle s.front s.before s.back v,
+      cnt_middle s.front s.after s.back v,
+      one_of s.before u v s.tuple,
+      one_of s.after u v s.same_tuple,
+    ))
 
-pub supported_many : (old new : List Entry) (u : List ℕ) (from to : ℕ) → Supported old new u from to → (columns w : List ℕ) → many columns new w ≡ many columns old w
+pub supported_many : (old new : List Entry) (u : List ℕ) (from to : ℕ) → Supported old new u from to
+    → (columns w : List ℕ) → many columns new w ≡ many columns old w
 supported_many old new u from to s columns w =
-    rw (s.was, s.is) (omega (arith, many_middle columns s.front s.before s.back w, many_middle columns s.front s.after s.back w, one_key columns s.before u w s.tuple, one_key columns s.after u w s.same_tuple))
+    rw (s.was, s.is) (omega (
+      arith,
+      many_middle columns s.front s.before s.back w,
+      many_middle columns s.front s.after s.back w,
+      one_key
+          columns s.before u w s.tuple,
+      one_key columns s.after u w s.same_tuple,
+    ))
 
-pub supported_length : (old new : List Entry) (u : List ℕ) (from to : ℕ) → Supported old new u from to → length new ≡ length old
-supported_length old new u from to s = rw (s.was, s.is) (omega (arith, length_middle s.front s.before s.back, length_middle s.front s.after s.back))
+pub supported_length : (old new : List Entry) (u : List ℕ) (from to : ℕ) → Supported old new u from to → length new
+    ≡ length old
+supported_length old new u from to s = rw (s.was, s.is)
+    (omega (arith, length_middle s.front s.before s.back, length_middle s.front s.after s.back))
 
-pub supported_supp : (old new : List Entry) (u : List ℕ) (from to : ℕ) → Supported old new u from to → (v : List ℕ) → supp new v + cond (same u v) from 0 ≡ supp old v + cond (same u v) to 0
+pub supported_supp : (old new : List Entry) (u : List ℕ) (from to : ℕ) → Supported old new u from to → (v : List ℕ)
+    → supp new v + cond (same u v) from 0 ≡ supp old v + cond (same u v) to 0
 supported_supp old new u from to s v =
-    rw (s.was, s.is) (omega (arith, supp_middle s.front s.before s.back v, supp_middle s.front s.after s.back v, cond_of s.before u v from s.tuple s.had, cond_of s.after u v to s.same_tuple s.has))
+    rw (s.was, s.is) (omega (
+      arith,
+      supp_middle s.front s.before s.back v,
+      supp_middle s.front s.after s.back v,
+      cond_of s.before u v from
+          s.tuple s.had,
+      cond_of s.after u v to s.same_tuple s.has,
+    ))
 
 step_up : (b : Bool) (n : ℕ) → cond b (n + 1) 0 ≡ cond b n 0 + one b
 unfolding one
 step_up true n = refl
 step_up false n = refl
 
-pub raised_supp : (old new : List Entry) (u : List ℕ) (n : ℕ) → Supported old new u n (n + 1) → (v : List ℕ) → supp new v ≡ supp old v + one (same u v)
+pub raised_supp : (old new : List Entry) (u : List ℕ) (n : ℕ) → Supported old new u n (n + 1) → (v : List ℕ)
+    → supp new v ≡ supp old v + one (same u v)
 raised_supp old new u n s v = omega (arith, supported_supp old new u n (n + 1) s v, step_up (same u v) n)
 
-pub supported_apart : (old new : List Entry) (u : List ℕ) (from to : ℕ) → Supported old new u from to → AreApart old → AreApart new
+pub supported_apart : (old new : List Entry) (u : List ℕ) (from to : ℕ) → Supported old new u from to → AreApart old
+    → AreApart new
 supported_apart old new u from to s h =
-    subst AreApart (sym s.is) (apart_same s.front s.before s.after s.back (s.same_tuple ∙ sym s.tuple) (subst AreApart s.was h))
+    subst AreApart (sym s.is)
+    (apart_same s.front s.before s.after s.back (s.same_tuple ∙ sym s.tuple) (subst AreApart s.was h))
 
 -- a touch
-pub touched_cnt : (key : List ℕ) (old new : List Entry) (u : List ℕ) → Touched key old new u → (v : List ℕ) → cnt new v ≡ cnt old v
+pub touched_cnt : (key : List ℕ) (old new : List Entry) (u : List ℕ) → Touched key old new u → (v : List ℕ) → cnt new v
+    ≡ cnt old v
 touched_cnt key old new u t v =
-    rw (t.was, t.is) (omega (arith, cnt_middle t.front t.before t.back v, cnt_middle t.fore t.after t.rest v, ap (λ es. cnt es v) t.between, one_of t.before u v t.tuple, one_of t.after u v t.same_tuple))
+    rw (t.was, t.is) (omega (
+      arith,
+      cnt_middle t.front t.before t.back v,
+      cnt_middle t.fore t.after t.rest v,
+      ap (λ es. cnt es v) t.between,
+      one_of t.before u v t.tuple,
+      one_of t.after u v t.same_tuple,
+    ))
 
-pub touched_many : (key : List ℕ) (old new : List Entry) (u : List ℕ) → Touched key old new u → (columns w : List ℕ) → many columns new w ≡ many columns old w
+pub touched_many : (key : List ℕ) (old new : List Entry) (u : List ℕ) → Touched key old new u → (columns w : List ℕ)
+    → many columns new w ≡ many columns old w
 touched_many key old new u t columns w =
-    rw (t.was, t.is) (omega (arith, many_middle columns t.front t.before t.back w, many_middle columns t.fore t.after t.rest w, ap (λ es. many columns es w) t.between, one_key columns t.before u w t.tuple, one_key columns t.after u w t.same_tuple))
+    rw (t.was, t.is) (omega (
+      arith,
+      many_middle columns t.front t.before t.back w,
+      many_middle columns t.fore t.after t.rest w,
+      ap
+          (λ es. many columns es w) t.between,
+      one_key columns t.before u w t.tuple,
+      one_key columns t.after u w
+          t.same_tuple,
+    ))
 
-pub touched_supp : (key : List ℕ) (old new : List Entry) (u : List ℕ) → Touched key old new u → (v : List ℕ) → supp new v ≡ supp old v
+pub touched_supp : (key : List ℕ) (old new : List Entry) (u : List ℕ) → Touched key old new u → (v : List ℕ)
+    → supp new v ≡ supp old v
 touched_supp key old new u t v =
-    rw (t.was, t.is) (omega (arith, supp_middle t.front t.before t.back v, supp_middle t.fore t.after t.rest v, ap (λ es. supp es v) t.between, cond_of t.before u v t.before.supports t.tuple refl, cond_of t.after u v t.before.supports t.same_tuple t.same_supports))
+    rw (t.was, t.is) (omega (
+      arith,
+      supp_middle t.front t.before t.back v,
+      supp_middle t.fore t.after t.rest v,
+      ap (λ es. supp es v)
+          t.between,
+      cond_of t.before u v t.before.supports t.tuple refl,
+      cond_of t.after u v t.before.supports
+          t.same_tuple t.same_supports,
+    ))
 
-pub touched_length : (key : List ℕ) (old new : List Entry) (u : List ℕ) → Touched key old new u → length new ≡ length old
-touched_length key old new u t = rw (t.was, t.is) (omega (arith, length_middle t.front t.before t.back, length_middle t.fore t.after t.rest, ap (λ (es : List Entry). length es) t.between))
+pub touched_length : (key : List ℕ) (old new : List Entry) (u : List ℕ) → Touched key old new u → length new
+    ≡ length old
+touched_length key old new u t = rw (t.was, t.is)
+    (omega (
+      arith,
+      length_middle t.front t.before t.back,
+      length_middle t.fore t.after t.rest,
+      ap
+          (λ (es : List Entry). length es) t.between,
+    ))
 
-pub touched_marks : (key : List ℕ) (old new : List Entry) (u : List ℕ) → Touched key old new u → (v : List ℕ) → cnt (marks new) v ≡ cnt (marks old) v + one (same u v)
+pub touched_marks : (key : List ℕ) (old new : List Entry) (u : List ℕ) → Touched key old new u → (v : List ℕ)
+    → cnt (marks new) v ≡ cnt (marks old) v + one (same u v)
 touched_marks key old new u t v =
-    let less : marks old ≡ marks (t.fore ++ t.rest) = rw (t.was, marks_middle t.front t.before t.back t.plain, t.between) refl in
+    let less : marks old ≡ marks (t.fore ++ t.rest) = rw
+    (t.was, marks_middle t.front t.before t.back t.plain, t.between) refl in
     let more : plain new ≡ plain (t.fore ++ t.rest) = rw t.is (plain_middle t.fore t.after t.rest t.marked) in
-    rw (t.is, less) (omega (arith, cnt_middle t.fore t.after t.rest v, cnt_split (t.fore ++ t.after ∷ t.rest) v, cnt_split (t.fore ++ t.rest) v, ap (λ es. cnt (plain es) v) (sym t.is), ap (λ es. cnt es v) more, one_of t.after u v t.same_tuple))
+    rw (t.is, less) (omega (
+      arith,
+      cnt_middle t.fore t.after t.rest v,
+      cnt_split (t.fore ++ t.after ∷ t.rest) v,
+      cnt_split
+          (t.fore ++ t.rest) v,
+      ap (λ es. cnt (plain es) v) (sym t.is),
+      ap (λ es. cnt es v) more,
+      one_of t.after u v
+          t.same_tuple,
+    ))
 
-pub touched_apart : (key : List ℕ) (old new : List Entry) (u : List ℕ) → Touched key old new u → AreApart old → AreApart new
+pub touched_apart : (key : List ℕ) (old new : List Entry) (u : List ℕ) → Touched key old new u → AreApart old
+    → AreApart new
 touched_apart key old new u t h =
     let was : AreApart (t.front ++ t.before ∷ t.back) = subst AreApart t.was h in
-    let none : cnt (t.front ++ t.back) t.after.tuple ≡ 0 = subst (λ v. cnt (t.front ++ t.back) v ≡ 0) (t.tuple ∙ sym t.same_tuple) (apart_here t.front t.before t.back was) in
-    subst AreApart (sym t.is) (apart_in t.fore t.after t.rest (subst AreApart t.between (apart_out t.front t.before t.back was)) (subst (λ es. cnt es t.after.tuple ≡ 0) t.between none))
+    let none : cnt (t.front ++ t.back) t.after.tuple
+    ≡ 0 = subst (λ v. cnt (t.front ++ t.back) v ≡ 0) (t.tuple ∙ sym t.same_tuple)
+    (apart_here t.front t.before t.back was) in
+    subst AreApart (sym t.is)
+    (apart_in t.fore t.after t.rest (subst AreApart t.between (apart_out t.front t.before t.back was))
+    (subst (λ es. cnt es t.after.tuple ≡ 0) t.between none))
 
 -- places stay valid
-pub inserted_at : {m : Bool} (key : List ℕ) (old new : List Entry) (u : List ℕ) → InsertedAs m key old new u → (p : Place) (v : List ℕ) → IsAt old p v → IsAt new p v
-inserted_at {m} key old new u i p v a = subst (λ es. IsAt es p v) (sym i.is) (at_in i.front i.entry i.back p v (subst (λ es. IsAt es p v) i.was a))
+pub inserted_at : {m : Bool} (key : List ℕ) (old new : List Entry) (u : List ℕ) → InsertedAs m key old new u
+    → (p : Place) (v : List ℕ) → IsAt old p v → IsAt new p v
+inserted_at {m} key old new u i p v a = subst (λ es. IsAt es p v) (sym i.is)
+    (at_in i.front i.entry i.back p v (subst (λ es. IsAt es p v) i.was a))
 
-pub removed_at : (old new : List Entry) (u : List ℕ) → Removed old new u → ArePlaced old → (p : Place) (v : List ℕ) → (v ≡ u → ⊥) → IsAt old p v → IsAt new p v
+pub removed_at : (old new : List Entry) (u : List ℕ) → Removed old new u → ArePlaced old → (p : Place) (v : List ℕ)
+    → (v ≡ u → ⊥) → IsAt old p v → IsAt new p v
 removed_at old new u r h p v other a =
     let was : IsAt (r.front ++ r.entry ∷ r.back) p v = subst (λ es. IsAt es p v) r.was a in
-    let apart : r.entry.at ≡ p → ⊥ = (λ k. other (sym (at_here r.front r.entry r.back v (subst ArePlaced r.was h) (subst (λ q. IsAt (r.front ++ r.entry ∷ r.back) q v) (sym k) was)) ∙ r.tuple)) in
+    let apart : r.entry.at ≡ p
+    → ⊥ = (λ k. other (sym
+    (at_here r.front r.entry r.back v (subst ArePlaced r.was h)
+    (subst (λ q. IsAt (r.front ++ r.entry ∷ r.back) q v) (sym k) was)) ∙ r.tuple)) in
     subst (λ es. IsAt es p v) (sym r.is) (at_out r.front r.entry r.back p v apart was)
 
-pub supported_at : (old new : List Entry) (u : List ℕ) (from to : ℕ) → Supported old new u from to → (p : Place) (v : List ℕ) → IsAt old p v → IsAt new p v
+pub supported_at : (old new : List Entry) (u : List ℕ) (from to : ℕ) → Supported old new u from to
+    → (p : Place) (v : List ℕ) → IsAt old p v → IsAt new p v
 supported_at old new u from to s p v a =
-    subst (λ es. IsAt es p v) (sym s.is) (at_same s.front s.before s.after s.back p v (s.same_tuple ∙ sym s.tuple) s.same_place (subst (λ es. IsAt es p v) s.was a))
+    subst (λ es. IsAt es p v) (sym s.is)
+    (at_same s.front s.before s.after s.back p v (s.same_tuple ∙ sym s.tuple) s.same_place
+    (subst (λ es. IsAt es p v) s.was a))

@@ -1,5 +1,6 @@
 -- The columns of a key.
-use Rattle.std.proofs.Common.{◌≡◌, ◌<◌, ◌+◌, ◌++◌, ◌∷◌, [], refl, ◌∙◌, ap, length, List, ℕ, zero, suc, slice_index_or, take, arith, map, add-one}
+use Rattle.std.proofs.Common.{◌≡◌, ◌<◌, ◌+◌, ◌++◌, ◌∷◌, [], refl, ◌∙◌, ap, length, List, ℕ, zero}
+use Rattle.std.proofs.Common.{suc, slice_index_or, take, arith, map, add-one}
 use Rattle.std.proofs.lemmas.List.{map-append}
 use Rattle.djq_index.specs.Tuple.{pick}
 use Rattle.djq_index.specs.Table.{AreColumns}
@@ -18,12 +19,15 @@ take_suc [] i h = absurd (omega (arith, h))
 take_suc (x ∷ xs) zero h = refl
 take_suc (x ∷ xs) (suc i) h = ap (λ (ys : List ℕ). x ∷ ys) (take_suc xs i (omega (arith, h)))
 
-pub pick_more : (columns : List ℕ) (i : ℕ) (u : List ℕ) → i < length columns → pick (take (i + 1) columns) u ≡ pick (take i columns) u ++ slice_index_or u (slice_index_or columns i 0) 0 ∷ []
+pub pick_more : (columns : List ℕ) (i : ℕ) (u : List ℕ) → i < length columns → pick (take (i + 1) columns) u
+    ≡ pick (take i columns) u ++ slice_index_or u (slice_index_or columns i 0) 0 ∷ []
 unfolding pick
 pick_more columns i u h =
-    rw add-one (ap (map (λ c. slice_index_or u c 0)) (take_suc columns i h) ∙ map-append (λ (c : ℕ). slice_index_or u c 0) (take i columns) (slice_index_or columns i 0 ∷ []))
+    rw add-one (ap (map (λ c. slice_index_or u c 0)) (take_suc columns i h)
+    ∙ map-append (λ (c : ℕ). slice_index_or u c 0) (take i columns) (slice_index_or columns i 0 ∷ []))
 
-pub column_below : (width : ℕ) (columns : List ℕ) (i : ℕ) → AreColumns width columns → i < length columns → slice_index_or columns i 0 < width
+pub column_below : (width : ℕ) (columns : List ℕ) (i : ℕ) → AreColumns width columns → i < length columns
+    → slice_index_or columns i 0 < width
 unfolding AreColumns
 column_below width [] i h k = absurd (omega (arith, k))
 column_below width (c ∷ cs) zero h k = h.0

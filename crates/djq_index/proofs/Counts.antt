@@ -14,7 +14,8 @@ unfolding cnt
 cnt-append [] ys u = omega arith
 cnt-append (e ∷ xs) ys u = omega (arith, cnt-append xs ys u)
 
-pub many-append : (key : List ℕ) (xs ys : List Entry) (w : List ℕ) → many key (xs ++ ys) w ≡ many key xs w + many key ys w
+pub many-append : (key : List ℕ) (xs ys : List Entry) (w : List ℕ) → many key (xs ++ ys) w
+    ≡ many key xs w + many key ys w
 unfolding many
 many-append key [] ys w = omega arith
 many-append key (e ∷ xs) ys w = omega (arith, many-append key xs ys w)
@@ -23,22 +24,27 @@ pub cnt_cons : (e : Entry) (es : List Entry) (u : List ℕ) → cnt (e ∷ es) u
 unfolding cnt
 cnt_cons e es u = refl
 
-pub supp_cons : (e : Entry) (es : List Entry) (u : List ℕ) → supp (e ∷ es) u ≡ cond (same e.tuple u) e.supports 0 + supp es u
+pub supp_cons : (e : Entry) (es : List Entry) (u : List ℕ) → supp (e ∷ es) u
+    ≡ cond (same e.tuple u) e.supports 0 + supp es u
 unfolding supp
 supp_cons e es u = refl
 
-pub many_cons : (key : List ℕ) (e : Entry) (es : List Entry) (w : List ℕ) → many key (e ∷ es) w ≡ one (same (pick key e.tuple) w) + many key es w
+pub many_cons : (key : List ℕ) (e : Entry) (es : List Entry) (w : List ℕ) → many key (e ∷ es) w
+    ≡ one (same (pick key e.tuple) w) + many key es w
 unfolding many
 many_cons key e es w = refl
 
 -- an entry in the middle is one summand
-pub cnt_middle : (xs : List Entry) (e : Entry) (ys : List Entry) (u : List ℕ) → cnt (xs ++ e ∷ ys) u ≡ one (same e.tuple u) + cnt (xs ++ ys) u
+pub cnt_middle : (xs : List Entry) (e : Entry) (ys : List Entry) (u : List ℕ) → cnt (xs ++ e ∷ ys) u
+    ≡ one (same e.tuple u) + cnt (xs ++ ys) u
 cnt_middle xs e ys u = omega (arith, cnt-append xs (e ∷ ys) u, cnt-append xs ys u, cnt_cons e ys u)
 
-pub supp_middle : (xs : List Entry) (e : Entry) (ys : List Entry) (u : List ℕ) → supp (xs ++ e ∷ ys) u ≡ cond (same e.tuple u) e.supports 0 + supp (xs ++ ys) u
+pub supp_middle : (xs : List Entry) (e : Entry) (ys : List Entry) (u : List ℕ) → supp (xs ++ e ∷ ys) u
+    ≡ cond (same e.tuple u) e.supports 0 + supp (xs ++ ys) u
 supp_middle xs e ys u = omega (arith, supp-append xs (e ∷ ys) u, supp-append xs ys u, supp_cons e ys u)
 
-pub many_middle : (key : List ℕ) (xs : List Entry) (e : Entry) (ys : List Entry) (w : List ℕ) → many key (xs ++ e ∷ ys) w ≡ one (same (pick key e.tuple) w) + many key (xs ++ ys) w
+pub many_middle : (key : List ℕ) (xs : List Entry) (e : Entry) (ys : List Entry) (w : List ℕ)
+    → many key (xs ++ e ∷ ys) w ≡ one (same (pick key e.tuple) w) + many key (xs ++ ys) w
 many_middle key xs e ys w = omega (arith, many-append key xs (e ∷ ys) w, many-append key xs ys w, many_cons key e ys w)
 
 -- marked and unmarked entries make all
@@ -56,12 +62,15 @@ cnt_split (e ∷ es) u = by_mark e.marked (λ xs. cnt xs u) e es (one (same e.tu
 pub supp_split : (es : List Entry) (u : List ℕ) → supp es u ≡ supp (plain es) u + supp (marks es) u
 unfolding supp plain marks
 supp_split [] u = omega arith
-supp_split (e ∷ es) u = by_mark e.marked (λ xs. supp xs u) e es (cond (same e.tuple u) e.supports 0) (λ xs. refl) (supp_split es u)
+supp_split (e ∷ es) u = by_mark e.marked (λ xs. supp xs u) e es (cond (same e.tuple u) e.supports 0) (λ xs. refl)
+    (supp_split es u)
 
-pub many_split : (key : List ℕ) (es : List Entry) (w : List ℕ) → many key es w ≡ many key (plain es) w + many key (marks es) w
+pub many_split : (key : List ℕ) (es : List Entry) (w : List ℕ) → many key es w
+    ≡ many key (plain es) w + many key (marks es) w
 unfolding many plain marks
 many_split key [] w = omega arith
-many_split key (e ∷ es) w = by_mark e.marked (λ xs. many key xs w) e es (one (same (pick key e.tuple) w)) (λ xs. refl) (many_split key es w)
+many_split key (e ∷ es) w = by_mark e.marked (λ xs. many key xs w) e es (one (same (pick key e.tuple) w)) (λ xs. refl)
+    (many_split key es w)
 
 length_one : (b : Bool) (e : Entry) (es : List Entry) (n : ℕ) → length es ≡ n → length (cond b (e ∷ es) es) ≡ one b + n
 unfolding one
@@ -72,7 +81,8 @@ length_one false e es n h = omega arith
 pub length_grp : (key : List ℕ) (es : List Entry) (w : List ℕ) → length (grp key es w) ≡ many key es w
 unfolding grp many
 length_grp key [] w = refl
-length_grp key (e ∷ es) w = length_one (same (pick key e.tuple) w) e (grp key es w) (many key es w) (length_grp key es w)
+length_grp key (e ∷ es) w = length_one (same (pick key e.tuple) w) e (grp key es w) (many key es w)
+    (length_grp key es w)
 
 -- no number is larger than the list is long
 pub cnt_length : (es : List Entry) (u : List ℕ) → cnt es u ≤ length es

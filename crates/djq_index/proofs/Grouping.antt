@@ -1,14 +1,20 @@
 -- How groups change.
-use Rattle.std.proofs.Common.{◌≡◌, ◌≢◌, ℕ, zero, suc, ◌+◌, ◌<◌, List, [], ◌∷◌, ◌++◌, length, slice_set, Option, Some, None, refl, ap, ap₂, subst, sym, ◌∙◌, arith, false, inl, inr, get_or-set_same, get_or-set_other}
+use Rattle.std.proofs.Common.{◌≡◌, ◌≢◌, ℕ, zero, suc, ◌+◌, ◌<◌, List, [], ◌∷◌, ◌++◌, length}
+use Rattle.std.proofs.Common.{slice_set, Option, Some, None, refl, ap, ap₂, subst, sym, ◌∙◌, arith}
+use Rattle.std.proofs.Common.{false, inl, inr, get_or-set_same, get_or-set_other}
 use Rattle.std.proofs.lemmas.List.{append-nil}
 use Rattle.std.proofs.lemmas.Bool.{cases_Bool, false≢true, cases_eq}
 use Rattle.djq_arena.specs.declared.chain.Pair.{Pair}
 use Rattle.djq_arena.specs.declared.chain.Ends.{Ends}
 use Rattle.djq_arena.specs.Rows.{Row, IsAbsent, slots}
-use Rattle.djq_arena.specs.Chains.{Linked, first_of, last_of, AreDifferent, AreBelow, IsOut, AreOut, Avoids, pair_at, entered, left}
+use Rattle.djq_arena.specs.Chains.{Linked, first_of, last_of, AreDifferent, AreBelow, IsOut, AreOut}
+use Rattle.djq_arena.specs.Chains.{Avoids, pair_at, entered, left}
 use Rattle.djq_arena.specs.Store.{ends_of, extended, shrunk}
-use Rattle.djq_arena.proofs.Lists.{different_front, different_back, different_append, different_here, outs_swap, last_avoids, first_avoids, avoids_none}
-use Rattle.djq_arena.proofs.Chaining.{linked_same, entered_linked, entered_agree, left_linked, left_agree, prev_here, next_here}
+use Rattle.djq_arena.proofs.Lists.{different_front, different_back, different_append}
+use Rattle.djq_arena.proofs.Lists.{different_here, outs_swap, last_avoids, first_avoids}
+use Rattle.djq_arena.proofs.Lists.{avoids_none}
+use Rattle.djq_arena.proofs.Chaining.{linked_same, entered_linked, entered_agree, left_linked}
+use Rattle.djq_arena.proofs.Chaining.{left_agree, prev_here, next_here}
 use Rattle.djq_arena.proofs.Storing.{extended_is, shrunk_is}
 use Rattle.djq_arena.proofs.RowLemmas.{slots-append}
 use Rattle.djq_index.specs.declared.raw.Note.{Note}
@@ -18,7 +24,9 @@ use Rattle.djq_index.specs.Raw.{note_at, slots_at, row_at, AreSeated, ends_at, A
 use Rattle.djq_index.proofs.Tuples.{is_same, same_cases, same_other, one_true, one_false}
 use Rattle.djq_index.proofs.Counts.{length_grp, many_middle, many_cons}
 use Rattle.djq_index.proofs.Groups.{grp-append, grp_yes, grp_no}
-use Rattle.djq_index.proofs.Parts.{slots_at-append, slots_at_middle, slots_at_cons, no_group, no_ends, row_from_at, row_at_nil, row_at_other, row_at_first, row_at_middle, slots_nil}
+use Rattle.djq_index.proofs.Parts.{slots_at-append, slots_at_middle, slots_at_cons, no_group}
+use Rattle.djq_index.proofs.Parts.{no_ends, row_from_at, row_at_nil, row_at_other, row_at_first}
+use Rattle.djq_index.proofs.Parts.{row_at_middle, slots_nil}
 
 -- a group is among all
 out_first : (i x : ℕ) (xs : List ℕ) → IsOut i (x ∷ xs) → (x ≡ i → ⊥) × IsOut i xs
@@ -37,12 +45,14 @@ grp_nil : (key : List ℕ) (w : List ℕ) → grp key [] w ≡ []
 unfolding grp
 grp_nil key w = refl
 
-pub group_out : (i : ℕ) (key : List ℕ) (es : List Entry) (w : List ℕ) → IsOut i (slots_at es) → IsOut i (slots_at (grp key es w))
+pub group_out : (i : ℕ) (key : List ℕ) (es : List Entry) (w : List ℕ) → IsOut i (slots_at es)
+    → IsOut i (slots_at (grp key es w))
 group_out i key [] w h = rw (grp_nil key w, slots_nil) (out_nil i)
 group_out i key (e ∷ es) w h =
     let k = out_first i e.at.slot (slots_at es) (subst (IsOut i) (slots_at_cons e es) h) in
     elim (cases_Bool (same (pick key e.tuple) w)) [
-      | inl here ↦ rw (grp_yes key e es w here, slots_at_cons) (out_more i e.at.slot (slots_at (grp key es w)) k.0 (group_out i key es w k.1))
+      | inl here ↦ rw (grp_yes key e es w here, slots_at_cons)
+          (out_more i e.at.slot (slots_at (grp key es w)) k.0 (group_out i key es w k.1))
       | inr other ↦ rw (grp_no key e es w other) (group_out i key es w k.1)
     ]
 
@@ -58,12 +68,15 @@ different_nil : AreDifferent []
 unfolding AreDifferent
 different_nil = tt
 
-pub group_different : (key : List ℕ) (es : List Entry) (w : List ℕ) → AreDifferent (slots_at es) → AreDifferent (slots_at (grp key es w))
+pub group_different : (key : List ℕ) (es : List Entry) (w : List ℕ) → AreDifferent (slots_at es)
+    → AreDifferent (slots_at (grp key es w))
 group_different key [] w h = rw (grp_nil key w, slots_nil) different_nil
 group_different key (e ∷ es) w h =
     let k = different_first e.at.slot (slots_at es) (subst AreDifferent (slots_at_cons e es) h) in
     elim (cases_Bool (same (pick key e.tuple) w)) [
-      | inl here ↦ rw (grp_yes key e es w here, slots_at_cons) (different_more e.at.slot (slots_at (grp key es w)) (group_out e.at.slot key es w k.0) (group_different key es w k.1))
+      | inl here ↦ rw (grp_yes key e es w here, slots_at_cons)
+          (different_more e.at.slot (slots_at (grp key es w)) (group_out e.at.slot key es w k.0)
+          (group_different key es w k.1))
       | inr other ↦ rw (grp_no key e es w other) (group_different key es w k.1)
     ]
 
@@ -79,12 +92,14 @@ below_nil : (n : ℕ) → AreBelow n []
 unfolding AreBelow
 below_nil n = tt
 
-pub group_below : (n : ℕ) (key : List ℕ) (es : List Entry) (w : List ℕ) → AreBelow n (slots_at es) → AreBelow n (slots_at (grp key es w))
+pub group_below : (n : ℕ) (key : List ℕ) (es : List Entry) (w : List ℕ) → AreBelow n (slots_at es)
+    → AreBelow n (slots_at (grp key es w))
 group_below n key [] w h = rw (grp_nil key w, slots_nil) (below_nil n)
 group_below n key (e ∷ es) w h =
     let k = below_first n e.at.slot (slots_at es) (subst (AreBelow n) (slots_at_cons e es) h) in
     elim (cases_Bool (same (pick key e.tuple) w)) [
-      | inl here ↦ rw (grp_yes key e es w here, slots_at_cons) (below_more n e.at.slot (slots_at (grp key es w)) k.0 (group_below n key es w k.1))
+      | inl here ↦ rw (grp_yes key e es w here, slots_at_cons)
+          (below_more n e.at.slot (slots_at (grp key es w)) k.0 (group_below n key es w k.1))
       | inr other ↦ rw (grp_no key e es w other) (group_below n key es w k.1)
     ]
 
@@ -97,22 +112,33 @@ outs_more : (x : ℕ) (xs ys : List ℕ) → IsOut x ys → AreOut xs ys → Are
 unfolding AreOut
 outs_more x xs ys h k = (h, k)
 
-pub groups_apart : (key : List ℕ) (es : List Entry) (v w : List ℕ) → (v ≡ w → ⊥) → AreDifferent (slots_at es) → AreOut (slots_at (grp key es v)) (slots_at (grp key es w))
+pub groups_apart : (key : List ℕ) (es : List Entry) (v w : List ℕ) → (v ≡ w → ⊥) → AreDifferent (slots_at es)
+    → AreOut (slots_at (grp key es v)) (slots_at (grp key es w))
 groups_apart key [] v w other h = rw (grp_nil key v, slots_nil) (outs_nil (slots_at (grp key [] w)))
 groups_apart key (e ∷ es) v w other h =
     let k = different_first e.at.slot (slots_at es) (subst AreDifferent (slots_at_cons e es) h) in
     let rest = groups_apart key es v w other k.1 in
     elim (same_cases (pick key e.tuple) v) [
-      | inl here ↦ rw (grp_yes key e es v (is_same (pick key e.tuple) v here), grp_no key e es w (same_other (pick key e.tuple) w (λ there_too. other (sym here ∙ there_too))), slots_at_cons)
-          (outs_more e.at.slot (slots_at (grp key es v)) (slots_at (grp key es w)) (group_out e.at.slot key es w k.0) rest)
+      | inl here ↦ rw (
+        grp_yes key e es v (is_same (pick key e.tuple) v here),
+        grp_no key e es w
+            (same_other (pick key e.tuple) w (λ there_too. other (sym here ∙ there_too))),
+        slots_at_cons,
+      )
+          (outs_more e.at.slot (slots_at (grp key es v)) (slots_at (grp key es w)) (group_out e.at.slot key es w k.0)
+          rest)
       | inr no_v ↦ elim (cases_Bool (same (pick key e.tuple) w)) [
-        | inl in_w ↦ rw (grp_no key e es v no_v, grp_yes key e es w in_w, slots_at_cons) (outs_swap (e.at.slot ∷ slots_at (grp key es w)) (slots_at (grp key es v)) (outs_more e.at.slot (slots_at (grp key es w)) (slots_at (grp key es v)) (group_out e.at.slot key es v k.0) (outs_swap (slots_at (grp key es v)) (slots_at (grp key es w)) rest)))
+        | inl in_w ↦ rw (grp_no key e es v no_v, grp_yes key e es w in_w, slots_at_cons)
+            (outs_swap (e.at.slot ∷ slots_at (grp key es w)) (slots_at (grp key es v))
+            (outs_more e.at.slot (slots_at (grp key es w)) (slots_at (grp key es v)) (group_out e.at.slot key es v k.0)
+            (outs_swap (slots_at (grp key es v)) (slots_at (grp key es w)) rest)))
         | inr no_w ↦ rw (grp_no key e es v no_v, grp_no key e es w no_w) rest
       ]
     ]
 
 -- all groups are right, but that of w, whose head is h, may be empty
-pub record AreGroupsBut (key : List ℕ) (notes : List Note) (links : List Pair) (keys : List Row) (ends : List Ends) (es : List Entry) (w : List ℕ) (h : ℕ) : Type 0 where
+pub record AreGroupsBut (key : List ℕ) (notes : List Note) (links : List Pair) (keys : List Row) (ends : List Ends)
+    (es : List Entry) (w : List ℕ) (h : ℕ) : Type 0 where
   pub chained : (v : List ℕ) → Linked links None (slots_at (grp key es v)) None
   pub headed : (k : ℕ) (v : List ℕ) → row_at keys k ≡ Some v → ends_at ends k ≡ ends_of (slots_at (grp key es v))
   pub some : (k : ℕ) (v : List ℕ) → row_at keys k ≡ Some v → (v ≡ w → ⊥) → 0 < many key es v
@@ -121,32 +147,55 @@ pub record AreGroupsBut (key : List ℕ) (notes : List Note) (links : List Pair)
   pub seated : AreSeated key notes keys es
   pub mine : row_at keys h ≡ Some w
 
-pub but : (key : List ℕ) (notes : List Note) (links : List Pair) (keys : List Row) (ends : List Ends) (es : List Entry) (w : List ℕ) (h : ℕ) → AreGroups key notes links keys ends es → row_at keys h ≡ Some w → AreGroupsBut key notes links keys ends es w h
-but key notes links keys ends es w h g mine = record { chained = g.chained; headed = g.headed; some = λ k v r other. g.some k v r; none = g.none; once = g.once; seated = g.seated; mine = mine }
+pub but : (key : List ℕ) (notes : List Note) (links : List Pair) (keys : List Row) (ends : List Ends) (es : List Entry)
+    (w : List ℕ) (h : ℕ) → AreGroups key notes links keys ends es → row_at keys h ≡ Some w
+    → AreGroupsBut key notes links keys ends es w h
+but key notes links keys ends es w h g mine = record {
+  chained = g.chained;
+  headed = g.headed;
+  some = λ k v r other. g.some k v r;
+  none = g.none;
+  once = g.once;
+  seated =
+      g.seated;
+  mine = mine;
+}
 
 one_row : (keys : List Row) (k : ℕ) (u v : List ℕ) → row_at keys k ≡ Some u → row_at keys k ≡ Some v → u ≡ v
 one_row keys k u v h l = let e : Some u ≡ Some v = sym h ∙ l in cc
 
-seated_push : (key : List ℕ) (notes : List Note) (keys : List Row) (es : List Entry) (e : Entry) → AreSeated key notes keys es → row_at keys (note_at notes e.at.slot).head ≡ Some (pick key e.tuple) → AreSeated key notes keys (es ++ e ∷ [])
+seated_push : (key : List ℕ) (notes : List Note) (keys : List Row) (es : List Entry) (e : Entry)
+    → AreSeated key notes keys es → row_at keys (note_at notes e.at.slot).head ≡ Some (pick key e.tuple)
+    → AreSeated key notes keys (es ++ e ∷ [])
 unfolding AreSeated
 seated_push key notes keys [] e h k = (k, tt)
 seated_push key notes keys (x ∷ es) e h k = (h.0, seated_push key notes keys es e h.1 k)
 
-seated_out : (key : List ℕ) (notes : List Note) (keys : List Row) (xs : List Entry) (e : Entry) (ys : List Entry) → AreSeated key notes keys (xs ++ e ∷ ys) → AreSeated key notes keys (xs ++ ys) × (row_at keys (note_at notes e.at.slot).head ≡ Some (pick key e.tuple))
+seated_out : (key : List ℕ) (notes : List Note) (keys : List Row) (xs : List Entry) (e : Entry) (ys : List Entry)
+    → AreSeated key notes keys (xs ++ e ∷ ys) → AreSeated key notes keys (xs ++ ys)
+    × (row_at keys (note_at notes e.at.slot).head ≡ Some (pick key e.tuple))
 unfolding AreSeated
 seated_out key notes keys [] e ys h = (h.1, h.0)
 seated_out key notes keys (x ∷ xs) e ys h = let k = seated_out key notes keys xs e ys h.1 in ((h.0, k.0), k.1)
 
-pub seat_of : (key : List ℕ) (notes : List Note) (keys : List Row) (xs : List Entry) (e : Entry) (ys : List Entry) → AreSeated key notes keys (xs ++ e ∷ ys) → row_at keys (note_at notes e.at.slot).head ≡ Some (pick key e.tuple)
+pub seat_of : (key : List ℕ) (notes : List Note) (keys : List Row) (xs : List Entry) (e : Entry) (ys : List Entry)
+    → AreSeated key notes keys (xs ++ e ∷ ys) → row_at keys (note_at notes e.at.slot).head ≡ Some (pick key e.tuple)
 seat_of key notes keys xs e ys h = (seated_out key notes keys xs e ys h).1
 
-group_push : (key : List ℕ) (es : List Entry) (e : Entry) (w : List ℕ) → pick key e.tuple ≡ w → grp key (es ++ e ∷ []) w ≡ grp key es w ++ e ∷ []
-group_push key es e w h = grp-append key es (e ∷ []) w ∙ ap (λ (g : List Entry). grp key es w ++ g) (grp_yes key e [] w (is_same (pick key e.tuple) w h) ∙ ap (λ (g : List Entry). e ∷ g) (grp_nil key w))
+group_push : (key : List ℕ) (es : List Entry) (e : Entry) (w : List ℕ) → pick key e.tuple ≡ w → grp key (es ++ e ∷ []) w
+    ≡ grp key es w ++ e ∷ []
+group_push key es e w h = grp-append key es (e ∷ []) w
+    ∙ ap (λ (g : List Entry). grp key es w ++ g)
+    (grp_yes key e [] w (is_same (pick key e.tuple) w h) ∙ ap (λ (g : List Entry). e ∷ g) (grp_nil key w))
 
-group_else : (key : List ℕ) (es : List Entry) (e : Entry) (v : List ℕ) → (pick key e.tuple ≡ v → ⊥) → grp key (es ++ e ∷ []) v ≡ grp key es v
-group_else key es e v h = grp-append key es (e ∷ []) v ∙ ap (λ (g : List Entry). grp key es v ++ g) (grp_no key e [] v (same_other (pick key e.tuple) v h) ∙ grp_nil key v) ∙ append-nil (grp key es v)
+group_else : (key : List ℕ) (es : List Entry) (e : Entry) (v : List ℕ) → (pick key e.tuple ≡ v → ⊥)
+    → grp key (es ++ e ∷ []) v ≡ grp key es v
+group_else key es e v h = grp-append key es (e ∷ []) v
+    ∙ ap (λ (g : List Entry). grp key es v ++ g) (grp_no key e [] v (same_other (pick key e.tuple) v h) ∙ grp_nil key v)
+    ∙ append-nil (grp key es v)
 
-many_push : (key : List ℕ) (es : List Entry) (e : Entry) (v : List ℕ) → many key (es ++ e ∷ []) v ≡ many key es v + one (same (pick key e.tuple) v)
+many_push : (key : List ℕ) (es : List Entry) (e : Entry) (v : List ℕ) → many key (es ++ e ∷ []) v
+    ≡ many key es v + one (same (pick key e.tuple) v)
 many_push key es e v = omega (arith, many_middle key es e [] v, ap (λ (ds : List Entry). many key ds v) (append-nil es))
 
 slots_push : (g : List Entry) (e : Entry) (i : ℕ) → e.at.slot ≡ i → slots_at (g ++ e ∷ []) ≡ slots_at g ++ i ∷ []
@@ -173,12 +222,15 @@ absent_middle (q ∷ rs) r ss u h k = absent_middle rs r ss u h (absent_first q 
 pub present : (keys : List Row) (h : ℕ) (w v : List ℕ) → row_at keys h ≡ Some w → w ≡ v → IsAbsent keys v → ⊥
 present keys h w v r same_one absent =
     let row = row_from_at keys h w r in
-    absent_middle row.front (record { slot = h; cells = w }) row.back v same_one (subst (λ rs. IsAbsent rs v) row.is absent)
+    absent_middle row.front (record { slot = h; cells = w }) row.back v same_one
+    (subst (λ rs. IsAbsent rs v) row.is absent)
 
 -- a slot joins its group
-module _ (key : List ℕ) (notes more : List Note) (links : List Pair) (keys : List Row) (ends : List Ends) (es : List Entry) (w : List ℕ) (h : ℕ) (e : Entry) (i : ℕ)
+module _ (key : List ℕ) (notes more : List Note) (links : List Pair) (keys : List Row) (ends : List Ends)
+    (es : List Entry) (w : List ℕ) (h : ℕ) (e : Entry) (i : ℕ)
     (g : AreGroupsBut key notes links keys ends es w h) (its : pick key e.tuple ≡ w) (at : e.at.slot ≡ i)
-    (out : IsOut i (slots_at es)) (d : AreDifferent (slots_at es)) (b : AreBelow (length links) (slots_at es)) (within : i < length links) (inside : h < length ends)
+    (out : IsOut i (slots_at es)) (d : AreDifferent (slots_at es)) (b : AreBelow (length links) (slots_at es))
+    (within : i < length links) (inside : h < length ends)
     (seats : AreSeated key more keys es) (seat : (note_at more i).head ≡ h) where
   joined : List Pair
   joined = entered (ends_at ends h).last i links
@@ -189,41 +241,64 @@ module _ (key : List ℕ) (notes more : List Note) (links : List Pair) (keys : L
   join_mine : Linked joined None (slots_at (grp key (es ++ e ∷ []) w)) None
   unfolding joined
   join_mine = rw (group_push key es e w its, slots_push (grp key es w) e i at, last_is)
-      (entered_linked links (slots_at (grp key es w)) i (group_different key es w d) (group_below (length links) key es w b) (group_out i key es w out) within (g.chained w))
+      (entered_linked links (slots_at (grp key es w)) i (group_different key es w d)
+      (group_below (length links) key es w b) (group_out i key es w out) within (g.chained w))
 
   join_other : (v : List ℕ) → (v ≡ w → ⊥) → Linked joined None (slots_at (grp key (es ++ e ∷ []) v)) None
   unfolding joined
   join_other v other = rw (group_else key es e v (λ k. other (sym k ∙ its)), last_is)
       (linked_same links (entered (last_of (slots_at (grp key es w))) i links) None (slots_at (grp key es v)) None
       (entered_agree links (last_of (slots_at (grp key es w))) i (slots_at (grp key es v))
-      (avoid_last (slots_at (grp key es w)) (slots_at (grp key es v)) (group_different key es w d) (group_different key es v d) (groups_apart key es w v (λ k. other (sym k)) d))
+      (avoid_last (slots_at (grp key es w)) (slots_at (grp key es v)) (group_different key es w d)
+      (group_different key es v d) (groups_apart key es w v (λ k. other (sym k)) d))
       (group_out i key es v out))
       (g.chained v))
 
   join_chained : (v : List ℕ) → Linked joined None (slots_at (grp key (es ++ e ∷ []) v)) None
-  join_chained v = elim (same_cases v w) [ inl here ↦ subst (λ u. Linked joined None (slots_at (grp key (es ++ e ∷ []) u)) None) (sym here) join_mine | inr other ↦ join_other v (differs v w other) ]
+  join_chained v = elim (same_cases v w) [
+    | inl here ↦ subst (λ u. Linked joined None (slots_at (grp key (es ++ e ∷ []) u)) None) (sym here) join_mine
+    | inr
+        other ↦ join_other v (differs v w other)
+  ]
 
-  join_headed : (k : ℕ) (v : List ℕ) → row_at keys k ≡ Some v → ends_at (slice_set ends h (extended i (ends_at ends h))) k ≡ ends_of (slots_at (grp key (es ++ e ∷ []) v))
+  join_headed : (k : ℕ) (v : List ℕ) → row_at keys k ≡ Some v
+      → ends_at (slice_set ends h (extended i (ends_at ends h))) k ≡ ends_of (slots_at (grp key (es ++ e ∷ []) v))
   join_headed k v r = elim (cases_eq k h) [
     | inl here ↦ (let same_key : v ≡ w = one_row keys h v w (subst (λ j. row_at keys j ≡ Some v) here r) g.mine in
         rw (here, same_key, group_push key es e w its, slots_push (grp key es w) e i at)
-        (get_or-set_same ends h (extended i (ends_at ends h)) (record { first = None; last = None }) inside ∙ ap (extended i) (g.headed h w g.mine) ∙ extended_is (slots_at (grp key es w)) i))
-    | inr other ↦ rw (group_else key es e v (λ q. other (g.once k h w (subst (λ u. row_at keys k ≡ Some u) (sym q ∙ its) r) g.mine)))
-        (get_or-set_other ends h k (extended i (ends_at ends h)) (record { first = None; last = None }) other ∙ g.headed k v r)
+        (get_or-set_same ends h (extended i (ends_at ends h)) (record { first = None; last = None }) inside
+        ∙ ap (extended i) (g.headed h w g.mine) ∙ extended_is (slots_at (grp key es w)) i))
+    | inr other ↦ rw (group_else key es e v
+        (λ q. other (g.once k h w (subst (λ u. row_at keys k ≡ Some u) (sym q ∙ its) r) g.mine)))
+        (get_or-set_other ends h k (extended i (ends_at ends h)) (record { first = None; last = None }) other
+        ∙ g.headed k v r)
   ]
 
-  pub join_groups : AreGroups key more (entered (ends_at ends h).last i links) keys (slice_set ends h (extended i (ends_at ends h))) (es ++ e ∷ [])
+  pub join_groups : AreGroups key more (entered (ends_at ends h).last i links) keys
+      (slice_set ends h (extended i (ends_at ends h))) (es ++ e ∷ [])
   unfolding joined
   join_groups = record {
     chained = join_chained;
     headed = join_headed;
     some = λ k v r. elim (same_cases v w) [
-      | inl here ↦ omega (arith, many_push key es e v, one_true (same (pick key e.tuple) v) (is_same (pick key e.tuple) v (its ∙ sym here)))
+      | inl here ↦ omega (
+        arith,
+        many_push key es e v,
+        one_true (same (pick key e.tuple) v)
+            (is_same (pick key e.tuple) v (its ∙ sym here)),
+      )
       | inr other ↦ (let old = g.some k v r (differs v w other) in omega (arith, many_push key es e v, old))
     ];
-    none = λ v absent. omega (arith, many_push key es e v, g.none v absent, one_false (same (pick key e.tuple) v) (same_other (pick key e.tuple) v (λ q. present keys h w v g.mine (sym its ∙ q) absent)));
+    none = λ v absent. omega (
+      arith,
+      many_push key es e v,
+      g.none v absent,
+      one_false (same (pick key e.tuple) v)
+          (same_other (pick key e.tuple) v (λ q. present keys h w v g.mine (sym its ∙ q) absent)),
+    );
     once = g.once;
-    seated = seated_push key more keys es e seats (ap (λ (j : ℕ). row_at keys (note_at more j).head) at ∙ ap (row_at keys) seat ∙ g.mine ∙ ap Some (sym its));
+    seated = seated_push key more keys es e seats
+        (ap (λ (j : ℕ). row_at keys (note_at more j).head) at ∙ ap (row_at keys) seat ∙ g.mine ∙ ap Some (sym its));
   }
 
 outs_front : (xs ys zs : List ℕ) → AreOut (xs ++ ys) zs → AreOut xs zs
@@ -246,18 +321,26 @@ no_slots [] h = refl
 no_slots (e ∷ es) h = absurd cc
 
 -- a slot leaves its group
-pub group_middle : (key : List ℕ) (xs : List Entry) (e : Entry) (ys : List Entry) (w : List ℕ) → pick key e.tuple ≡ w → grp key (xs ++ e ∷ ys) w ≡ grp key xs w ++ e ∷ grp key ys w
-group_middle key xs e ys w h = grp-append key xs (e ∷ ys) w ∙ ap (λ (g : List Entry). grp key xs w ++ g) (grp_yes key e ys w (is_same (pick key e.tuple) w h))
+pub group_middle : (key : List ℕ) (xs : List Entry) (e : Entry) (ys : List Entry) (w : List ℕ) → pick key e.tuple ≡ w
+    → grp key (xs ++ e ∷ ys) w ≡ grp key xs w ++ e ∷ grp key ys w
+group_middle key xs e ys w h = grp-append key xs (e ∷ ys) w
+    ∙ ap (λ (g : List Entry). grp key xs w ++ g) (grp_yes key e ys w (is_same (pick key e.tuple) w h))
 
-group_past : (key : List ℕ) (xs : List Entry) (e : Entry) (ys : List Entry) (v : List ℕ) → (pick key e.tuple ≡ v → ⊥) → grp key (xs ++ e ∷ ys) v ≡ grp key (xs ++ ys) v
-group_past key xs e ys v h = grp-append key xs (e ∷ ys) v ∙ ap (λ (g : List Entry). grp key xs v ++ g) (grp_no key e ys v (same_other (pick key e.tuple) v h)) ∙ sym (grp-append key xs ys v)
+group_past : (key : List ℕ) (xs : List Entry) (e : Entry) (ys : List Entry) (v : List ℕ) → (pick key e.tuple ≡ v → ⊥)
+    → grp key (xs ++ e ∷ ys) v ≡ grp key (xs ++ ys) v
+group_past key xs e ys v h = grp-append key xs (e ∷ ys) v
+    ∙ ap (λ (g : List Entry). grp key xs v ++ g) (grp_no key e ys v (same_other (pick key e.tuple) v h))
+    ∙ sym (grp-append key xs ys v)
 
-slots_cut : (f : List Entry) (e : Entry) (g : List Entry) (i : ℕ) → e.at.slot ≡ i → slots_at (f ++ e ∷ g) ≡ slots_at f ++ i ∷ slots_at g
+slots_cut : (f : List Entry) (e : Entry) (g : List Entry) (i : ℕ) → e.at.slot ≡ i → slots_at (f ++ e ∷ g)
+    ≡ slots_at f ++ i ∷ slots_at g
 slots_cut f e g i h = slots_at_middle f e g ∙ ap (λ (j : ℕ). slots_at f ++ j ∷ slots_at g) h
 
-module _ (key : List ℕ) (notes : List Note) (links : List Pair) (keys : List Row) (ends : List Ends) (xs : List Entry) (e : Entry) (ys : List Entry) (h i : ℕ)
+module _ (key : List ℕ) (notes : List Note) (links : List Pair) (keys : List Row) (ends : List Ends) (xs : List Entry)
+    (e : Entry) (ys : List Entry) (h i : ℕ)
     (g : AreGroups key notes links keys ends (xs ++ e ∷ ys)) (at : e.at.slot ≡ i) (seat : (note_at notes i).head ≡ h)
-    (d : AreDifferent (slots_at (xs ++ e ∷ ys))) (b : AreBelow (length links) (slots_at (xs ++ e ∷ ys))) (inside : h < length ends) where
+    (d : AreDifferent (slots_at (xs ++ e ∷ ys))) (b : AreBelow (length links) (slots_at (xs ++ e ∷ ys)))
+    (inside : h < length ends) where
   its_key : List ℕ
   its_key = pick key e.tuple
 
@@ -266,11 +349,14 @@ module _ (key : List ℕ) (notes : List Note) (links : List Pair) (keys : List R
 
   its_head : row_at keys h ≡ Some its_key
   unfolding its_key
-  its_head = ap (row_at keys) (sym seat ∙ ap (λ (j : ℕ). (note_at notes j).head) (sym at)) ∙ seat_of key notes keys xs e ys g.seated
+  its_head = ap (row_at keys) (sym seat ∙ ap (λ (j : ℕ). (note_at notes j).head) (sym at))
+      ∙ seat_of key notes keys xs e ys g.seated
 
   its_chain : Linked links None (slots_at (grp key xs its_key) ++ i ∷ slots_at (grp key ys its_key)) None
   unfolding its_key
-  its_chain = subst (λ zs. Linked links None zs None) (ap slots_at (group_middle key xs e ys (pick key e.tuple) refl) ∙ slots_cut (grp key xs (pick key e.tuple)) e (grp key ys (pick key e.tuple)) i at) (g.chained (pick key e.tuple))
+  its_chain = subst (λ zs. Linked links None zs None)
+      (ap slots_at (group_middle key xs e ys (pick key e.tuple) refl)
+      ∙ slots_cut (grp key xs (pick key e.tuple)) e (grp key ys (pick key e.tuple)) i at) (g.chained (pick key e.tuple))
 
   its_prev : (pair_at links i).prev ≡ last_of (slots_at (grp key xs its_key))
   its_prev = prev_here links (slots_at (grp key xs its_key)) i (slots_at (grp key ys its_key)) its_chain
@@ -278,9 +364,11 @@ module _ (key : List ℕ) (notes : List Note) (links : List Pair) (keys : List R
   its_next : (pair_at links i).next ≡ first_of (slots_at (grp key ys its_key))
   its_next = next_here links (slots_at (grp key xs its_key)) i (slots_at (grp key ys its_key)) its_chain
 
-  its_slots : slots_at (grp key (xs ++ e ∷ ys) its_key) ≡ slots_at (grp key xs its_key) ++ i ∷ slots_at (grp key ys its_key)
+  its_slots : slots_at (grp key (xs ++ e ∷ ys) its_key)
+      ≡ slots_at (grp key xs its_key) ++ i ∷ slots_at (grp key ys its_key)
   unfolding its_key
-  its_slots = ap slots_at (group_middle key xs e ys (pick key e.tuple) refl) ∙ slots_cut (grp key xs (pick key e.tuple)) e (grp key ys (pick key e.tuple)) i at
+  its_slots = ap slots_at (group_middle key xs e ys (pick key e.tuple) refl)
+      ∙ slots_cut (grp key xs (pick key e.tuple)) e (grp key ys (pick key e.tuple)) i at
 
   rest_slots : slots_at (grp key (xs ++ ys) its_key) ≡ slots_at (grp key xs its_key) ++ slots_at (grp key ys its_key)
   rest_slots = ap slots_at (grp-append key xs ys its_key) ∙ slots_at-append (grp key xs its_key) (grp key ys its_key)
@@ -291,8 +379,11 @@ module _ (key : List ℕ) (notes : List Note) (links : List Pair) (keys : List R
       (subst AreDifferent its_slots (group_different key (xs ++ e ∷ ys) its_key d))
       (subst (AreBelow (length links)) its_slots (group_below (length links) key (xs ++ e ∷ ys) its_key b)) its_chain)
 
-  mine_out : (v : List ℕ) → (v ≡ its_key → ⊥) → AreOut (slots_at (grp key xs its_key) ++ i ∷ slots_at (grp key ys its_key)) (slots_at (grp key (xs ++ e ∷ ys) v))
-  mine_out v other = subst (λ zs. AreOut zs (slots_at (grp key (xs ++ e ∷ ys) v))) its_slots (groups_apart key (xs ++ e ∷ ys) its_key v (λ k. other (sym k)) d)
+  mine_out : (v : List ℕ) → (v ≡ its_key → ⊥)
+      → AreOut (slots_at (grp key xs its_key) ++ i ∷ slots_at (grp key ys its_key))
+      (slots_at (grp key (xs ++ e ∷ ys) v))
+  mine_out v other = subst (λ zs. AreOut zs (slots_at (grp key (xs ++ e ∷ ys) v))) its_slots
+      (groups_apart key (xs ++ e ∷ ys) its_key v (λ k. other (sym k)) d)
 
   part_other : (v : List ℕ) → (v ≡ its_key → ⊥) → Linked parted None (slots_at (grp key (xs ++ ys) v)) None
   unfolding parted its_key
@@ -300,36 +391,62 @@ module _ (key : List ℕ) (notes : List Note) (links : List Pair) (keys : List R
       (linked_same links (left (pair_at links i) links) None (slots_at (grp key (xs ++ e ∷ ys) v)) None
       (left_agree links (pair_at links i) (slots_at (grp key (xs ++ e ∷ ys) v))
       (rw its_prev (avoid_last (slots_at (grp key xs its_key)) (slots_at (grp key (xs ++ e ∷ ys) v))
-      (group_different key xs its_key (different_front (slots_at xs) (slots_at (e ∷ ys)) (subst AreDifferent (slots_at-append xs (e ∷ ys)) d)))
+      (group_different key xs its_key
+      (different_front (slots_at xs) (slots_at (e ∷ ys)) (subst AreDifferent (slots_at-append xs (e ∷ ys)) d)))
       (group_different key (xs ++ e ∷ ys) v d)
-      (outs_front (slots_at (grp key xs its_key)) (i ∷ slots_at (grp key ys its_key)) (slots_at (grp key (xs ++ e ∷ ys) v)) (mine_out v other))))
+      (outs_front (slots_at (grp key xs its_key)) (i ∷ slots_at (grp key ys its_key))
+      (slots_at (grp key (xs ++ e ∷ ys) v)) (mine_out v other))))
       (rw its_next (avoid_first (slots_at (grp key ys its_key)) (slots_at (grp key (xs ++ e ∷ ys) v))
-      (group_different key ys its_key (different_rest e.at.slot (slots_at ys) (subst AreDifferent (slots_at_cons e ys) (different_back (slots_at xs) (slots_at (e ∷ ys)) (subst AreDifferent (slots_at-append xs (e ∷ ys)) d)))))
+      (group_different key ys its_key
+      (different_rest e.at.slot (slots_at ys)
+      (subst AreDifferent (slots_at_cons e ys)
+      (different_back (slots_at xs) (slots_at (e ∷ ys)) (subst AreDifferent (slots_at-append xs (e ∷ ys)) d)))))
       (group_different key (xs ++ e ∷ ys) v d)
-      (outs_back (slots_at (grp key xs its_key)) i (slots_at (grp key ys its_key)) (slots_at (grp key (xs ++ e ∷ ys) v)) (mine_out v other)))))
+      (outs_back (slots_at (grp key xs its_key)) i (slots_at (grp key ys its_key)) (slots_at (grp key (xs ++ e ∷ ys) v))
+      (mine_out v other)))))
       (g.chained v))
 
   part_chained : (v : List ℕ) → Linked parted None (slots_at (grp key (xs ++ ys) v)) None
-  part_chained v = elim (same_cases v its_key) [ inl here ↦ subst (λ u. Linked parted None (slots_at (grp key (xs ++ ys) u)) None) (sym here) part_mine | inr other ↦ part_other v (differs v its_key other) ]
-
-  part_headed : (k : ℕ) (v : List ℕ) → row_at keys k ≡ Some v → ends_at (slice_set ends h (shrunk (pair_at links i) (ends_at ends h))) k ≡ ends_of (slots_at (grp key (xs ++ ys) v))
-  unfolding its_key
-  part_headed k v r = elim (cases_eq k h) [
-    | inl here ↦ (let same_key : v ≡ pick key e.tuple = one_row keys h v (pick key e.tuple) (subst (λ j. row_at keys j ≡ Some v) here r) its_head in
-        rw (here, same_key, rest_slots)
-        (get_or-set_same ends h (shrunk (pair_at links i) (ends_at ends h)) (record { first = None; last = None }) inside
-        ∙ ap (shrunk (pair_at links i)) (g.headed h (pick key e.tuple) its_head ∙ ap ends_of its_slots)
-        ∙ shrunk_is (pair_at links i) (slots_at (grp key xs (pick key e.tuple))) i (slots_at (grp key ys (pick key e.tuple))) its_prev its_next))
-    | inr other ↦ rw (← (group_past key xs e ys v (λ q. other (g.once k h (pick key e.tuple) (subst (λ u. row_at keys k ≡ Some u) (sym q) r) its_head))))
-        (get_or-set_other ends h k (shrunk (pair_at links i) (ends_at ends h)) (record { first = None; last = None }) other ∙ g.headed k v r)
+  part_chained v = elim (same_cases v its_key) [
+    | inl here ↦ subst (λ u. Linked parted None (slots_at (grp key (xs ++ ys) u)) None) (sym here) part_mine
+    | inr
+        other ↦ part_other v (differs v its_key other)
   ]
 
-  pub part_groups : AreGroupsBut key notes (left (pair_at links i) links) keys (slice_set ends h (shrunk (pair_at links i) (ends_at ends h))) (xs ++ ys) (pick key e.tuple) h
+  part_headed : (k : ℕ) (v : List ℕ) → row_at keys k ≡ Some v
+      → ends_at (slice_set ends h (shrunk (pair_at links i) (ends_at ends h))) k
+      ≡ ends_of (slots_at (grp key (xs ++ ys) v))
+  unfolding its_key
+  part_headed k v r = elim (cases_eq k h) [
+    | inl here ↦ (let same_key : v
+        ≡ pick key e.tuple = one_row keys h v (pick key e.tuple) (subst (λ j. row_at keys j ≡ Some v) here r) its_head
+        in
+        rw (here, same_key, rest_slots)
+        (get_or-set_same ends h (shrunk (pair_at links i) (ends_at ends h)) (record { first = None; last = None })
+        inside
+        ∙ ap (shrunk (pair_at links i)) (g.headed h (pick key e.tuple) its_head ∙ ap ends_of its_slots)
+        ∙ shrunk_is (pair_at links i) (slots_at (grp key xs (pick key e.tuple))) i
+        (slots_at (grp key ys (pick key e.tuple))) its_prev its_next))
+    | inr other ↦ rw (← (group_past key xs e ys v
+        (λ q. other (g.once k h (pick key e.tuple) (subst (λ u. row_at keys k ≡ Some u) (sym q) r) its_head))))
+        (get_or-set_other ends h k (shrunk (pair_at links i) (ends_at ends h)) (record { first = None; last = None })
+        other ∙ g.headed k v r)
+  ]
+
+  pub part_groups : AreGroupsBut key notes (left (pair_at links i) links) keys
+      (slice_set ends h (shrunk (pair_at links i) (ends_at ends h))) (xs ++ ys) (pick key e.tuple) h
   unfolding its_key parted
   part_groups = record {
     chained = part_chained;
     headed = part_headed;
-    some = λ k v r other. (let old = g.some k v r in omega (arith, many_middle key xs e ys v, old, one_false (same (pick key e.tuple) v) (same_other (pick key e.tuple) v (λ q. other (sym q)))));
+    some = λ k v r other.
+        (let old = g.some k v r in omega (
+          arith,
+          many_middle key xs e ys v,
+          old,
+          one_false (same (pick key e.tuple) v)
+              (same_other (pick key e.tuple) v (λ q. other (sym q))),
+        ));
     none = λ v absent. omega (arith, many_middle key xs e ys v, g.none v absent);
     once = g.once;
     seated = (seated_out key notes keys xs e ys g.seated).0;
@@ -341,22 +458,29 @@ slots_first : (q : Row) (qs : List Row) → slots (q ∷ qs) ≡ q.slot ∷ slot
 unfolding slots
 slots_first q qs = refl
 
-row_gone : (ks : List Row) (r : Row) (ls : List Row) (k : ℕ) → (k ≡ r.slot → ⊥) → row_at (ks ++ ls) k ≡ row_at (ks ++ r ∷ ls) k
+row_gone : (ks : List Row) (r : Row) (ls : List Row) (k : ℕ) → (k ≡ r.slot → ⊥) → row_at (ks ++ ls) k
+    ≡ row_at (ks ++ r ∷ ls) k
 row_gone [] r ls k other = sym (row_at_other r ls k (λ q. other (sym q)))
 row_gone (q ∷ ks) r ls k other =
     elim (cases_eq q.slot k) [
       | inl here ↦ row_at_first q (ks ++ ls) k here ∙ sym (row_at_first q (ks ++ r ∷ ls) k here)
-      | inr no_q ↦ row_at_other q (ks ++ ls) k no_q ∙ row_gone ks r ls k other ∙ sym (row_at_other q (ks ++ r ∷ ls) k no_q)
+      | inr no_q ↦ row_at_other q (ks ++ ls) k no_q ∙ row_gone ks r ls k other
+          ∙ sym (row_at_other q (ks ++ r ∷ ls) k no_q)
     ]
 
 no_row : (rs : List Row) (k : ℕ) → IsOut k (slots rs) → row_at rs k ≡ None
 no_row [] k h = row_at_nil k
-no_row (r ∷ rs) k h = let o = out_first k r.slot (slots rs) (subst (IsOut k) (slots_first r rs) h) in row_at_other r rs k o.0 ∙ no_row rs k o.1
+no_row (r ∷ rs) k h = let o = out_first k r.slot (slots rs) (subst (IsOut k) (slots_first r rs) h) in row_at_other r rs
+    k o.0 ∙ no_row rs k o.1
 
-out_of_rest : (ks : List Row) (r : Row) (ls : List Row) → AreDifferent (slots (ks ++ r ∷ ls)) → IsOut r.slot (slots (ks ++ ls))
-out_of_rest ks r ls d = subst (IsOut r.slot) (sym (slots-append ks ls)) (different_here (slots ks) r.slot (slots ls) (subst AreDifferent (slots-append ks (r ∷ ls) ∙ ap (λ (zs : List ℕ). slots ks ++ zs) (slots_first r ls)) d))
+out_of_rest : (ks : List Row) (r : Row) (ls : List Row) → AreDifferent (slots (ks ++ r ∷ ls))
+    → IsOut r.slot (slots (ks ++ ls))
+out_of_rest ks r ls d = subst (IsOut r.slot) (sym (slots-append ks ls))
+    (different_here (slots ks) r.slot (slots ls)
+    (subst AreDifferent (slots-append ks (r ∷ ls) ∙ ap (λ (zs : List ℕ). slots ks ++ zs) (slots_first r ls)) d))
 
-absent_in : (ks : List Row) (r : Row) (ls : List Row) (v : List ℕ) → (r.cells ≡ v → ⊥) → IsAbsent (ks ++ ls) v → IsAbsent (ks ++ r ∷ ls) v
+absent_in : (ks : List Row) (r : Row) (ls : List Row) (v : List ℕ) → (r.cells ≡ v → ⊥) → IsAbsent (ks ++ ls) v
+    → IsAbsent (ks ++ r ∷ ls) v
 unfolding IsAbsent
 absent_in [] r ls v h k = (h, k)
 absent_in (q ∷ ks) r ls v h k = (k.0, absent_in ks r ls v h k.1)
@@ -364,15 +488,28 @@ absent_in (q ∷ ks) r ls v h k = (k.0, absent_in ks r ls v h k.1)
 none_some : {A : Type 0} (o : Option A) (x : A) → o ≡ None → o ≡ Some x → ⊥
 none_some o x h k = let e : None ≡ Some x = sym h ∙ k in cc
 
-many_first : (key : List ℕ) (e : Entry) (es : List Entry) (w : List ℕ) → many key (e ∷ es) w ≡ 0 → (pick key e.tuple ≡ w → ⊥) × (many key es w ≡ 0)
-many_first key e es w h =
-    ((λ q. omega (arith, h, many_cons key e es w, one_true (same (pick key e.tuple) w) (is_same (pick key e.tuple) w q))), omega (arith, h, many_cons key e es w))
+many_first : (key : List ℕ) (e : Entry) (es : List Entry) (w : List ℕ) → many key (e ∷ es) w ≡ 0
+    → (pick key e.tuple ≡ w → ⊥) × (many key es w ≡ 0)
+many_first key e es w h = (
+  (λ q. omega (
+    arith,
+    h,
+    many_cons key e es w,
+    one_true (same (pick key e.tuple) w)
+        (is_same (pick key e.tuple) w q),
+  )),
+  omega (arith, h, many_cons key e es w),
+)
 
-seated_first : (key : List ℕ) (notes : List Note) (keys : List Row) (e : Entry) (es : List Entry) → AreSeated key notes keys (e ∷ es) → (row_at keys (note_at notes e.at.slot).head ≡ Some (pick key e.tuple)) × AreSeated key notes keys es
+seated_first : (key : List ℕ) (notes : List Note) (keys : List Row) (e : Entry) (es : List Entry)
+    → AreSeated key notes keys (e ∷ es) → (row_at keys (note_at notes e.at.slot).head ≡ Some (pick key e.tuple))
+    × AreSeated key notes keys es
 unfolding AreSeated
 seated_first key notes keys e es h = h
 
-seated_more : (key : List ℕ) (notes : List Note) (keys : List Row) (e : Entry) (es : List Entry) → row_at keys (note_at notes e.at.slot).head ≡ Some (pick key e.tuple) → AreSeated key notes keys es → AreSeated key notes keys (e ∷ es)
+seated_more : (key : List ℕ) (notes : List Note) (keys : List Row) (e : Entry) (es : List Entry)
+    → row_at keys (note_at notes e.at.slot).head ≡ Some (pick key e.tuple) → AreSeated key notes keys es
+    → AreSeated key notes keys (e ∷ es)
 unfolding AreSeated
 seated_more key notes keys e es h k = (h, k)
 
@@ -380,25 +517,36 @@ seated_none : (key : List ℕ) (notes : List Note) (keys : List Row) → AreSeat
 unfolding AreSeated
 seated_none key notes keys = tt
 
-seated_gone : (key : List ℕ) (notes : List Note) (ks : List Row) (r : Row) (ls : List Row) (es : List Entry) → row_at (ks ++ r ∷ ls) r.slot ≡ Some r.cells → many key es r.cells ≡ 0
+seated_gone : (key : List ℕ) (notes : List Note) (ks : List Row) (r : Row) (ls : List Row) (es : List Entry)
+    → row_at (ks ++ r ∷ ls) r.slot ≡ Some r.cells → many key es r.cells ≡ 0
     → AreSeated key notes (ks ++ r ∷ ls) es → AreSeated key notes (ks ++ ls) es
 seated_gone key notes ks r ls [] mine none h = seated_none key notes (ks ++ ls)
 seated_gone key notes ks r ls (e ∷ es) mine none h =
     let s = seated_first key notes (ks ++ r ∷ ls) e es h in
     let m = many_first key e es r.cells none in
     seated_more key notes (ks ++ ls) e es
-    (row_gone ks r ls (note_at notes e.at.slot).head (λ q. m.0 (one_row (ks ++ r ∷ ls) r.slot (pick key e.tuple) r.cells (subst (λ j. row_at (ks ++ r ∷ ls) j ≡ Some (pick key e.tuple)) q s.0) mine)) ∙ s.0)
+    (row_gone ks r ls (note_at notes e.at.slot).head
+    (λ q. m.0 (one_row (ks ++ r ∷ ls) r.slot (pick key e.tuple) r.cells
+    (subst (λ j. row_at (ks ++ r ∷ ls) j ≡ Some (pick key e.tuple)) q s.0) mine)) ∙ s.0)
     (seated_gone key notes ks r ls es mine m.1 s.1)
 
-pub pruned : (key : List ℕ) (notes : List Note) (links : List Pair) (ks : List Row) (r : Row) (ls : List Row) (ends : List Ends) (es : List Entry) (w : List ℕ) (h : ℕ)
-    → AreGroupsBut key notes links (ks ++ r ∷ ls) ends es w h → r.slot ≡ h → AreDifferent (slots (ks ++ r ∷ ls)) → many key es w ≡ 0 → AreGroups key notes links (ks ++ ls) ends es
+pub pruned : (key : List ℕ) (notes : List Note) (links : List Pair) (ks : List Row) (r : Row) (ls : List Row)
+    (ends : List Ends) (es : List Entry) (w : List ℕ) (h : ℕ)
+    → AreGroupsBut key notes links (ks ++ r ∷ ls) ends es w h → r.slot ≡ h → AreDifferent (slots (ks ++ r ∷ ls))
+    → many key es w ≡ 0 → AreGroups key notes links (ks ++ ls) ends es
 pruned key notes links ks r ls ends es w h g at d empty = record {
   chained = g.chained;
   headed = λ k v q. g.headed k v (back k v q);
-  some = λ k v q. g.some k v (back k v q) (λ s. other k v q (g.once k h w (subst (λ u. row_at (ks ++ r ∷ ls) k ≡ Some u) s (back k v q)) g.mine));
-  none = λ v absent. elim (same_cases v w) [ inl here ↦ subst (λ u. many key es u ≡ 0) (sym here) empty | inr no_w ↦ g.none v (absent_in ks r ls v (λ q. differs v w no_w (sym (sym cells ∙ q))) absent) ];
+  some = λ k v q. g.some k v (back k v q)
+      (λ s. other k v q (g.once k h w (subst (λ u. row_at (ks ++ r ∷ ls) k ≡ Some u) s (back k v q)) g.mine));
+  none = λ v absent. elim (same_cases v w) [
+    | inl here ↦ subst (λ u. many key es u ≡ 0) (sym here) empty
+    | inr no_w ↦ g.none v
+        (absent_in ks r ls v (λ q. differs v w no_w (sym (sym cells ∙ q))) absent)
+  ];
   once = λ j k v p q. g.once j k v (back j v p) (back k v q);
-  seated = seated_gone key notes ks r ls es (subst (λ j. row_at (ks ++ r ∷ ls) j ≡ Some r.cells) refl mine) (subst (λ u. many key es u ≡ 0) (sym cells) empty) g.seated;
+  seated = seated_gone key notes ks r ls es (subst (λ j. row_at (ks ++ r ∷ ls) j ≡ Some r.cells) refl mine)
+      (subst (λ u. many key es u ≡ 0) (sym cells) empty) g.seated;
 }
   where
     mine : row_at (ks ++ r ∷ ls) r.slot ≡ Some r.cells
@@ -420,34 +568,46 @@ pruned key notes links ks r ls ends es w h g at d empty = record {
 first_none : (es : List Entry) → es ≡ [] → first_of (slots_at es) ≡ None
 first_none es h = ap (λ (g : List Entry). first_of (slots_at g)) h ∙ ap first_of slots_nil
 
-pub kept : (key : List ℕ) (notes : List Note) (links : List Pair) (keys : List Row) (ends : List Ends) (es : List Entry) (w : List ℕ) (h : ℕ)
-    → AreGroupsBut key notes links keys ends es w h → ((ends_at ends h).first ≡ None → ⊥) → AreGroups key notes links keys ends es
+pub kept : (key : List ℕ) (notes : List Note) (links : List Pair) (keys : List Row) (ends : List Ends) (es : List Entry)
+    (w : List ℕ) (h : ℕ)
+    → AreGroupsBut key notes links keys ends es w h → ((ends_at ends h).first ≡ None → ⊥)
+    → AreGroups key notes links keys ends es
 kept key notes links keys ends es w h g some_end = record {
   chained = g.chained;
   headed = g.headed;
   none = g.none;
   once = g.once;
   seated = g.seated;
-  some = λ k v q. elim (same_cases v w) [ inl here ↦ subst (λ u. 0 < many key es u) (sym here) (positive (many key es w) refl) | inr other ↦ g.some k v q (differs v w other) ];
+  some = λ k v q. elim (same_cases v w) [
+    | inl here ↦ subst (λ u. 0 < many key es u) (sym here) (positive (many key es w) refl)
+    | inr other ↦ g.some k v q
+        (differs v w other)
+  ];
 }
   where
     positive : (n : ℕ) → many key es w ≡ n → 0 < many key es w
-    positive zero k = absurd (some_end (ap (λ (v : Ends). v.first) (g.headed h w g.mine) ∙ first_none (grp key es w) (no_group key es w k)))
+    positive zero k = absurd
+        (some_end (ap (λ (v : Ends). v.first) (g.headed h w g.mine) ∙ first_none (grp key es w) (no_group key es w k)))
     positive (suc n) k = omega (arith, k)
 
-pub emptied : (key : List ℕ) (es : List Entry) (w : List ℕ) (o : Option ℕ) → o ≡ first_of (slots_at (grp key es w)) → o ≡ None → many key es w ≡ 0
-emptied key es w o h none = sym (length_grp key es w) ∙ ap (λ (g : List Entry). length g) (no_slots (grp key es w) (sym h ∙ none))
+pub emptied : (key : List ℕ) (es : List Entry) (w : List ℕ) (o : Option ℕ) → o ≡ first_of (slots_at (grp key es w)) → o
+    ≡ None → many key es w ≡ 0
+emptied key es w o h none = sym (length_grp key es w)
+    ∙ ap (λ (g : List Entry). length g) (no_slots (grp key es w) (sym h ∙ none))
 
 -- a new head
 row_push : (keys : List Row) (r : Row) (k : ℕ) → (k ≡ r.slot → ⊥) → row_at (keys ++ r ∷ []) k ≡ row_at keys k
 row_push keys r k other = sym (row_gone keys r [] k other) ∙ ap (λ (rs : List Row). row_at rs k) (append-nil keys)
 
-seated_found : (key : List ℕ) (notes : List Note) (keys : List Row) (r : Row) (es : List Entry) → row_at keys r.slot ≡ None → AreSeated key notes keys es → AreSeated key notes (keys ++ r ∷ []) es
+seated_found : (key : List ℕ) (notes : List Note) (keys : List Row) (r : Row) (es : List Entry) → row_at keys r.slot
+    ≡ None → AreSeated key notes keys es → AreSeated key notes (keys ++ r ∷ []) es
 seated_found key notes keys r [] none h = seated_none key notes (keys ++ r ∷ [])
 seated_found key notes keys r (e ∷ es) none h =
     let s = seated_first key notes keys e es h in
     seated_more key notes (keys ++ r ∷ []) e es
-    (row_push keys r (note_at notes e.at.slot).head (λ q. none_some (row_at keys r.slot) (pick key e.tuple) none (subst (λ j. row_at keys j ≡ Some (pick key e.tuple)) q s.0)) ∙ s.0)
+    (row_push keys r (note_at notes e.at.slot).head
+    (λ q. none_some (row_at keys r.slot) (pick key e.tuple) none
+    (subst (λ j. row_at keys j ≡ Some (pick key e.tuple)) q s.0)) ∙ s.0)
     (seated_found key notes keys r es none s.1)
 
 absent_push : (keys : List Row) (r : Row) (v : List ℕ) → IsAbsent (keys ++ r ∷ []) v → IsAbsent keys v
@@ -455,29 +615,35 @@ unfolding IsAbsent
 absent_push [] r v h = tt
 absent_push (q ∷ keys) r v h = (h.0, absent_push keys r v h.1)
 
-pub founded : (key : List ℕ) (notes : List Note) (links : List Pair) (keys : List Row) (h : ℕ) (w : List ℕ) (ends more : List Ends) (es : List Entry)
-    → AreGroups key notes links keys ends es → IsAbsent keys w → AreDifferent (slots (keys ++ record { slot = h; cells = w } ∷ []))
+pub founded : (key : List ℕ) (notes : List Note) (links : List Pair) (keys : List Row) (h : ℕ) (w : List ℕ)
+    (ends more : List Ends) (es : List Entry)
+    → AreGroups key notes links keys ends es → IsAbsent keys w
+    → AreDifferent (slots (keys ++ record { slot = h; cells = w } ∷ []))
     → ends_at more h ≡ record { first = None; last = None } → ((k : ℕ) → k ≢ h → ends_at more k ≡ ends_at ends k)
     → AreGroupsBut key notes links (keys ++ record { slot = h; cells = w } ∷ []) more es w h
 founded key notes links keys h w ends more es g absent d blank others = record {
   chained = g.chained;
   headed = λ k v q. elim (cases_eq k h) [
-    | inl here ↦ (let same_key : v ≡ w = one_row (keys ++ r ∷ []) h v w (subst (λ j. row_at (keys ++ r ∷ []) j ≡ Some v) here q) mine in
+    | inl here ↦ (let same_key : v
+        ≡ w = one_row (keys ++ r ∷ []) h v w (subst (λ j. row_at (keys ++ r ∷ []) j ≡ Some v) here q) mine in
         rw (here, same_key) (blank ∙ sym (no_ends key es w (g.none w absent))))
     | inr other ↦ others k other ∙ g.headed k v (sym (row_push keys r k other) ∙ q)
   ];
   some = λ k v q no_w. elim (cases_eq k h) [
-    | inl here ↦ absurd (no_w (one_row (keys ++ r ∷ []) h v w (subst (λ j. row_at (keys ++ r ∷ []) j ≡ Some v) here q) mine))
+    | inl here ↦ absurd (no_w
+        (one_row (keys ++ r ∷ []) h v w (subst (λ j. row_at (keys ++ r ∷ []) j ≡ Some v) here q) mine))
     | inr other ↦ g.some k v (sym (row_push keys r k other) ∙ q)
   ];
   none = λ v none. g.none v (absent_push keys r v none);
   once = λ j k v p q. elim (cases_eq j h) [
     | inl j_is ↦ elim (cases_eq k h) [
       | inl k_is ↦ j_is ∙ sym k_is
-      | inr k_not ↦ absurd (present keys k v w (sym (row_push keys r k k_not) ∙ q) (one_row (keys ++ r ∷ []) h v w (subst (λ i. row_at (keys ++ r ∷ []) i ≡ Some v) j_is p) mine) absent)
+      | inr k_not ↦ absurd (present keys k v w (sym (row_push keys r k k_not) ∙ q)
+          (one_row (keys ++ r ∷ []) h v w (subst (λ i. row_at (keys ++ r ∷ []) i ≡ Some v) j_is p) mine) absent)
     ]
     | inr j_not ↦ elim (cases_eq k h) [
-      | inl k_is ↦ absurd (present keys j v w (sym (row_push keys r j j_not) ∙ p) (one_row (keys ++ r ∷ []) h v w (subst (λ i. row_at (keys ++ r ∷ []) i ≡ Some v) k_is q) mine) absent)
+      | inl k_is ↦ absurd (present keys j v w (sym (row_push keys r j j_not) ∙ p)
+          (one_row (keys ++ r ∷ []) h v w (subst (λ i. row_at (keys ++ r ∷ []) i ≡ Some v) k_is q) mine) absent)
       | inr k_not ↦ g.once j k v (sym (row_push keys r j j_not) ∙ p) (sym (row_push keys r k k_not) ∙ q)
     ]
   ];

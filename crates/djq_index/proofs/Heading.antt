@@ -1,5 +1,6 @@
 -- A table has at most as many heads as tuples.
-use Rattle.std.proofs.Common.{◌≡◌, ℕ, suc, ◌+◌, ◌<◌, ◌≤◌, List, [], ◌∷◌, length, Some, refl, ap, subst, sym, ◌∙◌, arith, ◌⊎◌, inl, inr}
+use Rattle.std.proofs.Common.{◌≡◌, ℕ, suc, ◌+◌, ◌<◌, ◌≤◌, List, [], ◌∷◌, length, Some, refl, ap}
+use Rattle.std.proofs.Common.{subst, sym, ◌∙◌, arith, ◌⊎◌, inl, inr}
 use Rattle.std.proofs.lemmas.Bool.{cases_eq}
 use Rattle.djq_arena.specs.Chains.{IsOut, AreDifferent}
 use Rattle.djq_arena.specs.Rows.{Row, slots}
@@ -28,16 +29,22 @@ kept_here : (x y : ℕ) (ys : List ℕ) (z : ℕ) → y ≡ x → (z ≡ x → �
 kept_here x y ys z same other (inl it) = absurd (other (sym it ∙ same))
 kept_here x y ys z same other (inr h) = h
 
-kept_later : (x y : ℕ) (ys : List ℕ) (w : Without x ys) (z : ℕ) → (z ≡ x → ⊥) → (y ≡ z) ⊎ IsIn z ys → (y ≡ z) ⊎ IsIn z w.rest
+kept_later : (x y : ℕ) (ys : List ℕ) (w : Without x ys) (z : ℕ) → (z ≡ x → ⊥) → (y ≡ z) ⊎ IsIn z ys
+    → (y ≡ z) ⊎ IsIn z w.rest
 kept_later x y ys w z other (inl it) = inl it
 kept_later x y ys w z other (inr h) = inr (w.others z other h)
 
 without : (x : ℕ) (ys : List ℕ) → IsIn x ys → Without x ys
 without x [] h = absurd h
-without x (y ∷ ys) (inl same) = record { rest = ys; shorter = omega arith; others = λ z other h. kept_here x y ys z same other h }
+without x (y ∷ ys) (inl same) = record
+    { rest = ys; shorter = omega arith; others = λ z other h. kept_here x y ys z same other h }
 without x (y ∷ ys) (inr h) =
     let w = without x ys h in
-    record { rest = y ∷ w.rest; shorter = omega (arith, w.shorter); others = λ z other k. kept_later x y ys w z other k }
+    record {
+      rest = y ∷ w.rest;
+      shorter = omega (arith, w.shorter);
+      others = λ z other k. kept_later x y ys w z other k;
+    }
 
 out_in : (x : ℕ) (xs : List ℕ) → IsOut x xs → IsIn x xs → ⊥
 unfolding IsOut
@@ -51,7 +58,8 @@ unfolding AreDifferent
 fewer [] ys d h = omega arith
 fewer (x ∷ xs) ys d h =
     let w = without x ys (h x (inl refl)) in
-    let k = fewer xs w.rest d.1 (λ z m. w.others z (λ same. out_in x xs d.0 (subst (λ (n : ℕ). IsIn n xs) same m)) (h z (inr m))) in
+    let k = fewer xs w.rest d.1
+    (λ z m. w.others z (λ same. out_in x xs d.0 (subst (λ (n : ℕ). IsIn n xs) same m)) (h z (inr m))) in
     omega (arith, w.shorter, k)
 
 -- the head of each entry
@@ -68,14 +76,16 @@ unfolding many
 none_many key w h = omega arith
 
 -- the head of a group that has a tuple is the head of an entry
-is_head : (key : List ℕ) (notes : List Note) (keys : List Row) (es : List Entry) (h : ℕ) (w : List ℕ) → ((j k : ℕ) (v : List ℕ) → row_at keys j ≡ Some v → row_at keys k ≡ Some v → j ≡ k)
+is_head : (key : List ℕ) (notes : List Note) (keys : List Row) (es : List Entry) (h : ℕ) (w : List ℕ)
+    → ((j k : ℕ) (v : List ℕ) → row_at keys j ≡ Some v → row_at keys k ≡ Some v → j ≡ k)
     → AreSeated key notes keys es → row_at keys h ≡ Some w → 0 < many key es w → IsIn h (heads_of notes es)
 unfolding AreSeated
 is_head key notes keys [] h w once s at some = none_many key w some
 is_head key notes keys (e ∷ es) h w once s at some =
     elim (same_cases (pick key e.tuple) w) [
       | inl here ↦ inl (once (note_at notes e.at.slot).head h w (s.0 ∙ ap Some here) at)
-      | inr other ↦ inr (is_head key notes keys es h w once s.1 at (omega (arith, some, many_cons key e es w, one_other (pick key e.tuple) w other)))
+      | inr other ↦ inr (is_head key notes keys es h w once s.1 at
+          (omega (arith, some, many_cons key e es w, one_other (pick key e.tuple) w other)))
     ]
 
 -- what stands in a row's slot
@@ -93,12 +103,20 @@ row_in [] i h = absurd h
 row_in (r ∷ rs) i h =
     elim (cases_eq r.slot i) [
       | inl same ↦ record { cells = r.cells; at = row_at_first r rs i same }
-      | inr other ↦ (let k = row_in rs i (later r rs i other h) in record { cells = k.cells; at = row_at_other r rs i other ∙ k.at })
+      | inr other ↦ (let k = row_in rs i (later r rs i other h) in record
+          { cells = k.cells; at = row_at_other r rs i other ∙ k.at })
     ]
 
 pub few_heads : (r : Raw) → AreHeads r → length r.keys.rows ≤ length (entries_of r)
 few_heads r h =
     let among = λ (i : ℕ) (m : IsIn i (slots r.keys.rows)).
     (let k = row_in r.keys.rows i m in
-    is_head r.key.items r.notes.items r.keys.rows (entries_of r) i k.cells h.groups.once h.groups.seated k.at (h.groups.some i k.cells k.at)) in
-    omega (arith, slots_length r.keys.rows, length_heads r.notes.items (entries_of r), fewer (slots r.keys.rows) (heads_of r.notes.items (entries_of r)) h.keys.different among)
+    is_head r.key.items r.notes.items r.keys.rows (entries_of r) i k.cells h.groups.once h.groups.seated k.at
+    (h.groups.some i k.cells k.at)) in
+    omega (
+      arith,
+      slots_length r.keys.rows,
+      length_heads r.notes.items (entries_of r),
+      fewer (slots r.keys.rows)
+          (heads_of r.notes.items (entries_of r)) h.keys.different among,
+    )

@@ -1,5 +1,7 @@
 -- A tuple comes into a table's parts.
-use Rattle.std.proofs.Common.{◌≡◌, ℕ, Bool, false, cond, ◌≤◌, ◌<◌, List, [], ◌∷◌, ◌++◌, length, slice_set, Option, Some, None, Result, Ok, Err, refl, ap, ap₂, subst, sym, ◌∙◌, arith, inl, inr, length-set}
+use Rattle.std.proofs.Common.{◌≡◌, ℕ, Bool, false, cond, ◌≤◌, ◌<◌, List, [], ◌∷◌, ◌++◌, length}
+use Rattle.std.proofs.Common.{slice_set, Option, Some, None, Result, Ok, Err, refl, ap, ap₂, subst}
+use Rattle.std.proofs.Common.{sym, ◌∙◌, arith, inl, inr, length-set}
 use Rattle.std.specs.Result.{OnErr}
 use Rattle.std.proofs.lemmas.List.{append-nil}
 use Rattle.djq_arena.specs.declared.chain.Pair.{Pair}
@@ -15,11 +17,13 @@ use Rattle.djq_index.specs.Tuple.{pick}
 use Rattle.djq_index.specs.Entries.{Entry, cnt, many, grp, marks}
 use Rattle.djq_index.specs.Table.{AreApart, IsAt}
 use Rattle.djq_index.specs.Changes.{InsertedAs}
-use Rattle.djq_index.specs.Raw.{note_at, entries_in, entries_of, slots_at, ends_at, AreGroups, IsBare, AreHeads, IsSeat, IsLaid, IsReady, IsNoted, IsSettled}
+use Rattle.djq_index.specs.Raw.{note_at, entries_in, entries_of, slots_at, ends_at, AreGroups}
+use Rattle.djq_index.specs.Raw.{IsBare, AreHeads, IsSeat, IsLaid, IsReady, IsNoted, IsSettled}
 use Rattle.djq_index.proofs.Apart.{apart_in}
 use Rattle.djq_index.proofs.Parts.{slots_are, row_at_row, row_below, entries_nil}
 use Rattle.djq_index.proofs.Grouping.{AreGroupsBut, but, join_groups, founded, group_below}
-use Rattle.djq_index.proofs.Keeping.{groups_like, entries_like, entries_set, slots_row, seated_out, seat_noted, trailing_put, mark_put, kind_kept}
+use Rattle.djq_index.proofs.Keeping.{groups_like, entries_like, entries_set, slots_row, seated_out}
+use Rattle.djq_index.proofs.Keeping.{seat_noted, trailing_put, mark_put, kind_kept}
 
 slots_none : slots [] ≡ []
 unfolding slots
@@ -31,13 +35,15 @@ many_zero key w = refl
 
 module _ (a : Raw) (rows : Rows) (notes : List Note) (i : ℕ) (u : List ℕ) (r : IsLaid a rows notes i u) where
   laid_slots : slots rows.rows ≡ slots_at (entries_of a) ++ i ∷ []
-  laid_slots = ap slots r.laid ∙ slots_row a.rows.rows (record { slot = i; cells = u }) [] ∙ ap₂ (λ (xs ys : List ℕ). xs ++ i ∷ ys) (sym (slots_are a.notes.items a.rows.rows)) slots_none
+  laid_slots = ap slots r.laid ∙ slots_row a.rows.rows (record { slot = i; cells = u }) []
+      ∙ ap₂ (λ (xs ys : List ℕ). xs ++ i ∷ ys) (sym (slots_are a.notes.items a.rows.rows)) slots_none
 
   laid_different : AreDifferent (slots_at (entries_of a) ++ i ∷ [])
   laid_different = subst AreDifferent laid_slots r.rows_law.different
 
   laid_out : IsOut i (slots_at (entries_of a))
-  laid_out = subst (IsOut i) (append-nil (slots_at (entries_of a))) (different_here (slots_at (entries_of a)) i [] laid_different)
+  laid_out = subst (IsOut i) (append-nil (slots_at (entries_of a)))
+      (different_here (slots_at (entries_of a)) i [] laid_different)
 
   laid_below : AreBelow rows.room (slots_at (entries_of a) ++ i ∷ [])
   laid_below = subst (AreBelow rows.room) laid_slots r.rows_law.below
@@ -52,23 +58,36 @@ module _ (a : Raw) (rows : Rows) (notes : List Note) (i : ℕ) (u : List ℕ) (r
   slot_number = omega (arith, laid_room, r.rows_law.numbers)
 
 -- the tuple is there
-module _ (m : Bool) (a b : Raw) (rows : Rows) (notes : List Note) (i h : ℕ) (u : List ℕ) (raw : IsBare a) (plain : m ≡ false → marks (entries_of a) ≡ []) (absent : cnt (entries_of a) u ≡ 0) (r : IsLaid a rows notes i u) (f : IsNoted m a b rows notes i h) where
-  pub came_entries : entries_of b ≡ entries_of a ++ (record { at = record { slot = i }; tuple = u; supports = 1; marked = m }) ∷ []
+module _ (m : Bool) (a b : Raw) (rows : Rows) (notes : List Note) (i h : ℕ) (u : List ℕ) (raw : IsBare a)
+    (plain : m ≡ false → marks (entries_of a) ≡ []) (absent : cnt (entries_of a) u ≡ 0) (r : IsLaid a rows notes i u)
+    (f : IsNoted m a b rows notes i h) where
+  pub came_entries : entries_of b
+      ≡ entries_of a ++ (record { at = record { slot = i }; tuple = u; supports = 1; marked = m }) ∷ []
   came_entries =
       ap₂ (λ (ns : List Note) (rs : Rows). entries_in ns rs.rows) f.notes_are f.rows_are
       ∙ ap (λ (rs : List Row). entries_in (slice_set notes i (record { supports = 1; head = h; marked = m })) rs) r.laid
-      ∙ entries_set notes i (record { supports = 1; head = h; marked = m }) a.rows.rows (record { slot = i; cells = u }) [] refl (slot_notes a rows notes i u r) (subst (λ rs. AreDifferent (slots rs)) r.laid r.rows_law.different)
-      ∙ ap₂ (λ (xs ys : List Entry). xs ++ record { at = record { slot = i }; tuple = u; supports = 1; marked = m } ∷ ys) (entries_like a.notes.items notes a.rows.rows r.same_notes) (entries_nil notes)
+      ∙ entries_set notes i (record { supports = 1; head = h; marked = m }) a.rows.rows (record { slot = i; cells = u })
+      [] refl (slot_notes a rows notes i u r) (subst (λ rs. AreDifferent (slots rs)) r.laid r.rows_law.different)
+      ∙ ap₂ (λ (xs ys : List Entry). xs ++ record { at = record { slot = i }; tuple = u; supports = 1; marked = m } ∷
+      ys) (entries_like a.notes.items notes a.rows.rows r.same_notes) (entries_nil notes)
 
   pub came_bare : IsBare b
   came_bare = record {
     rows = rw f.rows_are r.rows_law;
     columns = rw (f.rows_are, f.key, r.width) raw.columns;
-    kind = kind_kept a.kind b.kind a.rows.width b.rows.width a.key.items b.key.items f.kind (ap (λ (rs : Rows). rs.width) f.rows_are ∙ r.width) f.key raw.kind;
+    kind = kind_kept a.kind b.kind a.rows.width b.rows.width a.key.items b.key.items f.kind
+        (ap (λ (rs : Rows). rs.width) f.rows_are ∙ r.width) f.key raw.kind;
     notes = rw (f.rows_are, f.notes_are, length-set) r.room_notes;
-    apart = rw came_entries (apart_in (entries_of a) (record { at = record { slot = i }; tuple = u; supports = 1; marked = m }) [] (subst AreApart (sym (append-nil (entries_of a))) raw.apart) (subst (λ es. cnt es u ≡ 0) (sym (append-nil (entries_of a))) absent));
-    trailing = rw came_entries (trailing_put (entries_of a) (record { at = record { slot = i }; tuple = u; supports = 1; marked = m }) raw.trailing plain);
-    marked = f.marked ∙ ap (λ (o : Option ℕ). cond m (beside o (Some i) o) o) raw.marked ∙ mark_put (entries_of a) (record { at = record { slot = i }; tuple = u; supports = 1; marked = m }) i plain refl ∙ ap (λ (es : List Entry). first_of (slots_at (marks es))) (sym came_entries);
+    apart = rw came_entries
+        (apart_in (entries_of a) (record { at = record { slot = i }; tuple = u; supports = 1; marked = m }) []
+        (subst AreApart (sym (append-nil (entries_of a))) raw.apart)
+        (subst (λ es. cnt es u ≡ 0) (sym (append-nil (entries_of a))) absent));
+    trailing = rw came_entries
+        (trailing_put (entries_of a) (record { at = record { slot = i }; tuple = u; supports = 1; marked = m })
+        raw.trailing plain);
+    marked = f.marked ∙ ap (λ (o : Option ℕ). cond m (beside o (Some i) o) o) raw.marked
+        ∙ mark_put (entries_of a) (record { at = record { slot = i }; tuple = u; supports = 1; marked = m }) i plain
+        refl ∙ ap (λ (es : List Entry). first_of (slots_at (marks es))) (sym came_entries);
   }
 
   pub came_inserted : InsertedAs m a.key.items (entries_of a) (entries_of b) u
@@ -85,51 +104,80 @@ module _ (m : Bool) (a b : Raw) (rows : Rows) (notes : List Note) (i h : ℕ) (u
   }
 
   pub came_at : IsAt (entries_of b) (record { slot = i }) u
-  came_at = record { front = entries_of a; back = []; entry = (record { at = record { slot = i }; tuple = u; supports = 1; marked = m }); is = came_entries; tuple = refl; at = refl }
+  came_at = record {
+    front = entries_of a;
+    back = [];
+    entry =
+        (record { at = record { slot = i }; tuple = u; supports = 1; marked = m });
+    is = came_entries;
+    tuple = refl;
+    at =
+        refl;
+  }
 
 -- and its head
-module _ (a : Raw) (rows : Rows) (notes : List Note) (links : List Pair) (keys : Rows) (ends : List Ends) (i h : ℕ) (u : List ℕ) (hs : AreHeads a) (r : IsReady a rows notes links keys ends i h u) where
+module _ (a : Raw) (rows : Rows) (notes : List Note) (links : List Pair) (keys : Rows) (ends : List Ends) (i h : ℕ)
+    (u : List ℕ) (hs : AreHeads a) (r : IsReady a rows notes links keys ends i h u) where
   pub slot_links : i < length links
   slot_links = omega (arith, laid_room a rows notes i u r.laid, r.room_links)
 
   old_below : AreBelow (length links) (slots_at (entries_of a))
-  old_below = below_more rows.room (length links) (slots_at (entries_of a)) r.room_links (below_front rows.room (slots_at (entries_of a)) (i ∷ []) (laid_below a rows notes i u r.laid))
+  old_below = below_more rows.room (length links) (slots_at (entries_of a)) r.room_links
+      (below_front rows.room (slots_at (entries_of a)) (i ∷ []) (laid_below a rows notes i u r.laid))
 
   pub head_ends : h < length ends
   head_ends = omega (arith, of_seat r.seat, r.room_ends)
     where
       of_seat : IsSeat a.keys.rows keys.rows a.ends.items ends h (pick a.key.items u) → h < keys.room
-      of_seat (inl s) = row_below keys.room keys.rows h (pick a.key.items u) r.keys_law.below (subst (λ rs. IsRow rs h (pick a.key.items u)) (sym s.1) s.0)
-      of_seat (inr s) = row_below keys.room keys.rows h (pick a.key.items u) r.keys_law.below (record { front = a.keys.rows; back = []; is = s.1 })
+      of_seat (inl s) = row_below keys.room keys.rows h (pick a.key.items u) r.keys_law.below
+          (subst (λ rs. IsRow rs h (pick a.key.items u)) (sym s.1) s.0)
+      of_seat (inr s) = row_below keys.room keys.rows h (pick a.key.items u) r.keys_law.below
+          (record { front = a.keys.rows; back = []; is = s.1 })
 
   like : AreGroups a.key.items notes links a.keys.rows a.ends.items (entries_of a)
-  like = groups_like a.key.items a.notes.items notes a.links.items links a.keys.rows a.ends.items a.ends.items (entries_of a) hs.groups (λ k. ap (λ (n : Note). n.head) (r.laid.same_notes k)) r.same_links (λ k. refl)
+  like = groups_like a.key.items a.notes.items notes a.links.items links a.keys.rows a.ends.items a.ends.items
+      (entries_of a) hs.groups (λ k. ap (λ (n : Note). n.head) (r.laid.same_notes k)) r.same_links (λ k. refl)
 
   ready_but : AreGroupsBut a.key.items notes links keys.rows ends (entries_of a) (pick a.key.items u) h
   ready_but = of_seat r.seat
     where
-      of_seat : IsSeat a.keys.rows keys.rows a.ends.items ends h (pick a.key.items u) → AreGroupsBut a.key.items notes links keys.rows ends (entries_of a) (pick a.key.items u) h
-      of_seat (inl s) = subst (λ rs. AreGroupsBut a.key.items notes links rs ends (entries_of a) (pick a.key.items u) h) (sym s.1)
+      of_seat : IsSeat a.keys.rows keys.rows a.ends.items ends h (pick a.key.items u)
+          → AreGroupsBut a.key.items notes links keys.rows ends (entries_of a) (pick a.key.items u) h
+      of_seat (inl s) = subst (λ rs. AreGroupsBut a.key.items notes links rs ends (entries_of a) (pick a.key.items u) h)
+          (sym s.1)
           (but a.key.items notes links a.keys.rows ends (entries_of a) (pick a.key.items u) h
-          (groups_like a.key.items notes notes links links a.keys.rows a.ends.items ends (entries_of a) like (λ k. refl) (λ k. refl) s.2)
+          (groups_like a.key.items notes notes links links a.keys.rows a.ends.items ends (entries_of a) like (λ k. refl)
+          (λ k. refl) s.2)
           (row_at_row a.keys.rows h (pick a.key.items u) hs.keys.different s.0))
-      of_seat (inr s) = subst (λ rs. AreGroupsBut a.key.items notes links rs ends (entries_of a) (pick a.key.items u) h) (sym s.1)
-          (founded a.key.items notes links a.keys.rows h (pick a.key.items u) a.ends.items ends (entries_of a) like s.0 (subst (λ rs. AreDifferent (slots rs)) s.1 r.keys_law.different) s.2 s.3)
+      of_seat (inr s) = subst (λ rs. AreGroupsBut a.key.items notes links rs ends (entries_of a) (pick a.key.items u) h)
+          (sym s.1)
+          (founded a.key.items notes links a.keys.rows h (pick a.key.items u) a.ends.items ends (entries_of a) like s.0
+          (subst (λ rs. AreDifferent (slots rs)) s.1 r.keys_law.different) s.2 s.3)
 
   pub last_links : IsWithin (length links) (ends_at ends h).last
-  last_links = subst (IsWithin (length links)) (sym (ap (λ (v : Ends). v.last) (ready_but.headed h (pick a.key.items u) ready_but.mine)))
-      (last_within (length links) None (slots_at (grp a.key.items (entries_of a) (pick a.key.items u))) tt (group_below (length links) a.key.items (entries_of a) (pick a.key.items u) old_below))
+  last_links = subst (IsWithin (length links))
+      (sym (ap (λ (v : Ends). v.last) (ready_but.headed h (pick a.key.items u) ready_but.mine)))
+      (last_within (length links) None (slots_at (grp a.key.items (entries_of a) (pick a.key.items u))) tt
+      (group_below (length links) a.key.items (entries_of a) (pick a.key.items u) old_below))
 
-module _ (m : Bool) (a b : Raw) (rows : Rows) (notes : List Note) (links : List Pair) (keys : Rows) (ends : List Ends) (i h : ℕ) (u : List ℕ)
-    (raw : IsBare a) (plain : m ≡ false → marks (entries_of a) ≡ []) (hs : AreHeads a) (absent : cnt (entries_of a) u ≡ 0) (r : IsReady a rows notes links keys ends i h u) (f : IsSettled m a b rows notes links keys ends i h) where
-  came_groups : AreGroups a.key.items (slice_set notes i (record { supports = 1; head = h; marked = m })) (entered (ends_at ends h).last i links) keys.rows (slice_set ends h (extended i (ends_at ends h))) (entries_of a ++ (record { at = record { slot = i }; tuple = u; supports = 1; marked = m }) ∷ [])
-  came_groups = join_groups a.key.items notes (slice_set notes i (record { supports = 1; head = h; marked = m })) links keys.rows ends (entries_of a) (pick a.key.items u) h
+module _ (m : Bool) (a b : Raw) (rows : Rows) (notes : List Note) (links : List Pair) (keys : Rows) (ends : List Ends)
+    (i h : ℕ) (u : List ℕ)
+    (raw : IsBare a) (plain : m ≡ false → marks (entries_of a) ≡ []) (hs : AreHeads a)
+    (absent : cnt (entries_of a) u ≡ 0) (r : IsReady a rows notes links keys ends i h u)
+    (f : IsSettled m a b rows notes links keys ends i h) where
+  came_groups : AreGroups a.key.items (slice_set notes i (record { supports = 1; head = h; marked = m }))
+      (entered (ends_at ends h).last i links) keys.rows (slice_set ends h (extended i (ends_at ends h)))
+      (entries_of a ++ (record { at = record { slot = i }; tuple = u; supports = 1; marked = m }) ∷ [])
+  came_groups = join_groups a.key.items notes (slice_set notes i (record { supports = 1; head = h; marked = m })) links
+      keys.rows ends (entries_of a) (pick a.key.items u) h
       (record { at = record { slot = i }; tuple = u; supports = 1; marked = m }) i
       (ready_but a rows notes links keys ends i h u hs r) refl refl
       (laid_out a rows notes i u r.laid)
       (different_front (slots_at (entries_of a)) (i ∷ []) (laid_different a rows notes i u r.laid))
-      (old_below a rows notes links keys ends i h u hs r) (slot_links a rows notes links keys ends i h u hs r) (head_ends a rows notes links keys ends i h u hs r)
-      (seated_out a.key.items notes i (record { supports = 1; head = h; marked = m }) keys.rows (entries_of a) (laid_out a rows notes i u r.laid) (ready_but a rows notes links keys ends i h u hs r).seated)
+      (old_below a rows notes links keys ends i h u hs r) (slot_links a rows notes links keys ends i h u hs r)
+      (head_ends a rows notes links keys ends i h u hs r)
+      (seated_out a.key.items notes i (record { supports = 1; head = h; marked = m }) keys.rows (entries_of a)
+      (laid_out a rows notes i u r.laid) (ready_but a rows notes links keys ends i h u hs r).seated)
       (seat_noted notes i (record { supports = 1; head = h; marked = m }) (slot_notes a rows notes i u r.laid))
 
   pub came_heads : AreHeads b
@@ -138,7 +186,14 @@ module _ (m : Bool) (a b : Raw) (rows : Rows) (notes : List Note) (links : List 
     key_width = rw (f.keys_are, f.noted.key, r.keys_width) hs.key_width;
     links = rw (f.noted.rows_are, f.links_are, length-entered) r.room_links;
     ends = rw (f.keys_are, f.ends_are, length-set) r.room_ends;
-    groups = rw (came_entries m a b rows notes i h u raw plain absent r.laid f.noted, f.noted.key, f.noted.notes_are, f.links_are, f.keys_are, f.ends_are) came_groups;
+    groups = rw (
+      came_entries m a b rows notes i h u raw plain absent r.laid f.noted,
+      f.noted.key,
+      f.noted.notes_are,
+      f.links_are,
+      f.keys_are,
+      f.ends_are,
+    ) came_groups;
   }
 
 -- a refused insertion leaves all as it was
@@ -163,7 +218,8 @@ pub record RefusesHead (a b : Raw) : Type 0 where
   pub same_ends : (k : ℕ) → ends_at b.ends.items k ≡ ends_at a.ends.items k
 
 pub refused_entries : (a b : Raw) → Refuses a b → entries_of b ≡ entries_of a
-refused_entries a b r = ap (entries_in b.notes.items) r.rows ∙ entries_like a.notes.items b.notes.items a.rows.rows r.same_notes
+refused_entries a b r = ap (entries_in b.notes.items) r.rows
+    ∙ entries_like a.notes.items b.notes.items a.rows.rows r.same_notes
 
 pub refused_bare : (a b : Raw) → IsBare a → Refuses a b → IsBare b
 refused_bare a b raw r = record {
@@ -185,7 +241,9 @@ refused_heads a b hs r h = record {
   key_width = rw (r.key, h.keys_width) hs.key_width;
   links = h.room_links;
   ends = h.room_ends;
-  groups = rw (refused_entries a b r, r.key, h.keys) (groups_like a.key.items a.notes.items b.notes.items a.links.items b.links.items a.keys.rows a.ends.items b.ends.items (entries_of a) hs.groups (λ k. ap (λ (n : Note). n.head) (r.same_notes k)) h.same_links h.same_ends);
+  groups = rw (refused_entries a b r, r.key, h.keys)
+      (groups_like a.key.items a.notes.items b.notes.items a.links.items b.links.items a.keys.rows a.ends.items
+      b.ends.items (entries_of a) hs.groups (λ k. ap (λ (n : Note). n.head) (r.same_notes k)) h.same_links h.same_ends);
 }
 
 -- what holds in any case

@@ -1,5 +1,6 @@
 -- Marked entries, which are the last of their groups.
-use Rattle.std.proofs.Common.{◌≡◌, ℕ, suc, ◌+◌, ◌≤◌, ◌<◌, Bool, true, false, cond, List, [], ◌∷◌, ◌++◌, length, refl, ap, subst, sym, ◌∙◌, arith, inl, inr}
+use Rattle.std.proofs.Common.{◌≡◌, ℕ, suc, ◌+◌, ◌≤◌, ◌<◌, Bool, true, false, cond, List, [], ◌∷◌}
+use Rattle.std.proofs.Common.{◌++◌, length, refl, ap, subst, sym, ◌∙◌, arith, inl, inr}
 use Rattle.std.proofs.lemmas.Bool.{cases_Bool, false≢true}
 use Rattle.djq_index.specs.declared.place.Place.{Place}
 use Rattle.djq_index.specs.Tuple.{same, pick, one}
@@ -44,52 +45,81 @@ plain-append (e ∷ xs) ys = rw (plain-append xs ys) (spread e.marked e (plain x
     spread false d cs bs = refl
 
 -- an unmarked entry more or less is no change of the marked ones, and a marked one none of the others
-pub marks_middle : (xs : List Entry) (e : Entry) (ys : List Entry) → e.marked ≡ false → marks (xs ++ e ∷ ys) ≡ marks (xs ++ ys)
+pub marks_middle : (xs : List Entry) (e : Entry) (ys : List Entry) → e.marked ≡ false → marks (xs ++ e ∷ ys)
+    ≡ marks (xs ++ ys)
 marks_middle xs e ys h = rw (marks-append, marks-append, marks_no e ys h) refl
 
-pub plain_middle : (xs : List Entry) (e : Entry) (ys : List Entry) → e.marked ≡ true → plain (xs ++ e ∷ ys) ≡ plain (xs ++ ys)
+pub plain_middle : (xs : List Entry) (e : Entry) (ys : List Entry) → e.marked ≡ true → plain (xs ++ e ∷ ys)
+    ≡ plain (xs ++ ys)
 plain_middle xs e ys h = rw (plain-append, plain-append, plain_yes e ys h) refl
 
-many_plain : (key : List ℕ) (xs : List Entry) (e : Entry) (ys : List Entry) (w : List ℕ) → many key (plain (xs ++ ys)) w ≤ many key (plain (xs ++ e ∷ ys)) w
+many_plain : (key : List ℕ) (xs : List Entry) (e : Entry) (ys : List Entry) (w : List ℕ)
+    → many key (plain (xs ++ ys)) w ≤ many key (plain (xs ++ e ∷ ys)) w
 many_plain key xs e ys w = elim (cases_Bool e.marked) [
   | inl marked ↦ rw (plain_middle xs e ys marked) (omega arith)
-  | inr other ↦ rw (plain-append, plain-append, plain_no e ys other) (omega (arith, many-append key (plain xs) (e ∷ plain ys) w, many-append key (plain xs) (plain ys) w, many_cons key e (plain ys) w))
+  | inr other ↦ rw (plain-append, plain-append, plain_no e ys other)
+      (omega (
+        arith,
+        many-append key (plain xs) (e ∷ plain ys) w,
+        many-append key (plain xs) (plain ys) w,
+        many_cons key
+            e (plain ys) w,
+      ))
 ]
 
 -- taking an entry out keeps the marked ones last
-pub last_out : (key : List ℕ) (xs : List Entry) (e : Entry) (ys : List Entry) → AreLast key (xs ++ e ∷ ys) → AreLast key (xs ++ ys)
+pub last_out : (key : List ℕ) (xs : List Entry) (e : Entry) (ys : List Entry) → AreLast key (xs ++ e ∷ ys)
+    → AreLast key (xs ++ ys)
 unfolding AreLast
 last_out key [] e ys h = h.1
-last_out key (x ∷ xs) e ys h = ((λ m. let none = h.0 m in omega (arith, none, many_plain key xs e ys (pick key x.tuple))), last_out key xs e ys h.1)
+last_out key (x ∷ xs) e ys h = (
+  (λ m. let none = h.0 m in omega (arith, none, many_plain key xs e ys (pick key x.tuple))),
+  last_out key xs e ys
+      h.1,
+)
 
 -- a marked entry may come anywhere behind its group
-pub last_in : (key : List ℕ) (xs : List Entry) (e : Entry) (ys : List Entry) → e.marked ≡ true → many key ys (pick key e.tuple) ≡ 0 → AreLast key (xs ++ ys) → AreLast key (xs ++ e ∷ ys)
+pub last_in : (key : List ℕ) (xs : List Entry) (e : Entry) (ys : List Entry) → e.marked ≡ true
+    → many key ys (pick key e.tuple) ≡ 0 → AreLast key (xs ++ ys) → AreLast key (xs ++ e ∷ ys)
 unfolding AreLast
 last_in key [] e ys m none h = ((λ k. omega (arith, none, many_split key ys (pick key e.tuple))), h)
 last_in key (x ∷ xs) e ys m none h = ((λ k. rw (plain_middle xs e ys m) (h.0 k)), last_in key xs e ys m none h.1)
 
-plain_alike : (b c : Bool) (d e : Entry) (es : List Entry) → d.marked ≡ b → e.marked ≡ c → b ≡ c → (key w : List ℕ) → pick key d.tuple ≡ pick key e.tuple → many key (plain (d ∷ es)) w ≡ many key (plain (e ∷ es)) w
+plain_alike : (b c : Bool) (d e : Entry) (es : List Entry) → d.marked ≡ b → e.marked ≡ c → b ≡ c → (key w : List ℕ)
+    → pick key d.tuple ≡ pick key e.tuple → many key (plain (d ∷ es)) w ≡ many key (plain (e ∷ es)) w
 plain_alike true true d e es h k same_mark key w p = rw (plain_yes d es h, plain_yes e es k) refl
-plain_alike false false d e es h k same_mark key w p = rw (plain_no d es h, plain_no e es k, many_cons, many_cons, p) refl
+plain_alike false false d e es h k same_mark key w p = rw (plain_no d es h, plain_no e es k, many_cons, many_cons, p)
+    refl
 plain_alike true false d e es h k same_mark key w p = absurd (false≢true (sym same_mark))
 plain_alike false true d e es h k same_mark key w p = absurd (false≢true same_mark)
 
-plain_swap : (key : List ℕ) (xs : List Entry) (d e : Entry) (ys : List Entry) (w : List ℕ) → d.marked ≡ e.marked → d.tuple ≡ e.tuple → many key (plain (xs ++ d ∷ ys)) w ≡ many key (plain (xs ++ e ∷ ys)) w
+plain_swap : (key : List ℕ) (xs : List Entry) (d e : Entry) (ys : List Entry) (w : List ℕ) → d.marked ≡ e.marked
+    → d.tuple ≡ e.tuple → many key (plain (xs ++ d ∷ ys)) w ≡ many key (plain (xs ++ e ∷ ys)) w
 plain_swap key xs d e ys w m t =
-    rw (plain-append, plain-append) (omega (arith, many-append key (plain xs) (plain (d ∷ ys)) w, many-append key (plain xs) (plain (e ∷ ys)) w, plain_alike d.marked e.marked d e ys refl refl m key w (ap (pick key) t)))
+    rw (plain-append, plain-append)
+    (omega (
+      arith,
+      many-append key (plain xs) (plain (d ∷ ys)) w,
+      many-append key (plain xs) (plain (e ∷ ys)) w,
+      plain_alike d.marked e.marked d e ys refl refl m key w (ap (pick key) t),
+    ))
 
 -- only tuples and marks matter
-pub last_same : (key : List ℕ) (xs : List Entry) (d e : Entry) (ys : List Entry) → e.marked ≡ d.marked → e.tuple ≡ d.tuple → AreLast key (xs ++ d ∷ ys) → AreLast key (xs ++ e ∷ ys)
+pub last_same : (key : List ℕ) (xs : List Entry) (d e : Entry) (ys : List Entry) → e.marked ≡ d.marked → e.tuple
+    ≡ d.tuple → AreLast key (xs ++ d ∷ ys) → AreLast key (xs ++ e ∷ ys)
 unfolding AreLast
-last_same key [] d e ys m t h = ((λ k. subst (λ u. many key (plain ys) (pick key u) ≡ 0) (sym t) (h.0 (sym m ∙ k))), h.1)
-last_same key (x ∷ xs) d e ys m t h = ((λ k. sym (plain_swap key xs d e ys (pick key x.tuple) (sym m) (sym t)) ∙ h.0 k), last_same key xs d e ys m t h.1)
+last_same key [] d e ys m t h =
+    ((λ k. subst (λ u. many key (plain ys) (pick key u) ≡ 0) (sym t) (h.0 (sym m ∙ k))), h.1)
+last_same key (x ∷ xs) d e ys m t h =
+    ((λ k. sym (plain_swap key xs d e ys (pick key x.tuple) (sym m) (sym t)) ∙ h.0 k), last_same key xs d e ys m t h.1)
 
 -- a group whose first entry is marked is marked whole
 pub last_rest : (key : List ℕ) (e : Entry) (es : List Entry) → AreLast key (e ∷ es) → AreLast key es
 unfolding AreLast
 last_rest key e es h = h.1
 
-last_first : (key : List ℕ) (e : Entry) (es : List Entry) → AreLast key (e ∷ es) → e.marked ≡ true → many key (plain es) (pick key e.tuple) ≡ 0
+last_first : (key : List ℕ) (e : Entry) (es : List Entry) → AreLast key (e ∷ es) → e.marked ≡ true
+    → many key (plain es) (pick key e.tuple) ≡ 0
 unfolding AreLast
 last_first key e es h = h.0
 
@@ -100,28 +130,36 @@ nothing : (key : List ℕ) (w : List ℕ) (e : Entry) (rest : List Entry) → gr
 unfolding grp
 nothing key w e rest h = empty_no_cons e rest h
 
-pub whole_group : (key : List ℕ) (es : List Entry) (w : List ℕ) (e : Entry) (rest : List Entry) → AreLast key es → grp key es w ≡ e ∷ rest → e.marked ≡ true → many key (plain es) w ≡ 0
+pub whole_group : (key : List ℕ) (es : List Entry) (w : List ℕ) (e : Entry) (rest : List Entry) → AreLast key es
+    → grp key es w ≡ e ∷ rest → e.marked ≡ true → many key (plain es) w ≡ 0
 whole_group key [] w e rest h is m = absurd (nothing key w e rest is)
 whole_group key (x ∷ es) w e rest h is m =
     elim (cases_Bool (same (pick key x.tuple) w)) [
-      | inl here ↦ (let front : x ≡ e = (let both : x ∷ grp key es w ≡ e ∷ rest = sym (grp_yes key x es w here) ∙ is in cc) in
+      | inl here ↦ (let front : x
+          ≡ e = (let both : x ∷ grp key es w ≡ e ∷ rest = sym (grp_yes key x es w here) ∙ is in cc) in
           let marked : x.marked ≡ true = ap (λ (d : Entry). d.marked) front ∙ m in
-          rw (plain_yes x es marked) (subst (λ v. many key (plain es) v ≡ 0) (same_is (pick key x.tuple) w here) (last_first key x es h marked)))
+          rw (plain_yes x es marked)
+          (subst (λ v. many key (plain es) v ≡ 0) (same_is (pick key x.tuple) w here)
+          (last_first key x es h marked)))
       | inr other ↦ (let rest_is = sym (grp_no key x es w other) ∙ is in
           let none = whole_group key es w e rest (last_rest key x es h) rest_is m in
           elim (cases_Bool x.marked) [
             | inl marked ↦ rw (plain_yes x es marked) none
-            | inr unmarked_one ↦ rw (plain_no x es unmarked_one) (omega (arith, none, many_cons key x (plain es) w, one_false (same (pick key x.tuple) w) other))
+            | inr unmarked_one ↦ rw (plain_no x es unmarked_one)
+                (omega (arith, none, many_cons key x (plain es) w, one_false (same (pick key x.tuple) w) other))
           ])
     ]
 
-pub part_group : (key : List ℕ) (es : List Entry) (w : List ℕ) (e : Entry) (rest : List Entry) → grp key es w ≡ e ∷ rest → e.marked ≡ false → 0 < many key (plain es) w
+pub part_group : (key : List ℕ) (es : List Entry) (w : List ℕ) (e : Entry) (rest : List Entry) → grp key es w ≡ e ∷ rest
+    → e.marked ≡ false → 0 < many key (plain es) w
 part_group key [] w e rest is m = absurd (nothing key w e rest is)
 part_group key (x ∷ es) w e rest is m =
     elim (cases_Bool (same (pick key x.tuple) w)) [
-      | inl here ↦ (let front : x ≡ e = (let both : x ∷ grp key es w ≡ e ∷ rest = sym (grp_yes key x es w here) ∙ is in cc) in
+      | inl here ↦ (let front : x
+          ≡ e = (let both : x ∷ grp key es w ≡ e ∷ rest = sym (grp_yes key x es w here) ∙ is in cc) in
           let unmarked_one : x.marked ≡ false = ap (λ (d : Entry). d.marked) front ∙ m in
-          rw (plain_no x es unmarked_one) (omega (arith, many_cons key x (plain es) w, one_true (same (pick key x.tuple) w) here)))
+          rw (plain_no x es unmarked_one)
+          (omega (arith, many_cons key x (plain es) w, one_true (same (pick key x.tuple) w) here)))
       | inr other ↦ (let some = part_group key es w e rest (sym (grp_no key x es w other) ∙ is) m in
           elim (cases_Bool x.marked) [
             | inl marked ↦ rw (plain_yes x es marked) some
@@ -130,15 +168,18 @@ part_group key (x ∷ es) w e rest is m =
     ]
 
 -- in a table, a marked tuple is counted once among the marked ones
-pub is_marked_here : (e : Entry) (es : List Entry) (u : List ℕ) → same e.tuple u ≡ true → is_marked (e ∷ es) u ≡ e.marked
+pub is_marked_here : (e : Entry) (es : List Entry) (u : List ℕ) → same e.tuple u ≡ true → is_marked (e ∷ es) u
+    ≡ e.marked
 unfolding is_marked
 is_marked_here e es u h = rw h refl
 
-pub is_marked_else : (e : Entry) (es : List Entry) (u : List ℕ) → same e.tuple u ≡ false → is_marked (e ∷ es) u ≡ is_marked es u
+pub is_marked_else : (e : Entry) (es : List Entry) (u : List ℕ) → same e.tuple u ≡ false → is_marked (e ∷ es) u
+    ≡ is_marked es u
 unfolding is_marked
 is_marked_else e es u h = rw h refl
 
-marks_cons : (e : Entry) (es : List Entry) (u : List ℕ) → cnt (marks (e ∷ es)) u ≡ cond e.marked (one (same e.tuple u)) 0 + cnt (marks es) u
+marks_cons : (e : Entry) (es : List Entry) (u : List ℕ) → cnt (marks (e ∷ es)) u
+    ≡ cond e.marked (one (same e.tuple u)) 0 + cnt (marks es) u
 unfolding cnt
 marks_cons e es u = elim (cases_Bool e.marked) [
   | inl marked ↦ rw (marks_yes e es marked, marked) (cnt_cons e (marks es) u)
@@ -165,8 +206,23 @@ marked_cnt (e ∷ es) u h =
     elim (same_cases e.tuple u) [
       | inl here ↦ (let absent : cnt es u ≡ 0 = subst (λ v. cnt es v ≡ 0) here h.0 in
           let test : same e.tuple u ≡ true = is_same e.tuple u here in
-          rw (is_marked_here e es u test) (omega (arith, marks_cons e es u, cnt_split es u, absent, cond_one e.marked (one (same e.tuple u)) (one_true (same e.tuple u) test))))
-      | inr other ↦ rw (is_marked_else e es u other) (omega (arith, marks_cons e es u, marked_cnt es u h.1, by_test e.marked (one (same e.tuple u)) (one_other e.tuple u other)))
+          rw (is_marked_here e es u test)
+          (omega (
+            arith,
+            marks_cons e es u,
+            cnt_split es u,
+            absent,
+            cond_one e.marked (one (same e.tuple u))
+                (one_true (same e.tuple u) test),
+          )))
+      | inr other ↦ rw (is_marked_else e es u other)
+          (omega (
+            arith,
+            marks_cons e es u,
+            marked_cnt es u h.1,
+            by_test e.marked (one (same e.tuple u))
+                (one_other e.tuple u other),
+          ))
     ]
 
 -- without marks

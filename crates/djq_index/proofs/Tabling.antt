@@ -9,11 +9,13 @@ use Rattle.djq_index.specs.declared.raw.Note.{Note}
 use Rattle.djq_index.specs.declared.raw.Raw.{Raw}
 use Rattle.djq_index.specs.Entries.{Entry, grp, many, marks}
 use Rattle.djq_index.specs.Table.{AreApart, ArePlaced, IsElsewhere, AreWide, AreColumns, IsTable}
-use Rattle.djq_index.specs.Raw.{entry_of, entries_in, entries_of, slots_at, row_at, AreSeated, AreGroups, AreTrailing, IsRaw, IsBare, AreHeads, IsKind}
+use Rattle.djq_index.specs.Raw.{entry_of, entries_in, entries_of, slots_at, row_at, AreSeated}
+use Rattle.djq_index.specs.Raw.{AreGroups, AreTrailing, IsRaw, IsBare, AreHeads, IsKind}
 use Rattle.djq_index.proofs.Parts.{entries_nil}
 use Rattle.djq_index.proofs.Keeping.{trailing_last, kind_kept}
 
-elsewhere_from : (i : ℕ) (notes : List Note) (rows : List Row) → IsOut i (slots rows) → IsElsewhere (record { slot = i }) (entries_in notes rows)
+elsewhere_from : (i : ℕ) (notes : List Note) (rows : List Row) → IsOut i (slots rows)
+    → IsElsewhere (record { slot = i }) (entries_in notes rows)
 unfolding IsOut slots IsElsewhere entries_in entry_of
 elsewhere_from i notes [] h = tt
 elsewhere_from i notes (r ∷ rs) h = ((λ k. h.0 (ap (λ (p : Place). p.slot) k)), elsewhere_from i notes rs h.1)
@@ -23,12 +25,14 @@ unfolding AreDifferent slots ArePlaced entries_in entry_of
 placed_from notes [] h = tt
 placed_from notes (r ∷ rs) h = (elsewhere_from r.slot notes rs h.0, placed_from notes rs h.1)
 
-pub wide_from : (width : ℕ) (notes : List Note) (rows : List Row) → AreWideRows width rows → AreWide width (entries_in notes rows)
+pub wide_from : (width : ℕ) (notes : List Note) (rows : List Row) → AreWideRows width rows
+    → AreWide width (entries_in notes rows)
 unfolding AreWideRows AreWide entries_in entry_of
 wide_from width notes [] h = tt
 wide_from width notes (r ∷ rs) h = (h.0, wide_from width notes rs h.1)
 
-pub raw_table : (r : Raw) → IsRaw r → IsTable (record { width = r.rows.width; key = r.key.items; entries = entries_of r })
+pub raw_table : (r : Raw) → IsRaw r
+    → IsTable (record { width = r.rows.width; key = r.key.items; entries = entries_of r })
 raw_table r h = record {
   apart = h.bare.apart;
   placed = placed_from r.notes.items r.rows.rows h.bare.rows.different;
@@ -59,7 +63,8 @@ no_seats : (key : List ℕ) (notes : List Note) → AreSeated key notes [] []
 unfolding AreSeated
 no_seats key notes = tt
 
-no_groups : (key : List ℕ) (notes : List Note) (links : List Pair) (ends : List Ends) → AreGroups key notes links [] ends []
+no_groups : (key : List ℕ) (notes : List Note) (links : List Pair) (ends : List Ends)
+    → AreGroups key notes links [] ends []
 no_groups key notes links ends = record {
   chained = no_chain key links;
   headed = λ h w r. absurd (no_head h w r);
@@ -84,7 +89,9 @@ no_marks = refl
 pub empty_entries : (b : Raw) → b.rows.rows ≡ [] → entries_of b ≡ []
 empty_entries b h = ap (entries_in b.notes.items) h ∙ entries_nil b.notes.items
 
-pub empty_bare : (b : Raw) (width : ℕ) (key : List ℕ) → b.key.items ≡ key → b.rows ≡ record { width = width; room = 0; rows = [] } → AreRows b.rows → AreColumns width key → IsKind b.kind width key → b.marked ≡ None → IsBare b
+pub empty_bare : (b : Raw) (width : ℕ) (key : List ℕ) → b.key.items ≡ key → b.rows
+    ≡ record { width = width; room = 0; rows = [] } → AreRows b.rows → AreColumns width key → IsKind b.kind width key
+    → b.marked ≡ None → IsBare b
 empty_bare b width key key_is rows law columns kind marked = record {
   rows = law;
   columns = rw (key_is, rows) columns;
@@ -98,16 +105,21 @@ empty_bare b width key key_is rows law columns kind marked = record {
     none : entries_of b ≡ []
     none = empty_entries b (ap (λ (r : Rows). r.rows) rows)
 
-pub empty_heads : (b : Raw) (width : ℕ) (key : List ℕ) → b.key.items ≡ key → b.rows ≡ record { width = width; room = 0; rows = [] } → b.keys ≡ record { width = length key; room = 0; rows = [] } → AreRows b.keys → AreHeads b
+pub empty_heads : (b : Raw) (width : ℕ) (key : List ℕ) → b.key.items ≡ key → b.rows
+    ≡ record { width = width; room = 0; rows = [] } → b.keys ≡ record { width = length key; room = 0; rows = [] }
+    → AreRows b.keys → AreHeads b
 empty_heads b width key key_is rows keys law = record {
   keys = law;
   key_width = rw (keys, key_is) refl;
   links = rw rows (omega arith);
   ends = rw keys (omega arith);
-  groups = rw (empty_entries b (ap (λ (r : Rows). r.rows) rows), keys) (no_groups b.key.items b.notes.items b.links.items b.ends.items);
+  groups = rw (empty_entries b (ap (λ (r : Rows). r.rows) rows), keys)
+      (no_groups b.key.items b.notes.items b.links.items b.ends.items);
 }
 
-pub empty_raw : (b : Raw) (width : ℕ) (key : List ℕ) → b.key.items ≡ key → b.rows ≡ record { width = width; room = 0; rows = [] } → b.keys ≡ record { width = length key; room = 0; rows = [] } → AreRows b.rows → AreRows b.keys → AreColumns width key → IsKind b.kind width key → b.marked ≡ None → IsRaw b
+pub empty_raw : (b : Raw) (width : ℕ) (key : List ℕ) → b.key.items ≡ key → b.rows
+    ≡ record { width = width; room = 0; rows = [] } → b.keys ≡ record { width = length key; room = 0; rows = [] }
+    → AreRows b.rows → AreRows b.keys → AreColumns width key → IsKind b.kind width key → b.marked ≡ None → IsRaw b
 empty_raw b width key key_is rows keys law heads columns kind marked = record {
   bare = empty_bare b width key key_is rows law columns kind marked;
   heads = λ k. empty_heads b width key key_is rows keys heads;

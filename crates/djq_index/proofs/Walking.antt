@@ -1,5 +1,6 @@
 -- Walks along groups and marks: each place that they come to is live.
-use Rattle.std.proofs.Common.{◌≡◌, ℕ, zero, suc, ◌+◌, List, [], ◌∷◌, ◌++◌, take, drop, Option, Some, None, refl, ap, sym, ◌∙◌, append_assoc, add-one, inl, inr}
+use Rattle.std.proofs.Common.{◌≡◌, ℕ, zero, suc, ◌+◌, List, [], ◌∷◌, ◌++◌, take, drop, Option, Some}
+use Rattle.std.proofs.Common.{None, refl, ap, sym, ◌∙◌, append_assoc, add-one, inl, inr}
 use Rattle.std.proofs.lemmas.List.{append-nil, reverse-append}
 use Rattle.std.proofs.lemmas.Bool.{cases_Bool}
 use Rattle.djq_index.specs.declared.place.Place.{Place}
@@ -10,12 +11,28 @@ use Rattle.djq_index.proofs.Groups.{grp_yes, grp_no}
 use Rattle.djq_index.proofs.Marks.{marks_yes, marks_no}
 
 more_live : (x : Entry) (es : List Entry) (p : Place) → IsLive es p → IsLive (x ∷ es) p
-more_live x es p l = record { tuple = l.tuple; is_at = record { front = x ∷ l.is_at.front; back = l.is_at.back; entry = l.is_at.entry; is = ap (λ (zs : List Entry). x ∷ zs) l.is_at.is; tuple = l.is_at.tuple; at = l.is_at.at } }
+more_live x es p l = record {
+  tuple = l.tuple;
+  is_at = record {
+    front = x ∷ l.is_at.front;
+    back = l.is_at.back;
+    entry = l.is_at.entry;
+    is = ap (λ (zs : List Entry). x ∷ zs)
+        l.is_at.is;
+    tuple = l.is_at.tuple;
+    at = l.is_at.at;
+  };
+}
 
-first_live : (x : Entry) (es zs : List Entry) (xs : List Entry) (e : Entry) (ys : List Entry) → ((fs : List Entry) → zs ≡ fs ++ e ∷ ys → IsLive es e.at) → x ∷ zs ≡ xs ++ e ∷ ys → IsLive (x ∷ es) e.at
+first_live : (x : Entry) (es zs : List Entry) (xs : List Entry) (e : Entry) (ys : List Entry)
+    → ((fs : List Entry) → zs ≡ fs ++ e ∷ ys → IsLive es e.at) → x ∷ zs ≡ xs ++ e ∷ ys → IsLive (x ∷ es) e.at
 first_live x es zs [] e ys rest h =
     let first : e ≡ x = cc in
-    record { tuple = x.tuple; is_at = record { front = []; back = es; entry = x; is = refl; tuple = refl; at = ap (λ (d : Entry). d.at) (sym first) } }
+    record {
+      tuple = x.tuple;
+      is_at = record
+          { front = []; back = es; entry = x; is = refl; tuple = refl; at = ap (λ (d : Entry). d.at) (sym first) };
+    }
 first_live x es zs (f ∷ fs) e ys rest h = let k : zs ≡ fs ++ e ∷ ys = cc in more_live x es e.at (rest fs k)
 
 no_group : (key : List ℕ) (w : List ℕ) (xs : List Entry) (e : Entry) (ys : List Entry) → grp key [] w ≡ xs ++ e ∷ ys → ⊥
@@ -24,11 +41,13 @@ no_group key w [] e ys h = cc
 no_group key w (x ∷ xs) e ys h = cc
 
 -- each entry of a group is live
-pub group_live : (key : List ℕ) (es : List Entry) (w : List ℕ) (xs : List Entry) (e : Entry) (ys : List Entry) → grp key es w ≡ xs ++ e ∷ ys → IsLive es e.at
+pub group_live : (key : List ℕ) (es : List Entry) (w : List ℕ) (xs : List Entry) (e : Entry) (ys : List Entry)
+    → grp key es w ≡ xs ++ e ∷ ys → IsLive es e.at
 group_live key [] w xs e ys h = absurd (no_group key w xs e ys h)
 group_live key (x ∷ es) w xs e ys h =
     elim (cases_Bool (same (pick key x.tuple) w)) [
-      | inl here ↦ first_live x es (grp key es w) xs e ys (λ fs k. group_live key es w fs e ys k) (sym (grp_yes key x es w here) ∙ h)
+      | inl here ↦ first_live x es (grp key es w) xs e ys (λ fs k. group_live key es w fs e ys k)
+          (sym (grp_yes key x es w here) ∙ h)
       | inr other ↦ more_live x es e.at (group_live key es w xs e ys (sym (grp_no key x es w other) ∙ h))
     ]
 
@@ -38,7 +57,8 @@ no_marks [] e ys h = cc
 no_marks (x ∷ xs) e ys h = cc
 
 -- each marked entry is live
-pub marks_live : (es : List Entry) (xs : List Entry) (e : Entry) (ys : List Entry) → marks es ≡ xs ++ e ∷ ys → IsLive es e.at
+pub marks_live : (es : List Entry) (xs : List Entry) (e : Entry) (ys : List Entry) → marks es ≡ xs ++ e ∷ ys
+    → IsLive es e.at
 marks_live [] xs e ys h = absurd (no_marks xs e ys h)
 marks_live (x ∷ es) xs e ys h =
     elim (cases_Bool x.marked) [
@@ -52,7 +72,8 @@ pub record WalkCut (g : List Entry) (j : ℕ) (p : Place) : Type 0 where
   pub at : entry.at ≡ p
   pub is : g ≡ take j g ++ entry ∷ drop (j + 1) g
 
-cut_suc : (g : List Entry) (j : ℕ) (p : Place) → head_at (drop j g) ≡ Some p → (e : Entry) × (e.at ≡ p) × (g ≡ take j g ++ e ∷ drop (suc j) g)
+cut_suc : (g : List Entry) (j : ℕ) (p : Place) → head_at (drop j g) ≡ Some p → (e : Entry) × (e.at ≡ p)
+    × (g ≡ take j g ++ e ∷ drop (suc j) g)
 unfolding head_at
 cut_suc [] zero p h = absurd cc
 cut_suc [] (suc j) p h = absurd cc
@@ -76,7 +97,8 @@ record Snoc (e : Entry) (es : List Entry) : Type 0 where
 
 snoc : (e : Entry) (es : List Entry) → Snoc e es
 snoc e [] = record { front = []; end = e; is = refl }
-snoc e (f ∷ es) = let s = snoc f es in record { front = e ∷ s.front; end = s.end; is = ap (λ (ds : List Entry). e ∷ ds) s.is }
+snoc e (f ∷ es) = let s = snoc f es in record
+    { front = e ∷ s.front; end = s.end; is = ap (λ (ds : List Entry). e ∷ ds) s.is }
 
 last_snoc : (es : List Entry) (e : Entry) → last_at (es ++ e ∷ []) ≡ Some e.at
 unfolding last_at head_at
@@ -104,7 +126,14 @@ pub record Backing (g : List Entry) (next : Option Place) : Type 0 where
 pub backing : (g : List Entry) (next : Option Place) → next ≡ last_at g → Backing g next
 backing g next h = record { front = g; back = []; is = sym (append-nil g); last = h }
 
-pub backing_cut : (g : List Entry) (p : Place) → Backing g (Some p) → (xs : List Entry) × (e : Entry) × (ys : List Entry) × (g ≡ xs ++ e ∷ ys) × (e.at ≡ p)
+pub backing_cut : (g : List Entry) (p : Place) → Backing g (Some p) → (xs : List Entry) × (e : Entry)
+    × (ys : List Entry) × (g ≡ xs ++ e ∷ ys) × (e.at ≡ p)
 backing_cut g p b =
-    let c = back_cut b.front p (sym b.last) in
-    (c.front, c.entry, b.back, b.is ∙ ap (λ (es : List Entry). es ++ b.back) c.is ∙ append_assoc c.front (c.entry ∷ []) b.back, c.at)
+    let c = back_cut b.front p (sym b.last) in (
+      c.front,
+      c.entry,
+      b.back,
+      b.is ∙ ap (λ (es : List Entry). es ++ b.back) c.is
+          ∙ append_assoc c.front (c.entry ∷ []) b.back,
+      c.at,
+    )

@@ -1,5 +1,7 @@
 -- A table's parts: its tuples as the rows of an arena, a note for each slot, and for each group a head.
-use Rattle.std.specs.Prelude.{◌≡◌, ◌≢◌, ◌⊎◌, ⊤, ℕ, ◌<◌, ◌≤◌, ◌==◌, Bool, true, false, cond, List, [], ◌∷◌, ◌++◌, map, length, slice_index, slice_index_or, slice_set, vec_capacity, Option, Some, None}
+use Rattle.std.specs.Prelude.{◌≡◌, ◌≢◌, ◌⊎◌, ⊤, ℕ, ◌<◌, ◌≤◌, ◌==◌, Bool, true, false, cond, List}
+use Rattle.std.specs.Prelude.{[], ◌∷◌, ◌++◌, map, length, slice_index, slice_index_or, slice_set}
+use Rattle.std.specs.Prelude.{vec_capacity, Option, Some, None}
 use Rattle.djq_arena.specs.declared.chain.Pair.{Pair}
 use Rattle.djq_arena.specs.declared.chain.Ends.{Ends}
 use Rattle.djq_arena.specs.Rows.{Row, Rows, AreRows, IsAbsent, IsRow, IsFull}
@@ -20,7 +22,13 @@ note_at notes i = slice_index_or notes i (record { supports = 0; head = 0; marke
 
 -- a row with its note
 unfoldable pub entry_of : List Note → Row → Entry
-entry_of notes r = record { at = record { slot = r.slot }; tuple = r.cells; supports = (note_at notes r.slot).supports; marked = (note_at notes r.slot).marked }
+entry_of notes r = record {
+  at = record { slot = r.slot };
+  tuple = r.cells;
+  supports = (note_at notes r.slot).supports;
+  marked =
+      (note_at notes r.slot).marked;
+}
 
 unfoldable pub entries_in : List Note → List Row → List Entry
 entries_in notes rows = map (entry_of notes) rows
@@ -40,14 +48,16 @@ row_at (r ∷ rs) i = cond (r.slot == i) (Some r.cells) (row_at rs i)
 -- each entry's note names the head of its group
 unfoldable pub AreSeated : List ℕ → List Note → List Row → List Entry → Type 0
 AreSeated key notes keys [] = ⊤
-AreSeated key notes keys (e ∷ es) = (row_at keys (note_at notes e.at.slot).head ≡ Some (pick key e.tuple)) × AreSeated key notes keys es
+AreSeated key notes keys (e ∷ es) = (row_at keys (note_at notes e.at.slot).head ≡ Some (pick key e.tuple))
+    × AreSeated key notes keys es
 
 -- the ends of a head's group
 abbrev pub ends_at : List Ends → ℕ → Ends
 ends_at ends h = slice_index_or ends h (record { first = None; last = None })
 
 -- each group that has a tuple has one head, which knows its ends; each group is chained
-pub record AreGroups (key : List ℕ) (notes : List Note) (links : List Pair) (keys : List Row) (ends : List Ends) (es : List Entry) : Type 0 where
+pub record AreGroups (key : List ℕ) (notes : List Note) (links : List Pair) (keys : List Row) (ends : List Ends)
+    (es : List Entry) : Type 0 where
   pub chained : (w : List ℕ) → Linked links None (slots_at (grp key es w)) None
   pub headed : (h : ℕ) (w : List ℕ) → row_at keys h ≡ Some w → ends_at ends h ≡ ends_of (slots_at (grp key es w))
   pub some : (h : ℕ) (w : List ℕ) → row_at keys h ≡ Some w → 0 < many key es w
@@ -115,7 +125,8 @@ place_of (Some i) = Some (record { slot = i })
 abbrev pub IsSeat : List Row → List Row → List Ends → List Ends → ℕ → List ℕ → Type 0
 IsSeat old new ends more h w =
     (IsRow old h w × (new ≡ old) × ((k : ℕ) → ends_at more k ≡ ends_at ends k))
-    ⊎ (IsAbsent old w × (new ≡ old ++ record { slot = h; cells = w } ∷ []) × (ends_at more h ≡ record { first = None; last = None }) × ((k : ℕ) → k ≢ h → ends_at more k ≡ ends_at ends k))
+    ⊎ (IsAbsent old w × (new ≡ old ++ record { slot = h; cells = w } ∷ [])
+    × (ends_at more h ≡ record { first = None; last = None }) × ((k : ℕ) → k ≢ h → ends_at more k ≡ ends_at ends k))
 
 -- the first marked slot, once slot i, which is followed by the slot `next`, is gone
 abbrev pub passed : Option ℕ → ℕ → Option ℕ → Option ℕ
@@ -131,7 +142,8 @@ pub record IsLaid (a : Raw) (rows : Rows) (notes : List Note) (i : ℕ) (u : Lis
   pub same_notes : (k : ℕ) → note_at notes k ≡ note_at a.notes.items k
 
 -- and has a head
-pub record IsReady (a : Raw) (rows : Rows) (notes : List Note) (links : List Pair) (keys : Rows) (ends : List Ends) (i h : ℕ) (u : List ℕ) : Type 0 where
+pub record IsReady (a : Raw) (rows : Rows) (notes : List Note) (links : List Pair) (keys : Rows) (ends : List Ends)
+    (i h : ℕ) (u : List ℕ) : Type 0 where
   pub laid : IsLaid a rows notes i u
   pub room_links : rows.room ≤ length links
   pub same_links : (k : ℕ) → pair_at links k ≡ pair_at a.links.items k
@@ -150,7 +162,8 @@ pub record IsNoted (mark : Bool) (a b : Raw) (rows : Rows) (notes : List Note) (
   pub marked : b.marked ≡ cond mark (beside a.marked (Some i) a.marked) a.marked
 
 -- and joins the group of head h
-pub record IsSettled (mark : Bool) (a b : Raw) (rows : Rows) (notes : List Note) (links : List Pair) (keys : Rows) (ends : List Ends) (i h : ℕ) : Type 0 where
+pub record IsSettled (mark : Bool) (a b : Raw) (rows : Rows) (notes : List Note) (links : List Pair) (keys : Rows)
+    (ends : List Ends) (i h : ℕ) : Type 0 where
   pub noted : IsNoted mark a b rows notes i h
   pub links_are : b.links.items ≡ entered (ends_at ends h).last i links
   pub keys_are : b.keys ≡ keys
@@ -161,7 +174,9 @@ pub record IsMarked (a b : Raw) (i : ℕ) : Type 0 where
   pub kind : b.kind ≡ a.kind
   pub key : b.key.items ≡ a.key.items
   pub rows : b.rows ≡ a.rows
-  pub notes : b.notes.items ≡ slice_set a.notes.items i (record { supports = (note_at a.notes.items i).supports; head = (note_at a.notes.items i).head; marked = true })
+  pub notes : b.notes.items
+      ≡ slice_set a.notes.items i
+      (record { supports = (note_at a.notes.items i).supports; head = (note_at a.notes.items i).head; marked = true })
   pub links : b.links.items ≡ a.links.items
   pub keys : b.keys ≡ a.keys
   pub ends : b.ends.items ≡ a.ends.items

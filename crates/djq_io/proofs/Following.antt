@@ -1,5 +1,7 @@
 -- How a hub in memory follows its script.
-use Rattle.std.proofs.Common.{◌≡◌, ◌≢◌, ℕ, ◌<◌, ◌≤◌, Bool, true, false, cond, IsTrue, ◌↔◌, nat_eq, inl, inr, rules, List, [], ◌∷◌, ◌++◌, length, take, drop, min, refl, sym, ap, ◌∙◌, subst, arith, length-drop}
+use Rattle.std.proofs.Common.{◌≡◌, ◌≢◌, ℕ, ◌<◌, ◌≤◌, Bool, true, false, cond, IsTrue, ◌↔◌, nat_eq}
+use Rattle.std.proofs.Common.{inl, inr, rules, List, [], ◌∷◌, ◌++◌, length, take, drop, min, refl}
+use Rattle.std.proofs.Common.{sym, ap, ◌∙◌, subst, arith, length-drop}
 use Rattle.std.specs.Prelude.{Option, Some, None}
 use Rattle.std.specs.Option.{option_map}
 use Rattle.std.specs.List.{list_any}
@@ -18,8 +20,10 @@ use Rattle.djq_io.specs.MemHub.{Recorded, send_of}
 use Rattle.djq_io.proofs.Membership.{is_member}
 
 -- What holds of the script holds where it is told.
-pub where_told : (P : Script → Script → Type 0) (script script' : Script) (past past' : Option (List Told)) (told : List Told)
-    → Gains past past' told → P script script' → WhereTold (option_map (λ _. script) past) (option_map (λ _. script') past') P
+pub where_told : (P : Script → Script → Type 0) (script script' : Script) (past past' : Option (List Told))
+    (told : List Told)
+    → Gains past past' told → P script script'
+    → WhereTold (option_map (λ _. script) past) (option_map (λ _. script') past') P
 where_told P script script' None None told gains holds = tt
 where_told P script script' None (Some n) told gains holds = absurd gains
 where_told P script script' (Some o) None told gains holds = tt
@@ -39,20 +43,27 @@ sends_by hub id piece sent is =
     at_head false false is = (λ p. cc ((is_member hub.script.blocked id).1 p), refl, refl)
 
 -- A send counts a fault of its session exactly where it finds it gone.
-pub counts_by : (hub : Recorded) (id : ℕ) (piece : List ℕ) (sent : Sent) (ids : List ℕ) (fails : Bool) (new : List FailingSend) → sent ≡ send_of hub id piece
-    → fails ≡ is_send_due id hub.failing_sends → CountsSends fails id hub.failing_sends new → CountsSend sent id ids (failed_sends hub.failing_sends) (failed_sends new)
+pub counts_by : (hub : Recorded) (id : ℕ) (piece : List ℕ) (sent : Sent) (ids : List ℕ) (fails : Bool)
+    (new : List FailingSend) → sent ≡ send_of hub id piece
+    → fails ≡ is_send_due id hub.failing_sends → CountsSends fails id hub.failing_sends new
+    → CountsSend sent id ids (failed_sends hub.failing_sends) (failed_sends new)
 counts_by hub id piece sent ids fails new is due counts =
-    subst (λ s. CountsSend s id ids (failed_sends hub.failing_sends) (failed_sends new)) (sym is) (at_head fails (is_send_due id hub.failing_sends) (list_any (λ other. nat_eq other id) hub.script.blocked) due counts)
+    subst (λ s. CountsSend s id ids (failed_sends hub.failing_sends) (failed_sends new)) (sym is)
+    (at_head fails (is_send_due id hub.failing_sends) (list_any (λ other. nat_eq other id) hub.script.blocked) due
+    counts)
   where
     old : ℕ → ℕ
     old = failed_sends hub.failing_sends
 
-    stays : (failed_sends new id ≡ old id) → ((other : ℕ) → other ≢ id → failed_sends new other ≡ old other) → (other : ℕ) → failed_sends new other ≡ old other
-    stays at_id others other = elim (eqb_tells other id) [ inl same ↦ rw same.1 at_id | inr differ ↦ others other differ.1 ]
+    stays : (failed_sends new id ≡ old id) → ((other : ℕ) → other ≢ id → failed_sends new other ≡ old other)
+        → (other : ℕ) → failed_sends new other ≡ old other
+    stays at_id others other = elim (eqb_tells other id)
+        [ inl same ↦ rw same.1 at_id | inr differ ↦ others other differ.1 ]
 
     at_head : (fails due blocked : Bool) → fails ≡ due → CountsSends fails id hub.failing_sends new
         → CountsSend (cond due Gone (cond blocked Again (Took (length piece)))) id ids old (failed_sends new)
-    at_head true true blocked same counts = ((λ other is_open differ. counts.1 other differ), (omega (arith, counts.0), inl counts.0))
+    at_head true true blocked same counts =
+        ((λ other is_open differ. counts.1 other differ), (omega (arith, counts.0), inl counts.0))
     at_head true false blocked same counts = cc
     at_head false true blocked same counts = cc
     at_head false false true same counts = λ other is_open. stays counts.0 counts.1 other
@@ -60,7 +71,8 @@ counts_by hub id piece sent ids fails new is due counts =
 
 -- The rest of a piece that is longer than the buffer is put back.
 pub cuts_piece : (id n room : ℕ) (piece part : List ℕ) (old popped new : Script) → Passes old (Brings id piece) popped
-    → new ≡ record popped { turns = record { turn = Brings id (drop n piece); blocked = popped.blocked } ∷ popped.turns }
+    → new ≡ record popped
+    { turns = record { turn = Brings id (drop n piece); blocked = popped.blocked } ∷ popped.turns }
     → n ≡ min (length piece) room → n < length piece → part ≡ take n piece → (n ≡ room) × Cuts old id part new
 cuts_piece id n room piece part old popped new passes put is longer copied =
     let blocked : new.blocked ≡ popped.blocked = ap (λ (s : Script). s.blocked) put in
@@ -70,7 +82,8 @@ cuts_piece id n room piece part old popped new passes put is longer copied =
     (omega (arith, is), (drop n piece, popped.turns, rest_some, rw (whole, blocked) passes, rw blocked turns))
 
 -- A piece that fits is given whole.
-pub gives_piece_whole : (id n room : ℕ) (piece part : List ℕ) (old popped : Script) → Passes old (Brings id piece) popped
+pub gives_piece_whole : (id n room : ℕ) (piece part : List ℕ) (old popped : Script)
+    → Passes old (Brings id piece) popped
     → n ≡ min (length piece) room → length piece ≤ n → part ≡ take n piece → Passes old (Brings id part) popped
 gives_piece_whole id n room piece part old popped passes is fits copied = rw (copied ∙ take_all n piece fits) passes
 

@@ -9,7 +9,8 @@ gains_none None = tt
 gains_none (Some xs) = sym (append-nil xs)
 
 -- one call after another
-pub gains_more : {A : Type 0} → (o m n : Option (List A)) → (taken more : List A) → Gains o m taken → Gains m n more → Gains o n (taken ++ more)
+pub gains_more : {A : Type 0} → (o m n : Option (List A)) → (taken more : List A) → Gains o m taken → Gains m n more
+    → Gains o n (taken ++ more)
 gains_more o m None taken more p q = tt
 gains_more o None (Some n) taken more p q = absurd q
 gains_more None (Some m) (Some n) taken more p q = absurd p

@@ -7,7 +7,8 @@ use Rattle.djq_io.specs.Source.{Reading, GivesPiece, Gives}
 -- the bytes of some pieces and of more behind them
 pub concat-append : (pieces more : List (List ℕ)) → concat (pieces ++ more) ≡ concat pieces ++ concat more
 concat-append [] more = refl
-concat-append (piece ∷ pieces) more = ap (λ bytes. piece ++ bytes) (concat-append pieces more) ∙ sym (append_assoc piece (concat pieces) (concat more))
+concat-append (piece ∷ pieces) more = ap (λ bytes. piece ++ bytes) (concat-append pieces more)
+    ∙ sym (append_assoc piece (concat pieces) (concat more))
 
 -- a call that reads nothing
 pub gives_none : (o : Option Reading) → Gives o o []
@@ -18,13 +19,21 @@ gives_none (Some o) = (sym (append-nil o.given), refl)
 pub gives_piece : (o n : Option Reading) (piece : List ℕ) → GivesPiece o n piece → Gives o n (piece ∷ [])
 gives_piece o None piece p = tt
 gives_piece None (Some n) piece p = cc
-gives_piece (Some o) (Some n) piece p =
-    (ap (λ (r : Reading). r.given) p.2, p.1 ∙ sym (ap (λ (r : Reading). (piece ++ []) ++ r.left) p.2 ∙ ap (λ bytes. bytes ++ p.0) (append-nil piece)))
+gives_piece (Some o) (Some n) piece p = (
+  ap (λ (r : Reading). r.given) p.2,
+  p.1
+      ∙ sym (ap (λ (r : Reading). (piece ++ []) ++ r.left) p.2 ∙ ap (λ bytes. bytes ++ p.0) (append-nil piece)),
+)
 
 -- some reads after others
-pub gives_more : (o m n : Option Reading) (given more : List (List ℕ)) → Gives o m given → Gives m n more → Gives o n (given ++ more)
+pub gives_more : (o m n : Option Reading) (given more : List (List ℕ)) → Gives o m given → Gives m n more
+    → Gives o n (given ++ more)
 gives_more o m None given more p q = tt
 gives_more o None (Some n) given more p q = absurd q
 gives_more None (Some m) (Some n) given more p q = absurd p
-gives_more (Some o) (Some m) (Some n) given more p q =
-    (q.0 ∙ ap (λ pieces. pieces ++ more) p.0 ∙ append_assoc o.given given more, p.1 ∙ ap (λ bytes. concat given ++ bytes) q.1 ∙ sym (append_assoc (concat given) (concat more) n.left) ∙ sym (ap (λ bytes. bytes ++ n.left) (concat-append given more)))
+gives_more (Some o) (Some m) (Some n) given more p q = (
+  q.0 ∙ ap (λ pieces. pieces ++ more) p.0 ∙ append_assoc o.given given more,
+  p.1
+      ∙ ap (λ bytes. concat given ++ bytes) q.1 ∙ sym (append_assoc (concat given) (concat more) n.left)
+      ∙ sym (ap (λ bytes. bytes ++ n.left) (concat-append given more)),
+)

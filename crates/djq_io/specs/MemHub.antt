@@ -48,7 +48,8 @@ number_of (Send id call) = call
 abbrev pub with_failing : Recorded → HubCall → Recorded
 with_failing hub (Listen call) = record hub { failing_listens = hub.failing_listens ++ call ∷ [] }
 with_failing hub (Turn call) = record hub { failing_turns = hub.failing_turns ++ call ∷ [] }
-with_failing hub (Send id call) = record hub { failing_sends = hub.failing_sends ++ record { id = id; send = call } ∷ [] }
+with_failing hub (Send id call) = record hub
+    { failing_sends = hub.failing_sends ++ record { id = id; send = call } ∷ [] }
 
 -- how many listens and turns of a hub have failed
 abbrev pub hub_faults : Recorded → ℕ

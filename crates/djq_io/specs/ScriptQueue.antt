@@ -12,4 +12,5 @@ pub record Queue : Type 0 where
 
 -- the turns to come, the rest of a piece first
 abbrev pub turns_of : Option Rest → List ℕ → List Coming → List Coming
-turns_of rest blocked turns = option_map_or (λ r. record { turn = Brings r.id r.piece; blocked = blocked } ∷ turns) rest turns
+turns_of rest blocked turns = option_map_or (λ r. record { turn = Brings r.id r.piece; blocked = blocked } ∷ turns) rest
+    turns

@@ -1,5 +1,6 @@
 -- Each answer comes exactly where its cause holds.
-use Rattle.std.proofs.Common.{◌≡◌, ℕ, List, [], ◌∷◌, ◌++◌, take, drop, refl, sym, ap, ap₂, subst, ◌∙◌, append_assoc, append-nil}
+use Rattle.std.proofs.Common.{◌≡◌, ℕ, List, [], ◌∷◌, ◌++◌, take, drop, refl, sym, ap, ap₂, subst}
+use Rattle.std.proofs.Common.{◌∙◌, append_assoc, append-nil}
 use Rattle.std.specs.List.{AllByRecursion}
 use Rattle.std.proofs.Math.Seq.{drop-append_seam}
 use Rattle.djq_disk.specs.File.{File}
@@ -24,33 +25,41 @@ last_of [] line all = all.0
 last_of (l ∷ ls) line all = last_of ls line all.1
 
 -- behind a line that was read its record stands
-record_there : (lines : List (List ℕ)) (line : List ℕ) (gate gate' : ℕ) (file : File) → IsAt lines gate file → IsAt (lines ++ line ∷ []) gate' file
+record_there : (lines : List (List ℕ)) (line : List ℕ) (gate gate' : ℕ) (file : File) → IsAt lines gate file
+    → IsAt (lines ++ line ∷ []) gate' file
     → IsRecord line (drop gate file.bytes)
 record_there lines line gate gate' file at behind = record {
   is_line = last_of lines line behind.are_lines;
   behind = behind.rest;
-  is = ap₂ (λ (n : ℕ) (xs : List ℕ). drop n xs) at.place whole ∙ drop-append_seam (front lines) (record_of line ++ behind.rest);
+  is = ap₂ (λ (n : ℕ) (xs : List ℕ). drop n xs) at.place whole
+      ∙ drop-append_seam (front lines) (record_of line ++ behind.rest);
 }
   where
     whole : file.bytes ≡ front lines ++ (record_of line ++ behind.rest)
-    whole = behind.is ∙ ap (λ (xs : List ℕ). xs ++ behind.rest) (front_more lines (line ∷ []) ∙ ap (λ (xs : List ℕ). front lines ++ xs) (append-nil (record_of line)))
+    whole = behind.is ∙ ap (λ (xs : List ℕ). xs ++ behind.rest)
+        (front_more lines (line ∷ []) ∙ ap (λ (xs : List ℕ). front lines ++ xs) (append-nil (record_of line)))
         ∙ append_assoc (front lines) (record_of line) behind.rest
 
 -- at the gate that ends the lines the list ends
 end_there : (lines : List (List ℕ)) (gate : ℕ) (file : File) → IsIdle lines gate file → IsEnd (drop gate file.bytes)
 end_there lines gate file idle =
     let there : drop gate file.bytes ≡ idle.opens.gate ∷ idle.opens.behind =
-    ap₂ (λ (n : ℕ) (xs : List ℕ). drop n xs) idle.place idle.opens.is ∙ drop-append_seam (front lines) (idle.opens.gate ∷ idle.opens.behind) in
+    ap₂ (λ (n : ℕ) (xs : List ℕ). drop n xs) idle.place idle.opens.is
+    ∙ drop-append_seam (front lines) (idle.opens.gate ∷ idle.opens.behind) in
     subst IsEnd (sym there) idle.opens.shut
 
 pub reads_exactly : ReadsExactly
 reads_exactly (Got n) lines gate gate' buf file at reads failed =
     let there = record_there lines (take n buf) gate gate' file at reads in
-    let three = one_of_three (drop gate file.bytes) in
-    (((λ wrong. cc), (λ end. absurd (three.no_line (take n buf) end there))), ((λ wrong. cc), (λ bad. absurd (three.no_record (take n buf) bad there))))
+    let three = one_of_three (drop gate file.bytes) in (
+      ((λ wrong. cc), (λ end. absurd (three.no_line (take n buf) end there))),
+      ((λ wrong. cc), (λ bad. absurd (three.no_record (take n buf) bad there))),
+    )
 reads_exactly End lines gate gate' buf file at reads failed =
     let end = end_there lines gate file reads.0 in
     (((λ _. end), (λ _. refl)), ((λ wrong. cc), (λ bad. absurd ((one_of_three (drop gate file.bytes)).no_end bad end))))
-reads_exactly (BadLine place) lines gate gate' buf file at reads failed =
-    (((λ wrong. cc), (λ end. absurd ((one_of_three (drop gate file.bytes)).no_end reads.1 end))), ((λ _. reads.1), (λ _. ap BadLine reads.0)))
+reads_exactly (BadLine place) lines gate gate' buf file at reads failed = (
+  ((λ wrong. cc), (λ end. absurd ((one_of_three (drop gate file.bytes)).no_end reads.1 end))),
+  ((λ _. reads.1), (λ _. ap BadLine reads.0)),
+)
 reads_exactly Unread lines gate gate' buf file at reads failed = absurd (failed refl)

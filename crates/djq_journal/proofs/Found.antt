@@ -1,5 +1,7 @@
 -- What is found in a file: a journal that was made, one that is opened, its next line.
-use Rattle.std.proofs.Common.{◌≡◌, ℕ, ◌+◌, ◌/◌, ◌%◌, ◌≤◌, List, [], ◌∷◌, ◌++◌, length, take, drop, refl, sym, ap, ap₂, subst, ◌∙◌, arith, append_assoc, append-nil, length-append}
+use Rattle.std.proofs.Common.{◌≡◌, ℕ, ◌+◌, ◌/◌, ◌%◌, ◌≤◌, List, [], ◌∷◌, ◌++◌, length, take, drop}
+use Rattle.std.proofs.Common.{refl, sym, ap, ap₂, subst, ◌∙◌, arith, append_assoc, append-nil}
+use Rattle.std.proofs.Common.{length-append}
 use Rattle.std.proofs.Math.Seq.{drop-append_seam, drop-drop}
 use Rattle.std.proofs.lemmas.List.{take-append-drop}
 use Rattle.djq_disk.specs.File.{File, IsSettled, settled, put}
@@ -35,16 +37,19 @@ made old new writes =
     )
 
 -- behind a sync the header is read
-pub opened_ready : (buf : List ℕ) (old mid new : History) → buf ≡ header → Syncs Done old mid → Fills Whole 0 buf mid new → Opens (Ready 8) old new
+pub opened_ready : (buf : List ℕ) (old mid new : History) → buf ≡ header → Syncs Done old mid
+    → Fills Whole 0 buf mid new → Opens (Ready 8) old new
 opened_ready buf old mid new is syncs fills =
     let same : new ≡ moved_to (settled old.file.bytes) old = fills.1 ∙ syncs in
     let bytes : mid.file.bytes ≡ old.file.bytes = ap (λ (h : History). h.file.bytes) syncs in
-    let start : header ≡ take 8 old.file.bytes = sym is ∙ fills.0 ∙ ap₂ (λ (xs ys : List ℕ). take (length xs) ys) is bytes in (
+    let start : header ≡ take 8 old.file.bytes = sym is ∙ fills.0
+    ∙ ap₂ (λ (xs ys : List ℕ). take (length xs) ys) is bytes in (
       same,
       record {
         are_lines = tt;
         rest = drop 8 old.file.bytes;
-        is = ap (λ (h : History). h.file.bytes) same ∙ sym (take-append-drop 8 old.file.bytes) ∙ ap (λ (xs : List ℕ). xs ++ drop 8 old.file.bytes) (sym start);
+        is = ap (λ (h : History). h.file.bytes) same ∙ sym (take-append-drop 8 old.file.bytes)
+            ∙ ap (λ (xs : List ℕ). xs ++ drop 8 old.file.bytes) (sym start);
         place = refl;
         still = subst (λ (h : History). IsSettled h.file) (sym same) refl;
       },
@@ -57,7 +62,8 @@ pub line_read : (lines : List (List ℕ)) (gate n : ℕ) (got : List ℕ) (file 
 line_read lines gate n got file at head some short size is = record {
   are_lines = all_append IsLine lines (got ∷ []) at.are_lines ((omega arith, omega arith), tt);
   rest = later;
-  is = at.is ∙ ap (λ (xs : List ℕ). front lines ++ xs) (sym there ∙ record_there) ∙ sym (append_assoc (front lines) (record_of got) later)
+  is = at.is ∙ ap (λ (xs : List ℕ). front lines ++ xs) (sym there ∙ record_there)
+      ∙ sym (append_assoc (front lines) (record_of got) later)
       ∙ ap (λ (xs : List ℕ). xs ++ later) (sym all_of);
   place = omega (arith, at.place, ap length all_of, length-append (front lines) (record_of got));
   still = at.still;

@@ -25,7 +25,8 @@ group_one [] some = let wrong : ⊥ = omega arith in absurd wrong
 group_one (line ∷ lines) some = refl
 
 -- what is told of each is told of all
-pub told_all : {X : Type 0} (x : X) (old new : Option History) (P : X → History → History → Type 0) → ((y : X) → WhereTold old new (P y))
+pub told_all : {X : Type 0} (x : X) (old new : Option History) (P : X → History → History → Type 0)
+    → ((y : X) → WhereTold old new (P y))
     → WhereTold old new (λ o n. (y : X) → P y o n)
 told_all x old None P each = tt
 told_all x None (Some n) P each = absurd (each x)
@@ -43,23 +44,28 @@ keeps_nowhere lines h found groups start kept = kept
 
 -- what an append to an idle journal does is done to whatever was kept before
 pub keeps_all : (gate next : ℕ) (group : List (List ℕ)) (old new : History) → 1 ≤ length group
-    → ((lines : List (List ℕ)) → IsIdle lines gate old.file → Appends (Done next) lines group old new) → Keeps All (Some gate) (Some next) group old new
+    → ((lines : List (List ℕ)) → IsIdle lines gate old.file → Appends (Done next) lines group old new)
+    → Keeps All (Some gate) (Some next) group old new
 keeps_all gate next group old new some appends found groups start kept =
     subst (λ (gs : List (List (List ℕ))). IsKeeping found (groups ++ gs) next start new) (sym (group_one group some))
-    ((keeps_on.more found groups gate start old kept).done group next new (appends (found ++ lines_in groups) kept.idle))
+    ((keeps_on.more found groups gate start old kept).done group next new
+    (appends (found ++ lines_in groups) kept.idle))
 
 pub keeps_failed : (gate : ℕ) (gate' : Option ℕ) (group : List (List ℕ)) (old new : History)
-    → ((lines : List (List ℕ)) → IsIdle lines gate old.file → Appends Unappended lines group old new) → Keeps Failed (Some gate) gate' group old new
+    → ((lines : List (List ℕ)) → IsIdle lines gate old.file → Appends Unappended lines group old new)
+    → Keeps Failed (Some gate) gate' group old new
 keeps_failed gate gate' group old new appends found groups start kept =
     (keeps_on.more found groups gate start old kept).failed group new (appends (found ++ lines_in groups) kept.idle)
 
 pub keeps_full : (gate : ℕ) (gate' : Option ℕ) (group : List (List ℕ)) (old new : History)
-    → ((lines : List (List ℕ)) → IsIdle lines gate old.file → Appends Overflows lines group old new) → Keeps Full (Some gate) gate' group old new
+    → ((lines : List (List ℕ)) → IsIdle lines gate old.file → Appends Overflows lines group old new)
+    → Keeps Full (Some gate) gate' group old new
 keeps_full gate gate' group old new appends found groups start kept =
     (keeps_on.more found groups gate start old kept).full group new (appends (found ++ lines_in groups) kept.idle)
 
 -- when a journal has no room
-pub overfull_some : (gate : ℕ) (lines : List (List ℕ)) → 1 ≤ length lines → LAST_GATE < gate_after gate lines → Overfull (Some gate) lines
+pub overfull_some : (gate : ℕ) (lines : List (List ℕ)) → 1 ≤ length lines → LAST_GATE < gate_after gate lines
+    → Overfull (Some gate) lines
 overfull_some gate [] some past = let wrong : ⊥ = omega arith in absurd wrong
 overfull_some gate (line ∷ lines) some past = past
 

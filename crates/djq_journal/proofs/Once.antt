@@ -1,5 +1,7 @@
 -- A file opens to one list of lines, and a place is one thing.
-use Rattle.std.proofs.Common.{◌≡◌, ◌≢◌, ℕ, ◌+◌, ◌*◌, ◌/◌, ◌%◌, inl, inr, List, [], ◌∷◌, ◌++◌, length, take, drop, get_or, refl, sym, ap, ap₂, subst, ◌∙◌, arith, append_assoc, length-append}
+use Rattle.std.proofs.Common.{◌≡◌, ◌≢◌, ℕ, ◌+◌, ◌*◌, ◌/◌, ◌%◌, inl, inr, List, [], ◌∷◌, ◌++◌}
+use Rattle.std.proofs.Common.{length, take, drop, get_or, refl, sym, ap, ap₂, subst, ◌∙◌, arith}
+use Rattle.std.proofs.Common.{append_assoc, length-append}
 use Rattle.std.specs.List.{flat_map}
 use Rattle.std.proofs.Math.Nat.{div-add-mod}
 use Rattle.std.proofs.Math.Seq.{take-append_seam}
@@ -18,23 +20,28 @@ by_parts a b high low = sym (div-add-mod a 256) ∙ ap₂ (λ (x y : ℕ). 256 *
 
 -- lists of one length that begin alike
 pieces_same : (a b xs ys : List ℕ) → length a ≡ length b → a ++ xs ≡ b ++ ys → a ≡ b
-pieces_same a b xs ys size e = sym (take-append_seam a xs) ∙ ap₂ (λ (n : ℕ) (zs : List ℕ). take n zs) size e ∙ take-append_seam b ys
+pieces_same a b xs ys size e = sym (take-append_seam a xs) ∙ ap₂ (λ (n : ℕ) (zs : List ℕ). take n zs) size e
+    ∙ take-append_seam b ys
 
 -- two records that stand at one place are one
 bodies_same : (a b xs ys : List ℕ) → body_of a ++ xs ≡ body_of b ++ ys → a ≡ b
 bodies_same a b xs ys e =
     let low = tail_same (length a / 256) (length b / 256) (length a % 256 ∷ (a ++ xs)) (length b % 256 ∷ (b ++ ys)) e in
     pieces_same a b xs ys
-    (by_parts (length a) (length b) (head_same (length a / 256) (length b / 256) (length a % 256 ∷ (a ++ xs)) (length b % 256 ∷ (b ++ ys)) e)
+    (by_parts (length a) (length b)
+    (head_same (length a / 256) (length b / 256) (length a % 256 ∷ (a ++ xs)) (length b % 256 ∷ (b ++ ys)) e)
     (head_same (length a % 256) (length b % 256) (a ++ xs) (b ++ ys) low))
     (tail_same (length a % 256) (length b % 256) (a ++ xs) (b ++ ys) low)
 
 records_once : (lines others : List (List ℕ)) (gate gate' : ℕ) (rest rest' : List ℕ) → gate ≢ 1 → gate' ≢ 1
     → flat_map record_of lines ++ gate ∷ rest ≡ flat_map record_of others ++ gate' ∷ rest' → lines ≡ others
 records_once [] [] gate gate' rest rest' shut shut' e = refl
-records_once [] (o ∷ os) gate gate' rest rest' shut shut' e = absurd (shut (head_same gate 1 rest (body_of o ++ flat_map record_of os ++ gate' ∷ rest') e))
-records_once (l ∷ ls) [] gate gate' rest rest' shut shut' e = absurd (shut' (sym (head_same 1 gate' (body_of l ++ flat_map record_of ls ++ gate ∷ rest) rest' e)))
-records_once (l ∷ ls) (o ∷ os) gate gate' rest rest' shut shut' e = ap₂ (λ (x : List ℕ) (xs : List (List ℕ)). x ∷ xs) first (records_once ls os gate gate' rest rest' shut shut' later)
+records_once [] (o ∷ os) gate gate' rest rest' shut shut' e = absurd
+    (shut (head_same gate 1 rest (body_of o ++ flat_map record_of os ++ gate' ∷ rest') e))
+records_once (l ∷ ls) [] gate gate' rest rest' shut shut' e = absurd
+    (shut' (sym (head_same 1 gate' (body_of l ++ flat_map record_of ls ++ gate ∷ rest) rest' e)))
+records_once (l ∷ ls) (o ∷ os) gate gate' rest rest' shut shut' e = ap₂ (λ (x : List ℕ) (xs : List (List ℕ)). x ∷ xs)
+    first (records_once ls os gate gate' rest rest' shut shut' later)
   where
     more : List ℕ
     more = flat_map record_of ls ++ gate ∷ rest
@@ -43,7 +50,8 @@ records_once (l ∷ ls) (o ∷ os) gate gate' rest rest' shut shut' e = ap₂ (�
     more' = flat_map record_of os ++ gate' ∷ rest'
 
     flat : record_of l ++ more ≡ record_of o ++ more'
-    flat = sym (append_assoc (record_of l) (flat_map record_of ls) (gate ∷ rest)) ∙ e ∙ append_assoc (record_of o) (flat_map record_of os) (gate' ∷ rest')
+    flat = sym (append_assoc (record_of l) (flat_map record_of ls) (gate ∷ rest)) ∙ e
+        ∙ append_assoc (record_of o) (flat_map record_of os) (gate' ∷ rest')
 
     first : l ≡ o
     first = bodies_same l o more more' (tail_same 1 1 (body_of l ++ more) (body_of o ++ more') flat)
@@ -51,9 +59,11 @@ records_once (l ∷ ls) (o ∷ os) gate gate' rest rest' shut shut' e = ap₂ (�
     later : more ≡ more'
     later = append_cancel_left (record_of l) more more' (flat ∙ ap (λ (x : List ℕ). record_of x ++ more') (sym first))
 
-pub opens_once : (lines others : List (List ℕ)) (file : List ℕ) → OpensTo lines file → OpensTo others file → lines ≡ others
+pub opens_once : (lines others : List (List ℕ)) (file : List ℕ) → OpensTo lines file → OpensTo others file → lines
+    ≡ others
 opens_once lines others file a b =
-    records_once lines others a.gate b.gate a.behind b.behind a.shut b.shut (ap (λ (xs : List ℕ). drop 8 xs) (sym a.is ∙ b.is))
+    records_once lines others a.gate b.gate a.behind b.behind a.shut b.shut
+    (ap (λ (xs : List ℕ). drop 8 xs) (sym a.is ∙ b.is))
 
 not_both : (rest : List ℕ) → IsBad rest → IsEnd rest → ⊥
 not_both [] bad end = end

@@ -1,5 +1,7 @@
 -- A group that is appended: its records behind the closed gate, and then the gate.
-use Rattle.std.proofs.Common.{◌≡◌, ℕ, zero, suc, ◌+◌, ◌≤◌, inl, inr, List, [], ◌∷◌, ◌++◌, length, take, drop, get_or, refl, sym, ap, ap₂, subst, ◌∙◌, arith, append_assoc, length-append, length-take}
+use Rattle.std.proofs.Common.{◌≡◌, ℕ, zero, suc, ◌+◌, ◌≤◌, inl, inr, List, [], ◌∷◌, ◌++◌, length}
+use Rattle.std.proofs.Common.{take, drop, get_or, refl, sym, ap, ap₂, subst, ◌∙◌, arith}
+use Rattle.std.proofs.Common.{append_assoc, length-append, length-take}
 use Rattle.std.specs.List.{flat_map, AllByRecursion}
 use Rattle.std.proofs.Math.Seq.{take-append_seam, drop-append_seam}
 use Rattle.std.proofs.lemmas.List.{take-append-drop}
@@ -29,25 +31,36 @@ staged_none lines gate h idle =
     }
 
 -- A write behind the gate, whatever it answers.
-pub staged_write : (did : DiskDid) (at : ℕ) (piece : List ℕ) (lines : List (List ℕ)) (gate : ℕ) (laid : List ℕ) (old mid new : History)
+pub staged_write : (did : DiskDid) (at : ℕ) (piece : List ℕ) (lines : List (List ℕ)) (gate : ℕ) (laid : List ℕ)
+    (old mid new : History)
     → IsIdle lines gate old.file → Stages lines gate laid old mid → suc gate ≤ at → Writes did at piece mid new
     → IsFirm (suc gate) old.file.bytes new.file × LeavesSince (OpensTo lines) old new
 staged_write did at piece lines gate laid old mid new idle stages behind writes =
     let kept = write_keeps did at piece mid new writes in
     let span : Span = record { at = at; size = length piece } in
     let file : File = with_written span kept.0 mid.file in
-    let firm : IsFirm (suc gate) old.file.bytes file = firm_written (suc gate) old.file.bytes kept.0 span mid.file stages.firm behind kept.1 in
+    let firm : IsFirm (suc gate) old.file.bytes file = firm_written (suc gate) old.file.bytes kept.0 span mid.file
+    stages.firm behind kept.1 in
     let leaves : LeavesSince (OpensTo lines) old (moved_to file mid) =
-    leaves_move (OpensTo lines) old mid file stages.leaves (firm_leaves lines gate old.file.bytes file idle.opens idle.place firm) in
-    subst (λ (h : History). IsFirm (suc gate) old.file.bytes h.file × LeavesSince (OpensTo lines) old h) (sym kept.2) (firm, leaves)
+    leaves_move (OpensTo lines) old mid file stages.leaves
+    (firm_leaves lines gate old.file.bytes file idle.opens idle.place firm) in
+    subst (λ (h : History). IsFirm (suc gate) old.file.bytes h.file × LeavesSince (OpensTo lines) old h) (sym kept.2)
+    (firm, leaves)
 
 -- A piece more is written behind what was.
 pub staged_more : (at : ℕ) (piece : List ℕ) (lines : List (List ℕ)) (gate : ℕ) (laid : List ℕ) (old mid new : History)
-    → IsIdle lines gate old.file → Stages lines gate laid old mid → at ≡ suc (gate + length laid) → Writes Done at piece mid new
+    → IsIdle lines gate old.file → Stages lines gate laid old mid → at ≡ suc (gate + length laid)
+    → Writes Done at piece mid new
     → Stages lines gate (laid ++ piece) old new
 staged_more at piece lines gate laid old mid new idle stages place writes =
     let wrote = staged_write Done at piece lines gate laid old mid new idle stages (omega (arith, place)) writes in
-    record { firm = wrote.0; rest = later; is = ap (λ (h : History). drop (suc gate) h.file.bytes) writes ∙ there; leaves = wrote.1 }
+    record {
+      firm = wrote.0;
+      rest = later;
+      is = ap (λ (h : History). drop (suc gate) h.file.bytes) writes
+          ∙ there;
+      leaves = wrote.1;
+    }
   where
     kept : List ℕ
     kept = take (suc gate) mid.file.bytes
@@ -56,10 +69,16 @@ staged_more at piece lines gate laid old mid new idle stages place writes =
     later = drop (length piece) stages.rest
 
     size : length kept ≡ suc gate
-    size = omega (arith, length-take (suc gate) mid.file.bytes, firm_long (suc gate) old.file.bytes mid.file stages.firm)
+    size = omega (
+      arith,
+      length-take (suc gate) mid.file.bytes,
+      firm_long (suc gate) old.file.bytes mid.file
+          stages.firm,
+    )
 
     whole : mid.file.bytes ≡ (kept ++ laid) ++ stages.rest
-    whole = sym (take-append-drop (suc gate) mid.file.bytes) ∙ ap (λ (xs : List ℕ). kept ++ xs) stages.is ∙ sym (append_assoc kept laid stages.rest)
+    whole = sym (take-append-drop (suc gate) mid.file.bytes) ∙ ap (λ (xs : List ℕ). kept ++ xs) stages.is
+        ∙ sym (append_assoc kept laid stages.rest)
 
     behind : at ≡ length (kept ++ laid)
     behind = omega (arith, place, size, length-append kept laid)
@@ -71,19 +90,24 @@ staged_more at piece lines gate laid old mid new idle stages place writes =
     flat = ap (λ (xs : List ℕ). xs ++ later) (append_assoc kept laid piece) ∙ append_assoc kept (laid ++ piece) later
 
     there : drop (suc gate) (put at piece mid.file.bytes) ≡ laid ++ piece ++ later
-    there = ap₂ (λ (n : ℕ) (xs : List ℕ). drop n xs) (sym size) (written ∙ flat) ∙ drop-append_seam kept (laid ++ piece ++ later)
+    there = ap₂ (λ (n : ℕ) (xs : List ℕ). drop n xs) (sym size) (written ∙ flat)
+        ∙ drop-append_seam kept (laid ++ piece ++ later)
 
 -- A piece that ends what stands behind the gate, whatever the write of it answers.
-pub staged_all : (did : DiskDid) (at : ℕ) (piece : List ℕ) (lines group : List (List ℕ)) (gate : ℕ) (laid : List ℕ) (old mid new : History)
-    → IsIdle lines gate old.file → Stages lines gate laid old mid → at ≡ suc (gate + length laid) → behind_gate group 0 ≡ laid ++ piece
+pub staged_all : (did : DiskDid) (at : ℕ) (piece : List ℕ) (lines group : List (List ℕ)) (gate : ℕ) (laid : List ℕ)
+    (old mid new : History)
+    → IsIdle lines gate old.file → Stages lines gate laid old mid → at ≡ suc (gate + length laid) → behind_gate group 0
+    ≡ laid ++ piece
     → Writes did at piece mid new → IsStaged did lines gate group old new
 staged_all Done at piece lines group gate laid old mid new idle stages place all writes =
-    subst (λ (bytes : List ℕ). Stages lines gate bytes old new) (sym all) (staged_more at piece lines gate laid old mid new idle stages place writes)
+    subst (λ (bytes : List ℕ). Stages lines gate bytes old new) (sym all)
+    (staged_more at piece lines gate laid old mid new idle stages place writes)
 staged_all Failed at piece lines group gate laid old mid new idle stages place all writes =
     (staged_write Failed at piece lines gate laid old mid new idle stages (omega (arith, place)) writes).1
 
 -- What a file that was staged and synced is: the lines, the gate as it was, the group's records.
-pub staged_bytes : (lines group : List (List ℕ)) (gate : ℕ) (old new : History) → (idle : IsIdle lines gate old.file) → (stages : Stages lines gate (behind_gate group 0) old new)
+pub staged_bytes : (lines group : List (List ℕ)) (gate : ℕ) (old new : History) → (idle : IsIdle lines gate old.file)
+    → (stages : Stages lines gate (behind_gate group 0) old new)
     → new.file.bytes ≡ front lines ++ idle.opens.gate ∷ (behind_gate group 0 ++ stages.rest)
 staged_bytes lines group gate old new idle stages =
     sym (take-append-drop (suc gate) new.file.bytes)
@@ -91,26 +115,33 @@ staged_bytes lines group gate old new idle stages =
     ∙ append_assoc (front lines) (idle.opens.gate ∷ []) (behind_gate group 0 ++ stages.rest)
   where
     cut : take (suc gate) old.file.bytes ≡ front lines ++ idle.opens.gate ∷ []
-    cut = let size : length (front lines ++ idle.opens.gate ∷ []) ≡ suc gate = omega (arith, idle.place, length-append (front lines) (idle.opens.gate ∷ [])) in
-        ap₂ (λ (n : ℕ) (xs : List ℕ). take n xs) (sym size) (idle.opens.is ∙ sym (append_assoc (front lines) (idle.opens.gate ∷ []) idle.opens.behind))
+    cut = let size : length (front lines ++ idle.opens.gate ∷ [])
+        ≡ suc gate = omega (arith, idle.place, length-append (front lines) (idle.opens.gate ∷ [])) in
+        ap₂ (λ (n : ℕ) (xs : List ℕ). take n xs) (sym size)
+        (idle.opens.is ∙ sym (append_assoc (front lines) (idle.opens.gate ∷ []) idle.opens.behind))
         ∙ take-append_seam (front lines ++ idle.opens.gate ∷ []) idle.opens.behind
 
 -- Behind an open gate stand the lines and the group.
-pub opened_all : (lines group : List (List ℕ)) (rest bytes : List ℕ) → AllByRecursion IsLine lines → AllByRecursion IsLine group → 1 ≤ length group
+pub opened_all : (lines group : List (List ℕ)) (rest bytes : List ℕ) → AllByRecursion IsLine lines
+    → AllByRecursion IsLine group → 1 ≤ length group
     → bytes ≡ front lines ++ 1 ∷ (behind_gate group 0 ++ rest) → OpensTo (lines ++ group) bytes
 opened_all lines group rest bytes are_lines are_group some is = record {
   are_lines = all_append IsLine lines group are_lines are_group;
   gate = 0;
   behind = rest;
-  is = is ∙ ap (λ (xs : List ℕ). front lines ++ xs) (opened_gate group rest some) ∙ sym (append_assoc (front lines) (flat_map record_of group) (0 ∷ rest)) ∙ ap (λ (xs : List ℕ). xs ++ 0 ∷ rest) (sym (front_more lines group));
+  is = is ∙ ap (λ (xs : List ℕ). front lines ++ xs) (opened_gate group rest some)
+      ∙ sym (append_assoc (front lines) (flat_map record_of group) (0 ∷ rest))
+      ∙ ap (λ (xs : List ℕ). xs ++ 0 ∷ rest) (sym (front_more lines group));
   shut = λ wrong. cc;
 }
 
 -- The gate alone was written: the file opens to the lines before, or to those and the whole group.
-pub opened_torn : (lines group : List (List ℕ)) (gate shut : ℕ) (rest bytes image : List ℕ) → AllByRecursion IsLine lines → AllByRecursion IsLine group → 1 ≤ length group
+pub opened_torn : (lines group : List (List ℕ)) (gate shut : ℕ) (rest bytes image : List ℕ)
+    → AllByRecursion IsLine lines → AllByRecursion IsLine group → 1 ≤ length group
     → gate ≡ length (front lines) → bytes ≡ front lines ++ shut ∷ (behind_gate group 0 ++ rest)
     → Keeps (record { at = gate; size = 1 }) bytes image → IsBeforeOrAfter lines group image
-opened_torn lines group gate shut rest bytes image are_lines are_group some place is keeps = by_gate (get_or image gate 0) around
+opened_torn lines group gate shut rest bytes image are_lines are_group some place is keeps = by_gate
+    (get_or image gate 0) around
   where
     tail : List ℕ
     tail = behind_gate group 0 ++ rest
@@ -125,30 +156,40 @@ opened_torn lines group gate shut rest bytes image are_lines are_group some plac
     reach = omega (arith, place, length-append (front lines) (shut ∷ []))
 
     behind : drop (suc gate) bytes ≡ tail
-    behind = ap₂ (λ (n : ℕ) (xs : List ℕ). drop n xs) (sym reach) (is ∙ sym (append_assoc (front lines) (shut ∷ []) tail)) ∙ drop-append_seam (front lines ++ shut ∷ []) tail
+    behind = ap₂ (λ (n : ℕ) (xs : List ℕ). drop n xs) (sym reach)
+        (is ∙ sym (append_assoc (front lines) (shut ∷ []) tail)) ∙ drop-append_seam (front lines ++ shut ∷ []) tail
 
     around : image ≡ front lines ++ get_or image gate 0 ∷ (tail ++ extra)
-    around = kept_around gate bytes image (omega (arith, place, ap length is, length-append (front lines) (shut ∷ tail))) keeps
+    around = kept_around gate bytes image
+        (omega (arith, place, ap length is, length-append (front lines) (shut ∷ tail))) keeps
         ∙ ap₂ (λ (xs ys : List ℕ). xs ++ get_or image gate 0 ∷ (ys ++ extra)) before behind
 
     by_gate : (x : ℕ) → image ≡ front lines ++ x ∷ (tail ++ extra) → IsBeforeOrAfter lines group image
-    by_gate zero e = inl (record { are_lines = are_lines; gate = 0; behind = tail ++ extra; is = e; shut = λ wrong. cc })
-    by_gate (suc zero) e = inr (opened_all lines group (rest ++ extra) image are_lines are_group some (e ∙ ap (λ (xs : List ℕ). front lines ++ 1 ∷ xs) (append_assoc (behind_gate group 0) rest extra)))
-    by_gate (suc (suc x)) e = inl (record { are_lines = are_lines; gate = suc (suc x); behind = tail ++ extra; is = e; shut = λ wrong. cc })
+    by_gate zero e = inl (record
+        { are_lines = are_lines; gate = 0; behind = tail ++ extra; is = e; shut = λ wrong. cc })
+    by_gate (suc zero) e = inr
+        (opened_all lines group (rest ++ extra) image are_lines are_group some
+        (e ∙ ap (λ (xs : List ℕ). front lines ++ 1 ∷ xs) (append_assoc (behind_gate group 0) rest extra)))
+    by_gate (suc (suc x)) e = inl
+        (record { are_lines = are_lines; gate = suc (suc x); behind = tail ++ extra; is = e; shut = λ wrong. cc })
 
 -- the file up to the gate behind a group
-pub gate_behind : (lines group : List (List ℕ)) (gate : ℕ) → gate ≡ length (front lines) → gate_after gate group ≡ length (front (lines ++ group))
-gate_behind lines group gate place = omega (arith, place, ap length (front_more lines group), length-append (front lines) (flat_map record_of group))
+pub gate_behind : (lines group : List (List ℕ)) (gate : ℕ) → gate ≡ length (front lines) → gate_after gate group
+    ≡ length (front (lines ++ group))
+gate_behind lines group gate place = omega
+    (arith, place, ap length (front_more lines group), length-append (front lines) (flat_map record_of group))
 
 -- All was staged, and the sync failed.
-pub unsynced : (lines group : List (List ℕ)) (gate : ℕ) (old mid new : History) → IsStaged Done lines gate group old mid → Syncs Failed mid new → AppendsAt Failed lines gate group old new
+pub unsynced : (lines group : List (List ℕ)) (gate : ℕ) (old mid new : History) → IsStaged Done lines gate group old mid
+    → Syncs Failed mid new → AppendsAt Failed lines gate group old new
 unsynced lines group gate old mid new stages syncs =
     subst (λ (h : History). LeavesSince (IsBeforeOrAfter lines group) old h) (sym syncs)
     (leaves_so (OpensTo lines) (IsBeforeOrAfter lines group) old mid (λ image opens. inl opens) stages.leaves)
 
 -- All was staged and synced, and the gate was written: done or failed.
 pub gate_opened : (did : DiskDid) (lines group : List (List ℕ)) (gate : ℕ) (old mid synced new : History)
-    → AllByRecursion IsLine group → 1 ≤ length group → IsIdle lines gate old.file → IsStaged Done lines gate group old mid
+    → AllByRecursion IsLine group → 1 ≤ length group → IsIdle lines gate old.file
+    → IsStaged Done lines gate group old mid
     → Syncs Done mid synced → WritesDown did gate (1 ∷ []) synced new → AppendsAt did lines gate group old new
 gate_opened did lines group gate old mid synced new are_group some idle stages syncs writes = by_answer did writes
   where
@@ -163,14 +204,17 @@ gate_opened did lines group gate old mid synced new are_group some idle stages s
 
     before : LeavesSince (IsBeforeOrAfter lines group) old synced
     before = subst (λ (h : History). LeavesSince (IsBeforeOrAfter lines group) old h) (sym is_synced)
-        (leaves_so (OpensTo lines) (IsBeforeOrAfter lines group) old (moved_to (settled mid.file.bytes) mid) (λ image opens. inl opens)
+        (leaves_so (OpensTo lines) (IsBeforeOrAfter lines group) old (moved_to (settled mid.file.bytes) mid)
+        (λ image opens. inl opens)
         (leaves_move (OpensTo lines) old mid (settled mid.file.bytes) stages.leaves
-        (firm_leaves lines gate old.file.bytes (settled mid.file.bytes) idle.opens idle.place (firm_synced (suc gate) old.file.bytes mid.file stages.firm))))
+        (firm_leaves lines gate old.file.bytes (settled mid.file.bytes) idle.opens idle.place
+        (firm_synced (suc gate) old.file.bytes mid.file stages.firm))))
 
     leaves : (d : DiskDid) → WritesDown d gate (1 ∷ []) synced new → LeavesSince (IsBeforeOrAfter lines group) old new
     leaves d w = leaves_more (IsBeforeOrAfter lines group) old synced new before
         (leaves_so (Keeps (record { at = gate; size = 1 }) synced.file.bytes) (IsBeforeOrAfter lines group) synced new
-        (λ image keeps. opened_torn lines group gate idle.opens.gate stages.rest synced.file.bytes image idle.opens.are_lines are_group some idle.place bytes keeps)
+        (λ image keeps. opened_torn lines group gate idle.opens.gate stages.rest synced.file.bytes image
+        idle.opens.are_lines are_group some idle.place bytes keeps)
         (w.leaves still))
 
     by_answer : (d : DiskDid) → WritesDown d gate (1 ∷ []) synced new → AppendsAt d lines gate group old new
@@ -178,9 +222,11 @@ gate_opened did lines group gate old mid synced new are_group some idle stages s
     by_answer Done w =
         let file : new.file ≡ settled (put gate (1 ∷ []) synced.file.bytes) = w.done refl in
         let after : put gate (1 ∷ []) synced.file.bytes ≡ front lines ++ 1 ∷ (behind_gate group 0 ++ stages.rest) =
-        ap₂ (λ (n : ℕ) (xs : List ℕ). put n (1 ∷ []) xs) idle.place bytes ∙ put_one (front lines) idle.opens.gate 1 (behind_gate group 0 ++ stages.rest) in (
+        ap₂ (λ (n : ℕ) (xs : List ℕ). put n (1 ∷ []) xs) idle.place bytes
+        ∙ put_one (front lines) idle.opens.gate 1 (behind_gate group 0 ++ stages.rest) in (
           record {
-            opens = opened_all lines group stages.rest new.file.bytes idle.opens.are_lines are_group some (ap (λ (f : File). f.bytes) file ∙ after);
+            opens = opened_all lines group stages.rest new.file.bytes idle.opens.are_lines are_group some
+                (ap (λ (f : File). f.bytes) file ∙ after);
             place = gate_behind lines group gate idle.place;
             still = subst (λ (f : File). IsSettled f) (sym file) refl;
           },

@@ -21,7 +21,8 @@ IsBeforeOrAfter lines group file = OpensTo lines file ⊎ OpensTo (lines ++ grou
 -- What an append of a group makes of an idle journal: idle again, with the group; at each moment a
 -- stop leaves the lines before, or those and the whole group; and where it is full, nothing changes.
 abbrev pub Appends : Appended → List (List ℕ) → List (List ℕ) → History → History → Type 0
-Appends (Done gate) lines group old new = IsIdle (lines ++ group) gate new.file × LeavesSince (IsBeforeOrAfter lines group) old new
+Appends (Done gate) lines group old new = IsIdle (lines ++ group) gate new.file
+    × LeavesSince (IsBeforeOrAfter lines group) old new
 Appends Failed lines group old new = LeavesSince (IsBeforeOrAfter lines group) old new
 Appends Full lines group old new = new ≡ old
 

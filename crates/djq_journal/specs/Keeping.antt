@@ -14,34 +14,39 @@ lines_in groups = flat_map (λ group. group) groups
 
 -- A file opens to the lines found at the start and those of whole groups, which are the first ones
 -- and at least so many.
-pub record OpensWithin (found : List (List ℕ)) (groups : List (List (List ℕ))) (least : ℕ) (file : List ℕ) : Type 0 where
-  pub whole : List (List (List ℕ))
-  pub later : List (List (List ℕ))
-  pub cut : groups ≡ whole ++ later
-  pub acknowledged : least ≤ length whole
-  pub opens : OpensTo (found ++ lines_in whole) file
+pub record OpensWithin (found : List (List ℕ)) (groups : List (List (List ℕ))) (least : ℕ) (file : List ℕ) : Type 0
+  where
+    pub whole : List (List (List ℕ))
+    pub later : List (List (List ℕ))
+    pub cut : groups ≡ whole ++ later
+    pub acknowledged : least ≤ length whole
+    pub opens : OpensTo (found ++ lines_in whole) file
 
 -- All these groups are kept: the journal is idle with them, and at each moment since a stop leaves
 -- whole groups, the first ones.
-pub record IsKeeping (found : List (List ℕ)) (groups : List (List (List ℕ))) (gate : ℕ) (old new : History) : Type 0 where
-  pub idle : IsIdle (found ++ lines_in groups) gate new.file
-  pub leaves : LeavesSince (OpensWithin found groups 0) old new
+pub record IsKeeping (found : List (List ℕ)) (groups : List (List (List ℕ))) (gate : ℕ) (old new : History) : Type 0
+  where
+    pub idle : IsIdle (found ++ lines_in groups) gate new.file
+    pub leaves : LeavesSince (OpensWithin found groups 0) old new
 
 -- All these groups were kept, and then one more may be: so it is at each moment since, and in the
 -- end a stop leaves all of them, with the last or without.
-pub record WasKeeping (found : List (List ℕ)) (groups : List (List (List ℕ))) (last : List (List ℕ)) (old new : History) : Type 0 where
+pub record WasKeeping (found : List (List ℕ)) (groups : List (List (List ℕ))) (last : List (List ℕ)) (old new : History)
+    : Type 0 where
   pub leaves : LeavesSince (OpensWithin found (groups ++ last ∷ []) 0) old new
   pub now : LeavesOnly (OpensWithin found (groups ++ last ∷ []) (length groups)) new.file
 
 -- An append of a group goes on from groups that are kept, whatever was found and whenever it began.
-pub record AppendsKeep (found : List (List ℕ)) (groups : List (List (List ℕ))) (gate : ℕ) (start old : History) : Type 0 where
-  pub now : LeavesOnly (OpensWithin found groups (length groups)) old.file
-  pub done : (group : List (List ℕ)) (gate' : ℕ) (new : History) → Appends (Done gate') (found ++ lines_in groups) group old new
-      → IsKeeping found (groups ++ group ∷ []) gate' start new
-  pub failed : (group : List (List ℕ)) (new : History) → Appends Failed (found ++ lines_in groups) group old new
-      → WasKeeping found groups group start new
-  pub full : (group : List (List ℕ)) (new : History) → Appends Full (found ++ lines_in groups) group old new
-      → IsKeeping found groups gate start new
+pub record AppendsKeep (found : List (List ℕ)) (groups : List (List (List ℕ))) (gate : ℕ) (start old : History) : Type 0
+  where
+    pub now : LeavesOnly (OpensWithin found groups (length groups)) old.file
+    pub done : (group : List (List ℕ)) (gate' : ℕ) (new : History)
+        → Appends (Done gate') (found ++ lines_in groups) group old new
+        → IsKeeping found (groups ++ group ∷ []) gate' start new
+    pub failed : (group : List (List ℕ)) (new : History) → Appends Failed (found ++ lines_in groups) group old new
+        → WasKeeping found groups group start new
+    pub full : (group : List (List ℕ)) (new : History) → Appends Full (found ++ lines_in groups) group old new
+        → IsKeeping found groups gate start new
 
 -- Groups are kept one after another: none at first, and each append goes on from those before it.
 pub record KeepsOn : Type 0 where

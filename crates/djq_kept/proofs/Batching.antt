@@ -1,5 +1,6 @@
 -- A batch that a run did, done to a store that follows the one it was done to.
-use Rattle.std.proofs.Common.{ℕ, zero, suc, List, [], ◌∷◌, ◌++◌, ◌+◌, ◌≡◌, ◌≤◌, inl, inr, Bool, true, false, cond, length, refl, sym, ap, ◌∙◌, subst, arith}
+use Rattle.std.proofs.Common.{ℕ, zero, suc, List, [], ◌∷◌, ◌++◌, ◌+◌, ◌≡◌, ◌≤◌, inl, inr, Bool}
+use Rattle.std.proofs.Common.{true, false, cond, length, refl, sym, ap, ◌∙◌, subst, arith}
 use Rattle.std.specs.Prelude.{None}
 use Rattle.djq_model.specs.Data.{Bytes, counted_of, with_row}
 use Rattle.djq_model.specs.Known.{texts_in, all_learned}
@@ -9,7 +10,8 @@ use Rattle.djq_lines.specs.declared.answer.Refusal.TheVariants.{Limit, NoMemory}
 use Rattle.djq_lines.specs.declared.held.HeldRow.{HeldRow}
 use Rattle.djq_machine.specs.State.{Store}
 use Rattle.djq_machine.specs.Store.{with_rows, copies_of, with_copies_of}
-use Rattle.djq_machine.specs.Batch.{is_there, with_held, with_all, count_came, store_behind, place_refusal, HavePlaces, StopsAt, RefusesBatch}
+use Rattle.djq_machine.specs.Batch.{is_there, with_held, with_all, count_came, store_behind}
+use Rattle.djq_machine.specs.Batch.{place_refusal, HavePlaces, StopsAt, RefusesBatch}
 use Rattle.djq_machine.specs.declared.machine.Loaded.{Loaded}
 use Rattle.djq_machine.specs.declared.machine.Loaded.TheVariants.{NoMem as no_memory}
 use Rattle.djq_machine.specs.Loading.{refused_by}

@@ -1,5 +1,7 @@
 -- A batch that a run did: its lines, loaded where what was there is followed.
-use Rattle.std.proofs.Common.{ℕ, List, [], ◌∷◌, ◌++◌, ◌+◌, ◌≡◌, ◌<◌, ◌≤◌, inl, inr, Bool, true, false, length, refl, sym, ◌∙◌, subst, arith, append_assoc, append-nil, length-append}
+use Rattle.std.proofs.Common.{ℕ, List, [], ◌∷◌, ◌++◌, ◌+◌, ◌≡◌, ◌<◌, ◌≤◌, inl, inr, Bool, true}
+use Rattle.std.proofs.Common.{false, length, refl, sym, ◌∙◌, subst, arith, append_assoc, append-nil}
+use Rattle.std.proofs.Common.{length-append}
 use Rattle.std.specs.Prelude.{◌==◌, not, nat_le, None, Some, is_none, Ok, Err, map, codes, All, ⊤}
 use Rattle.std.proofs.lemmas.Bool.{leb-true}
 use Rattle.std.proofs.lemmas.List.Elements.{All-head, All-tail}
@@ -23,7 +25,9 @@ use Rattle.djq_kept.specs.Kept.{Follows, LoadingFollows, LoadsOn}
 use Rattle.djq_kept.proofs.Sameness.{hold_same}
 use Rattle.djq_kept.proofs.Respecting.{Respects, give, late_of, only_memory}
 use Rattle.djq_kept.proofs.Batching.{all_follow, places_too, behind_follows, refused_never}
-use Rattle.djq_kept.proofs.Following.{holding, follows_closed, follows_holding, of_batch, EndsFollowing, CommandRespects, closed_respects, line_respects, one_line}
+use Rattle.djq_kept.proofs.Following.{holding, follows_closed, follows_holding, of_batch}
+use Rattle.djq_kept.proofs.Following.{EndsFollowing, CommandRespects, closed_respects}
+use Rattle.djq_kept.proofs.Following.{line_respects, one_line}
 use Rattle.djq_kept.proofs.Words.{batch_reads, done_reads}
 
 -- ---- its commands

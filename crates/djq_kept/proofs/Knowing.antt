@@ -1,5 +1,6 @@
 -- Which texts are known, in a store and in one that follows it.
-use Rattle.std.proofs.Common.{List, [], ◌∷◌, ◌++◌, ◌≡◌, ◌≤◌, ◌||◌, Bool, true, false, cond, length, refl, sym, ap, ◌∙◌, subst, arith}
+use Rattle.std.proofs.Common.{List, [], ◌∷◌, ◌++◌, ◌≡◌, ◌≤◌, ◌||◌, Bool, true, false, cond, length}
+use Rattle.std.proofs.Common.{refl, sym, ap, ◌∙◌, subst, arith}
 use Rattle.std.specs.List.{list_any}
 use Rattle.std.proofs.lemmas.Bool.{false≢true}
 use Rattle.std.proofs.lemmas.List.{length-append}
@@ -28,7 +29,8 @@ known_front : (xs ys : List Bytes) (t : Bytes) → knows xs t ≡ true → knows
 known_front [] ys t h = absurd (false≢true h)
 known_front (x ∷ xs) ys t h = by (bytes_eq x t) h (λ k. known_front xs ys t k)
   where
-    by : (b : Bool) → cond b true (knows xs t) ≡ true → (knows xs t ≡ true → knows (xs ++ ys) t ≡ true) → cond b true (knows (xs ++ ys) t) ≡ true
+    by : (b : Bool) → cond b true (knows xs t) ≡ true → (knows xs t ≡ true → knows (xs ++ ys) t ≡ true)
+        → cond b true (knows (xs ++ ys) t) ≡ true
     by true k rest = refl
     by false k rest = rest k
 
@@ -71,9 +73,11 @@ learned_itself ts t = by (knows ts t) refl
 among_learned : (b a : List Bytes) (t : Bytes) → AreKnown b a → AreKnown (learned b t) (learned a t)
 among_learned b a t f s h = by (knows b s) refl
   where
-    new : (c : Bool) → knows b t ≡ c → knows (cond c b (b ++ t ∷ [])) s ≡ true → knows b s ≡ false → knows (learned a t) s ≡ true
+    new : (c : Bool) → knows b t ≡ c → knows (cond c b (b ++ t ∷ [])) s ≡ true → knows b s ≡ false
+        → knows (learned a t) s ≡ true
     new true e k none = absurd (false≢true (sym none ∙ k))
-    new false e k none = subst (λ (r : Bytes). knows (learned a t) r ≡ true) (known_either b t s k none) (learned_itself a t)
+    new false e k none = subst (λ (r : Bytes). knows (learned a t) r ≡ true) (known_either b t s k none)
+        (learned_itself a t)
 
     by : (c : Bool) → knows b s ≡ c → knows (learned a t) s ≡ true
     by true e = learned_known a t s (f s e)
@@ -105,7 +109,8 @@ knows_member (s ∷ ts) t = by (bytes_eq s t) refl (knows_member ts t)
         at false f = refl
         at true f = absurd (false≢true (sym e ∙ (bytes_eq-decides s t).1 (sym ((bytes_eq-decides t s).0 f))))
 
-    by : (b : Bool) → bytes_eq s t ≡ b → list_any (bytes_eq t) ts ≡ knows ts t → (bytes_eq t s || list_any (bytes_eq t) ts) ≡ cond b true (knows ts t)
+    by : (b : Bool) → bytes_eq s t ≡ b → list_any (bytes_eq t) ts ≡ knows ts t
+        → (bytes_eq t s || list_any (bytes_eq t) ts) ≡ cond b true (knows ts t)
     by true e h = ap (λ (c : Bool). c || list_any (bytes_eq t) ts) (turned true e)
     by false e h = ap (λ (c : Bool). c || list_any (bytes_eq t) ts) (turned false e) ∙ h
 
@@ -127,14 +132,18 @@ all_longer ts [] = omega arith
 all_longer ts (t ∷ more) = let a = learned_longer ts t in let b = all_longer (learned ts t) more in omega (arith, a, b)
 
 -- Where the texts find a place in a store, they do in one that follows it.
-pub room_too : (b a ts : List Bytes) → AreKnown b a → AreApart b → length (all_learned a ts) ≤ TEXTS → length (all_learned b ts) ≤ TEXTS
+pub room_too : (b a ts : List Bytes) → AreKnown b a → AreApart b → length (all_learned a ts) ≤ TEXTS
+    → length (all_learned b ts) ≤ TEXTS
 room_too b a ts among once room =
-    let k = as_many (all_learned b ts) (all_learned a ts) (among_all b a ts among) (texts_apart b ts once) in omega (arith, k, room)
+    let k = as_many (all_learned b ts) (all_learned a ts) (among_all b a ts among) (texts_apart b ts once) in omega
+    (arith, k, room)
 
-pub place_too : (b a ts new : List Bytes) → AreKnown b a → AreApart b → length (all_learned a ts) ≤ TEXTS → FindsNoPlace b ts new → ⊥
+pub place_too : (b a ts new : List Bytes) → AreKnown b a → AreApart b → length (all_learned a ts) ≤ TEXTS
+    → FindsNoPlace b ts new → ⊥
 place_too b a ts new among once room f =
     let parts : all_learned b ts ≡ all_learned (learned new f.next) f.rest =
-    ap (all_learned b) f.parts ∙ all_append b f.first (f.next ∷ f.rest) ∙ ap (λ (k : List Bytes). all_learned (learned k f.next) f.rest) (sym f.learned) in
+    ap (all_learned b) f.parts ∙ all_append b f.first (f.next ∷ f.rest)
+    ∙ ap (λ (k : List Bytes). all_learned (learned k f.next) f.rest) (sym f.learned) in
     let more : learned new f.next ≡ new ++ f.next ∷ [] = ap (λ (c : Bool). cond c new (new ++ f.next ∷ [])) f.unknown in
     let one = length-append new (f.next ∷ []) in
     let longer = all_longer (learned new f.next) f.rest in

@@ -73,19 +73,23 @@ pub record Respects (b : Store) (c : Command) (to : Store) : Type 0 where
 
 -- ---- what answers say
 
-pub none_of : {A : Type 0} (o : Option Refusal) (a : A) (D : A → Type 0) (L : Refusal → Type 0) → Answers o (Ok a) D L → o ≡ None
+pub none_of : {A : Type 0} (o : Option Refusal) (a : A) (D : A → Type 0) (L : Refusal → Type 0) → Answers o (Ok a) D L
+    → o ≡ None
 none_of None a D L h = refl
 none_of (Some r) a D L h = absurd h
 
-pub give : {A : Type 0} (o : Option Refusal) (a : A) (D : A → Type 0) (L : Refusal → Type 0) → o ≡ None → D a → Answers o (Ok a) D L
+pub give : {A : Type 0} (o : Option Refusal) (a : A) (D : A → Type 0) (L : Refusal → Type 0) → o ≡ None → D a
+    → Answers o (Ok a) D L
 give None a D L e d = d
 give (Some r) a D L e d = absurd (cc (e))
 
-pub late_of : {A : Type 0} (o : Option Refusal) (r : Refusal) (D : A → Type 0) (L : Refusal → Type 0) → o ≡ None → Answers o (Err r) D L → L r
+pub late_of : {A : Type 0} (o : Option Refusal) (r : Refusal) (D : A → Type 0) (L : Refusal → Type 0) → o ≡ None
+    → Answers o (Err r) D L → L r
 late_of None r D L e h = h
 late_of (Some s) r D L e h = absurd (cc (e))
 
-pub only_memory : (P : Type 0) (r : Refusal) (how : Loaded) → OutOfMemoryWhere P r → how ≡ refused_by r → how ≡ no_memory
+pub only_memory : (P : Type 0) (r : Refusal) (how : Loaded) → OutOfMemoryWhere P r → how ≡ refused_by r → how
+    ≡ no_memory
 only_memory P NoMemory how h e = e
 only_memory P _ how h e = absurd h
 
@@ -109,58 +113,79 @@ same_members (q ∷ qs) (p ∷ ps) e =
 
 module _ (a b : Store) (f : Follows a b) where
   -- where the texts found a place before
-  pub by_texts : (ts : List Bytes) (n : Store) (r : Refusal) (how : Loaded) → length (all_learned a.texts ts) ≤ TEXTS → RefusedByTexts b ts n r
+  pub by_texts : (ts : List Bytes) (n : Store) (r : Refusal) (how : Loaded) → length (all_learned a.texts ts) ≤ TEXTS
+      → RefusedByTexts b ts n r
       → how ≡ refused_by r → how ≡ no_memory
   by_texts ts n Limit how room h e = absurd (place_too b.texts a.texts ts n.texts f.among f.once room h.0)
   by_texts ts n NoMemory how room h e = e
   by_texts ts n _ how room h e = absurd h
 
   -- `rel`
-  module _ (name : Bytes) (types : List ColumnType) (u : ⊤) (to : Store) (m : MakesRelation a name types (Ok u) to) where
-    abbrev made : Store → Store
-    made st = record st { relations = st.relations ++ record { name = name; types = types; rows = [] } ∷ [] }
+  module _ (name : Bytes) (types : List ColumnType) (u : ⊤) (to : Store) (m : MakesRelation a name types (Ok u) to)
+    where
+      abbrev made : Store → Store
+      made st = record st { relations = st.relations ++ record { name = name; types = types; rows = [] } ∷ [] }
 
-    made_is : to ≡ made a
-    made_is = done_of (rel_refusal a name types) u (λ _. to ≡ made a) (OutOfMemoryWhere ⊤) m.answer
+      made_is : to ≡ made a
+      made_is = done_of (rel_refusal a name types) u (λ _. to ≡ made a) (OutOfMemoryWhere ⊤) m.answer
 
-    made_free : rel_refusal b name types ≡ None
-    made_free = rel_same a b name types f.same ∙ none_of (rel_refusal a name types) u (λ _. to ≡ made a) (OutOfMemoryWhere ⊤) m.answer
+      made_free : rel_refusal b name types ≡ None
+      made_free = rel_same a b name types f.same
+          ∙ none_of (rel_refusal a name types) u (λ _. to ≡ made a) (OutOfMemoryWhere ⊤) m.answer
 
-    made_follows : Follows to (made b)
-    made_follows = subst (λ (st : Store). Follows st (made b)) (sym made_is) (record {
-      rows = All-push HasRowsOnce b.relations (record { name = name; types = types; rows = [] }) f.rows
-          (nothing_apart (λ (s t : Tuple). s ≡ t → ⊥));
-      same = record {
-        relations = same_more a.relations b.relations (record { name = name; types = types; rows = [] }) f.same.relations;
-        queries = f.same.queries;
-        seq = f.same.seq;
-      };
-      among = f.among;
-      once = f.once;
-    })
+      made_follows : Follows to (made b)
+      made_follows = subst (λ (st : Store). Follows st (made b)) (sym made_is) (record {
+        rows = All-push HasRowsOnce b.relations (record { name = name; types = types; rows = [] }) f.rows
+            (nothing_apart (λ (s t : Tuple). s ≡ t → ⊥));
+        same = record {
+          relations = same_more a.relations b.relations (record { name = name; types = types; rows = [] })
+              f.same.relations;
+          queries = f.same.queries;
+          seq = f.same.seq;
+        };
+        among = f.among;
+        once = f.once;
+      })
 
-    pub rel_respects : Respects b (Rel name types) to
-    rel_respects = record {
-      can = (made b, (Ok u, record { answer = give (rel_refusal b name types) u (λ _. made b ≡ made b) (OutOfMemoryWhere ⊤) made_free refl; stays = tt }, refl), made_follows);
-      each = each;
-    }
-      where
-        each : (how : Loaded) (n : Store) → StoreLoads b (Rel name types) how n → EndsWell how to n
-        each how n (Ok v, k, e) =
-            let is = done_of (rel_refusal b name types) v (λ _. n ≡ made b) (OutOfMemoryWhere ⊤) k.answer in
-            inl (e, subst (λ (st : Store). Follows to st) (sym is) made_follows)
-        each how n (Err r, k, e) = inr (only_memory ⊤ r how (late_of (rel_refusal b name types) r (λ _. n ≡ made b) (OutOfMemoryWhere ⊤) made_free k.answer) e)
+      pub rel_respects : Respects b (Rel name types) to
+      rel_respects = record {
+        can = (
+          made b,
+          (
+            Ok u,
+            record {
+              answer = give (rel_refusal b name types) u (λ _. made b ≡ made b) (OutOfMemoryWhere ⊤) made_free refl;
+              stays
+                  = tt;
+            },
+            refl,
+          ),
+          made_follows,
+        );
+        each = each;
+      }
+        where
+          each : (how : Loaded) (n : Store) → StoreLoads b (Rel name types) how n → EndsWell how to n
+          each how n (Ok v, k, e) =
+              let is = done_of (rel_refusal b name types) v (λ _. n ≡ made b) (OutOfMemoryWhere ⊤) k.answer in
+              inl (e, subst (λ (st : Store). Follows to st) (sym is) made_follows)
+          each how n (Err r, k, e) = inr
+              (only_memory ⊤ r how (late_of (rel_refusal b name types) r (λ _. n ≡ made b)
+              (OutOfMemoryWhere ⊤) made_free
+              k.answer) e)
 
   -- `query`
   module _ (q : Query) (most : ℕ) (to : Store) (m : RegistersQuery a q (Ok (Registered most)) to) where
     abbrev listed : Store → Store
-    listed st = record st { texts = all_learned st.texts (texts_in (constants_of q)); queries = st.queries ++ a_query q ∷ [] }
+    listed st = record st
+        { texts = all_learned st.texts (texts_in (constants_of q)); queries = st.queries ++ a_query q ∷ [] }
 
     listed_as : RegistersAs a q to (Registered most)
     listed_as = done_of (query_refusal a q) (Registered most) (RegistersAs a q to) (RefusedLate a q to) m.answer
 
     listed_free : query_refusal b q ≡ None
-    listed_free = query_same a b q f.same ∙ none_of (query_refusal a q) (Registered most) (RegistersAs a q to) (RefusedLate a q to) m.answer
+    listed_free = query_same a b q f.same
+        ∙ none_of (query_refusal a q) (Registered most) (RegistersAs a q to) (RefusedLate a q to) m.answer
 
     listed_room : length (all_learned a.texts (texts_in (constants_of q))) ≤ TEXTS
     listed_room = subst (λ (ts : List Bytes). length ts ≤ TEXTS) (ap (λ (st : Store). st.texts) listed_as.3) listed_as.2
@@ -184,8 +209,14 @@ module _ (a b : Store) (f : Follows a b) where
         (
           Ok (Registered most),
           record {
-            answer = give (query_refusal b q) (Registered most) (RegistersAs b q (listed b)) (RefusedLate b q (listed b)) listed_free
-                (listed_as.0, listed_as.1, room_too b.texts a.texts (texts_in (constants_of q)) f.among f.once listed_room, refl);
+            answer = give (query_refusal b q) (Registered most) (RegistersAs b q (listed b))
+                (RefusedLate b q (listed b)) listed_free (
+                  listed_as.0,
+                  listed_as.1,
+                  room_too b.texts a.texts (texts_in (constants_of q)) f.among f.once
+                      listed_room,
+                  refl,
+                );
             stays = λ h. absurd (false≢true (sym (ap is_some listed_free) ∙ h));
           },
           refl,
@@ -209,7 +240,9 @@ module _ (a b : Store) (f : Follows a b) where
         each how n (Ok (NotConnex rest), j, e) =
             let d = done_of (query_refusal b q) (NotConnex rest) (RegistersAs b q n) (RefusedLate b q n) j.answer in
             absurd ((d.0.1).no_tree listed_as.0.1)
-        each how n (Err r, j, e) = inr (late how n r e (late_of (query_refusal b q) r (RegistersAs b q n) (RefusedLate b q n) listed_free j.answer))
+        each how n (Err r, j, e) = inr
+            (late how n r e (late_of (query_refusal b q) r (RegistersAs b q n) (RefusedLate b q n) listed_free
+            j.answer))
 
   -- `union`
   module _ (name : Bytes) (members : List Bytes) (most : ℕ) (to : Store)
@@ -309,7 +342,19 @@ module _ (a b : Store) (f : Follows a b) where
 
     pub drop_respects : Respects b (Drop q) to
     drop_respects = record {
-      can = (dropped b, (Ok u, record { answer = give (drop_refusal b false q) u (λ _. dropped b ≡ dropped b) (OutOfMemoryWhere ⊥) dropped_free refl; stays = tt }, refl), dropped_follows);
+      can = (
+        dropped b,
+        (
+          Ok u,
+          record {
+            answer = give (drop_refusal b false q) u (λ _. dropped b ≡ dropped b) (OutOfMemoryWhere ⊥) dropped_free
+                refl;
+            stays = tt;
+          },
+          refl,
+        ),
+        dropped_follows,
+      );
       each = each;
     }
       where
@@ -317,4 +362,6 @@ module _ (a b : Store) (f : Follows a b) where
         each how n (Ok v, k, e) =
             let is = done_of (drop_refusal b false q) v (λ _. n ≡ dropped b) (OutOfMemoryWhere ⊥) k.answer in
             inl (e, subst (λ (st : Store). Follows to st) (sym is) dropped_follows)
-        each how n (Err r, k, e) = absurd (where_memory ⊥ r (late_of (drop_refusal b false q) r (λ _. n ≡ dropped b) (OutOfMemoryWhere ⊥) dropped_free k.answer))
+        each how n (Err r, k, e) = absurd
+            (where_memory ⊥ r (late_of (drop_refusal b false q) r (λ _. n ≡ dropped b) (OutOfMemoryWhere ⊥) dropped_free
+            k.answer))

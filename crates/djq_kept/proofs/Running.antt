@@ -13,7 +13,8 @@ use Rattle.djq_lines.specs.Reply.{end_memory}
 use Rattle.djq_machine.specs.State.{Store, State, Session, fresh, session_of, with_session, ended_by}
 use Rattle.djq_machine.specs.Effect.{Effect, nothing, EndsWith, RefusedStep}
 use Rattle.djq_machine.specs.LineStep.{LineOutcome, long, blank, slow, no_room, run, behind_line, FrontStep}
-use Rattle.djq_machine.specs.Step.{Event, opened, fed, stepped, took, ended, closed, FedStep, TookStep, EndedStep, Acts, Step, SameRelations, with_relations}
+use Rattle.djq_machine.specs.Step.{Event, opened, fed, stepped, took, ended, closed, FedStep}
+use Rattle.djq_machine.specs.Step.{TookStep, EndedStep, Acts, Step, SameRelations, with_relations}
 use Rattle.djq_machine.specs.Run.{Did, Run, Group, groups_in, group_of, groups_of, lines_in}
 use Rattle.djq_machine.specs.Loading.{loading}
 use Rattle.djq_laws.specs.Sound.{IsSoundBatch, IsSoundSession, IsSoundState}

@@ -152,7 +152,8 @@ same_trans (a ∷ us) (b ∷ bs) [] h k = absurd k
 same_trans [] (b ∷ bs) cs h k = absurd h
 same_trans (a ∷ us) [] cs h k = absurd h
 
-pub same_more : (us bs : List Relation) (r : Relation) → SameRelations us bs → SameRelations (us ++ r ∷ []) (bs ++ r ∷ [])
+pub same_more : (us bs : List Relation) (r : Relation) → SameRelations us bs
+    → SameRelations (us ++ r ∷ []) (bs ++ r ∷ [])
 same_more [] [] r h = (refl, refl, IsPermutation-refl r.rows, tt)
 same_more (a ∷ us) (b ∷ bs) r h = (h.0, h.1, h.2, same_more us bs r h.3)
 same_more [] (b ∷ bs) r h = absurd h
@@ -171,13 +172,16 @@ IsSameFound (Some a) (Some b) = (b.name ≡ a.name) × (b.types ≡ a.types) × 
 IsSameFound None (Some b) = ⊥
 IsSameFound (Some a) None = ⊥
 
-same_found : (us bs : List Relation) (n : Bytes) → SameRelations us bs → IsSameFound (relation_of us n) (relation_of bs n)
+same_found : (us bs : List Relation) (n : Bytes) → SameRelations us bs
+    → IsSameFound (relation_of us n) (relation_of bs n)
 same_found [] [] n h = tt
 same_found (a ∷ us) (b ∷ bs) n h =
-    subst (λ (c : Bool). IsSameFound (cond (bytes_eq a.name n) (Some a) (relation_of us n)) (cond c (Some b) (relation_of bs n)))
+    subst (λ (c : Bool). IsSameFound (cond (bytes_eq a.name n) (Some a) (relation_of us n))
+    (cond c (Some b) (relation_of bs n)))
     (ap (λ (x : Bytes). bytes_eq x n) (sym h.0)) (by (bytes_eq a.name n) (same_found us bs n h.3))
   where
-    by : (c : Bool) → IsSameFound (relation_of us n) (relation_of bs n) → IsSameFound (cond c (Some a) (relation_of us n)) (cond c (Some b) (relation_of bs n))
+    by : (c : Bool) → IsSameFound (relation_of us n) (relation_of bs n)
+        → IsSameFound (cond c (Some a) (relation_of us n)) (cond c (Some b) (relation_of bs n))
     by true rest = (h.0, h.1, h.2)
     by false rest = rest
 same_found [] (b ∷ bs) n h = absurd h
@@ -232,10 +236,13 @@ pub same_with : (us bs : List Relation) (n : Bytes) (xs ys : List CountedRow) �
     → SameRelations us bs → SameRelations (with_rows us n xs) (with_rows bs n ys)
 same_with [] [] n xs ys p h = tt
 same_with (a ∷ us) (b ∷ bs) n xs ys p h =
-    subst (λ (c : Bool). SameRelations (with_rows (a ∷ us) n xs) (cond c (record b { rows = ys } ∷ bs) (b ∷ with_rows bs n ys)))
+    subst (λ (c : Bool). SameRelations (with_rows (a ∷ us) n xs)
+    (cond c (record b { rows = ys } ∷ bs) (b ∷ with_rows bs n ys)))
     (ap (λ (x : Bytes). bytes_eq x n) (sym h.0)) (by (bytes_eq a.name n) (same_with us bs n xs ys p h.3))
   where
-    by : (c : Bool) → SameRelations (with_rows us n xs) (with_rows bs n ys) → SameRelations (cond c (record a { rows = xs } ∷ us) (a ∷ with_rows us n xs)) (cond c (record b { rows = ys } ∷ bs) (b ∷ with_rows bs n ys))
+    by : (c : Bool) → SameRelations (with_rows us n xs) (with_rows bs n ys)
+        → SameRelations (cond c (record a { rows = xs } ∷ us) (a ∷ with_rows us n xs))
+        (cond c (record b { rows = ys } ∷ bs) (b ∷ with_rows bs n ys))
     by true rest = (h.0, h.1, p, h.3)
     by false rest = (h.0, h.1, h.2, rest)
 same_with [] (b ∷ bs) n xs ys p h = absurd h
@@ -244,12 +251,16 @@ same_with (a ∷ us) [] n xs ys p h = absurd h
 -- ---- conditions
 
 abbrev rel_by : Bool → ℕ → List ColumnType → Option Refusal
-rel_by taken long types = first_of ((taken, Taken) ∷ (nat_lt COLUMNS (length types), Limit) ∷ (nat_le RELATIONS long, Limit) ∷ [])
+rel_by taken long types = first_of
+    ((taken, Taken) ∷ (nat_lt COLUMNS (length types), Limit) ∷ (nat_le RELATIONS long, Limit) ∷ [])
 
-pub rel_same : (a b : Store) (n : Bytes) (types : List ColumnType) → IsSameStore a b → rel_refusal b n types ≡ rel_refusal a n types
+pub rel_same : (a b : Store) (n : Bytes) (types : List ColumnType) → IsSameStore a b → rel_refusal b n types
+    ≡ rel_refusal a n types
 rel_same a b n types h =
-    ap (λ (t : Bool). rel_by t (length b.relations) types) (found_some _ _ (same_found a.relations b.relations n h.relations))
-    ∙ ap (λ (k : ℕ). rel_by (is_some (relation_of a.relations n)) k types) (same_length a.relations b.relations h.relations)
+    ap (λ (t : Bool). rel_by t (length b.relations) types)
+    (found_some _ _ (same_found a.relations b.relations n h.relations))
+    ∙ ap (λ (k : ℕ). rel_by (is_some (relation_of a.relations n)) k types)
+    (same_length a.relations b.relations h.relations)
 
 -- the rows of a relation, and the copies of each
 module _ (a b : Store) (n : Bytes) (row : Tuple) (f : Follows a b) where
@@ -345,7 +356,8 @@ any_same : {A : Type 0} (p q : A → Bool) (xs : List A) → ((x : A) → p x �
 any_same p q [] h = refl
 any_same p q (x ∷ xs) h = ap (λ (b : Bool). b || list_any p xs) (h x) ∙ ap (λ (b : Bool). q x || b) (any_same p q xs h)
 
-any_column_same : (p q : Term → ColumnType → Bool) (ts : List Term) (cs : List ColumnType) → ((t : Term) (c : ColumnType) → p t c ≡ q t c)
+any_column_same : (p q : Term → ColumnType → Bool) (ts : List Term) (cs : List ColumnType)
+    → ((t : Term) (c : ColumnType) → p t c ≡ q t c)
     → any_column p ts cs ≡ any_column q ts cs
 any_column_same p q [] cs h = refl
 any_column_same p q (t ∷ ts) [] h = refl
@@ -359,22 +371,27 @@ module _ (us bs : List Relation) (h : SameRelations us bs) where
   any_place_same : (p q : Term → ColumnType → Bool) (atoms : List Atom) → ((t : Term) (c : ColumnType) → p t c ≡ q t c)
       → any_place p bs atoms ≡ any_place q us atoms
   any_place_same p q atoms k =
-      any_same (λ (a : Atom). any_column p a.terms (columns_of bs a.relation)) (λ (a : Atom). any_column q a.terms (columns_of us a.relation)) atoms
-      (λ a. ap (any_column p a.terms) (columns_same a.relation) ∙ any_column_same p q a.terms (columns_of us a.relation) k)
+      any_same (λ (a : Atom). any_column p a.terms (columns_of bs a.relation))
+      (λ (a : Atom). any_column q a.terms (columns_of us a.relation)) atoms
+      (λ a. ap (any_column p a.terms) (columns_same a.relation)
+      ∙ any_column_same p q a.terms (columns_of us a.relation) k)
 
   unknown_same : (q : Query) → reads_unknown bs q ≡ reads_unknown us q
-  unknown_same q = any_same (λ (a : Atom). is_none (relation_of bs a.relation)) (λ (a : Atom). is_none (relation_of us a.relation)) q.atoms
+  unknown_same q = any_same (λ (a : Atom). is_none (relation_of bs a.relation))
+      (λ (a : Atom). is_none (relation_of us a.relation)) q.atoms
       (λ a. found_none _ _ (same_found us bs a.relation h))
 
   arity_same : (q : Query) → has_wrong_arity bs q ≡ has_wrong_arity us q
-  arity_same q = any_same (λ (a : Atom). not (length a.terms == length (columns_of bs a.relation))) (λ (a : Atom). not (length a.terms == length (columns_of us a.relation))) q.atoms
+  arity_same q = any_same (λ (a : Atom). not (length a.terms == length (columns_of bs a.relation)))
+      (λ (a : Atom). not (length a.terms == length (columns_of us a.relation))) q.atoms
       (λ a. ap (λ (cs : List ColumnType). not (length a.terms == length cs)) (columns_same a.relation))
 
   misfit_same : (q : Query) → has_misfit bs q ≡ has_misfit us q
   misfit_same q = any_place_same is_misfit is_misfit q.atoms (λ t c. refl)
 
   clash_same : (q : Query) → has_clash bs q ≡ has_clash us q
-  clash_same q = any_place_same (λ t c. any_place (is_clash t c) bs q.atoms) (λ t c. any_place (is_clash t c) us q.atoms) q.atoms
+  clash_same q = any_place_same (λ t c. any_place (is_clash t c) bs q.atoms)
+      (λ t c. any_place (is_clash t c) us q.atoms) q.atoms
       (λ t c. any_place_same (is_clash t c) (is_clash t c) q.atoms (λ u d. refl))
 
   miscompared_same : (q : Query) → has_miscompared bs q ≡ has_miscompared us q
@@ -433,7 +450,8 @@ query_same a b q h =
     (has_miscompared bs q) q) (misfit_same us bs h.relations q)
     ∙ ap (λ (x : Bool). query_by a.queries (reads_unknown us q) (has_wrong_arity us q) (has_misfit us q) x
     (has_miscompared bs q) q) (clash_same us bs h.relations q)
-    ∙ ap (λ (x : Bool). query_by a.queries (reads_unknown us q) (has_wrong_arity us q) (has_misfit us q) (has_clash us q)
+    ∙ ap (λ (x : Bool). query_by a.queries (reads_unknown us q) (has_wrong_arity us q) (has_misfit us q)
+    (has_clash us q)
     x q) (miscompared_same us bs h.relations q)
 
 -- the conditions of a union

@@ -67,8 +67,10 @@ pub record ToOpen (s : ℕ) (e : Effect) (mid : State) : Type 0 where
 pub alone_nothing : {mid : State} (s : ℕ) (e : Effect) → e ≡ nothing → ToOpen s e mid
 alone_nothing s e h = record { others = λ t ne. inr (ap (λ (d : Effect). to_session t d.queued) h) }
 
-pub alone_text : {mid : State} (s : ℕ) (text : Bytes) (cost : ℕ) (kept : Keeping) (e : Effect) → e ≡ record { queued = (s, text) ∷ []; cost = cost; kept = kept } → ToOpen s e mid
-alone_text s text cost kept e h = record { others = λ t ne. inr (ap (λ (d : Effect). to_session t d.queued) h ∙ rw ne refl) }
+pub alone_text : {mid : State} (s : ℕ) (text : Bytes) (cost : ℕ) (kept : Keeping) (e : Effect) → e
+    ≡ record { queued = (s, text) ∷ []; cost = cost; kept = kept } → ToOpen s e mid
+alone_text s text cost kept e h = record
+    { others = λ t ne. inr (ap (λ (d : Effect). to_session t d.queued) h ∙ rw ne refl) }
 
 alone : {mid : State} (s : ℕ) (e : Effect) → SaysAlone s e → ToOpen s e mid
 alone s e h = alone_text s h.text h.cost h.kept e h.effect
@@ -105,8 +107,12 @@ module _ (May : EndCause → Type 0) where
   alike_then [] (y ∷ ys) zs h k = absurd h
   alike_then (x ∷ xs) [] zs h k = absurd h
   alike_then (x ∷ xs) (y ∷ ys) [] h k = absurd k
-  alike_then (x ∷ xs) (y ∷ ys) (z ∷ zs) h k =
-      (k.0 ∙ h.0, (k.1.0 ∙ h.1.0, k.1.1 ∙ h.1.1, kept_then x.cause y.cause z.cause h.1.2 k.1.2), alike_then xs ys zs h.2 k.2)
+  alike_then (x ∷ xs) (y ∷ ys) (z ∷ zs) h k = (
+    k.0 ∙ h.0,
+    (k.1.0 ∙ h.1.0, k.1.1 ∙ h.1.1, kept_then x.cause y.cause z.cause h.1.2 k.1.2),
+    alike_then xs ys zs h.2
+        k.2,
+  )
 
   -- a change that keeps them so
   pub record Keeps (f : Session → Session) : Type 0 where
@@ -118,7 +124,8 @@ module _ (May : EndCause → Type 0) where
   change_step p f x xs true k h = (k.id x, k.same x, alike_refl xs)
   change_step p f x xs false k h = (refl, (refl, refl, inl refl), h)
 
-  pub alike_change : (p : Session → Bool) (f : Session → Session) (xs : List Session) → Keeps f → Alike xs (change_first p f xs)
+  pub alike_change : (p : Session → Bool) (f : Session → Session) (xs : List Session) → Keeps f
+      → Alike xs (change_first p f xs)
   alike_change p f [] k = tt
   alike_change p f (x ∷ xs) k = change_step p f x xs (p x) k (alike_change p f xs k)
 
@@ -126,14 +133,18 @@ module _ (May : EndCause → Type 0) where
   alike_map f [] k = tt
   alike_map f (x ∷ xs) k = (k.id x, k.same x, alike_map f xs k)
 
-  pub alike_with : (old new : State) (s : ℕ) (f : Session → Session) → Keeps f → new ≡ with_session old s f → Alike old.sessions new.sessions
-  alike_with old new s f k e = subst (λ (st : State). Alike old.sessions st.sessions) (sym e) (alike_change (λ (x : Session). x.id == s) f old.sessions k)
+  pub alike_with : (old new : State) (s : ℕ) (f : Session → Session) → Keeps f → new ≡ with_session old s f
+      → Alike old.sessions new.sessions
+  alike_with old new s f k e = subst (λ (st : State). Alike old.sessions st.sessions) (sym e)
+      (alike_change (λ (x : Session). x.id == s) f old.sessions k)
 
   pub alike_state : (old new : State) → new ≡ old → Alike old.sessions new.sessions
   alike_state old new e = alike_same old.sessions new.sessions (ap (λ (st : State). st.sessions) e)
 
   -- a change that keeps the end cause, and one that ends the session
-  pub keeps_cause : (f : Session → Session) → ((x : Session) → (f x).id ≡ x.id) → ((x : Session) → (f x).pending ≡ x.pending) → ((x : Session) → (f x).held ≡ x.held) → ((x : Session) → (f x).cause ≡ x.cause) → Keeps f
+  pub keeps_cause : (f : Session → Session) → ((x : Session) → (f x).id ≡ x.id)
+      → ((x : Session) → (f x).pending ≡ x.pending) → ((x : Session) → (f x).held ≡ x.held)
+      → ((x : Session) → (f x).cause ≡ x.cause) → Keeps f
   keeps_cause f id pending held cause = record { id = id; same = λ x. (pending x, held x, inl (cause x)) }
 
   pub keeps_ended : (cause : EndCause) → May cause → Keeps (ended_by cause)
@@ -146,17 +157,20 @@ module _ (May : EndCause → Type 0) where
   AlikeFound None (Some y) = ⊥
   AlikeFound (Some x) None = ⊥
 
-  found_step : (t : ℕ) (x y : Session) (o p : Option Session) (b : Bool) → (x.id == t) ≡ b → y.id ≡ x.id → AlikeFound (Some x) (Some y) → AlikeFound o p
+  found_step : (t : ℕ) (x y : Session) (o p : Option Session) (b : Bool) → (x.id == t) ≡ b → y.id ≡ x.id
+      → AlikeFound (Some x) (Some y) → AlikeFound o p
       → AlikeFound (cond b (Some x) o) (cond (y.id == t) (Some y) p)
   found_step t x y o p true e i q h = let k : (y.id == t) ≡ true = ap (λ j. j == t) i ∙ e in rw k q
   found_step t x y o p false e i q h = let k : (y.id == t) ≡ false = ap (λ j. j == t) i ∙ e in rw k h
 
-  pub alike_found : (t : ℕ) (xs ys : List Session) → Alike xs ys → AlikeFound (find (λ (x : Session). x.id == t) xs) (find (λ (x : Session). x.id == t) ys)
+  pub alike_found : (t : ℕ) (xs ys : List Session) → Alike xs ys
+      → AlikeFound (find (λ (x : Session). x.id == t) xs) (find (λ (x : Session). x.id == t) ys)
   alike_found t [] [] h = tt
   alike_found t [] (y ∷ ys) h = absurd h
   alike_found t (x ∷ xs) [] h = absurd h
   alike_found t (x ∷ xs) (y ∷ ys) h =
-      found_step t x y (find (λ (z : Session). z.id == t) xs) (find (λ (z : Session). z.id == t) ys) (x.id == t) refl h.0 h.1 (alike_found t xs ys h.2)
+      found_step t x y (find (λ (z : Session). z.id == t) xs) (find (λ (z : Session). z.id == t) ys) (x.id == t) refl
+      h.0 h.1 (alike_found t xs ys h.2)
 
   pub alike_pending : (o p : Option Session) → AlikeFound o p → pending_in p ≡ pending_in o
   alike_pending None None h = refl
@@ -193,17 +207,20 @@ module _ (May : EndCause → Type 0) where
   abbrev pub KeepsAlike : State → ℕ → Effect → State → Type 0
   KeepsAlike old s e new = Alike old.sessions new.sessions × ToOpen s e new
 
-  pub stays_keeps : (old : State) (s : ℕ) (text : Bytes) (e : Effect) (new : State) → e ≡ says s text → new ≡ old → KeepsAlike old s e new
+  pub stays_keeps : (old : State) (s : ℕ) (text : Bytes) (e : Effect) (new : State) → e ≡ says s text → new ≡ old
+      → KeepsAlike old s e new
   stays_keeps old s text e new said after = (alike_state old new after, alone_text s text 0 no_line e said)
 
 -- A line that is read keeps the sessions alike, but for the causes by which a line ends its session.
 abbrev Runs : State → ℕ → Effect → State → Type 0
 Runs = KeepsAlike EndsByRun
 
-changed_alike : (old : State) (o : Option RowsChange) (store : Store) → Alike EndsByRun old.sessions (changed old o store).sessions
+changed_alike : (old : State) (o : Option RowsChange) (store : Store)
+    → Alike EndsByRun old.sessions (changed old o store).sessions
 changed_alike old None store = alike_refl EndsByRun old.sessions
 changed_alike old (Some change) store =
-    let f = λ (x : Session). record x { cursors = map (outdated_cursor old.store.queries change.outdater store.seq) x.cursors } in
+    let f = λ (x : Session). record x
+    { cursors = map (outdated_cursor old.store.queries change.outdater store.seq) x.cursors } in
     alike_map EndsByRun f old.sessions (keeps_cause EndsByRun f (λ x. refl) (λ x. refl) (λ x. refl) (λ x. refl))
 
 -- The sessions stay alike as a change is told, and what is queued is queued to those that are open.
@@ -212,7 +229,8 @@ record IsTelling (xs : List Session) (m : Telling) : Type 0 where
   there : (t : ℕ) → IsOpen m.state t ⊎ (to_session t m.queued ≡ [])
 
 -- a further part, for a session that is open
-part_more : (xs : List Session) (m : Telling) (s : ℕ) (text : Bytes) (st : State) → IsOpen m.state s → Alike EndsByRun m.state.sessions st.sessions → IsTelling xs m
+part_more : (xs : List Session) (m : Telling) (s : ℕ) (text : Bytes) (st : State) → IsOpen m.state s
+    → Alike EndsByRun m.state.sessions st.sessions → IsTelling xs m
     → IsTelling xs (record { state = st; queued = m.queued ++ (s, text) ∷ [] })
 part_more xs m s text st there same h = record {
   alike = alike_then EndsByRun xs m.state.sessions st.sessions h.alike same;
@@ -220,12 +238,16 @@ part_more xs m s text st there same h = record {
 }
   where
     keeps_open : (t : ℕ) → IsOpen m.state t → IsOpen st t
-    keeps_open t o = alike_open EndsByRun (session_of m.state t) (session_of st t) (alike_found EndsByRun t m.state.sessions st.sessions same) o
+    keeps_open t o = alike_open EndsByRun (session_of m.state t) (session_of st t)
+        (alike_found EndsByRun t m.state.sessions st.sessions same) o
 
-    by_test : (t : ℕ) (b : Bool) → (s == t) ≡ b → IsOpen m.state t ⊎ (to_session t m.queued ≡ []) → IsOpen st t ⊎ (to_session t (m.queued ++ (s, text) ∷ []) ≡ [])
+    by_test : (t : ℕ) (b : Bool) → (s == t) ≡ b → IsOpen m.state t ⊎ (to_session t m.queued ≡ [])
+        → IsOpen st t ⊎ (to_session t (m.queued ++ (s, text) ∷ []) ≡ [])
     by_test t true e k = inl (keeps_open t (subst (λ i. IsOpen m.state i) (eqb-true s t e) there))
     by_test t false e (inl o) = inl (keeps_open t o)
-    by_test t false e (inr none) = inr (flat_map-append (λ (q : ℕ × Bytes). cond (q.0 == t) q.1 []) m.queued ((s, text) ∷ []) ∙ ap₂ (λ (a b : Bytes). a ++ b) none (rw e refl))
+    by_test t false e (inr none) = inr
+        (flat_map-append (λ (q : ℕ × Bytes). cond (q.0 == t) q.1 []) m.queued ((s, text) ∷ [])
+        ∙ ap₂ (λ (a b : Bytes). a ++ b) none (rw e refl))
 
 change_alike : (old : State) (s : ℕ) (outcome : RowsOutcome) (store : Store) (reply : Bytes) (e : Effect) (new : State)
     → ChangeStep old s outcome store reply e new → Runs old s e new
@@ -233,14 +255,16 @@ change_alike old s outcome store reply e new h =
     let k = change_keeps (IsTelling old.sessions)
     (λ m t text there p. part_more old.sessions m t text m.state there (alike_refl EndsByRun m.state.sessions) p)
     (λ m t text cause may there p. part_more old.sessions m t text (with_session m.state t (ended_by cause)) there
-    (alike_change EndsByRun (λ (x : Session). x.id == t) (ended_by cause) m.state.sessions (keeps_ended EndsByRun cause may)) p)
+    (alike_change EndsByRun (λ (x : Session). x.id == t) (ended_by cause) m.state.sessions
+    (keeps_ended EndsByRun cause may)) p)
     old s outcome store reply e new h
     (record { alike = changed_alike old (tried outcome) store; there = λ t. inr refl }) in (
       subst (λ (st : State). Alike EndsByRun old.sessions st.sessions) (sym h.state) k.alike,
       record { others = λ t ne. as_new t (k.there t) },
     )
   where
-    as_new : (t : ℕ) → IsOpen h.last.state t ⊎ (to_session t h.last.queued ≡ []) → IsOpen new t ⊎ (to_session t e.queued ≡ [])
+    as_new : (t : ℕ) → IsOpen h.last.state t ⊎ (to_session t h.last.queued ≡ [])
+        → IsOpen new t ⊎ (to_session t e.queued ≡ [])
     as_new t (inl o) = inl (subst (λ (st : State). IsOpen st t) (sym h.state) o)
     as_new t (inr none) = inr (ap (λ (qs : List (ℕ × Bytes)). to_session t qs) h.queued ∙ none)
 
@@ -267,7 +291,8 @@ form_keeps (changing c) old s x e new h =
     let after = change_alike (begun old s c) s d.outcome d.store d.reply e new d.change in (
       alike_then EndsByRun old.sessions (begun old s c).sessions new.sessions
           (alike_with EndsByRun old (begun old s c) s (closing c)
-          (keeps_cause EndsByRun (closing c) (closing_id c) (closing_pending c) (closing_held c) (closing_cause c)) refl)
+          (keeps_cause EndsByRun (closing c) (closing_id c) (closing_pending c) (closing_held c) (closing_cause c))
+          refl)
           after.0,
       after.1,
     )

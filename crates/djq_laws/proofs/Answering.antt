@@ -40,7 +40,8 @@ use Rattle.djq_deltas.proofs.Lists.{nothing_there, first_or_later, some_one, one
 use Rattle.djq_model.proofs.Counted.{tuples_moved}
 use Rattle.djq_machine.proofs.Copies.{rows_apart}
 
-pub apart_from : (r name n : Bytes) (b : Bool) → bytes_eq r n ≡ b → bytes_eq n name ≡ false → bytes_eq r name ≡ true → b ≡ false
+pub apart_from : (r name n : Bytes) (b : Bool) → bytes_eq r n ≡ b → bytes_eq n name ≡ false → bytes_eq r name ≡ true → b
+    ≡ false
 apart_from r name n false e ne same = refl
 apart_from r name n true e ne same =
     let k : r ≡ n = (bytes_eq-decides r n).0 e in
@@ -49,7 +50,8 @@ apart_from r name n true e ne same =
 
 -- what holds of every relation that is read: its rows of the one are among those of the other
 abbrev pub RowsWithin : List Relation → List Relation → Listed → Type 0
-RowsWithin rs rs' q = (n : Bytes) → listed_reads q n ≡ true → (row : Tuple) → Contains (rows_of rs n) row → Contains (rows_of rs' n) row
+RowsWithin rs rs' q = (n : Bytes) → listed_reads q n ≡ true → (row : Tuple) → Contains (rows_of rs n) row
+    → Contains (rows_of rs' n) row
 
 query_within : (rs rs' : List Relation) (q : Query) (t : Tuple) → RowsWithin rs rs' (a_query q) → IsAnswer rs q t
     → IsAnswer rs' q t
@@ -91,10 +93,12 @@ pub record SameAnswers (rs rs' : List Relation) (q : Listed) : Type 0 where
   pub back : (t : Tuple) → AnswersOf rs' q t → AnswersOf rs q t
 
 same_within : (rs rs' : List Relation) (q : Listed) → RowsWithin rs rs' q → RowsWithin rs' rs q → SameAnswers rs rs' q
-same_within rs rs' q there back = record { there = λ t h. answer_within rs rs' q t there h; back = λ t h. answer_within rs' rs q t back h }
+same_within rs rs' q there back = record
+    { there = λ t h. answer_within rs rs' q t there h; back = λ t h. answer_within rs' rs q t back h }
 
 -- what a cursor has given it still gives
-pub gives_kept : (rs rs' : List Relation) (q : Listed) (given : List Tuple) (finished : Bool) → SameAnswers rs rs' q → Gives (AnswersOf rs q) given finished → Gives (AnswersOf rs' q) given finished
+pub gives_kept : (rs rs' : List Relation) (q : Listed) (given : List Tuple) (finished : Bool) → SameAnswers rs rs' q
+    → Gives (AnswersOf rs q) given finished → Gives (AnswersOf rs' q) given finished
 gives_kept rs rs' q given finished same h = record {
   different = h.different;
   answers = λ k d lt. same.there _ (h.answers k d lt);
@@ -136,7 +140,8 @@ rows_same rs rs' q e = same_within rs rs' q
 
 pub new_relation_same : (rs : List Relation) (name : Bytes) (types : List ColumnType) (q : Listed)
     → SameAnswers rs (rs ++ record { name = name; types = types; rows = [] } ∷ []) q
-new_relation_same rs name types q = rows_same rs (rs ++ record { name = name; types = types; rows = [] } ∷ []) q (rows_of_new rs name types)
+new_relation_same rs name types q = rows_same rs (rs ++ record { name = name; types = types; rows = [] } ∷ []) q
+    (rows_of_new rs name types)
 
 -- The same relations with their rows in another order.
 order_step : (n : Bytes) (r s : Relation) (o p : Option Relation) (b : Bool) → bytes_eq r.name n ≡ b → s.name ≡ r.name
@@ -172,7 +177,8 @@ none_or true b h = absurd cc
 
 pub none_pass : {A : Type 0} (p : A → Bool) (xs : List A) → list_any p xs ≡ false → All (λ x. p x ≡ false) xs
 none_pass p [] h = All-nil (λ x. p x ≡ false)
-none_pass p (x ∷ xs) h = let n = none_or (p x) (list_any p xs) h in All-cons (λ y. p y ≡ false) x xs n.0 (none_pass p xs n.1)
+none_pass p (x ∷ xs) h = let n = none_or (p x) (list_any p xs) h in All-cons (λ y. p y ≡ false) x xs n.0
+    (none_pass p xs n.1)
 
 -- Where each relation that is read has the rows that it had, answers are the same.
 pub read_same : (rs rs' : List Relation) (q : Listed)

@@ -312,7 +312,8 @@ batched old held (Ok zero) new h =
     }
 batched old held (Ok (suc n)) new h =
     let g = all_gain old held h.0 in
-    let after : new ≡ record (with_all old held) { seq = old.seq + 1 } = h.2 ∙ is_behind old held (suc n) h.1 in record {
+    let after : new ≡ record (with_all old held) { seq = old.seq + 1 } = h.2
+    ∙ is_behind old held (suc n) h.1 in record {
       outdates = λ q. refl;
       spares = λ q none. batch_spares old held q none;
       names = g.names;

@@ -8,13 +8,17 @@ inside : {A : Type 0} (x y : A) → Some x ≡ Some y → x ≡ y
 inside x y e = cc
 
 -- where it holds of the one that is changed, after the change
-pub all_changed : {A : Type 0} (P : A → Type 0) (p : A → Bool) (f : A → A) (xs : List A) → All P xs → ((x : A) → find p xs ≡ Some x → P x → P (f x)) → All P (change_first p f xs)
+pub all_changed : {A : Type 0} (P : A → Type 0) (p : A → Bool) (f : A → A) (xs : List A) → All P xs
+    → ((x : A) → find p xs ≡ Some x → P x → P (f x)) → All P (change_first p f xs)
 all_changed P p f [] h keeps = h
 all_changed P p f (x ∷ xs) h keeps =
-    at_first (p x) refl (λ e. all_changed P p f xs (All-tail P x xs h) (λ y found k. keeps y (ap (λ b. cond b (Some x) (find p xs)) e ∙ found) k))
+    at_first (p x) refl (λ e. all_changed P p f xs (All-tail P x xs h)
+    (λ y found k. keeps y (ap (λ b. cond b (Some x) (find p xs)) e ∙ found) k))
   where
-    at_first : (b : Bool) → p x ≡ b → (p x ≡ false → All P (change_first p f xs)) → All P (cond b (f x ∷ xs) (x ∷ change_first p f xs))
-    at_first true e rest = All-cons P (f x) xs (keeps x (ap (λ b. cond b (Some x) (find p xs)) e) (All-head P x xs h)) (All-tail P x xs h)
+    at_first : (b : Bool) → p x ≡ b → (p x ≡ false → All P (change_first p f xs))
+        → All P (cond b (f x ∷ xs) (x ∷ change_first p f xs))
+    at_first true e rest = All-cons P (f x) xs (keeps x (ap (λ b. cond b (Some x) (find p xs)) e) (All-head P x xs h))
+        (All-tail P x xs h)
     at_first false e rest = All-cons P x (change_first p f xs) (All-head P x xs h) (rest e)
 
 -- what is found is among all
@@ -34,6 +38,8 @@ all_dropped P p (x ∷ xs) h = at_first (p x) (all_dropped P p xs (All-tail P x 
     at_first true rest = All-tail P x xs h
     at_first false rest = All-cons P x (drop_first p xs) (All-head P x xs h) rest
 
-pub all_mapped : {A : Type 0} (P Q : A → Type 0) (f : A → A) → ((x : A) → P x → Q (f x)) → (xs : List A) → All P xs → All Q (map f xs)
+pub all_mapped : {A : Type 0} (P Q : A → Type 0) (f : A → A) → ((x : A) → P x → Q (f x)) → (xs : List A) → All P xs
+    → All Q (map f xs)
 all_mapped P Q f keeps [] h = All-nil Q
-all_mapped P Q f keeps (x ∷ xs) h = All-cons Q (f x) (map f xs) (keeps x (All-head P x xs h)) (all_mapped P Q f keeps xs (All-tail P x xs h))
+all_mapped P Q f keeps (x ∷ xs) h = All-cons Q (f x) (map f xs) (keeps x (All-head P x xs h))
+    (all_mapped P Q f keeps xs (All-tail P x xs h))

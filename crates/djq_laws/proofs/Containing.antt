@@ -12,7 +12,8 @@ found_there p (y ∷ ys) x h = step (p y) h (λ k. found_there p ys x k)
     same_some : Some y ≡ Some x → y ≡ x
     same_some e = cc
 
-    step : (b : Bool) → cond b (Some y) (find p ys) ≡ Some x → (find p ys ≡ Some x → Contains ys x) → Contains (y ∷ ys) x
+    step : (b : Bool) → cond b (Some y) (find p ys) ≡ Some x → (find p ys ≡ Some x → Contains ys x)
+        → Contains (y ∷ ys) x
     step true e more = first_there y ys x (same_some e)
     step false e more = later_there y ys x (more e)
 
@@ -32,16 +33,19 @@ pub any_there : {A : Type 0} (p : A → Bool) (xs : List A) (x : A) → Contains
 any_there p [] x h e = absurd (nothing_there x h)
 any_there p (y ∷ ys) x h e = step (p y) refl (first_or_later y ys x h) (λ k. any_there p ys x k e)
   where
-    step : (b : Bool) → p y ≡ b → (y ≡ x) ⊎ Contains ys x → (Contains ys x → list_any p ys ≡ true) → (b || list_any p ys) ≡ true
+    step : (b : Bool) → p y ≡ b → (y ≡ x) ⊎ Contains ys x → (Contains ys x → list_any p ys ≡ true)
+        → (b || list_any p ys) ≡ true
     step true k o more = refl
     step false k (inl same) more = let yes : p y ≡ true = ap p same ∙ e in absurd (cc (yes, k))
     step false k (inr c) more = more c
 
 -- where what a list is mapped to comes from
-pub mapped_from : {A B : Type 0} (f : A → B) (xs : List A) (y : B) → Contains (map f xs) y → (x : A) × Contains xs x × (f x ≡ y)
+pub mapped_from : {A B : Type 0} (f : A → B) (xs : List A) (y : B) → Contains (map f xs) y → (x : A) × Contains xs x
+    × (f x ≡ y)
 mapped_from f [] y h = absurd (nothing_there y h)
 mapped_from {A = A} f (x ∷ xs) y h = step (first_or_later (f x) (map f xs) y h) (λ k. mapped_from f xs y k)
   where
-    step : (f x ≡ y) ⊎ Contains (map f xs) y → (Contains (map f xs) y → (z : A) × Contains xs z × (f z ≡ y)) → (z : A) × Contains (x ∷ xs) z × (f z ≡ y)
+    step : (f x ≡ y) ⊎ Contains (map f xs) y → (Contains (map f xs) y → (z : A) × Contains xs z × (f z ≡ y)) → (z : A)
+        × Contains (x ∷ xs) z × (f z ≡ y)
     step (inl e) more = (x, first_there x xs x refl, e)
     step (inr c) more = let r = more c in (r.0, later_there x xs r.0 r.1, r.2)

@@ -1,5 +1,6 @@
 -- How a course of the program begins and goes on.
-use Rattle.std.proofs.Common.{List, [], ◌∷◌, ◌++◌, ◌+◌, ◌≤◌, ◌≡◌, ◌≢◌, true, false, length, take, refl, sym, ap, ◌∙◌, subst, append_assoc, append-nil, arith}
+use Rattle.std.proofs.Common.{List, [], ◌∷◌, ◌++◌, ◌+◌, ◌≤◌, ◌≡◌, ◌≢◌, true, false, length, take}
+use Rattle.std.proofs.Common.{refl, sym, ap, ◌∙◌, subst, append_assoc, append-nil, arith}
 use Rattle.std.proofs.lemmas.Grind.{flat_map-append}
 use Rattle.std.proofs.lemmas.List.{take-append-le, take_all}
 use Rattle.std.proofs.lemmas.List.Elements.{All-nil, All-cons, All-append}
@@ -64,7 +65,8 @@ course_failed o o' st gives gains listing = record {
 -- one walk, and then another
 pub walk_then : {D L : Type 0} (May : D → L → D → Type 0) (old : D) (done : List L) (mid : D) (more : List L) (new : D)
     → Walk May old done mid → Walk May mid more new → Walk May old (done ++ more) new
-walk_then {D = D} May old [] mid more new w v = let e : old ≡ mid = sym w in subst (λ (d : D). Walk May d more new) (sym e) v
+walk_then {D = D} May old [] mid more new w v = let e : old
+    ≡ mid = sym w in subst (λ (d : D). Walk May d more new) (sym e) v
 walk_then May old (d ∷ done) mid more new w v = (w.0, w.1, walk_then May w.0 done mid more new w.2 v)
 
 -- what was done is a walk

@@ -42,7 +42,8 @@ same_first p (x ∷ xs) = by (p x) (same_first p xs)
 
 begun_same : (old : State) (s : ℕ) → old ≡ with_session old s (λ x. x)
 begun_same old s =
-    ap (λ (xs : List Session). record old { sessions = xs }) (sym (same_first (λ (x : Session). x.id == s) old.sessions))
+    ap (λ (xs : List Session). record old { sessions = xs })
+    (sym (same_first (λ (x : Session). x.id == s) old.sessions))
 
 from_begun : (old : State) (s : ℕ) (o : RowsOutcome) (store : Store) (reply : Bytes) (e : Effect) (new : State)
     → ChangeStep old s o store reply e new → ChangeStep (with_session old s (λ x. x)) s o store reply e new

@@ -1,5 +1,6 @@
 -- What is taken of a session's bytes comes before what is dropped, where no session opens twice.
-use Rattle.std.specs.Prelude.{ℕ, List, [], ◌∷◌, ◌==◌, ◌≡◌, ◌<◌, ◌++◌, ◌⊎◌, Bool, true, false, not, cond, filter, None, Some, IsSomeAnd, find, map, All, AllPairs}
+use Rattle.std.specs.Prelude.{ℕ, List, [], ◌∷◌, ◌==◌, ◌≡◌, ◌<◌, ◌++◌, ◌⊎◌, Bool, true, false, not}
+use Rattle.std.specs.Prelude.{cond, filter, None, Some, IsSomeAnd, find, map, All, AllPairs}
 use Rattle.std.proofs.Common.{zero, suc, refl, sym, ap, ◌∙◌, subst, append_assoc, append-nil, inl, inr, arith}
 use Rattle.std.proofs.lemmas.Bool.{eqb-true, eq-eqb}
 use Rattle.std.proofs.lemmas.List.Elements.{All-nil, All-cons, All-head, All-tail, All-push, All-filter, All-weaker}
@@ -27,7 +28,8 @@ not_found s (x ∷ xs) h =
     ∙ not_found s xs (All-tail (λ i. (i == s) ≡ false) x.id rest h)
 
 -- what holds of all ids holds of that of a session that is found
-pub at_found : (P : ℕ → Type 0) (s : ℕ) (xs : List Session) (x : Session) → find (λ (y : Session). y.id == s) xs ≡ Some x
+pub at_found : (P : ℕ → Type 0) (s : ℕ) (xs : List Session) (x : Session) → find (λ (y : Session). y.id == s) xs
+    ≡ Some x
     → All P (map (λ (y : Session). y.id) xs) → P s
 at_found P s [] x e h = absurd cc
 at_found P s (y ∷ xs) x e h =

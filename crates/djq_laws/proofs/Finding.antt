@@ -1,5 +1,6 @@
 -- What is found in a list after a change of it.
-use Rattle.std.specs.Prelude.{List, [], ◌∷◌, ◌≡◌, Bool, true, false, cond, Option, None, Some, IsSomeAnd, option_map, find}
+use Rattle.std.specs.Prelude.{List, [], ◌∷◌, ◌≡◌, Bool, true, false, cond, Option, None, Some}
+use Rattle.std.specs.Prelude.{IsSomeAnd, option_map, find}
 use Rattle.std.proofs.Common.{refl, ap}
 use Rattle.djq_model.specs.Data.{change_first, drop_first}
 
@@ -24,16 +25,19 @@ find_changed p f keeps [] = refl
 find_changed p f keeps (x ∷ xs) = changed_step p f x xs (p x) refl (keeps x) (find_changed p f keeps xs)
 
 -- a change of what fails the test
-other_step : {A : Type 0} (p q : A → Bool) (f : A → A) (x : A) (xs : List A) (b : Bool) → q (f x) ≡ q x → (b ≡ true → q x ≡ false)
+other_step : {A : Type 0} (p q : A → Bool) (f : A → A) (x : A) (xs : List A) (b : Bool) → q (f x) ≡ q x
+    → (b ≡ true → q x ≡ false)
     → find q (change_first p f xs) ≡ find q xs
     → find q (cond b (f x ∷ xs) (x ∷ change_first p f xs)) ≡ find q (x ∷ xs)
 other_step p q f x xs true k apart h = let fails = apart refl in rw (k, fails) refl
 other_step p q f x xs false k apart h = ap (λ r. cond (q x) (Some x) r) h
 
-pub find_other : {A : Type 0} (p q : A → Bool) (f : A → A) → ((x : A) → q (f x) ≡ q x) → ((x : A) → p x ≡ true → q x ≡ false) → (xs : List A)
+pub find_other : {A : Type 0} (p q : A → Bool) (f : A → A) → ((x : A) → q (f x) ≡ q x)
+    → ((x : A) → p x ≡ true → q x ≡ false) → (xs : List A)
     → find q (change_first p f xs) ≡ find q xs
 find_other p q f keeps apart [] = refl
-find_other p q f keeps apart (x ∷ xs) = other_step p q f x xs (p x) (keeps x) (apart x) (find_other p q f keeps apart xs)
+find_other p q f keeps apart (x ∷ xs) = other_step p q f x xs (p x) (keeps x) (apart x)
+    (find_other p q f keeps apart xs)
 
 -- what is dropped fails the test
 dropped_step : {A : Type 0} (p q : A → Bool) (x : A) (xs : List A) (b : Bool) → (b ≡ true → q x ≡ false)
@@ -42,6 +46,7 @@ dropped_step : {A : Type 0} (p q : A → Bool) (x : A) (xs : List A) (b : Bool) 
 dropped_step p q x xs true apart h = let fails = apart refl in rw fails refl
 dropped_step p q x xs false apart h = ap (λ r. cond (q x) (Some x) r) h
 
-pub find_dropped : {A : Type 0} (p q : A → Bool) → ((x : A) → p x ≡ true → q x ≡ false) → (xs : List A) → find q (drop_first p xs) ≡ find q xs
+pub find_dropped : {A : Type 0} (p q : A → Bool) → ((x : A) → p x ≡ true → q x ≡ false) → (xs : List A)
+    → find q (drop_first p xs) ≡ find q xs
 find_dropped p q apart [] = refl
 find_dropped p q apart (x ∷ xs) = dropped_step p q x xs (p x) (apart x) (find_dropped p q apart xs)

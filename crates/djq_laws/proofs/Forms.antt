@@ -456,7 +456,8 @@ watch_does old s x q L (Err r) new answer after = is_refused (is_whole after)
 watch_does old s x q L (Ok u) new answer after =
     let none = none_holds (watch_refusal old.store q) u (λ _. ⊤) L answer in
     is_turned (
-      some_found (listed_of old.store.queries q) (none_first (is_none (listed_of old.store.queries q)) NoQuery None none),
+      some_found (listed_of old.store.queries q)
+          (none_first (is_none (listed_of old.store.queries q)) NoQuery None none),
       after,
     )
 

@@ -1,4 +1,5 @@
--- What open cursors have given, along any run: different answers of their queries over the present rows, and all of them where the end was told.
+-- What open cursors have given, along any run: different answers of their queries over the present rows, and all of
+-- them where the end was told.
 use Rattle.std.specs.Prelude.{
   ℕ,
   List,
@@ -141,36 +142,45 @@ abbrev pub SessionsGive : List Relation → List Listed → List Session → Typ
 SessionsGive rs qs xs = All (SessionGives rs qs) xs
 
 -- A position gives over other relations where the queries have the same answers.
-position_kept : (rs rs' : List Relation) (o : Option Listed) (p : Position) → ((q : Listed) → SameAnswers rs rs' q) → PositionGives rs o p → PositionGives rs' o p
+position_kept : (rs rs' : List Relation) (o : Option Listed) (p : Position) → ((q : Listed) → SameAnswers rs rs' q)
+    → PositionGives rs o p → PositionGives rs' o p
 position_kept rs rs' None (open_at given finished) same h = h
 position_kept rs rs' (Some q) (open_at given finished) same h = gives_kept rs rs' q given finished (same q) h
 position_kept rs rs' o (stale r n) same h = tt
 
-relations_give : (rs rs' : List Relation) (qs : List Listed) (xs : List Session) → ((q : Listed) → SameAnswers rs rs' q) → SessionsGive rs qs xs → SessionsGive rs' qs xs
+relations_give : (rs rs' : List Relation) (qs : List Listed) (xs : List Session) → ((q : Listed) → SameAnswers rs rs' q)
+    → SessionsGive rs qs xs → SessionsGive rs' qs xs
 relations_give rs rs' qs xs same h =
     All-weaker (SessionGives rs qs) (SessionGives rs' qs)
-    (λ x g. All-weaker (CursorGives rs qs) (CursorGives rs' qs) (λ c k. position_kept rs rs' (listed_of qs c.query) c.position same k) x.cursors g) xs h
+    (λ x g. All-weaker (CursorGives rs qs) (CursorGives rs' qs)
+    (λ c k. position_kept rs rs' (listed_of qs c.query) c.position same k) x.cursors g) xs h
 
 -- A query that is registered changes no name's meaning.
-position_registered : (rs : List Relation) (o p : Option Listed) (position : Position) → ((q : Listed) → o ≡ Some q → p ≡ Some q) → PositionGives rs o position → PositionGives rs p position
+position_registered : (rs : List Relation) (o p : Option Listed) (position : Position)
+    → ((q : Listed) → o ≡ Some q → p ≡ Some q) → PositionGives rs o position → PositionGives rs p position
 position_registered rs None p (open_at given finished) same h = absurd h
 position_registered rs (Some q) p (open_at given finished) same h = let e = same q refl in rw e h
 position_registered rs o p (stale r n) same h = tt
 
-pub found_in_front : (qs : List Listed) (q : Listed) (name : Bytes) (found : Listed) → listed_of qs name ≡ Some found → listed_of (qs ++ q ∷ []) name ≡ Some found
+pub found_in_front : (qs : List Listed) (q : Listed) (name : Bytes) (found : Listed) → listed_of qs name ≡ Some found
+    → listed_of (qs ++ q ∷ []) name ≡ Some found
 found_in_front [] q name found e = absurd cc
-found_in_front (r ∷ qs) q name found e = at_first (bytes_eq (listed_name r) name) e (λ k. found_in_front qs q name found k)
+found_in_front (r ∷ qs) q name found e = at_first (bytes_eq (listed_name r) name) e
+    (λ k. found_in_front qs q name found k)
   where
-    at_first : (b : Bool) → cond b (Some r) (listed_of qs name) ≡ Some found → (listed_of qs name ≡ Some found → listed_of (qs ++ q ∷ []) name ≡ Some found)
+    at_first : (b : Bool) → cond b (Some r) (listed_of qs name) ≡ Some found
+        → (listed_of qs name ≡ Some found → listed_of (qs ++ q ∷ []) name ≡ Some found)
         → cond b (Some r) (listed_of (qs ++ q ∷ []) name) ≡ Some found
     at_first true k rest = k
     at_first false k rest = rest k
 
-registered_give : (rs : List Relation) (qs : List Listed) (q : Listed) (xs : List Session) → SessionsGive rs qs xs → SessionsGive rs (qs ++ q ∷ []) xs
+registered_give : (rs : List Relation) (qs : List Listed) (q : Listed) (xs : List Session) → SessionsGive rs qs xs
+    → SessionsGive rs (qs ++ q ∷ []) xs
 registered_give rs qs q xs h =
     All-weaker (SessionGives rs qs) (SessionGives rs (qs ++ q ∷ []))
     (λ x g. All-weaker (CursorGives rs qs) (CursorGives rs (qs ++ q ∷ []))
-    (λ c k. position_registered rs (listed_of qs c.query) (listed_of (qs ++ q ∷ []) c.query) c.position (λ f e. found_in_front qs q c.query f e) k) x.cursors g) xs h
+    (λ c k. position_registered rs (listed_of qs c.query) (listed_of (qs ++ q ∷ []) c.query) c.position
+    (λ f e. found_in_front qs q c.query f e) k) x.cursors g) xs h
 
 -- the relation that outdates a query, where there is the query
 abbrev outdater_at : (Listed → Option Bytes) → Option Listed → Option Bytes
@@ -178,30 +188,40 @@ outdater_at outdater None = None
 outdater_at outdater (Some q) = outdater q
 
 -- After a change the cursors over what it outdates are stale, and the other queries have the same answers.
-position_outdated : (rs rs' : List Relation) (o : Option Listed) (p : Position) (outdater : Listed → Option Bytes) (n : ℕ) (b : Option Bytes) → outdater_at outdater o ≡ b
-    → ((q : Listed) → outdater q ≡ None → SameAnswers rs rs' q) → PositionGives rs o p → PositionGives rs' o (outdated b n p)
+position_outdated : (rs rs' : List Relation) (o : Option Listed) (p : Position) (outdater : Listed → Option Bytes)
+    (n : ℕ) (b : Option Bytes) → outdater_at outdater o ≡ b
+    → ((q : Listed) → outdater q ≡ None → SameAnswers rs rs' q) → PositionGives rs o p
+    → PositionGives rs' o (outdated b n p)
 position_outdated rs rs' o (stale r m) outdater n None e same h = tt
 position_outdated rs rs' o (stale r m) outdater n (Some relation) e same h = tt
 position_outdated rs rs' o (open_at given finished) outdater n (Some relation) e same h = tt
 position_outdated rs rs' None (open_at given finished) outdater n None e same h = h
-position_outdated rs rs' (Some q) (open_at given finished) outdater n None e same h = gives_kept rs rs' q given finished (same q e) h
+position_outdated rs rs' (Some q) (open_at given finished) outdater n None e same h = gives_kept rs rs' q given finished
+    (same q e) h
 
-outdated_give : (rs rs' : List Relation) (qs : List Listed) (outdater : Listed → Option Bytes) (n : ℕ) (xs : List Session)
-    → ((q : Listed) → outdater q ≡ None → SameAnswers rs rs' q) → SessionsGive rs qs xs → SessionsGive rs' qs (outdated_sessions qs outdater n xs)
+outdated_give : (rs rs' : List Relation) (qs : List Listed) (outdater : Listed → Option Bytes) (n : ℕ)
+    (xs : List Session)
+    → ((q : Listed) → outdater q ≡ None → SameAnswers rs rs' q) → SessionsGive rs qs xs
+    → SessionsGive rs' qs (outdated_sessions qs outdater n xs)
 outdated_give rs rs' qs outdater n xs same h =
-    all_mapped (SessionGives rs qs) (SessionGives rs' qs) (λ (x : Session). record x { cursors = map (outdated_cursor qs outdater n) x.cursors })
+    all_mapped (SessionGives rs qs) (SessionGives rs' qs)
+    (λ (x : Session). record x { cursors = map (outdated_cursor qs outdater n) x.cursors })
     (λ x g. all_mapped (CursorGives rs qs) (CursorGives rs' qs) (outdated_cursor qs outdater n)
-    (λ c k. position_outdated rs rs' (listed_of qs c.query) c.position outdater n (outdater_of qs outdater c.query) refl same k) x.cursors g) xs h
+    (λ c k. position_outdated rs rs' (listed_of qs c.query) c.position outdater n (outdater_of qs outdater c.query) refl
+    same k) x.cursors g) xs h
 
 pub same_itself : (rs : List Relation) (q : Listed) → SameAnswers rs rs q
 same_itself rs q = record { there = λ t h. h; back = λ t h. h }
 
 -- A session that is changed, where the change keeps what its cursors give.
 session_gives : (old new : State) (s : ℕ) (f : Session → Session) → new ≡ with_session old s f
-    → ((x : Session) → session_of old s ≡ Some x → SessionGives old.store.relations old.store.queries x → SessionGives old.store.relations old.store.queries (f x))
+    → ((x : Session) → session_of old s ≡ Some x → SessionGives old.store.relations old.store.queries x
+    → SessionGives old.store.relations old.store.queries (f x))
     → CursorsGive old → CursorsGive new
 session_gives old new s f after keeps h =
-    subst CursorsGive (sym after) (all_changed (SessionGives old.store.relations old.store.queries) (λ (x : Session). x.id == s) f old.sessions h keeps)
+    subst CursorsGive (sym after)
+    (all_changed (SessionGives old.store.relations old.store.queries) (λ (x : Session). x.id == s) f old.sessions h
+    keeps)
 
 same_gives : (old new : State) → new ≡ old → CursorsGive old → CursorsGive new
 same_gives old new e h = subst CursorsGive (sym e) h
@@ -224,17 +244,23 @@ made_gives c old unchanged store h g =
     (λ q. rows_same old.store.relations h.relations q h.same) g)
 
 -- A query that no session uses is no cursor's.
-pub dropped_query : (qs : List Listed) (name other : Bytes) → bytes_eq other name ≡ false → listed_of (drop_first (λ p. bytes_eq (listed_name p) name) qs) other ≡ listed_of qs other
+pub dropped_query : (qs : List Listed) (name other : Bytes) → bytes_eq other name ≡ false
+    → listed_of (drop_first (λ p. bytes_eq (listed_name p) name) qs) other ≡ listed_of qs other
 dropped_query qs name other ne =
-    find_dropped (λ (p : Listed). bytes_eq (listed_name p) name) (λ (p : Listed). bytes_eq (listed_name p) other) (λ p e. apart_from (listed_name p) name other (bytes_eq (listed_name p) other) refl ne e) qs
+    find_dropped (λ (p : Listed). bytes_eq (listed_name p) name) (λ (p : Listed). bytes_eq (listed_name p) other)
+    (λ p e. apart_from (listed_name p) name other (bytes_eq (listed_name p) other) refl ne e) qs
 
-dropped_give : (rs : List Relation) (qs : List Listed) (q : Bytes) (xs : List Session) → list_any (uses q) xs ≡ false → SessionsGive rs qs xs → SessionsGive rs (drop_first (λ p. bytes_eq (listed_name p) q) qs) xs
+dropped_give : (rs : List Relation) (qs : List Listed) (q : Bytes) (xs : List Session) → list_any (uses q) xs ≡ false
+    → SessionsGive rs qs xs → SessionsGive rs (drop_first (λ p. bytes_eq (listed_name p) q) qs) xs
 dropped_give rs qs q xs none h = λ k d lt.
     let x = slice_index_or xs k d in
-    let unused = (none_or (list_any (λ (c : Cursor). bytes_eq c.query q) x.cursors) (list_any (λ w. bytes_eq w q) x.watches) (none_pass (uses q) xs none k d lt)).0 in
+    let unused = (none_or (list_any (λ (c : Cursor). bytes_eq c.query q) x.cursors)
+    (list_any (λ w. bytes_eq w q) x.watches) (none_pass (uses q) xs none k d lt)).0 in
     λ j e within.
     let c = slice_index_or x.cursors j e in
-    subst (λ (o : Option Listed). PositionGives rs o c.position) (sym (dropped_query qs q c.query (none_pass (λ (z : Cursor). bytes_eq z.query q) x.cursors unused j e within))) (h k d lt j e within)
+    subst (λ (o : Option Listed). PositionGives rs o c.position)
+    (sym (dropped_query qs q c.query (none_pass (λ (z : Cursor). bytes_eq z.query q) x.cursors unused j e within)))
+    (h k d lt j e within)
 
 -- What a command of the store makes of it.
 stored_gives : (old : State) (store : Store) → Stored (in_use old) old.store store → CursorsGive old
@@ -263,7 +289,8 @@ nothing_given rs (Some q) h = record {
 }
 
 -- What `next` tells comes behind what was given.
-told_gives : (Answer : Tuple → Type 0) (given : List Tuple) (finished : Bool) (count : ℕ) (told : List Tuple) (end : Bool)
+told_gives : (Answer : Tuple → Type 0) (given : List Tuple) (finished : Bool) (count : ℕ) (told : List Tuple)
+    (end : Bool)
     → Gives Answer given finished → TellsAnswers Answer given count told end → Gives Answer (given ++ told) end
 told_gives Answer given finished count told end g t =
     let answers = All-append Answer given told g.answers t.answers in
@@ -273,16 +300,23 @@ told_gives Answer given finished count told end g t =
       listing = λ e. record { different = t.different; answers = answers; complete = t.none_left e };
     }
 
-ends_gives : (old : State) (s : ℕ) (cause : EndCause) (new : State) → new ≡ with_session old s (ended_by cause) → CursorsGive old → CursorsGive new
+ends_gives : (old : State) (s : ℕ) (cause : EndCause) (new : State) → new ≡ with_session old s (ended_by cause)
+    → CursorsGive old → CursorsGive new
 ends_gives old s cause new after g =
-    session_gives old new s (ended_by cause) after (λ x found k. All-nil (CursorGives old.store.relations old.store.queries)) g
+    session_gives old new s (ended_by cause) after
+    (λ x found k. All-nil (CursorGives old.store.relations old.store.queries)) g
 
 -- the cursor that is read, in the session that reads it
-moved_gives : (rs : List Relation) (qs : List Listed) (cursors : List Cursor) (c : Bytes) (k : Cursor) (position : Position) → cursor_of cursors c ≡ Some k
-    → PositionGives rs (listed_of qs k.query) position → All (CursorGives rs qs) cursors → All (CursorGives rs qs) (with_position cursors c position)
+moved_gives : (rs : List Relation) (qs : List Listed) (cursors : List Cursor) (c : Bytes) (k : Cursor)
+    (position : Position) → cursor_of cursors c ≡ Some k
+    → PositionGives rs (listed_of qs k.query) position → All (CursorGives rs qs) cursors
+    → All (CursorGives rs qs) (with_position cursors c position)
 moved_gives rs qs cursors c k position found gives h =
-    all_changed (CursorGives rs qs) (λ (z : Cursor). bytes_eq z.name c) (λ (z : Cursor). record z { position = position }) cursors h
-    (λ z at old. let e : k ≡ z = same_found (cursor_of cursors c) k z found at in subst (λ (y : Cursor). PositionGives rs (listed_of qs y.query) position) e gives)
+    all_changed (CursorGives rs qs) (λ (z : Cursor). bytes_eq z.name c)
+    (λ (z : Cursor). record z { position = position }) cursors h
+    (λ z at old. let e : k
+    ≡ z = same_found (cursor_of cursors c) k z found at in subst
+    (λ (y : Cursor). PositionGives rs (listed_of qs y.query) position) e gives)
   where
     same_found : (o : Option Cursor) (y z : Cursor) → o ≡ Some y → o ≡ Some z → y ≡ z
     same_found o y z e f = cc
@@ -335,12 +369,14 @@ turned_gives old s x (opens_cursor c q) new at h g =
 turned_gives old s x (moves_cursor c) new at h g = moves_give old s x c new at h g
 turned_gives old s x (closes_cursor c) new at h g =
     session_gives old new s (without_cursor c) h
-    (λ y found k. all_dropped (CursorGives old.store.relations old.store.queries) (λ (z : Cursor). bytes_eq z.name c) y.cursors k) g
+    (λ y found k. all_dropped (CursorGives old.store.relations old.store.queries) (λ (z : Cursor). bytes_eq z.name c)
+    y.cursors k) g
 turned_gives old s x (starts_watching q) new at h g = cursors_stay old new s (with_watch q) (λ y. refl) h.1 g
 turned_gives old s x (stops_watching q) new at h g = cursors_stay old new s (without_watch q) (λ y. refl) h g
 turned_gives old s x opens_batch new at h g = cursors_stay old new s (with_batch []) (λ y. refl) h g
 turned_gives old s x (holds_row l name row) new at h g =
-    cursors_stay old new s (with_batch (h.held ++ record { line = l; relation = name; row = row } ∷ [])) (λ y. refl) h.state g
+    cursors_stay old new s (with_batch (h.held ++ record { line = l; relation = name; row = row } ∷ [])) (λ y. refl)
+    h.state g
 turned_gives old s x closes_batch new at h g = cursors_stay old new s without_batch (λ y. refl) h g
 
 replied_gives : (s : ℕ) (mid new : State) → Replied s mid new → CursorsGive mid → CursorsGive new
@@ -352,7 +388,8 @@ change_gives : (old : State) (s : ℕ) (outcome : RowsOutcome) (store : Store) (
     → ChangeStep old s outcome store reply e new → CursorsGive (changed old (tried outcome) store) → CursorsGive new
 change_gives old s outcome store reply e new h g =
     subst CursorsGive (sym h.state)
-    (change_keeps (λ (m : Telling). CursorsGive m.state) (λ m t text there k. k) (λ m t text cause may there k. ends_gives m.state t cause (with_session m.state t (ended_by cause)) refl k)
+    (change_keeps (λ (m : Telling). CursorsGive m.state) (λ m t text there k. k)
+    (λ m t text cause may there k. ends_gives m.state t cause (with_session m.state t (ended_by cause)) refl k)
     old s outcome store reply e new h g)
 
 turn_gives : (old : State) (s : ℕ) (x : Session) (t : Turn) (new : State) → session_of old s ≡ Some x
@@ -384,14 +421,20 @@ read_gives old s x l e new found h g = by (line_reads old s x l (reading_of l) e
     by (carried_out c is k) =
         form_gives (form_of x.batch l c) old s x e new found (command_does old s x l c e new is k) g
 
-without_line_gives : (old : State) (s : ℕ) (rest : Bytes) → CursorsGive old → CursorsGive (with_session old s (behind_line rest))
-without_line_gives old s rest g = cursors_stay old (with_session old s (behind_line rest)) s (behind_line rest) (λ x. refl) refl g
+without_line_gives : (old : State) (s : ℕ) (rest : Bytes) → CursorsGive old
+    → CursorsGive (with_session old s (behind_line rest))
+without_line_gives old s rest g = cursors_stay old (with_session old s (behind_line rest)) s (behind_line rest)
+    (λ x. refl) refl g
 
-front_gives : (old : State) (s : ℕ) (x : Session) (outcome : LineOutcome) (e : Effect) (new : State) → session_of old s ≡ Some x → FrontStep old s x outcome e new → CursorsGive old → CursorsGive new
+front_gives : (old : State) (s : ℕ) (x : Session) (outcome : LineOutcome) (e : Effect) (new : State) → session_of old s
+    ≡ Some x → FrontStep old s x outcome e new → CursorsGive old → CursorsGive new
 front_gives old s x long e new found h g = ends_gives old s _ new h.1.1 g
-front_gives old s x (blank l) e new found h g = same_gives (with_session old s (behind_line h.1.rest)) new h.1.then.1 (without_line_gives old s h.1.rest g)
-front_gives old s x (slow l) e new found h g = ends_gives (with_session old s (behind_line h.2.rest)) s _ new h.2.then.1 (without_line_gives old s h.2.rest g)
-front_gives old s x (no_room l) e new found h g = ends_gives (with_session old s (behind_line h.2.rest)) s _ new h.2.then.1 (without_line_gives old s h.2.rest g)
+front_gives old s x (blank l) e new found h g = same_gives (with_session old s (behind_line h.1.rest)) new h.1.then.1
+    (without_line_gives old s h.1.rest g)
+front_gives old s x (slow l) e new found h g = ends_gives (with_session old s (behind_line h.2.rest)) s _ new h.2.then.1
+    (without_line_gives old s h.2.rest g)
+front_gives old s x (no_room l) e new found h g = ends_gives (with_session old s (behind_line h.2.rest)) s _ new
+    h.2.then.1 (without_line_gives old s h.2.rest g)
 front_gives old s x (run l) e new found h g =
     let rest = h.2.rest in
     let here : session_of (with_session old s (behind_line rest)) s ≡ Some (behind_line rest x) =
@@ -400,26 +443,34 @@ front_gives old s x (run l) e new found h g =
     (without_line_gives old s rest g)
 
 -- The events.
-opened_gives : (old mid : State) (s : ℕ) → ((length old.sessions < SESSIONS) × (mid ≡ record old { sessions = old.sessions ++ fresh s ∷ [] })) ⊎ (mid ≡ old) → CursorsGive old → CursorsGive mid
+opened_gives : (old mid : State) (s : ℕ)
+    → ((length old.sessions < SESSIONS) × (mid ≡ record old { sessions = old.sessions ++ fresh s ∷ [] })) ⊎ (mid ≡ old)
+    → CursorsGive old → CursorsGive mid
 opened_gives old mid s (inl h) g =
-    subst CursorsGive (sym h.1) (All-push (SessionGives old.store.relations old.store.queries) old.sessions (fresh s) g (All-nil (CursorGives old.store.relations old.store.queries)))
+    subst CursorsGive (sym h.1)
+    (All-push (SessionGives old.store.relations old.store.queries) old.sessions (fresh s) g
+    (All-nil (CursorGives old.store.relations old.store.queries)))
 opened_gives old mid s (inr h) g = same_gives old mid h g
 
 fed_gives : (old : State) (s : ℕ) (bytes : Bytes) (e : Effect) (mid : State) (c : Option EndCause)
     → MatchOption c
-    (((e ≡ nothing) × (mid ≡ with_session old s (λ y. record y { held = y.held ++ bytes }))) ⊎ EndsWith end_memory Memory old s e mid)
+    (((e ≡ nothing) × (mid ≡ with_session old s (λ y. record y { held = y.held ++ bytes }))) ⊎ EndsWith end_memory
+    Memory old s e mid)
     (λ _. (e ≡ nothing) × (mid ≡ old))
     → CursorsGive old → CursorsGive mid
-fed_gives old s bytes e mid None (inl h) g = cursors_stay old mid s (λ y. record y { held = y.held ++ bytes }) (λ x. refl) h.1 g
+fed_gives old s bytes e mid None (inl h) g = cursors_stay old mid s (λ y. record y { held = y.held ++ bytes })
+    (λ x. refl) h.1 g
 fed_gives old s bytes e mid None (inr h) g = ends_gives old s Memory mid h.1 g
 fed_gives old s bytes e mid (Some c) h g = same_gives old mid h.1 g
 
 input_gives : (old mid : State) (s : ℕ) (P Q R : Type 0) (c : Option EndCause)
-    → MatchOption c (P × Q × (mid ≡ with_session old s (ended_by Input))) (λ _. R × (mid ≡ old)) → CursorsGive old → CursorsGive mid
+    → MatchOption c (P × Q × (mid ≡ with_session old s (ended_by Input))) (λ _. R × (mid ≡ old)) → CursorsGive old
+    → CursorsGive mid
 input_gives old mid s P Q R None h g = ends_gives old s Input mid h.2 g
 input_gives old mid s P Q R (Some c) h g = same_gives old mid h.1 g
 
-acts_give : (old : State) (event : Event) (e : Effect) (mid : State) → Acts old event e mid → CursorsGive old → CursorsGive mid
+acts_give : (old : State) (event : Event) (e : Effect) (mid : State) → Acts old event e mid → CursorsGive old
+    → CursorsGive mid
 acts_give old (opened s) e mid h g = opened_gives old mid s h.2 g
 acts_give old (fed s bytes) e mid h g =
     let f = some_and (session_of old s) (λ x. FedStep old s bytes x e mid) h in
@@ -434,19 +485,25 @@ acts_give old (ended s) e mid h g =
     let f = some_and (session_of old s) (λ x. EndedStep old s x e mid) h in
     input_gives old mid s _ _ _ (f.0).cause f.2 g
 acts_give old (closed s bytes) e mid h g =
-    subst CursorsGive (sym h.2) (All-filter (λ (x : Session). not (x.id == s)) (SessionGives old.store.relations old.store.queries) old.sessions g)
+    subst CursorsGive (sym h.2)
+    (All-filter (λ (x : Session). not (x.id == s)) (SessionGives old.store.relations old.store.queries) old.sessions
+    g)
 
 queued_give : (st : State) (qs : List (ℕ × Bytes)) → CursorsGive st → CursorsGive (queue_all st qs)
 queued_give st [] g = g
-queued_give st (q ∷ qs) g = queued_give (queue st q) qs (cursors_stay st (queue st q) q.0 (λ x. record x { pending = x.pending ++ q.1 }) (λ x. refl) refl g)
+queued_give st (q ∷ qs) g = queued_give (queue st q) qs
+    (cursors_stay st (queue st q) q.0 (λ x. record x { pending = x.pending ++ q.1 }) (λ x. refl) refl g)
 
-pub step_gives : (old : State) (event : Event) (e : Effect) (new : State) → Step old event e new → CursorsGive old → CursorsGive new
+pub step_gives : (old : State) (event : Event) (e : Effect) (new : State) → Step old event e new → CursorsGive old
+    → CursorsGive new
 step_gives old event e new h g =
     let acted = acts_give old event e h.mid h.acts g in
     let mid = h.mid in
     let reordered : CursorsGive (with_relations mid h.relations) =
-    relations_give mid.store.relations h.relations mid.store.queries mid.sessions (λ q. reordered_same mid.store.relations h.relations q h.reordered) acted in
+    relations_give mid.store.relations h.relations mid.store.queries mid.sessions
+    (λ q. reordered_same mid.store.relations h.relations q h.reordered) acted in
     subst CursorsGive (sym h.queued) (queued_give (with_relations mid h.relations) e.queued reordered)
 
 pub runs_give : RunsGive
-runs_give old done new w g = walk_keeps (λ (o : State) (d : Did) (n : State). Step o d.event d.effect n) CursorsGive (λ o d n h. step_gives o d.event d.effect n h) old done new w g
+runs_give old done new w g = walk_keeps (λ (o : State) (d : Did) (n : State). Step o d.event d.effect n) CursorsGive
+    (λ o d n h. step_gives o d.event d.effect n h) old done new w g

@@ -23,16 +23,19 @@ next_spares st (took s bytes) h = tt
 next_spares st (ended s) h = tt
 next_spares st (closed s bytes) h = absurd h
 
-pub walk_spares : (old : State) (done : List Did) (new : State) → Walk RunNext old done new → All (λ d. Spares d.event 1) done
+pub walk_spares : (old : State) (done : List Did) (new : State) → Walk RunNext old done new
+    → All (λ d. Spares d.event 1) done
 walk_spares old [] new w = All-nil (λ (d : Did). Spares d.event 1)
-walk_spares old (d ∷ done) new w = All-cons (λ (e : Did). Spares e.event 1) d done (next_spares old d.event w.1.0) (walk_spares w.0 done new w.2)
+walk_spares old (d ∷ done) new w = All-cons (λ (e : Did). Spares e.event 1) d done (next_spares old d.event w.1.0)
+    (walk_spares w.0 done new w.2)
 
 -- where no session is open, nothing is pending and no cursor is
 none_pending : (st : State) → st.sessions ≡ [] → pending_of st 1 ≡ []
 none_pending st none = ap (λ (xs : List Session). pending_of (record st { sessions = xs }) 1) none
 
 none_give : (st : State) → st.sessions ≡ [] → CursorsGive st
-none_give st none = subst (λ (xs : List Session). All (SessionGives st.store.relations st.store.queries) xs) (sym none) (All-nil (SessionGives st.store.relations st.store.queries))
+none_give st none = subst (λ (xs : List Session). All (SessionGives st.store.relations st.store.queries) xs) (sym none)
+    (All-nil (SessionGives st.store.relations st.store.queries))
 
 pub headline : CoursesGive
 headline start before now st c none =

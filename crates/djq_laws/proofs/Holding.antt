@@ -186,7 +186,10 @@ held_ended old new s cause after k = held_dropped old new s (ended_by cause) (λ
 held_outdated : (old : State) (o : Option RowsChange) (store : Store) → HoldLines old → HoldLines (changed old o store)
 held_outdated old None store k = k
 held_outdated old (Some change) store k =
-    all_mapped Holds Holds (λ (x : Session). record x { cursors = map (outdated_cursor old.store.queries change.outdater store.seq) x.cursors }) (λ x h. h) old.sessions k
+    all_mapped Holds Holds
+    (λ (x : Session). record x
+    { cursors = map (outdated_cursor old.store.queries change.outdater store.seq) x.cursors }) (λ x h. h)
+    old.sessions k
 
 held_told : (old : State) (s : ℕ) (outcome : RowsOutcome) (store : Store) (reply : Bytes) (e : Effect) (new : State)
     → ChangeStep old s outcome store reply e new → HoldLines old → HoldLines new
@@ -219,7 +222,8 @@ held_turned old s x opens_batch new found is h k =
 held_turned old s x (holds_row l name row) new found is h k =
     let holds : Holds x = all_found Holds (λ (y : Session). y.id == s) old.sessions x k found in
     held_changed old new s _ h.state
-    (λ y there g. All-push (λ (r : HeldRow). IsLine r.line) h.held (record { line = l; relation = name; row = row }) (subst HoldsLines h.is holds) is) k
+    (λ y there g. All-push (λ (r : HeldRow). IsLine r.line) h.held (record { line = l; relation = name; row = row })
+    (subst HoldsLines h.is holds) is) k
 held_turned old s x closes_batch new found is h k = held_dropped old new s _ (λ y. refl) h k
 
 held_replied : (s : ℕ) (mid new : State) → Replied s mid new → HoldLines mid → HoldLines new
@@ -239,7 +243,8 @@ held_form (turning t) old s x e new found is h k = held_turn old s x t new found
 held_form (changing (row_comes name row)) old s x e new found is h k = held_told old s _ h.store _ e new h.change k
 held_form (changing (row_goes name row)) old s x e new found is h k = held_told old s _ h.store _ e new h.change k
 held_form (changing (rows_come held)) old s x e new found is h k =
-    held_told (with_session old s without_batch) s _ h.store _ e new h.change (held_dropped old (with_session old s without_batch) s without_batch (λ y. refl) refl k)
+    held_told (with_session old s without_batch) s _ h.store _ e new h.change
+    (held_dropped old (with_session old s without_batch) s without_batch (λ y. refl) refl k)
 held_form ending old s x e new found is h k =
     held_ended (record old { stopped = h.1.stopped }) new s h.1.cause h.1.state k
 
@@ -284,7 +289,8 @@ held_front old s x (run l) e new found is h k =
     let here : session_of (with_session old s (behind_line rest)) s ≡ Some (behind_line rest x) =
     session_changed old s (behind_line rest) (λ y. refl) ∙ ap (λ o. option_map (behind_line rest) o) found in
     held_read (with_session old s (behind_line rest)) s (behind_line rest x) l e new here is
-    (line_reads (with_session old s (behind_line rest)) s (behind_line rest x) l (reading_of l) e new h.2.then) (held_behind old s rest k)
+    (line_reads (with_session old s (behind_line rest)) s (behind_line rest x) l (reading_of l) e new h.2.then)
+    (held_behind old s rest k)
 
 runs_line : (old : State) (s : ℕ) (outcome : LineOutcome) (e : Effect) (mid : State)
     → Acts old (stepped s outcome) e mid → RunsLine outcome
@@ -301,7 +307,8 @@ held_opened old mid s (inl h) k = subst HoldLines (sym h.1) (All-push Holds old.
 held_opened old mid s (inr h) k = held_same old mid h k
 
 held_fed : (old : State) (s : ℕ) (bytes : Bytes) (e : Effect) (mid : State) (c : Option EndCause)
-    → MatchOption c (((e ≡ nothing) × (mid ≡ with_session old s (λ y. record y { held = y.held ++ bytes }))) ⊎ EndsWith end_memory Memory old s e mid) (λ _. (e ≡ nothing) × (mid ≡ old))
+    → MatchOption c (((e ≡ nothing) × (mid ≡ with_session old s (λ y. record y { held = y.held ++ bytes }))) ⊎ EndsWith
+    end_memory Memory old s e mid) (λ _. (e ≡ nothing) × (mid ≡ old))
     → HoldLines old → HoldLines mid
 held_fed old s bytes e mid None (inl h) k = held_still old mid s _ (λ x. refl) h.1 k
 held_fed old s bytes e mid None (inr h) k = held_ended old mid s Memory h.1 k
@@ -333,15 +340,18 @@ held_acts old (closed s bytes) e mid h k =
 
 held_queued : (st : State) (qs : List (ℕ × Bytes)) → HoldLines st → HoldLines (queue_all st qs)
 held_queued st [] k = k
-held_queued st (q ∷ qs) k = held_queued (queue st q) qs (held_still st (queue st q) q.0 (λ x. record x { pending = x.pending ++ q.1 }) (λ x. refl) refl k)
+held_queued st (q ∷ qs) k = held_queued (queue st q) qs
+    (held_still st (queue st q) q.0 (λ x. record x { pending = x.pending ++ q.1 }) (λ x. refl) refl k)
 
 pub step_hold_lines : (old : State) (event : Event) (e : Effect) (new : State) → Step old event e new → HoldLines old
     → HoldLines new
-step_hold_lines old event e new h k = subst HoldLines (sym h.queued) (held_queued (with_relations h.mid h.relations) e.queued (held_acts old event e h.mid h.acts k))
+step_hold_lines old event e new h k = subst HoldLines (sym h.queued)
+    (held_queued (with_relations h.mid h.relations) e.queued (held_acts old event e h.mid h.acts k))
 
 pub runs_hold_lines : (old : State) (done : List Did) (new : State) → Run old done new → HoldLines old → HoldLines new
 runs_hold_lines old done new w k =
-    walk_keeps (λ (o : State) (d : Did) (n : State). Step o d.event d.effect n) HoldLines (λ o d n h. step_hold_lines o d.event d.effect n h) old done new w k
+    walk_keeps (λ (o : State) (d : Did) (n : State). Step o d.event d.effect n) HoldLines
+    (λ o d n h. step_hold_lines o d.event d.effect n h) old done new w k
 
 pub none_hold_lines : (st : State) → st.sessions ≡ [] → HoldLines st
 none_hold_lines st none = subst (λ (xs : List Session). All Holds xs) (sym none) (All-nil Holds)
@@ -371,14 +381,19 @@ keeps_nothing s text cost e is = keeps_as e no_line (ap (λ (f : Effect). f.kept
 keeps_held : (held : List HeldRow) → All (λ (r : HeldRow). IsLine r.line) held
     → AllByRecursion IsLine (map (λ (r : HeldRow). r.line) held)
 keeps_held [] all = tt
-keeps_held (r ∷ rs) all = (All-head (λ (r : HeldRow). IsLine r.line) r rs all, keeps_held rs (All-tail (λ (r : HeldRow). IsLine r.line) r rs all))
+keeps_held (r ∷ rs) all = (
+  All-head (λ (r : HeldRow). IsLine r.line) r rs all,
+  keeps_held rs
+      (All-tail (λ (r : HeldRow). IsLine r.line) r rs all),
+)
 
 keeps_batch : {A : Type 0} (held : List HeldRow) (r : Result A Refusal) → All (λ (r : HeldRow). IsLine r.line) held
     → KeepsLines (kept_batch held r)
 keeps_batch held (Ok a) all = keeps_held held all
 keeps_batch held (Err r) all = tt
 
-keeps_add : (old : State) (s : ℕ) (l name : Bytes) (row : Tuple) (e : Effect) (new : State) (batch : Option (List HeldRow))
+keeps_add : (old : State) (s : ℕ) (l name : Bytes) (row : Tuple) (e : Effect) (new : State)
+    (batch : Option (List HeldRow))
     → MatchOption batch (AddStep old s name row e new) (λ held. HoldStep old s held l name row e new)
     → KeepsLines e.kept
 keeps_add old s l name row e new None h = keeps_as e _ h.kept (keeps_where _)
@@ -396,7 +411,9 @@ keeps_next old s c q count (open_at given finished) e new (inr h) = keeps_nothin
 keeps_next old s c q count (stale relation n) e new h = keeps_nothing s _ 0 e h.0
 
 keeps_asked : (old : State) (s : ℕ) (c : Bytes) (count : ℕ) (e : Effect) (new : State) (o : Option Cursor)
-    → MatchOption o (RefusedStep old s NoCursor e new) (λ k. IsSomeAnd (listed_of old.store.queries k.query) (λ q. NextStepAt old s c q count k.position e new)) → KeepsLines e.kept
+    → MatchOption o (RefusedStep old s NoCursor e new)
+    (λ k. IsSomeAnd (listed_of old.store.queries k.query) (λ q. NextStepAt old s c q count k.position e new))
+    → KeepsLines e.kept
 keeps_asked old s c count e new None h = keeps_nothing s _ 0 e h.0
 keeps_asked old s c count e new (Some k) h =
     let f = some_and (listed_of old.store.queries k.query) (λ q. NextStepAt old s c q count k.position e new) h in
@@ -458,7 +475,8 @@ group_lines l the_line is keeps lines same = subst (λ (ls : List Bytes). AllByR
     one : (l ∷ []) ∷ [] ≡ lines ∷ [] → l ∷ [] ≡ lines
     one e = cc
 group_lines l (the_batch held) is keeps lines same =
-    subst (λ (ls : List Bytes). AllByRecursion IsLine ls) (whole same) (word (codes "batch") (omega arith) (omega arith), ended held keeps)
+    subst (λ (ls : List Bytes). AllByRecursion IsLine ls) (whole same)
+    (word (codes "batch") (omega arith) (omega arith), ended held keeps)
   where
     whole : (codes "batch" ∷ held ++ codes "done" ∷ []) ∷ [] ≡ lines ∷ []
         → codes "batch" ∷ held ++ codes "done" ∷ [] ≡ lines
@@ -480,4 +498,5 @@ kept_lines old s l e mid h hold lines same =
     let from = with_session old s (behind_line rest) in
     let holds : Holds f.0 = all_found Holds (λ (y : Session). y.id == s) old.sessions f.0 hold f.1 in
     group_lines l e.kept (run_line old s l e mid h)
-    (keeps_read from s (behind_line rest f.0) l (reading_of l) e mid holds (line_reads from s (behind_line rest f.0) l (reading_of l) e mid f.2.1.2.then)) lines same
+    (keeps_read from s (behind_line rest f.0) l (reading_of l) e mid holds
+    (line_reads from s (behind_line rest f.0) l (reading_of l) e mid f.2.1.2.then)) lines same

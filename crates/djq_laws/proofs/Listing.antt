@@ -643,7 +643,8 @@ module _ (s : ℕ) (c : Bytes) where
       → MatchOption o (RefusedStep old s NoCursor e new)
       (λ k. IsSomeAnd (listed_of old.store.queries k.query) (λ q. NextStepAt old s d q count k.position e new))
       → Tell old replies
-      → Tell new (cond (b && not (is_misplacing (to_session s e.queued))) (replies ++ to_session s e.queued ∷ []) replies)
+      → Tell new (cond (b && not (is_misplacing (to_session s e.queued))) (replies ++ to_session s e.queued ∷ [])
+      replies)
   next_told old x d count o e new replies false same found kept is h tell given finished at = tell_back old new replies
       (back_turn old s x (moves_cursor d) new kept (λ k. same) (next_does old s x d count o e new is h).1) tell given
       finished at
@@ -906,7 +907,8 @@ given_is_told start h s c done new w given finished at = along_told s c start do
     no_cursor : (g : List Tuple) (f : Bool) → position_of start s c ≡ Some (open_at g f) → ⊥
     no_cursor g f here =
         let found : position_of (record start { sessions = [] }) s c ≡ Some (open_at g f) =
-        subst (λ (xs : List Session). position_of (record start { sessions = xs }) s c ≡ Some (open_at g f)) h.none here in
+        subst (λ (xs : List Session). position_of (record start { sessions = xs }) s c ≡ Some (open_at g f)) h.none here
+        in
         cc found
 
 -- where names are apart, a cursor is found by its own

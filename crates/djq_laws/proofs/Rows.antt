@@ -1,5 +1,7 @@
 -- What a command of rows makes of the store: a change, or none. Of `add` and `del`; batches are in Batches.
-use Rattle.std.specs.Prelude.{ℕ, List, [], ◌∷◌, ◌==◌, ◌&&◌, ◌≡◌, ◌≤◌, ◌+◌, Bool, true, false, cond, not, length, Option, None, Some, is_none, nat_le, map, Result, Ok, Err, All}
+use Rattle.std.specs.Prelude.{ℕ, List, [], ◌∷◌, ◌==◌, ◌&&◌, ◌≡◌, ◌≤◌, ◌+◌, Bool, true, false, cond}
+use Rattle.std.specs.Prelude.{not, length, Option, None, Some, is_none, nat_le, map, Result, Ok}
+use Rattle.std.specs.Prelude.{Err, All}
 use Rattle.std.proofs.Common.{refl, sym, ap, ◌∙◌, subst, arith}
 use Rattle.std.proofs.lemmas.Bool.{leb-false}
 use Rattle.std.proofs.lemmas.List.Elements.{All-nil, All-push}

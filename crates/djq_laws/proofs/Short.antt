@@ -1,5 +1,6 @@
 -- A line that is run is no longer than a line may be, and isn't empty.
-use Rattle.std.proofs.Common.{ℕ, [], ◌∷◌, ◌+◌, ◌-◌, ◌≡◌, ◌≤◌, ◌||◌, Bool, true, false, cond, length, refl, sym, ap, ◌∙◌, subst, arith}
+use Rattle.std.proofs.Common.{ℕ, [], ◌∷◌, ◌+◌, ◌-◌, ◌≡◌, ◌≤◌, ◌||◌, Bool, true, false, cond, length}
+use Rattle.std.proofs.Common.{refl, sym, ap, ◌∙◌, subst, arith}
 use Rattle.std.specs.Prelude.{◌==◌, ◌&&◌, not, nat_le, None, take, slice_index}
 use Rattle.std.proofs.lemmas.Bool.{leb-true, leb-false, false≢true}
 use Rattle.std.proofs.lemmas.List.{length-take-le}
@@ -25,12 +26,14 @@ short_line bs h = by (nat_le (LINE_BYTES + 2) (length bs)) refl (nat_le (LINE_BY
     at_end e cr =
         let last : length bs - 1 ≡ LINE_BYTES = omega (arith, e) in
         let is : (slice_index bs (length bs - 1) == 13) ≡ true = ap (λ (i : ℕ). slice_index bs i == 13) last ∙ cr in
-        let gone : without_cr bs ≡ take (length bs - 1) bs = ap (λ (b : Bool). cond b (take (length bs - 1) bs) bs) is in
+        let gone : without_cr bs
+        ≡ take (length bs - 1) bs = ap (λ (b : Bool). cond b (take (length bs - 1) bs) bs) is in
         let e2 = length-take-le (length bs - 1) bs (omega arith) in
         let same : length (without_cr bs) ≡ length (take (length bs - 1) bs) = ap (λ (xs : Bytes). length xs) gone in
         omega (arith, e2, last, same)
 
-    ends : (b : Bool) → (slice_index bs LINE_BYTES == 13) ≡ b → not b ≡ false → length bs ≡ LINE_BYTES + 1 → length (without_cr bs) ≤ LINE_BYTES
+    ends : (b : Bool) → (slice_index bs LINE_BYTES == 13) ≡ b → not b ≡ false → length bs ≡ LINE_BYTES + 1
+        → length (without_cr bs) ≤ LINE_BYTES
     ends true e k n = at_end n e
     ends false e k n = absurd (false≢true (sym k))
 
@@ -50,7 +53,8 @@ not_empty [] h = absurd (false≢true (sym h))
 not_empty (b ∷ bs) h = omega arith
 
 -- a line that is run isn't empty, and no longer than a line may be
-pub run_line : (old : State) (s : ℕ) (l : Bytes) (e : Effect) (mid : State) → Acts old (stepped s (run l)) e mid → (1 ≤ length l) × (length l ≤ LINE_BYTES)
+pub run_line : (old : State) (s : ℕ) (l : Bytes) (e : Effect) (mid : State) → Acts old (stepped s (run l)) e mid
+    → (1 ≤ length l) × (length l ≤ LINE_BYTES)
 run_line old s l e mid h =
     let f = some_and (session_of old s) (λ x. (x.cause ≡ None) × FrontStep old s x (run l) e mid) h in
     let front = line_in_front ((f.0).held) l f.2.1.2.rest f.2.1.2.front in (

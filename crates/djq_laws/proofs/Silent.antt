@@ -1,5 +1,7 @@
 -- Nothing is queued to a session that has ended, or isn't open: a session that has ended watches nothing.
-use Rattle.std.specs.Prelude.{ℕ, List, [], ◌∷◌, ◌==◌, ◌≡◌, ◌<◌, ◌++◌, ◌⊎◌, Bool, true, false, not, cond, filter, length, Option, None, Some, IsSome, IfSome, IsSomeAnd, MatchOption, option_map, find, map, All}
+use Rattle.std.specs.Prelude.{ℕ, List, [], ◌∷◌, ◌==◌, ◌≡◌, ◌<◌, ◌++◌, ◌⊎◌, Bool, true, false, not}
+use Rattle.std.specs.Prelude.{cond, filter, length, Option, None, Some, IsSome, IfSome, IsSomeAnd}
+use Rattle.std.specs.Prelude.{MatchOption, option_map, find, map, All}
 use Rattle.std.specs.List.{list_any}
 use Rattle.std.proofs.Common.{refl, sym, ap, ap₂, ◌∙◌, subst, inl, inr, arith}
 use Rattle.std.proofs.lemmas.Bool.{eqb-true}
@@ -15,10 +17,12 @@ use Rattle.djq_lines.specs.Reply.{refusal_line, end_memory, input_cut}
 use Rattle.djq_machine.specs.State.{Store, State, Session, fresh, session_of, with_session, ended_by, ids_of}
 use Rattle.djq_machine.specs.Stale.{outdated_cursor}
 use Rattle.djq_machine.specs.Changes.{RowsChange, RowsOutcome, is_accepted, tried, changed}
-use Rattle.djq_machine.specs.Watch.{Delta, Telling, says_more, ends_more, watching, watcher_of, TellsWatcher, TellsSession, TellsDelta, ChangeStep}
+use Rattle.djq_machine.specs.Watch.{Delta, Telling, says_more, ends_more, watching, watcher_of}
+use Rattle.djq_machine.specs.Watch.{TellsWatcher, TellsSession, TellsDelta, ChangeStep}
 use Rattle.djq_machine.specs.Effect.{Effect, nothing, says, EndsWith}
 use Rattle.djq_machine.specs.LineStep.{LineOutcome, long, blank, slow, no_room, run, behind_line, FrontStep, ReadStep}
-use Rattle.djq_machine.specs.Step.{Event, opened, fed, stepped, took, ended, closed, is_dry, FedStep, TookStep, EndedStep, Acts, Step}
+use Rattle.djq_machine.specs.Step.{Event, opened, fed, stepped, took, ended, closed, is_dry}
+use Rattle.djq_machine.specs.Step.{FedStep, TookStep, EndedStep, Acts, Step}
 use Rattle.djq_machine.specs.Run.{Did, to_session}
 use Rattle.djq_machine.proofs.Walks.{walk_keeps}
 use Rattle.djq_laws.specs.Form.{Form, asking, storing, turning, changing, ending, form_of, SaysAlone, Does}
@@ -28,7 +32,9 @@ use Rattle.djq_laws.specs.Silent.{IsOver, OpensNone, OverIsSilent, OverOnce}
 use Rattle.djq_laws.proofs.Finding.{some_and}
 use Rattle.djq_laws.proofs.Queueing.{gaining, session_other, queued_all, stepped as stepped_session}
 use Rattle.djq_laws.proofs.Alike.{CauseKept, AlikeFound}
-use Rattle.djq_laws.proofs.Touching.{AnyCause, Touches, FedTo, is_held, out_of_memory, is_dropped, EndedTo, input_ends, had_ended, is_fed, is_stepped, is_taken, is_ended}
+use Rattle.djq_laws.proofs.Touching.{AnyCause, Touches, FedTo, is_held, out_of_memory, is_dropped}
+use Rattle.djq_laws.proofs.Touching.{EndedTo, input_ends, had_ended, is_fed, is_stepped, is_taken}
+use Rattle.djq_laws.proofs.Touching.{is_ended}
 use Rattle.djq_laws.proofs.Containing.{found_there}
 use Rattle.djq_laws.proofs.Doing.{closing, begun, closing_id, rows_do}
 use Rattle.djq_laws.proofs.Dropping.{at_found, later}
@@ -73,7 +79,8 @@ to_deaf st s sound over = by (session_of st s) refl over
     by None found h = tt
     by (Some x) found h =
         let there = found_there (λ (y : Session). y.id == s) st.sessions x found in
-        let fine : IsSoundSession st.store x = All-contains (IsSoundSession st.store) st.sessions x sound.sessions there in
+        let fine : IsSoundSession st.store x = All-contains (IsSoundSession st.store) st.sessions x sound.sessions there
+        in
         (fine.ended h).1
 
 -- ---- what is queued to another session
@@ -109,7 +116,8 @@ module _ (s : ℕ) where
       → IsQuiet (ends_more t text cause m)
   still_ends m t text cause apart h = record {
     none = quiet_more m.queued t text apart h.none;
-    deaf = subst (λ (o : Option Session). Deaf o) (sym (session_other m.state t s (ended_by cause) (λ x. refl) apart)) h.deaf;
+    deaf = subst (λ (o : Option Session). Deaf o) (sym (session_other m.state t s (ended_by cause) (λ x. refl) apart))
+        h.deaf;
   }
 
   unwatching : (q bytes : Bytes) (o : Option Session) → Deaf o → watching q (option_map (gaining bytes) o) ≡ None
@@ -128,7 +136,8 @@ module _ (s : ℕ) where
   watcher_quiet d n t pending m new apart (inr (inl h)) k = subst IsQuiet (sym h.1) (still_says m t _ apart k)
   watcher_quiet d n t pending m new apart (inr (inr h)) k = subst IsQuiet (sym h.4) (still_ends m t _ _ apart k)
 
-  session_quiet : (d : Delta) (n : ℕ) (m : Telling) (t : ℕ) (new : Telling) → TellsSession d n m t new → IsQuiet m → IsQuiet new
+  session_quiet : (d : Delta) (n : ℕ) (m : Telling) (t : ℕ) (new : Telling) → TellsSession d n m t new → IsQuiet m
+      → IsQuiet new
   session_quiet d n m t new h k = by_id (t == s) refl
     where
       name : Bytes
@@ -143,17 +152,20 @@ module _ (s : ℕ) where
 
       by_id : (b : Bool) → (t == s) ≡ b → IsQuiet new
       by_id true same =
-          let none : watcher_of m name t ≡ None = ap (λ i. watcher_of m name i) (eqb-true t s same) ∙ no_watcher m name k in
+          let none : watcher_of m name t ≡ None = ap (λ i. watcher_of m name i) (eqb-true t s same)
+          ∙ no_watcher m name k in
           let is : new ≡ m = subst (λ (o : Option Session). Tells o) none h in
           subst IsQuiet (sym is) k
       by_id false apart = by_watcher (watcher_of m name t) apart h
 
   delta_quiet : (n : ℕ) (m : Telling) (d : Delta) (new : Telling) → TellsDelta n m d new → IsQuiet m → IsQuiet new
   delta_quiet n m d new h k =
-      walk_keeps (TellsSession d n) IsQuiet (λ from t to one q. session_quiet d n from t to one q) m (ids_of m.state) new h k
+      walk_keeps (TellsSession d n) IsQuiet (λ from t to one q. session_quiet d n from t to one q) m (ids_of m.state)
+      new h k
 
   reply_quiet : (t : ℕ) (reply : Bytes) (m new : Telling) (c : Option EndCause) → (t == s) ≡ false
-      → MatchOption c ((new ≡ says_more t reply m) ⊎ ((list_any (λ part. part.0 == t) m.queued ≡ true) × (new ≡ ends_more t end_memory Memory m))) (λ c. new ≡ m)
+      → MatchOption c ((new ≡ says_more t reply m) ⊎
+      ((list_any (λ part. part.0 == t) m.queued ≡ true) × (new ≡ ends_more t end_memory Memory m))) (λ c. new ≡ m)
       → IsQuiet m → IsQuiet new
   reply_quiet t reply m new None apart (inl h) k = subst IsQuiet (sym h) (still_says m t reply apart k)
   reply_quiet t reply m new None apart (inr h) k = subst IsQuiet (sym h.1) (still_ends m t end_memory Memory apart k)
@@ -163,17 +175,21 @@ module _ (s : ℕ) where
       → Deaf (session_of (changed old o store) s)
   deaf_changed old None store h = h
   deaf_changed old (Some change) store h =
-      let f = λ (x : Session). record x { cursors = map (outdated_cursor old.store.queries change.outdater store.seq) x.cursors } in
+      let f = λ (x : Session). record x
+      { cursors = map (outdated_cursor old.store.queries change.outdater store.seq) x.cursors } in
       subst (λ (o : Option Session). Deaf o) (sym (find_mapped (λ (x : Session). x.id == s) f (λ x. refl) old.sessions))
       (by (session_of old s) h)
     where
       by : (o : Option Session) → Deaf o
-          → Deaf (option_map (λ (x : Session). record x { cursors = map (outdated_cursor old.store.queries change.outdater store.seq) x.cursors }) o)
+          → Deaf (option_map (λ (x : Session). record x
+          { cursors = map (outdated_cursor old.store.queries change.outdater store.seq) x.cursors }) o)
       by None k = tt
       by (Some x) k = k
 
-  change_quiet : (old : State) (t : ℕ) (outcome : RowsOutcome) (store : Store) (reply : Bytes) (e : Effect) (new : State)
-      → ChangeStep old t outcome store reply e new → (t == s) ≡ false → Deaf (session_of old s) → to_session s e.queued ≡ []
+  change_quiet : (old : State) (t : ℕ) (outcome : RowsOutcome) (store : Store) (reply : Bytes) (e : Effect)
+      (new : State)
+      → ChangeStep old t outcome store reply e new → (t == s) ≡ false → Deaf (session_of old s) → to_session s e.queued
+      ≡ []
   change_quiet old t outcome store reply e new h apart deaf =
       let first : Telling = record { state = changed old (tried outcome) store; queued = [] } in
       let begins : IsQuiet first = record { none = refl; deaf = deaf_changed old (tried outcome) store deaf } in
@@ -181,7 +197,9 @@ module _ (s : ℕ) where
       walk_keeps (TellsDelta store.seq) IsQuiet (λ from d to one q. delta_quiet store.seq from d to one q) first
       (cond (is_accepted outcome) h.deltas []) h.told h.tells begins in
       let f = some_and (session_of h.told.state t) (λ x. MatchOption x.cause
-      ((h.last ≡ says_more t reply h.told) ⊎ ((list_any (λ part. part.0 == t) h.told.queued ≡ true) × (h.last ≡ ends_more t end_memory Memory h.told))) (λ c. h.last ≡ h.told)) h.replies in
+      ((h.last ≡ says_more t reply h.told) ⊎
+      ((list_any (λ part. part.0 == t) h.told.queued ≡ true) × (h.last ≡ ends_more t end_memory Memory h.told)))
+      (λ c. h.last ≡ h.told)) h.replies in
       let last : IsQuiet h.last = reply_quiet t reply h.told h.last (f.0).cause apart f.2 told in
       ap (λ (qs : List (ℕ × Bytes)). to_session s qs) h.queued ∙ last.none
 
@@ -189,7 +207,8 @@ module _ (s : ℕ) where
 
   deaf_other : (old : State) (t : ℕ) (f : Session → Session) → ((x : Session) → (f x).id ≡ x.id) → (t == s) ≡ false
       → Deaf (session_of old s) → Deaf (session_of (with_session old t f) s)
-  deaf_other old t f id apart deaf = subst (λ (o : Option Session). Deaf o) (sym (session_other old t s f id apart)) deaf
+  deaf_other old t f id apart deaf = subst (λ (o : Option Session). Deaf o) (sym (session_other old t s f id apart))
+      deaf
 
   form_quiet : (f : Form) (old : State) (t : ℕ) (x : Session) (e : Effect) (new : State) → Does f old t x e new
       → (t == s) ≡ false → Deaf (session_of old s) → to_session s e.queued ≡ []
@@ -226,7 +245,8 @@ module _ (s : ℕ) where
 
   fed_quiet : (old : State) (t : ℕ) (bytes : Bytes) (e : Effect) (mid : State) (c : Option EndCause) → (t == s) ≡ false
       → MatchOption c
-      (((e ≡ nothing) × (mid ≡ with_session old t (λ y. record y { held = y.held ++ bytes }))) ⊎ EndsWith end_memory Memory old t e mid)
+      (((e ≡ nothing) × (mid ≡ with_session old t (λ y. record y { held = y.held ++ bytes }))) ⊎ EndsWith end_memory
+      Memory old t e mid)
       (λ _. (e ≡ nothing) × (mid ≡ old))
       → to_session s e.queued ≡ []
   fed_quiet old t bytes e mid None apart (inl h) = quiet_none e h.0
@@ -250,7 +270,8 @@ module _ (s : ℕ) where
   ended_quiet old t x e mid None apart h = cut_quiet t x.held e apart h.1
   ended_quiet old t x e mid (Some c) apart h = quiet_none e h.0
 
-  end_quiet : (old : State) (t : ℕ) (x : Session) (e : Effect) (mid : State) → (t == s) ≡ false → EndedStep old t x e mid
+  end_quiet : (old : State) (t : ℕ) (x : Session) (e : Effect) (mid : State) → (t == s) ≡ false
+      → EndedStep old t x e mid
       → to_session s e.queued ≡ []
   unfolding cut_of
   end_quiet old t x e mid apart h = ended_quiet old t x e mid x.cause apart h
@@ -287,7 +308,8 @@ over_touched : (old : State) (t : ℕ) (x : Session) (e : Effect) (mid : State) 
     → Touches old t x e mid y → (IsSome x.cause → IsSome y.cause) → Over (session_of old s) → Over (session_of mid s)
 over_touched old t x e mid y s same h keeps over =
     let is : t ≡ s = eqb-true t s same in
-    let was : Over (Some x) = subst (λ (o : Option Session). Over o) h.found (subst (λ (i : ℕ). Over (session_of old i)) (sym is) over) in
+    let was : Over (Some x) = subst (λ (o : Option Session). Over o) h.found
+    (subst (λ (i : ℕ). Over (session_of old i)) (sym is) over) in
     subst (λ (i : ℕ). Over (session_of mid i)) is (subst (λ (o : Option Session). Over o) (sym h.now) (keeps was))
 
 cause_there : (old : State) (t : ℕ) (x : Session) (s : ℕ) → (t == s) ≡ true → session_of old t ≡ Some x
@@ -323,8 +345,10 @@ closed_over : (old : State) (t s : ℕ) (b : Bool) → (t == s) ≡ b → Over (
 closed_over old t s true same over =
     let is : t ≡ s = eqb-true t s same in
     subst (λ (o : Option Session). Over o)
-    (sym (ap (λ i. find (λ (x : Session). x.id == s) (filter (λ (x : Session). not (x.id == i)) old.sessions)) is ∙ gone_same s old.sessions)) tt
-closed_over old t s false apart over = subst (λ (o : Option Session). Over o) (sym (others_stay t s old.sessions apart)) over
+    (sym (ap (λ i. find (λ (x : Session). x.id == s) (filter (λ (x : Session). not (x.id == i)) old.sessions)) is
+    ∙ gone_same s old.sessions)) tt
+closed_over old t s false apart over = subst (λ (o : Option Session). Over o) (sym (others_stay t s old.sessions apart))
+    over
 
 acts_over : (s : ℕ) (old : State) (event : Event) (e : Effect) (mid : State) → Acts old event e mid → OpensNone s event
     → Over (session_of old s) → Deaf (session_of old s) → LeavesOver s e mid
@@ -336,7 +360,8 @@ acts_over s old (fed t bytes) e mid h none over deaf =
     by f.0 f.1 k.session k.touches k.fed f.2 (t == s) refl
   where
     by : (x : Session) → session_of old t ≡ Some x → (y : Session) → Touches old t x e mid y
-        → FedTo x y bytes (to_session t e.queued) → FedStep old t bytes x e mid → (b : Bool) → (t == s) ≡ b → LeavesOver s e mid
+        → FedTo x y bytes (to_session t e.queued) → FedStep old t bytes x e mid → (b : Bool) → (t == s) ≡ b
+        → LeavesOver s e mid
     by x found y touches fed_to step true same =
         let keeps = fed_keeps x y bytes (to_session t e.queued) fed_to (cause_there old t x s same found over) in
         record {
@@ -354,7 +379,8 @@ acts_over s old (stepped t outcome) e mid h none over deaf =
   where
     by : (x : Session) → session_of old t ≡ Some x → x.cause ≡ None → (y : Session) → Touches old t x e mid y
         → FrontStep old t x outcome e mid → (b : Bool) → (t == s) ≡ b → LeavesOver s e mid
-    by x found running y touches step true same = absurd (over_none x.cause (cause_there old t x s same found over) running)
+    by x found running y touches step true same = absurd
+        (over_none x.cause (cause_there old t x s same found over) running)
     by x found running y touches step false apart = record {
       silent = front_quiet s old t x outcome e mid step apart deaf;
       over = over_alike (session_of old s) (session_of mid s) (touches.others s apart) over;
@@ -368,7 +394,8 @@ acts_over s old (took t bytes) e mid h none over deaf =
         → (t == s) ≡ b → LeavesOver s e mid
     by x y touches cause silent true same = record {
       silent = silent;
-      over = over_touched old t x e mid y s same touches (λ k. subst (λ (c : Option EndCause). IsSome c) (sym cause) k) over;
+      over = over_touched old t x e mid y s same touches (λ k. subst (λ (c : Option EndCause). IsSome c) (sym cause) k)
+          over;
     }
     by x y touches cause silent false apart = record {
       silent = silent;
@@ -400,7 +427,8 @@ over_gained : (bytes : Bytes) (o : Option Session) → Over o → Over (option_m
 over_gained bytes None h = tt
 over_gained bytes (Some x) h = h
 
-pub step_over : (s : ℕ) (old : State) (event : Event) (e : Effect) (new : State) → Step old event e new → IsSoundState old
+pub step_over : (s : ℕ) (old : State) (event : Event) (e : Effect) (new : State) → Step old event e new
+    → IsSoundState old
     → OpensNone s event → IsOver old s → (to_session s e.queued ≡ []) × IsOver new s
 step_over s old event e new h sound none over =
     let was = to_over old s over in
@@ -411,7 +439,8 @@ step_over s old event e new h sound none over =
     )
 
 -- a session that is closed isn't open
-pub closed_is_over : (old : State) (s : ℕ) (bytes : Bytes) (e : Effect) (new : State) → Step old (closed s bytes) e new → IsOver new s
+pub closed_is_over : (old : State) (s : ℕ) (bytes : Bytes) (e : Effect) (new : State) → Step old (closed s bytes) e new
+    → IsOver new s
 closed_is_over old s bytes e new h =
     from_over new s
     (subst (λ (o : Option Session). Over o)
@@ -423,7 +452,8 @@ pub over_is_silent : OverIsSilent
 over_is_silent s old sound over [] new w none =
     record { silent = refl; over = subst (λ (st : State). IsOver st s) (sym w) over }
 over_is_silent s old sound over (d ∷ done) new w none =
-    let first = step_over s old d.event d.effect w.0 w.1 sound (All-head (λ (c : Did). OpensNone s c.event) d done none) over in
+    let first = step_over s old d.event d.effect w.0 w.1 sound (All-head (λ (c : Did). OpensNone s c.event) d done none)
+    over in
     let rest = over_is_silent s w.0 (step_sound old d.event d.effect w.0 w.1 sound) first.1 done new w.2
     (All-tail (λ (c : Did). OpensNone s c.event) d done none) in
     record { silent = ap₂ (λ (a b : Bytes). a ++ b) first.0 rest.silent; over = rest.over }
@@ -444,7 +474,8 @@ apart_none s (ended t) rest h = tt
 apart_none s (closed t bytes) rest h = tt
 
 -- none of these has the id
-pub all_apart : (s : ℕ) (done : List Did) → All (λ t. (t == s) ≡ false) (all_opened done) → All (λ d. OpensNone s d.event) done
+pub all_apart : (s : ℕ) (done : List Did) → All (λ t. (t == s) ≡ false) (all_opened done)
+    → All (λ d. OpensNone s d.event) done
 all_apart s [] h = All-nil (λ (d : Did). OpensNone s d.event)
 all_apart s (d ∷ done) h =
     All-cons (λ (c : Did). OpensNone s c.event) d done (apart_none s d.event (all_opened done) h)

@@ -47,7 +47,8 @@ use Rattle.djq_lines.specs.declared.command.Command.TheVariants.{Add, Done}
 use Rattle.djq_lines.specs.declared.held.HeldRow.{HeldRow}
 use Rattle.djq_lines.specs.Grammar.{says as says_command, reading_of}
 use Rattle.djq_lines.specs.Reply.{end_memory}
-use Rattle.djq_machine.specs.State.{Store, State, Session, Cursor, Position, open_at, stale, fresh, session_of, with_session, with_position, ended_by}
+use Rattle.djq_machine.specs.State.{Store, State, Session, Cursor, Position, open_at, stale, fresh}
+use Rattle.djq_machine.specs.State.{session_of, with_session, with_position, ended_by}
 use Rattle.djq_machine.specs.Stale.{outdated, outdater_of, outdated_cursor}
 use Rattle.djq_machine.specs.Changes.{RowsChange, RowsOutcome, tried, changed}
 use Rattle.djq_machine.specs.Watch.{is_watching, Telling, ChangeStep}
@@ -325,7 +326,8 @@ changed_kept old None store same still sound k =
 changed_kept old (Some change) store same still sound k = (
   sound,
   all_mapped (IsSoundSession old.store) (IsSoundSession store)
-      (λ (x : Session). record x { cursors = map (outdated_cursor old.store.queries change.outdater store.seq) x.cursors })
+      (λ (x : Session). record x
+      { cursors = map (outdated_cursor old.store.queries change.outdater store.seq) x.cursors })
       (λ x g. outdated_sound store old.store.queries change.outdater store.seq x
       (another_store old.store store x (same_registered old.store store same) still g)) old.sessions k.1,
 )

@@ -143,15 +143,19 @@ any_pushed : (p : Bytes → Bool) (ws : List Bytes) (w : Bytes) → list_any p w
 any_pushed p [] w h = absurd cc
 any_pushed p (v ∷ vs) w h = step (p v) h (λ k. any_pushed p vs w k)
   where
-    step : (b : Bool) → (b || list_any p vs) ≡ true → (list_any p vs ≡ true → list_any p (vs ++ w ∷ []) ≡ true) → (b || list_any p (vs ++ w ∷ [])) ≡ true
+    step : (b : Bool) → (b || list_any p vs) ≡ true → (list_any p vs ≡ true → list_any p (vs ++ w ∷ []) ≡ true)
+        → (b || list_any p (vs ++ w ∷ [])) ≡ true
     step true k more = refl
     step false k more = more k
 
-any_dropped : (p d : Bytes → Bool) → ((w : Bytes) → d w ≡ true → p w ≡ false) → (ws : List Bytes) → list_any p ws ≡ true → list_any p (drop_first d ws) ≡ true
+any_dropped : (p d : Bytes → Bool) → ((w : Bytes) → d w ≡ true → p w ≡ false) → (ws : List Bytes) → list_any p ws ≡ true
+    → list_any p (drop_first d ws) ≡ true
 any_dropped p d apart [] h = h
 any_dropped p d apart (v ∷ vs) h = step (d v) refl (p v) refl h (λ k. any_dropped p d apart vs k)
   where
-    step : (b : Bool) → d v ≡ b → (c : Bool) → p v ≡ c → (c || list_any p vs) ≡ true → (list_any p vs ≡ true → list_any p (drop_first d vs) ≡ true) → list_any p (cond b vs (v ∷ drop_first d vs)) ≡ true
+    step : (b : Bool) → d v ≡ b → (c : Bool) → p v ≡ c → (c || list_any p vs) ≡ true
+        → (list_any p vs ≡ true → list_any p (drop_first d vs) ≡ true) → list_any p (cond b vs (v ∷ drop_first d vs))
+        ≡ true
     step true e true k h more = let none = apart v e in absurd (cc (none, k))
     step true e false k h more = h
     step false e true k h more = rw k refl
@@ -164,27 +168,42 @@ still_watches q p x h = step (is_watching p x)
     step true = h
     step false = any_pushed (λ w. bytes_eq w q) x.watches p h
 
-others_unwatched : (q p : Bytes) (x : Session) → bytes_eq p q ≡ false → is_watching q x ≡ true → is_watching q (without_watch p x) ≡ true
-others_unwatched q p x apart h = any_dropped (λ w. bytes_eq w q) (λ w. bytes_eq w p) (λ w e. let same : w ≡ p = (bytes_eq-decides w p).0 e in ap (λ v. bytes_eq v q) same ∙ apart) x.watches h
+others_unwatched : (q p : Bytes) (x : Session) → bytes_eq p q ≡ false → is_watching q x ≡ true
+    → is_watching q (without_watch p x) ≡ true
+others_unwatched q p x apart h = any_dropped (λ w. bytes_eq w q) (λ w. bytes_eq w p)
+    (λ w e. let same : w ≡ p = (bytes_eq-decides w p).0 e in ap (λ v. bytes_eq v q) same ∙ apart) x.watches h
 
 -- What stays of a session that watches a registered query.
 record Stays (q : Listed) (s : ℕ) (st : State) : Type 0 where
   registered : listed_of st.store.queries (listed_name q) ≡ Some q
   goes : Goes (listed_name q) st s
 
-module _ (q : Listed) (s : ℕ) (old : State) (registered : listed_of old.store.queries (listed_name q) ≡ Some q) (watches : Watches (listed_name q) (session_of old s)) where
+module _ (q : Listed) (s : ℕ) (old : State) (registered : listed_of old.store.queries (listed_name q) ≡ Some q)
+    (watches : Watches (listed_name q) (session_of old s)) where
   by_none : (new : State) → new ≡ old → Stays q s new
   by_none new e = subst (λ (st : State). Stays q s st) (sym e) (record { registered = registered; goes = inl watches })
 
-  by_session : (t : ℕ) (f : Session → Session) (new : State) → ((x : Session) → (f x).id ≡ x.id) → ((t == s) ≡ true → (x : Session) → is_watching (listed_name q) x ≡ true → is_watching (listed_name q) (f x) ≡ true)
+  by_session : (t : ℕ) (f : Session → Session) (new : State) → ((x : Session) → (f x).id ≡ x.id)
+      → ((t == s) ≡ true → (x : Session) → is_watching (listed_name q) x ≡ true → is_watching (listed_name q) (f x)
+      ≡ true)
       → new ≡ with_session old t f → Stays q s new
   by_session t f new id keeps e =
       subst (λ (st : State). Stays q s st) (sym e)
-      (record { registered = registered; goes = inl (watches_with (listed_name q) old t f s (t == s) refl id keeps watches) })
+      (record {
+        registered = registered;
+        goes = inl
+            (watches_with (listed_name q) old t f s (t == s) refl id keeps watches);
+      })
 
-  by_end : (t : ℕ) (cause : EndCause) (new : State) → IsOpen old t → new ≡ with_session old t (ended_by cause) → Stays q s new
+  by_end : (t : ℕ) (cause : EndCause) (new : State) → IsOpen old t → new ≡ with_session old t (ended_by cause)
+      → Stays q s new
   by_end t cause new there e =
-      subst (λ (st : State). Stays q s st) (sym e) (record { registered = registered; goes = watches_still (listed_name q) old t cause s (t == s) refl there watches })
+      subst (λ (st : State). Stays q s st) (sym e)
+      (record {
+        registered = registered;
+        goes = watches_still (listed_name q) old t cause s (t == s) refl there
+            watches;
+      })
 
   same_queries : (store : Store) → store.queries ≡ old.store.queries → listed_of store.queries (listed_name q) ≡ Some q
   same_queries store e = ap (λ qs. listed_of qs (listed_name q)) e ∙ registered
@@ -196,12 +215,15 @@ module _ (q : Listed) (s : ℕ) (old : State) (registered : listed_of old.store.
   by_change : (t : ℕ) (outcome : RowsOutcome) (store : Store) (reply : Bytes) (e : Effect) (new : State)
       → ChangeStep old t outcome store reply e new → store.queries ≡ old.store.queries → Stays q s new
   by_change t outcome store reply e new h same = record {
-    registered = same_queries new.store (ap (λ (st : Store). st.queries) (change_store old t outcome store reply e new h) ∙ same);
+    registered = same_queries new.store
+        (ap (λ (st : Store). st.queries) (change_store old t outcome store reply e new h) ∙ same);
     goes = subst (λ (st : State). Goes (listed_name q) st s) (sym h.state)
-        (change_keeps (λ (m : Telling). Goes (listed_name q) m.state s) (λ m i text there k. k) ends old t outcome store reply e new h (inl (begins (tried outcome) store)));
+        (change_keeps (λ (m : Telling). Goes (listed_name q) m.state s) (λ m i text there k. k) ends old t outcome store
+        reply e new h (inl (begins (tried outcome) store)));
   }
     where
-      ends : (m : Telling) (i : ℕ) (text : Bytes) (cause : EndCause) → EndsByRun cause → IsOpen m.state i → Goes (listed_name q) m.state s → Goes (listed_name q) (with_session m.state i (ended_by cause)) s
+      ends : (m : Telling) (i : ℕ) (text : Bytes) (cause : EndCause) → EndsByRun cause → IsOpen m.state i
+          → Goes (listed_name q) m.state s → Goes (listed_name q) (with_session m.state i (ended_by cause)) s
       ends m i text cause may there (inl w) = watches_still (listed_name q) m.state i cause s (i == s) refl there w
       ends m i text cause may there (inr over) = inr (over_stays m.state i cause s (i == s) refl there over)
 
@@ -210,17 +232,20 @@ module _ (q : Listed) (s : ℕ) (old : State) (registered : listed_of old.store.
   used =
       let g = some_and (session_of old s) (λ x. is_watching (listed_name q) x ≡ true) watches in
       any_there (uses (listed_name q)) old.sessions g.0 (found_there (λ (x : Session). x.id == s) old.sessions g.0 g.1)
-      (or_true (list_any (λ (c : Cursor). bytes_eq c.query (listed_name q)) (g.0).cursors) (is_watching (listed_name q) g.0) g.2)
+      (or_true (list_any (λ (c : Cursor). bytes_eq c.query (listed_name q)) (g.0).cursors)
+      (is_watching (listed_name q) g.0) g.2)
     where
       or_true : (a b : Bool) → b ≡ true → (a || b) ≡ true
       or_true true b k = refl
       or_true false b k = k
 
-  still_registered : (store : Store) → Stored (in_use old) old.store store → listed_of store.queries (listed_name q) ≡ Some q
+  still_registered : (store : Store) → Stored (in_use old) old.store store → listed_of store.queries (listed_name q)
+      ≡ Some q
   still_registered store (learns_texts h) = same_queries store (ap (λ (st : Store). st.queries) h.store)
   still_registered store (makes_relation name types none e) = same_queries store (ap (λ (st : Store). st.queries) e)
   still_registered store (registers p none may few e) =
-      ap (λ (st : Store). listed_of st.queries (listed_name q)) e ∙ found_in_front old.store.queries p (listed_name q) q registered
+      ap (λ (st : Store). listed_of st.queries (listed_name q)) e
+      ∙ found_in_front old.store.queries p (listed_name q) q registered
   still_registered store (drops_query p unused free e) =
       ap (λ (st : Store). listed_of st.queries (listed_name q)) e
       ∙ dropped_query old.store.queries p (listed_name q) (other (bytes_eq (listed_name q) p) refl) ∙ registered
@@ -234,7 +259,8 @@ module _ (q : Listed) (s : ℕ) (old : State) (registered : listed_of old.store.
 
   -- a session that doesn't unwatch the query
   unwatches_other : (t : ℕ) (p : Bytes) → ((t == s) ≡ true → stops_watching p ≡ stops_watching (listed_name q) → ⊥)
-      → (t == s) ≡ true → (x : Session) → is_watching (listed_name q) x ≡ true → is_watching (listed_name q) (without_watch p x) ≡ true
+      → (t == s) ≡ true → (x : Session) → is_watching (listed_name q) x ≡ true
+      → is_watching (listed_name q) (without_watch p x) ≡ true
   unwatches_other t p not_it here x k = others_unwatched (listed_name q) p x (other (bytes_eq p (listed_name q)) refl) k
     where
       other : (b : Bool) → bytes_eq p (listed_name q) ≡ b → b ≡ false
@@ -243,7 +269,8 @@ module _ (q : Listed) (s : ℕ) (old : State) (registered : listed_of old.store.
           let same : p ≡ listed_name q = (bytes_eq-decides p (listed_name q)).0 e in
           absurd (not_it here (ap (λ n. stops_watching n) same))
 
-  by_turn : (t : ℕ) (x : Session) (turn : Turn) (new : State) → ((t == s) ≡ true → turn ≡ stops_watching (listed_name q) → ⊥)
+  by_turn : (t : ℕ) (x : Session) (turn : Turn) (new : State)
+      → ((t == s) ≡ true → turn ≡ stops_watching (listed_name q) → ⊥)
       → Turned old t x turn new → Stays q s new
   by_turn t x (opens_cursor c p) new not_it h = by_session t (with_cursor c p) new (λ y. refl) (λ b y k. k) h.2
   by_turn t x (moves_cursor c) new not_it h = by_session t _ new (λ y. refl) (λ b y k. k) h.state
@@ -317,37 +344,53 @@ module _ (q : Listed) (s : ℕ) (old : State) (registered : listed_of old.store.
           (command_does old t x l c e new is k)
 
 -- The front of a session's bytes.
-open_behind : (old : State) (t : ℕ) (rest : Bytes) (x : Session) → session_of old t ≡ Some x → IsOpen (with_session old t (behind_line rest)) t
-open_behind old t rest x found = rw (session_changed old t (behind_line rest) (λ y. refl) ∙ ap (λ o. option_map (behind_line rest) o) found) refl
+open_behind : (old : State) (t : ℕ) (rest : Bytes) (x : Session) → session_of old t ≡ Some x
+    → IsOpen (with_session old t (behind_line rest)) t
+open_behind old t rest x found = rw
+    (session_changed old t (behind_line rest) (λ y. refl) ∙ ap (λ o. option_map (behind_line rest) o) found) refl
 
-ends_behind : (q : Listed) (s : ℕ) (old : State) → listed_of old.store.queries (listed_name q) ≡ Some q → Watches (listed_name q) (session_of old s)
-    → (t : ℕ) (rest : Bytes) (x : Session) (cause : EndCause) (new : State) → session_of old t ≡ Some x → new ≡ with_session (with_session old t (behind_line rest)) t (ended_by cause) → Stays q s new
+ends_behind : (q : Listed) (s : ℕ) (old : State) → listed_of old.store.queries (listed_name q) ≡ Some q
+    → Watches (listed_name q) (session_of old s)
+    → (t : ℕ) (rest : Bytes) (x : Session) (cause : EndCause) (new : State) → session_of old t ≡ Some x → new
+    ≡ with_session (with_session old t (behind_line rest)) t (ended_by cause) → Stays q s new
 ends_behind q s old registered watches t rest x cause new found e =
     by_end q s (with_session old t (behind_line rest)) registered
-    (watches_with (listed_name q) old t (behind_line rest) s (t == s) refl (λ y. refl) (λ b y k. k) watches) t cause new (open_behind old t rest x found) e
+    (watches_with (listed_name q) old t (behind_line rest) s (t == s) refl (λ y. refl) (λ b y k. k) watches) t cause new
+    (open_behind old t rest x found) e
 
-by_front : (q : Listed) (s : ℕ) (old : State) → listed_of old.store.queries (listed_name q) ≡ Some q → Watches (listed_name q) (session_of old s)
-    → (t : ℕ) (x : Session) (outcome : LineOutcome) (e : Effect) (new : State) → session_of old t ≡ Some x → KeepsWatch q s (stepped t outcome) → FrontStep old t x outcome e new → Stays q s new
-by_front q s old registered watches t x long e new found keeps h = by_end q s old registered watches t Long new (rw found refl) h.1.1
-by_front q s old registered watches t x (blank l) e new found keeps h = by_session q s old registered watches t (behind_line h.1.rest) new (λ y. refl) (λ b y k. k) h.1.then.1
-by_front q s old registered watches t x (slow l) e new found keeps h = ends_behind q s old registered watches t h.2.rest x Slow new found h.2.then.1
-by_front q s old registered watches t x (no_room l) e new found keeps h = ends_behind q s old registered watches t h.2.rest x Memory new found h.2.then.1
+by_front : (q : Listed) (s : ℕ) (old : State) → listed_of old.store.queries (listed_name q) ≡ Some q
+    → Watches (listed_name q) (session_of old s)
+    → (t : ℕ) (x : Session) (outcome : LineOutcome) (e : Effect) (new : State) → session_of old t ≡ Some x
+    → KeepsWatch q s (stepped t outcome) → FrontStep old t x outcome e new → Stays q s new
+by_front q s old registered watches t x long e new found keeps h = by_end q s old registered watches t Long new
+    (rw found refl) h.1.1
+by_front q s old registered watches t x (blank l) e new found keeps h = by_session q s old registered watches t
+    (behind_line h.1.rest) new (λ y. refl) (λ b y k. k) h.1.then.1
+by_front q s old registered watches t x (slow l) e new found keeps h = ends_behind q s old registered watches t h.2.rest
+    x Slow new found h.2.then.1
+by_front q s old registered watches t x (no_room l) e new found keeps h = ends_behind q s old registered watches t
+    h.2.rest x Memory new found h.2.then.1
 by_front q s old registered watches t x (run l) e new found keeps h =
     by_reading q s (with_session old t (behind_line h.2.rest)) registered
     (watches_with (listed_name q) old t (behind_line h.2.rest) s (t == s) refl (λ y. refl) (λ b y k. k) watches)
     t (behind_line h.2.rest x) l e new (open_behind old t h.2.rest x found) keeps h.2.then
 
 -- The events.
-find_front : (p : Session → Bool) (xs : List Session) (y x : Session) → find p xs ≡ Some x → find p (xs ++ y ∷ []) ≡ Some x
+find_front : (p : Session → Bool) (xs : List Session) (y x : Session) → find p xs ≡ Some x → find p (xs ++ y ∷ [])
+    ≡ Some x
 find_front p [] y x h = absurd cc
 find_front p (z ∷ zs) y x h = step (p z) h (λ k. find_front p zs y x k)
   where
-    step : (b : Bool) → cond b (Some z) (find p zs) ≡ Some x → (find p zs ≡ Some x → find p (zs ++ y ∷ []) ≡ Some x) → cond b (Some z) (find p (zs ++ y ∷ [])) ≡ Some x
+    step : (b : Bool) → cond b (Some z) (find p zs) ≡ Some x → (find p zs ≡ Some x → find p (zs ++ y ∷ []) ≡ Some x)
+        → cond b (Some z) (find p (zs ++ y ∷ [])) ≡ Some x
     step true k more = k
     step false k more = more k
 
-by_open : (q : Listed) (s : ℕ) (old : State) → listed_of old.store.queries (listed_name q) ≡ Some q → Watches (listed_name q) (session_of old s)
-    → (t : ℕ) (new : State) → ((length old.sessions < SESSIONS) × (new ≡ record old { sessions = old.sessions ++ fresh t ∷ [] })) ⊎ (new ≡ old) → Stays q s new
+by_open : (q : Listed) (s : ℕ) (old : State) → listed_of old.store.queries (listed_name q) ≡ Some q
+    → Watches (listed_name q) (session_of old s)
+    → (t : ℕ) (new : State)
+    → ((length old.sessions < SESSIONS) × (new ≡ record old { sessions = old.sessions ++ fresh t ∷ [] })) ⊎
+    (new ≡ old) → Stays q s new
 by_open q s old registered watches t new (inr h) = by_none q s old registered watches new h
 by_open q s old registered watches t new (inl h) =
     let g = some_and (session_of old s) (λ x. is_watching (listed_name q) x ≡ true) watches in
@@ -355,25 +398,33 @@ by_open q s old registered watches t new (inl h) =
     subst (λ (st : State). Stays q s st) (sym h.1)
     (record {
       registered = registered;
-      goes = inl (and_some (session_of opened s) (λ x. is_watching (listed_name q) x ≡ true) g.0 (find_front (λ (x : Session). x.id == s) old.sessions (fresh t) g.0 g.1) g.2);
+      goes = inl (and_some (session_of opened s) (λ x. is_watching (listed_name q) x ≡ true) g.0
+          (find_front (λ (x : Session). x.id == s) old.sessions (fresh t) g.0 g.1) g.2);
     })
 
-by_feeding : (q : Listed) (s : ℕ) (old : State) → listed_of old.store.queries (listed_name q) ≡ Some q → Watches (listed_name q) (session_of old s)
+by_feeding : (q : Listed) (s : ℕ) (old : State) → listed_of old.store.queries (listed_name q) ≡ Some q
+    → Watches (listed_name q) (session_of old s)
     → (t : ℕ) (bytes : Bytes) (e : Effect) (mid : State) (c : Option EndCause) → IsOpen old t
     → MatchOption c
-    (((e ≡ nothing) × (mid ≡ with_session old t (λ y. record y { held = y.held ++ bytes }))) ⊎ EndsWith end_memory Memory old t e mid)
+    (((e ≡ nothing) × (mid ≡ with_session old t (λ y. record y { held = y.held ++ bytes }))) ⊎ EndsWith end_memory
+    Memory old t e mid)
     (λ _. (e ≡ nothing) × (mid ≡ old))
     → Stays q s mid
-by_feeding q s old registered watches t bytes e mid None there (inl h) = by_session q s old registered watches t (λ y. record y { held = y.held ++ bytes }) mid (λ x. refl) (λ b x k. k) h.1
-by_feeding q s old registered watches t bytes e mid None there (inr h) = by_end q s old registered watches t Memory mid there h.1
+by_feeding q s old registered watches t bytes e mid None there (inl h) = by_session q s old registered watches t
+    (λ y. record y { held = y.held ++ bytes }) mid (λ x. refl) (λ b x k. k) h.1
+by_feeding q s old registered watches t bytes e mid None there (inr h) = by_end q s old registered watches t Memory mid
+    there h.1
 by_feeding q s old registered watches t bytes e mid (Some c) there h = by_none q s old registered watches mid h.1
 
-by_input : (q : Listed) (s : ℕ) (old : State) → listed_of old.store.queries (listed_name q) ≡ Some q → Watches (listed_name q) (session_of old s)
-    → (t : ℕ) (mid : State) (P Q R : Type 0) (c : Option EndCause) → IsOpen old t → MatchOption c (P × Q × (mid ≡ with_session old t (ended_by Input))) (λ _. R × (mid ≡ old)) → Stays q s mid
+by_input : (q : Listed) (s : ℕ) (old : State) → listed_of old.store.queries (listed_name q) ≡ Some q
+    → Watches (listed_name q) (session_of old s)
+    → (t : ℕ) (mid : State) (P Q R : Type 0) (c : Option EndCause) → IsOpen old t
+    → MatchOption c (P × Q × (mid ≡ with_session old t (ended_by Input))) (λ _. R × (mid ≡ old)) → Stays q s mid
 by_input q s old registered watches t mid P Q R None there h = by_end q s old registered watches t Input mid there h.2
 by_input q s old registered watches t mid P Q R (Some c) there h = by_none q s old registered watches mid h.1
 
-acts_stay : (q : Listed) (s : ℕ) (old : State) → listed_of old.store.queries (listed_name q) ≡ Some q → Watches (listed_name q) (session_of old s)
+acts_stay : (q : Listed) (s : ℕ) (old : State) → listed_of old.store.queries (listed_name q) ≡ Some q
+    → Watches (listed_name q) (session_of old s)
     → (event : Event) (e : Effect) (mid : State) → KeepsWatch q s event → Acts old event e mid → Stays q s mid
 acts_stay q s old registered watches (opened t) e mid keeps h = by_open q s old registered watches t mid h.2
 acts_stay q s old registered watches (fed t bytes) e mid keeps h =
@@ -390,35 +441,45 @@ acts_stay q s old registered watches (ended t) e mid keeps h =
     by_input q s old registered watches t mid _ _ _ (f.0).cause (rw f.1 refl) f.2
 acts_stay q s old registered watches (closed t bytes) e mid keeps h =
     subst (λ (st : State). Stays q s st) (sym h.2)
-    (record { registered = registered; goes = inl (subst (λ (o : Option Session). Watches (listed_name q) o) (sym (others_stay t s old.sessions keeps)) watches) })
+    (record {
+      registered = registered;
+      goes = inl
+          (subst (λ (o : Option Session). Watches (listed_name q) o)
+          (sym (others_stay t s old.sessions keeps)) watches);
+    })
 
 -- A step behind which the session goes on.
 running : (st : State) (s : ℕ) → GoesOn st s → cause_of st s ≡ None
 running st s h = let g = some_and (session_of st s) (λ x. x.cause ≡ None) h in ap cause_in g.1 ∙ g.2
 
-step_stays : (q : Listed) (s : ℕ) (old : State) (event : Event) (e : Effect) (new : State) → Step old event e new → KeepsWatch q s event → IsWatcher q s old → cause_of new s ≡ None → IsWatcher q s new
+step_stays : (q : Listed) (s : ℕ) (old : State) (event : Event) (e : Effect) (new : State) → Step old event e new
+    → KeepsWatch q s event → IsWatcher q s old → cause_of new s ≡ None → IsWatcher q s new
 step_stays q s old event e new h keeps before goes_on = by acted.goes
   where
     watching : Watches (listed_name q) (session_of old s)
     watching =
-        let f = some_and (session_of old s) (λ x. (x.cause ≡ None) × (is_watching (listed_name q) x ≡ true)) before.watches in
+        let f = some_and (session_of old s) (λ x. (x.cause ≡ None) × (is_watching (listed_name q) x ≡ true))
+        before.watches in
         and_some (session_of old s) (λ x. is_watching (listed_name q) x ≡ true) f.0 f.1 f.2.1
 
     acted : Stays q s h.mid
     acted = acts_stay q s old before.registered watching event e h.mid keeps h.acts
 
     same : new.store.queries ≡ h.mid.store.queries
-    same = ap (λ (st : State). st.store.queries) h.queued ∙ ap (λ (st : Store). st.queries) (queued_store (with_relations h.mid h.relations) e.queued)
+    same = ap (λ (st : State). st.store.queries) h.queued
+        ∙ ap (λ (st : Store). st.queries) (queued_store (with_relations h.mid h.relations) e.queued)
 
     by : Goes (listed_name q) h.mid s → IsWatcher q s new
     by (inr over) = absurd (over (sym (stepped_cause old event e new h s) ∙ goes_on))
     by (inl w) =
         let g = some_and (session_of h.mid s) (λ x. is_watching (listed_name q) x ≡ true) w in
         let bytes = to_session s e.queued in
-        let now : session_of new s ≡ Some (gaining bytes g.0) = stepped_session old event e new h s ∙ ap (λ o. option_map (gaining bytes) o) g.1 in
+        let now : session_of new s ≡ Some (gaining bytes g.0) = stepped_session old event e new h s
+        ∙ ap (λ o. option_map (gaining bytes) o) g.1 in
         record {
           registered = ap (λ qs. listed_of qs (listed_name q)) same ∙ acted.registered;
-          watches = and_some (session_of new s) (λ x. (x.cause ≡ None) × (is_watching (listed_name q) x ≡ true)) (gaining bytes g.0) now (sym (ap cause_in now) ∙ goes_on, g.2);
+          watches = and_some (session_of new s) (λ x. (x.cause ≡ None) × (is_watching (listed_name q) x ≡ true))
+              (gaining bytes g.0) now (sym (ap cause_in now) ∙ goes_on, g.2);
         }
 
 -- A session that has ended doesn't go on again.
@@ -427,32 +488,40 @@ kept_none a b (inl e) none = sym e ∙ none
 kept_none a None (inr h) none = absurd h
 kept_none a (Some c) (inr h) none = absurd cc
 
-other_none : (old : State) (t : ℕ) (x : Session) (e : Effect) (mid : State) (y : Session) (s : ℕ) → (t == s) ≡ false → Touches old t x e mid y → cause_of mid s ≡ None → cause_of old s ≡ None
-other_none old t x e mid y s apart h none = kept_none (cause_of old s) (cause_of mid s) (alike_cause AnyCause (session_of old s) (session_of mid s) (h.others s apart)) none
+other_none : (old : State) (t : ℕ) (x : Session) (e : Effect) (mid : State) (y : Session) (s : ℕ) → (t == s) ≡ false
+    → Touches old t x e mid y → cause_of mid s ≡ None → cause_of old s ≡ None
+other_none old t x e mid y s apart h none = kept_none (cause_of old s) (cause_of mid s)
+    (alike_cause AnyCause (session_of old s) (session_of mid s) (h.others s apart)) none
 
-fed_none : (old new : State) (s : ℕ) (bytes : Bytes) → Comes old new s bytes → cause_of old s ≡ None ⊎ ((c : EndCause) × (cause_of new s ≡ Some c))
+fed_none : (old new : State) (s : ℕ) (bytes : Bytes) → Comes old new s bytes → cause_of old s
+    ≡ None ⊎ ((c : EndCause) × (cause_of new s ≡ Some c))
 fed_none old new s bytes (is_held there before now held pending) = inl before
 fed_none old new s bytes (out_of_memory there before now held pending) = inl before
 fed_none old new s bytes (is_dropped there c before now held pending) = inr (c, now)
 
-ended_none : (old new : State) (s : ℕ) → Ends old new s → cause_of old s ≡ None ⊎ ((c : EndCause) × (cause_of new s ≡ Some c))
+ended_none : (old new : State) (s : ℕ) → Ends old new s → cause_of old s
+    ≡ None ⊎ ((c : EndCause) × (cause_of new s ≡ Some c))
 ended_none old new s (input_ends there before now held dry pending) = inl before
 ended_none old new s (had_ended there c before now held pending) = inr (c, now)
 
-or_none : (old new : State) (s : ℕ) → cause_of old s ≡ None ⊎ ((c : EndCause) × (cause_of new s ≡ Some c)) → cause_of new s ≡ None → cause_of old s ≡ None
+or_none : (old new : State) (s : ℕ) → cause_of old s ≡ None ⊎ ((c : EndCause) × (cause_of new s ≡ Some c))
+    → cause_of new s ≡ None → cause_of old s ≡ None
 or_none old new s (inl h) none = h
 or_none old new s (inr (c, h)) none = absurd (cc (h, none))
 
 -- by an event of the session, or of another one
-step_none : (s : ℕ) (old : State) (event : Event) (e : Effect) (new : State) → Step old event e new → Spares event s → IsOpen old s → cause_of new s ≡ None → cause_of old s ≡ None
+step_none : (s : ℕ) (old : State) (event : Event) (e : Effect) (new : State) → Step old event e new → Spares event s
+    → IsOpen old s → cause_of new s ≡ None → cause_of old s ≡ None
 step_none s old (opened t) e new h k there none =
     let f = some_of (session_of old s) there in
     at h.acts.2 f.0 f.1 (sym (stepped_cause old (opened t) e new h s) ∙ none)
   where
-    at : ((length old.sessions < SESSIONS) × (h.mid ≡ record old { sessions = old.sessions ++ fresh t ∷ [] })) ⊎ (h.mid ≡ old) → (x : Session) → session_of old s ≡ Some x → cause_of h.mid s ≡ None → cause_of old s ≡ None
+    at : ((length old.sessions < SESSIONS) × (h.mid ≡ record old { sessions = old.sessions ++ fresh t ∷ [] })) ⊎
+        (h.mid ≡ old) → (x : Session) → session_of old s ≡ Some x → cause_of h.mid s ≡ None → cause_of old s ≡ None
     at (inr same) x found k = sym (ap (λ st. cause_of st s) same) ∙ k
     at (inl more) x found k =
-        ap cause_in found ∙ sym (ap cause_in (find_front (λ (y : Session). y.id == s) old.sessions (fresh t) x found)) ∙ sym (ap (λ st. cause_of st s) more.1) ∙ k
+        ap cause_in found ∙ sym (ap cause_in (find_front (λ (y : Session). y.id == s) old.sessions (fresh t) x found))
+        ∙ sym (ap (λ st. cause_of st s) more.1) ∙ k
 step_none s old (fed t bytes) e new h k there none = by (t == s) refl
   where
     by : (b : Bool) → (t == s) ≡ b → cause_of old s ≡ None
@@ -462,7 +531,8 @@ step_none s old (fed t bytes) e new h k there none = by (t == s) refl
     by false apart =
         let f = some_and (session_of old t) (λ x. FedStep old t bytes x e h.mid) h.acts in
         let a = is_fed old t bytes f.0 e h.mid f.1 f.2 in
-        other_none old t f.0 e h.mid a.session s apart a.touches (sym (stepped_cause old (fed t bytes) e new h s) ∙ none)
+        other_none old t f.0 e h.mid a.session s apart a.touches
+        (sym (stepped_cause old (fed t bytes) e new h s) ∙ none)
 step_none s old (stepped t outcome) e new h k there none = by (t == s) refl
   where
     f : (x : Session) × (session_of old t ≡ Some x) × ((x.cause ≡ None) × FrontStep old t x outcome e h.mid)
@@ -472,7 +542,8 @@ step_none s old (stepped t outcome) e new h k there none = by (t == s) refl
     by true same = ap (λ i. cause_of old i) (sym (eqb-true t s same)) ∙ ap cause_in f.1 ∙ f.2.0
     by false apart =
         let a = is_stepped old t f.0 outcome e h.mid f.1 f.2.0 f.2.1 in
-        other_none old t f.0 e h.mid a.session s apart a.touches (sym (stepped_cause old (stepped t outcome) e new h s) ∙ none)
+        other_none old t f.0 e h.mid a.session s apart a.touches
+        (sym (stepped_cause old (stepped t outcome) e new h s) ∙ none)
 step_none s old (took t bytes) e new h k there none = by (t == s) refl
   where
     by : (b : Bool) → (t == s) ≡ b → cause_of old s ≡ None
@@ -482,7 +553,8 @@ step_none s old (took t bytes) e new h k there none = by (t == s) refl
     by false apart =
         let f = some_and (session_of old t) (λ x. TookStep old t bytes x e h.mid) h.acts in
         let a = is_taken old t bytes f.0 e h.mid f.1 f.2 in
-        other_none old t f.0 e h.mid a.session s apart a.touches (sym (stepped_cause old (took t bytes) e new h s) ∙ none)
+        other_none old t f.0 e h.mid a.session s apart a.touches
+        (sym (stepped_cause old (took t bytes) e new h s) ∙ none)
 step_none s old (ended t) e new h k there none = by (t == s) refl
   where
     by : (b : Bool) → (t == s) ≡ b → cause_of old s ≡ None
@@ -494,7 +566,8 @@ step_none s old (ended t) e new h k there none = by (t == s) refl
         let a = is_ended old t f.0 e h.mid f.1 f.2 in
         other_none old t f.0 e h.mid a.session s apart a.touches (sym (stepped_cause old (ended t) e new h s) ∙ none)
 step_none s old (closed t bytes) e new h k there none =
-    sym (ap cause_in (others_stay t s old.sessions k)) ∙ sym (ap (λ st. cause_of st s) h.acts.2) ∙ sym (stepped_cause old (closed t bytes) e new h s) ∙ none
+    sym (ap cause_in (others_stay t s old.sessions k)) ∙ sym (ap (λ st. cause_of st s) h.acts.2)
+    ∙ sym (stepped_cause old (closed t bytes) e new h s) ∙ none
 
 spares : (q : Listed) (s : ℕ) (event : Event) → KeepsWatch q s event → Spares event s
 spares q s (opened t) k = tt
@@ -504,24 +577,29 @@ spares q s (took t bytes) k = tt
 spares q s (ended t) k = tt
 spares q s (closed t bytes) k = k
 
-run_none : (q : Listed) (s : ℕ) (old : State) (done : List Did) (new : State) → Run old done new → All (λ d. KeepsWatch q s d.event) done → IsOpen old s → cause_of new s ≡ None → cause_of old s ≡ None
+run_none : (q : Listed) (s : ℕ) (old : State) (done : List Did) (new : State) → Run old done new
+    → All (λ d. KeepsWatch q s d.event) done → IsOpen old s → cause_of new s ≡ None → cause_of old s ≡ None
 run_none q s old [] new w k there none = ap (λ st. cause_of st s) (sym w) ∙ none
 run_none q s old (d ∷ done) new w k there none =
     let spared = spares q s d.event (All-head (λ (x : Did). KeepsWatch q s x.event) d done k) in
     step_none s old d.event d.effect w.0 w.1 spared there
-    (run_none q s w.0 done new w.2 (All-tail (λ (x : Did). KeepsWatch q s x.event) d done k) (step_open old d.event d.effect w.0 w.1 s spared there) none)
+    (run_none q s w.0 done new w.2 (All-tail (λ (x : Did). KeepsWatch q s x.event) d done k)
+    (step_open old d.event d.effect w.0 w.1 s spared there) none)
 
 watcher_open : (q : Listed) (s : ℕ) (st : State) → IsWatcher q s st → IsOpen st s
-watcher_open q s st h = let f = some_and (session_of st s) (λ x. (x.cause ≡ None) × (is_watching (listed_name q) x ≡ true)) h.watches in rw f.1 refl
+watcher_open q s st h = let f = some_and (session_of st s)
+    (λ x. (x.cause ≡ None) × (is_watching (listed_name q) x ≡ true)) h.watches in rw f.1 refl
 
 pub watchers_stay : WatchersStay
 watchers_stay q s old done new w k before goes_on = along old done w k before
   where
-    along : (st : State) (ds : List Did) → Run st ds new → All (λ d. KeepsWatch q s d.event) ds → IsWatcher q s st → WatchesAlong q s st ds new
+    along : (st : State) (ds : List Did) → Run st ds new → All (λ d. KeepsWatch q s d.event) ds → IsWatcher q s st
+        → WatchesAlong q s st ds new
     along st [] w k before = w
     along st (d ∷ ds) w k before =
         let first = All-head (λ (x : Did). KeepsWatch q s x.event) d ds k in
         let later = All-tail (λ (x : Did). KeepsWatch q s x.event) d ds k in
         let there = step_open st d.event d.effect w.0 w.1 s (spares q s d.event first) (watcher_open q s st before) in
-        let behind = step_stays q s st d.event d.effect w.0 w.1 first before (run_none q s w.0 ds new w.2 later there (running new s goes_on)) in
+        let behind = step_stays q s st d.event d.effect w.0 w.1 first before
+        (run_none q s w.0 ds new w.2 later there (running new s goes_on)) in
         (w.0, record { before = before; step = w.1; behind = behind }, along w.0 ds w.2 later behind)

@@ -206,7 +206,8 @@ pub held_more : (st : Store) (held : List HeldRow) (more : HeldRow)
     → IsSoundBatch st (held ++ more ∷ [])
 held_more st held more none said h =
     let both = none_both (row_refusals st more.relation more.row) ((nat_le HELD (length held), Limit) ∷ []) none in
-    let below : length held < HELD = leb-false HELD (length held) (none_first (nat_le HELD (length held)) Limit None both.1) in
+    let below : length held < HELD = leb-false HELD (length held)
+    (none_first (nat_le HELD (length held)) Limit None both.1) in
     let long = length-append held (more ∷ []) in record {
       few = omega (arith, below, long);
       suit = All-push (λ (k : HeldRow). suit_refusal st k.relation k.row ≡ None) held more h.suit both.0;

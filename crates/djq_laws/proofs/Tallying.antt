@@ -90,7 +90,8 @@ module _ (st : Store) (h : HeldRow) (found : is_none (relation_of st.relations h
           (changed_copies has h.row more there)
       by false absent =
           let one : more ≡ 1 = ap (λ (n : ℕ). n + 1) (no_copies has h.row absent) in
-          its_copies st.relations h.relation h.row (with_row has h.row) found more (came_copies has h.row absent ∙ sym one)
+          its_copies st.relations h.relation h.row (with_row has h.row) found more
+          (came_copies has h.row absent ∙ sym one)
 
   others_stay : (n : Bytes) (t : Tuple) → (bytes_eq n h.relation && tuple_eq h.row t) ≡ false
       → copies_of (with_held st h) n t ≡ copies_of st n t

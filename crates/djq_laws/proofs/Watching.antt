@@ -1,4 +1,5 @@
--- What a step tells a session that watches a query: how its answers changed, where it changes the rows of a relation that the query reads.
+-- What a step tells a session that watches a query: how its answers changed, where it changes the rows of a relation
+-- that the query reads.
 use Rattle.std.specs.Prelude.{
   ℕ,
   List,
@@ -42,7 +43,8 @@ use Rattle.djq_machine.specs.Changes.{RowsChange, RowsOutcome, accepted, out_of_
 use Rattle.djq_machine.specs.Watch.{is_watching, Telling, ChangeStep}
 use Rattle.djq_machine.specs.Effect.{Effect, nothing, EndsWith, queue_all, queue}
 use Rattle.djq_machine.specs.LineStep.{LineOutcome, long, blank, slow, no_room, run, ReadStep, FrontStep, behind_line}
-use Rattle.djq_machine.specs.Step.{Event, opened, fed, stepped, took, ended, closed, FedStep, TookStep, EndedStep, Acts, with_relations, Step}
+use Rattle.djq_machine.specs.Step.{Event, opened, fed, stepped, took, ended, closed, FedStep}
+use Rattle.djq_machine.specs.Step.{TookStep, EndedStep, Acts, with_relations, Step}
 use Rattle.djq_machine.specs.Call.{cause_of, cause_in}
 use Rattle.djq_laws.specs.Watched.{IsWatcher, batch_in, line_outdater, event_changes}
 use Rattle.djq_laws.specs.Form.{
@@ -83,8 +85,10 @@ use Rattle.djq_laws.proofs.Telling.{Watches, watches_with, watches_begun, IsTheD
 
 -- Either the answers stay, and no change was accepted but of other relations; or one was, and its delta is told.
 pub data StepTells (q : Listed) (s : ℕ) (old new : Store) (queued : List (ℕ × Bytes)) (changes : Bool) : Type 0 where
-  is_quiet : SameAnswers old.relations new.relations q → (new.seq ≡ old.seq) ⊎ ((new.seq ≡ old.seq + 1) × (changes ≡ false)) → StepTells q s old new queued changes
-  is_told : IsTheDelta q s old.relations new.relations new.seq queued → new.seq ≡ old.seq + 1 → changes ≡ true → StepTells q s old new queued changes
+  is_quiet : SameAnswers old.relations new.relations q
+      → (new.seq ≡ old.seq) ⊎ ((new.seq ≡ old.seq + 1) × (changes ≡ false)) → StepTells q s old new queued changes
+  is_told : IsTheDelta q s old.relations new.relations new.seq queued → new.seq ≡ old.seq + 1 → changes ≡ true
+      → StepTells q s old new queued changes
 
 replied_store : (s : ℕ) (mid new : State) → Replied s mid new → new.store ≡ mid.store
 replied_store s mid new (is_whole after) = ap (λ (st : State). st.store) after
@@ -107,7 +111,9 @@ outdated_alike old batch l c q = refl
 -- nothing of it changes
 module _ (q : Listed) (s : ℕ) (queued : List (ℕ × Bytes)) (changes : Bool) where
   stays : (old new : Store) → new.relations ≡ old.relations → new.seq ≡ old.seq → StepTells q s old new queued changes
-  stays old new relations seq = is_quiet (subst (λ (rs : List Relation). SameAnswers old.relations rs q) (sym relations) (same_itself old.relations q)) (inl seq)
+  stays old new relations seq = is_quiet
+      (subst (λ (rs : List Relation). SameAnswers old.relations rs q) (sym relations) (same_itself old.relations q))
+      (inl seq)
 
   same_store : (old new : State) → new.store ≡ old.store → StepTells q s old.store new.store queued changes
   same_store old new e = stays old.store new.store (ap (λ (st : Store). st.relations) e) (ap (λ (st : Store). st.seq) e)
@@ -115,7 +121,8 @@ module _ (q : Listed) (s : ℕ) (queued : List (ℕ × Bytes)) (changes : Bool) 
   same_state : (old new : State) → new ≡ old → StepTells q s old.store new.store queued changes
   same_state old new e = same_store old new (ap (λ (st : State). st.store) e)
 
-  one_session : (old new : State) (t : ℕ) (f : Session → Session) → new ≡ with_session old t f → StepTells q s old.store new.store queued changes
+  one_session : (old new : State) (t : ℕ) (f : Session → Session) → new ≡ with_session old t f
+      → StepTells q s old.store new.store queued changes
   one_session old new t f e = same_store old new (ap (λ (st : State). st.store) e)
 
   learned_stays : (old new : Store) → LearnsTexts old new → StepTells q s old new queued changes
@@ -127,7 +134,8 @@ module _ (q : Listed) (s : ℕ) (queued : List (ℕ × Bytes)) (changes : Bool) 
   stored_stays used old new (learns_texts h) = learned_stays old new h
   stored_stays used old new (makes_relation name types none e) =
       is_quiet
-      (subst (λ (rs : List Relation). SameAnswers old.relations rs q) (sym (ap (λ (st : Store). st.relations) e)) (new_relation_same old.relations name types q))
+      (subst (λ (rs : List Relation). SameAnswers old.relations rs q) (sym (ap (λ (st : Store). st.relations) e))
+      (new_relation_same old.relations name types q))
       (inl (ap (λ (st : Store). st.seq) e))
   stored_stays used old new (registers p none may few e) =
       stays old new (ap (λ (st : Store). st.relations) e) (ap (λ (st : Store). st.seq) e)
@@ -141,17 +149,23 @@ module _ (q : Listed) (s : ℕ) (queued : List (ℕ × Bytes)) (changes : Bool) 
   turn_stays old t x turn new (is_refused r) = same_store old new (replied_store t old new r)
 
 -- The store behind a change is the one that the change left.
-pub change_store : (old : State) (t : ℕ) (outcome : RowsOutcome) (store : Store) (reply : Bytes) (e : Effect) (new : State)
+pub change_store : (old : State) (t : ℕ) (outcome : RowsOutcome) (store : Store) (reply : Bytes) (e : Effect)
+    (new : State)
     → ChangeStep old t outcome store reply e new → new.store ≡ store
 change_store old t outcome store reply e new h =
     ap (λ (st : State). st.store) h.state
-    ∙ change_keeps (λ (m : Telling). m.state.store ≡ store) (λ m i text there k. k) (λ m i text cause may there k. k) old t outcome store reply e new h refl
+    ∙ change_keeps (λ (m : Telling). m.state.store ≡ store) (λ m i text there k. k) (λ m i text cause may there k. k)
+    old t outcome store reply e new h refl
 
 -- of one that goes on and watches
-module _ (q : Listed) (s : ℕ) (old : State) (registered : listed_of old.store.queries (listed_name q) ≡ Some q) (watches : Watches (listed_name q) (session_of old s)) where
-  accepted_tells : (t : ℕ) (change : RowsChange) (texts : List Bytes) (store : Store) (reply : Bytes) (e : Effect) (new : State) → cause_of new s ≡ None
-      → Spares old.store.relations change → store ≡ record old.store { relations = change.after; texts = texts; seq = old.store.seq + 1 }
-      → ChangeStep old t (accepted change) store reply e new → StepTells q s old.store store e.queued (is_outdated change q)
+module _ (q : Listed) (s : ℕ) (old : State) (registered : listed_of old.store.queries (listed_name q) ≡ Some q)
+    (watches : Watches (listed_name q) (session_of old s)) where
+  accepted_tells : (t : ℕ) (change : RowsChange) (texts : List Bytes) (store : Store) (reply : Bytes) (e : Effect)
+      (new : State) → cause_of new s ≡ None
+      → Spares old.store.relations change → store
+      ≡ record old.store { relations = change.after; texts = texts; seq = old.store.seq + 1 }
+      → ChangeStep old t (accepted change) store reply e new
+      → StepTells q s old.store store e.queued (is_outdated change q)
   accepted_tells t change texts store reply e new running spares after h = step (change.outdater q) refl
     where
       relations : store.relations ≡ change.after
@@ -159,8 +173,10 @@ module _ (q : Listed) (s : ℕ) (old : State) (registered : listed_of old.store.
 
       step : (o : Option Bytes) → change.outdater q ≡ o → StepTells q s old.store store e.queued (is_some o)
       step (Some relation) k =
-          is_told (subst (λ (rs : List Relation). IsTheDelta q s old.store.relations rs store.seq e.queued) (sym relations)
-          (change_is_told q s old t change store reply e new h (ap is_some k) registered watches running)) (ap (λ (st : Store). st.seq) after) refl
+          is_told (subst (λ (rs : List Relation). IsTheDelta q s old.store.relations rs store.seq e.queued)
+          (sym relations)
+          (change_is_told q s old t change store reply e new h (ap is_some k) registered watches running))
+          (ap (λ (st : Store). st.seq) after) refl
       step None k =
           is_quiet (subst (λ (rs : List Relation). SameAnswers old.store.relations rs q) (sym relations) (spares q k))
           (inr (ap (λ (st : Store). st.seq) after, refl))
@@ -177,7 +193,8 @@ module _ (q : Listed) (s : ℕ) (old : State) (registered : listed_of old.store.
   made_tells c t unchanged store reply e new running m h =
       is_quiet (kept_answers c old.store store q m) (inl (ap (λ (st : Store). st.seq) m.store))
 
-module _ (q : Listed) (s : ℕ) (old : State) (registered : listed_of old.store.queries (listed_name q) ≡ Some q) (watches : Watches (listed_name q) (session_of old s)) where
+module _ (q : Listed) (s : ℕ) (old : State) (registered : listed_of old.store.queries (listed_name q) ≡ Some q)
+    (watches : Watches (listed_name q) (session_of old s)) where
   rows_tell : (c : RowCommand) (t : ℕ) (e : Effect) (new : State) → cause_of new s ≡ None → Changed old t c e new
       → StepTells q s old.store new.store e.queued (is_some (outdater_by old.store c q))
   rows_tell c t e new running h =
@@ -213,7 +230,8 @@ module _ (q : Listed) (s : ℕ) (old : State) (registered : listed_of old.store.
           (outdated_alike old.store x.batch l c q ∙ ap (λ (w : Reading). line_outdater old.store x.batch w q) (sym is))
           (form_tells (form_of x.batch l c) t x e new running (command_does old t x l c e new is k))
 
-front_tells : (q : Listed) (s : ℕ) (old : State) → listed_of old.store.queries (listed_name q) ≡ Some q → Watches (listed_name q) (session_of old s)
+front_tells : (q : Listed) (s : ℕ) (old : State) → listed_of old.store.queries (listed_name q) ≡ Some q
+    → Watches (listed_name q) (session_of old s)
     → (t : ℕ) (x : Session) (outcome : LineOutcome) (e : Effect) (new : State) → session_of old t ≡ Some x
     → cause_of new s ≡ None → FrontStep old t x outcome e new
     → StepTells q s old.store new.store e.queued (event_changes q old (stepped t outcome))
@@ -226,7 +244,8 @@ front_tells q s old registered watches t x (no_room l) e new found running h =
     same_store q s e.queued false old new (ap (λ (st : State). st.store) h.2.then.1)
 front_tells q s old registered watches t x (run l) e new found running h =
     let taken = with_session old t (behind_line h.2.rest) in
-    subst (λ (o : Option Session). StepTells q s old.store new.store e.queued (is_some (line_outdater old.store (batch_in o) (reading_of l) q))) (sym found)
+    subst (λ (o : Option Session). StepTells q s old.store new.store e.queued
+    (is_some (line_outdater old.store (batch_in o) (reading_of l) q))) (sym found)
     (read_tells q s taken registered
     (watches_with (listed_name q) old t (behind_line h.2.rest) s (t == s) refl (λ y. refl) (λ b y k. k) watches)
     t (behind_line h.2.rest x) l e new running h.2.then)
@@ -234,25 +253,31 @@ front_tells q s old registered watches t x (run l) e new found running h =
 -- the events
 fed_stays : (q : Listed) (s : ℕ) (old : State) (t : ℕ) (bytes : Bytes) (e : Effect) (mid : State) (c : Option EndCause)
     → MatchOption c
-    (((e ≡ nothing) × (mid ≡ with_session old t (λ y. record y { held = y.held ++ bytes }))) ⊎ EndsWith end_memory Memory old t e mid)
+    (((e ≡ nothing) × (mid ≡ with_session old t (λ y. record y { held = y.held ++ bytes }))) ⊎ EndsWith end_memory
+    Memory old t e mid)
     (λ _. (e ≡ nothing) × (mid ≡ old))
     → StepTells q s old.store mid.store e.queued false
 fed_stays q s old t bytes e mid None (inl h) = one_session q s e.queued false old mid t _ h.1
 fed_stays q s old t bytes e mid None (inr h) = one_session q s e.queued false old mid t _ h.1
 fed_stays q s old t bytes e mid (Some c) h = same_state q s e.queued false old mid h.1
 
-input_stays : (q : Listed) (s : ℕ) (old : State) (t : ℕ) (e : Effect) (mid : State) (P Q R : Type 0) (c : Option EndCause)
-    → MatchOption c (P × Q × (mid ≡ with_session old t (ended_by Input))) (λ _. R × (mid ≡ old)) → StepTells q s old.store mid.store e.queued false
+input_stays : (q : Listed) (s : ℕ) (old : State) (t : ℕ) (e : Effect) (mid : State) (P Q R : Type 0)
+    (c : Option EndCause)
+    → MatchOption c (P × Q × (mid ≡ with_session old t (ended_by Input))) (λ _. R × (mid ≡ old))
+    → StepTells q s old.store mid.store e.queued false
 input_stays q s old t e mid P Q R None h = one_session q s e.queued false old mid t _ h.2
 input_stays q s old t e mid P Q R (Some c) h = same_state q s e.queued false old mid h.1
 
-opened_stays : (q : Listed) (s : ℕ) (old : State) (t : ℕ) (e : Effect) (mid : State) → ((length old.sessions < SESSIONS) × (mid ≡ record old { sessions = old.sessions ++ fresh t ∷ [] })) ⊎ (mid ≡ old)
+opened_stays : (q : Listed) (s : ℕ) (old : State) (t : ℕ) (e : Effect) (mid : State)
+    → ((length old.sessions < SESSIONS) × (mid ≡ record old { sessions = old.sessions ++ fresh t ∷ [] })) ⊎ (mid ≡ old)
     → StepTells q s old.store mid.store e.queued false
 opened_stays q s old t e mid (inl h) = same_store q s e.queued false old mid (ap (λ (st : State). st.store) h.1)
 opened_stays q s old t e mid (inr h) = same_state q s e.queued false old mid h
 
-acts_tell : (q : Listed) (s : ℕ) (old : State) → listed_of old.store.queries (listed_name q) ≡ Some q → Watches (listed_name q) (session_of old s)
-    → (event : Event) (e : Effect) (mid : State) → cause_of mid s ≡ None → Acts old event e mid → StepTells q s old.store mid.store e.queued (event_changes q old event)
+acts_tell : (q : Listed) (s : ℕ) (old : State) → listed_of old.store.queries (listed_name q) ≡ Some q
+    → Watches (listed_name q) (session_of old s)
+    → (event : Event) (e : Effect) (mid : State) → cause_of mid s ≡ None → Acts old event e mid
+    → StepTells q s old.store mid.store e.queued (event_changes q old event)
 acts_tell q s old registered watches (opened t) e mid running h = opened_stays q s old t e mid h.2
 acts_tell q s old registered watches (fed t bytes) e mid running h =
     let f = some_and (session_of old t) (λ x. FedStep old t bytes x e mid) h in
@@ -266,50 +291,64 @@ acts_tell q s old registered watches (took t bytes) e mid running h =
 acts_tell q s old registered watches (ended t) e mid running h =
     let f = some_and (session_of old t) (λ x. EndedStep old t x e mid) h in
     input_stays q s old t e mid _ _ _ (f.0).cause f.2
-acts_tell q s old registered watches (closed t bytes) e mid running h = same_store q s e.queued false old mid (ap (λ (st : State). st.store) h.2)
+acts_tell q s old registered watches (closed t bytes) e mid running h = same_store q s e.queued false old mid
+    (ap (λ (st : State). st.store) h.2)
 
 -- rows in another order
-same_then : (rs rs' rs'' : List Relation) (q : Listed) → SameAnswers rs rs' q → SameAnswers rs' rs'' q → SameAnswers rs rs'' q
+same_then : (rs rs' rs'' : List Relation) (q : Listed) → SameAnswers rs rs' q → SameAnswers rs' rs'' q
+    → SameAnswers rs rs'' q
 same_then rs rs' rs'' q h k = record { there = λ t a. k.there t (h.there t a); back = λ t a. h.back t (k.back t a) }
 
-changed_to : (before rs rs' : List Relation) (q : Listed) → SameAnswers rs rs' q → (sign : Sign) (t : Tuple) → HasChanged (AnswersOf before q) (AnswersOf rs q) sign t → HasChanged (AnswersOf before q) (AnswersOf rs' q) sign t
+changed_to : (before rs rs' : List Relation) (q : Listed) → SameAnswers rs rs' q → (sign : Sign) (t : Tuple)
+    → HasChanged (AnswersOf before q) (AnswersOf rs q) sign t → HasChanged (AnswersOf before q) (AnswersOf rs' q) sign t
 changed_to before rs rs' q same Came t h = (same.there t h.0, h.1)
 changed_to before rs rs' q same Went t h = (h.0, λ a. h.1 (same.back t a))
 
-changed_back : (before rs rs' : List Relation) (q : Listed) → SameAnswers rs rs' q → (sign : Sign) (t : Tuple) → HasChanged (AnswersOf before q) (AnswersOf rs' q) sign t → HasChanged (AnswersOf before q) (AnswersOf rs q) sign t
+changed_back : (before rs rs' : List Relation) (q : Listed) → SameAnswers rs rs' q → (sign : Sign) (t : Tuple)
+    → HasChanged (AnswersOf before q) (AnswersOf rs' q) sign t → HasChanged (AnswersOf before q) (AnswersOf rs q) sign t
 changed_back before rs rs' q same Came t h = (same.back t h.0, h.1)
 changed_back before rs rs' q same Went t h = (h.0, λ a. h.1 (same.there t a))
 
-delta_to : (before rs rs' : List Relation) (q : Listed) (n : ℕ) (s : ℕ) (queued : List (ℕ × Bytes)) → SameAnswers rs rs' q → IsTheDelta q s before rs n queued → IsTheDelta q s before rs' n queued
+delta_to : (before rs rs' : List Relation) (q : Listed) (n : ℕ) (s : ℕ) (queued : List (ℕ × Bytes))
+    → SameAnswers rs rs' q → IsTheDelta q s before rs n queued → IsTheDelta q s before rs' n queued
 delta_to before rs rs' q n s queued same h = record {
   changes = h.changes;
   delta = record {
     different = h.delta.different;
-    changed = All-weaker (λ (c : Change). HasChanged (AnswersOf before q) (AnswersOf rs q) c.sign c.answer) (λ (c : Change). HasChanged (AnswersOf before q) (AnswersOf rs' q) c.sign c.answer)
+    changed = All-weaker (λ (c : Change). HasChanged (AnswersOf before q) (AnswersOf rs q) c.sign c.answer)
+        (λ (c : Change). HasChanged (AnswersOf before q) (AnswersOf rs' q) c.sign c.answer)
         (λ c k. changed_to before rs rs' q same c.sign c.answer k) h.changes h.delta.changed;
     complete = λ sign t k. h.delta.complete sign t (changed_back before rs rs' q same sign t k);
   };
   told = h.told;
 }
 
-reordered_tells : (q : Listed) (s : ℕ) (old mid : Store) (rs : List Relation) (queued : List (ℕ × Bytes)) (changes : Bool) → SameAnswers mid.relations rs q
+reordered_tells : (q : Listed) (s : ℕ) (old mid : Store) (rs : List Relation) (queued : List (ℕ × Bytes))
+    (changes : Bool) → SameAnswers mid.relations rs q
     → StepTells q s old mid queued changes → StepTells q s old (record mid { relations = rs }) queued changes
-reordered_tells q s old mid rs queued changes same (is_quiet answers seq) = is_quiet (same_then old.relations mid.relations rs q answers same) seq
-reordered_tells q s old mid rs queued changes same (is_told delta seq counts) = is_told (delta_to old.relations mid.relations rs q mid.seq s queued same delta) seq counts
+reordered_tells q s old mid rs queued changes same (is_quiet answers seq) = is_quiet
+    (same_then old.relations mid.relations rs q answers same) seq
+reordered_tells q s old mid rs queued changes same (is_told delta seq counts) = is_told
+    (delta_to old.relations mid.relations rs q mid.seq s queued same delta) seq counts
 
 pub queued_store : (st : State) (qs : List (ℕ × Bytes)) → (queue_all st qs).store ≡ st.store
 queued_store st [] = refl
 queued_store st (p ∷ ps) = queued_store (queue st p) ps
 
-pub step_tells : (q : Listed) (s : ℕ) (old : State) (event : Event) (e : Effect) (new : State) → Step old event e new → IsWatcher q s old → IsWatcher q s new
+pub step_tells : (q : Listed) (s : ℕ) (old : State) (event : Event) (e : Effect) (new : State) → Step old event e new
+    → IsWatcher q s old → IsWatcher q s new
     → StepTells q s old.store new.store e.queued (event_changes q old event)
 step_tells q s old event e new h before behind =
-    let f = some_and (session_of old s) (λ x. (x.cause ≡ None) × (is_watching (listed_name q) x ≡ true)) before.watches in
-    let g = some_and (session_of new s) (λ x. (x.cause ≡ None) × (is_watching (listed_name q) x ≡ true)) behind.watches in
+    let f = some_and (session_of old s) (λ x. (x.cause ≡ None) × (is_watching (listed_name q) x ≡ true)) before.watches
+    in
+    let g = some_and (session_of new s) (λ x. (x.cause ≡ None) × (is_watching (listed_name q) x ≡ true)) behind.watches
+    in
     let watches = and_some (session_of old s) (λ x. is_watching (listed_name q) x ≡ true) f.0 f.1 f.2.1 in
     let running : cause_of h.mid s ≡ None = sym (stepped_cause old event e new h s) ∙ ap cause_in g.1 ∙ g.2.0 in
     let mid = h.mid in
     let acted = acts_tell q s old before.registered watches event e mid running h.acts in
-    let now : new.store ≡ record mid.store { relations = h.relations } = ap (λ (st : State). st.store) h.queued ∙ queued_store (with_relations mid h.relations) e.queued in
+    let now : new.store ≡ record mid.store { relations = h.relations } = ap (λ (st : State). st.store) h.queued
+    ∙ queued_store (with_relations mid h.relations) e.queued in
     subst (λ (st : Store). StepTells q s old.store st e.queued (event_changes q old event)) (sym now)
-    (reordered_tells q s old.store mid.store h.relations e.queued (event_changes q old event) (reordered_same mid.store.relations h.relations q h.reordered) acted)
+    (reordered_tells q s old.store mid.store h.relations e.queued (event_changes q old event)
+    (reordered_same mid.store.relations h.relations q h.reordered) acted)

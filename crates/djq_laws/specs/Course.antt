@@ -1,5 +1,6 @@
 -- A course of the program under the words `run`: one session, from a source to a sink.
-use Rattle.std.specs.Prelude.{ℕ, List, [], ◌∷◌, ◌++◌, ◌≡◌, ◌+◌, ◌<◌, ◌≤◌, Bool, true, false, Option, None, IsSomeAnd, length}
+use Rattle.std.specs.Prelude.{ℕ, List, [], ◌∷◌, ◌++◌, ◌≡◌, ◌+◌, ◌<◌, ◌≤◌, Bool, true, false, Option}
+use Rattle.std.specs.Prelude.{None, IsSomeAnd, length}
 use Rattle.djq_io.specs.Source.{Reading, Gives}
 use Rattle.djq_io.specs.Sink.{Gains}
 use Rattle.djq_io.specs.declared.sink.Write.{Write}

@@ -47,7 +47,8 @@ use Rattle.djq_lines.specs.declared.command.Command.TheVariants.{
   Stop,
 }
 use Rattle.djq_lines.specs.Variables.{constants_of}
-use Rattle.djq_machine.specs.State.{Store, Session, Cursor, open_at, State, with_session, cursor_of, with_position, ended_by}
+use Rattle.djq_machine.specs.State.{Store, Session, Cursor, open_at, State, with_session, cursor_of}
+use Rattle.djq_machine.specs.State.{with_position, ended_by}
 use Rattle.djq_machine.specs.Keeping.{Keeping}
 use Rattle.djq_machine.specs.Effect.{Effect}
 use Rattle.djq_machine.specs.Store.{TellsAnswers, is_member}

@@ -30,4 +30,5 @@ pub record Headline (start : State) (before now : Outside) (state : State)
 
 -- Every course from a state in which no session is open has the headline.
 abbrev pub CoursesGive : Type 0
-CoursesGive = (start : State) (before now : Outside) (state : State) (course : Course start before now state) → start.sessions ≡ [] → Headline start before now state course
+CoursesGive = (start : State) (before now : Outside) (state : State) (course : Course start before now state)
+    → start.sessions ≡ [] → Headline start before now state course

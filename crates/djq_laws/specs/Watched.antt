@@ -1,5 +1,7 @@
 -- What a session is told that watches a query all along a run.
-use Rattle.std.specs.Prelude.{ℕ, List, [], ◌∷◌, ◌==◌, ◌≡◌, ◌<◌, ◌++◌, ◌&&◌, Bool, true, false, not, Option, None, Some, is_some, IsSomeAnd, if◌then◌else◌, filter, map, AllPairs}
+use Rattle.std.specs.Prelude.{ℕ, List, [], ◌∷◌, ◌==◌, ◌≡◌, ◌<◌, ◌++◌, ◌&&◌, Bool, true, false, not}
+use Rattle.std.specs.Prelude.{Option, None, Some, is_some, IsSomeAnd, if◌then◌else◌, filter, map}
+use Rattle.std.specs.Prelude.{AllPairs}
 use Rattle.std.specs.List.{flat_map}
 use Rattle.djq_model.specs.Data.{Bytes, Tuple}
 use Rattle.djq_model.specs.Answer.{IsListing}

@@ -48,7 +48,8 @@ use Rattle.djq_query.specs.Pattern.{Shape, Gives}
 use Rattle.djq_live.specs.Leaves.{GivesOne}
 use Rattle.djq_live.specs.Changes.{GainsAll, Keeps}
 use Rattle.djq_live.specs.Stepping.{HasMore, ChangesAt, ChangesBelow, HoldBelow}
-use Rattle.djq_live.specs.Batching.{AreDistinct, AreTuplesOf, AreTuples, FitAll, HasFew, CanTake, Adds, Drops, tuples_in, batch_in}
+use Rattle.djq_live.specs.Batching.{AreDistinct, AreTuplesOf, AreTuples, FitAll, HasFew, CanTake}
+use Rattle.djq_live.specs.Batching.{Adds, Drops, tuples_in, batch_in}
 use Rattle.djq_live.proofs.Below.{IsStable}
 use Rattle.djq_live.proofs.Giving.{gives_once, gives_same, one_as}
 use Rattle.djq_live.proofs.Heads.{has_at}
@@ -426,9 +427,12 @@ pub got_as : {A : Type 0} (xs : List A) (i : ℕ) (x y : A) → y ≡ x → i < 
 got_as xs i x y e low is = got xs i x low is ∙ ap (λ z. Some z) (sym e)
 
 -- the tuples that it has for a leaf, which were made or are the rows
-pub got_in : (rows : List (List ℕ)) (made : List (Option (List (List ℕ)))) (i : ℕ) (x : Option (List (List ℕ))) (y : List (List ℕ))
-    → y ≡ tuples_in rows x → i < length (batch_in rows made) → x ≡ slice_index_or made i x → slice_get (batch_in rows made) i ≡ Some y
+pub got_in : (rows : List (List ℕ)) (made : List (Option (List (List ℕ)))) (i : ℕ) (x : Option (List (List ℕ)))
+    (y : List (List ℕ))
+    → y ≡ tuples_in rows x → i < length (batch_in rows made) → x ≡ slice_index_or made i x
+    → slice_get (batch_in rows made) i ≡ Some y
 got_in rows made i x y e low is =
     slice_get-map (tuples_in rows) made i
-    ∙ ap (option_map (tuples_in rows)) (got made i x (subst (λ (n : ℕ). i < n) (length-map made (tuples_in rows)) low) is)
+    ∙ ap (option_map (tuples_in rows))
+    (got made i x (subst (λ (n : ℕ). i < n) (length-map made (tuples_in rows)) low) is)
     ∙ ap (λ z. Some z) (sym e)

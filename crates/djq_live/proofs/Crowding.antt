@@ -1,5 +1,6 @@
 -- How much it counts where many tuples come to leaves, and how much where they go.
-use Rattle.std.proofs.Common.{◌≡◌, ◌≢◌, ℕ, ◌+◌, ◌*◌, ◌<◌, ◌≤◌, true, List, length, ap, sym, subst, ◌∙◌, inl, inr, arith, mul-le-mul_right, mul-le-mul_left}
+use Rattle.std.proofs.Common.{◌≡◌, ◌≢◌, ℕ, ◌+◌, ◌*◌, ◌<◌, ◌≤◌, true, List, length, ap, sym, subst}
+use Rattle.std.proofs.Common.{◌∙◌, inl, inr, arith, mul-le-mul_right, mul-le-mul_left}
 use Rattle.std.specs.Prelude.{Some, slice_get}
 use Rattle.std.proofs.lemmas.Bool.{cases_eq}
 use Rattle.djq_index.specs.Entries.{Entry, cnt}

@@ -158,13 +158,17 @@ stands_by given ended old new same stands = record {
 }
 
 -- a session that ends out of memory has its cause
-ended_cause : (old mid : State) (x : Session) → session_of old 1 ≡ Some x → mid ≡ with_session old 1 (ended_by Memory) → cause_of mid 1 ≡ Some Memory
+ended_cause : (old mid : State) (x : Session) → session_of old 1 ≡ Some x → mid ≡ with_session old 1 (ended_by Memory)
+    → cause_of mid 1 ≡ Some Memory
 ended_cause old mid x found after =
-    ap (λ (st : State). cause_of st 1) after ∙ ap cause_in (session_changed old 1 (ended_by Memory) (λ y. refl) ∙ ap (λ o. option_map (ended_by Memory) o) found)
+    ap (λ (st : State). cause_of st 1) after
+    ∙ ap cause_in (session_changed old 1 (ended_by Memory) (λ y. refl)
+    ∙ ap (λ o. option_map (ended_by Memory) o) found)
 
 fed_store : (old : State) (line : Bytes) (x : Session) (e : Effect) (mid : State) (c : Option EndCause)
     → MatchOption c
-    (((e ≡ nothing) × (mid ≡ with_session old 1 (λ y. record y { held = y.held ++ line }))) ⊎ EndsWith end_memory Memory old 1 e mid)
+    (((e ≡ nothing) × (mid ≡ with_session old 1 (λ y. record y { held = y.held ++ line }))) ⊎ EndsWith end_memory Memory
+    old 1 e mid)
     (λ _. (e ≡ nothing) × (mid ≡ old))
     → mid.store ≡ old.store
 fed_store old line x e mid None (inl h) = ap (λ (st : State). st.store) h.1
@@ -172,27 +176,36 @@ fed_store old line x e mid None (inr h) = ap (λ (st : State). st.store) h.1
 fed_store old line x e mid (Some c) h = ap (λ (st : State). st.store) h.1
 
 -- The answers that are left stay so as bytes come, or are taken.
-fed_left : (line : Bytes) (old mid : State) (given : List Tuple) → Makes old (fed 1 line) mid → HasLeft old.store given → HasLeft mid.store given
+fed_left : (line : Bytes) (old mid : State) (given : List Tuple) → Makes old (fed 1 line) mid → HasLeft old.store given
+    → HasLeft mid.store given
 fed_left line old mid given m left =
     let h = m.step in
     let f = some_and (session_of old 1) (λ x. FedStep old 1 line x m.effect h.mid) h.acts in
-    step_left old (fed 1 line) m.effect mid h given (subst (λ (store : Store). HasLeft store given) (sym (fed_store old line f.0 m.effect h.mid (f.0).cause f.2)) left)
+    step_left old (fed 1 line) m.effect mid h given
+    (subst (λ (store : Store). HasLeft store given) (sym (fed_store old line f.0 m.effect h.mid (f.0).cause f.2))
+    left)
 
-pub took_left : (old new : State) (given : List Tuple) → TakesAll old new → HasLeft old.store given → HasLeft new.store given
+pub took_left : (old new : State) (given : List Tuple) → TakesAll old new → HasLeft old.store given
+    → HasLeft new.store given
 took_left old new given (inl (none, same)) left = subst (λ (st : State). HasLeft st.store given) (sym same) left
 took_left old new given (inr (some, m)) left =
     let h = m.step in
     let bytes = pending_of old 1 in
     let f = some_and (session_of old 1) (λ x. TookStep old 1 bytes x m.effect h.mid) h.acts in
-    step_left old (took 1 bytes) m.effect new h given (subst (λ (st : State). HasLeft st.store given) (sym f.2.1.2) left)
+    step_left old (took 1 bytes) m.effect new h given
+    (subst (λ (st : State). HasLeft st.store given) (sym f.2.1.2) left)
 
-fed_by_cause : (old : State) (line : Bytes) (x : Session) (e : Effect) (mid : State) (c : Option EndCause) → session_of old 1 ≡ Some x → cause_of mid 1 ≡ None
+fed_by_cause : (old : State) (line : Bytes) (x : Session) (e : Effect) (mid : State) (c : Option EndCause)
+    → session_of old 1 ≡ Some x → cause_of mid 1 ≡ None
     → MatchOption c
-    (((e ≡ nothing) × (mid ≡ with_session old 1 (λ y. record y { held = y.held ++ line }))) ⊎ EndsWith end_memory Memory old 1 e mid)
+    (((e ≡ nothing) × (mid ≡ with_session old 1 (λ y. record y { held = y.held ++ line }))) ⊎ EndsWith end_memory Memory
+    old 1 e mid)
     (λ _. (e ≡ nothing) × (mid ≡ old))
     → has_of mid ≡ has_of old
-fed_by_cause old line x e mid None found running (inl h) = changed_has old mid (λ y. record y { held = y.held ++ line }) (λ y. refl) (λ y. refl) h.1
-fed_by_cause old line x e mid None found running (inr h) = absurd (none_some (cause_of mid 1) Memory running (ended_cause old mid x found h.1))
+fed_by_cause old line x e mid None found running (inl h) = changed_has old mid (λ y. record y { held = y.held ++ line })
+    (λ y. refl) (λ y. refl) h.1
+fed_by_cause old line x e mid None found running (inr h) = absurd
+    (none_some (cause_of mid 1) Memory running (ended_cause old mid x found h.1))
 fed_by_cause old line x e mid (Some c) found running h = ap has_of h.1
 
 fed_has : (line : Bytes) (old mid : State) → cause_of mid 1 ≡ None → Makes old (fed 1 line) mid
@@ -201,7 +214,8 @@ fed_has line old mid running m =
     let h = m.step in
     let f = some_and (session_of old 1) (λ x. FedStep old 1 line x m.effect h.mid) h.acts in
     stepped_has old (fed 1 line) m.effect mid h
-    ∙ fed_by_cause old line f.0 m.effect h.mid (f.0).cause f.1 (sym (stepped_cause old (fed 1 line) m.effect mid h 1) ∙ running) f.2
+    ∙ fed_by_cause old line f.0 m.effect h.mid (f.0).cause f.1
+    (sym (stepped_cause old (fed 1 line) m.effect mid h 1) ∙ running) f.2
 
 took_has : (old new : State) → TakesAll old new → has_of new ≡ has_of old
 took_has old new (inl (none, same)) = ap has_of same
@@ -220,7 +234,8 @@ record Runs (text : Bytes) (mid new : State) : Type 0 where
   session : Session
   found : session_of mid 1 ≡ Some session
   rest : Bytes
-  reads : ReadStep (with_session mid 1 (behind_line rest)) 1 (behind_line rest session) text (reading_of text) effect step.mid
+  reads : ReadStep (with_session mid 1 (behind_line rest)) 1 (behind_line rest session) text (reading_of text) effect
+      step.mid
   stays : IsOpen step.mid 1
   pending : pending_of step.mid 1 ≡ pending_of mid 1
 
@@ -232,16 +247,20 @@ line_in (a_line l rest) = l
 not_both : (b : Bool) → b ≡ true → b ≡ false → ⊥
 not_both b e f = cc
 
-text_is : (line text l rest : Bytes) (x : Session) (mid : State) → held_of mid 1 ≡ line → front_of line ≡ a_line text [] → session_of mid 1 ≡ Some x → front_of x.held ≡ a_line l rest → l ≡ text
+text_is : (line text l rest : Bytes) (x : Session) (mid : State) → held_of mid 1 ≡ line → front_of line ≡ a_line text []
+    → session_of mid 1 ≡ Some x → front_of x.held ≡ a_line l rest → l ≡ text
 unfolding line_in
-text_is line text l rest x mid held is found front = ap line_in (sym front ∙ ap front_of (sym (ap held_in found) ∙ held) ∙ is)
+text_is line text l rest x mid held is found front = ap line_in
+    (sym front ∙ ap front_of (sym (ap held_in found) ∙ held) ∙ is)
 
-runs : (line text : Bytes) (mid new : State) (before now : Counts) → held_of mid 1 ≡ line → front_of line ≡ a_line text [] → is_blank text ≡ false → RanStep mid 1 new before now → Runs text mid new
+runs : (line text : Bytes) (mid new : State) (before now : Counts) → held_of mid 1 ≡ line → front_of line
+    ≡ a_line text [] → is_blank text ≡ false → RanStep mid 1 new before now → Runs text mid new
 runs line text mid new before now held is full (l, inl m) =
     let h = m.step in
     let f = some_and (session_of mid 1) (λ x. (x.cause ≡ None) × FrontStep mid 1 x (blank l) m.effect h.mid) h.acts in
     let t = f.2.1.1 in
-    absurd (not_both (is_blank text) (ap is_blank (sym (text_is line text l t.rest f.0 mid held is f.1 t.front)) ∙ f.2.1.0) full)
+    absurd (not_both (is_blank text)
+    (ap is_blank (sym (text_is line text l t.rest f.0 mid held is f.1 t.front)) ∙ f.2.1.0) full)
 runs line text mid new before now held is full (l, inr m) =
     let h = m.step in
     let f = some_and (session_of mid 1) (λ x. (x.cause ≡ None) × FrontStep mid 1 x (run l) m.effect h.mid) h.acts in
@@ -255,24 +274,31 @@ runs line text mid new before now held is full (l, inr m) =
       session = f.0;
       found = f.1;
       rest = t.rest;
-      reads = subst (λ (k : Bytes). ReadStep (with_session mid 1 (behind_line t.rest)) 1 (behind_line t.rest f.0) k (reading_of k) m.effect h.mid) e t.then;
+      reads = subst (λ (k : Bytes). ReadStep (with_session mid 1 (behind_line t.rest)) 1 (behind_line t.rest f.0) k
+          (reading_of k) m.effect h.mid) e t.then;
       stays = subst (λ (o : Option Session). IsSome o) (sym (k.touches).now) refl;
       pending = ap pending_in (k.touches).now ∙ k.pending ∙ sym (ap pending_in f.1);
     }
 
 -- The session behind its line.
-behind_found : (mid : State) (x : Session) (rest : Bytes) → session_of mid 1 ≡ Some x → session_of (with_session mid 1 (behind_line rest)) 1 ≡ Some (behind_line rest x)
-behind_found mid x rest found = session_changed mid 1 (behind_line rest) (λ y. refl) ∙ ap (λ o. option_map (behind_line rest) o) found
+behind_found : (mid : State) (x : Session) (rest : Bytes) → session_of mid 1 ≡ Some x
+    → session_of (with_session mid 1 (behind_line rest)) 1 ≡ Some (behind_line rest x)
+behind_found mid x rest found = session_changed mid 1 (behind_line rest) (λ y. refl)
+    ∙ ap (λ o. option_map (behind_line rest) o) found
 
 -- the state behind a command that changed the session's cursors
-changed_to : (st m : State) (y : Session) (f : Session → Session) → ((x : Session) → (f x).id ≡ x.id) → session_of st 1 ≡ Some y → m ≡ with_session st 1 f → session_of m 1 ≡ Some (f y)
-changed_to st m y f same found after = ap (λ (s : State). session_of s 1) after ∙ session_changed st 1 f same ∙ ap (λ o. option_map f o) found
+changed_to : (st m : State) (y : Session) (f : Session → Session) → ((x : Session) → (f x).id ≡ x.id) → session_of st 1
+    ≡ Some y → m ≡ with_session st 1 f → session_of m 1 ≡ Some (f y)
+changed_to st m y f same found after = ap (λ (s : State). session_of s 1) after ∙ session_changed st 1 f same
+    ∙ ap (λ o. option_map f o) found
 
 -- what is pending behind a step
-pending_behind : (mid new : State) (event : Event) (e : Effect) (h : Step mid event e new) (z : Session) (text : Bytes) → session_of h.mid 1 ≡ Some z → z.pending ≡ [] → to_session 1 e.queued ≡ text → pending_of new 1 ≡ text
+pending_behind : (mid new : State) (event : Event) (e : Effect) (h : Step mid event e new) (z : Session) (text : Bytes)
+    → session_of h.mid 1 ≡ Some z → z.pending ≡ [] → to_session 1 e.queued ≡ text → pending_of new 1 ≡ text
 pending_behind mid new event e h z text found none queued =
     stepped_pending mid event e new h 1 (subst (λ (o : Option Session). IsSome o) (sym found) refl)
-    ∙ ap (λ (o : Option Session). pending_in o ++ to_session 1 e.queued) found ∙ ap (λ (p : Bytes). p ++ to_session 1 e.queued) none ∙ queued
+    ∙ ap (λ (o : Option Session). pending_in o ++ to_session 1 e.queued) found
+    ∙ ap (λ (p : Bytes). p ++ to_session 1 e.queued) none ∙ queued
 
 -- Reading the cursor.
 pub record Tells (given : List Tuple) (old new : State) : Type 0 where
@@ -299,7 +325,8 @@ record NextTold (given : List Tuple) (st : State) (y : Session) (e : Effect) (m 
   batch : session.batch ≡ y.batch
   pending : session.pending ≡ y.pending
 
-next_told : (given : List Tuple) (st : State) (y : Session) (q : Listed) (e : Effect) (m : State) → session_of st 1 ≡ Some y → listed_of st.store.queries (codes "q") ≡ Some q → cause_of m 1 ≡ None
+next_told : (given : List Tuple) (st : State) (y : Session) (q : Listed) (e : Effect) (m : State) → session_of st 1
+    ≡ Some y → listed_of st.store.queries (codes "q") ≡ Some q → cause_of m 1 ≡ None
     → NextStep st 1 (codes "c") q given 1000 e m ⊎ NextCutStep st 1 q given 1000 e m → NextTold given st y e m
 next_told given st y q e m found registered running (inl h) = record {
   told = h.told;
@@ -307,17 +334,23 @@ next_told given st y q e m found registered running (inl h) = record {
   few = (h.tells).at_most;
   full = (h.tells).all_asked;
   some = λ left ends. some_told (AnswersOf st.store.relations q) given h.told
-      (subst (λ (o : Option Listed). IsSomeAnd o (λ p. (t : Tuple) × IsLeft (AnswersOf st.store.relations p) given t)) registered left) ((h.tells).none_left ends);
+      (subst (λ (o : Option Listed). IsSomeAnd o (λ p. (t : Tuple) × IsLeft (AnswersOf st.store.relations p) given t))
+      registered left) ((h.tells).none_left ends);
   left = λ goes. subst (λ (store : Store). HasLeft store (given ++ h.told)) (sym (ap (λ (s : State). s.store) h.state))
-      (subst (λ (o : Option Listed). IsSomeAnd o (λ p. (t : Tuple) × IsLeft (AnswersOf st.store.relations p) (given ++ h.told) t)) (sym registered) ((h.tells).some_left goes));
+      (subst (λ (o : Option Listed). IsSomeAnd o
+      (λ p. (t : Tuple) × IsLeft (AnswersOf st.store.relations p) (given ++ h.told) t)) (sym registered)
+      ((h.tells).some_left goes));
   queued = ap (λ (d : Effect). to_session 1 d.queued) h.effect ∙ says_to 1 (text_of (listing_lines h.told h.end));
   session = record y { cursors = with_position y.cursors (codes "c") (open_at (given ++ h.told) h.end) };
-  found = changed_to st m y (λ x. record x { cursors = with_position x.cursors (codes "c") (open_at (given ++ h.told) h.end) }) (λ x. refl) found h.state;
+  found = changed_to st m y
+      (λ x. record x { cursors = with_position x.cursors (codes "c") (open_at (given ++ h.told) h.end) }) (λ x. refl)
+      found h.state;
   cursors = refl;
   batch = refl;
   pending = refl;
 }
-next_told given st y q e m found registered running (inr h) = absurd (none_some (cause_of m 1) Memory running (ended_cause st m y found h.state))
+next_told given st y q e m found registered running (inr h) = absurd
+    (none_some (cause_of m 1) Memory running (ended_cause st m y found h.state))
 
 -- What a line that says a command does, by whether the command is misplaced, and whether memory is there to read it.
 abbrev ReadAs : State → Session → Bytes → Command → Effect → State → Bool → Type 0
@@ -338,15 +371,20 @@ carried_out st y l c e m false is takes (false, h) = absurd (not_both (takes_mem
 
 next_at : (given : List Tuple) (ended : Bool) (st : State) (y : Session) (e : Effect) (m : State)
     → session_of st 1 ≡ Some y → cursor_of y.cursors (codes "c") ≡ Some (cursor_at given ended) → y.batch ≡ None
-    → cause_of m 1 ≡ None → ReadStep st 1 y (codes "next c 1000") (says_command (Next (codes "c") 1000)) e m → NextTold given st y e m
+    → cause_of m 1 ≡ None → ReadStep st 1 y (codes "next c 1000") (says_command (Next (codes "c") 1000)) e m
+    → NextTold given st y e m
 next_at given ended st y e m found stands none running h =
     let next = Next (codes "c") 1000 in
     let done : CommandStep st 1 y (codes "next c 1000") next e m =
     carried_out st y (codes "next c 1000") next e m (is_misplaced y.batch next)
     (ap (λ (batch : Option (List HeldRow)). is_misplaced batch next) none) refl h in
-    let at : IsSomeAnd (listed_of st.store.queries (codes "q")) (λ q. NextStepAt st 1 (codes "c") q 1000 (open_at given ended) e m) =
-    subst (λ (o : Option Cursor). MatchOption o (RefusedStep st 1 NoCursor e m) (λ k. IsSomeAnd (listed_of st.store.queries k.query) (λ q. NextStepAt st 1 (codes "c") q 1000 k.position e m))) stands done in
-    let q = some_and (listed_of st.store.queries (codes "q")) (λ q. NextStepAt st 1 (codes "c") q 1000 (open_at given ended) e m) at in
+    let at : IsSomeAnd (listed_of st.store.queries (codes "q"))
+    (λ q. NextStepAt st 1 (codes "c") q 1000 (open_at given ended) e m) =
+    subst (λ (o : Option Cursor). MatchOption o (RefusedStep st 1 NoCursor e m)
+    (λ k. IsSomeAnd (listed_of st.store.queries k.query) (λ q. NextStepAt st 1 (codes "c") q 1000 k.position e m)))
+    stands done in
+    let q = some_and (listed_of st.store.queries (codes "q"))
+    (λ q. NextStepAt st 1 (codes "c") q 1000 (open_at given ended) e m) at in
     next_told given st y q.0 e m found q.1 running q.2
 
 ascii : (bs : Bytes) → list_all (λ b. leb b 127) bs ≡ true → IsAscii bs
@@ -360,32 +398,43 @@ utf8 bs h = is_utf8-from_IsUtf8 bs (IsUtf8-from_ascii bs (ascii bs h))
 
 next_reads : reading_of (codes "next c 1000") ≡ says_command (Next (codes "c") 1000)
 unfolding command_of tokens
-next_reads = ap (λ (b : Bool). reading_in (cond b (command_in (tokens (codes "next c 1000"))) None)) (utf8 (codes "next c 1000") refl)
+next_reads = ap (λ (b : Bool). reading_in (cond b (command_in (tokens (codes "next c 1000"))) None))
+    (utf8 (codes "next c 1000") refl)
 
 -- The cursor is at another place.
-moved : (given more : List Tuple) (ended end : Bool) (cursors : List Cursor) → cursor_of cursors (codes "c") ≡ Some (cursor_at given ended)
+moved : (given more : List Tuple) (ended end : Bool) (cursors : List Cursor) → cursor_of cursors (codes "c")
+    ≡ Some (cursor_at given ended)
     → cursor_of (with_position cursors (codes "c") (open_at more end)) (codes "c") ≡ Some (cursor_at more end)
 moved given more ended end cursors stands =
-    find_changed (λ (c : Cursor). bytes_eq c.name (codes "c")) (λ (c : Cursor). record c { position = open_at more end }) (λ c. refl) cursors
+    find_changed (λ (c : Cursor). bytes_eq c.name (codes "c"))
+    (λ (c : Cursor). record c { position = open_at more end }) (λ c. refl) cursors
     ∙ ap (λ (o : Option Cursor). option_map (λ (c : Cursor). record c { position = open_at more end }) o) stands
 
-next_run : (given : List Tuple) (ended : Bool) (mid new : State) → Stands mid given ended → pending_of mid 1 ≡ [] → cause_of new 1 ≡ None → Runs (codes "next c 1000") mid new → Tells given mid new
+next_run : (given : List Tuple) (ended : Bool) (mid new : State) → Stands mid given ended → pending_of mid 1 ≡ []
+    → cause_of new 1 ≡ None → Runs (codes "next c 1000") mid new → Tells given mid new
 next_run given ended mid new stands pending running r =
     let st = with_session mid 1 (behind_line r.rest) in
     let y = behind_line r.rest r.session in
     let here = behind_found mid r.session r.rest r.found in
-    let stays : cursor_of y.cursors (codes "c") ≡ Some (cursor_at given ended) = ap (λ (o : Option Session). cursor_of (cursors_in o) (codes "c")) (sym r.found) ∙ stands.cursor in
+    let stays : cursor_of y.cursors (codes "c")
+    ≡ Some (cursor_at given ended) = ap (λ (o : Option Session). cursor_of (cursors_in o) (codes "c")) (sym r.found)
+    ∙ stands.cursor in
     let none : y.batch ≡ None = ap batch_in (sym r.found) ∙ stands.batch in
-    let reads = subst (λ (k : Reading). ReadStep st 1 y (codes "next c 1000") k r.effect (r.step).mid) next_reads r.reads in
-    let t = next_at given ended st y r.effect (r.step).mid here stays none (sym (stepped_cause mid r.event r.effect new r.step 1) ∙ running) reads in
+    let reads = subst (λ (k : Reading). ReadStep st 1 y (codes "next c 1000") k r.effect (r.step).mid) next_reads
+    r.reads in
+    let t = next_at given ended st y r.effect (r.step).mid here stays none
+    (sym (stepped_cause mid r.event r.effect new r.step 1) ∙ running) reads in
     record {
       told = t.told;
       end = t.end;
-      stands = stands_by (given ++ t.told) t.end (r.step).mid new (stepped_has mid r.event r.effect new r.step) (record {
-        cursor = ap (λ (cs : List Cursor). cursor_of cs (codes "c")) (ap cursors_in t.found ∙ t.cursors) ∙ moved given (given ++ t.told) ended t.end y.cursors stays;
-        batch = ap batch_in t.found ∙ t.batch ∙ none;
-      });
-      pending = pending_behind mid new r.event r.effect r.step t.session (text_of (listing_lines t.told t.end)) t.found (t.pending ∙ sym (ap pending_in r.found) ∙ pending) t.queued;
+      stands = stands_by (given ++ t.told) t.end (r.step).mid new (stepped_has mid r.event r.effect new r.step)
+          (record {
+            cursor = ap (λ (cs : List Cursor). cursor_of cs (codes "c")) (ap cursors_in t.found ∙ t.cursors)
+                ∙ moved given (given ++ t.told) ended t.end y.cursors stays;
+            batch = ap batch_in t.found ∙ t.batch ∙ none;
+          });
+      pending = pending_behind mid new r.event r.effect r.step t.session (text_of (listing_lines t.told t.end)) t.found
+          (t.pending ∙ sym (ap pending_in r.found) ∙ pending) t.queued;
       few = t.few;
       full = t.full;
       some = t.some;
@@ -396,11 +445,13 @@ next_front : front_of next_line ≡ a_line (codes "next c 1000") []
 next_front = refl
 
 -- The line that reads the cursor was run.
-pub next_tells : (given : List Tuple) (ended : Bool) (old : State) (before : Counts) (new : State) (now : Counts) → IsIdle old → Stands old given ended → LineRuns next_line old before new now → Tells given old new
+pub next_tells : (given : List Tuple) (ended : Bool) (old : State) (before : Counts) (new : State) (now : Counts)
+    → IsIdle old → Stands old given ended → LineRuns next_line old before new now → Tells given old new
 next_tells given ended old before new now idle stands h =
     let mid = h.mid in
     let here = is_fed next_line old mid idle h.is_held h.comes in
-    let t = next_run given ended mid new (stands_by given ended old mid (fed_has next_line old mid h.is_held h.comes) stands) here.pending h.running
+    let t = next_run given ended mid new
+    (stands_by given ended old mid (fed_has next_line old mid h.is_held h.comes) stands) here.pending h.running
     (runs next_line (codes "next c 1000") mid new before now here.held next_front refl h.ran) in
     record {
       told = t.told;
@@ -416,7 +467,8 @@ next_tells given ended old before new now idle stands h =
 -- Opening it.
 open_reads : reading_of (codes "open c q") ≡ says_command (Open (codes "c") (codes "q"))
 unfolding command_of tokens
-open_reads = ap (λ (b : Bool). reading_in (cond b (command_in (tokens (codes "open c q"))) None)) (utf8 (codes "open c q") refl)
+open_reads = ap (λ (b : Bool). reading_in (cond b (command_in (tokens (codes "open c q"))) None))
+    (utf8 (codes "open c q") refl)
 
 first_letter : (r : Refusal) → slice_index (refusal_line r) 0 ≡ 101
 first_letter Syntax = refl
@@ -440,7 +492,8 @@ not_refused : (r : Refusal) → refusal_line r ≡ codes "ok open\n" → ⊥
 not_refused r e = let k = sym (first_letter r) ∙ ap (λ (bs : Bytes). slice_index bs 0) e in absurd (omega (arith, k))
 
 -- no cursor of the name was there
-is_new : (b : Bool) (more : Option Refusal) → (D : ⊤ → Type 0) (L : Refusal → Type 0) (u : ⊤) → Answers (cond b (Some Taken) more) (Ok u) D L → b ≡ false
+is_new : (b : Bool) (more : Option Refusal) → (D : ⊤ → Type 0) (L : Refusal → Type 0) (u : ⊤)
+    → Answers (cond b (Some Taken) more) (Ok u) D L → b ≡ false
 is_new true more D L u h = absurd h
 is_new false more D L u h = refl
 
@@ -448,11 +501,14 @@ none_found : (o : Option Cursor) → is_some o ≡ false → o ≡ None
 none_found None h = refl
 none_found (Some c) h = absurd cc
 
-found_last : (cursors : List Cursor) → cursor_of cursors (codes "c") ≡ None → cursor_of (cursors ++ cursor_at [] false ∷ []) (codes "c") ≡ Some (cursor_at [] false)
+found_last : (cursors : List Cursor) → cursor_of cursors (codes "c") ≡ None
+    → cursor_of (cursors ++ cursor_at [] false ∷ []) (codes "c") ≡ Some (cursor_at [] false)
 found_last [] h = refl
 found_last (c ∷ cursors) h = at_first (bytes_eq c.name (codes "c")) h (λ k. found_last cursors k)
   where
-    at_first : (b : Bool) → cond b (Some c) (cursor_of cursors (codes "c")) ≡ None → (cursor_of cursors (codes "c") ≡ None → cursor_of (cursors ++ cursor_at [] false ∷ []) (codes "c") ≡ Some (cursor_at [] false))
+    at_first : (b : Bool) → cond b (Some c) (cursor_of cursors (codes "c")) ≡ None
+        → (cursor_of cursors (codes "c") ≡ None → cursor_of (cursors ++ cursor_at [] false ∷ []) (codes "c")
+        ≡ Some (cursor_at [] false))
         → cond b (Some c) (cursor_of (cursors ++ cursor_at [] false ∷ []) (codes "c")) ≡ Some (cursor_at [] false)
     at_first true k rest = absurd cc
     at_first false k rest = rest k
@@ -465,13 +521,16 @@ told_refused r e effect told =
 
 opened_by : (L : Refusal → Type 0) (st : State) (y : Session) (e : Effect) (m : State) (result : Result ⊤ Refusal)
     → session_of st 1 ≡ Some y → y.batch ≡ None → to_session 1 e.queued ≡ codes "ok open\n"
-    → Answers (open_refusal st.store y.cursors (codes "c") (codes "q")) result (λ _. ⊤) L → e ≡ says 1 (ok_reply (codes "ok open") result) → OpensTo st 1 (codes "c") (codes "q") m result
+    → Answers (open_refusal st.store y.cursors (codes "c") (codes "q")) result (λ _. ⊤) L → e
+    ≡ says 1 (ok_reply (codes "ok open") result) → OpensTo st 1 (codes "c") (codes "q") m result
     → Stands m [] false
 opened_by L st y e m (Ok u) found none told answer effect after =
     let now = changed_to st m y (with_cursor (codes "c") (codes "q")) (λ x. refl) found after in
     record {
       cursor = ap (λ (o : Option Session). cursor_of (cursors_in o) (codes "c")) now
-          ∙ found_last y.cursors (none_found (cursor_of y.cursors (codes "c")) (is_new (is_some (cursor_of y.cursors (codes "c"))) _ _ _ u answer));
+          ∙ found_last y.cursors
+          (none_found (cursor_of y.cursors (codes "c"))
+          (is_new (is_some (cursor_of y.cursors (codes "c"))) _ _ _ u answer));
       batch = ap batch_in now ∙ none;
     }
 opened_by L st y e m (Err r) found none told answer effect after = absurd (told_refused r e effect told)
@@ -482,7 +541,8 @@ open_placed : (batch : Option (List HeldRow)) → is_misplaced batch (Open (code
 open_placed None e = refl
 open_placed (Some held) e = absurd cc
 
-open_at_once : (st : State) (y : Session) (e : Effect) (m : State) → session_of st 1 ≡ Some y → to_session 1 e.queued ≡ codes "ok open\n"
+open_at_once : (st : State) (y : Session) (e : Effect) (m : State) → session_of st 1 ≡ Some y → to_session 1 e.queued
+    ≡ codes "ok open\n"
     → ReadStep st 1 y (codes "open c q") (says_command (Open (codes "c") (codes "q"))) e m → Stands m [] false
 open_at_once st y e m found told h = by (is_misplaced y.batch opens) refl h
   where
@@ -497,12 +557,14 @@ open_at_once st y e m found told h = by (is_misplaced y.batch opens) refl h
         carried_out st y (codes "open c q") opens e m false refl refl k in
         opened_by _ st y e m done.result found (open_placed y.batch is) told done.answer done.effect done.state
 
-open_run : (mid new : State) → pending_of mid 1 ≡ [] → pending_of new 1 ≡ codes "ok open\n" → Runs (codes "open c q") mid new → Stands new [] false
+open_run : (mid new : State) → pending_of mid 1 ≡ [] → pending_of new 1 ≡ codes "ok open\n"
+    → Runs (codes "open c q") mid new → Stands new [] false
 open_run mid new none told r =
     let st = with_session mid 1 (behind_line r.rest) in
     let y = behind_line r.rest r.session in
     let queued : to_session 1 (r.effect).queued ≡ codes "ok open\n" =
-    sym (stepped_pending mid r.event r.effect new r.step 1 r.stays ∙ ap (λ (p : Bytes). p ++ to_session 1 (r.effect).queued) (r.pending ∙ none)) ∙ told in
+    sym (stepped_pending mid r.event r.effect new r.step 1 r.stays
+    ∙ ap (λ (p : Bytes). p ++ to_session 1 (r.effect).queued) (r.pending ∙ none)) ∙ told in
     stands_by [] false (r.step).mid new (stepped_has mid r.event r.effect new r.step)
     (open_at_once st y r.effect (r.step).mid (behind_found mid r.session r.rest r.found) queued
     (subst (λ (k : Reading). ReadStep st 1 y (codes "open c q") k r.effect (r.step).mid) open_reads r.reads))
@@ -511,12 +573,16 @@ open_front : front_of open_line ≡ a_line (codes "open c q") []
 open_front = refl
 
 -- The line that opens the cursor was run, and answered so.
-pub open_stands : (old : State) (before : Counts) (mid : State) (now : Counts) (new : State) → IsIdle old → LineRuns open_line old before mid now → pending_of mid 1 ≡ codes "ok open\n" → TakesAll mid new → Stands new [] false
+pub open_stands : (old : State) (before : Counts) (mid : State) (now : Counts) (new : State) → IsIdle old
+    → LineRuns open_line old before mid now → pending_of mid 1 ≡ codes "ok open\n" → TakesAll mid new
+    → Stands new [] false
 open_stands old before mid now new idle h told takes =
     let here = is_fed open_line old h.mid idle h.is_held h.comes in
     stands_by [] false mid new (took_has mid new takes)
-    (open_run h.mid mid here.pending told (runs open_line (codes "open c q") h.mid mid before now here.held open_front refl h.ran))
+    (open_run h.mid mid here.pending told
+    (runs open_line (codes "open c q") h.mid mid before now here.held open_front refl h.ran))
 
 -- Taking what is pending leaves the cursor.
-pub stands_on : (given : List Tuple) (ended : Bool) (old new : State) → TakesAll old new → Stands old given ended → Stands new given ended
+pub stands_on : (given : List Tuple) (ended : Bool) (old new : State) → TakesAll old new → Stands old given ended
+    → Stands new given ended
 stands_on given ended old new takes stands = stands_by given ended old new (took_has old new takes) stands

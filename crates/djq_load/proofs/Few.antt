@@ -1,5 +1,7 @@
 -- A load's query has few answers, and what a cursor has given is no more.
-use Rattle.std.specs.Prelude.{ℕ, suc, List, [], ◌∷◌, ◌≡◌, ◌==◌, ◌+◌, ◌-◌, ◌*◌, ◌%◌, ◌^◌, ◌<◌, ◌≤◌, ◌⊎◌, Bool, true, false, cond, Option, None, Some, All, Contains, length, replicate, codes}
+use Rattle.std.specs.Prelude.{ℕ, suc, List, [], ◌∷◌, ◌≡◌, ◌==◌, ◌+◌, ◌-◌, ◌*◌, ◌%◌, ◌^◌, ◌<◌, ◌≤◌}
+use Rattle.std.specs.Prelude.{◌⊎◌, Bool, true, false, cond, Option, None, Some, All, Contains}
+use Rattle.std.specs.Prelude.{length, replicate, codes}
 use Rattle.std.proofs.Common.{refl, sym, ap, ◌∙◌, subst, inl, inr, arith}
 use Rattle.std.proofs.lemmas.Nat.{mul-le}
 use Rattle.std.proofs.lemmas.List.{length-map}
@@ -34,7 +36,8 @@ record Found (st : State) (given : List Tuple) (ended : Bool) : Type 0 where
   is : session_of st 1 ≡ Some session
   cursor : cursor_of session.cursors (codes "c") ≡ Some (cursor_at given ended)
 
-found_in : (st : State) (given : List Tuple) (ended : Bool) (o : Option Session) → session_of st 1 ≡ o → cursor_of (cursors_in o) (codes "c") ≡ Some (cursor_at given ended) → Found st given ended
+found_in : (st : State) (given : List Tuple) (ended : Bool) (o : Option Session) → session_of st 1 ≡ o
+    → cursor_of (cursors_in o) (codes "c") ≡ Some (cursor_at given ended) → Found st given ended
 found_in st given ended None e h = absurd cc
 found_in st given ended (Some x) e h = record { session = x; is = e; cursor = h }
 
@@ -43,14 +46,17 @@ pub record HasGiven (st : State) (given : List Tuple) (ended : Bool) : Type 0 wh
   pub registered : listed_of st.store.queries (codes "q") ≡ Some query
   pub gives : Gives (AnswersOf st.store.relations query) given ended
 
-pub has_given : (st : State) (given : List Tuple) (ended : Bool) → CursorsGive st → Stands st given ended → HasGiven st given ended
+pub has_given : (st : State) (given : List Tuple) (ended : Bool) → CursorsGive st → Stands st given ended
+    → HasGiven st given ended
 has_given st given ended give stands =
     let rs = st.store.relations in
     let qs = st.store.queries in
     let f = found_in st given ended (session_of st 1) refl stands.cursor in
-    let of_session : SessionGives rs qs f.session = all_found (SessionGives rs qs) (λ (x : Session). x.id == 1) st.sessions f.session give f.is in
+    let of_session : SessionGives rs qs f.session = all_found (SessionGives rs qs) (λ (x : Session). x.id == 1)
+    st.sessions f.session give f.is in
     let of_cursor : PositionGives rs (listed_of qs (codes "q")) (open_at given ended) =
-    all_found (CursorGives rs qs) (λ (c : Cursor). bytes_eq c.name (codes "c")) (f.session).cursors (cursor_at given ended) of_session f.cursor in
+    all_found (CursorGives rs qs) (λ (c : Cursor). bytes_eq c.name (codes "c")) (f.session).cursors
+    (cursor_at given ended) of_session f.cursor in
     let q = some_and (listed_of qs (codes "q")) (λ (q : Listed). Gives (AnswersOf rs q) given ended) of_cursor in
     record { query = q.0; registered = q.1; gives = q.2 }
 
@@ -62,7 +68,12 @@ abbrev over_s : Atom
 over_s = record { relation = codes "s"; terms = Variable (codes "y") ∷ Variable (codes "z") ∷ [] }
 
 x_bound : IsInBody (codes "x") join
-x_bound = (over_r, first_there over_r (over_s ∷ []) over_r refl, first_there (Variable (codes "x")) (Variable (codes "y") ∷ []) (Variable (codes "x")) refl)
+x_bound = (
+  over_r,
+  first_there over_r (over_s ∷ []) over_r refl,
+  first_there (Variable (codes "x"))
+      (Variable (codes "y") ∷ []) (Variable (codes "x")) refl,
+)
 
 y_bound : IsInBody (codes "y") join
 y_bound = (
@@ -106,16 +117,20 @@ rows_within rs name h =
     by None e = omega arith
     by (Some r) e = all_found IsWithin (λ (x : Relation). bytes_eq x.name name) rs r h e
 
-pub few_given : (st : State) (given : List Tuple) (ended : Bool) → GivesFew st → Stands st given ended → length given ≤ most_answers
+pub few_given : (st : State) (given : List Tuple) (ended : Bool) → GivesFew st → Stands st given ended
+    → length given ≤ most_answers
 few_given st given ended few stands =
     let rs = st.store.relations in
     let h = has_given st given ended few.give stands in
-    let is : h.query ≡ a_query join = all_found IsJoin (λ (q : Listed). bytes_eq (listed_name q) (codes "q")) st.store.queries h.query few.store.queries h.registered in
-    let gives : Gives (AnswersOf rs (a_query join)) given ended = subst (λ (q : Listed). Gives (AnswersOf rs q) given ended) is h.gives in
+    let is : h.query ≡ a_query join = all_found IsJoin (λ (q : Listed). bytes_eq (listed_name q) (codes "q"))
+    st.store.queries h.query few.store.queries h.registered in
+    let gives : Gives (AnswersOf rs (a_query join)) given ended = subst
+    (λ (q : Listed). Gives (AnswersOf rs q) given ended) is h.gives in
     let most = answers_are_bounded rs (a_query join) join_bound given gives.different gives.answers in
     let r = rows_within rs (codes "r") few.store.rows in
     let s = rows_within rs (codes "s") few.store.rows in
-    let all = mul-le (length (rows_of rs (codes "r"))) (length (rows_of rs (codes "s")) * 1) ROWS ROWS r (omega (arith, s)) in
+    let all = mul-le (length (rows_of rs (codes "r"))) (length (rows_of rs (codes "s")) * 1) ROWS ROWS r
+    (omega (arith, s)) in
     omega (arith, most, all)
 
 -- Reading goes on only as long as fewer were given.
@@ -125,12 +140,16 @@ reads_left r = cond r.ended 0 (suc (most_answers - r.answers))
 small : (n : ℕ) → n ≤ most_answers → n % 2 ^ 64 ≡ n
 small n h = omega (arith, h)
 
-pub answers_are : (st : State) (r : Reading) (reads : ℕ) → GivesFew st → (h : IsRead st r reads) → r.answers ≡ length h.given
-answers_are st r reads few h = ap (λ (x : Reading). x.answers) h.is ∙ small (length h.given) (few_given st h.given r.ended few h.stands)
+pub answers_are : (st : State) (r : Reading) (reads : ℕ) → GivesFew st → (h : IsRead st r reads) → r.answers
+    ≡ length h.given
+answers_are st r reads few h = ap (λ (x : Reading). x.answers) h.is
+    ∙ small (length h.given) (few_given st h.given r.ended few h.stands)
 
-pub fewer_left : (old new : State) (r after : Reading) (k : ℕ) → GivesFew old → GivesFew new → r.ended ≡ false → IsRead old r k → IsRead new after (k + 1) → reads_left after < reads_left r
+pub fewer_left : (old new : State) (r after : Reading) (k : ℕ) → GivesFew old → GivesFew new → r.ended ≡ false
+    → IsRead old r k → IsRead new after (k + 1) → reads_left after < reads_left r
 fewer_left old new r after k few more going h next =
-    subst (λ (n : ℕ). reads_left after < n) (sym (ap (λ (b : Bool). cond b 0 (suc (most_answers - r.answers))) going)) (by after.ended refl)
+    subst (λ (n : ℕ). reads_left after < n) (sym (ap (λ (b : Bool). cond b 0 (suc (most_answers - r.answers))) going))
+    (by after.ended refl)
   where
     by : (b : Bool) → after.ended ≡ b → cond b 0 (suc (most_answers - after.answers)) < suc (most_answers - r.answers)
     by true e = omega arith
@@ -146,16 +165,26 @@ fewer_left old new r after k few more going h next =
 pub opens_few : (start a : State) (counted : Counts) → start ≡ opening → Loads [] start counted a counted → GivesFew a
 opens_few start a counted e h =
     loads_few [] start counted a counted tt tt (ap (λ (st : State). held_of st 1) e) h
-    (subst GivesFew (sym e) (record { store = record { rows = All-nil IsWithin; queries = All-nil IsJoin }; give = All-nil (SessionGives [] []) }))
+    (subst GivesFew (sym e)
+    (record {
+      store = record { rows = All-nil IsWithin; queries = All-nil IsJoin };
+      give = All-nil
+          (SessionGives [] []);
+    }))
 
 pub points_few : (n seed : ℕ) (a : State) (before : Counts) (b : State) (at_b : Counts) (c : State) (at_c : Counts)
-    → IsIdle a → IsIdle b → Loads (load n seed) a before b at_b → Loads (open_line ∷ []) b at_b c at_c → GivesFew a → GivesFew c
+    → IsIdle a → IsIdle b → Loads (load n seed) a before b at_b → Loads (open_line ∷ []) b at_b c at_c → GivesFew a
+    → GivesFew c
 points_few n seed a before b at_b c at_c idle then feeds points few =
     loads_few (open_line ∷ []) b at_b c at_c (refl, tt) opening_fine then.held points
     (loads_few (load n seed) a before b at_b (load_ones n seed) (load_fine n seed) idle.held feeds few)
 
-pub read_few : (old : State) (before : Counts) (new : State) (now : Counts) → IsIdle old → Loads (next_line ∷ []) old before new now → GivesFew old → GivesFew new
-read_few old before new now idle h few = loads_few (replicate 1 next_line) old before new now (reads_one 1) (reads_fine 1) idle.held h few
+pub read_few : (old : State) (before : Counts) (new : State) (now : Counts) → IsIdle old
+    → Loads (next_line ∷ []) old before new now → GivesFew old → GivesFew new
+read_few old before new now idle h few = loads_few (replicate 1 next_line) old before new now (reads_one 1)
+    (reads_fine 1) idle.held h few
 
-pub all_few : (k : ℕ) (old : State) (before : Counts) (new : State) (now : Counts) → IsIdle old → Loads (replicate k next_line) old before new now → GivesFew old → GivesFew new
-all_few k old before new now idle h few = loads_few (replicate k next_line) old before new now (reads_one k) (reads_fine k) idle.held h few
+pub all_few : (k : ℕ) (old : State) (before : Counts) (new : State) (now : Counts) → IsIdle old
+    → Loads (replicate k next_line) old before new now → GivesFew old → GivesFew new
+all_few k old before new now idle h few = loads_few (replicate k next_line) old before new now (reads_one k)
+    (reads_fine k) idle.held h few

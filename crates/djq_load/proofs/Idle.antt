@@ -1,5 +1,6 @@
 -- What a line that comes to an idle session makes of it.
-use Rattle.std.specs.Prelude.{ℕ, List, [], ◌∷◌, ◌++◌, ◌≡◌, ◌≢◌, ◌+◌, ◌<◌, ◌≤◌, true, Option, None, Some, IsSome, IsSomeAnd, MatchOption, length, replicate}
+use Rattle.std.specs.Prelude.{ℕ, List, [], ◌∷◌, ◌++◌, ◌≡◌, ◌≢◌, ◌+◌, ◌<◌, ◌≤◌, true, Option, None}
+use Rattle.std.specs.Prelude.{Some, IsSome, IsSomeAnd, MatchOption, length, replicate}
 use Rattle.std.proofs.Common.{refl, sym, ap, ap₂, ◌∙◌, subst, inl, inr, append-nil, append_assoc, length-append, arith}
 use Rattle.std.proofs.lemmas.List.{nil_from_length, replicate_more}
 use Rattle.std.proofs.lemmas.Grind.{flat_map-append}
@@ -18,7 +19,8 @@ use Rattle.djq_machine.specs.Step.{Event, fed, stepped, took, is_dry, Step}
 use Rattle.djq_machine.specs.Run.{Did, piece_of, pending_of, pending_in, to_session}
 use Rattle.djq_machine.specs.declared.machine.Stepped.{Stepped}
 use Rattle.djq_machine.specs.declared.machine.Stepped.TheVariants.{Ran, Dry, Ended as HadEnded}
-use Rattle.djq_machine.specs.Call.{IsOpen, Makes, MakesCounted, RanStep, EndedStepAs, StepGives, Counts, cause_of, cause_in, held_of, held_in}
+use Rattle.djq_machine.specs.Call.{IsOpen, Makes, MakesCounted, RanStep, EndedStepAs, StepGives}
+use Rattle.djq_machine.specs.Call.{Counts, cause_of, cause_in, held_of, held_in}
 use Rattle.djq_laws.specs.declared.limits.TheConstants.{READ_BYTES}
 use Rattle.djq_laws.specs.Course.{RunNext, AwaitsInput}
 use Rattle.djq_laws.specs.Sent.{gone_by}
@@ -48,7 +50,8 @@ come line old mid idle running (is_held stays o n held pending) = record {
 come line old mid idle running (out_of_memory stays o n held pending) = absurd (none_some _ _ running n)
 come line old mid idle running (is_dropped stays c o n held pending) = absurd (none_some _ _ idle.running o)
 
-pub is_fed : (line : Bytes) (old mid : State) → IsIdle old → cause_of mid 1 ≡ None → Makes old (fed 1 line) mid → IsFed line mid
+pub is_fed : (line : Bytes) (old mid : State) → IsIdle old → cause_of mid 1 ≡ None → Makes old (fed 1 line) mid
+    → IsFed line mid
 is_fed line old mid idle running m = come line old mid idle running (fed_facts old 1 line m.effect mid m.step)
 
 came_open : (line : Bytes) (old mid : State) → Comes old mid 1 line → IsOpen mid 1
@@ -60,8 +63,10 @@ pub fed_open : (line : Bytes) (old mid : State) → Makes old (fed 1 line) mid �
 fed_open line old mid m = came_open line old mid (fed_facts old 1 line m.effect mid m.step)
 
 pub ran_open : (old new : State) (before now : Counts) → RanStep old 1 new before now → IsOpen new 1
-ran_open old new before now (l, inl m) = let f : StepsLine old new 1 (blank l) = stepped_facts old 1 (blank l) m.effect new m.step in f.stays
-ran_open old new before now (l, inr m) = let f : StepsLine old new 1 (run l) = stepped_facts old 1 (run l) m.effect new m.step in f.stays
+ran_open old new before now (l, inl m) = let f : StepsLine old new 1 (blank l) = stepped_facts old 1 (blank l) m.effect
+    new m.step in f.stays
+ran_open old new before now (l, inr m) = let f : StepsLine old new 1 (run l) = stepped_facts old 1 (run l) m.effect new
+    m.step in f.stays
 
 -- behind the one line that was held, nothing is
 nothing_left : (held l rest : Bytes) → front_of held ≡ a_line l rest → behind_lf held ≡ Some [] → rest ≡ []
@@ -70,7 +75,8 @@ nothing_left held l rest front one = let f = line_in_front held l rest front in 
     same : Some rest ≡ Some [] → rest ≡ []
     same e = cc
 
-ran_held : (line : Bytes) (old new : State) (before now : Counts) → held_of old 1 ≡ line → behind_lf line ≡ Some [] → RanStep old 1 new before now → held_of new 1 ≡ []
+ran_held : (line : Bytes) (old new : State) (before now : Counts) → held_of old 1 ≡ line → behind_lf line ≡ Some []
+    → RanStep old 1 new before now → held_of new 1 ≡ []
 ran_held line old new before now held one (l, inl m) =
     let f : StepsLine old new 1 (blank l) = stepped_facts old 1 (blank l) m.effect new m.step in
     nothing_left (held_of old 1) l (held_of new 1) f.held (ap behind_lf held ∙ one)
@@ -97,24 +103,35 @@ taken old new there (inl (none, same)) = record {
 }
 taken old new there (inr (some, m)) =
     let t : Takes old new 1 (pending_of old 1) = took_facts old 1 (pending_of old 1) m.effect new m.step in
-    record { is_open = t.stays; held = t.held; cause = t.cause; pending = none_behind (pending_of old 1) (pending_of new 1) t.pending }
+    record {
+      is_open = t.stays;
+      held = t.held;
+      cause = t.cause;
+      pending = none_behind (pending_of old 1)
+          (pending_of new 1) t.pending;
+    }
 
 -- What is queued where nothing is pending and nothing is taken is what is pending then.
-queued_is : (old : State) (event : Event) (e : Effect) (new : State) → Step old event e new → gone_by 1 event ≡ [] → pending_of old 1 ≡ [] → pending_of new 1 ≡ to_session 1 e.queued
+queued_is : (old : State) (event : Event) (e : Effect) (new : State) → Step old event e new → gone_by 1 event ≡ []
+    → pending_of old 1 ≡ [] → pending_of new 1 ≡ to_session 1 e.queued
 queued_is old event e new h kept none =
-    sym (ap (λ (gone : Bytes). gone ++ pending_of new 1) kept) ∙ step_bytes old event e new h 1 ∙ ap (λ (p : Bytes). p ++ to_session 1 e.queued) none
+    sym (ap (λ (gone : Bytes). gone ++ pending_of new 1) kept) ∙ step_bytes old event e new h 1
+    ∙ ap (λ (p : Bytes). p ++ to_session 1 e.queued) none
 
 -- what is queued where all that is pending is taken, and nothing is pending then
-queued_none : (old new : State) (e : Effect) → Step old (took 1 (pending_of old 1)) e new → pending_of new 1 ≡ [] → to_session 1 e.queued ≡ []
+queued_none : (old new : State) (e : Effect) → Step old (took 1 (pending_of old 1)) e new → pending_of new 1 ≡ []
+    → to_session 1 e.queued ≡ []
 queued_none old new e h none =
     let p = pending_of old 1 in
-    none_behind p (to_session 1 e.queued) (sym (append-nil p) ∙ ap (λ (q : Bytes). p ++ q) (sym none) ∙ step_bytes old (took 1 p) e new h 1)
+    none_behind p (to_session 1 e.queued)
+    (sym (append-nil p) ∙ ap (λ (q : Bytes). p ++ q) (sym none) ∙ step_bytes old (took 1 p) e new h 1)
 
 -- Runs that lines make, one after another.
 pub loads_none : (st : State) (counted : Counts) → Loads [] st counted st counted
 loads_none st counted = record { done = []; walk = refl; fed = refl; served = All-nil IsServed; listing = omega arith }
 
-pub loads_one : (d : Did) (old : State) (before : Counts) (new : State) (now : Counts) → RunNext old d new → IsServed d → now.listing ≤ before.listing + d.effect.cost → Loads (piece_of d.event) old before new now
+pub loads_one : (d : Did) (old : State) (before : Counts) (new : State) (now : Counts) → RunNext old d new → IsServed d
+    → now.listing ≤ before.listing + d.effect.cost → Loads (piece_of d.event) old before new now
 loads_one d old before new now next served listing = record {
   done = d ∷ [];
   walk = (new, next, refl);
@@ -123,7 +140,8 @@ loads_one d old before new now next served listing = record {
   listing = omega (arith, listing);
 }
 
-pub loads_then : (lines more : List Bytes) (old : State) (before : Counts) (mid : State) (between : Counts) (new : State) (now : Counts)
+pub loads_then : (lines more : List Bytes) (old : State) (before : Counts) (mid : State) (between : Counts)
+    (new : State) (now : Counts)
     → Loads lines old before mid between → Loads more mid between new now → Loads (lines ++ more) old before new now
 loads_then lines more old before mid between new now c d = record {
   done = c.done ++ d.done;
@@ -134,7 +152,8 @@ loads_then lines more old before mid between new now c d = record {
 }
 
 -- what is known of an open session's parts holds of the session
-of_session : (o : Option Session) → IsSome o → (P : Session → Type 0) → ((x : Session) → o ≡ Some x → P x) → IsSomeAnd o P
+of_session : (o : Option Session) → IsSome o → (P : Session → Type 0) → ((x : Session) → o ≡ Some x → P x)
+    → IsSomeAnd o P
 of_session None there P f = absurd cc
 of_session (Some x) there P f = f x refl
 
@@ -150,43 +169,58 @@ awaits st idle = of_session (session_of st 1) idle.is_open AwaitsInput
     })
 
 flushed : (st : State) → IsOpen st 1 → pending_of st 1 ≡ [] → IsSomeAnd (session_of st 1) (λ x. x.pending ≡ [])
-flushed st there pending = of_session (session_of st 1) there (λ x. x.pending ≡ []) (λ x e. sym (ap pending_in e) ∙ pending)
+flushed st there pending = of_session (session_of st 1) there (λ x. x.pending ≡ [])
+    (λ x e. sym (ap pending_in e) ∙ pending)
 
 pub some_byte : (line : Bytes) → behind_lf line ≡ Some [] → 0 < length line
 some_byte [] e = absurd cc
 some_byte (b ∷ line) e = omega arith
 
 -- the step that runs the line
-ran_one : (old : State) (before : Counts) (outcome : LineOutcome) (new : State) (now : Counts) → IsOpen old 1 → pending_of old 1 ≡ [] → pending_of new 1 ≢ refusal_line NoMemory
+ran_one : (old : State) (before : Counts) (outcome : LineOutcome) (new : State) (now : Counts) → IsOpen old 1
+    → pending_of old 1 ≡ [] → pending_of new 1 ≢ refusal_line NoMemory
     → MakesCounted old (stepped 1 outcome) new before now → Loads [] old before new now
 ran_one old before outcome new now there pending served m =
-    loads_one (record { event = stepped 1 outcome; effect = m.effect }) old before new now ((refl, flushed old there pending), m.step)
+    loads_one (record { event = stepped 1 outcome; effect = m.effect }) old before new now
+    ((refl, flushed old there pending), m.step)
     (λ e. served (queued_is old (stepped 1 outcome) m.effect new m.step refl pending ∙ e)) m.listing
 
-ran_loads : (old : State) (before : Counts) (new : State) (now : Counts) → IsOpen old 1 → pending_of old 1 ≡ [] → pending_of new 1 ≢ refusal_line NoMemory → RanStep old 1 new before now → Loads [] old before new now
-ran_loads old before new now there pending served (l, inl m) = ran_one old before (blank l) new now there pending served m
+ran_loads : (old : State) (before : Counts) (new : State) (now : Counts) → IsOpen old 1 → pending_of old 1 ≡ []
+    → pending_of new 1 ≢ refusal_line NoMemory → RanStep old 1 new before now → Loads [] old before new now
+ran_loads old before new now there pending served (l, inl m) = ran_one old before (blank l) new now there pending served
+    m
 ran_loads old before new now there pending served (l, inr m) = ran_one old before (run l) new now there pending served m
 
-took_loads : (old : State) (counted : Counts) (new : State) → pending_of new 1 ≡ [] → TakesAll old new → Loads [] old counted new counted
-took_loads old counted new pending (inl (none, same)) = subst (λ (st : State). Loads [] old counted st counted) (sym same) (loads_none old counted)
+took_loads : (old : State) (counted : Counts) (new : State) → pending_of new 1 ≡ [] → TakesAll old new
+    → Loads [] old counted new counted
+took_loads old counted new pending (inl (none, same)) = subst (λ (st : State). Loads [] old counted st counted)
+    (sym same) (loads_none old counted)
 took_loads old counted new pending (inr (some, m)) =
-    loads_one (record { event = took 1 (pending_of old 1); effect = m.effect }) old counted new counted ((refl, some), m.step)
+    loads_one (record { event = took 1 (pending_of old 1); effect = m.effect }) old counted new counted
+    ((refl, some), m.step)
     (quiet (to_session 1 (m.effect).queued) (queued_none old new m.effect m.step pending)) (omega arith)
 
 -- A line that comes, is run, and whose reply is taken.
-pub line_loads : (line : Bytes) (old : State) (before : Counts) (mid : State) (now : Counts) (new : State) → IsIdle old → behind_lf line ≡ Some [] → length line ≤ READ_BYTES
-    → LineRuns line old before mid now → pending_of mid 1 ≢ refusal_line NoMemory → TakesAll mid new → Loads (line ∷ []) old before new now
+pub line_loads : (line : Bytes) (old : State) (before : Counts) (mid : State) (now : Counts) (new : State) → IsIdle old
+    → behind_lf line ≡ Some [] → length line ≤ READ_BYTES
+    → LineRuns line old before mid now → pending_of mid 1 ≢ refusal_line NoMemory → TakesAll mid new
+    → Loads (line ∷ []) old before new now
 line_loads line old before mid now new idle one short runs served takes =
     let m = runs.comes in
     let here = is_fed line old runs.mid idle runs.is_held m in
     let first : Loads (line ∷ []) old before runs.mid before =
-    loads_one (record { event = fed 1 line; effect = m.effect }) old before runs.mid before ((refl, some_byte line one, short, awaits old idle), m.step)
-    (quiet (to_session 1 (m.effect).queued) (sym (queued_is old (fed 1 line) m.effect runs.mid m.step refl idle.pending) ∙ here.pending)) (omega arith) in
+    loads_one (record { event = fed 1 line; effect = m.effect }) old before runs.mid before
+    ((refl, some_byte line one, short, awaits old idle), m.step)
+    (quiet (to_session 1 (m.effect).queued)
+    (sym (queued_is old (fed 1 line) m.effect runs.mid m.step refl idle.pending) ∙ here.pending)) (omega arith) in
     let t = taken mid new (ran_open runs.mid mid before now runs.ran) takes in
     loads_then (line ∷ []) [] old before runs.mid before new now first
-    (loads_then [] [] runs.mid before mid now new now (ran_loads runs.mid before mid now here.is_open here.pending served runs.ran) (took_loads mid now new t.pending takes))
+    (loads_then [] [] runs.mid before mid now new now
+    (ran_loads runs.mid before mid now here.is_open here.pending served runs.ran)
+    (took_loads mid now new t.pending takes))
 
-pub line_idle : (line : Bytes) (old : State) (before : Counts) (mid : State) (now : Counts) (new : State) → IsIdle old → behind_lf line ≡ Some []
+pub line_idle : (line : Bytes) (old : State) (before : Counts) (mid : State) (now : Counts) (new : State) → IsIdle old
+    → behind_lf line ≡ Some []
     → LineRuns line old before mid now → TakesAll mid new → IsIdle new
 line_idle line old before mid now new idle one runs takes =
     let here = is_fed line old runs.mid idle runs.is_held runs.comes in
@@ -199,7 +233,8 @@ line_idle line old before mid now new idle one runs takes =
     }
 
 -- Lines that come, whatever they are answered.
-feeds_one : (d : Did) (old : State) (before : Counts) (new : State) (now : Counts) → RunNext old d new → now.listing ≤ before.listing + d.effect.cost → Feeds (piece_of d.event) old before new now
+feeds_one : (d : Did) (old : State) (before : Counts) (new : State) (now : Counts) → RunNext old d new
+    → now.listing ≤ before.listing + d.effect.cost → Feeds (piece_of d.event) old before new now
 feeds_one d old before new now next listing = record {
   done = d ∷ [];
   walk = (new, next, refl);
@@ -207,7 +242,8 @@ feeds_one d old before new now next listing = record {
   listing = omega (arith, listing);
 }
 
-feeds_then : (lines more : List Bytes) (old : State) (before : Counts) (mid : State) (between : Counts) (new : State) (now : Counts)
+feeds_then : (lines more : List Bytes) (old : State) (before : Counts) (mid : State) (between : Counts) (new : State)
+    (now : Counts)
     → Feeds lines old before mid between → Feeds more mid between new now → Feeds (lines ++ more) old before new now
 feeds_then lines more old before mid between new now c d = record {
   done = c.done ++ d.done;
@@ -217,53 +253,75 @@ feeds_then lines more old before mid between new now c d = record {
 }
 
 -- the line comes
-pub comes_feeds : (line : Bytes) (old : State) (counted : Counts) (mid : State) → IsIdle old → 0 < length line → length line ≤ READ_BYTES → Makes old (fed 1 line) mid → Feeds (line ∷ []) old counted mid counted
+pub comes_feeds : (line : Bytes) (old : State) (counted : Counts) (mid : State) → IsIdle old → 0 < length line
+    → length line ≤ READ_BYTES → Makes old (fed 1 line) mid → Feeds (line ∷ []) old counted mid counted
 comes_feeds line old counted mid idle some short m =
-    feeds_one (record { event = fed 1 line; effect = m.effect }) old counted mid counted ((refl, some, short, awaits old idle), m.step) (omega arith)
+    feeds_one (record { event = fed 1 line; effect = m.effect }) old counted mid counted
+    ((refl, some, short, awaits old idle), m.step) (omega arith)
 
-front_feeds : (line : Bytes) (old : State) (before : Counts) (mid : State) (outcome : LineOutcome) (new : State) (now : Counts) → IsFed line mid
-    → Feeds (line ∷ []) old before mid before → MakesCounted mid (stepped 1 outcome) new before now → Feeds (line ∷ []) old before new now
+front_feeds : (line : Bytes) (old : State) (before : Counts) (mid : State) (outcome : LineOutcome) (new : State)
+    (now : Counts) → IsFed line mid
+    → Feeds (line ∷ []) old before mid before → MakesCounted mid (stepped 1 outcome) new before now
+    → Feeds (line ∷ []) old before new now
 front_feeds line old before mid outcome new now here comes m =
     feeds_then (line ∷ []) [] old before mid before new now comes
-    (feeds_one (record { event = stepped 1 outcome; effect = m.effect }) mid before new now ((refl, flushed mid here.is_open here.pending), m.step) m.listing)
+    (feeds_one (record { event = stepped 1 outcome; effect = m.effect }) mid before new now
+    ((refl, flushed mid here.is_open here.pending), m.step) m.listing)
 
-ended_feeds : (line : Bytes) (old : State) (before : Counts) (mid : State) (c : EndCause) (new : State) (now : Counts) → IsFed line mid
-    → Feeds (line ∷ []) old before mid before → EndedStepAs c mid 1 new before now → Feeds (line ∷ []) old before new now
+ended_feeds : (line : Bytes) (old : State) (before : Counts) (mid : State) (c : EndCause) (new : State) (now : Counts)
+    → IsFed line mid
+    → Feeds (line ∷ []) old before mid before → EndedStepAs c mid 1 new before now
+    → Feeds (line ∷ []) old before new now
 ended_feeds line old before mid Long new now here comes m = front_feeds line old before mid long new now here comes m
-ended_feeds line old before mid Slow new now here comes (l, m) = front_feeds line old before mid (slow l) new now here comes m
-ended_feeds line old before mid Memory new now here comes (l, m) = front_feeds line old before mid (no_room l) new now here comes m
+ended_feeds line old before mid Slow new now here comes (l, m) = front_feeds line old before mid (slow l) new now here
+    comes m
+ended_feeds line old before mid Memory new now here comes (l, m) = front_feeds line old before mid (no_room l) new now
+    here comes m
 ended_feeds line old before mid _ new now here comes m = absurd m
 
 ran_feeds : (line : Bytes) (old : State) (before : Counts) (mid new : State) (now : Counts) → IsFed line mid
     → Feeds (line ∷ []) old before mid before → RanStep mid 1 new before now → Feeds (line ∷ []) old before new now
-ran_feeds line old before mid new now here comes (l, inl m) = front_feeds line old before mid (blank l) new now here comes m
-ran_feeds line old before mid new now here comes (l, inr m) = front_feeds line old before mid (run l) new now here comes m
+ran_feeds line old before mid new now here comes (l, inl m) = front_feeds line old before mid (blank l) new now here
+    comes m
+ran_feeds line old before mid new now here comes (l, inr m) = front_feeds line old before mid (run l) new now here comes
+    m
 
-stepped_by : (line : Bytes) (old : State) (before : Counts) (mid : State) (r : Stepped) (new : State) (now : Counts) (kept : List Bytes) → IsFed line mid → cause_of mid 1 ≡ None
-    → Feeds (line ∷ []) old before mid before → StepGives mid 1 r new before now kept → Feeds (line ∷ []) old before new now
-stepped_by line old before mid (Ran is_kept) new now kept here running comes h = ran_feeds line old before mid new now here comes h.0
+stepped_by : (line : Bytes) (old : State) (before : Counts) (mid : State) (r : Stepped) (new : State) (now : Counts)
+    (kept : List Bytes) → IsFed line mid → cause_of mid 1 ≡ None
+    → Feeds (line ∷ []) old before mid before → StepGives mid 1 r new before now kept
+    → Feeds (line ∷ []) old before new now
+stepped_by line old before mid (Ran is_kept) new now kept here running comes h = ran_feeds line old before mid new now
+    here comes h.0
 stepped_by line old before mid Dry new now kept here running comes h =
-    subst (λ (st : State). Feeds (line ∷ []) old before st now) (sym h.0) (subst (λ (counted : Counts). Feeds (line ∷ []) old before mid counted) (sym h.1) comes)
+    subst (λ (st : State). Feeds (line ∷ []) old before st now) (sym h.0)
+    (subst (λ (counted : Counts). Feeds (line ∷ []) old before mid counted) (sym h.1) comes)
 stepped_by line old before mid (HadEnded c) new now kept here running comes h =
     ended_feeds line old before mid c new now here comes
-    (subst (λ (o : Option EndCause). MatchOption o (EndedStepAs c mid 1 new before now) (λ d. (d ≡ c) × (new ≡ mid) × (now ≡ before))) running h.1)
+    (subst (λ (o : Option EndCause). MatchOption o (EndedStepAs c mid 1 new before now)
+    (λ d. (d ≡ c) × (new ≡ mid) × (now ≡ before))) running h.1)
 
 -- and is run or isn't
-pub stepped_feeds : (line : Bytes) (old : State) (before : Counts) (mid : State) (r : Stepped) (new : State) (now : Counts) (kept : List Bytes) → IsIdle old → 0 < length line → length line ≤ READ_BYTES
-    → Makes old (fed 1 line) mid → cause_of mid 1 ≡ None → StepGives mid 1 r new before now kept → Feeds (line ∷ []) old before new now
+pub stepped_feeds : (line : Bytes) (old : State) (before : Counts) (mid : State) (r : Stepped) (new : State)
+    (now : Counts) (kept : List Bytes) → IsIdle old → 0 < length line → length line ≤ READ_BYTES
+    → Makes old (fed 1 line) mid → cause_of mid 1 ≡ None → StepGives mid 1 r new before now kept
+    → Feeds (line ∷ []) old before new now
 stepped_feeds line old before mid r new now kept idle some short m running h =
-    stepped_by line old before mid r new now kept (is_fed line old mid idle running m) running (comes_feeds line old before mid idle some short m) h
+    stepped_by line old before mid r new now kept (is_fed line old mid idle running m) running
+    (comes_feeds line old before mid idle some short m) h
 
 -- and was run
-pub line_feeds : (line : Bytes) (old : State) (before : Counts) (new : State) (now : Counts) → IsIdle old → 0 < length line → length line ≤ READ_BYTES
+pub line_feeds : (line : Bytes) (old : State) (before : Counts) (new : State) (now : Counts) → IsIdle old
+    → 0 < length line → length line ≤ READ_BYTES
     → LineRuns line old before new now → Feeds (line ∷ []) old before new now
 line_feeds line old before new now idle some short runs =
     ran_feeds line old before runs.mid new now (is_fed line old runs.mid idle runs.is_held runs.comes)
     (comes_feeds line old before runs.mid idle some short runs.comes) runs.ran
 
 -- At one of some lines memory is wanting.
-pub breaks_at : (earlier : List Bytes) (line : Bytes) (later lines : List Bytes) (old : State) (before : Counts) (mid : State) (between : Counts) (new : State) (now : Counts)
-    → earlier ++ line ∷ later ≡ lines → Loads earlier old before mid between → Feeds (line ∷ []) mid between new now → BreaksOff lines old before new now
+pub breaks_at : (earlier : List Bytes) (line : Bytes) (later lines : List Bytes) (old : State) (before : Counts)
+    (mid : State) (between : Counts) (new : State) (now : Counts)
+    → earlier ++ line ∷ later ≡ lines → Loads earlier old before mid between → Feeds (line ∷ []) mid between new now
+    → BreaksOff lines old before new now
 breaks_at earlier line later lines old before mid between new now are loads feeds = record {
   earlier = earlier;
   line = line;
@@ -276,8 +334,10 @@ breaks_at earlier line later lines old before mid between new now are loads feed
 }
 
 -- and there are lines before them, or behind them
-pub breaks_behind : (lines more : List Bytes) (old : State) (before : Counts) (mid : State) (between : Counts) (new : State) (now : Counts)
-    → Loads lines old before mid between → BreaksOff more mid between new now → BreaksOff (lines ++ more) old before new now
+pub breaks_behind : (lines more : List Bytes) (old : State) (before : Counts) (mid : State) (between : Counts)
+    (new : State) (now : Counts)
+    → Loads lines old before mid between → BreaksOff more mid between new now
+    → BreaksOff (lines ++ more) old before new now
 breaks_behind lines more old before mid between new now loads b =
     breaks_at (lines ++ b.earlier) b.line b.later (lines ++ more) old before b.mid b.between new now
     (append_assoc lines b.earlier (b.line ∷ b.later) ∙ ap (λ (xs : List Bytes). lines ++ xs) b.are)
@@ -290,7 +350,10 @@ breaks_before lines more old before new now b =
     (sym (append_assoc b.earlier (b.line ∷ b.later) more) ∙ ap (λ (xs : List Bytes). xs ++ more) b.are) b.loads b.feeds
 
 -- the same line again
-pub loads_again : (line : Bytes) (k : ℕ) (old : State) (before : Counts) (mid : State) (between : Counts) (new : State) (now : Counts)
-    → Loads (replicate k line) old before mid between → Loads (line ∷ []) mid between new now → Loads (replicate (k + 1) line) old before new now
+pub loads_again : (line : Bytes) (k : ℕ) (old : State) (before : Counts) (mid : State) (between : Counts) (new : State)
+    (now : Counts)
+    → Loads (replicate k line) old before mid between → Loads (line ∷ []) mid between new now
+    → Loads (replicate (k + 1) line) old before new now
 loads_again line k old before mid between new now c d =
-    subst (λ (lines : List Bytes). Loads lines old before new now) (replicate_more k line) (loads_then (replicate k line) (line ∷ []) old before mid between new now c d)
+    subst (λ (lines : List Bytes). Loads lines old before new now) (replicate_more k line)
+    (loads_then (replicate k line) (line ∷ []) old before mid between new now c d)

@@ -1,5 +1,7 @@
 -- No line that is fed registers a query but the load's, or puts in a batch.
-use Rattle.std.specs.Prelude.{ℕ, zero, suc, List, [], ◌∷◌, ◌++◌, ◌≡◌, ◌==◌, ◌+◌, ◌-◌, ◌/◌, ◌%◌, Bool, true, false, cond, Option, None, Some, option_map, All, length, take, slice_index, codes, decimal, replicate}
+use Rattle.std.specs.Prelude.{ℕ, zero, suc, List, [], ◌∷◌, ◌++◌, ◌≡◌, ◌==◌, ◌+◌, ◌-◌, ◌/◌, ◌%◌}
+use Rattle.std.specs.Prelude.{Bool, true, false, cond, Option, None, Some, option_map, All, length}
+use Rattle.std.specs.Prelude.{take, slice_index, codes, decimal, replicate}
 use Rattle.std.specs.List.{AllByRecursion}
 use Rattle.std.specs.Str.{is_utf8}
 use Rattle.std.proofs.Common.{refl, sym, ap, ◌∙◌, subst, append-nil, append_assoc, arith}
@@ -10,7 +12,8 @@ use Rattle.djq_value.specs.Token.{tokens}
 use Rattle.djq_lines.specs.Line.{before_lf, behind_lf, without_cr}
 use Rattle.djq_lines.specs.declared.command.Command.{Command}
 use Rattle.djq_lines.specs.declared.command.Command.TheVariants.{Rel, Add, Del, Query as Register, Open, Next, Close}
-use Rattle.djq_lines.specs.Grammar.{past_limit, says as says_command, reading_in, command_of, command_in, is_in_range, items_in}
+use Rattle.djq_lines.specs.Grammar.{past_limit, says as says_command, reading_in, command_of}
+use Rattle.djq_lines.specs.Grammar.{command_in, is_in_range, items_in}
 use Rattle.djq_machine.specs.State.{State}
 use Rattle.djq_machine.specs.LineStep.{LineOutcome, long, blank, slow, no_room, run}
 use Rattle.djq_machine.specs.Step.{Event, opened, fed, stepped, took, ended, closed}
@@ -97,12 +100,16 @@ AreHarmless lines = AllByRecursion IsHarmlessLine lines
 change_fine : (values a b c : ℕ) → IsHarmlessLine (change values a b c)
 change_fine values a b c = by (a / 2 % 4 == 0)
   where
-    by : (is : Bool) → IsHarmlessLine (cond is (codes "del ") (codes "add ") ++ relation a ++ decimal (b % values) ++ codes " " ++ decimal (c % values) ++ codes "\n")
+    by : (is : Bool) → IsHarmlessLine
+        (cond is (codes "del ") (codes "add ") ++ relation a ++ decimal (b % values) ++ codes " " ++ decimal
+        (c % values) ++ codes "\n")
     by true =
-        let w = word_stays 100 101 108 (before_lf (relation a ++ decimal (b % values) ++ codes " " ++ decimal (c % values) ++ codes "\n")) in
+        let w = word_stays 100 101 108
+        (before_lf (relation a ++ decimal (b % values) ++ codes " " ++ decimal (c % values) ++ codes "\n")) in
         subst LeavesJoin (sym w.1) (deletes w.0)
     by false =
-        let w = word_stays 97 100 100 (before_lf (relation a ++ decimal (b % values) ++ codes " " ++ decimal (c % values) ++ codes "\n")) in
+        let w = word_stays 97 100 100
+        (before_lf (relation a ++ decimal (b % values) ++ codes " " ++ decimal (c % values) ++ codes "\n")) in
         subst LeavesJoin (sym w.1) (adds w.0)
 
 open_fine : IsHarmlessLine open_line
@@ -144,7 +151,8 @@ changes_fine : (values state done left : ℕ) → AreHarmless (changes values st
 changes_fine values state done zero = tt
 changes_fine values state done (suc left) = (
   change_fine values (drawn (next state)) (drawn (next (next state))) (drawn (next (next (next state)))),
-  pause_fine (done + 1) (changes values (next (next (next state))) (done + 1) left) (changes_fine values (next (next (next state))) (done + 1) left),
+  pause_fine (done + 1) (changes values (next (next (next state))) (done + 1) left)
+      (changes_fine values (next (next (next state))) (done + 1) left),
 )
 
 pub load_fine : (n seed : ℕ) → AreHarmless (load n seed)
@@ -169,21 +177,27 @@ joined (l ∷ ls) = l ++ joined ls
 joined_both : (ks ls : List Bytes) → joined (ks ++ ls) ≡ joined ks ++ joined ls
 unfolding joined
 joined_both [] ls = refl
-joined_both (k ∷ ks) ls = ap (λ (bs : Bytes). k ++ bs) (joined_both ks ls) ∙ sym (append_assoc k (joined ks) (joined ls))
+joined_both (k ∷ ks) ls = ap (λ (bs : Bytes). k ++ bs) (joined_both ks ls)
+    ∙ sym (append_assoc k (joined ks) (joined ls))
 
-before_one : (line more : Bytes) → behind_lf line ≡ Some [] → (before_lf (line ++ more) ≡ before_lf line) × (behind_lf (line ++ more) ≡ Some more)
+before_one : (line more : Bytes) → behind_lf line ≡ Some [] → (before_lf (line ++ more) ≡ before_lf line)
+    × (behind_lf (line ++ more) ≡ Some more)
 before_one [] more h = absurd cc
 before_one (b ∷ line) more h = by (b == 10) h (λ k. before_one line more k)
   where
     inside : (xs : Bytes) → Some xs ≡ Some [] → xs ≡ []
     inside xs e = cc
 
-    by : (is : Bool) → cond is (Some line) (behind_lf line) ≡ Some [] → (behind_lf line ≡ Some [] → (before_lf (line ++ more) ≡ before_lf line) × (behind_lf (line ++ more) ≡ Some more))
-        → (cond is [] (b ∷ before_lf (line ++ more)) ≡ cond is [] (b ∷ before_lf line)) × (cond is (Some (line ++ more)) (behind_lf (line ++ more)) ≡ Some more)
+    by : (is : Bool) → cond is (Some line) (behind_lf line) ≡ Some []
+        → (behind_lf line ≡ Some [] → (before_lf (line ++ more) ≡ before_lf line)
+        × (behind_lf (line ++ more) ≡ Some more))
+        → (cond is [] (b ∷ before_lf (line ++ more)) ≡ cond is [] (b ∷ before_lf line))
+        × (cond is (Some (line ++ more)) (behind_lf (line ++ more)) ≡ Some more)
     by true k rest = (refl, ap (λ (bs : Bytes). Some (bs ++ more)) (inside line k))
     by false k rest = let r = rest k in (ap (λ (bs : Bytes). b ∷ bs) r.0, r.1)
 
-cut_fine : (lines : List Bytes) → AreOnes lines → AreHarmless lines → (ls : List Bytes) (rest : Bytes) → CutsInto (joined lines) ls rest → AllByRecursion LeavesJoin ls
+cut_fine : (lines : List Bytes) → AreOnes lines → AreHarmless lines → (ls : List Bytes) (rest : Bytes)
+    → CutsInto (joined lines) ls rest → AllByRecursion LeavesJoin ls
 unfolding joined
 cut_fine lines ones fine [] rest h = tt
 cut_fine [] ones fine (l ∷ ls) rest h = absurd cc
@@ -191,7 +205,8 @@ cut_fine (line ∷ lines) ones fine (l ∷ ls) rest h =
     let f = line_in_front (line ++ joined lines) l h.0 h.1 in
     let b = before_one line (joined lines) ones.0 in (
       subst LeavesJoin (sym (f.line ∙ ap without_cr b.0)) fine.0,
-      cut_fine lines ones.1 fine.1 ls rest (subst (λ (bs : Bytes). CutsInto bs ls rest) (same (sym f.behind ∙ b.1)) h.2),
+      cut_fine lines ones.1 fine.1 ls rest
+          (subst (λ (bs : Bytes). CutsInto bs ls rest) (same (sym f.behind ∙ b.1)) h.2),
     )
   where
     same : Some h.0 ≡ Some (joined lines) → h.0 ≡ joined lines
@@ -207,7 +222,8 @@ next_fed st (took s bytes) h = refl
 next_fed st (ended s) h = refl
 next_fed st (closed s bytes) h = absurd h
 
-walk_fed : (old : State) (done : List Did) (new : State) → Walk RunNext old done new → all_fed 1 done ≡ joined (pieces_of done)
+walk_fed : (old : State) (done : List Did) (new : State) → Walk RunNext old done new → all_fed 1 done
+    ≡ joined (pieces_of done)
 unfolding joined
 walk_fed old [] new w = refl
 walk_fed old (d ∷ done) new w =
@@ -223,27 +239,33 @@ next_spares st (took s bytes) h = tt
 next_spares st (ended s) h = tt
 next_spares st (closed s bytes) h = absurd h
 
-walk_spares : (old : State) (done : List Did) (new : State) → Walk RunNext old done new → All (λ d. Spares d.event 1) done
+walk_spares : (old : State) (done : List Did) (new : State) → Walk RunNext old done new
+    → All (λ d. Spares d.event 1) done
 walk_spares old [] new w = All-nil (λ (d : Did). Spares d.event 1)
-walk_spares old (d ∷ done) new w = All-cons (λ (e : Did). Spares e.event 1) d done (next_spares old d.event w.1.0) (walk_spares w.0 done new w.2)
+walk_spares old (d ∷ done) new w = All-cons (λ (e : Did). Spares e.event 1) d done (next_spares old d.event w.1.0)
+    (walk_spares w.0 done new w.2)
 
 -- Each step, by the lines that were taken.
-step_fine : (st : State) (event : Event) (more : List Bytes) → MayRun st event → AllByRecursion LeavesJoin (line_by 1 event ++ more) → IsFine event × AllByRecursion LeavesJoin more
+step_fine : (st : State) (event : Event) (more : List Bytes) → MayRun st event
+    → AllByRecursion LeavesJoin (line_by 1 event ++ more) → IsFine event × AllByRecursion LeavesJoin more
 step_fine st (opened s) more h k = (tt, k)
 step_fine st (fed s bytes) more h k = (tt, k)
 step_fine st (took s bytes) more h k = (tt, k)
 step_fine st (ended s) more h k = (tt, k)
 step_fine st (closed s bytes) more h k = absurd h
-step_fine st (stepped s outcome) more h k = by outcome (subst (λ (t : ℕ). AllByRecursion LeavesJoin (line_by 1 (stepped t outcome) ++ more)) h.0 k)
+step_fine st (stepped s outcome) more h k = by outcome
+    (subst (λ (t : ℕ). AllByRecursion LeavesJoin (line_by 1 (stepped t outcome) ++ more)) h.0 k)
   where
-    by : (o : LineOutcome) → AllByRecursion LeavesJoin (line_by 1 (stepped 1 o) ++ more) → IsFine (stepped s o) × AllByRecursion LeavesJoin more
+    by : (o : LineOutcome) → AllByRecursion LeavesJoin (line_by 1 (stepped 1 o) ++ more) → IsFine (stepped s o)
+        × AllByRecursion LeavesJoin more
     by long h = (tt, h)
     by (blank l) h = (tt, h.1)
     by (slow l) h = (tt, h.1)
     by (no_room l) h = (tt, h.1)
     by (run l) h = (h.0, h.1)
 
-walk_few : (old : State) (done : List Did) (new : State) → Walk RunNext old done new → AllByRecursion LeavesJoin (lines_of 1 done) → GivesFew old → GivesFew new
+walk_few : (old : State) (done : List Did) (new : State) → Walk RunNext old done new
+    → AllByRecursion LeavesJoin (lines_of 1 done) → GivesFew old → GivesFew new
 walk_few old [] new w k g = subst GivesFew same g
   where
     same : old ≡ new
@@ -256,11 +278,13 @@ walk_few old (d ∷ done) new w k g =
     })
 
 -- **Lines that register no other query leave few answers to be given.**
-pub loads_few : (lines : List Bytes) (old : State) (before : Counts) (new : State) (now : Counts) → AreOnes lines → AreHarmless lines → held_of old 1 ≡ []
+pub loads_few : (lines : List Bytes) (old : State) (before : Counts) (new : State) (now : Counts) → AreOnes lines
+    → AreHarmless lines → held_of old 1 ≡ []
     → Loads lines old before new now → GivesFew old → GivesFew new
 loads_few lines old before new now ones fine none h g =
     let t = in_order 1 old h.done new (next_runs old h.done new h.walk) (walk_spares old h.done new h.walk) in
     let all : held_of old 1 ++ all_fed 1 h.done ≡ joined lines =
     ap (λ (bs : Bytes). bs ++ all_fed 1 h.done) none ∙ walk_fed old h.done new h.walk ∙ ap joined h.fed in
     walk_few old h.done new h.walk
-    (cut_fine lines ones fine (lines_of 1 h.done) (held_of new 1 ++ t.dropped) (subst (λ (bs : Bytes). CutsInto bs (lines_of 1 h.done) (held_of new 1 ++ t.dropped)) all t.cut)) g
+    (cut_fine lines ones fine (lines_of 1 h.done) (held_of new 1 ++ t.dropped)
+    (subst (λ (bs : Bytes). CutsInto bs (lines_of 1 h.done) (held_of new 1 ++ t.dropped)) all t.cut)) g

@@ -199,7 +199,8 @@ has_place old name row none absent =
     let fails : (not (has_row rows row) && nat_le ROWS (length rows)) ≡ false =
     fifth_fails (is_none (relation_of old.relations name)) (not (length row == length types)) (not (fits types row))
     (nat_le COPIES (copies_of old name row)) (not (has_row rows row) && nat_le ROWS (length rows))
-    NoRelation Arity WrongType Limit Limit (first_of ((not (has_row rows row) && nat_le LAST_SEQ old.seq, Limit) ∷ [])) none in
+    NoRelation Arity WrongType Limit Limit (first_of ((not (has_row rows row) && nat_le LAST_SEQ old.seq, Limit) ∷ []))
+    none in
     let below : length rows < ROWS =
     leb-false ROWS (length rows) (ap (λ (b : Bool). not b && nat_le ROWS (length rows)) (sym absent) ∙ fails) in
     omega (arith, below, length-map (counted_of old.relations name) (λ (c : CountedRow). c.row))
@@ -281,34 +282,50 @@ delete_joins old name row (Ok Absent) new h j =
 delete_joins old name row (Err r) new h j = same_joins old new h.stays j
 
 -- `rel`, `query` and `drop`
-rel_joins : (old : Store) (name : Bytes) (types : List ColumnType) (r : Result ⊤ Refusal) (new : Store) → MakesRelation old name types r new → Joins old → Joins new
+rel_joins : (old : Store) (name : Bytes) (types : List ColumnType) (r : Result ⊤ Refusal) (new : Store)
+    → MakesRelation old name types r new → Joins old → Joins new
 rel_joins old name types (Ok u) new h j =
     let made : Relation = record { name = name; types = types; rows = [] } in
-    subst Joins (sym (done_of (rel_refusal old name types) u (λ _. new ≡ record old { relations = old.relations ++ made ∷ [] }) (OutOfMemoryWhere ⊤) h.answer))
+    subst Joins (sym (done_of (rel_refusal old name types) u
+    (λ _. new ≡ record old { relations = old.relations ++ made ∷ [] }) (OutOfMemoryWhere ⊤) h.answer))
     (record { rows = All-push IsWithin old.relations made j.rows (omega arith); queries = j.queries })
 rel_joins old name types (Err r) new h j = same_joins old new h.stays j
 
-query_joins : (old : Store) (q : Query) (r : Result QueryOutcome Refusal) (new : Store) → q ≡ join → RegistersQuery old q r new → Joins old → Joins new
+query_joins : (old : Store) (q : Query) (r : Result QueryOutcome Refusal) (new : Store) → q ≡ join
+    → RegistersQuery old q r new → Joins old → Joins new
 query_joins old q (Ok (Registered most)) new is h j =
     let d = done_of (query_refusal old q) (Registered most) (RegistersAs old q new) (RefusedLate old q new) h.answer in
-    subst Joins (sym d.3) (record { rows = j.rows; queries = All-push IsJoin old.queries (a_query q) j.queries (ap (λ (p : Query). a_query p) is) })
+    subst Joins (sym d.3)
+    (record {
+      rows = j.rows;
+      queries = All-push IsJoin old.queries (a_query q) j.queries
+          (ap (λ (p : Query). a_query p) is);
+    })
 query_joins old q (Ok (Cyclic rest)) new is h j =
-    same_joins old new (done_of (query_refusal old q) (Cyclic rest) (RegistersAs old q new) (RefusedLate old q new) h.answer).1 j
+    same_joins old new (done_of (query_refusal old q) (Cyclic rest) (RegistersAs old q new) (RefusedLate old q new)
+    h.answer).1 j
 query_joins old q (Ok (NotConnex rest)) new is h j =
-    same_joins old new (done_of (query_refusal old q) (NotConnex rest) (RegistersAs old q new) (RefusedLate old q new) h.answer).1 j
+    same_joins old new (done_of (query_refusal old q) (NotConnex rest) (RegistersAs old q new) (RefusedLate old q new)
+    h.answer).1 j
 query_joins old q (Err r) new is h j =
     learned_joins old new
-    (refused_learned (query_refusal old q) r (RegistersAs old q new) (RefusedLate old q new) old new h.answer h.stays (λ late. by late)) j
+    (refused_learned (query_refusal old q) r (RegistersAs old q new) (RefusedLate old q new) old new h.answer h.stays
+    (λ late. by late)) j
   where
     by : RefusedLate old q new r → LearnsTexts old new
     by (inl k) = late_learned old (texts_in (constants_of q)) new r k.1
     by (inr k) = stays_learned old new k.1
 
-drop_joins : (old : Store) (used : Bool) (name : Bytes) (r : Result ⊤ Refusal) (new : Store) → DropsQuery old used name r new → Joins old → Joins new
+drop_joins : (old : Store) (used : Bool) (name : Bytes) (r : Result ⊤ Refusal) (new : Store)
+    → DropsQuery old used name r new → Joins old → Joins new
 drop_joins old used name (Ok u) new h j =
     let D = λ (_ : ⊤). new ≡ record old { queries = drop_first (λ q. bytes_eq (listed_name q) name) old.queries } in
     subst Joins (sym (done_of (drop_refusal old used name) u D (OutOfMemoryWhere ⊥) h.answer))
-    (record { rows = j.rows; queries = all_dropped IsJoin (λ (q : Listed). bytes_eq (listed_name q) name) old.queries j.queries })
+    (record {
+      rows = j.rows;
+      queries = all_dropped IsJoin (λ (q : Listed). bytes_eq (listed_name q) name) old.queries
+          j.queries;
+    })
 drop_joins old used name (Err r) new h j = same_joins old new h.stays j
 
 -- A command that isn't of the store.
@@ -316,7 +333,8 @@ replied_same : (s : ℕ) (mid new : State) → Replied s mid new → new.store �
 replied_same s mid new (is_whole e) = ap (λ (st : State). st.store) e
 replied_same s mid new (is_cut e) = ap (λ (st : State). st.store) e
 
-turn_same : (old : State) (s : ℕ) (x : Session) (t : Turn) (new : State) → DoesTurn old s x t new → new.store ≡ old.store
+turn_same : (old : State) (s : ℕ) (x : Session) (t : Turn) (new : State) → DoesTurn old s x t new → new.store
+    ≡ old.store
 turn_same old s x t new (is_turned h) = ap (λ (st : State). st.store) (turned_one old s x t new h).state
 turn_same old s x t new (is_refused r) = replied_same s old new r
 
@@ -327,7 +345,8 @@ is_apart (turning t) = true
 is_apart (changing c) = false
 is_apart ending = true
 
-form_same : (f : Form) (old : State) (s : ℕ) (x : Session) (e : Effect) (new : State) → is_apart f ≡ true → Does f old s x e new → new.store ≡ old.store
+form_same : (f : Form) (old : State) (s : ℕ) (x : Session) (e : Effect) (new : State) → is_apart f ≡ true
+    → Does f old s x e new → new.store ≡ old.store
 unfolding is_apart
 form_same asking old s x e new apart h = replied_same s old new h.1
 form_same storing old s x e new apart h = absurd cc
@@ -345,9 +364,12 @@ IsHarmless c = Unit {0}
 store_joins : (old new : State) (store : Store) → new ≡ record old { store = store } → Joins store → Joins new.store
 store_joins old new store e j = subst (λ (st : State). Joins st.store) (sym e) j
 
-asked_joins : (old : State) (s : ℕ) (q : Query) (e : Effect) (new : State) → q ≡ join → QueryStep old s q e new ⊎ QueryCutStep old s q e new → Joins old.store → Joins new.store
-asked_joins old s q e new is (inl h) j = store_joins old new h.store h.state (query_joins old.store q h.result h.store is h.done j)
-asked_joins old s q e new is (inr h) j = subst (λ (st : State). Joins st.store) (sym h.ends.1) (query_joins old.store q h.result h.store is h.done j)
+asked_joins : (old : State) (s : ℕ) (q : Query) (e : Effect) (new : State) → q ≡ join
+    → QueryStep old s q e new ⊎ QueryCutStep old s q e new → Joins old.store → Joins new.store
+asked_joins old s q e new is (inl h) j = store_joins old new h.store h.state
+    (query_joins old.store q h.result h.store is h.done j)
+asked_joins old s q e new is (inr h) j = subst (λ (st : State). Joins st.store) (sym h.ends.1)
+    (query_joins old.store q h.result h.store is h.done j)
 
 -- `add`, where a batch is open or none is
 add_command_joins : (old : State) (s : ℕ) (batch : Option (List HeldRow)) (l name : Bytes) (row : Tuple)
@@ -386,7 +408,8 @@ command_joins old s x l (Drop q) e new says fine h j =
     store_joins old new h.store h.state (drop_joins old.store _ q h.result h.store h.done j)
 command_joins old s x l (Add name row) e new says fine h j = add_command_joins old s x.batch l name row e new h j
 command_joins old s x l (Del name row) e new says fine h j =
-    same_joins h.store new.store (change_store old s _ h.store _ e new h.change) (delete_joins old.store name row h.result h.store h.done j)
+    same_joins h.store new.store (change_store old s _ h.store _ e new h.change)
+    (delete_joins old.store name row h.result h.store h.done j)
 command_joins old s x l (Open c q) e new says fine h j = apart_joins old s x l (Open c q) e new says refl h j
 command_joins old s x l (Next c n) e new says fine h j = apart_joins old s x l (Next c n) e new says refl h j
 command_joins old s x l (Close c) e new says fine h j = apart_joins old s x l (Close c) e new says refl h j
@@ -415,25 +438,31 @@ abbrev pub IsFine : Event → Type 0
 IsFine (stepped s (run l)) = LeavesJoin l
 IsFine _ = Unit {0}
 
-front_joins : (old : State) (s : ℕ) (x : Session) (outcome : LineOutcome) (e : Effect) (new : State) → IsFine (stepped s outcome) → FrontStep old s x outcome e new
+front_joins : (old : State) (s : ℕ) (x : Session) (outcome : LineOutcome) (e : Effect) (new : State)
+    → IsFine (stepped s outcome) → FrontStep old s x outcome e new
     → Joins old.store → Joins new.store
 front_joins old s x long e new fine h j = same_joins old.store new.store (ap (λ (st : State). st.store) h.1.1) j
-front_joins old s x (blank l) e new fine h j = same_joins old.store new.store (ap (λ (st : State). st.store) h.1.then.1) j
-front_joins old s x (slow l) e new fine h j = same_joins old.store new.store (ap (λ (st : State). st.store) h.2.then.1) j
-front_joins old s x (no_room l) e new fine h j = same_joins old.store new.store (ap (λ (st : State). st.store) h.2.then.1) j
+front_joins old s x (blank l) e new fine h j = same_joins old.store new.store (ap (λ (st : State). st.store) h.1.then.1)
+    j
+front_joins old s x (slow l) e new fine h j = same_joins old.store new.store (ap (λ (st : State). st.store) h.2.then.1)
+    j
+front_joins old s x (no_room l) e new fine h j = same_joins old.store new.store
+    (ap (λ (st : State). st.store) h.2.then.1) j
 front_joins old s x (run l) e new fine h j =
     let st = with_session old s (behind_line h.2.rest) in
     let y = behind_line h.2.rest x in
     read_joins st s y l e new fine (line_reads st s y l (reading_of l) e new h.2.then) j
 
 -- An event.
-opened_same : (old mid more : State) (P : Type 0) → more.store ≡ old.store → (P × (mid ≡ more)) ⊎ (mid ≡ old) → mid.store ≡ old.store
+opened_same : (old mid more : State) (P : Type 0) → more.store ≡ old.store → (P × (mid ≡ more)) ⊎ (mid ≡ old)
+    → mid.store ≡ old.store
 opened_same old mid more P same (inl h) = ap (λ (st : State). st.store) h.1 ∙ same
 opened_same old mid more P same (inr h) = ap (λ (st : State). st.store) h
 
 fed_same : (old : State) (s : ℕ) (bytes : Bytes) (e : Effect) (mid : State) (c : Option EndCause)
     → MatchOption c
-    (((e ≡ nothing) × (mid ≡ with_session old s (λ y. record y { held = y.held ++ bytes }))) ⊎ EndsWith end_memory Memory old s e mid)
+    (((e ≡ nothing) × (mid ≡ with_session old s (λ y. record y { held = y.held ++ bytes }))) ⊎ EndsWith end_memory
+    Memory old s e mid)
     (λ _. (e ≡ nothing) × (mid ≡ old)) → mid.store ≡ old.store
 fed_same old s bytes e mid None (inl h) = ap (λ (st : State). st.store) h.1
 fed_same old s bytes e mid None (inr h) = ap (λ (st : State). st.store) h.1
@@ -444,7 +473,8 @@ input_same : (old mid gone : State) (P Q R : Type 0) (c : Option EndCause) → g
 input_same old mid gone P Q R None same h = ap (λ (st : State). st.store) h.2 ∙ same
 input_same old mid gone P Q R (Some c) same h = ap (λ (st : State). st.store) h.1
 
-acts_joins : (old : State) (event : Event) (e : Effect) (mid : State) → IsFine event → Acts old event e mid → Joins old.store → Joins mid.store
+acts_joins : (old : State) (event : Event) (e : Effect) (mid : State) → IsFine event → Acts old event e mid
+    → Joins old.store → Joins mid.store
 acts_joins old (opened s) e mid fine h j = same_joins old.store mid.store (opened_same old mid _ _ refl h.2) j
 acts_joins old (fed s bytes) e mid fine h j =
     let f = some_and (session_of old s) (λ x. FedStep old s bytes x e mid) h in
@@ -470,9 +500,11 @@ moved_within (r ∷ rs) (m ∷ ms) h k =
 moved_within [] (m ∷ ms) h k = absurd h
 moved_within (r ∷ rs) [] h k = absurd h
 
-pub step_joins : (old : State) (event : Event) (e : Effect) (new : State) → IsFine event → Step old event e new → Joins old.store → Joins new.store
+pub step_joins : (old : State) (event : Event) (e : Effect) (new : State) → IsFine event → Step old event e new
+    → Joins old.store → Joins new.store
 step_joins old event e new fine h j =
     let mid = h.mid in
     let acted = acts_joins old event e mid fine h.acts j in
-    same_joins (with_relations mid h.relations).store new.store (ap (λ (st : State). st.store) h.queued ∙ queued_store (with_relations mid h.relations) e.queued)
+    same_joins (with_relations mid h.relations).store new.store
+    (ap (λ (st : State). st.store) h.queued ∙ queued_store (with_relations mid h.relations) e.queued)
     (record { rows = moved_within mid.store.relations h.relations h.reordered acted.rows; queries = acted.queries })

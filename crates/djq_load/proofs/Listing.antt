@@ -1,5 +1,7 @@
 -- The text of a listing is read as the listing is.
-use Rattle.std.specs.Prelude.{ℕ, ℤ, pos, negsuc, zero, suc, nat_lt, List, [], ◌∷◌, ◌++◌, ◌≡◌, ◌==◌, ◌+◌, ◌-◌, ◌*◌, ◌/◌, ◌%◌, ◌^◌, ◌<◌, ◌≤◌, Bool, true, false, cond, Option, Some, option_map, length, map, codes, sum_by}
+use Rattle.std.specs.Prelude.{ℕ, ℤ, pos, negsuc, zero, suc, nat_lt, List, [], ◌∷◌, ◌++◌, ◌≡◌, ◌==◌}
+use Rattle.std.specs.Prelude.{◌+◌, ◌-◌, ◌*◌, ◌/◌, ◌%◌, ◌^◌, ◌<◌, ◌≤◌, Bool, true, false, cond}
+use Rattle.std.specs.Prelude.{Option, Some, option_map, length, map, codes, sum_by}
 use Rattle.std.specs.List.{list_all, flat_map}
 use Rattle.std.specs.Fmt.{decimal, digits, digits_onto, digit_glyph}
 use Rattle.std.proofs.Common.{refl, sym, ap, ◌∙◌, append_assoc, length-append, arith, leb}
@@ -28,7 +30,8 @@ pub digit_bounds : (d : ℕ) → is_digit d ≡ true → (48 ≤ d) × (d ≤ 57
 digit_bounds d h = let parts = and_parts (leb 48 d) (leb d 57) h in (leb-true 48 d parts.0, leb-true d 57 parts.1)
 
 digit_read : (a s : ℕ) (e below : Bool) (n d : ℕ) → is_digit d ≡ true
-    → read_byte (reading a s e (Answer below n)) d ≡ reading a s e (Answer below ((n * 10 % 2 ^ 64 + (d - 48)) % 2 ^ 64))
+    → read_byte (reading a s e (Answer below n)) d
+    ≡ reading a s e (Answer below ((n * 10 % 2 ^ 64 + (d - 48)) % 2 ^ 64))
 digit_read a s e below n d h =
     let b = digit_bounds d h in
     cond-false (d == 32) _ _ (ne_eqb d 32 (λ k. absurd (omega (arith, k, b.0))))
@@ -40,16 +43,20 @@ step_mod : (m d : ℕ) → (m % 2 ^ 64 * 10 % 2 ^ 64 + d) % 2 ^ 64 ≡ (m * 10 +
 step_mod m d = omega arith
 
 digits_read : (a s : ℕ) (e below : Bool) (m : ℕ) (ds : Bytes) → list_all is_digit ds ≡ true
-    → read_bytes (reading a s e (Answer below (m % 2 ^ 64))) ds ≡ reading a s e (Answer below (digits_value m ds % 2 ^ 64))
+    → read_bytes (reading a s e (Answer below (m % 2 ^ 64))) ds
+    ≡ reading a s e (Answer below (digits_value m ds % 2 ^ 64))
 digits_read a s e below m [] h = refl
 digits_read a s e below m (d ∷ ds) h =
     let parts = and_parts (is_digit d) (list_all is_digit ds) h in
-    ap (λ (r : Reading). read_bytes r ds) (digit_read a s e below (m % 2 ^ 64) d parts.0 ∙ ap (λ (n : ℕ). reading a s e (Answer below n)) (step_mod m (d - 48)))
+    ap (λ (r : Reading). read_bytes r ds)
+    (digit_read a s e below (m % 2 ^ 64) d parts.0
+    ∙ ap (λ (n : ℕ). reading a s e (Answer below n)) (step_mod m (d - 48)))
     ∙ digits_read a s e below (m * 10 + (d - 48)) ds parts.1
 
 -- Each number is printed in digits, and in one at least.
 glyph_is : (d : ℕ) → d < 10 → is_digit (digit_glyph false d) ≡ true
-glyph_is d h = ap is_digit (cond-true (nat_lt d 10) _ _ (le-leb (suc d) 10 (omega arith))) ∙ and_from _ _ (le-leb 48 (48 + d) (omega arith)) (le-leb (48 + d) 57 (omega arith))
+glyph_is d h = ap is_digit (cond-true (nat_lt d 10) _ _ (le-leb (suc d) 10 (omega arith)))
+    ∙ and_from _ _ (le-leb 48 (48 + d) (omega arith)) (le-leb (48 + d) 57 (omega arith))
 
 pub record IsDigits (ds : Bytes) : Type 0 where
   pub some : 0 < length ds
@@ -58,7 +65,8 @@ pub record IsDigits (ds : Bytes) : Type 0 where
 onto_digits : (k n : ℕ) (acc : Bytes) → IsDigits acc → IsDigits (digits_onto k 10 false n acc)
 onto_digits zero n acc h = h
 onto_digits (suc k) n acc h =
-    let more : IsDigits (digit_glyph false (n % 10) ∷ acc) = record { some = omega arith; all = and_from _ _ (glyph_is (n % 10) (omega arith)) h.all } in
+    let more : IsDigits (digit_glyph false (n % 10) ∷ acc) = record
+    { some = omega arith; all = and_from _ _ (glyph_is (n % 10) (omega arith)) h.all } in
     either (n / 10 == 0) more (onto_digits k (n / 10) (digit_glyph false (n % 10) ∷ acc) more)
   where
     either : {xs ys : Bytes} (b : Bool) → IsDigits xs → IsDigits ys → IsDigits (cond b xs ys)
@@ -67,7 +75,8 @@ onto_digits (suc k) n acc h =
 
 first_digit : (n : ℕ) → IsDigits (digits_onto 64 10 false n [])
 first_digit n =
-    let one : IsDigits (digit_glyph false (n % 10) ∷ []) = record { some = omega arith; all = and_from _ _ (glyph_is (n % 10) (omega arith)) refl } in
+    let one : IsDigits (digit_glyph false (n % 10) ∷ []) = record
+    { some = omega arith; all = and_from _ _ (glyph_is (n % 10) (omega arith)) refl } in
     either (n / 10 == 0) one (onto_digits 63 (n / 10) (digit_glyph false (n % 10) ∷ []) one)
   where
     either : {xs ys : Bytes} (b : Bool) → IsDigits xs → IsDigits ys → IsDigits (cond b xs ys)
@@ -82,7 +91,8 @@ integer_is : (ds : Bytes) → IsDigits ds → integer_of ds ≡ Some (pos (digit
 integer_is [] h = absurd (omega (arith, h.some))
 integer_is (d ∷ ds) h =
     let low = digit_bounds d (and_parts (is_digit d) (list_all is_digit ds) h.all).0 in
-    cond-false (d == 45) _ _ (ne_eqb d 45 (λ e. absurd (omega (arith, e, low.0)))) ∙ ap (option_map (λ n. pos n)) (cond-true _ _ _ h.all)
+    cond-false (d == 45) _ _ (ne_eqb d 45 (λ e. absurd (omega (arith, e, low.0))))
+    ∙ ap (option_map (λ n. pos n)) (cond-true _ _ _ h.all)
 
 natural_is : (ds : Bytes) → IsDigits ds → natural_of ds ≡ Some (digits_value 0 ds)
 natural_is ds h = natural-some ds h.some ∙ cond-true _ _ _ h.all
@@ -104,19 +114,26 @@ signed_minus (suc n) = sym (ap (λ (i : ℤ). residue (Some i)) (minus-suc n) �
 escape_read : (a s : ℕ) (e : Bool) (b : ℕ) → read_bytes (reading a s e Text) (escaped b) ≡ reading a s e Text
 escape_read a s e b = at34 (b == 34) refl
   where
-    at10 : (is : Bool) → b == 10 ≡ is → b == 34 ≡ false → b == 92 ≡ false → read_bytes (reading a s e Text) (cond is (codes "\\n") (b ∷ [])) ≡ reading a s e Text
+    at10 : (is : Bool) → b == 10 ≡ is → b == 34 ≡ false → b == 92 ≡ false
+        → read_bytes (reading a s e Text) (cond is (codes "\\n") (b ∷ [])) ≡ reading a s e Text
     at10 true k not34 not92 = refl
     at10 false k not34 not92 = cond-false (b == 92) _ _ not92 ∙ cond-false (b == 34) _ _ not34
 
-    at92 : (is : Bool) → b == 92 ≡ is → b == 34 ≡ false → read_bytes (reading a s e Text) (cond is (codes "\\\\") (cond (b == 10) (codes "\\n") (b ∷ []))) ≡ reading a s e Text
+    at92 : (is : Bool) → b == 92 ≡ is → b == 34 ≡ false
+        → read_bytes (reading a s e Text) (cond is (codes "\\\\") (cond (b == 10) (codes "\\n") (b ∷ [])))
+        ≡ reading a s e Text
     at92 true k not34 = refl
     at92 false k not34 = at10 (b == 10) refl not34 k
 
-    at34 : (is : Bool) → b == 34 ≡ is → read_bytes (reading a s e Text) (cond is (codes "\\\"") (cond (b == 92) (codes "\\\\") (cond (b == 10) (codes "\\n") (b ∷ [])))) ≡ reading a s e Text
+    at34 : (is : Bool) → b == 34 ≡ is
+        → read_bytes (reading a s e Text)
+        (cond is (codes "\\\"") (cond (b == 92) (codes "\\\\") (cond (b == 10) (codes "\\n") (b ∷ []))))
+        ≡ reading a s e Text
     at34 true k = refl
     at34 false k = at92 (b == 92) refl k
 
-escapes_read : (a s : ℕ) (e : Bool) (t : Bytes) → read_bytes (reading a s e Text) (flat_map escaped t) ≡ reading a s e Text
+escapes_read : (a s : ℕ) (e : Bool) (t : Bytes) → read_bytes (reading a s e Text) (flat_map escaped t)
+    ≡ reading a s e Text
 escapes_read a s e [] = refl
 escapes_read a s e (b ∷ t) =
     read_both (reading a s e Text) (escaped b) (flat_map escaped t)
@@ -133,12 +150,15 @@ value_read a s e (Int (negsuc n)) = record {
   below = true;
   number = digits_value 0 (decimal (suc n)) % 2 ^ 64;
   read = digits_read a s e true 0 (decimal (suc n)) (decimal_digits (suc n)).all;
-  is = signed_minus (digits_value 0 (decimal (suc n))) ∙ sym (ap (λ (o : Option ℕ). residue (option_map minus o)) (natural_is (decimal (suc n)) (decimal_digits (suc n))));
+  is = signed_minus (digits_value 0 (decimal (suc n)))
+      ∙ sym (ap (λ (o : Option ℕ). residue (option_map minus o))
+      (natural_is (decimal (suc n)) (decimal_digits (suc n))));
 }
 value_read a s e (TextValue t) = record {
   below = false;
   number = 0;
-  read = read_both (reading a s e Text) (flat_map escaped t) (34 ∷ []) ∙ ap (λ (r : Reading). read_bytes r (34 ∷ [])) (escapes_read a s e t);
+  read = read_both (reading a s e Text) (flat_map escaped t) (34 ∷ [])
+      ∙ ap (λ (r : Reading). read_bytes r (34 ∷ [])) (escapes_read a s e t);
   is = refl;
 }
 
@@ -147,18 +167,22 @@ added_twice : (s k m more : ℕ) → ((s + k) % 2 ^ 64 + m + more) % 2 ^ 64 ≡ 
 added_twice s k m more = omega arith
 
 cells_read : (a s : ℕ) (e below : Bool) (n : ℕ) (t : Tuple)
-    → read_bytes (reading a s e (Answer below n)) (cells_text t ++ 10 ∷ []) ≡ reading a ((s + signed below n + sum_by amount t) % 2 ^ 64) e Front
+    → read_bytes (reading a s e (Answer below n)) (cells_text t ++ 10 ∷ [])
+    ≡ reading a ((s + signed below n + sum_by amount t) % 2 ^ 64) e Front
 cells_read a s e below n [] = ap (λ (m : ℕ). reading a (m % 2 ^ 64) e Front) (omega arith)
 cells_read a s e below n (v ∷ t) =
     let k = signed below n in
     let r = value_read a ((s + k) % 2 ^ 64) e v in
     let text = value_text v in
-    ap (λ (bytes : Bytes). read_bytes (reading a ((s + k) % 2 ^ 64) e (Answer false 0)) bytes) (append_assoc text (cells_text t) (10 ∷ []))
+    ap (λ (bytes : Bytes). read_bytes (reading a ((s + k) % 2 ^ 64) e (Answer false 0)) bytes)
+    (append_assoc text (cells_text t) (10 ∷ []))
     ∙ read_both (reading a ((s + k) % 2 ^ 64) e (Answer false 0)) text (cells_text t ++ 10 ∷ [])
     ∙ ap (λ (x : Reading). read_bytes x (cells_text t ++ 10 ∷ [])) r.read
     ∙ cells_read a ((s + k) % 2 ^ 64) e r.below r.number t
     ∙ ap (λ (m : ℕ). reading a (((s + k) % 2 ^ 64 + m + sum_by amount t) % 2 ^ 64) e Front) r.is
-    ∙ ap (λ (m : ℕ). reading a m e Front) (added_twice s k (amount v) (sum_by amount t) ∙ ap (λ (m : ℕ). (s + k + m) % 2 ^ 64) (sym (sum_by-cons amount v t)))
+    ∙ ap (λ (m : ℕ). reading a m e Front)
+    (added_twice s k (amount v) (sum_by amount t)
+    ∙ ap (λ (m : ℕ). (s + k + m) % 2 ^ 64) (sym (sum_by-cons amount v t)))
 
 one_more : (a : ℕ) → (a % 2 ^ 64 + 1) % 2 ^ 64 ≡ (a + 1) % 2 ^ 64
 one_more a = omega arith
@@ -167,33 +191,41 @@ onto : (s m : ℕ) → (s % 2 ^ 64 + 0 + m) % 2 ^ 64 ≡ (s + m) % 2 ^ 64
 onto s m = omega arith
 
 answer_read : (a s : ℕ) (e : Bool) (t : Tuple)
-    → read_bytes (reading (a % 2 ^ 64) (s % 2 ^ 64) e Front) (answer_line t) ≡ reading ((a + 1) % 2 ^ 64) ((s + sum_by amount t) % 2 ^ 64) e Front
+    → read_bytes (reading (a % 2 ^ 64) (s % 2 ^ 64) e Front) (answer_line t)
+    ≡ reading ((a + 1) % 2 ^ 64) ((s + sum_by amount t) % 2 ^ 64) e Front
 answer_read a s e t =
     cells_read ((a % 2 ^ 64 + 1) % 2 ^ 64) (s % 2 ^ 64) e false 0 t
     ∙ ap (λ (m : ℕ). reading m ((s % 2 ^ 64 + 0 + sum_by amount t) % 2 ^ 64) e Front) (one_more a)
     ∙ ap (λ (m : ℕ). reading ((a + 1) % 2 ^ 64) m e Front) (onto s (sum_by amount t))
 
 answers_read : (a s : ℕ) (e : Bool) (told : List Tuple)
-    → read_bytes (reading (a % 2 ^ 64) (s % 2 ^ 64) e Front) (text_of (map answer_line told)) ≡ reading ((a + length told) % 2 ^ 64) ((s + amount_of told) % 2 ^ 64) e Front
-answers_read a s e [] = ap (λ (m : ℕ). reading (m % 2 ^ 64) (s % 2 ^ 64) e Front) (omega arith) ∙ ap (λ (m : ℕ). reading ((a + 0) % 2 ^ 64) (m % 2 ^ 64) e Front) (omega arith)
+    → read_bytes (reading (a % 2 ^ 64) (s % 2 ^ 64) e Front) (text_of (map answer_line told))
+    ≡ reading ((a + length told) % 2 ^ 64) ((s + amount_of told) % 2 ^ 64) e Front
+answers_read a s e [] = ap (λ (m : ℕ). reading (m % 2 ^ 64) (s % 2 ^ 64) e Front) (omega arith)
+    ∙ ap (λ (m : ℕ). reading ((a + 0) % 2 ^ 64) (m % 2 ^ 64) e Front) (omega arith)
 answers_read a s e (t ∷ told) =
     read_both (reading (a % 2 ^ 64) (s % 2 ^ 64) e Front) (answer_line t) (text_of (map answer_line told))
     ∙ ap (λ (r : Reading). read_bytes r (text_of (map answer_line told))) (answer_read a s e t)
     ∙ answers_read (a + 1) (s + sum_by amount t) e told
     ∙ ap (λ (m : ℕ). reading (m % 2 ^ 64) ((s + sum_by amount t + amount_of told) % 2 ^ 64) e Front) (omega arith)
-    ∙ ap (λ (m : ℕ). reading ((a + length (t ∷ told)) % 2 ^ 64) (m % 2 ^ 64) e Front) (omega (arith, sum_by-cons (λ (u : Tuple). sum_by amount u) t told))
+    ∙ ap (λ (m : ℕ). reading ((a + length (t ∷ told)) % 2 ^ 64) (m % 2 ^ 64) e Front)
+    (omega (arith, sum_by-cons (λ (u : Tuple). sum_by amount u) t told))
 
 last_read : (a s : ℕ) (e end : Bool) → read_bytes (reading a s e Front) (last_line end ++ []) ≡ reading a s end Front
 last_read a s e true = refl
 last_read a s e false = refl
 
 -- A further piece of a listing, behind what was read.
-pub listing_read : (given : List Tuple) (e : Bool) (told : List Tuple) (end : Bool) → read_bytes (so_far given e) (text_of (listing_lines told end)) ≡ so_far (given ++ told) end
+pub listing_read : (given : List Tuple) (e : Bool) (told : List Tuple) (end : Bool)
+    → read_bytes (so_far given e) (text_of (listing_lines told end)) ≡ so_far (given ++ told) end
 listing_read given e told end =
     let all = answers_read (length given) (amount_of given) e told in
-    ap (λ (bytes : Bytes). read_bytes (so_far given e) bytes) (flat_map-append (λ (l : Bytes). l) (map answer_line told) (last_line end ∷ []))
+    ap (λ (bytes : Bytes). read_bytes (so_far given e) bytes)
+    (flat_map-append (λ (l : Bytes). l) (map answer_line told) (last_line end ∷ []))
     ∙ read_both (so_far given e) (text_of (map answer_line told)) (last_line end ++ [])
     ∙ ap (λ (r : Reading). read_bytes r (last_line end ++ [])) all
     ∙ last_read ((length given + length told) % 2 ^ 64) ((amount_of given + amount_of told) % 2 ^ 64) e end
-    ∙ ap (λ (m : ℕ). reading (m % 2 ^ 64) ((amount_of given + amount_of told) % 2 ^ 64) end Front) (sym (length-append given told))
-    ∙ ap (λ (m : ℕ). reading (length (given ++ told) % 2 ^ 64) (m % 2 ^ 64) end Front) (sym (sum_by-append (λ (u : Tuple). sum_by amount u) given told))
+    ∙ ap (λ (m : ℕ). reading (m % 2 ^ 64) ((amount_of given + amount_of told) % 2 ^ 64) end Front)
+    (sym (length-append given told))
+    ∙ ap (λ (m : ℕ). reading (length (given ++ told) % 2 ^ 64) (m % 2 ^ 64) end Front)
+    (sym (sum_by-append (λ (u : Tuple). sum_by amount u) given told))

@@ -1,5 +1,6 @@
 -- Each line of a load has one LF, at its end.
-use Rattle.std.specs.Prelude.{ℕ, zero, suc, List, [], ◌∷◌, ◌++◌, ◌≡◌, ◌==◌, ◌+◌, ◌/◌, ◌%◌, Bool, true, false, cond, not, Some, decimal, codes}
+use Rattle.std.specs.Prelude.{ℕ, zero, suc, List, [], ◌∷◌, ◌++◌, ◌≡◌, ◌==◌, ◌+◌, ◌/◌, ◌%◌, Bool}
+use Rattle.std.specs.Prelude.{true, false, cond, not, Some, decimal, codes}
 use Rattle.std.specs.List.{list_all, AllByRecursion}
 use Rattle.std.proofs.Common.{refl, ap, ◌∙◌, arith}
 use Rattle.std.proofs.lemmas.Bool.{cond-false, and_parts, and_from, ne_eqb}
@@ -55,15 +56,18 @@ relation_no_lf a = by_is (a % 2 == 0)
     by_is true = refl
     by_is false = refl
 
-both : (xs ys : Bytes) → list_all (λ b. not (b == 10)) xs ≡ true → list_all (λ b. not (b == 10)) ys ≡ true → list_all (λ b. not (b == 10)) (xs ++ ys) ≡ true
+both : (xs ys : Bytes) → list_all (λ b. not (b == 10)) xs ≡ true → list_all (λ b. not (b == 10)) ys ≡ true
+    → list_all (λ b. not (b == 10)) (xs ++ ys) ≡ true
 both xs ys h k = list_all-append (λ b. not (b == 10)) xs ys ∙ and_from _ _ h k
 
 change_one : (values a b c : ℕ) → IsOne (change values a b c)
 change_one values a b c =
-    let numbers = both (verb a ++ relation a) (decimal (b % values)) (both (verb a) (relation a) (verb_no_lf a) (relation_no_lf a)) (number_no_lf (b % values)) in
+    let numbers = both (verb a ++ relation a) (decimal (b % values))
+    (both (verb a) (relation a) (verb_no_lf a) (relation_no_lf a)) (number_no_lf (b % values)) in
     let front = verb a ++ relation a ++ decimal (b % values) in
     let space = both front (codes " ") numbers refl in
-    through (front ++ codes " " ++ decimal (c % values)) (codes "\n") (both (front ++ codes " ") (decimal (c % values)) space (number_no_lf (c % values)))
+    through (front ++ codes " " ++ decimal (c % values)) (codes "\n")
+    (both (front ++ codes " ") (decimal (c % values)) space (number_no_lf (c % values)))
 
 pause_ones : (number : ℕ) (more : List Bytes) → AreOnes more → AreOnes (pause number ++ more)
 pause_ones number more h = by_is (number % 100 == 0)
@@ -76,7 +80,8 @@ changes_ones : (values state done left : ℕ) → AreOnes (changes values state 
 changes_ones values state done zero = tt
 changes_ones values state done (suc left) = (
   change_one values (drawn (next state)) (drawn (next (next state))) (drawn (next (next (next state)))),
-  pause_ones (done + 1) (changes values (next (next (next state))) (done + 1) left) (changes_ones values (next (next (next state))) (done + 1) left),
+  pause_ones (done + 1) (changes values (next (next (next state))) (done + 1) left)
+      (changes_ones values (next (next (next state))) (done + 1) left),
 )
 
 pub load_ones : (n seed : ℕ) → AreOnes (load n seed)

@@ -10,7 +10,8 @@ pub quiet : (queued : Bytes) → queued ≡ [] → queued ≢ refusal_line NoMem
 quiet queued none e = let k : 0 ≡ 14 = ap length (sym none ∙ e) in absurd (omega (arith, k))
 
 -- what differs from its text
-pub apart : (pending shown text : Bytes) (equal : Bool) → equal ≡ false → equal ≡ bytes_eq shown text → shown ≡ pending → text ≡ refusal_line NoMemory → pending ≢ refusal_line NoMemory
+pub apart : (pending shown text : Bytes) (equal : Bool) → equal ≡ false → equal ≡ bytes_eq shown text → shown ≡ pending
+    → text ≡ refusal_line NoMemory → pending ≢ refusal_line NoMemory
 apart pending shown text equal differs is shows spells e = not_both (sym differs ∙ is ∙ ap₂ bytes_eq (shows ∙ e) spells)
   where
     not_both : false ≡ true → ⊥

@@ -1,5 +1,6 @@
 -- The lines that explain a query's tree are the text that explains the tree, and the end.
-use Rattle.std.proofs.Common.{◌≡◌, ◌∷◌, ◌++◌, ◌∙◌, ℕ, zero, suc, List, [], length, map, codes, refl, ap, ap₂, append-nil}
+use Rattle.std.proofs.Common.{◌≡◌, ◌∷◌, ◌++◌, ◌∙◌, ℕ, zero, suc, List, [], length, map, codes, refl}
+use Rattle.std.proofs.Common.{ap, ap₂, append-nil}
 use Rattle.std.proofs.lemmas.Grind.{flat_map-append}
 use Rattle.std.proofs.lemmas.List.{map-append}
 use Rattle.djq_model.specs.Data.{Bytes}

@@ -1,5 +1,7 @@
 -- What a batch of rows does to the relations: all of them go in at once.
-use Rattle.std.specs.Prelude.{ℕ, zero, suc, List, [], ◌∷◌, ◌≡◌, ◌+◌, ◌++◌, ◌≤◌, ◌⊎◌, ◌&&◌, ◌||◌, Bool, true, false, not, nat_le, Option, None, Some, find, if◌then◌else◌, Result, Ok, Err, length, map, All, ⊤}
+use Rattle.std.specs.Prelude.{ℕ, zero, suc, List, [], ◌∷◌, ◌≡◌, ◌+◌, ◌++◌, ◌≤◌, ◌⊎◌, ◌&&◌, ◌||◌}
+use Rattle.std.specs.Prelude.{Bool, true, false, not, nat_le, Option, None, Some, find}
+use Rattle.std.specs.Prelude.{if◌then◌else◌, Result, Ok, Err, length, map, All, ⊤}
 use Rattle.djq_model.specs.Data.{Bytes, Tuple, bytes_eq, counted_of, rows_of, has_row, with_row}
 use Rattle.djq_model.specs.Listed.{Listed}
 use Rattle.djq_model.specs.Known.{texts_in, all_learned}

@@ -1,5 +1,7 @@
 -- What the calls of a machine promise.
-use Rattle.std.specs.Prelude.{ℕ, List, [], ◌∷◌, ◌≡◌, ◌+◌, ◌<◌, ◌≤◌, ◌⊎◌, ◌&&◌, ◌||◌, Bool, true, false, nat_le, nat_lt, Option, None, Some, IsSome, MatchOption, is_some, find, Result, Ok, Err, length, ⊤}
+use Rattle.std.specs.Prelude.{ℕ, List, [], ◌∷◌, ◌≡◌, ◌+◌, ◌<◌, ◌≤◌, ◌⊎◌, ◌&&◌, ◌||◌, Bool, true}
+use Rattle.std.specs.Prelude.{false, nat_le, nat_lt, Option, None, Some, IsSome, MatchOption}
+use Rattle.std.specs.Prelude.{is_some, find, Result, Ok, Err, length, ⊤}
 use Rattle.std.proofs.Common.{inl, inr}
 use Rattle.djq_model.specs.Data.{Bytes}
 use Rattle.djq_lines.specs.declared.limits.TheConstants.{SESSIONS}
@@ -79,10 +81,12 @@ FedGives old s (HadEnded c) new = (cause_of new s ≡ Some c) × MatchOption (ca
 
 -- a line was blank, or was run
 abbrev pub RanStep : State → ℕ → State → Counts → Counts → Type 0
-RanStep old s new before now = (l : Bytes) × (MakesCounted old (stepped s (blank l)) new before now ⊎ MakesCounted old (stepped s (run l)) new before now)
+RanStep old s new before now = (l : Bytes)
+    × (MakesCounted old (stepped s (blank l)) new before now ⊎ MakesCounted old (stepped s (run l)) new before now)
 
 -- the groups that are kept of it: none, where it was blank
-abbrev pub groups_by : (old : State) (s : ℕ) (new : State) (before now : Counts) → RanStep old s new before now → List Group
+abbrev pub groups_by : (old : State) (s : ℕ) (new : State) (before now : Counts) → RanStep old s new before now
+    → List Group
 groups_by old s new before now (l, inl m) = []
 groups_by old s new before now (l, inr m) = groups_in l m.effect.kept
 
@@ -98,8 +102,10 @@ EndedStepAs Slow old s new before now = (l : Bytes) × MakesCounted old (stepped
 EndedStepAs Memory old s new before now = (l : Bytes) × MakesCounted old (stepped s (no_room l)) new before now
 EndedStepAs _ old s new before now = ⊥
 
--- What a step answers: a line was run, or dropped where it is blank, and a group of lines is kept or none is; there is no
--- whole line; or the session had ended, or ended before its line was run. A line that is run and ends its own session was
+-- What a step answers: a line was run, or dropped where it is blank, and a group of lines is kept or none is; there
+-- is no
+-- whole line; or the session had ended, or ended before its line was run. A line that is run and ends its own session
+-- was
 -- run.
 abbrev pub StepGives : State → ℕ → Stepped → State → Counts → Counts → List Bytes → Type 0
 StepGives old s (Ran kept) new before now lines = (ran : RanStep old s new before now)

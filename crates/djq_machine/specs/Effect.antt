@@ -8,7 +8,8 @@ use Rattle.djq_machine.specs.State.{State, with_session, ended_by}
 use Rattle.djq_machine.specs.Keeping.{Keeping, no_line, kept_where}
 
 pub record Effect : Type 0 where
-  -- The parts that are queued, in order: to which session, and which bytes. Whether a part comes may depend on those before it.
+  -- The parts that are queued, in order: to which session, and which bytes. Whether a part comes may depend on those
+  -- before it.
   pub queued : List (ℕ × Bytes)
   -- the most lookups and links of listings that may be counted
   pub cost : ℕ

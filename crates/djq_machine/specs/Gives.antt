@@ -19,4 +19,5 @@ PositionGives relations q (stale r n) = Unit {0}
 
 -- Each cursor of each session has given what it should, over the rows that are there.
 abbrev pub CursorsGive : State → Type 0
-CursorsGive st = All (λ x. All (λ c. PositionGives st.store.relations (listed_of st.store.queries c.query) c.position) x.cursors) st.sessions
+CursorsGive st = All (λ x. All (λ c. PositionGives st.store.relations (listed_of st.store.queries c.query) c.position)
+    x.cursors) st.sessions

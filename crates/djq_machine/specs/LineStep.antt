@@ -6,13 +6,15 @@ use Rattle.djq_lines.specs.declared.answer.EndCause.TheVariants.{Long, Slow, Mem
 use Rattle.djq_lines.specs.declared.answer.Refusal.{Refusal}
 use Rattle.djq_lines.specs.declared.answer.Refusal.TheVariants.{Syntax, WrongType, NoMemory, Misplaced}
 use Rattle.djq_lines.specs.Line.{too_long, a_line, front_of, is_blank}
-use Rattle.djq_lines.specs.Grammar.{Reading, outside, past_limit, says as says_command, reading_of, takes_memory_to_read}
+use Rattle.djq_lines.specs.Grammar.{Reading, outside, past_limit, says as says_command, reading_of}
+use Rattle.djq_lines.specs.Grammar.{takes_memory_to_read}
 use Rattle.djq_lines.specs.Reply.{end_long, end_slow, end_memory}
 use Rattle.djq_machine.specs.State.{Session, State, with_session}
 use Rattle.djq_machine.specs.Effect.{Effect, nothing, EndsWith, RefusedStep}
 use Rattle.djq_machine.specs.Command.{CommandStep, is_misplaced}
 
--- What becomes of the front of a session's bytes: it is too long; or its line is taken, and is blank, or isn't run since
+-- What becomes of the front of a session's bytes: it is too long; or its line is taken, and is blank, or isn't run
+-- since
 -- too much is pending or no room for its reply is to be had, or is run.
 pub data LineOutcome : Type 0 where
   long : LineOutcome

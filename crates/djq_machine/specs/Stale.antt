@@ -31,11 +31,13 @@ outdater_of queries outdater name = outdater_in (listed_of queries name)
 
 -- a cursor after a change of this number
 abbrev pub outdated_cursor : List Listed → (Listed → Option Bytes) → ℕ → Cursor → Cursor
-outdated_cursor queries outdater n c = record c { position = outdated (outdater_of queries outdater c.query) n c.position }
+outdated_cursor queries outdater n c = record c
+    { position = outdated (outdater_of queries outdater c.query) n c.position }
 
 -- the sessions after a change of this number
 abbrev pub outdated_sessions : List Listed → (Listed → Option Bytes) → ℕ → List Session → List Session
-outdated_sessions queries outdater n xs = map (λ (x : Session). record x { cursors = map (outdated_cursor queries outdater n) x.cursors }) xs
+outdated_sessions queries outdater n xs = map
+    (λ (x : Session). record x { cursors = map (outdated_cursor queries outdater n) x.cursors }) xs
 
 -- A change of one relation outdates the queries that read it.
 abbrev pub by_relation : Bytes → Listed → Option Bytes

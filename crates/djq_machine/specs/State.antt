@@ -53,7 +53,11 @@ pub record State : Type 0 where
 
 -- The state in which nothing has happened.
 abbrev pub opening : State
-opening = record { store = record { relations = []; texts = []; queries = []; seq = 0 }; stopped = false; sessions = [] }
+opening = record {
+  store = record { relations = []; texts = []; queries = []; seq = 0 };
+  stopped = false;
+  sessions = [];
+}
 
 -- a session as it opens
 abbrev pub fresh : ℕ → Session
@@ -77,7 +81,8 @@ cursor_of cursors name = find (λ c. bytes_eq c.name name) cursors
 
 -- the cursors with one at another position
 abbrev pub with_position : List Cursor → Bytes → Position → List Cursor
-with_position cursors name position = change_first (λ c. bytes_eq c.name name) (λ c. record c { position = position }) cursors
+with_position cursors name position = change_first (λ c. bytes_eq c.name name) (λ c. record c { position = position })
+    cursors
 
 -- A session that has ended keeps why, and gives up its cursors, its watches and its batch.
 abbrev pub ended_by : EndCause → Session → Session

@@ -1,5 +1,6 @@
 -- One step of the machine: what an event may do to the state, and what it queues.
-use Rattle.std.specs.Prelude.{ℕ, List, [], ◌∷◌, ◌==◌, ◌≡◌, ◌++◌, ◌<◌, ◌⊎◌, Bool, true, false, not, None, IsSomeAnd, MatchOption, length, filter, All, IsPermutation}
+use Rattle.std.specs.Prelude.{ℕ, List, [], ◌∷◌, ◌==◌, ◌≡◌, ◌++◌, ◌<◌, ◌⊎◌, Bool, true, false, not}
+use Rattle.std.specs.Prelude.{None, IsSomeAnd, MatchOption, length, filter, All, IsPermutation}
 use Rattle.djq_model.specs.declared.relation.Relation.{Relation}
 use Rattle.djq_model.specs.Data.{Bytes}
 use Rattle.djq_lines.specs.declared.limits.TheConstants.{SESSIONS}
@@ -32,20 +33,24 @@ is_dry held = dry_front (front_of held)
     dry_front dry = true
     dry_front _ = false
 
--- A session opens with an id above the others, where fewer than the limit are open; else, and out of memory, nothing changes.
+-- A session opens with an id above the others, where fewer than the limit are open; else, and out of memory, nothing
+-- changes.
 abbrev pub OpenedStep : State → ℕ → Effect → State → Type 0
 OpenedStep old s e new = (e ≡ nothing) × All (λ x. x.id < s) old.sessions
-    × (((length old.sessions < SESSIONS) × (new ≡ record old { sessions = old.sessions ++ fresh s ∷ [] })) ⊎ (new ≡ old))
+    × (((length old.sessions < SESSIONS) × (new ≡ record old { sessions = old.sessions ++ fresh s ∷ [] })) ⊎
+    (new ≡ old))
 
 -- Bytes are held behind those of the session, or it ends out of memory. Where it has ended they are dropped.
 abbrev pub FedStep : State → ℕ → Bytes → Session → Effect → State → Type 0
 FedStep old s bytes x e new = MatchOption x.cause
-    (((e ≡ nothing) × (new ≡ with_session old s (λ y. record y { held = y.held ++ bytes }))) ⊎ EndsWith end_memory Memory old s e new)
+    (((e ≡ nothing) × (new ≡ with_session old s (λ y. record y { held = y.held ++ bytes }))) ⊎ EndsWith end_memory
+    Memory old s e new)
     (λ _. (e ≡ nothing) × (new ≡ old))
 
 -- The first of the bytes that are pending are taken.
 abbrev pub TookStep : State → ℕ → Bytes → Session → Effect → State → Type 0
-TookStep old s bytes x e new = (e ≡ nothing) × ((rest : Bytes) × (x.pending ≡ bytes ++ rest) × (new ≡ with_session old s (λ y. record y { pending = rest })))
+TookStep old s bytes x e new = (e ≡ nothing)
+    × ((rest : Bytes) × (x.pending ≡ bytes ++ rest) × (new ≡ with_session old s (λ y. record y { pending = rest })))
 
 -- A session whose input ends ends with it; that bytes are held, which no line end follows, is said.
 abbrev pub EndedStep : State → ℕ → Session → Effect → State → Type 0
@@ -61,7 +66,8 @@ EndedStep old s x e new = MatchOption x.cause
 abbrev pub Acts : State → Event → Effect → State → Type 0
 Acts old (opened s) e new = OpenedStep old s e new
 Acts old (fed s bytes) e new = IsSomeAnd (session_of old s) (λ x. FedStep old s bytes x e new)
-Acts old (stepped s outcome) e new = IsSomeAnd (session_of old s) (λ x. (x.cause ≡ None) × FrontStep old s x outcome e new)
+Acts old (stepped s outcome) e new = IsSomeAnd (session_of old s)
+    (λ x. (x.cause ≡ None) × FrontStep old s x outcome e new)
 Acts old (took s bytes) e new = IsSomeAnd (session_of old s) (λ x. TookStep old s bytes x e new)
 Acts old (ended s) e new = IsSomeAnd (session_of old s) (λ x. EndedStep old s x e new)
 Acts old (closed s bytes) e new = (e ≡ nothing) × IsSomeAnd (session_of old s) (λ x. x.pending ≡ bytes)
@@ -70,7 +76,8 @@ Acts old (closed s bytes) e new = (e ≡ nothing) × IsSomeAnd (session_of old s
 -- the same relations, each with its rows and their copies in any order
 abbrev pub SameRelations : List Relation → List Relation → Type 0
 SameRelations [] [] = Unit {0}
-SameRelations (r ∷ rs) (q ∷ qs) = (q.name ≡ r.name) × (q.types ≡ r.types) × IsPermutation r.rows q.rows × SameRelations rs qs
+SameRelations (r ∷ rs) (q ∷ qs) = (q.name ≡ r.name) × (q.types ≡ r.types) × IsPermutation r.rows q.rows
+    × SameRelations rs qs
 SameRelations [] (q ∷ qs) = ⊥
 SameRelations (r ∷ rs) [] = ⊥
 

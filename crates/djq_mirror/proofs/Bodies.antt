@@ -176,7 +176,8 @@ one_part a n = ap (λ (r : Bytes). a ++ r) (sym (append-nil n))
 
 two_parts : (a n m : Bytes) → a ++ n ++ (32 ∷ []) ++ m ≡ a ++ (n ++ 32 ∷ (m ++ []))
 two_parts a n m =
-    append_assoc (a ++ n) (32 ∷ []) m ∙ append_assoc a n (32 ∷ m) ∙ ap (λ (r : Bytes). a ++ (n ++ 32 ∷ r)) (sym (append-nil m))
+    append_assoc (a ++ n) (32 ∷ []) m ∙ append_assoc a n (32 ∷ m)
+    ∙ ap (λ (r : Bytes). a ++ (n ++ 32 ∷ r)) (sym (append-nil m))
 
 three_parts : (a c r n : Bytes) → a ++ c ++ (32 ∷ []) ++ r ++ (32 ∷ []) ++ n ≡ a ++ (c ++ 32 ∷ (r ++ 32 ∷ (n ++ [])))
 three_parts a c r n =
@@ -199,9 +200,11 @@ end_spaced : (label : Bytes) (out : Bool) → spaced 32 (label ∷ out_words out
 end_spaced label true = ap (λ (x : Bytes). 32 ∷ x) (append_assoc label (codes " out") (10 ∷ []))
 end_spaced label false = ap (λ (x : Bytes). 32 ∷ (x ++ 10 ∷ [])) (append-nil label)
 
-node_parts : (a j k l e : Bytes) → a ++ j ++ (32 ∷ []) ++ k ++ (32 ∷ []) ++ l ++ e ≡ a ++ (j ++ 32 ∷ (k ++ 32 ∷ (l ++ e)))
+node_parts : (a j k l e : Bytes) → a ++ j ++ (32 ∷ []) ++ k ++ (32 ∷ []) ++ l ++ e
+    ≡ a ++ (j ++ 32 ∷ (k ++ 32 ∷ (l ++ e)))
 node_parts a j k l e =
-    append_assoc (a ++ j ++ (32 ∷ []) ++ k ++ (32 ∷ [])) l e ∙ append_assoc (a ++ j ++ (32 ∷ []) ++ k) (32 ∷ []) (l ++ e)
+    append_assoc (a ++ j ++ (32 ∷ []) ++ k ++ (32 ∷ [])) l e
+    ∙ append_assoc (a ++ j ++ (32 ∷ []) ++ k) (32 ∷ []) (l ++ e)
     ∙ append_assoc (a ++ j ++ (32 ∷ [])) k (32 ∷ (l ++ e)) ∙ append_assoc (a ++ j) (32 ∷ []) (k ++ 32 ∷ (l ++ e))
     ∙ append_assoc a j (32 ∷ (k ++ 32 ∷ (l ++ e)))
 
@@ -212,11 +215,13 @@ node_line j k l e ws vs h g =
     ∙ ap (λ (x : Bytes). codes "n " ++ (j ++ (x ++ 10 ∷ []))) h
     ∙ ap (λ (x : Bytes). codes "n " ++ (j ++ 32 ∷ x)) (append_assoc k vs (10 ∷ []) ∙ ap (λ (x : Bytes). k ++ x) g)
 
-explained_text : (j : ℕ) (node : Node) (label : List Bytes) (out : Bool) → reply_text (explained j node label out) ≡ line (body (explained j node label out))
+explained_text : (j : ℕ) (node : Node) (label : List Bytes) (out : Bool) → reply_text (explained j node label out)
+    ≡ line (body (explained j node label out))
 explained_text j node label out =
     let ws = label_text label ∷ out_words out in
     node_parts (codes "n ") (decimal j) (node_text node) (label_text label) (end_text out)
-    ∙ sym (node_line (decimal j) (node_text node) (label_text label) (end_text out) (spaced 32 (node_words node ws)) (spaced 32 ws)
+    ∙ sym (node_line (decimal j) (node_text node) (label_text label) (end_text out) (spaced 32 (node_words node ws))
+    (spaced 32 ws)
     (node_spaced node ws) (end_spaced (label_text label) out))
 
 pub text_is : (r : Reply) → reply_text r ≡ line (body r)

@@ -1,5 +1,7 @@
 -- Values as they are printed are read from the bytes, and nothing else is.
-use Rattle.std.proofs.Common.{◌≡◌, ℕ, zero, suc, ◌<◌, ◌≤◌, Bool, true, false, cond, ◌&&◌, [], ◌∷◌, ◌++◌, take, drop, length, length-append, Option, Some, None, refl, sym, ap, ◌∙◌, arith, eqb}
+use Rattle.std.proofs.Common.{◌≡◌, ℕ, zero, suc, ◌<◌, ◌≤◌, Bool, true, false, cond, ◌&&◌, [], ◌∷◌}
+use Rattle.std.proofs.Common.{◌++◌, take, drop, length, length-append, Option, Some, None, refl}
+use Rattle.std.proofs.Common.{sym, ap, ◌∙◌, arith, eqb}
 use Rattle.std.proofs.lemmas.List.{append_cancel_right, take-append-drop}
 use Rattle.std.proofs.lemmas.Bool.{and_parts, and_from, cond-true, eqb-true}
 use Rattle.djq_model.specs.declared.value.Value.{Value}
@@ -20,11 +22,13 @@ pub record IsFront (bs rest : Bytes) : Type 0 where
   pub cell : is_cell value ≡ true
   pub is : bs ≡ 32 ∷ (value_text value ++ rest)
 
-value_front : (bs : Bytes) (o : Option (Value × Bytes)) (rest : Bytes) → behind_value bs o ≡ Some rest → IsFront (32 ∷ bs) rest
+value_front : (bs : Bytes) (o : Option (Value × Bytes)) (rest : Bytes) → behind_value bs o ≡ Some rest
+    → IsFront (32 ∷ bs) rest
 value_front bs None rest e = absurd (cc)
 value_front bs (Some p) rest e = by (is_cell p.0 && bytes_eq (value_text p.0 ++ p.1) bs) refl e
   where
-    by : (t : Bool) → (is_cell p.0 && bytes_eq (value_text p.0 ++ p.1) bs) ≡ t → cond t (Some p.1) None ≡ Some rest → IsFront (32 ∷ bs) rest
+    by : (t : Bool) → (is_cell p.0 && bytes_eq (value_text p.0 ++ p.1) bs) ≡ t → cond t (Some p.1) None ≡ Some rest
+        → IsFront (32 ∷ bs) rest
     by false h f = absurd (cc)
     by true h f =
         let both = and_parts (is_cell p.0) (bytes_eq (value_text p.0 ++ p.1) bs) h in
@@ -32,7 +36,8 @@ value_front bs (Some p) rest e = by (is_cell p.0 && bytes_eq (value_text p.0 ++ 
         record {
           value = p.0;
           cell = both.0;
-          is = ap (λ (r : Bytes). 32 ∷ r) (sym (same_bytes (value_text p.0 ++ p.1) bs both.1) ∙ ap (λ (r : Bytes). value_text p.0 ++ r) same);
+          is = ap (λ (r : Bytes). 32 ∷ r)
+              (sym (same_bytes (value_text p.0 ++ p.1) bs both.1) ∙ ap (λ (r : Bytes). value_text p.0 ++ r) same);
         }
 
 cell_front : (b : ℕ) (bs rest : Bytes) → behind_cell (b ∷ bs) ≡ Some rest → IsFront (b ∷ bs) rest
@@ -58,7 +63,8 @@ enough zero m (b ∷ bs) h k = absurd (omega (arith, h))
 enough (suc n) zero (b ∷ bs) h k = absurd (omega (arith, k))
 enough (suc n) (suc m) (b ∷ bs) h k = by (λ rest. enough n m rest) (behind_cell (b ∷ bs)) refl
   where
-    by : ((rest : Bytes) → length rest ≤ n → length rest ≤ m → cells_within n rest ≡ cells_within m rest) → (o : Option Bytes) → behind_cell (b ∷ bs) ≡ o → or_false (cells_within n) o ≡ or_false (cells_within m) o
+    by : ((rest : Bytes) → length rest ≤ n → length rest ≤ m → cells_within n rest ≡ cells_within m rest)
+        → (o : Option Bytes) → behind_cell (b ∷ bs) ≡ o → or_false (cells_within n) o ≡ or_false (cells_within m) o
     by more None e = refl
     by more (Some rest) e =
         let less : length rest < length (b ∷ bs) = cell_shorter (b ∷ bs) rest e in
@@ -79,7 +85,8 @@ unfolding are_cells_in
 cells_behind [] rest e = absurd (cc)
 cells_behind (b ∷ bs) rest e =
     let less : length rest < length (b ∷ bs) = cell_shorter (b ∷ bs) rest e in
-    ap (or_false (cells_within (length bs))) e ∙ enough (length bs) (length rest) rest (omega (arith, less)) (omega arith)
+    ap (or_false (cells_within (length bs))) e
+    ∙ enough (length bs) (length rest) rest (omega (arith, less)) (omega arith)
 
 pub cells_fail : (bs : Bytes) → 0 < length bs → behind_cell bs ≡ None → are_cells_in bs ≡ false
 unfolding are_cells_in
@@ -116,7 +123,8 @@ within_cells n [] h = record { tuple = []; cells = refl; is = refl }
 within_cells zero (b ∷ bs) h = absurd (cc)
 within_cells (suc n) (b ∷ bs) h = by (within_cells n) (behind_cell (b ∷ bs)) refl h
   where
-    by : ((rest : Bytes) → cells_within n rest ≡ true → AreCells rest) → (o : Option Bytes) → behind_cell (b ∷ bs) ≡ o → or_false (cells_within n) o ≡ true → AreCells (b ∷ bs)
+    by : ((rest : Bytes) → cells_within n rest ≡ true → AreCells rest) → (o : Option Bytes) → behind_cell (b ∷ bs) ≡ o
+        → or_false (cells_within n) o ≡ true → AreCells (b ∷ bs)
     by others None e f = absurd (cc)
     by others (Some rest) e f =
         let front = cell_front b bs rest e in
@@ -131,7 +139,8 @@ pub cells_are : (bs : Bytes) → are_cells_in bs ≡ true → AreCells bs
 unfolding are_cells_in
 cells_are bs h = within_cells (length bs) bs h
 
-one_pair : (o : Option (Value × Bytes)) (v w : Value) (xs ys : Bytes) → o ≡ Some (v, xs) → o ≡ Some (w, ys) → (v ≡ w) × (xs ≡ ys)
+one_pair : (o : Option (Value × Bytes)) (v w : Value) (xs ys : Bytes) → o ≡ Some (v, xs) → o ≡ Some (w, ys) → (v ≡ w)
+    × (xs ≡ ys)
 one_pair o v w xs ys h k =
     let pairs = same_pair (v, xs) (w, ys) (sym h ∙ k) in
     (ap (λ (p : Value × Bytes). p.0) pairs, ap (λ (p : Value × Bytes). p.1) pairs)
@@ -158,7 +167,8 @@ cells_apart (v ∷ t) [] h k e = absurd (cc)
 cells_apart (v ∷ t) (w ∷ u) h k e =
     let here = and_parts (is_cell v) (are_cells t) h in
     let there = and_parts (is_cell w) (are_cells u) k in
-    let first = tuple_first v w t u here.0 there.0 (behind_first 32 (value_text v ++ cells_text t) (value_text w ++ cells_text u) e) in
+    let first = tuple_first v w t u here.0 there.0
+    (behind_first 32 (value_text v ++ cells_text t) (value_text w ++ cells_text u) e) in
     let more = cells_apart t u here.1 there.1 first.1 in
     ap (λ x. x ∷ t) first.0 ∙ ap (λ (ts : Tuple). w ∷ ts) more
 
@@ -173,19 +183,26 @@ both_ways false false h k = refl
 piece_is : (bytes text : Bytes) (n : ℕ) → bytes_eq (text ++ drop n bytes) bytes ≡ bytes_eq text (take n bytes)
 piece_is bytes text n =
     both_ways (bytes_eq (text ++ drop n bytes) bytes) (bytes_eq text (take n bytes))
-    (λ h. bytes_are text (take n bytes) (append_cancel_right text (take n bytes) (drop n bytes) (same_bytes (text ++ drop n bytes) bytes h ∙ sym (take-append-drop n bytes))))
-    (λ h. bytes_are (text ++ drop n bytes) bytes (ap (λ (xs : Bytes). xs ++ drop n bytes) (same_bytes text (take n bytes) h) ∙ take-append-drop n bytes))
+    (λ h. bytes_are text (take n bytes)
+    (append_cancel_right text (take n bytes) (drop n bytes)
+    (same_bytes (text ++ drop n bytes) bytes h ∙ sym (take-append-drop n bytes))))
+    (λ h. bytes_are (text ++ drop n bytes) bytes
+    (ap (λ (xs : Bytes). xs ++ drop n bytes) (same_bytes text (take n bytes) h) ∙ take-append-drop n bytes))
 
-pub value_behind : (bytes : Bytes) (v : Value) (n : ℕ) (test : Bool) → literal_at bytes ≡ Some (v, drop n bytes) → is_small_value v ≡ true
+pub value_behind : (bytes : Bytes) (v : Value) (n : ℕ) (test : Bool) → literal_at bytes ≡ Some (v, drop n bytes)
+    → is_small_value v ≡ true
     → test ≡ (is_text v && bytes_eq (value_text v) (take n bytes))
     → behind_value bytes (literal_at bytes) ≡ cond test (Some (drop n bytes)) None
 value_behind bytes v n test e small printed =
     ap (behind_value bytes) e
-    ∙ ap (λ t. cond ((t && is_text v) && bytes_eq (value_text v ++ drop n bytes) bytes) (Some (drop n bytes)) None) small
+    ∙ ap (λ t. cond ((t && is_text v) && bytes_eq (value_text v ++ drop n bytes) bytes) (Some (drop n bytes)) None)
+    small
     ∙ ap (λ t. cond (is_text v && t) (Some (drop n bytes)) None) (piece_is bytes (value_text v) n)
     ∙ ap (λ t. cond t (Some (drop n bytes)) None) (sym printed)
 
-pub value_past : (bytes : Bytes) (v : Value) (rest : Bytes) → literal_at bytes ≡ Some (v, rest) → is_small_value v ≡ false
+pub value_past : (bytes : Bytes) (v : Value) (rest : Bytes) → literal_at bytes ≡ Some (v, rest) → is_small_value v
+    ≡ false
     → behind_value bytes (literal_at bytes) ≡ None
 value_past bytes v rest e wide =
-    ap (behind_value bytes) e ∙ ap (λ t. cond ((t && is_text v) && bytes_eq (value_text v ++ rest) bytes) (Some rest) None) wide
+    ap (behind_value bytes) e
+    ∙ ap (λ t. cond ((t && is_text v) && bytes_eq (value_text v ++ rest) bytes) (Some rest) None) wide

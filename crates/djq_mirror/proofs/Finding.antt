@@ -272,7 +272,8 @@ words_are l first ws vs e k = e ∙ ap (λ (us : List Bytes). first ++ spaced 32
 two_words : (v w : Bytes) (n : ℕ) → w ≡ v → (u : Bytes) → u ≡ decimal n → w ∷ u ∷ [] ≡ v ∷ decimal n ∷ []
 two_words v w n e u k = cc
 
-three_words : (v w : Bytes) (n m : ℕ) → w ≡ v → (u x : Bytes) → u ≡ decimal n → x ≡ decimal m → w ∷ u ∷ x ∷ [] ≡ v ∷ decimal n ∷ decimal m ∷ []
+three_words : (v w : Bytes) (n m : ℕ) → w ≡ v → (u x : Bytes) → u ≡ decimal n → x ≡ decimal m → w ∷ u ∷ x ∷ []
+    ≡ v ∷ decimal n ∷ decimal m ∷ []
 three_words v w n m e u x k j = cc
 
 -- behind `ok`
@@ -306,19 +307,26 @@ counted_found l (w ∷ n ∷ []) e h =
             | inr is ↦ by_body l nothing (united k.0) k.1
                 (words_are l (codes "ok") _ _ e (two_words (codes "union") w k.0 (same_bytes w _ is) n k.2)) refl
           ]
-      | inr is ↦ by_body l nothing (watched k.0) k.1 (words_are l (codes "ok") _ _ e (two_words (codes "watch") w k.0 (same_bytes w _ is) n k.2)) refl
+      | inr is ↦ by_body l nothing (watched k.0) k.1
+          (words_are l (codes "ok") _ _ e (two_words (codes "watch") w k.0 (same_bytes w _ is) n k.2)) refl
     ]
 counted_found l (w ∷ n ∷ m ∷ []) e h =
-    let both = and_parts (bytes_eq w (codes "added") || bytes_eq w (codes "removed") || bytes_eq w (codes "done")) (is_number n && is_number m) h in
+    let both = and_parts (bytes_eq w (codes "added") || bytes_eq w (codes "removed") || bytes_eq w (codes "done"))
+    (is_number n && is_number m) h in
     let numbers = and_parts (is_number n) (is_number m) both.1 in
     let k = number_is n numbers.0 in
     let j = number_is m numbers.1 in
     elim (or_cases (bytes_eq w (codes "added") || bytes_eq w (codes "removed")) (bytes_eq w (codes "done")) both.0) [
       | inl front ↦ elim (or_cases (bytes_eq w (codes "added")) (bytes_eq w (codes "removed")) front) [
-        | inl is ↦ by_body l nothing (added k.0 j.0) (k.1, j.1) (words_are l (codes "ok") _ _ e (three_words (codes "added") w k.0 j.0 (same_bytes w _ is) n m k.2 j.2)) refl
-        | inr is ↦ by_body l nothing (removed k.0 j.0) (k.1, j.1) (words_are l (codes "ok") _ _ e (three_words (codes "removed") w k.0 j.0 (same_bytes w _ is) n m k.2 j.2)) refl
+        | inl is ↦ by_body l nothing (added k.0 j.0) (k.1, j.1)
+            (words_are l (codes "ok") _ _ e (three_words (codes "added") w k.0 j.0 (same_bytes w _ is) n m k.2 j.2))
+            refl
+        | inr is ↦ by_body l nothing (removed k.0 j.0) (k.1, j.1)
+            (words_are l (codes "ok") _ _ e (three_words (codes "removed") w k.0 j.0 (same_bytes w _ is) n m k.2 j.2))
+            refl
       ]
-      | inr is ↦ by_body l nothing (batch_done k.0 j.0) (k.1, j.1) (words_are l (codes "ok") _ _ e (three_words (codes "done") w k.0 j.0 (same_bytes w _ is) n m k.2 j.2)) refl
+      | inr is ↦ by_body l nothing (batch_done k.0 j.0) (k.1, j.1)
+          (words_are l (codes "ok") _ _ e (three_words (codes "done") w k.0 j.0 (same_bytes w _ is) n m k.2 j.2)) refl
     ]
 counted_found l (w ∷ n ∷ m ∷ o ∷ ws) e h = absurd (cc)
 
@@ -341,7 +349,8 @@ edges_are (w ∷ ws) h =
       are = ap (λ x. x ∷ ws) first.is ∙ ap (λ (us : List Bytes). joined (first.first ∷ first.others) ∷ us) others.are;
     }
 
-rest_is : (es : List (List Bytes)) (w : Bytes) (ws : List Bytes) → w ∷ ws ≡ edge_words es → list_all is_edge es ≡ true → is_rest es ≡ true
+rest_is : (es : List (List Bytes)) (w : Bytes) (ws : List Bytes) → w ∷ ws ≡ edge_words es → list_all is_edge es ≡ true
+    → is_rest es ≡ true
 rest_is [] w ws e h = absurd (cc)
 rest_is (f ∷ fs) w ws e h = h
 
@@ -349,16 +358,21 @@ rest_found : (l : Bytes) (ws : List Bytes) → l ≡ codes "no" ++ spaced 32 ws 
 rest_found l [] e h = absurd (cc)
 rest_found l (w ∷ []) e h = absurd (cc)
 rest_found l (w ∷ v ∷ vs) e h =
-    let both = and_parts (bytes_eq w (codes "cyclic") || bytes_eq w (codes "connex")) (list_all is_edge_word (v ∷ vs)) h in
+    let both = and_parts (bytes_eq w (codes "cyclic") || bytes_eq w (codes "connex")) (list_all is_edge_word (v ∷ vs)) h
+    in
     let edges = edges_are (v ∷ vs) both.1 in
     let rest = rest_is edges.edges v vs edges.are edges.all in
     elim (or_cases (bytes_eq w (codes "cyclic")) (bytes_eq w (codes "connex")) both.0) [
       | inl is ↦
           by_body l nothing (cyclic edges.edges) rest
-          (words_are l (codes "no") _ _ e (ap (λ x. x ∷ v ∷ vs) (same_bytes w (codes "cyclic") is) ∙ ap (λ (us : List Bytes). codes "cyclic" ∷ us) edges.are)) refl
+          (words_are l (codes "no") _ _ e
+          (ap (λ x. x ∷ v ∷ vs) (same_bytes w (codes "cyclic") is)
+          ∙ ap (λ (us : List Bytes). codes "cyclic" ∷ us) edges.are)) refl
       | inr is ↦
           by_body l nothing (not_connex edges.edges) rest
-          (words_are l (codes "no") _ _ e (ap (λ x. x ∷ v ∷ vs) (same_bytes w (codes "connex") is) ∙ ap (λ (us : List Bytes). codes "connex" ∷ us) edges.are)) refl
+          (words_are l (codes "no") _ _ e
+          (ap (λ x. x ∷ v ∷ vs) (same_bytes w (codes "connex") is)
+          ∙ ap (λ (us : List Bytes). codes "connex" ∷ us) edges.are)) refl
     ]
 
 -- nodes
@@ -381,7 +395,8 @@ end_is (w ∷ o ∷ []) h =
       label = found.label;
       out = true;
       variables = found.variables;
-      are = ap (λ x. x ∷ o ∷ []) found.is ∙ ap (λ x. label_text found.label ∷ x ∷ []) (same_bytes o (codes "out") both.1);
+      are = ap (λ x. x ∷ o ∷ []) found.is
+          ∙ ap (λ x. label_text found.label ∷ x ∷ []) (same_bytes o (codes "out") both.1);
     }
 end_is (w ∷ o ∷ v ∷ ws) h = absurd (cc)
 
@@ -419,7 +434,8 @@ trim_is k (c ∷ ws) e h =
       label = end.label;
       out = end.out;
       variables = end.variables;
-      are = ap (λ x. x ∷ c ∷ ws) e ∙ ap (λ x. codes "trim" ∷ x ∷ ws) n.2 ∙ ap (λ (us : List Bytes). codes "trim" ∷ decimal n.0 ∷ us) end.are;
+      are = ap (λ x. x ∷ c ∷ ws) e ∙ ap (λ x. codes "trim" ∷ x ∷ ws) n.2
+          ∙ ap (λ (us : List Bytes). codes "trim" ∷ decimal n.0 ∷ us) end.are;
     }
 
 meet_is : (k : Bytes) (ws : List Bytes) → k ≡ codes "meet" → is_meet_told ws ≡ true → IsKind (k ∷ ws)
@@ -438,13 +454,15 @@ meet_is k (g ∷ s ∷ ws) e h =
       out = end.out;
       variables = end.variables;
       are =
-          ap (λ x. x ∷ g ∷ s ∷ ws) e ∙ ap (λ x. codes "meet" ∷ x ∷ s ∷ ws) n.2 ∙ ap (λ x. codes "meet" ∷ decimal n.0 ∷ x ∷ ws) m.2
+          ap (λ x. x ∷ g ∷ s ∷ ws) e ∙ ap (λ x. codes "meet" ∷ x ∷ s ∷ ws) n.2
+          ∙ ap (λ x. codes "meet" ∷ decimal n.0 ∷ x ∷ ws) m.2
           ∙ ap (λ (us : List Bytes). codes "meet" ∷ decimal n.0 ∷ decimal m.0 ∷ us) end.are;
     }
 
 kind_is : (ws : List Bytes) → is_node_kind ws ≡ true → IsKind ws
 kind_is [] h = absurd (cc)
-kind_is (k ∷ ws) h = by (bytes_eq k (codes "leaf")) (bytes_eq k (codes "trim")) (bytes_eq k (codes "meet")) refl refl refl h
+kind_is (k ∷ ws) h = by (bytes_eq k (codes "leaf")) (bytes_eq k (codes "trim")) (bytes_eq k (codes "meet")) refl refl
+    refl h
   where
     by : (x y z : Bool) → bytes_eq k (codes "leaf") ≡ x → bytes_eq k (codes "trim") ≡ y → bytes_eq k (codes "meet") ≡ z
         → cond x (is_leaf_told ws) (cond y (is_trim_told ws) (z && is_meet_told ws)) ≡ true → IsKind (k ∷ ws)
@@ -464,7 +482,8 @@ node_found l (j ∷ ws) e h =
 
 -- names and numbers
 
-stale_found : (l : Bytes) (ws : List Bytes) → l ≡ codes "stale" ++ spaced 32 ws → is_stale_told ws ≡ true → IsTold l makes_stale
+stale_found : (l : Bytes) (ws : List Bytes) → l ≡ codes "stale" ++ spaced 32 ws → is_stale_told ws ≡ true
+    → IsTold l makes_stale
 stale_found l [] e h = absurd (cc)
 stale_found l (c ∷ []) e h = absurd (cc)
 stale_found l (c ∷ r ∷ []) e h = absurd (cc)
@@ -472,10 +491,12 @@ stale_found l (c ∷ r ∷ n ∷ []) e h =
     let both = and_parts (is_name c) (is_name r && is_number n) h in
     let more = and_parts (is_name r) (is_number n) both.1 in
     let k = number_is n more.1 in
-    by_body l makes_stale (stale c r k.0) (both.0, more.0, k.1) (words_are l (codes "stale") _ _ e (ap (λ x. c ∷ r ∷ x ∷ []) k.2)) refl
+    by_body l makes_stale (stale c r k.0) (both.0, more.0, k.1)
+    (words_are l (codes "stale") _ _ e (ap (λ x. c ∷ r ∷ x ∷ []) k.2)) refl
 stale_found l (c ∷ r ∷ n ∷ o ∷ ws) e h = absurd (cc)
 
-count_found : (l : Bytes) (ws : List Bytes) (w : News) → l ≡ codes "at" ++ spaced 32 ws → count_told ws ≡ Some w → IsTold l w
+count_found : (l : Bytes) (ws : List Bytes) (w : News) → l ≡ codes "at" ++ spaced 32 ws → count_told ws ≡ Some w
+    → IsTold l w
 count_found l [] w e h = absurd (cc)
 count_found l (q ∷ []) w e h = absurd (cc)
 count_found l (q ∷ n ∷ []) w e h =
@@ -492,10 +513,12 @@ member_found l (n ∷ []) e h = by_body l nothing (member n) h e refl
 member_found l (n ∷ o ∷ ws) e h = absurd (cc)
 
 -- a line that tells nothing
-first_is : (l first v : Bytes) (ws : List Bytes) → l ≡ first ++ spaced 32 ws → bytes_eq first v ≡ true → l ≡ v ++ spaced 32 ws
+first_is : (l first v : Bytes) (ws : List Bytes) → l ≡ first ++ spaced 32 ws → bytes_eq first v ≡ true → l
+    ≡ v ++ spaced 32 ws
 first_is l first v ws e h = e ∙ ap (λ (p : Bytes). p ++ spaced 32 ws) (same_bytes first v h)
 
-worded_found : (l first : Bytes) (ws : List Bytes) → l ≡ first ++ spaced 32 ws → is_worded first ws ≡ true → IsTold l nothing
+worded_found : (l first : Bytes) (ws : List Bytes) → l ≡ first ++ spaced 32 ws → is_worded first ws ≡ true
+    → IsTold l nothing
 worded_found l first ws e h = by (bytes_eq first (codes "ok")) (bytes_eq first (codes "no"))
     (bytes_eq first (codes "n")) (bytes_eq first (codes "m")) refl refl refl refl h
   where
@@ -509,7 +532,8 @@ worded_found l first ws e h = by (bytes_eq first (codes "ok")) (bytes_eq first (
     by false false false true f g k j t = member_found l ws (first_is l first _ ws e j) t
     by false false false false f g k j t = absurd (cc)
 
-nothing_found : (l first : Bytes) (ws : List Bytes) → l ≡ first ++ spaced 32 ws → (is_fixed l || is_worded first ws) ≡ true → IsTold l nothing
+nothing_found : (l first : Bytes) (ws : List Bytes) → l ≡ first ++ spaced 32 ws → (is_fixed l || is_worded first ws)
+    ≡ true → IsTold l nothing
 nothing_found l first ws e h = elim (or_cases (is_fixed l) (is_worded first ws) h) [
   | inl same ↦ among l fixed_lines all_fixed same
   | inr words ↦ worded_found l first ws e words
@@ -518,11 +542,14 @@ nothing_found l first ws e h = elim (or_cases (is_fixed l) (is_worded first ws) 
 told_as : (l : Bytes) (v w : News) → IsTold l v → v ≡ w → IsTold l w
 told_as l v w h e = subst (λ (n : News). IsTold l n) e h
 
-word_found : (l first : Bytes) (ws : List Bytes) (w : News) → l ≡ first ++ spaced 32 ws → word_told l first ws ≡ Some w → IsTold l w
+word_found : (l first : Bytes) (ws : List Bytes) (w : News) → l ≡ first ++ spaced 32 ws → word_told l first ws ≡ Some w
+    → IsTold l w
 word_found l first ws w e h = by (bytes_eq first (codes "at")) (bytes_eq first (codes "stale")) refl refl h
   where
     by : (x y : Bool) → bytes_eq first (codes "at") ≡ x → bytes_eq first (codes "stale") ≡ y
-        → cond x (count_told ws) (cond y (told_if (is_stale_told ws) makes_stale) (told_if (is_fixed l || is_worded first ws) nothing)) ≡ Some w → IsTold l w
+        → cond x (count_told ws)
+        (cond y (told_if (is_stale_told ws) makes_stale) (told_if (is_fixed l || is_worded first ws) nothing))
+        ≡ Some w → IsTold l w
     by true y f g t = count_found l ws w (first_is l first _ ws e f) t
     by false true f g t =
         let said = if_said (is_stale_told ws) makes_stale w t in
@@ -534,10 +561,13 @@ word_found l first ws w e h = by (bytes_eq first (codes "at")) (bytes_eq first (
 some_is : (v w : News) → Some v ≡ Some w → v ≡ w
 some_is v w e = cc
 
-words_found : (l first : Bytes) (ws : List Bytes) (w : News) → l ≡ first ++ spaced 32 ws → words_told l first ws ≡ Some w → IsTold l w
-words_found l first ws w e h = by (bytes_eq l (codes "ok open")) (bytes_eq l (codes "more")) (bytes_eq l (codes "end")) refl refl refl h
+words_found : (l first : Bytes) (ws : List Bytes) (w : News) → l ≡ first ++ spaced 32 ws → words_told l first ws
+    ≡ Some w → IsTold l w
+words_found l first ws w e h = by (bytes_eq l (codes "ok open")) (bytes_eq l (codes "more")) (bytes_eq l (codes "end"))
+    refl refl refl h
   where
-    by : (x y z : Bool) → bytes_eq l (codes "ok open") ≡ x → bytes_eq l (codes "more") ≡ y → bytes_eq l (codes "end") ≡ z
+    by : (x y z : Bool) → bytes_eq l (codes "ok open") ≡ x → bytes_eq l (codes "more") ≡ y → bytes_eq l (codes "end")
+        ≡ z
         → cond x (Some opens) (cond y (Some goes_on) (cond z (Some ends) (word_told l first ws))) ≡ Some w → IsTold l w
     by true y z f g k t = by_body l w opened tt (same_bytes l (codes "ok open") f) (some_is opens w t)
     by false true z f g k t = by_body l w more tt (same_bytes l (codes "more") g) (some_is goes_on w t)
@@ -550,18 +580,23 @@ words_found l first ws w e h = by (bytes_eq l (codes "ok open")) (bytes_eq l (co
 with_one : (b : ℕ) (l first : Bytes) (o : Option Bytes) → l ≡ with_behind 32 first o → first ≡ b ∷ [] → l ≡ b ∷ drop 1 l
 with_one b l first None e f = let same : l ≡ b ∷ [] = e ∙ f in same ∙ sym (ap (λ (xs : Bytes). b ∷ drop 1 xs) same)
 with_one b l first (Some rest) e f =
-    let same : l ≡ b ∷ 32 ∷ rest = e ∙ ap (λ (xs : Bytes). xs ++ 32 ∷ rest) f in same ∙ sym (ap (λ (xs : Bytes). b ∷ drop 1 xs) same)
+    let same : l ≡ b ∷ 32 ∷ rest = e ∙ ap (λ (xs : Bytes). xs ++ 32 ∷ rest) f in same
+    ∙ sym (ap (λ (xs : Bytes). b ∷ drop 1 xs) same)
 
-answer_found : (l : Bytes) (w : News) → l ≡ 61 ∷ drop 1 l → told_if (are_cells_in (drop 1 l)) (lists (drop 1 l)) ≡ Some w → IsTold l w
+answer_found : (l : Bytes) (w : News) → l ≡ 61 ∷ drop 1 l → told_if (are_cells_in (drop 1 l)) (lists (drop 1 l))
+    ≡ Some w → IsTold l w
 answer_found l w e h =
     let said = if_said (are_cells_in (drop 1 l)) (lists (drop 1 l)) w h in
     let cells = cells_are (drop 1 l) said.0 in
-    by_body l w (answer cells.tuple) cells.cells (e ∙ ap (λ (xs : Bytes). 61 ∷ xs) cells.is) (sym (ap (λ (xs : Bytes). lists xs) cells.is) ∙ said.1)
+    by_body l w (answer cells.tuple) cells.cells (e ∙ ap (λ (xs : Bytes). 61 ∷ xs) cells.is)
+    (sym (ap (λ (xs : Bytes). lists xs) cells.is) ∙ said.1)
 
 -- what is before a space is in front
 front_back : (bs : Bytes) (o : Option Bytes) (p : Bytes) → bs ≡ with_behind 32 p o → bs ≡ p ++ drop (length p) bs
-front_back bs None p e = e ∙ sym (append-nil p) ∙ ap (λ (xs : Bytes). p ++ xs) (sym (ap (drop (length p)) (e ∙ sym (append-nil p)) ∙ drop_at p [] (length p) refl))
-front_back bs (Some rest) p e = e ∙ ap (λ (xs : Bytes). p ++ xs) (sym (ap (drop (length p)) e ∙ drop_at p (32 ∷ rest) (length p) refl))
+front_back bs None p e = e ∙ sym (append-nil p)
+    ∙ ap (λ (xs : Bytes). p ++ xs) (sym (ap (drop (length p)) (e ∙ sym (append-nil p)) ∙ drop_at p [] (length p) refl))
+front_back bs (Some rest) p e = e
+    ∙ ap (λ (xs : Bytes). p ++ xs) (sym (ap (drop (length p)) e ∙ drop_at p (32 ∷ rest) (length p) refl))
 
 change_found : (l first : Bytes) (s : Sign) (rest : Option Bytes) (w : News) → l ≡ with_behind 32 first rest
     → ((r : Bytes) → first ++ 32 ∷ r ≡ sign_text s ++ r) → change_told s rest ≡ Some w → IsTold l w
@@ -573,18 +608,26 @@ change_found l first s (Some r) w e f h =
     let both = and_parts (is_name q) (are_cells_in cells) said.0 in
     let found = cells_are cells both.1 in
     by_body l w (changed s q found.tuple) (both.0, found.cells)
-    (e ∙ f r ∙ ap (λ (xs : Bytes). sign_text s ++ xs) (front_back r (behind 32 r) q (cut_back 32 r) ∙ ap (λ (xs : Bytes). q ++ xs) found.is))
+    (e ∙ f r ∙ ap (λ (xs : Bytes). sign_text s ++ xs)
+    (front_back r (behind 32 r) q (cut_back 32 r) ∙ ap (λ (xs : Bytes). q ++ xs) found.is))
     (sym (ap (λ (xs : Bytes). changes s q xs) found.is) ∙ said.1)
 
-line_found : (l first : Bytes) (rest : Option Bytes) (w : News) → l ≡ with_behind 32 first rest → line_told l first rest ≡ Some w → IsTold l w
-line_found l first rest w e h = by (bytes_eq first (codes "=")) (bytes_eq first (codes "+")) (bytes_eq first (codes "-")) refl refl refl h
+line_found : (l first : Bytes) (rest : Option Bytes) (w : News) → l ≡ with_behind 32 first rest → line_told l first rest
+    ≡ Some w → IsTold l w
+line_found l first rest w e h = by (bytes_eq first (codes "=")) (bytes_eq first (codes "+"))
+    (bytes_eq first (codes "-")) refl refl refl h
   where
-    by : (x y z : Bool) → bytes_eq first (codes "=") ≡ x → bytes_eq first (codes "+") ≡ y → bytes_eq first (codes "-") ≡ z
-        → cond x (told_if (are_cells_in (drop 1 l)) (lists (drop 1 l))) (cond y (change_told Came rest) (cond z (change_told Went rest) (words_told l first (parts_left 32 rest)))) ≡ Some w
+    by : (x y z : Bool) → bytes_eq first (codes "=") ≡ x → bytes_eq first (codes "+") ≡ y → bytes_eq first (codes "-")
+        ≡ z
+        → cond x (told_if (are_cells_in (drop 1 l)) (lists (drop 1 l)))
+        (cond y (change_told Came rest) (cond z (change_told Went rest) (words_told l first (parts_left 32 rest))))
+        ≡ Some w
         → IsTold l w
     by true y z f g k t = answer_found l w (with_one 61 l first rest e (same_bytes first (codes "=") f)) t
-    by false true z f g k t = change_found l first Came rest w e (λ r. ap (λ (xs : Bytes). xs ++ 32 ∷ r) (same_bytes first (codes "+") g)) t
-    by false false true f g k t = change_found l first Went rest w e (λ r. ap (λ (xs : Bytes). xs ++ 32 ∷ r) (same_bytes first (codes "-") k)) t
+    by false true z f g k t = change_found l first Came rest w e
+        (λ r. ap (λ (xs : Bytes). xs ++ 32 ∷ r) (same_bytes first (codes "+") g)) t
+    by false false true f g k t = change_found l first Went rest w e
+        (λ r. ap (λ (xs : Bytes). xs ++ 32 ∷ r) (same_bytes first (codes "-") k)) t
     by false false false f g k t = words_found l first (parts_left 32 rest) w (e ∙ words_back 32 first rest) t
 
 pub told_found : (l : Bytes) (w : News) → told_in l ≡ Some w → IsTold l w

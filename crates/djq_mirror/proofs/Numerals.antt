@@ -1,10 +1,13 @@
 -- Numbers as they are printed.
-use Rattle.std.proofs.Common.{◌≡◌, ℕ, ◌+◌, ◌/◌, ◌%◌, ◌^◌, ◌<◌, ◌≤◌, true, ◌&&◌, [], ◌∷◌, ◌++◌, length, length-append, Option, Some, None, option_map, refl, sym, ap, ◌∙◌, arith, ltb, inl, inr}
+use Rattle.std.proofs.Common.{◌≡◌, ℕ, ◌+◌, ◌/◌, ◌%◌, ◌^◌, ◌<◌, ◌≤◌, true, ◌&&◌, [], ◌∷◌, ◌++◌}
+use Rattle.std.proofs.Common.{length, length-append, Option, Some, None, option_map, refl, sym, ap}
+use Rattle.std.proofs.Common.{◌∙◌, arith, ltb, inl, inr}
 use Rattle.std.specs.List.{list_all}
 use Rattle.std.specs.Fmt.{decimal}
 use Rattle.std.proofs.lemmas.Fmt.{decimal_by_steps}
 use Rattle.std.proofs.lemmas.List.Folds.{list_all-append}
-use Rattle.std.proofs.lemmas.Bool.{cond-true, and_parts, and_from, and_left, false_from_ne_true, le-leb, le-ltb, lt-ltb, ltb-true, cases_lt}
+use Rattle.std.proofs.lemmas.Bool.{cond-true, and_parts, and_from, and_left, false_from_ne_true}
+use Rattle.std.proofs.lemmas.Bool.{le-leb, le-ltb, lt-ltb, ltb-true, cases_lt}
 use Rattle.djq_model.specs.Data.{Bytes, bytes_eq}
 use Rattle.djq_model.specs.Equality.{bytes_eq-decides}
 use Rattle.djq_value.specs.Literal.{digits_value, is_digit, natural_of}
@@ -26,7 +29,8 @@ one_digit n h = record { some = omega arith; digits = and_from _ _ (digit_is n h
 more_digits : (n : ℕ) (ds : Bytes) → 10 ≤ n → IsWritten (n / 10) ds → IsWritten n (ds ++ (48 + n % 10) ∷ [])
 more_digits n ds h w = record {
   some = omega (arith, w.some, length-append ds ((48 + n % 10) ∷ []));
-  digits = list_all-append is_digit ds ((48 + n % 10) ∷ []) ∙ and_from _ _ w.digits (and_from _ _ (digit_is (n % 10) (omega arith)) refl);
+  digits = list_all-append is_digit ds ((48 + n % 10) ∷ [])
+      ∙ and_from _ _ w.digits (and_from _ _ (digit_is (n % 10) (omega arith)) refl);
   value = digits_value-push 0 ds (48 + n % 10) ∙ omega (arith, w.value);
 }
 
@@ -66,9 +70,11 @@ number_is w h = by (natural_of w) h
 pub number_read : (w : Bytes) (n : ℕ) → Some n ≡ option_map capped (natural_of w) → bytes_eq w (decimal n) ≡ is_number w
 number_read w n e = by (natural_of w) refl e
   where
-    above : (m : ℕ) → natural_of w ≡ Some m → 18446744073709551616 ≤ m → n ≡ 18446744073709551615 → bytes_eq w (decimal n) ≡ true → ⊥
+    above : (m : ℕ) → natural_of w ≡ Some m → 18446744073709551616 ≤ m → n ≡ 18446744073709551615
+        → bytes_eq w (decimal n) ≡ true → ⊥
     above m o h f t =
-        let read : natural_of w ≡ Some n = ap natural_of (same_bytes w (decimal n) t) ∙ natural_written n (omega (arith, f)) in
+        let read : natural_of w ≡ Some n = ap natural_of (same_bytes w (decimal n) t)
+        ∙ natural_written n (omega (arith, f)) in
         let same : m ≡ n = cc in
         absurd (omega (arith, same, f, h))
 
@@ -79,9 +85,11 @@ number_read w n e = by (natural_of w) refl e
         elim (cases_lt m 18446744073709551616) [
           | inl low ↦
               let same : n ≡ m = omega (arith, is, low) in
-              ap (λ k. bytes_eq w (decimal k)) same ∙ sym (ap (λ t. t && bytes_eq w (decimal m)) (lt-ltb m 18446744073709551616 low))
+              ap (λ k. bytes_eq w (decimal k)) same
+              ∙ sym (ap (λ t. t && bytes_eq w (decimal m)) (lt-ltb m 18446744073709551616 low))
           | inr high ↦
               let top : n ≡ 18446744073709551615 = omega (arith, is, high) in
               false_from_ne_true (bytes_eq w (decimal n)) (above m o high top)
-              ∙ sym (and_left (ltb m 18446744073709551616) (bytes_eq w (decimal m)) (le-ltb m 18446744073709551616 high))
+              ∙ sym (and_left (ltb m 18446744073709551616) (bytes_eq w (decimal m))
+              (le-ltb m 18446744073709551616 high))
         ]

@@ -1,5 +1,7 @@
 -- How bytes are cut at a sign, and put together again.
-use Rattle.std.proofs.Common.{◌≡◌, ℕ, zero, suc, ◌+◌, ◌<◌, Bool, true, false, cond, List, [], ◌∷◌, ◌++◌, length, get_or, take, drop, Some, None, refl, sym, ap, ◌∙◌, arith, eqb}
+use Rattle.std.proofs.Common.{◌≡◌, ℕ, zero, suc, ◌+◌, ◌<◌, Bool, true, false, cond, List, [], ◌∷◌}
+use Rattle.std.proofs.Common.{◌++◌, length, get_or, take, drop, Some, None, refl, sym, ap, ◌∙◌}
+use Rattle.std.proofs.Common.{arith, eqb}
 use Rattle.std.proofs.Common.{not, Option}
 use Rattle.std.specs.List.{list_all, flat_map}
 use Rattle.std.proofs.lemmas.List.{append-nil}
@@ -38,9 +40,11 @@ fails false h = refl
 -- the same, as the search for a byte says it
 pub split_first : (sign : ℕ) (xs : Bytes) (k : ℕ) → IsFirstByte (is_byte sign) xs (Some k)
     → (before sign xs ≡ take k xs) × (behind sign xs ≡ Some (drop (k + 1) xs))
-split_first sign xs k h = found sign xs k h.0.high h.1 (λ j less. fails (eqb (get_or xs j 0) sign) (h.0.before j (omega arith) less))
+split_first sign xs k h = found sign xs k h.0.high h.1
+    (λ j less. fails (eqb (get_or xs j 0) sign) (h.0.before j (omega arith) less))
 
-pub split_none : (sign : ℕ) (xs : Bytes) → IsFirstByte (is_byte sign) xs None → (before sign xs ≡ xs) × (behind sign xs ≡ None)
+pub split_none : (sign : ℕ) (xs : Bytes) → IsFirstByte (is_byte sign) xs None → (before sign xs ≡ xs)
+    × (behind sign xs ≡ None)
 split_none sign xs h = none sign xs (λ j less. fails (eqb (get_or xs j 0) sign) (h j (omega arith) less))
 
 -- the first part, and those behind it
@@ -75,13 +79,15 @@ part_front : (sign : ℕ) (p rest : Bytes) → lacks sign p ≡ true → parts s
 part_front sign [] rest h = cond-true _ _ _ (eq-eqb sign sign refl)
 part_front sign (b ∷ p) rest h =
     let both = and_parts (not (eqb b sign)) (lacks sign p) h in
-    cond-false _ _ _ (not-true (eqb b sign) both.0) ∙ ap (λ (ps : List Bytes). with_first b ps) (part_front sign p rest both.1)
+    cond-false _ _ _ (not-true (eqb b sign) both.0)
+    ∙ ap (λ (ps : List Bytes). with_first b ps) (part_front sign p rest both.1)
 
 part_last : (sign : ℕ) (p : Bytes) → lacks sign p ≡ true → parts sign p ≡ p ∷ []
 part_last sign [] h = refl
 part_last sign (b ∷ p) h =
     let both = and_parts (not (eqb b sign)) (lacks sign p) h in
-    cond-false _ _ _ (not-true (eqb b sign) both.0) ∙ ap (λ (ps : List Bytes). with_first b ps) (part_last sign p both.1)
+    cond-false _ _ _ (not-true (eqb b sign) both.0)
+    ∙ ap (λ (ps : List Bytes). with_first b ps) (part_last sign p both.1)
 
 -- parts, each behind a sign
 abbrev pub spaced : ℕ → List Bytes → Bytes
@@ -105,7 +111,8 @@ first_glued : (sign b : ℕ) (ps : List Bytes) → glued sign (with_first b ps) 
 first_glued sign b [] = refl
 first_glued sign b (p ∷ ps) = refl
 
-spaced_glued : (sign : ℕ) (ps : List Bytes) (p : Bytes) (qs : List Bytes) → ps ≡ p ∷ qs → spaced sign ps ≡ sign ∷ glued sign ps
+spaced_glued : (sign : ℕ) (ps : List Bytes) (p : Bytes) (qs : List Bytes) → ps ≡ p ∷ qs → spaced sign ps
+    ≡ sign ∷ glued sign ps
 spaced_glued sign ps p qs e = ap (spaced sign) e ∙ sym (ap (λ (rs : List Bytes). sign ∷ glued sign rs) e)
 
 pub parts_back : (sign : ℕ) (bs : Bytes) → glued sign (parts sign bs) ≡ bs
@@ -141,4 +148,5 @@ pub words_back : (sign : ℕ) (p : Bytes) (o : Option Bytes) → with_behind sig
 words_back sign p None = sym (append-nil p)
 words_back sign p (Some rest) =
     ap (λ (ys : Bytes). p ++ ys)
-    (ap (λ (ys : Bytes). sign ∷ ys) (sym (parts_back sign rest)) ∙ sym (spaced_glued sign (parts sign rest) _ _ (first_part sign rest)))
+    (ap (λ (ys : Bytes). sign ∷ ys) (sym (parts_back sign rest))
+    ∙ sym (spaced_glued sign (parts sign rest) _ _ (first_part sign rest)))

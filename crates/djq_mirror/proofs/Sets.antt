@@ -1,6 +1,7 @@
 -- Sets by the texts of their keys.
 use Rattle.std.specs.Prelude.{Vec}
-use Rattle.std.proofs.Common.{◌≡◌, ℕ, Bool, true, false, cond, not, ◌&&◌, ◌||◌, [], ◌∷◌, List, map, refl, sym, ap, ap₂, ◌∙◌}
+use Rattle.std.proofs.Common.{◌≡◌, ℕ, Bool, true, false, cond, not, ◌&&◌, ◌||◌, [], ◌∷◌, List, map}
+use Rattle.std.proofs.Common.{refl, sym, ap, ap₂, ◌∙◌}
 use Rattle.std.specs.List.{AllByRecursion, list_any}
 use Rattle.std.specs.List.Sorted.{IsStrictlySortedBy}
 use Rattle.std.specs.Cmp.Lexicographic.{slice_cmp}
@@ -33,12 +34,14 @@ unfolding IsStrictlySortedBy
 in_order f [] h = tt
 in_order {K} f (k ∷ ks) h = (above ks h.0, in_order f ks h.1)
   where
-    above : (xs : List K) → AllByRecursion (λ y. by_text f k y ≡ Less) xs → AllByRecursion (λ t. slice_cmp nat_cmp (f k) t ≡ Less) (map f xs)
+    above : (xs : List K) → AllByRecursion (λ y. by_text f k y ≡ Less) xs
+        → AllByRecursion (λ t. slice_cmp nat_cmp (f k) t ≡ Less) (map f xs)
     above [] a = tt
     above (x ∷ xs) a = (a.0, above xs a.1)
 
 -- a key that all others follow is none of them
-apart : {K : Type 0} (f : K → Bytes) (k : K) (ks : List K) → IsStrictlySortedBy (by_text f) (k ∷ ks) → has_text (map f ks) (f k) ≡ false
+apart : {K : Type 0} (f : K → Bytes) (k : K) (ks : List K) → IsStrictlySortedBy (by_text f) (k ∷ ks)
+    → has_text (map f ks) (f k) ≡ false
 unfolding IsStrictlySortedBy
 apart {K} f k ks h = none ks h.0
   where
@@ -65,13 +68,15 @@ pub put_there : {K : Type 0} (f : K → Bytes) (ks : List K) (k : K) (u : Bytes)
 put_there f [] k u = refl
 put_there {K} f (x ∷ xs) k u = step (by_text f k x) refl (put_there f xs k u)
   where
-    step : (o : Ordering) → by_text f k x ≡ o → has_text (map f (insert_key (by_text f) xs k)) u ≡ (bytes_eq u (f k) || has_text (map f xs) u)
+    step : (o : Ordering) → by_text f k x ≡ o → has_text (map f (insert_key (by_text f) xs k)) u
+        ≡ (bytes_eq u (f k) || has_text (map f xs) u)
         → has_text (map f (match_ordering o (k ∷ x ∷ xs) (x ∷ xs) (x ∷ insert_key (by_text f) xs k))) u
         ≡ (bytes_eq u (f k) || (bytes_eq u (f x) || has_text (map f xs) u))
     step Less e h = refl
     step Equal e h =
         twice (bytes_eq u (f x)) (has_text (map f xs) u)
-        ∙ ap (λ t. bytes_eq u t || (bytes_eq u (f x) || has_text (map f xs) u)) (sym (equal_texts (f k) (f x) Equal e refl))
+        ∙ ap (λ t. bytes_eq u t || (bytes_eq u (f x) || has_text (map f xs) u))
+        (sym (equal_texts (f k) (f x) Equal e refl))
     step Greater e h =
         ap (λ b. bytes_eq u (f x) || b) h ∙ turned (bytes_eq u (f x)) (bytes_eq u (f k)) (has_text (map f xs) u)
 
@@ -98,10 +103,12 @@ taken_out {K} f (x ∷ xs) t u h = step (is_key f t x) refl (bytes_eq u t) refl 
 
     step : (a : Bool) → is_key f t x ≡ a → (b : Bool) → bytes_eq u t ≡ b
         → has_text (map f (remove_key (is_key f t) xs)) u ≡ (not (bytes_eq u t) && has_text (map f xs) u)
-        → has_text (map f (cond a xs (x ∷ remove_key (is_key f t) xs))) u ≡ (not (bytes_eq u t) && (bytes_eq u (f x) || has_text (map f xs) u))
+        → has_text (map f (cond a xs (x ∷ remove_key (is_key f t) xs))) u
+        ≡ (not (bytes_eq u t) && (bytes_eq u (f x) || has_text (map f xs) u))
     step true e true k i = gone e k ∙ sym (ap (λ p. not p && (bytes_eq u (f x) || has_text (map f xs) u)) k)
     step true e false k i =
-        sym (ap (λ p. not p && (bytes_eq u (f x) || has_text (map f xs) u)) k ∙ ap (λ s. bytes_eq u s || has_text (map f xs) u) (sym (first e))
+        sym (ap (λ p. not p && (bytes_eq u (f x) || has_text (map f xs) u)) k
+        ∙ ap (λ s. bytes_eq u s || has_text (map f xs) u) (sym (first e))
         ∙ ap (λ p. p || has_text (map f xs) u) k)
     step false e true k i =
         ap₂ (λ p q. p || q) (other e k) (i ∙ ap (λ p. not p && has_text (map f xs) u) k)
@@ -122,12 +129,14 @@ flipped s t = by (bytes_eq s t) (bytes_eq t s) refl refl
     by true false e f = sym (bytes_are t s (sym (same_bytes s t e))) ∙ f
     by false true e f = sym e ∙ bytes_are s t (sym (same_bytes t s f))
 
-pub set_has : {A : Type 0} (s : BTreeSet (Vec ℕ A)) (t : Bytes) → contains_by (λ k. slice_cmp nat_cmp t k.items) s ≡ has_text (texts_of s) t
+pub set_has : {A : Type 0} (s : BTreeSet (Vec ℕ A)) (t : Bytes) → contains_by (λ k. slice_cmp nat_cmp t k.items) s
+    ≡ has_text (texts_of s) t
 set_has s t = holds (λ v. v.items) s.keys t
 
 pub put_acted : {A : Type 0} (old new : BTreeSet (Vec ℕ A)) (k : Vec ℕ A) (t : Bytes) → k.items ≡ t
     → new.keys ≡ insert_key (λ x y. slice_cmp nat_cmp x.items y.items) old.keys k
-    → IsStrictlySortedBy (λ x y. slice_cmp nat_cmp x.items y.items) new.keys → Acted (texts_of old) (put t) (texts_of new)
+    → IsStrictlySortedBy (λ x y. slice_cmp nat_cmp x.items y.items) new.keys
+    → Acted (texts_of old) (put t) (texts_of new)
 put_acted old new k t e is order = (
   in_order (λ v. v.items) new.keys order,
   λ u. ap (λ ks. has_text (map (λ v. v.items) ks) u) is ∙ put_there (λ v. v.items) old.keys k u
@@ -137,7 +146,8 @@ put_acted old new k t e is order = (
 pub take_acted : {A : Type 0} (old new : BTreeSet (Vec ℕ A)) (t : Bytes)
     → new.keys ≡ remove_key (is_at (λ k. slice_cmp nat_cmp t k.items)) old.keys
     → IsStrictlySortedBy (λ x y. slice_cmp nat_cmp x.items y.items) old.keys
-    → IsStrictlySortedBy (λ x y. slice_cmp nat_cmp x.items y.items) new.keys → Acted (texts_of old) (take_out t) (texts_of new)
+    → IsStrictlySortedBy (λ x y. slice_cmp nat_cmp x.items y.items) new.keys
+    → Acted (texts_of old) (take_out t) (texts_of new)
 take_acted old new t is was order = (
   in_order (λ v. v.items) new.keys order,
   λ u. ap (λ ks. has_text (map (λ v. v.items) ks) u) is ∙ taken_out (λ v. v.items) old.keys t u was

@@ -1,5 +1,6 @@
 -- Names, numbers, edges and labels have no space, and are what their words say.
-use Rattle.std.proofs.Common.{◌≡◌, ℕ, ◌<◌, ◌≤◌, ◌^◌, length, Bool, true, not, ◌&&◌, ◌||◌, [], ◌∷◌, List, refl, sym, ap, ◌∙◌, arith, eqb, leb, inl, inr, codes}
+use Rattle.std.proofs.Common.{◌≡◌, ℕ, ◌<◌, ◌≤◌, ◌^◌, length, Bool, true, not, ◌&&◌, ◌||◌, [], ◌∷◌}
+use Rattle.std.proofs.Common.{List, refl, sym, ap, ◌∙◌, arith, eqb, leb, inl, inr, codes}
 use Rattle.std.specs.List.{list_all}
 use Rattle.std.specs.Fmt.{decimal}
 use Rattle.std.proofs.lemmas.List.Folds.{list_all-append}
@@ -13,11 +14,13 @@ use Rattle.djq_mirror.proofs.Numerals.{digits_written, same_bytes}
 use Rattle.djq_mirror.proofs.Parting.{glued, lacks, parts_back, parts_spaced, spaced}
 
 -- bytes that pass a test lack a sign that doesn't
-lacks_by : (p : ℕ → Bool) (sign : ℕ) → ((b : ℕ) → p b ≡ true → b ≡ sign → ⊥) → (w : Bytes) → list_all p w ≡ true → lacks sign w ≡ true
+lacks_by : (p : ℕ → Bool) (sign : ℕ) → ((b : ℕ) → p b ≡ true → b ≡ sign → ⊥) → (w : Bytes) → list_all p w ≡ true
+    → lacks sign w ≡ true
 lacks_by p sign apart [] h = refl
 lacks_by p sign apart (b ∷ bs) h =
     let both = and_parts (p b) (list_all p bs) h in
-    and_from (not (eqb b sign)) (lacks sign bs) (not_from_false (eqb b sign) (ne_eqb b sign (apart b both.0))) (lacks_by p sign apart bs both.1)
+    and_from (not (eqb b sign)) (lacks sign bs) (not_from_false (eqb b sign) (ne_eqb b sign (apart b both.0)))
+    (lacks_by p sign apart bs both.1)
 
 letter_low : (b : ℕ) → is_lower b ≡ true → 97 ≤ b
 letter_low b h = leb-true 97 b (and_parts (leb 97 b) (leb b 122) h).0
@@ -39,40 +42,48 @@ tail_low b h = elim (or_cases (is_lower b || is_digit b) (eqb b 95) h) [
 pub name_lacks : (sign : ℕ) → sign < 48 → (w : Bytes) → is_name w ≡ true → lacks sign w ≡ true
 name_lacks sign small [] h = refl
 name_lacks sign small (b ∷ bs) h =
-    let front = and_parts (is_lower b) (list_all (λ c. is_lower c || is_digit c || eqb c 95) bs && leb (length bs) 31) h in
+    let front = and_parts (is_lower b) (list_all (λ c. is_lower c || is_digit c || eqb c 95) bs && leb (length bs) 31) h
+    in
     let behind = and_parts (list_all (λ c. is_lower c || is_digit c || eqb c 95) bs) _ front.1 in
     and_from (not (eqb b sign)) (lacks sign bs)
-    (not_from_false (eqb b sign) (ne_eqb b sign (λ e. let low = letter_low b front.0 in absurd (omega (arith, e, small, low)))))
-    (lacks_by (λ c. is_lower c || is_digit c || eqb c 95) sign (λ c k e. let low = tail_low c k in absurd (omega (arith, e, small, low))) bs behind.0)
+    (not_from_false (eqb b sign)
+    (ne_eqb b sign (λ e. let low = letter_low b front.0 in absurd (omega (arith, e, small, low)))))
+    (lacks_by (λ c. is_lower c || is_digit c || eqb c 95) sign
+    (λ c k e. let low = tail_low c k in absurd (omega (arith, e, small, low))) bs behind.0)
 
 -- so has no number
 pub number_lacks : (n : ℕ) → n < 2 ^ 64 → lacks 32 (decimal n) ≡ true
-number_lacks n h = lacks_by is_digit 32 (λ b k e. let low = digit_low b k in absurd (omega (arith, e, low))) (decimal n) (digits_written n h)
+number_lacks n h = lacks_by is_digit 32 (λ b k e. let low = digit_low b k in absurd (omega (arith, e, low))) (decimal n)
+    (digits_written n h)
 
 pub variable_lacks : (sign : ℕ) → sign < 48 → (w : Bytes) → is_variable w ≡ true → lacks sign w ≡ true
 variable_lacks sign small w h = elim (or_cases (is_name w) (bytes_eq w (codes "_")) h) [
   | inl name ↦ name_lacks sign small w name
   | inr hole ↦
       ap (lacks sign) (same_bytes w (codes "_") hole)
-      ∙ and_from (not (eqb 95 sign)) true (not_from_false (eqb 95 sign) (ne_eqb 95 sign (λ e. absurd (omega (arith, e, small))))) refl
+      ∙ and_from (not (eqb 95 sign)) true
+      (not_from_false (eqb 95 sign) (ne_eqb 95 sign (λ e. absurd (omega (arith, e, small))))) refl
 ]
 
 pub label_lacks : (sign : ℕ) → sign < 48 → (xs : List Bytes) → is_label xs ≡ true → list_all (lacks sign) xs ≡ true
 label_lacks sign small [] h = refl
 label_lacks sign small (x ∷ xs) h =
     let both = and_parts (is_variable x) (is_label xs) h in
-    and_from (lacks sign x) (list_all (lacks sign) xs) (variable_lacks sign small x both.0) (label_lacks sign small xs both.1)
+    and_from (lacks sign x) (list_all (lacks sign) xs) (variable_lacks sign small x both.0)
+    (label_lacks sign small xs both.1)
 
 spaced_lacks : (xs : List Bytes) → list_all (lacks 32) xs ≡ true → lacks 32 (spaced 44 xs) ≡ true
 spaced_lacks [] h = refl
 spaced_lacks (x ∷ xs) h =
     let both = and_parts (lacks 32 x) (list_all (lacks 32) xs) h in
-    list_all-append (λ b. not (eqb b 32)) (44 ∷ x) (spaced 44 xs) ∙ and_from (lacks 32 (44 ∷ x)) (lacks 32 (spaced 44 xs)) both.0 (spaced_lacks xs both.1)
+    list_all-append (λ b. not (eqb b 32)) (44 ∷ x) (spaced 44 xs)
+    ∙ and_from (lacks 32 (44 ∷ x)) (lacks 32 (spaced 44 xs)) both.0 (spaced_lacks xs both.1)
 
 pub joined_lacks : (x : Bytes) (xs : List Bytes) → is_label (x ∷ xs) ≡ true → lacks 32 (joined (x ∷ xs)) ≡ true
 joined_lacks x xs h =
     let both = and_parts (lacks 32 x) (list_all (lacks 32) xs) (label_lacks 32 (omega arith) (x ∷ xs) h) in
-    list_all-append (λ b. not (eqb b 32)) x (spaced 44 xs) ∙ and_from (lacks 32 x) (lacks 32 (spaced 44 xs)) both.0 (spaced_lacks xs both.1)
+    list_all-append (λ b. not (eqb b 32)) x (spaced 44 xs)
+    ∙ and_from (lacks 32 x) (lacks 32 (spaced 44 xs)) both.0 (spaced_lacks xs both.1)
 
 joined_parts : (x : Bytes) (xs : List Bytes) → is_label (x ∷ xs) ≡ true → parts 44 (joined (x ∷ xs)) ≡ x ∷ xs
 joined_parts x xs h =
@@ -113,7 +124,8 @@ label_lack (x ∷ xs) h = joined_lacks x xs h
 
 pub label_word : (xs : List Bytes) → is_label xs ≡ true → is_label_word (label_text xs) ≡ true
 label_word [] h = refl
-label_word (x ∷ xs) h = or_right (bytes_eq (joined (x ∷ xs)) (codes "-")) (is_edge_word (joined (x ∷ xs))) (joined_word x xs h)
+label_word (x ∷ xs) h = or_right (bytes_eq (joined (x ∷ xs)) (codes "-")) (is_edge_word (joined (x ∷ xs)))
+    (joined_word x xs h)
 
 pub record IsLabelled (w : Bytes) : Type 0 where
   pub label : List Bytes

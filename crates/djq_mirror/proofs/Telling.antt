@@ -138,21 +138,25 @@ one_lacks : (x : Bytes) → lacks 32 x ≡ true → list_all (lacks 32) (x ∷ [
 one_lacks x h = and_from (lacks 32 x) true h refl
 
 -- the words behind a word
-behind_word : (w : Bytes) (ws : List Bytes) → lacks 32 w ≡ true → list_all (lacks 32) ws ≡ true → parts 32 (w ++ spaced 32 ws) ≡ w ∷ ws
+behind_word : (w : Bytes) (ws : List Bytes) → lacks 32 w ≡ true → list_all (lacks 32) ws ≡ true
+    → parts 32 (w ++ spaced 32 ws) ≡ w ∷ ws
 behind_word w ws h k = parts_spaced 32 w ws h k
 
 -- one number, or two, behind `ok` and a word
 ok_one : (w : Bytes) (n : ℕ) → n < 2 ^ 64 → lacks 32 w ≡ true → is_counted (w ∷ decimal n ∷ []) ≡ true
     → told_if (is_counted (parts 32 (w ++ spaced 32 (decimal n ∷ [])))) nothing ≡ Some nothing
 ok_one w n h l k =
-    ap (λ (ws : List Bytes). told_if (is_counted ws) nothing) (behind_word w (decimal n ∷ []) l (one_lacks (decimal n) (number_lacks n h)))
+    ap (λ (ws : List Bytes). told_if (is_counted ws) nothing)
+    (behind_word w (decimal n ∷ []) l (one_lacks (decimal n) (number_lacks n h)))
     ∙ told_true (is_counted (w ∷ decimal n ∷ [])) nothing k
 
-ok_two : (w : Bytes) (n m : ℕ) → n < 2 ^ 64 → m < 2 ^ 64 → lacks 32 w ≡ true → is_counted (w ∷ decimal n ∷ decimal m ∷ []) ≡ true
+ok_two : (w : Bytes) (n m : ℕ) → n < 2 ^ 64 → m < 2 ^ 64 → lacks 32 w ≡ true
+    → is_counted (w ∷ decimal n ∷ decimal m ∷ []) ≡ true
     → told_if (is_counted (parts 32 (w ++ spaced 32 (decimal n ∷ decimal m ∷ [])))) nothing ≡ Some nothing
 ok_two w n m h g l k =
     ap (λ (ws : List Bytes). told_if (is_counted ws) nothing)
-    (behind_word w (decimal n ∷ decimal m ∷ []) l (two_lack (decimal n) (decimal m) (number_lacks n h) (number_lacks m g)))
+    (behind_word w (decimal n ∷ decimal m ∷ []) l
+    (two_lack (decimal n) (decimal m) (number_lacks n h) (number_lacks m g)))
     ∙ told_true (is_counted (w ∷ decimal n ∷ decimal m ∷ [])) nothing k
 
 both_numbers : (n m : ℕ) → n < 2 ^ 64 → m < 2 ^ 64 → (is_number (decimal n) && is_number (decimal m)) ≡ true
@@ -178,34 +182,41 @@ edges_words : (es : List (List Bytes)) → list_all is_edge es ≡ true → list
 edges_words [] h = refl
 edges_words (e ∷ es) h =
     let both = and_parts (is_edge e) (list_all is_edge es) h in
-    and_from (is_edge_word (joined e)) (list_all is_edge_word (edge_words es)) (edge_word e both.0) (edges_words es both.1)
+    and_from (is_edge_word (joined e)) (list_all is_edge_word (edge_words es)) (edge_word e both.0)
+    (edges_words es both.1)
 
 rest_told : (w : Bytes) (es : List (List Bytes)) → is_rest es ≡ true → lacks 32 w ≡ true
-    → ((e : List Bytes) (rest : List (List Bytes)) → is_rest_told (w ∷ edge_words (e ∷ rest)) ≡ list_all is_edge_word (edge_words (e ∷ rest)))
+    → ((e : List Bytes) (rest : List (List Bytes)) → is_rest_told (w ∷ edge_words (e ∷ rest))
+    ≡ list_all is_edge_word (edge_words (e ∷ rest)))
     → told_if (is_rest_told (parts 32 (w ++ spaced 32 (edge_words es)))) nothing ≡ Some nothing
 rest_told w [] h l same = absurd (cc)
 rest_told w (e ∷ es) h l same =
-    ap (λ (ws : List Bytes). told_if (is_rest_told ws) nothing) (behind_word w (edge_words (e ∷ es)) l (edges_lack (e ∷ es) h))
+    ap (λ (ws : List Bytes). told_if (is_rest_told ws) nothing)
+    (behind_word w (edge_words (e ∷ es)) l (edges_lack (e ∷ es) h))
     ∙ told_true _ nothing (same e es ∙ edges_words (e ∷ es) h)
 
 -- nodes
 
-out_lacks : (label : List Bytes) (out : Bool) → is_label label ≡ true → list_all (lacks 32) (label_text label ∷ out_words out) ≡ true
+out_lacks : (label : List Bytes) (out : Bool) → is_label label ≡ true
+    → list_all (lacks 32) (label_text label ∷ out_words out) ≡ true
 out_lacks label true h = two_lack (label_text label) (codes "out") (label_lack label h) refl
 out_lacks label false h = one_lacks (label_text label) (label_lack label h)
 
-label_end : (label : List Bytes) (out : Bool) → is_label label ≡ true → is_label_end (label_text label ∷ out_words out) ≡ true
+label_end : (label : List Bytes) (out : Bool) → is_label label ≡ true → is_label_end (label_text label ∷ out_words out)
+    ≡ true
 label_end label true h = and_from (is_label_word (label_text label)) true (label_word label h) refl
 label_end label false h = label_word label h
 
-node_lacks : (node : Node) (ws : List Bytes) → IsNode node → list_all (lacks 32) ws ≡ true → list_all (lacks 32) (node_words node ws) ≡ true
+node_lacks : (node : Node) (ws : List Bytes) → IsNode node → list_all (lacks 32) ws ≡ true
+    → list_all (lacks 32) (node_words node ws) ≡ true
 node_lacks (leaf r) ws h k = and_from (lacks 32 r) (list_all (lacks 32) ws) (name_lacks 32 (omega arith) r h) k
 node_lacks (trim c) ws h k = and_from (lacks 32 (decimal c)) (list_all (lacks 32) ws) (number_lacks c h) k
 node_lacks (meet g s) ws h k =
     and_from (lacks 32 (decimal g)) (lacks 32 (decimal s) && list_all (lacks 32) ws) (number_lacks g h.0)
     (and_from (lacks 32 (decimal s)) (list_all (lacks 32) ws) (number_lacks s h.1) k)
 
-node_kind : (node : Node) (ws : List Bytes) → IsNode node → is_label_end ws ≡ true → is_node_kind (node_words node ws) ≡ true
+node_kind : (node : Node) (ws : List Bytes) → IsNode node → is_label_end ws ≡ true → is_node_kind (node_words node ws)
+    ≡ true
 node_kind (leaf r) ws h k = and_from (is_name r) (is_label_end ws) h k
 node_kind (trim c) ws h k = and_from (is_number (decimal c)) (is_label_end ws) (number_printed c h) k
 node_kind (meet g s) ws h k =
@@ -213,13 +224,16 @@ node_kind (meet g s) ws h k =
     (and_from (is_number (decimal s)) (is_label_end ws) (number_printed s h.1) k)
 
 node_told : (j : ℕ) (node : Node) (label : List Bytes) (out : Bool) → j < 2 ^ 64 → IsNode node → is_label label ≡ true
-    → told_if (is_node_told (parts 32 (decimal j ++ spaced 32 (node_words node (label_text label ∷ out_words out))))) nothing ≡ Some nothing
+    → told_if (is_node_told (parts 32 (decimal j ++ spaced 32 (node_words node (label_text label ∷ out_words out)))))
+    nothing ≡ Some nothing
 node_told j node label out h k l =
     let ws = node_words node (label_text label ∷ out_words out) in
     ap (λ (vs : List Bytes). told_if (is_node_told vs) nothing)
-    (behind_word (decimal j) ws (number_lacks j h) (node_lacks node (label_text label ∷ out_words out) k (out_lacks label out l)))
+    (behind_word (decimal j) ws (number_lacks j h)
+    (node_lacks node (label_text label ∷ out_words out) k (out_lacks label out l)))
     ∙ told_true (is_node_told (decimal j ∷ ws)) nothing
-    (and_from (is_number (decimal j)) (is_node_kind ws) (number_printed j h) (node_kind node (label_text label ∷ out_words out) k (label_end label out l)))
+    (and_from (is_number (decimal j)) (is_node_kind ws) (number_printed j h)
+    (node_kind node (label_text label ∷ out_words out) k (label_end label out l)))
 
 -- names and numbers
 
@@ -227,12 +241,17 @@ stale_told : (c r : Bytes) (n : ℕ) → is_name c ≡ true → is_name r ≡ tr
     → told_if (is_stale_told (parts 32 (c ++ spaced 32 (r ∷ decimal n ∷ [])))) makes_stale ≡ Some makes_stale
 stale_told c r n h k l =
     ap (λ (ws : List Bytes). told_if (is_stale_told ws) makes_stale)
-    (behind_word c (r ∷ decimal n ∷ []) (name_lacks 32 (omega arith) c h) (two_lack r (decimal n) (name_lacks 32 (omega arith) r k) (number_lacks n l)))
-    ∙ told_true _ makes_stale (and_from (is_name c) (is_name r && is_number (decimal n)) h (and_from (is_name r) (is_number (decimal n)) k (number_printed n l)))
+    (behind_word c (r ∷ decimal n ∷ []) (name_lacks 32 (omega arith) c h)
+    (two_lack r (decimal n) (name_lacks 32 (omega arith) r k) (number_lacks n l)))
+    ∙ told_true _ makes_stale
+    (and_from (is_name c) (is_name r && is_number (decimal n)) h
+    (and_from (is_name r) (is_number (decimal n)) k (number_printed n l)))
 
-count_is_told : (q : Bytes) (n : ℕ) → is_name q ≡ true → n < 2 ^ 64 → count_told (parts 32 (q ++ spaced 32 (decimal n ∷ []))) ≡ Some (counts q)
+count_is_told : (q : Bytes) (n : ℕ) → is_name q ≡ true → n < 2 ^ 64
+    → count_told (parts 32 (q ++ spaced 32 (decimal n ∷ []))) ≡ Some (counts q)
 count_is_told q n h l =
-    ap count_told (behind_word q (decimal n ∷ []) (name_lacks 32 (omega arith) q h) (one_lacks (decimal n) (number_lacks n l)))
+    ap count_told (behind_word q (decimal n ∷ []) (name_lacks 32 (omega arith) q h)
+    (one_lacks (decimal n) (number_lacks n l)))
     ∙ cond-true _ _ _ (and_from (is_name q) (is_number (decimal n)) h (number_printed n l))
 
 member_is_told : (n : Bytes) → is_name n ≡ true
@@ -253,8 +272,10 @@ change_is_told : (s : Sign) (q : Bytes) (t : Tuple) → is_name q ≡ true → a
 change_is_told s q t h k =
     let rest = q ++ cells_text t in
     let front : before 32 rest ≡ q = query_front q t (name_lacks 32 (omega arith) q h) in
-    let behind : drop (length (before 32 rest)) rest ≡ cells_text t = drop_at q (cells_text t) (length (before 32 rest)) (ap length (sym front)) in
-    ap (λ (p : Bytes). told_if (is_name p && are_cells_in (drop (length (before 32 rest)) rest)) (changes s p (drop (length (before 32 rest)) rest))) front
+    let behind : drop (length (before 32 rest)) rest
+    ≡ cells_text t = drop_at q (cells_text t) (length (before 32 rest)) (ap length (sym front)) in
+    ap (λ (p : Bytes). told_if (is_name p && are_cells_in (drop (length (before 32 rest)) rest))
+    (changes s p (drop (length (before 32 rest)) rest))) front
     ∙ ap (λ (cs : Bytes). told_if (is_name q && are_cells_in cs) (changes s q cs)) behind
     ∙ told_true _ (changes s q (cells_text t)) (and_from (is_name q) (are_cells_in (cells_text t)) h (cells_read t k))
 

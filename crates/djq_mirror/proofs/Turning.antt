@@ -79,11 +79,13 @@ turn_same name mode (ended e) = refl
 turn_same name mode cut = refl
 turn_same name mode bye = refl
 
-pub turn_told : (name : Bytes) (mode : Mode) (r : Reply) (w : News) → news_of r ≡ w → turn_of name mode r ≡ turn_by name mode w
+pub turn_told : (name : Bytes) (mode : Mode) (r : Reply) (w : News) → news_of r ≡ w → turn_of name mode r
+    ≡ turn_by name mode w
 turn_told name mode r w e = turn_same name mode r ∙ ap (turn_by name mode) e
 
 pub follows : (name : Bytes) (old new : Held) (l : Bytes) (w : News) → told_in l ≡ Some w → length l ≤ REPLY_LINE_BYTES
-    → may_turn old.texts (turn_by name old.mode w) ≡ true → Turned old (turn_by name old.mode w) new → Follows name old l new
+    → may_turn old.texts (turn_by name old.mode w) ≡ true → Turned old (turn_by name old.mode w) new
+    → Follows name old l new
 follows name old new l w e short allowed turned =
     let found = told_found l w e in
     let same = turn_told name old.mode found.reply w found.tells in
@@ -100,7 +102,8 @@ one_news v w e = cc
 pub outside : (name : Bytes) (old : Held) (l : Bytes) (w : News) → told_in l ≡ Some w
     → may_turn old.texts (turn_by name old.mode w) ≡ false → IsOutside name old l
 outside name old l w e stopped = λ r h.
-    ap (may_turn old.texts) (turn_told name old.mode r w (one_news (news_of r) w (sym (reply_told l r h.reply) ∙ e))) ∙ stopped
+    ap (may_turn old.texts) (turn_told name old.mode r w (one_news (news_of r) w (sym (reply_told l r h.reply) ∙ e)))
+    ∙ stopped
 
 no_news : {A : Type 0} (o : Option News) (w : News) → o ≡ None → o ≡ Some w → A
 no_news o w e f = absurd (cc)

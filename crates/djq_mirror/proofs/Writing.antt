@@ -23,7 +23,8 @@ pub record IsBegun {A : Type 0} (old now : Bytes) (all rest : List (Vec ℕ A)) 
 pub begun_none : {A : Type 0} (old : Bytes) (all : List (Vec ℕ A)) → IsBegun old old all all
 begun_none old all = record { before = []; items = sym (append-nil old); split = refl }
 
-pub begun_more : {A : Type 0} (old now new : Bytes) (all rest : List (Vec ℕ A)) (k : Vec ℕ A) → IsBegun old now all (k ∷ rest)
+pub begun_more : {A : Type 0} (old now new : Bytes) (all rest : List (Vec ℕ A)) (k : Vec ℕ A)
+    → IsBegun old now all (k ∷ rest)
     → new ≡ now ++ line (61 ∷ k.items) → IsBegun old new all rest
 begun_more old now new all rest k h e = record {
   before = h.before ++ line (61 ∷ k.items);
@@ -31,23 +32,29 @@ begun_more old now new all rest k h e = record {
   split = h.split ∙ sym (append_assoc h.before (line (61 ∷ k.items)) (answers_text rest));
 }
 
-pub begun_front : {A : Type 0} (old now : Bytes) (all rest : List (Vec ℕ A)) → IsBegun old now all rest → take (length old) now ≡ old
+pub begun_front : {A : Type 0} (old now : Bytes) (all rest : List (Vec ℕ A)) → IsBegun old now all rest
+    → take (length old) now ≡ old
 begun_front old now all rest h = ap (take (length old)) h.items ∙ take_at old h.before (length old) refl
 
-pub begun_all : {A : Type 0} (old now new text : Bytes) (all : List (Vec ℕ A)) → IsBegun old now all [] → new ≡ now ++ text
+pub begun_all : {A : Type 0} (old now new text : Bytes) (all : List (Vec ℕ A)) → IsBegun old now all [] → new
+    ≡ now ++ text
     → new ≡ old ++ (answers_text all ++ text)
 begun_all old now new text all h e =
     e ∙ ap (λ (xs : Bytes). xs ++ text) h.items ∙ append_assoc old h.before text
     ∙ ap (λ (xs : Bytes). old ++ (xs ++ text)) (sym (h.split ∙ append-nil h.before))
 
 -- what an error says of the output
-pub adds_err : {A E : Type 0} (old text new : Bytes) (r : Result A E) → IsErr r → take (length old) new ≡ old → Adds old text r new
+pub adds_err : {A E : Type 0} (old text new : Bytes) (r : Result A E) → IsErr r → take (length old) new ≡ old
+    → Adds old text r new
 adds_err old text new (Ok a) e h = absurd (cc)
 adds_err old text new (Err e) i h = h
 
 -- a last piece behind all answers
-pub end_added : {A B E : Type 0} (old : Bytes) (now new : Filled) (text : Bytes) (all rest : List (Vec ℕ A)) (r : Result B E) → rest ≡ []
+pub end_added : {A B E : Type 0} (old : Bytes) (now new : Filled) (text : Bytes) (all rest : List (Vec ℕ A))
+    (r : Result B E) → rest ≡ []
     → IsBegun old now.items all rest → Puts now new text r → Adds old (answers_text all ++ text) r new.items
 end_added {A} old now new text all rest (Ok a) over h p =
-    begun_all old now.items new.items text all (subst (λ (ks : List (Vec ℕ A)). IsBegun old now.items all ks) over h) p.items
-end_added old now new text all rest (Err e) over h p = ap (take (length old)) p.items ∙ begun_front old now.items all rest h
+    begun_all old now.items new.items text all (subst (λ (ks : List (Vec ℕ A)). IsBegun old now.items all ks) over h)
+    p.items
+end_added old now new text all rest (Err e) over h p = ap (take (length old)) p.items
+    ∙ begun_front old now.items all rest h

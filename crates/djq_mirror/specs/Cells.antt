@@ -1,5 +1,6 @@
 -- Values as they are printed, read from the bytes.
-use Rattle.std.specs.Prelude.{ℕ, zero, suc, [], ◌∷◌, ◌++◌, ◌==◌, ◌&&◌, Bool, true, false, Option, None, Some, if◌then◌else◌, length}
+use Rattle.std.specs.Prelude.{ℕ, zero, suc, [], ◌∷◌, ◌++◌, ◌==◌, ◌&&◌, Bool, true, false, Option}
+use Rattle.std.specs.Prelude.{None, Some, if◌then◌else◌, length}
 use Rattle.djq_model.specs.declared.value.Value.{Value}
 use Rattle.djq_model.specs.Data.{Bytes, bytes_eq}
 use Rattle.djq_value.specs.ReadValue.{literal_at}

@@ -1,5 +1,6 @@
 -- What a line tells, read from the bytes by its first word.
-use Rattle.std.specs.Prelude.{ℕ, List, [], ◌∷◌, ◌&&◌, ◌||◌, Bool, false, nat_lt, Option, None, Some, if◌then◌else◌, codes, decimal, drop, length}
+use Rattle.std.specs.Prelude.{ℕ, List, [], ◌∷◌, ◌&&◌, ◌||◌, Bool, false, nat_lt, Option, None, Some}
+use Rattle.std.specs.Prelude.{if◌then◌else◌, codes, decimal, drop, length}
 use Rattle.std.specs.List.{list_all, list_any}
 use Rattle.djq_model.specs.Data.{Bytes, bytes_eq}
 use Rattle.djq_value.specs.Literal.{is_name, natural_of}
@@ -9,7 +10,8 @@ use Rattle.djq_lines.specs.Reply.{cells_text}
 use Rattle.djq_mirror.specs.declared.mode.Mode.{Mode}
 use Rattle.djq_mirror.specs.declared.mode.Mode.TheVariants.{Idle, Listing, Live}
 use Rattle.djq_mirror.specs.declared.told.Told.{Told}
-use Rattle.djq_mirror.specs.declared.told.Told.TheVariants.{Opened, Answer, More, Last, Stale, Changed, Counted, Nothing}
+use Rattle.djq_mirror.specs.declared.told.Told.TheVariants.{Opened, Answer, More, Last, Stale}
+use Rattle.djq_mirror.specs.declared.told.Told.TheVariants.{Changed, Counted, Nothing}
 use Rattle.djq_mirror.specs.declared.turn.Act.{Act as CodeAct}
 use Rattle.djq_mirror.specs.declared.turn.Act.TheVariants.{Keep, Clear, Put, TakeOut}
 use Rattle.djq_mirror.specs.Cells.{are_cells_in}

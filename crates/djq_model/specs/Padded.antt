@@ -13,7 +13,8 @@ abbrev pub padded : List ℕ → Inside
 padded xs = record { bytes = zeros_after xs; len = length xs }
 
 -- the length of a name that stands so in its field
-length_back : (bytes : List ℕ) (len : ℕ) → len ≤ 32 → bytes ≡ zeros_after (take len bytes) → length (take len bytes) ≡ len
+length_back : (bytes : List ℕ) (len : ℕ) → len ≤ 32 → bytes ≡ zeros_after (take len bytes) → length (take len bytes)
+    ≡ len
 length_back bytes len h e =
     omega (
       arith,
@@ -23,5 +24,6 @@ length_back bytes len h e =
       length-take len bytes,
     )
 
-pub padded_back : (n : Inside) → (n.len ≤ 32) × (n.bytes ≡ zeros_after (take n.len n.bytes)) → padded (take n.len n.bytes) ≡ n
+pub padded_back : (n : Inside) → (n.len ≤ 32) × (n.bytes ≡ zeros_after (take n.len n.bytes))
+    → padded (take n.len n.bytes) ≡ n
 padded_back n h = ap₂ (λ b (k : ℕ). record { bytes = b; len = k }) (sym h.1) (length_back n.bytes n.len h.0 h.1)

@@ -1,5 +1,7 @@
 -- What the planner's answers rest on.
-use Rattle.std.proofs.Common.{◌≡◌, ◌≢◌, ◌↔◌, ℕ, zero, suc, ◌+◌, ◌-◌, ◌<◌, ◌≤◌, Bool, true, false, List, [], ◌∷◌, ◌++◌, length, take, replicate, refl, ap, subst, sym, ◌∙◌, append_assoc, append-nil, add-zero, add-suc, arith}
+use Rattle.std.proofs.Common.{◌≡◌, ◌≢◌, ◌↔◌, ℕ, zero, suc, ◌+◌, ◌-◌, ◌<◌, ◌≤◌, Bool, true, false}
+use Rattle.std.proofs.Common.{List, [], ◌∷◌, ◌++◌, length, take, replicate, refl, ap, subst, sym}
+use Rattle.std.proofs.Common.{◌∙◌, append_assoc, append-nil, add-zero, add-suc, arith}
 use Rattle.std.specs.Prelude.{◌==◌, nat_le}
 use Rattle.std.proofs.lemmas.List.{nil_from_length, take_all, replicate_more}
 use Rattle.std.proofs.lemmas.Bool.{eqb-true, le-leb}
@@ -27,14 +29,16 @@ use Rattle.djq_plan.proofs.Planned.{planned}
 sticks : (keep : List ℕ) (L : List (List ℕ)) → choose keep L ≡ Stuck → Sticks keep L
 sticks keep L e = subst (Says keep L) e (choose_says keep L)
 
-pub stuck_first : (H : List (List ℕ)) (F : List ℕ) (s t : Growth) (b : Bool) → s ≡ start H → IsStageEnd (are_within F) F s t b → b ≡ false → IsFreeConnex H F → ⊥
+pub stuck_first : (H : List (List ℕ)) (F : List ℕ) (s t : Growth) (b : Bool) → s ≡ start H
+    → IsStageEnd (are_within F) F s t b → b ≡ false → IsFreeConnex H F → ⊥
 stuck_first H F s t b e stage no_end connex =
     let k : IsStuckAt (are_within F) F s t = subst (λ (z : Bool). IsStageEnd (are_within F) F s t z) no_end stage in
     let at : t ≡ grow F k.steps (start H) = k.leads ∙ ap (grow F k.steps) e in
     let from = connex.1 in
     let r : Rooted F H = rooted_at F H (from.0, from.1) in
     let q = run_to F F k.steps (start H) (λ x. omega arith) r in
-    first_stuck F t.current (sticks F t.current k.stuck) k.goes_on (subst (λ (z : Growth). Rooted F z.current) (sym at) q)
+    first_stuck F t.current (sticks F t.current k.stuck) k.goes_on
+    (subst (λ (z : Growth). Rooted F z.current) (sym at) q)
 
 some_times : (j : ℕ) (ns : List ℕ) → 0 < times numbers j ns → 0 < length ns
 some_times j [] h = absurd (omega arith)
@@ -49,7 +53,8 @@ some_current m s some g =
     let e = same_length m s g in
     omega arith
 
-pub stuck_second : (H : List (List ℕ)) (F : List ℕ) (s mid t : Growth) (b : Bool) → 0 < length H → s ≡ start H → IsStageEnd (are_within F) F s mid b → b ≡ true → IsStuckAt is_root [] mid t → IsFreeConnex H F → ⊥
+pub stuck_second : (H : List (List ℕ)) (F : List ℕ) (s mid t : Growth) (b : Bool) → 0 < length H → s ≡ start H
+    → IsStageEnd (are_within F) F s mid b → b ≡ true → IsStuckAt is_root [] mid t → IsFreeConnex H F → ⊥
 stuck_second H F s mid t b some e stage ended k connex =
     let a : IsStage (are_within F) F s mid = subst (λ (z : Bool). IsStageEnd (are_within F) F s mid z) ended stage in
     let at_mid : mid ≡ grow F a.steps (start H) = a.leads ∙ ap (grow F a.steps) e in
@@ -58,49 +63,90 @@ stuck_second H F s mid t b some e stage ended k connex =
     let r : Rooted [] H = rooted_of H tree.0 tree.1 in
     let q = run_to [] F a.steps (start H) (λ x. omega arith) r in
     let p = run_to [] [] k.steps (grow F a.steps (start H)) (λ x. omega arith) q in
-    let g = grow_grown (length H) [] k.steps (grow F a.steps (start H)) (grow_grown (length H) F a.steps (start H) (start_grown H)) in
+    let g = grow_grown (length H) [] k.steps (grow F a.steps (start H))
+    (grow_grown (length H) F a.steps (start H) (start_grown H)) in
     let n = some_current (length H) (grow [] k.steps (grow F a.steps (start H))) some g in
-    second_stuck t.current (subst (λ (z : Growth). 0 < length z.current) (sym at) n) (sticks [] t.current k.stuck) k.goes_on
+    second_stuck t.current (subst (λ (z : Growth). 0 < length z.current) (sym at) n) (sticks [] t.current k.stuck)
+    k.goes_on
     (subst (λ (z : Growth). Rooted [] z.current) (sym at) p)
 
 -- ---- the marks
 
-marks_add : (mid : Growth) (d : ℕ) → marks_below mid (length mid.nodes + d) ≡ marks_below mid (length mid.nodes) ++ replicate d true
+marks_add : (mid : Growth) (d : ℕ) → marks_below mid (length mid.nodes + d)
+    ≡ marks_below mid (length mid.nodes) ++ replicate d true
 marks_add mid zero = rw add-zero (sym (append-nil (marks_below mid (length mid.nodes))))
 marks_add mid (suc d) =
-    let late : nat_le (length mid.nodes) (length mid.nodes + d) ≡ true = le-leb (length mid.nodes) (length mid.nodes + d) (omega arith) in
-    rw (add-suc (length mid.nodes) d, marks_add mid d, late) (append_assoc (marks_below mid (length mid.nodes)) (replicate d true) (true ∷ []) ∙ ap (λ (k : List Bool). marks_below mid (length mid.nodes) ++ k) (replicate_more d true ∙ ap (λ (n : ℕ). replicate n true) (add-one d)))
+    let late : nat_le (length mid.nodes) (length mid.nodes + d)
+    ≡ true = le-leb (length mid.nodes) (length mid.nodes + d) (omega arith) in
+    rw (add-suc (length mid.nodes) d, marks_add mid d, late)
+    (append_assoc (marks_below mid (length mid.nodes)) (replicate d true) (true ∷ [])
+    ∙ ap (λ (k : List Bool). marks_below mid (length mid.nodes) ++ k)
+    (replicate_more d true ∙ ap (λ (n : ℕ). replicate n true) (add-one d)))
 
-marks_filled : (mid : Growth) (N : ℕ) (old new : List Bool) (M : ℕ) → length mid.nodes ≤ N → old ≡ marks_below mid (length mid.nodes) → M ≡ length old → new ≡ take N old ++ replicate (N - M) true → new ≡ marks_below mid N
+marks_filled : (mid : Growth) (N : ℕ) (old new : List Bool) (M : ℕ) → length mid.nodes ≤ N → old
+    ≡ marks_below mid (length mid.nodes) → M ≡ length old → new ≡ take N old ++ replicate (N - M) true → new
+    ≡ marks_below mid N
 marks_filled mid N old new M enough is len filled =
     let l = ap (λ (k : List Bool). length k) is in
     let k = length_marks mid (length mid.nodes) in
     let t : take N old ≡ old = take_all N old (omega arith) in
     let d : N ≡ length mid.nodes + (N - M) = omega arith in
-    filled ∙ ap (λ (z : List Bool). z ++ replicate (N - M) true) (t ∙ is) ∙ sym (marks_add mid (N - M)) ∙ ap (marks_below mid) (sym d)
+    filled ∙ ap (λ (z : List Bool). z ++ replicate (N - M) true) (t ∙ is) ∙ sym (marks_add mid (N - M))
+    ∙ ap (marks_below mid) (sym d)
 
 -- where the second stage comes to its end, the marks that were filled are those of `out`
-pub grown_out : (mid last : Growth) (b : Bool) (old new : List Bool) (M N : ℕ) → IsStageEnd is_root [] mid last b → b ≡ true → old ≡ marks_below mid (length mid.nodes) → M ≡ length old → N ≡ length last.nodes
+pub grown_out : (mid last : Growth) (b : Bool) (old new : List Bool) (M N : ℕ) → IsStageEnd is_root [] mid last b → b
+    ≡ true → old ≡ marks_below mid (length mid.nodes) → M ≡ length old → N ≡ length last.nodes
     → new ≡ take N old ++ replicate (N - M) true → GrowsOut mid last new
 grown_out mid last b old new M N stage ended marks len count filled =
     let k : IsStage is_root [] mid last = subst (λ (z : Bool). IsStageEnd is_root [] mid last z) ended stage in
-    let enough : length mid.nodes ≤ length last.nodes = subst (λ (z : Growth). length mid.nodes ≤ length z.nodes) (sym k.leads) (extends_length mid (grow [] k.steps mid) (grow_extends [] k.steps mid)) in
-    record { ends = k; marks = marks_filled mid (length last.nodes) old new M enough marks len (subst (λ (z : ℕ). new ≡ take z old ++ replicate (z - M) true) count filled) }
+    let enough : length mid.nodes ≤ length last.nodes = subst (λ (z : Growth). length mid.nodes ≤ length z.nodes)
+    (sym k.leads) (extends_length mid (grow [] k.steps mid) (grow_extends [] k.steps mid)) in
+    record {
+      ends = k;
+      marks = marks_filled mid (length last.nodes) old new M enough marks len
+          (subst (λ (z : ℕ). new ≡ take z old ++ replicate (z - M) true) count filled);
+    }
 
 -- ---- the plan
 
-pub plan_of : (H : List (List ℕ)) (F : List ℕ) (s mid last : Growth) (b : Bool) (out : List Bool) (leaves second : ℕ) → 0 < length H → AreCovered F H → AreVariableSets H → IsVariableSet F
-    → s ≡ start H → IsStageEnd (are_within F) F s mid b → b ≡ true → GrowsOut mid last out → leaves ≡ length H → second ≡ length mid.nodes
-    → IsPlan H F (record { nodes = last.nodes; labels = last.labels; out = out; head = F; leaves = leaves; second_stage = second }) × IsFreeConnex H F
+pub plan_of : (H : List (List ℕ)) (F : List ℕ) (s mid last : Growth) (b : Bool) (out : List Bool) (leaves second : ℕ)
+    → 0 < length H → AreCovered F H → AreVariableSets H → IsVariableSet F
+    → s ≡ start H → IsStageEnd (are_within F) F s mid b → b ≡ true → GrowsOut mid last out → leaves ≡ length H → second
+    ≡ length mid.nodes
+    → IsPlan H F (record {
+      nodes = last.nodes;
+      labels = last.labels;
+      out = out;
+      head = F;
+      leaves = leaves;
+      second_stage
+          = second;
+    }) × IsFreeConnex H F
 plan_of H F s mid last b out leaves second some heads sets set e stage ended grows is_leaves is_second =
     let a : IsStage (are_within F) F s mid = subst (λ (z : Bool). IsStageEnd (are_within F) F s mid z) ended stage in
     let a2 : IsStage (are_within F) F (start H) mid = subst (λ (z : Growth). IsStage (are_within F) F z mid) e a in
-    planned H F (record { nodes = last.nodes; labels = last.labels; out = out; head = F; leaves = leaves; second_stage = second }) some heads sets set
-    (record { mid = mid; first = a2; last = last; second = grows.ends; is = rw (grows.marks, is_leaves, is_second) refl })
+    planned H F (record {
+      nodes = last.nodes;
+      labels = last.labels;
+      out = out;
+      head = F;
+      leaves = leaves;
+      second_stage =
+          second;
+    }) some heads sets set
+    (record {
+      mid = mid;
+      first = a2;
+      last = last;
+      second = grows.ends;
+      is = rw (grows.marks, is_leaves, is_second) refl;
+    })
 
 -- ---- the rests
 
-pub rest_says : (H : List (List ℕ)) (F : List ℕ) (E R R' : List (List ℕ)) → (IsFreeConnex H F → ⊥) → R ≡ [] → ((R ≡ []) ↔ HasJoinTree H) → E ≡ F ∷ H → ((R' ≡ []) ↔ HasJoinTree E) → (R' ≢ [] → IsRest E R')
+pub rest_says : (H : List (List ℕ)) (F : List ℕ) (E R R' : List (List ℕ)) → (IsFreeConnex H F → ⊥) → R ≡ []
+    → ((R ≡ []) ↔ HasJoinTree H) → E ≡ F ∷ H → ((R' ≡ []) ↔ HasJoinTree E) → (R' ≢ [] → IsRest E R')
     → IsNotConnex H F R'
 rest_says H F E R R' not_connex none acyclic front acyclic2 rest =
     let tree = acyclic.0 none in

@@ -1,5 +1,6 @@
 -- A step of the planner on the labels of a flat query: they stay so, and no proper subset is ever needed.
-use Rattle.std.proofs.Common.{◌≡◌, ◌⊎◌, ℕ, zero, suc, ◌+◌, ◌*◌, ◌<◌, ◌≤◌, min, Bool, true, false, ◌&&◌, List, [], ◌∷◌, length, refl, ap, sym, ◌∙◌, arith, inl, inr}
+use Rattle.std.proofs.Common.{◌≡◌, ◌⊎◌, ℕ, zero, suc, ◌+◌, ◌*◌, ◌<◌, ◌≤◌, min, Bool, true, false}
+use Rattle.std.proofs.Common.{◌&&◌, List, [], ◌∷◌, length, refl, ap, sym, ◌∙◌, arith, inl, inr}
 use Rattle.std.specs.Prelude.{remove}
 use Rattle.std.proofs.lemmas.Bool.{cases_Bool, cases_lt, cases_eq, false≢true}
 use Rattle.djq_hyper.specs.Hypergraph.{member, subset, difference, degree, edge_at}
@@ -53,7 +54,12 @@ module _ (keep : List ℕ) (L : List (List ℕ)) (i : ℕ) (X : List ℕ) (t : T
         | inl gone ↦
             let r = removed_says keep L i x (omega arith) in
             let n = removed_elsewhere keep L i x t.within r in
-            inl (record { before = r.only; after = (let h = r.here in let o = one_le (member x X) in omega arith); free = r.free })
+            inl (record {
+              before = r.only;
+              after = (let h = r.here in let o = one_le (member x X) in omega arith);
+              free
+                  = r.free;
+            })
         | inr stays ↦ inr (record { out = omega arith; same = omega (arith, one_le (member x (edge_at L i))) })
       ]
 
@@ -66,7 +72,8 @@ module _ (keep : List ℕ) (L : List (List ℕ)) (i : ℕ) (X : List ℕ) (t : T
       let c = p.out in let f = q.out in
       omega arith
 
-  trim_nested : IsEven keep L → (x y : ℕ) → (pairs x y M ≡ degree x M) ⊎ ((pairs x y M ≡ degree y M) ⊎ (pairs x y M ≡ 0))
+  trim_nested : IsEven keep L → (x y : ℕ)
+      → (pairs x y M ≡ degree x M) ⊎ ((pairs x y M ≡ degree y M) ⊎ (pairs x y M ≡ 0))
   trim_nested even x y =
       elim (fate x) [
         | inl gone ↦ inr (inr (let a = gone.after in let m = pairs_most x y M in omega arith))
@@ -82,7 +89,8 @@ module _ (keep : List ℕ) (L : List (List ℕ)) (i : ℕ) (X : List ℕ) (t : T
             ]
       ]
 
-  trim_headed : IsEven keep L → (x y : ℕ) → 0 < has x keep → 0 < degree x M → pairs x y M ≡ degree x M → (pairs x y M ≡ degree y M) ⊎ (0 < has y keep)
+  trim_headed : IsEven keep L → (x y : ℕ) → 0 < has x keep → 0 < degree x M → pairs x y M ≡ degree x M
+      → (pairs x y M ≡ degree y M) ⊎ (0 < has y keep)
   trim_headed even x y head some full =
       elim (fate x) [
         | inl gone ↦ absurd (let a = gone.after in omega arith)
@@ -95,7 +103,8 @@ module _ (keep : List ℕ) (L : List (List ℕ)) (i : ℕ) (X : List ℕ) (t : T
             ]
       ]
 
-  untrim_nested : IsEven keep M → (x y : ℕ) → (pairs x y L ≡ degree x L) ⊎ ((pairs x y L ≡ degree y L) ⊎ (pairs x y L ≡ 0))
+  untrim_nested : IsEven keep M → (x y : ℕ)
+      → (pairs x y L ≡ degree x L) ⊎ ((pairs x y L ≡ degree y L) ⊎ (pairs x y L ≡ 0))
   untrim_nested even x y =
       elim (cases_lt 0 (pairs x y L)) [
         | inr none ↦ inr (inr (omega arith))
@@ -115,7 +124,8 @@ module _ (keep : List ℕ) (L : List (List ℕ)) (i : ℕ) (X : List ℕ) (t : T
             ]
       ]
 
-  untrim_headed : IsEven keep M → (x y : ℕ) → 0 < has x keep → 0 < degree x L → pairs x y L ≡ degree x L → (pairs x y L ≡ degree y L) ⊎ (0 < has y keep)
+  untrim_headed : IsEven keep M → (x y : ℕ) → 0 < has x keep → 0 < degree x L → pairs x y L ≡ degree x L
+      → (pairs x y L ≡ degree y L) ⊎ (0 < has y keep)
   untrim_headed even x y head some full =
       elim (fate x) [
         | inl gone ↦ absurd (let a = gone.free in omega arith)
@@ -130,7 +140,8 @@ module _ (keep : List ℕ) (L : List (List ℕ)) (i : ℕ) (X : List ℕ) (t : T
 
 -- ---- a meet of two equal labels
 
-module _ (keep : List ℕ) (L : List (List ℕ)) (g s : ℕ) (m : Meets L g s) (equal : (x : ℕ) → has x (edge_at L s) ≡ has x (edge_at L g)) where
+module _ (keep : List ℕ) (L : List (List ℕ)) (g s : ℕ) (m : Meets L g s)
+    (equal : (x : ℕ) → has x (edge_at L s) ≡ has x (edge_at L g)) where
   abbrev N : List (List ℕ)
   N = current_after L (Meet g s)
 
@@ -150,14 +161,16 @@ module _ (keep : List ℕ) (L : List (List ℕ)) (g s : ℕ) (m : Meets L g s) (
       omega (arith, equal x, equal y)
 
   -- the label is still there once
-  meet_rest : (x y : ℕ) → (pairs x y N ≡ min (has x (edge_at L g)) (has y (edge_at L g)) + pairs x y W) × (degree x N ≡ has x (edge_at L g) + degree x W) × (degree y N ≡ has y (edge_at L g) + degree y W)
+  meet_rest : (x y : ℕ) → (pairs x y N ≡ min (has x (edge_at L g)) (has y (edge_at L g)) + pairs x y W)
+      × (degree x N ≡ has x (edge_at L g) + degree x W) × (degree y N ≡ has y (edge_at L g) + degree y W)
   meet_rest x y =
       let a = pairs_same x y (edge_at L g ∷ W) N (after_meet L g s) in
       let b = degree_same x (edge_at L g ∷ W) N (after_meet L g s) in
       let c = degree_same y (edge_at L g ∷ W) N (after_meet L g s) in
       (omega arith, omega arith, omega arith)
 
-  meet_nested : IsEven keep L → (x y : ℕ) → (pairs x y N ≡ degree x N) ⊎ ((pairs x y N ≡ degree y N) ⊎ (pairs x y N ≡ 0))
+  meet_nested : IsEven keep L → (x y : ℕ)
+      → (pairs x y N ≡ degree x N) ⊎ ((pairs x y N ≡ degree y N) ⊎ (pairs x y N ≡ 0))
   meet_nested even x y =
       let p = meet_pairs x y in let d = meet_degree x in let e = meet_degree y in let r = meet_rest x y in
       let a = r.0 in let b = r.1 in let c = r.2 in let u = pairs_most x y W in let v = pairs_least x y W in
@@ -166,13 +179,15 @@ module _ (keep : List ℕ) (L : List (List ℕ)) (g s : ℕ) (m : Meets L g s) (
         | inr q ↦ elim q [ inl h ↦ inr (inl (omega arith)) | inr h ↦ inr (inr (omega arith)) ]
       ]
 
-  meet_headed : IsEven keep L → (x y : ℕ) → 0 < has x keep → 0 < degree x N → pairs x y N ≡ degree x N → (pairs x y N ≡ degree y N) ⊎ (0 < has y keep)
+  meet_headed : IsEven keep L → (x y : ℕ) → 0 < has x keep → 0 < degree x N → pairs x y N ≡ degree x N
+      → (pairs x y N ≡ degree y N) ⊎ (0 < has y keep)
   meet_headed even x y head some full =
       let p = meet_pairs x y in let d = meet_degree x in let e = meet_degree y in let r = meet_rest x y in
       let a = r.0 in let b = r.1 in let c = r.2 in let u = pairs_most x y W in let v = pairs_least x y W in
       elim (even.headed x y head (omega arith) (omega arith)) [ inl h ↦ inl (omega arith) | inr h ↦ inr h ]
 
-  unmeet_nested : IsEven keep N → (x y : ℕ) → (pairs x y L ≡ degree x L) ⊎ ((pairs x y L ≡ degree y L) ⊎ (pairs x y L ≡ 0))
+  unmeet_nested : IsEven keep N → (x y : ℕ)
+      → (pairs x y L ≡ degree x L) ⊎ ((pairs x y L ≡ degree y L) ⊎ (pairs x y L ≡ 0))
   unmeet_nested even x y =
       let p = meet_pairs x y in let d = meet_degree x in let e = meet_degree y in let r = meet_rest x y in
       let a = r.0 in let b = r.1 in let c = r.2 in let u = pairs_most x y W in let v = pairs_least x y W in
@@ -181,7 +196,8 @@ module _ (keep : List ℕ) (L : List (List ℕ)) (g s : ℕ) (m : Meets L g s) (
         | inr q ↦ elim q [ inl h ↦ inr (inl (omega arith)) | inr h ↦ inr (inr (omega arith)) ]
       ]
 
-  unmeet_headed : IsEven keep N → (x y : ℕ) → 0 < has x keep → 0 < degree x L → pairs x y L ≡ degree x L → (pairs x y L ≡ degree y L) ⊎ (0 < has y keep)
+  unmeet_headed : IsEven keep N → (x y : ℕ) → 0 < has x keep → 0 < degree x L → pairs x y L ≡ degree x L
+      → (pairs x y L ≡ degree y L) ⊎ (0 < has y keep)
   unmeet_headed even x y head some full =
       let p = meet_pairs x y in let d = meet_degree x in let e = meet_degree y in let r = meet_rest x y in
       let a = r.0 in let b = r.1 in let c = r.2 in let u = pairs_most x y W in let v = pairs_least x y W in
@@ -195,14 +211,20 @@ MeetsEqual L (Trim i X) = Unit {0}
 MeetsEqual L (Meet g s) = (x : ℕ) → has x (edge_at L s) ≡ has x (edge_at L g)
 MeetsEqual L Stuck = Unit {0}
 
-pub even_step : (keep : List ℕ) (L : List (List ℕ)) (c : Choice) → Says keep L c → MeetsEqual L c → IsEven keep L → IsEven keep (current_after L c)
-even_step keep L (Trim i X) t equal even = record { nested = trim_nested keep L i X t even; headed = trim_headed keep L i X t even }
-even_step keep L (Meet g s) t equal even = record { nested = meet_nested keep L g s t equal even; headed = meet_headed keep L g s t equal even }
+pub even_step : (keep : List ℕ) (L : List (List ℕ)) (c : Choice) → Says keep L c → MeetsEqual L c → IsEven keep L
+    → IsEven keep (current_after L c)
+even_step keep L (Trim i X) t equal even = record
+    { nested = trim_nested keep L i X t even; headed = trim_headed keep L i X t even }
+even_step keep L (Meet g s) t equal even = record
+    { nested = meet_nested keep L g s t equal even; headed = meet_headed keep L g s t equal even }
 even_step keep L Stuck t equal even = even
 
-pub even_back : (keep : List ℕ) (L : List (List ℕ)) (c : Choice) → Says keep L c → MeetsEqual L c → IsEven keep (current_after L c) → IsEven keep L
-even_back keep L (Trim i X) t equal even = record { nested = untrim_nested keep L i X t even; headed = untrim_headed keep L i X t even }
-even_back keep L (Meet g s) t equal even = record { nested = unmeet_nested keep L g s t equal even; headed = unmeet_headed keep L g s t equal even }
+pub even_back : (keep : List ℕ) (L : List (List ℕ)) (c : Choice) → Says keep L c → MeetsEqual L c
+    → IsEven keep (current_after L c) → IsEven keep L
+even_back keep L (Trim i X) t equal even = record
+    { nested = untrim_nested keep L i X t even; headed = untrim_headed keep L i X t even }
+even_back keep L (Meet g s) t equal even = record
+    { nested = unmeet_nested keep L g s t equal even; headed = unmeet_headed keep L g s t equal even }
 even_back keep L Stuck t equal even = even
 
 -- ---- where only a proper subset is left
@@ -227,15 +249,32 @@ two_places x (l ∷ L) h =
     elim (cases_lt 0 (has x l)) [
       | inl here ↦
           let p = edge_with L x (omega (arith, one_le (member x l))) in
-          record { a = 0; b = suc p.0; apart = omega arith; below = (let w = start_low L x p.0 p.1 in omega arith); in_a = here; in_b = from_true (member x (edge_at L p.0)) p.1 }
+          record {
+            a = 0;
+            b = suc p.0;
+            apart = omega arith;
+            below = (let w = start_low L x p.0 p.1 in omega arith);
+            in_a
+                = here;
+            in_b = from_true (member x (edge_at L p.0)) p.1;
+          }
       | inr other ↦
           let r = two_places x L (omega arith) in
-          record { a = suc r.a; b = suc r.b; apart = (let w = r.apart in omega arith); below = (let w = r.below in omega arith); in_a = r.in_a; in_b = r.in_b }
+          record {
+            a = suc r.a;
+            b = suc r.b;
+            apart = (let w = r.apart in omega arith);
+            below =
+                (let w = r.below in omega arith);
+            in_a = r.in_a;
+            in_b = r.in_b;
+          }
     ]
 
 module _ (keep : List ℕ) (L : List (List ℕ)) (even : IsEven keep L) (bare : IsBare keep L) where
   -- what lies in a label with x lies in each label with x, where x isn't kept and no such variable lies in fewer
-  full : (n : ℕ) → ((z : ℕ) → degree z L ≤ n → 0 < degree z L → has z keep ≡ 0 → ⊥) → (x : ℕ) → degree x L ≤ suc n → has x keep ≡ 0
+  full : (n : ℕ) → ((z : ℕ) → degree z L ≤ n → 0 < degree z L → has z keep ≡ 0 → ⊥) → (x : ℕ) → degree x L ≤ suc n
+      → has x keep ≡ 0
       → (z j : ℕ) → 0 < has x (edge_at L j) → 0 < has z (edge_at L j) → pairs x z L ≡ degree x L
   full n lesser x low free z j here there =
       let lies = edge_in L j z in
@@ -253,7 +292,8 @@ module _ (keep : List ℕ) (L : List (List ℕ)) (even : IsEven keep L) (bare : 
                     elim (cases_lt 0 (has z keep)) [
                       | inr out ↦ absurd (lesser z (omega arith) (omega arith) (omega arith))
                       | inl kept ↦
-                          elim (even.headed z x kept (omega arith) (omega arith)) [ inl same ↦ omega arith | inr inside ↦ absurd (omega arith) ]
+                          elim (even.headed z x kept (omega arith) (omega arith))
+                          [ inl same ↦ omega arith | inr inside ↦ absurd (omega arith) ]
                     ]
               ]
         ]
@@ -263,7 +303,9 @@ module _ (keep : List ℕ) (L : List (List ℕ)) (even : IsEven keep L) (bare : 
   alone x one_label free =
       let p = edge_with L x (omega arith) in
       let here = from_true (member x (edge_at L p.0)) p.1 in
-      false≢true (sym (bare.no_own p.0 (start_low L x p.0 p.1)) ∙ has_removable_from keep L p.0 x (record { here = omega (arith, one_le (member x (edge_at L p.0))); only = one_label; free = free }))
+      false≢true (sym (bare.no_own p.0 (start_low L x p.0 p.1))
+      ∙ has_removable_from keep L p.0 x
+      (record { here = omega (arith, one_le (member x (edge_at L p.0))); only = one_label; free = free }))
 
   -- each variable that is left is kept
   pub none_left : (n x : ℕ) → degree x L ≤ n → 0 < degree x L → has x keep ≡ 0 → ⊥
@@ -279,7 +321,8 @@ module _ (keep : List ℕ) (L : List (List ℕ)) (even : IsEven keep L) (bare : 
             false≢true (sym (bare.no_twin t.a t.b t.apart t.below) ∙ rw (ab, ba) refl)
       ]
     where
-      in_other : (z a b : ℕ) → 0 < has x (edge_at L b) → (0 < has z (edge_at L a) → pairs x z L ≡ degree x L) → has z (edge_at L a) ≤ has z (edge_at L b)
+      in_other : (z a b : ℕ) → 0 < has x (edge_at L b) → (0 < has z (edge_at L a) → pairs x z L ≡ degree x L)
+          → has z (edge_at L a) ≤ has z (edge_at L b)
       in_other z a b there all =
           elim (cases_lt 0 (has z (edge_at L a))) [
             | inr none ↦ omega arith
@@ -295,15 +338,19 @@ loose F [] h = absurd cc
 loose F (l ∷ L) h =
     elim (cases_Bool (subset l F)) [
       | inr out ↦ let o = outside l F out in (o.var, (let w = o.within in omega arith), o.without)
-      | inl within ↦ let r = loose F L (ap (λ (b : Bool). b && are_within F L) (sym within) ∙ h) in (r.0, (let w = r.1 in omega arith), r.2)
+      | inl within ↦ let r = loose F L (ap (λ (b : Bool). b && are_within F L) (sym within) ∙ h) in
+          (r.0, (let w = r.1 in omega arith), r.2)
     ]
 
 pub first_moves : (F : List ℕ) → Moves (are_within F) F
-first_moves F L some off even bare = let x = loose F L off in none_left F L even bare (degree x.0 L) x.0 (omega arith) x.1 x.2
+first_moves F L some off even bare = let x = loose F L off in none_left F L even bare (degree x.0 L) x.0 (omega arith)
+    x.1 x.2
 
 pub second_moves : Moves is_root []
 second_moves [] some off even bare = absurd (omega arith)
 second_moves ([] ∷ []) some off even bare = false≢true (sym off)
 second_moves ([] ∷ [] ∷ L) some off even bare = false≢true (sym (bare.no_twin 0 1 (omega arith) (omega arith)))
-second_moves ([] ∷ (x ∷ e) ∷ L) some off even bare = let h = has_here x x e refl in none_left [] ([] ∷ (x ∷ e) ∷ L) even bare (degree x ([] ∷ (x ∷ e) ∷ L)) x (omega arith) (omega arith) (omega arith)
-second_moves ((x ∷ e) ∷ L) some off even bare = let h = has_here x x e refl in none_left [] ((x ∷ e) ∷ L) even bare (degree x ((x ∷ e) ∷ L)) x (omega arith) (omega arith) (omega arith)
+second_moves ([] ∷ (x ∷ e) ∷ L) some off even bare = let h = has_here x x e refl in none_left [] ([] ∷ (x ∷ e) ∷ L) even
+    bare (degree x ([] ∷ (x ∷ e) ∷ L)) x (omega arith) (omega arith) (omega arith)
+second_moves ((x ∷ e) ∷ L) some off even bare = let h = has_here x x e refl in none_left [] ((x ∷ e) ∷ L) even bare
+    (degree x ((x ∷ e) ∷ L)) x (omega arith) (omega arith) (omega arith)

@@ -15,7 +15,8 @@ use Rattle.djq_plan.proofs.Says.{Says, choose_says}
 use Rattle.djq_plan.proofs.Leading.{removed_says, after_trim, after_meet, grown_current}
 
 -- a step adds no variable to a label
-pub degree_falls : (keep : List ℕ) (L : List (List ℕ)) (c : Choice) (x : ℕ) → Says keep L c → degree x (current_after L c) ≤ degree x L
+pub degree_falls : (keep : List ℕ) (L : List (List ℕ)) (c : Choice) (x : ℕ) → Says keep L c
+    → degree x (current_after L c) ≤ degree x L
 degree_falls keep L (Trim i X) x t =
     let a = degree_same x (difference (edge_at L i) X ∷ remove L i) (current_after L (Trim i X)) (after_trim L i X) in
     let b = degree_same x L (edge_at L i ∷ remove L i) (bag_remove labels [] L i t.within) in
@@ -23,7 +24,8 @@ degree_falls keep L (Trim i X) x t =
     omega arith
 degree_falls keep L (Meet g d) x t =
     let a = degree_same x (edge_at L g ∷ without_both L g d) (current_after L (Meet g d)) (after_meet L g d) in
-    let b = degree_same x L (edge_at L g ∷ edge_at L d ∷ without_both L g d) (bag_both labels [] L g d t.apart t.guard t.side) in
+    let b = degree_same x L (edge_at L g ∷ edge_at L d ∷ without_both L g d)
+    (bag_both labels [] L g d t.apart t.guard t.side) in
     omega arith
 degree_falls keep L Stuck x t = omega arith
 
@@ -37,7 +39,8 @@ degree_grow keep (suc n) s x =
 
 -- ---- the variables that are kept
 
-kept_step : (keep : List ℕ) (L : List (List ℕ)) (c : Choice) (x : ℕ) → Says keep L c → 0 < has x keep → 0 < degree x L → 0 < degree x (current_after L c)
+kept_step : (keep : List ℕ) (L : List (List ℕ)) (c : Choice) (x : ℕ) → Says keep L c → 0 < has x keep → 0 < degree x L
+    → 0 < degree x (current_after L c)
 kept_step keep L (Trim i X) x t kept h =
     let a = degree_same x (difference (edge_at L i) X ∷ remove L i) (current_after L (Trim i X)) (after_trim L i X) in
     let b = degree_same x L (edge_at L i ∷ remove L i) (bag_remove labels [] L i t.within) in
@@ -49,14 +52,18 @@ kept_step keep L (Trim i X) x t kept h =
     ]
 kept_step keep L (Meet g d) x t kept h =
     let a = degree_same x (edge_at L g ∷ without_both L g d) (current_after L (Meet g d)) (after_meet L g d) in
-    let b = degree_same x L (edge_at L g ∷ edge_at L d ∷ without_both L g d) (bag_both labels [] L g d t.apart t.guard t.side) in
+    let b = degree_same x L (edge_at L g ∷ edge_at L d ∷ without_both L g d)
+    (bag_both labels [] L g d t.apart t.guard t.side) in
     let i = subset_says (edge_at L d) (edge_at L g) t.inside x in
     omega arith
 kept_step keep L Stuck x t kept h = h
 
-pub kept_grow : (keep : List ℕ) (n : ℕ) (s : Growth) (x : ℕ) → 0 < has x keep → 0 < degree x s.current → 0 < degree x (grow keep n s).current
+pub kept_grow : (keep : List ℕ) (n : ℕ) (s : Growth) (x : ℕ) → 0 < has x keep → 0 < degree x s.current
+    → 0 < degree x (grow keep n s).current
 unfolding grow
 kept_grow keep zero s x kept h = h
 kept_grow keep (suc n) s x kept h =
     let t = grow keep n s in
-    rw (grown_current t (choose keep t.current)) (kept_step keep t.current (choose keep t.current) x (choose_says keep t.current) kept (kept_grow keep n s x kept h))
+    rw (grown_current t (choose keep t.current))
+    (kept_step keep t.current (choose keep t.current) x (choose_says keep t.current) kept
+    (kept_grow keep n s x kept h))

@@ -1,6 +1,7 @@
 -- In how many labels two variables lie, each of them and both: flat queries in these numbers, which sums of
 -- labels can be brought to.
-use Rattle.std.proofs.Common.{◌≡◌, ◌⊎◌, ℕ, zero, suc, ◌+◌, ◌<◌, ◌≤◌, min, Bool, true, false, not, ◌&&◌, ◌||◌, List, [], ◌∷◌, refl, ap, sym, ◌∙◌, arith, inl, inr}
+use Rattle.std.proofs.Common.{◌≡◌, ◌⊎◌, ℕ, zero, suc, ◌+◌, ◌<◌, ◌≤◌, min, Bool, true, false, not}
+use Rattle.std.proofs.Common.{◌&&◌, ◌||◌, List, [], ◌∷◌, refl, ap, sym, ◌∙◌, arith, inl, inr}
 use Rattle.std.proofs.lemmas.Bool.{cases_Bool, cases_lt}
 use Rattle.djq_hyper.specs.Hypergraph.{member, degree, edge_at, one}
 use Rattle.djq_hyper.specs.Variables.{AreCovered}
@@ -83,7 +84,8 @@ pairs_at x y (l ∷ L) zero = omega arith
 pairs_at x y (l ∷ L) (suc j) = omega (arith, pairs_at x y L j)
 
 -- where each label with x has y, so has the one at a place
-pub pairs_each : (x y : ℕ) (L : List (List ℕ)) (j : ℕ) → pairs x y L ≡ degree x L → has x (edge_at L j) ≤ has y (edge_at L j)
+pub pairs_each : (x y : ℕ) (L : List (List ℕ)) (j : ℕ) → pairs x y L ≡ degree x L
+    → has x (edge_at L j) ≤ has y (edge_at L j)
 pairs_each x y [] zero h = omega arith
 pairs_each x y [] (suc j) h = omega arith
 pairs_each x y (l ∷ L) zero h = omega (arith, pairs_most x y L)
@@ -94,7 +96,8 @@ pairs_each x y (l ∷ L) (suc j) h = pairs_each x y L j (omega (arith, pairs_mos
 -- the labels L are those of a flat query whose head has the variables of `keep`, but that these needn't lie in L
 pub record IsEven (keep : List ℕ) (L : List (List ℕ)) : Type 0 where
   pub nested : (x y : ℕ) → (pairs x y L ≡ degree x L) ⊎ ((pairs x y L ≡ degree y L) ⊎ (pairs x y L ≡ 0))
-  pub headed : (x y : ℕ) → 0 < has x keep → 0 < degree x L → pairs x y L ≡ degree x L → (pairs x y L ≡ degree y L) ⊎ (0 < has y keep)
+  pub headed : (x y : ℕ) → 0 < has x keep → 0 < degree x L → pairs x y L ≡ degree x L
+      → (pairs x y L ≡ degree y L) ⊎ (0 < has y keep)
 
 one_of : (a b c : Bool) → (a || b || c) ≡ true → (a ≡ true) ⊎ ((b ≡ true) ⊎ (c ≡ true))
 one_of true b c h = inl refl
@@ -117,11 +120,16 @@ pub even_of : (H : List (List ℕ)) (F : List ℕ) → IsFlat H F → IsEven F H
 even_of H F flat = record {
   nested = λ x y. elim (one_of (is_within H x y) (is_within H y x) (is_apart H x y) ((flat x).nested y)) [
     | inl w ↦ inl (within_pairs H x y w)
-    | inr r ↦ elim r [ inl w ↦ inr (inl (pairs_turn x y H ∙ within_pairs H y x w)) | inr a ↦ inr (inr (apart_pairs H x y a)) ]
+    | inr r ↦ elim r [
+      | inl w ↦ inr (inl (pairs_turn x y H ∙ within_pairs H y x w))
+      | inr a ↦ inr
+          (inr (apart_pairs H x y a))
+    ]
   ];
   headed = λ x y head some full. elim (cases_Bool (is_within H y x)) [
     | inl w ↦ inl (pairs_turn x y H ∙ within_pairs H y x w)
-    | inr less ↦ inr (from_true (member y F) ((flat x).headed y (one_true (member x F) head) (pairs_within H x y full) less))
+    | inr less ↦ inr (from_true (member y F)
+        ((flat x).headed y (one_true (member x F) head) (pairs_within H x y full) less))
   ];
 }
 
@@ -130,7 +138,8 @@ flat_of H F heads even x = record {
   nested = λ y. elim (even.nested x y) [
     | inl p ↦ first_or (is_within H x y) (is_within H y x) (is_apart H x y) (pairs_within H x y p)
     | inr r ↦ elim r [
-      | inl p ↦ middle_or (is_within H x y) (is_within H y x) (is_apart H x y) (pairs_within H y x (pairs_turn y x H ∙ p))
+      | inl p ↦ middle_or (is_within H x y) (is_within H y x) (is_apart H x y)
+          (pairs_within H y x (pairs_turn y x H ∙ p))
       | inr p ↦ last_or (is_within H x y) (is_within H y x) (is_apart H x y) (pairs_apart H x y p)
     ]
   ];

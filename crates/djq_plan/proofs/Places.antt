@@ -1,5 +1,6 @@
 -- Places of a list: what stands at one, and what is left without it.
-use Rattle.std.proofs.Common.{◌≡◌, ◌≢◌, ℕ, zero, suc, ◌+◌, ◌<◌, ◌≤◌, min, max, List, [], ◌∷◌, ◌++◌, length, map, take, drop, refl, ap, ap₂, sym, arith, inl, inr}
+use Rattle.std.proofs.Common.{◌≡◌, ◌≢◌, ℕ, zero, suc, ◌+◌, ◌<◌, ◌≤◌, min, max, List, [], ◌∷◌, ◌++◌}
+use Rattle.std.proofs.Common.{length, map, take, drop, refl, ap, ap₂, sym, arith, inl, inr}
 use Rattle.std.specs.Prelude.{remove, slice_index_or}
 use Rattle.std.proofs.lemmas.List.{map-append, take-map, drop-map}
 use Rattle.std.proofs.lemmas.Bool.{cases_lt}
@@ -9,7 +10,8 @@ use Rattle.djq_tree.specs.Growing.{without_both}
 
 module _ {A : Type 0} (T : Test A) where
   -- what stands at a place, and the rest
-  pub times_remove : (a d : A) (L : List A) (i : ℕ) → i < length L → times T a L ≡ one (T.eq a (slice_index_or L i d)) + times T a (remove L i)
+  pub times_remove : (a d : A) (L : List A) (i : ℕ) → i < length L → times T a L
+      ≡ one (T.eq a (slice_index_or L i d)) + times T a (remove L i)
   times_remove a d [] i h = absurd (omega arith)
   times_remove a d (l ∷ L) zero h = refl
   times_remove a d (l ∷ L) (suc i) h = omega (arith, times_remove a d L i (omega arith))
@@ -36,15 +38,18 @@ module _ {A : Type 0} (T : Test A) where
   length_remove (l ∷ L) zero h = omega arith
   length_remove (l ∷ L) (suc i) h = omega (arith, length_remove L i (omega arith))
 
-  both_ordered : (d : A) (L : List A) (i j : ℕ) → i < j → j < length L → (a : A) → times T a L ≡ one (T.eq a (slice_index_or L j d)) + (one (T.eq a (slice_index_or L i d)) + times T a (remove (remove L j) i))
+  both_ordered : (d : A) (L : List A) (i j : ℕ) → i < j → j < length L → (a : A) → times T a L
+      ≡ one (T.eq a (slice_index_or L j d)) + (one (T.eq a (slice_index_or L i d)) + times T a (remove (remove L j) i))
   both_ordered d L i j h within a =
       let e = times_remove a d L j within in
       let f = times_remove a d (remove L j) i (omega (arith, length_remove L j within)) in
-      let g : one (T.eq a (slice_index_or (remove L j) i d)) ≡ one (T.eq a (slice_index_or L i d)) = ap (λ (z : A). one (T.eq a z)) (at_remove_below d L j i h) in
+      let g : one (T.eq a (slice_index_or (remove L j) i d))
+      ≡ one (T.eq a (slice_index_or L i d)) = ap (λ (z : A). one (T.eq a z)) (at_remove_below d L j i h) in
       omega arith
 
   -- what stands at two places, and the rest
-  pub bag_both : (d : A) (L : List A) (i j : ℕ) → i ≢ j → i < length L → j < length L → Bag T L (slice_index_or L i d ∷ slice_index_or L j d ∷ without_both L i j)
+  pub bag_both : (d : A) (L : List A) (i j : ℕ) → i ≢ j → i < length L → j < length L
+      → Bag T L (slice_index_or L i d ∷ slice_index_or L j d ∷ without_both L i j)
   bag_both d L i j apart in_i in_j a =
       elim (cases_lt i j) [
         | inl low ↦
@@ -89,11 +94,13 @@ module _ {A : Type 0} (T : Test A) where
 pub map_remove : {A B : Type 0} (f : A → B) (L : List A) (i : ℕ) → remove (map f L) i ≡ map f (remove L i)
 map_remove f L i = rw (take-map f i L, drop-map f (suc i) L) (sym (map-append f (take i L) (drop (suc i) L)))
 
-pub map_both : {A B : Type 0} (f : A → B) (L : List A) (i j : ℕ) → without_both (map f L) i j ≡ map f (without_both L i j)
+pub map_both : {A B : Type 0} (f : A → B) (L : List A) (i j : ℕ) → without_both (map f L) i j
+    ≡ map f (without_both L i j)
 map_both f L i j = rw (map_remove f L (max i j)) (map_remove f (remove L (max i j)) (min i j))
 
 -- functions that agree on a list's numbers have the same images and totals over it
-pub map_agree : {B : Type 0} (f g : ℕ → B) (L : List ℕ) → ((j : ℕ) → 0 < times numbers j L → f j ≡ g j) → map f L ≡ map g L
+pub map_agree : {B : Type 0} (f g : ℕ → B) (L : List ℕ) → ((j : ℕ) → 0 < times numbers j L → f j ≡ g j) → map f L
+    ≡ map g L
 map_agree f g [] h = refl
 map_agree f g (l ∷ L) h =
     ap₂ (λ x xs. x ∷ xs) (h l (times_at numbers 0 (l ∷ L) 0 (omega arith))) (map_agree f g L (λ j k. h j (omega arith)))

@@ -1,5 +1,6 @@
 -- What the tree of a query is.
-use Rattle.std.proofs.Common.{◌≡◌, ℕ, ◌<◌, true, List, [], ◌++◌, length, take, refl, ap, subst, sym, ◌∙◌, append_assoc, arith}
+use Rattle.std.proofs.Common.{◌≡◌, ℕ, ◌<◌, true, List, [], ◌++◌, length, take, refl, ap, subst, sym}
+use Rattle.std.proofs.Common.{◌∙◌, append_assoc, arith}
 use Rattle.std.proofs.lemmas.List.{take_at}
 use Rattle.djq_hyper.specs.Hypergraph.{member}
 use Rattle.djq_hyper.specs.JoinTree.{IsFreeConnex}
@@ -24,7 +25,8 @@ record Planned (H : List (List ℕ)) (F : List ℕ) (t : Tree) : Type 0 where
   connex : IsFreeConnex H F
   head : ShowsHead F t
 
-module _ (H : List (List ℕ)) (F : List ℕ) (n k : ℕ) (some : 0 < length H) (heads : AreCovered F H) (sets : AreVariableSets H) (set : IsVariableSet F) where
+module _ (H : List (List ℕ)) (F : List ℕ) (n k : ℕ) (some : 0 < length H) (heads : AreCovered F H)
+    (sets : AreVariableSets H) (set : IsVariableSet F) where
   abbrev mid : Growth
   mid = grow F n (start H)
 
@@ -45,13 +47,15 @@ module _ (H : List (List ℕ)) (F : List ℕ) (n k : ℕ) (some : 0 < length H) 
     atoms_planned =
         let e = grow_extends F n (start H) in
         let f = grow_extends [] k mid in
-        let k : last.labels ≡ H ++ (e.more_labels ++ f.more_labels) = f.labels ∙ ap (λ (l : List (List ℕ)). l ++ f.more_labels) e.labels ∙ append_assoc H e.more_labels f.more_labels in
+        let k : last.labels ≡ H ++ (e.more_labels ++ f.more_labels) = f.labels
+        ∙ ap (λ (l : List (List ℕ)). l ++ f.more_labels) e.labels ∙ append_assoc H e.more_labels f.more_labels in
         ap (take m) k ∙ take_at H (e.more_labels ++ f.more_labels) m refl
 
     connex_planned : IsFreeConnex H F
     connex_planned =
         free_connex_from H F
-        (run_back [] F n (start H) (λ x. omega arith) (run_back [] [] k mid (λ x. omega arith) (root_rooted last.current ended)))
+        (run_back [] F n (start H) (λ x. omega arith)
+        (run_back [] [] k mid (λ x. omega arith) (root_rooted last.current ended)))
         (run_back F F n (start H) (λ x. omega arith) (within_rooted F mid.current over))
 
     head_planned : ShowsHead F (tree_of m F mid last)
@@ -74,7 +78,9 @@ module _ (H : List (List ℕ)) (F : List ℕ) (n k : ℕ) (some : 0 < length H) 
       head = head_planned;
     }
 
-planned_at : (H : List (List ℕ)) (F : List ℕ) (a b : Growth) (n k : ℕ) → 0 < length H → AreCovered F H → AreVariableSets H → IsVariableSet F → a ≡ grow F n (start H) → b ≡ grow [] k a → are_within F a.current ≡ true → is_root b.current ≡ true → Planned H F (tree_of (length H) F a b)
+planned_at : (H : List (List ℕ)) (F : List ℕ) (a b : Growth) (n k : ℕ) → 0 < length H → AreCovered F H
+    → AreVariableSets H → IsVariableSet F → a ≡ grow F n (start H) → b ≡ grow [] k a → are_within F a.current ≡ true
+    → is_root b.current ≡ true → Planned H F (tree_of (length H) F a b)
 planned_at H F a b n k some heads sets set e f over ended =
     let g : b ≡ grow [] k (grow F n (start H)) = f ∙ ap (grow [] k) e in
     let over2 = ap (λ (s : Growth). are_within F s.current) (sym e) ∙ over in
@@ -84,9 +90,21 @@ planned_at H F a b n k some heads sets set e f over ended =
     (planned_here H F n k some heads sets set over2 ended2))
 
 -- the tree of a query is a plan of it, and the query is free-connex
-pub planned : (H : List (List ℕ)) (F : List ℕ) (t : Tree) → 0 < length H → AreCovered F H → AreVariableSets H → IsVariableSet F → IsTreeOf H F t → IsPlan H F t × IsFreeConnex H F
+pub planned : (H : List (List ℕ)) (F : List ℕ) (t : Tree) → 0 < length H → AreCovered F H → AreVariableSets H
+    → IsVariableSet F → IsTreeOf H F t → IsPlan H F t × IsFreeConnex H F
 planned H F t some heads sets set p =
     let q : Planned H F t =
     subst (λ (u : Tree). Planned H F u) (sym p.is)
-    (planned_at H F p.mid p.last p.first.steps p.second.steps some heads sets set p.first.leads p.second.leads p.first.ends p.second.ends) in
-    (record { named = p; tree = q.tree; atoms = q.atoms; head = ap (λ (u : Tree). u.head) p.is; shown = q.head; small = small_of t q.tree }, q.connex)
+    (planned_at H F p.mid p.last p.first.steps p.second.steps some heads sets set p.first.leads p.second.leads
+    p.first.ends p.second.ends) in (
+      record {
+        named = p;
+        tree = q.tree;
+        atoms = q.atoms;
+        head = ap (λ (u : Tree). u.head) p.is;
+        shown = q.head;
+        small =
+            small_of t q.tree;
+      },
+      q.connex,
+    )

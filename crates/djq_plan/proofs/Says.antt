@@ -1,11 +1,13 @@
 -- What the choice rule's answer says.
-use Rattle.std.proofs.Common.{◌≡◌, ◌≢◌, ℕ, ◌<◌, Bool, true, false, ◌&&◌, List, length, Option, Some, None, is_some, refl, ap, sym, ◌∙◌, ap₂, not, ltb-true, arith}
+use Rattle.std.proofs.Common.{◌≡◌, ◌≢◌, ℕ, ◌<◌, Bool, true, false, ◌&&◌, List, length, Option, Some}
+use Rattle.std.proofs.Common.{None, is_some, refl, ap, sym, ◌∙◌, ap₂, not, ltb-true, arith}
 use Rattle.std.specs.Prelude.{nat_lt, unwrap_or}
 use Rattle.std.proofs.lemmas.Bool.{false≢true, lt-ltb}
 use Rattle.djq_hyper.specs.Hypergraph.{subset, edge_at}
 use Rattle.djq_tree.specs.declared.choice.Choice.{Choice}
 use Rattle.djq_tree.specs.declared.choice.Choice.TheVariants.{Trim, Meet, Stuck}
-use Rattle.djq_tree.specs.Choosing.{lowest, removable, has_removable, are_equal, is_inside, twin, cover, choose_inside, choose_equal, choose_trim, choose}
+use Rattle.djq_tree.specs.Choosing.{lowest, removable, has_removable, are_equal, is_inside, twin}
+use Rattle.djq_tree.specs.Choosing.{cover, choose_inside, choose_equal, choose_trim, choose}
 use Rattle.djq_tree.proofs.Finding.{lowest_some, lowest_none}
 
 -- the node at the place is trimmed of its removable variables, of which there is one
@@ -55,7 +57,8 @@ lt_test a b h = lt-ltb a b h
 
 -- ---- the three rules, the last one first
 
-inside_found : (L : List (List ℕ)) (s : ℕ) (o : Option ℕ) → s < length L → o ≡ cover L s → is_some o ≡ true → Meets L (unwrap_or o 0) s
+inside_found : (L : List (List ℕ)) (s : ℕ) (o : Option ℕ) → s < length L → o ≡ cover L s → is_some o ≡ true
+    → Meets L (unwrap_or o 0) s
 inside_found L s None within e h = absurd cc
 inside_found L s (Some g) within e h =
     let f = lowest_some (λ g. is_inside L s g) 0 (length L) g (sym e) in
@@ -73,7 +76,8 @@ inside_found L s (Some g) within e h =
     }
 
 says_inside : (keep : List ℕ) (L : List (List ℕ)) (o : Option ℕ) → o ≡ lowest (λ s. is_some (cover L s)) L
-    → ((i : ℕ) → i < length L → has_removable keep L i ≡ false) → ((a b : ℕ) → a < b → b < length L → are_equal L a b ≡ false)
+    → ((i : ℕ) → i < length L → has_removable keep L i ≡ false)
+    → ((a b : ℕ) → a < b → b < length L → are_equal L a b ≡ false)
     → Says keep L (choose_inside L o)
 says_inside keep L (Some s) e own twins =
     let f = lowest_some (λ s. is_some (cover L s)) 0 (length L) s (sym e) in
@@ -86,7 +90,8 @@ says_inside keep L None e own twins = record {
       lowest_none (λ g. is_inside L s g) 0 (length L) (none_some (cover L s) c) g (omega arith) (omega arith);
 }
 
-equal_found : (L : List (List ℕ)) (a : ℕ) (o : Option ℕ) → a < length L → o ≡ twin L a → is_some o ≡ true → Meets L a (unwrap_or o 0)
+equal_found : (L : List (List ℕ)) (a : ℕ) (o : Option ℕ) → a < length L → o ≡ twin L a → is_some o ≡ true
+    → Meets L a (unwrap_or o 0)
 equal_found L a None within e h = absurd cc
 equal_found L a (Some b) within e h =
     let f = lowest_some (λ b. nat_lt a b && are_equal L a b) 0 (length L) b (sym e) in
@@ -96,14 +101,17 @@ equal_found L a (Some b) within e h =
       guard = within;
       side = (let k = f.below in omega arith);
       apart = λ same. omega arith;
-      inside = and_right (subset (edge_at L a) (edge_at L b)) (subset (edge_at L b) (edge_at L a)) (and_right (nat_lt a b) (are_equal L a b) f.passes);
+      inside = and_right (subset (edge_at L a) (edge_at L b)) (subset (edge_at L b) (edge_at L a))
+          (and_right (nat_lt a b) (are_equal L a b) f.passes);
     }
 
 -- no node has a twin, so no two labels are equal
-pub no_twins : (L : List (List ℕ)) → lowest (λ a. is_some (twin L a)) L ≡ None → (a b : ℕ) → a < b → b < length L → are_equal L a b ≡ false
+pub no_twins : (L : List (List ℕ)) → lowest (λ a. is_some (twin L a)) L ≡ None → (a b : ℕ) → a < b → b < length L
+    → are_equal L a b ≡ false
 no_twins L e a b low within =
     let c = lowest_none (λ a. is_some (twin L a)) 0 (length L) e a (omega arith) (omega arith) in
-    let d = lowest_none (λ b. nat_lt a b && are_equal L a b) 0 (length L) (none_some (twin L a) c) b (omega arith) (omega arith) in
+    let d = lowest_none (λ b. nat_lt a b && are_equal L a b) 0 (length L) (none_some (twin L a) c) b (omega arith)
+    (omega arith) in
     after_and (nat_lt a b) (are_equal L a b) (lt_test a b low) d
 
 says_equal : (keep : List ℕ) (L : List (List ℕ)) (o : Option ℕ) → o ≡ lowest (λ a. is_some (twin L a)) L
@@ -113,7 +121,8 @@ says_equal keep L (Some a) e own =
     equal_found L a (twin L a) (let b = f.below in omega arith) refl f.passes
 says_equal keep L None e own = says_inside keep L (lowest (λ s. is_some (cover L s)) L) refl own (no_twins L (sym e))
 
-says_trim : (keep : List ℕ) (L : List (List ℕ)) (o : Option ℕ) → o ≡ lowest (λ i. has_removable keep L i) L → Says keep L (choose_trim keep L o)
+says_trim : (keep : List ℕ) (L : List (List ℕ)) (o : Option ℕ) → o ≡ lowest (λ i. has_removable keep L i) L
+    → Says keep L (choose_trim keep L o)
 says_trim keep L (Some i) e =
     let f = lowest_some (λ i. has_removable keep L i) 0 (length L) i (sym e) in
     record { within = (let b = f.below in omega arith); are = refl; some = f.passes }

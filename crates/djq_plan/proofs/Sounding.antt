@@ -1,5 +1,6 @@
 -- The tree's invariant while it grows: what holds of the nodes made so far, of which some are current.
-use Rattle.std.proofs.Common.{◌≡◌, ◌≢◌, ◌⊎◌, ℕ, ◌+◌, ◌<◌, ◌≤◌, Bool, true, false, ◌||◌, List, [], ◌∷◌, ◌++◌, length, refl, ap, subst, sym, ◌∙◌, eqb, arith, inl, inr}
+use Rattle.std.proofs.Common.{◌≡◌, ◌≢◌, ◌⊎◌, ℕ, ◌+◌, ◌<◌, ◌≤◌, Bool, true, false, ◌||◌, List, []}
+use Rattle.std.proofs.Common.{◌∷◌, ◌++◌, length, refl, ap, subst, sym, ◌∙◌, eqb, arith, inl, inr}
 use Rattle.std.proofs.lemmas.List.{get_or_append_left, get_or_push, get_or_past, length_push}
 use Rattle.std.proofs.lemmas.Bool.{cases_Bool, cases_lt, cases_eq, eqb-true, eq-eqb, ne_eqb, false≢true}
 use Rattle.std.proofs.Math.Bool.{or-true}
@@ -40,14 +41,17 @@ pub record Sound (m : ℕ) (nodes : List Node) (labels : List (List ℕ)) (ns : 
 -- ---- one more node
 
 -- what holds of each node, of the new one and of none
-pub by_node : (nodes : List Node) (n : Node) (P : ℕ → Node → Type 0) → ((k : ℕ) → k < length nodes → P k (node_at nodes k)) → P (length nodes) n → ((k : ℕ) → P k (Leaf 0)) → (k : ℕ) → P k (node_at (nodes ++ n ∷ []) k)
+pub by_node : (nodes : List Node) (n : Node) (P : ℕ → Node → Type 0)
+    → ((k : ℕ) → k < length nodes → P k (node_at nodes k)) → P (length nodes) n → ((k : ℕ) → P k (Leaf 0)) → (k : ℕ)
+    → P k (node_at (nodes ++ n ∷ []) k)
 by_node nodes n P old new none k =
     elim (cases_lt k (length nodes)) [
       | inl low ↦ rw (get_or_append_left nodes (n ∷ []) (Leaf 0) k low) (old k low)
       | inr high ↦
           elim (cases_eq (length nodes) k) [
             | inl e ↦ rw (get_or_push nodes n (Leaf 0) k e) (subst (λ (z : ℕ). P z n) e new)
-            | inr apart ↦ rw (get_or_past (nodes ++ n ∷ []) k (Leaf 0) (let l = length_push nodes n in omega arith)) (none k)
+            | inr apart ↦ rw (get_or_past (nodes ++ n ∷ []) k (Leaf 0) (let l = length_push nodes n in omega arith))
+                (none k)
           ]
     ]
 
@@ -57,14 +61,16 @@ node_old nodes n k low = get_or_append_left nodes (n ∷ []) (Leaf 0) k low
 pub node_new : (nodes : List Node) (n : Node) → node_at (nodes ++ n ∷ []) (length nodes) ≡ n
 node_new nodes n = get_or_push nodes n (Leaf 0) (length nodes) refl
 
-pub label_old : (labels : List (List ℕ)) (l : List ℕ) (k : ℕ) → k < length labels → edge_at (labels ++ l ∷ []) k ≡ edge_at labels k
+pub label_old : (labels : List (List ℕ)) (l : List ℕ) (k : ℕ) → k < length labels → edge_at (labels ++ l ∷ []) k
+    ≡ edge_at labels k
 label_old labels l k low = get_or_append_left labels (l ∷ []) [] k low
 
 pub label_new : (labels : List (List ℕ)) (l : List ℕ) (k : ℕ) → k ≡ length labels → edge_at (labels ++ l ∷ []) k ≡ l
 label_new labels l k e = get_or_push labels l [] k (sym e)
 
 -- children are lower
-pub rising : (m : ℕ) (nodes : List Node) (labels : List (List ℕ)) (ns : List ℕ) → Sound m nodes labels ns → (k j : ℕ) → has_child (node_at nodes k) j ≡ true → j < k
+pub rising : (m : ℕ) (nodes : List Node) (labels : List (List ℕ)) (ns : List ℕ) → Sound m nodes labels ns → (k j : ℕ)
+    → has_child (node_at nodes k) j ≡ true → j < k
 rising m nodes labels ns s k j h = by_case (node_at nodes k) refl h
   where
     either : (a b : Bool) → (a || b) ≡ true → (a ≡ true) ⊎ (b ≡ true)
@@ -77,25 +83,31 @@ rising m nodes labels ns s k j h = by_case (node_at nodes k) refl h
     by_case (Meet g d) e c =
         let t = s.meet k g d e in
         let low = t.guard_lower in let low2 = t.side_lower in
-        elim (either (eqb g j) (eqb d j) c) [ inl x ↦ let same = eqb-true g j x in omega arith | inr x ↦ let same = eqb-true d j x in omega arith ]
+        elim (either (eqb g j) (eqb d j) c)
+        [ inl x ↦ let same = eqb-true g j x in omega arith | inr x ↦ let same = eqb-true d j x in omega arith ]
 
 -- a new node n with label l, whose children are current; ns' are the numbers that are current with it
-pub record Adds (nodes : List Node) (labels : List (List ℕ)) (ns : List ℕ) (n : Node) (l : List ℕ) (ns' : List ℕ) : Type 0 where
+pub record Adds (nodes : List Node) (labels : List (List ℕ)) (ns : List ℕ) (n : Node) (l : List ℕ) (ns' : List ℕ) : Type
+    0 where
   pub children : (j : ℕ) → has_child n j ≡ true → 0 < times numbers j ns
   pub stays : (j : ℕ) → 0 < times numbers j ns → (has_child n j ≡ true) ⊎ (0 < times numbers j ns')
-  pub comes : (j : ℕ) → 0 < times numbers j ns' → (j ≡ length nodes) ⊎ ((0 < times numbers j ns) × (has_child n j ≡ false))
+  pub comes : (j : ℕ) → 0 < times numbers j ns'
+      → (j ≡ length nodes) ⊎ ((0 < times numbers j ns) × (has_child n j ≡ false))
   pub itself : 0 < times numbers (length nodes) ns'
   pub once : (j : ℕ) → times numbers j ns' ≤ 1
   pub no_leaf : (a : ℕ) → n ≡ Leaf a → ⊥
   pub trim : (c : ℕ) → n ≡ Trim c → IsTrim (labels ++ l ∷ []) (length nodes) c
   pub meet : (g s : ℕ) → n ≡ Meet g s → IsMeet (labels ++ l ∷ []) (length nodes) g s
   -- a child's variable that the new node lacks lies in no current label any more
-  pub lost : (x j : ℕ) → has_child n j ≡ true → 0 < has x (edge_at labels j) → has x l ≡ 0 → weight x (labels ++ l ∷ []) ns' ≡ 0
+  pub lost : (x j : ℕ) → has_child n j ≡ true → 0 < has x (edge_at labels j) → has x l ≡ 0
+      → weight x (labels ++ l ∷ []) ns' ≡ 0
   -- a variable that is lost lay in one current label
-  pub single : (x j k : ℕ) → weight x (labels ++ l ∷ []) ns' ≡ 0 → 0 < times numbers j ns → 0 < times numbers k ns → 0 < has x (edge_at labels j) → 0 < has x (edge_at labels k) → j ≡ k
+  pub single : (x j k : ℕ) → weight x (labels ++ l ∷ []) ns' ≡ 0 → 0 < times numbers j ns → 0 < times numbers k ns
+      → 0 < has x (edge_at labels j) → 0 < has x (edge_at labels k) → j ≡ k
   pub fewer : (x : ℕ) → weight x labels ns ≡ 0 → weight x (labels ++ l ∷ []) ns' ≡ 0
 
-module _ (m : ℕ) (nodes : List Node) (labels : List (List ℕ)) (ns : List ℕ) (n : Node) (l : List ℕ) (ns' : List ℕ) (s : Sound m nodes labels ns) (a : Adds nodes labels ns n l ns') where
+module _ (m : ℕ) (nodes : List Node) (labels : List (List ℕ)) (ns : List ℕ) (n : Node) (l : List ℕ) (ns' : List ℕ)
+    (s : Sound m nodes labels ns) (a : Adds nodes labels ns n l ns') where
   abbrev nodes' : List Node
   nodes' = nodes ++ n ∷ []
 
@@ -141,7 +153,13 @@ module _ (m : ℕ) (nodes : List Node) (labels : List (List ℕ)) (ns : List ℕ
       let ek = same_label k low in
       let eg = same_label g (omega arith) in
       let ed = same_label d (omega arith) in
-      record { guard_lower = t.guard_lower; side_lower = t.side_lower; apart = t.apart; guard = rw (ek, eg) t.guard; side = rw (eg, ed) t.side }
+      record {
+        guard_lower = t.guard_lower;
+        side_lower = t.side_lower;
+        apart = t.apart;
+        guard = rw (ek, eg) t.guard;
+        side = rw (eg, ed) t.side;
+      }
 
   add_meet : (k g d : ℕ) → node_at nodes' k ≡ Meet g d → IsMeet labels' k g d
   add_meet k g d =
@@ -149,17 +167,21 @@ module _ (m : ℕ) (nodes : List Node) (labels : List (List ℕ)) (ns : List ℕ
       (λ k low e. old_meet k g d low (s.meet k g d e)) (λ e. a.meet g d e) (λ k e. absurd cc) k
 
   add_small : (j : ℕ) → 0 < times numbers j ns' → j < length nodes'
-  add_small j h = elim (a.comes j h) [ inl e ↦ let q = longer in omega arith | inr o ↦ let q = longer in let p = s.small j o.0 in omega arith ]
+  add_small j h = elim (a.comes j h)
+      [ inl e ↦ let q = longer in omega arith | inr o ↦ let q = longer in let p = s.small j o.0 in omega arith ]
 
   add_free : (j k : ℕ) → 0 < times numbers j ns' → has_child (node_at nodes' k) j ≡ false
   add_free j k h =
       elim (a.comes j h) [
         | inl e ↦
             by_node nodes n (λ (k : ℕ) (o : Node). has_child o j ≡ false)
-            (λ k low. elim (cases_Bool (has_child (node_at nodes k) j)) [ inl child ↦ absurd (let r = rising m nodes labels ns s k j child in omega arith) | inr none ↦ none ])
-            (elim (cases_Bool (has_child n j)) [ inl child ↦ absurd (let r = s.small j (a.children j child) in omega arith) | inr none ↦ none ])
+            (λ k low. elim (cases_Bool (has_child (node_at nodes k) j))
+            [ inl child ↦ absurd (let r = rising m nodes labels ns s k j child in omega arith) | inr none ↦ none ])
+            (elim (cases_Bool (has_child n j))
+            [ inl child ↦ absurd (let r = s.small j (a.children j child) in omega arith) | inr none ↦ none ])
             (λ k. refl) k
-        | inr o ↦ by_node nodes n (λ (k : ℕ) (p : Node). has_child p j ≡ false) (λ k low. s.free j k o.0) o.1 (λ k. refl) k
+        | inr o ↦ by_node nodes n (λ (k : ℕ) (p : Node). has_child p j ≡ false) (λ k low. s.free j k o.0) o.1
+            (λ k. refl) k
       ]
 
   add_closed : (j : ℕ) → j < length nodes' → times numbers j ns' ≡ 0 → Parent nodes' j
@@ -167,15 +189,26 @@ module _ (m : ℕ) (nodes : List Node) (labels : List (List ℕ)) (ns : List ℕ
       elim (cases_lt 0 (times numbers j ns)) [
         | inl was ↦
             elim (a.stays j was) [
-              | inl child ↦ record { at = length nodes; below = (let q = longer in omega arith); child = rw (node_new nodes n) child }
+              | inl child ↦ record {
+                at = length nodes;
+                below = (let q = longer in omega arith);
+                child = rw
+                    (node_new nodes n) child;
+              }
               | inr still ↦ absurd (omega arith)
             ]
         | inr wasnt ↦
             elim (cases_eq j (length nodes)) [
-              | inl e ↦ absurd (let i = a.itself in let k : times numbers j ns' ≡ times numbers (length nodes) ns' = ap (λ (z : ℕ). times numbers z ns') e in omega arith)
+              | inl e ↦ absurd (let i = a.itself in let k : times numbers j ns'
+                  ≡ times numbers (length nodes) ns' = ap (λ (z : ℕ). times numbers z ns') e in omega arith)
               | inr apart ↦
                   let p = s.closed j (let q = longer in omega arith) (omega arith) in
-                  record { at = p.at; below = (let q = longer in let b = p.below in omega arith); child = rw (node_old nodes n p.at p.below) p.child }
+                  record {
+                    at = p.at;
+                    below = (let q = longer in let b = p.below in omega arith);
+                    child = rw
+                        (node_old nodes n p.at p.below) p.child;
+                  }
             ]
       ]
 
@@ -192,9 +225,11 @@ module _ (m : ℕ) (nodes : List Node) (labels : List (List ℕ)) (ns : List ℕ
         | inr none ↦ s.one_parent j k i (older k h none) (older i g none)
       ]
     where
-      older : (k : ℕ) → has_child (node_at nodes' k) j ≡ true → has_child n j ≡ false → has_child (node_at nodes k) j ≡ true
+      older : (k : ℕ) → has_child (node_at nodes' k) j ≡ true → has_child n j ≡ false → has_child (node_at nodes k) j
+          ≡ true
       older k =
-          by_node nodes n (λ (k : ℕ) (o : Node). has_child o j ≡ true → has_child n j ≡ false → has_child (node_at nodes k) j ≡ true)
+          by_node nodes n (λ (k : ℕ) (o : Node). has_child o j ≡ true → has_child n j ≡ false
+          → has_child (node_at nodes k) j ≡ true)
           (λ k low h none. h) (λ h none. absurd (false≢true (sym none ∙ h))) (λ k h none. absurd cc) k
 
   -- a top that isn't new was one before
@@ -203,7 +238,8 @@ module _ (m : ℕ) (nodes : List Node) (labels : List (List ℕ)) (ns : List ℕ
       elim (cases_lt j (length nodes)) [
         | inl low ↦ low
         | inr high ↦
-            let past : edge_at labels' j ≡ [] = get_or_past labels' j [] (let q = length_push labels l in let e = s.labelled in omega arith) in
+            let past : edge_at labels' j
+            ≡ [] = get_or_past labels' j [] (let q = length_push labels l in let e = s.labelled in omega arith) in
             absurd (false≢true (ap (λ (k : List ℕ). member x k) (sym past) ∙ t.has))
       ]
 
@@ -222,31 +258,37 @@ module _ (m : ℕ) (nodes : List Node) (labels : List (List ℕ)) (ns : List ℕ
         has = ap (member x) (sym (same_label j (top_low x j apart t))) ∙ t.has;
         ends = λ k h.
             let low = child_low j k h in
-            ap (member x) (sym (same_label k low)) ∙ t.ends k (ap (λ (o : Node). has_child o j) (node_old nodes n k low) ∙ h);
+            ap (member x) (sym (same_label k low))
+            ∙ t.ends k (ap (λ (o : Node). has_child o j) (node_old nodes n k low) ∙ h);
       }
 
   add_live : (x j : ℕ) → 0 < weight x labels' ns' → IsTop nodes' labels' x j → 0 < times numbers j ns'
   add_live x j w t =
       elim (cases_eq j (length nodes)) [
-        | inl e ↦ let i = a.itself in let k : times numbers j ns' ≡ times numbers (length nodes) ns' = ap (λ (z : ℕ). times numbers z ns') e in omega arith
+        | inl e ↦ let i = a.itself in let k : times numbers j ns'
+            ≡ times numbers (length nodes) ns' = ap (λ (z : ℕ). times numbers z ns') e in omega arith
         | inr apart ↦
             let o = old_top x j apart t in
             let before : 0 < weight x labels ns = was_heavy w in
             elim (a.stays j (s.live x j before o)) [
               | inl child ↦
-                  let gone : member x l ≡ false = ap (member x) (sym new_label) ∙ t.ends (length nodes) (ap (λ (o : Node). has_child o j) (node_new nodes n) ∙ child) in
-                  absurd (let z = a.lost x j child (from_true (member x (edge_at labels j)) o.has) (from_false (member x l) gone) in omega arith)
+                  let gone : member x l ≡ false = ap (member x) (sym new_label)
+                  ∙ t.ends (length nodes) (ap (λ (o : Node). has_child o j) (node_new nodes n) ∙ child) in
+                  absurd (let z = a.lost x j child (from_true (member x (edge_at labels j)) o.has)
+                  (from_false (member x l) gone) in omega arith)
               | inr still ↦ still
             ]
       ]
     where
       was_heavy : 0 < weight x labels' ns' → 0 < weight x labels ns
-      was_heavy w = elim (cases_lt 0 (weight x labels ns)) [ inl h ↦ h | inr none ↦ absurd (let z = a.fewer x (omega arith) in omega arith) ]
+      was_heavy w = elim (cases_lt 0 (weight x labels ns))
+          [ inl h ↦ h | inr none ↦ absurd (let z = a.fewer x (omega arith) in omega arith) ]
 
   not_new : (x j : ℕ) → weight x labels' ns' ≡ 0 → IsTop nodes' labels' x j → j ≢ length nodes
   not_new x j w t e =
       let i = total_in numbers (λ k. has x (edge_at labels' k)) (length nodes) ns' a.itself in
-      let k : has x (edge_at labels' j) ≡ has x (edge_at labels' (length nodes)) = ap (λ (z : ℕ). has x (edge_at labels' z)) e in
+      let k : has x (edge_at labels' j)
+      ≡ has x (edge_at labels' (length nodes)) = ap (λ (z : ℕ). has x (edge_at labels' z)) e in
       let h = from_true (member x (edge_at labels' j)) t.has in
       omega arith
 
@@ -287,18 +329,24 @@ one_ne : (j c : ℕ) → j ≢ c → one (numbers.eq j c) ≡ 0
 one_ne j c apart = rw (ne_eqb j c apart) refl
 
 -- the weight with a new node
-pub new_weight : (labels : List (List ℕ)) (l : List ℕ) (R ns' : List ℕ) (x : ℕ) → Bag numbers ns' (length labels ∷ R) → ((j : ℕ) → 0 < times numbers j R → j < length labels)
+pub new_weight : (labels : List (List ℕ)) (l : List ℕ) (R ns' : List ℕ) (x : ℕ) → Bag numbers ns' (length labels ∷ R)
+    → ((j : ℕ) → 0 < times numbers j R → j < length labels)
     → weight x (labels ++ l ∷ []) ns' ≡ has x l + weight x labels R
 new_weight labels l R ns' x is low =
     let t = total_same numbers (λ j. has x (edge_at (labels ++ l ∷ []) j)) ns' (length labels ∷ R) is in
-    let e : has x (edge_at (labels ++ l ∷ []) (length labels)) ≡ has x l = ap (λ (k : List ℕ). has x k) (label_new labels l (length labels) refl) in
-    let r = total_agree (λ j. has x (edge_at (labels ++ l ∷ []) j)) (λ j. has x (edge_at labels j)) R (λ j h. ap (λ (k : List ℕ). has x k) (label_old labels l j (low j h))) in
+    let e : has x (edge_at (labels ++ l ∷ []) (length labels))
+    ≡ has x l = ap (λ (k : List ℕ). has x k) (label_new labels l (length labels) refl) in
+    let r = total_agree (λ j. has x (edge_at (labels ++ l ∷ []) j)) (λ j. has x (edge_at labels j)) R
+    (λ j h. ap (λ (k : List ℕ). has x k) (label_old labels l j (low j h))) in
     omega arith
 
 -- ---- a trim
 
-module _ (nodes : List Node) (labels : List (List ℕ)) (ns R ns' : List ℕ) (c : ℕ) (l : List ℕ) (m x0 : ℕ) (s : Sound m nodes labels ns) (was : Bag numbers ns (c ∷ R)) (is : Bag numbers ns' (length nodes ∷ R))
-    (inside : Sub l (edge_at labels c)) (alone : (x : ℕ) → 0 < has x (edge_at labels c) → has x l ≡ 0 → weight x labels R ≡ 0) (some : 0 < has x0 (edge_at labels c)) (gone : has x0 l ≡ 0) where
+module _ (nodes : List Node) (labels : List (List ℕ)) (ns R ns' : List ℕ) (c : ℕ) (l : List ℕ) (m x0 : ℕ)
+    (s : Sound m nodes labels ns) (was : Bag numbers ns (c ∷ R)) (is : Bag numbers ns' (length nodes ∷ R))
+    (inside : Sub l (edge_at labels c))
+    (alone : (x : ℕ) → 0 < has x (edge_at labels c) → has x l ≡ 0 → weight x labels R ≡ 0)
+    (some : 0 < has x0 (edge_at labels c)) (gone : has x0 l ≡ 0) where
   trim_in : 0 < times numbers c ns
   trim_in = let w = was c in let o = one_eq c c refl in omega arith
 
@@ -310,14 +358,16 @@ module _ (nodes : List Node) (labels : List (List ℕ)) (ns R ns' : List ℕ) (c
 
   trim_weight : (x : ℕ) → weight x (labels ++ l ∷ []) ns' ≡ has x l + weight x labels R
   trim_weight x =
-      new_weight labels l R ns' x (λ j. is j ∙ ap (λ (n : ℕ). one (numbers.eq j n) + times numbers j R) (sym s.labelled))
+      new_weight labels l R ns' x
+      (λ j. is j ∙ ap (λ (n : ℕ). one (numbers.eq j n) + times numbers j R) (sym s.labelled))
       (λ j h. let r = trim_rest j h in let e = s.labelled in omega arith)
 
   trim_before : (x : ℕ) → weight x labels ns ≡ has x (edge_at labels c) + weight x labels R
   trim_before x = total_same numbers (λ j. has x (edge_at labels j)) ns (c ∷ R) was
 
   trim_not_new : times numbers (length nodes) ns ≡ 0
-  trim_not_new = elim (cases_lt 0 (times numbers (length nodes) ns)) [ inl h ↦ absurd (let k = s.small (length nodes) h in omega arith) | inr none ↦ omega arith ]
+  trim_not_new = elim (cases_lt 0 (times numbers (length nodes) ns))
+      [ inl h ↦ absurd (let k = s.small (length nodes) h in omega arith) | inr none ↦ omega arith ]
 
   trim_apart : (j : ℕ) → 0 < times numbers j R → c ≢ j
   trim_apart j h e = let w = was j in let o = one_eq j c (sym e) in let q = s.once j in omega arith
@@ -329,13 +379,19 @@ module _ (nodes : List Node) (labels : List (List ℕ)) (ns R ns' : List ℕ) (c
       record {
         lower = trim_low;
         within = rw (en, ec) (subset_from l (edge_at labels c) inside);
-        proper = rw (en, ec) (elim (cases_Bool (subset (edge_at labels c) l)) [ inl all ↦ absurd (let k = subset_says (edge_at labels c) l all x0 in omega arith) | inr none ↦ none ]);
+        proper = rw (en, ec) (elim (cases_Bool (subset (edge_at labels c) l))
+            [ inl all ↦ absurd (let k = subset_says (edge_at labels c) l all x0 in omega arith) | inr none ↦ none ]);
       }
 
   pub trim_adds : Adds nodes labels ns (Trim c) l ns'
   trim_adds = record {
-    children = λ j h. let e = eqb-true c j h in let t = trim_in in let k : times numbers c ns ≡ times numbers j ns = ap (λ (z : ℕ). times numbers z ns) e in omega arith;
-    stays = λ j h. elim (cases_eq c j) [ inl e ↦ inl (eq-eqb c j e) | inr apart ↦ inr (let w = was j in let i = is j in let o = one_ne j c (λ e. apart (sym e)) in omega arith) ];
+    children = λ j h. let e = eqb-true c j h in let t = trim_in in let k : times numbers c ns
+        ≡ times numbers j ns = ap (λ (z : ℕ). times numbers z ns) e in omega arith;
+    stays = λ j h. elim (cases_eq c j) [
+      | inl e ↦ inl (eq-eqb c j e)
+      | inr apart ↦ inr
+          (let w = was j in let i = is j in let o = one_ne j c (λ e. apart (sym e)) in omega arith)
+    ];
     comes = λ j h. elim (cases_eq j (length nodes)) [
       | inl e ↦ inl e
       | inr apart ↦
@@ -349,7 +405,8 @@ module _ (nodes : List Node) (labels : List (List ℕ)) (ns R ns' : List ℕ) (c
           let i = is j in let w = was j in let n = trim_not_new in
           let k : times numbers j ns ≡ times numbers (length nodes) ns = ap (λ (z : ℕ). times numbers z ns) e in
           omega (arith, one_le (numbers.eq j (length nodes)))
-      | inr apart ↦ let i = is j in let w = was j in let o = one_ne j (length nodes) apart in let q = s.once j in omega arith
+      | inr apart ↦ let i = is j in let w = was j in let o = one_ne j (length nodes) apart in let q = s.once j in omega
+          arith
     ];
     no_leaf = λ a e. absurd cc;
     trim = λ d e. (let k : c ≡ d = cc in subst (λ (z : ℕ). IsTrim (labels ++ l ∷ []) (length nodes) z) k trim_is);
@@ -359,11 +416,13 @@ module _ (nodes : List Node) (labels : List (List ℕ)) (ns R ns' : List ℕ) (c
         let k : has x (edge_at labels c) ≡ has x (edge_at labels j) = ap (λ (z : ℕ). has x (edge_at labels z)) e in
         let a = alone x (omega arith) none in
         let w = trim_weight x in omega arith;
-    single = λ x j k none in_j in_k has_j has_k. trim_single x j none in_j has_j ∙ sym (trim_single x k none in_k has_k);
+    single = λ x j k none in_j in_k has_j has_k. trim_single x j none in_j has_j
+        ∙ sym (trim_single x k none in_k has_k);
     fewer = λ x none. let b = trim_before x in let w = trim_weight x in let i = inside x in omega arith;
   }
     where
-      trim_single : (x j : ℕ) → weight x (labels ++ l ∷ []) ns' ≡ 0 → 0 < times numbers j ns → 0 < has x (edge_at labels j) → j ≡ c
+      trim_single : (x j : ℕ) → weight x (labels ++ l ∷ []) ns' ≡ 0 → 0 < times numbers j ns
+          → 0 < has x (edge_at labels j) → j ≡ c
       trim_single x j none in_j has_j =
           elim (cases_eq j c) [
             | inl e ↦ e
@@ -375,7 +434,8 @@ module _ (nodes : List Node) (labels : List (List ℕ)) (ns R ns' : List ℕ) (c
 
 -- ---- a meet
 
-module _ (nodes : List Node) (labels : List (List ℕ)) (ns R ns' : List ℕ) (g d m : ℕ) (s : Sound m nodes labels ns) (was : Bag numbers ns (g ∷ d ∷ R)) (is : Bag numbers ns' (length nodes ∷ R))
+module _ (nodes : List Node) (labels : List (List ℕ)) (ns R ns' : List ℕ) (g d m : ℕ) (s : Sound m nodes labels ns)
+    (was : Bag numbers ns (g ∷ d ∷ R)) (is : Bag numbers ns' (length nodes ∷ R))
     (inside : Sub (edge_at labels d) (edge_at labels g)) where
   abbrev guard : List ℕ
   guard = edge_at labels g
@@ -394,14 +454,16 @@ module _ (nodes : List Node) (labels : List (List ℕ)) (ns R ns' : List ℕ) (g
 
   meet_weight : (x : ℕ) → weight x (labels ++ guard ∷ []) ns' ≡ has x guard + weight x labels R
   meet_weight x =
-      new_weight labels guard R ns' x (λ j. is j ∙ ap (λ (n : ℕ). one (numbers.eq j n) + times numbers j R) (sym s.labelled))
+      new_weight labels guard R ns' x
+      (λ j. is j ∙ ap (λ (n : ℕ). one (numbers.eq j n) + times numbers j R) (sym s.labelled))
       (λ j h. let r = meet_rest j h in let e = s.labelled in omega arith)
 
   meet_before : (x : ℕ) → weight x labels ns ≡ has x guard + (has x (edge_at labels d) + weight x labels R)
   meet_before x = total_same numbers (λ j. has x (edge_at labels j)) ns (g ∷ d ∷ R) was
 
   meet_not_new : times numbers (length nodes) ns ≡ 0
-  meet_not_new = elim (cases_lt 0 (times numbers (length nodes) ns)) [ inl h ↦ absurd (let k = s.small (length nodes) h in omega arith) | inr none ↦ omega arith ]
+  meet_not_new = elim (cases_lt 0 (times numbers (length nodes) ns))
+      [ inl h ↦ absurd (let k = s.small (length nodes) h in omega arith) | inr none ↦ omega arith ]
 
   meet_is : IsMeet (labels ++ guard ∷ []) (length nodes) g d
   meet_is =
@@ -411,7 +473,14 @@ module _ (nodes : List Node) (labels : List (List ℕ)) (ns R ns' : List ℕ) (g
       let en = label_new labels guard (length nodes) (sym s.labelled) in
       let eg = label_old labels guard g (omega arith) in
       let ed = label_old labels guard d (omega arith) in
-      record { guard_lower = lg; side_lower = ld; apart = meet_apart; guard = en ∙ sym eg; side = rw (ed, eg) (subset_from (edge_at labels d) guard inside) }
+      record {
+        guard_lower = lg;
+        side_lower = ld;
+        apart = meet_apart;
+        guard = en
+            ∙ sym eg;
+        side = rw (ed, eg) (subset_from (edge_at labels d) guard inside);
+      }
 
   either_child : (a b : Bool) → (a || b) ≡ true → (a ≡ true) ⊎ (b ≡ true)
   either_child true b e = inl refl
@@ -421,7 +490,8 @@ module _ (nodes : List Node) (labels : List (List ℕ)) (ns R ns' : List ℕ) (g
   no_child j p q = rw (ne_eqb g j p, ne_eqb d j q) refl
 
   meet_children : (j : ℕ) → has_child (Meet g d) j ≡ true → (g ≡ j) ⊎ (d ≡ j)
-  meet_children j h = elim (either_child (eqb g j) (eqb d j) h) [ inl x ↦ inl (eqb-true g j x) | inr x ↦ inr (eqb-true d j x) ]
+  meet_children j h = elim (either_child (eqb g j) (eqb d j) h)
+      [ inl x ↦ inl (eqb-true g j x) | inr x ↦ inr (eqb-true d j x) ]
 
   rest_apart : (j : ℕ) → 0 < times numbers j R → (g ≢ j) × (d ≢ j)
   rest_apart j h =
@@ -429,7 +499,8 @@ module _ (nodes : List Node) (labels : List (List ℕ)) (ns R ns' : List ℕ) (g
       (λ e. (let o = one_eq j g (sym e) in omega arith), λ e. (let o = one_eq j d (sym e) in omega arith))
 
   -- no current node has a variable that weighs nothing with the new one
-  meet_none : (x j : ℕ) → weight x (labels ++ guard ∷ []) ns' ≡ 0 → 0 < times numbers j ns → has x (edge_at labels j) ≡ 0
+  meet_none : (x j : ℕ) → weight x (labels ++ guard ∷ []) ns' ≡ 0 → 0 < times numbers j ns → has x (edge_at labels j)
+      ≡ 0
   meet_none x j none in_j =
       let w = meet_weight x in let b = meet_before x in let i = inside x in
       let t = total_in numbers (λ k. has x (edge_at labels k)) j ns in_j in
@@ -438,15 +509,18 @@ module _ (nodes : List Node) (labels : List (List ℕ)) (ns R ns' : List ℕ) (g
   pub meet_adds : Adds nodes labels ns (Meet g d) guard ns'
   meet_adds = record {
     children = λ j h. elim (meet_children j h) [
-      | inl e ↦ let t = meet_g in let k : times numbers g ns ≡ times numbers j ns = ap (λ (z : ℕ). times numbers z ns) e in omega arith
-      | inr e ↦ let t = meet_d in let k : times numbers d ns ≡ times numbers j ns = ap (λ (z : ℕ). times numbers z ns) e in omega arith
+      | inl e ↦ let t = meet_g in let k : times numbers g ns
+          ≡ times numbers j ns = ap (λ (z : ℕ). times numbers z ns) e in omega arith
+      | inr e ↦ let t = meet_d in let k : times numbers d ns
+          ≡ times numbers j ns = ap (λ (z : ℕ). times numbers z ns) e in omega arith
     ];
     stays = λ j h. elim (cases_eq g j) [
       | inl e ↦ inl (rw (eq-eqb g j e) refl)
       | inr off_g ↦ elim (cases_eq d j) [
         | inl e ↦ inl (rw (eq-eqb d j e) (or-true (eqb g j)))
         | inr off_d ↦
-            inr (let w = was j in let i = is j in let o = one_ne j g (λ e. off_g (sym e)) in let p = one_ne j d (λ e. off_d (sym e)) in omega arith)
+            inr (let w = was j in let i = is j in let o = one_ne j g (λ e. off_g (sym e)) in let p = one_ne j d
+            (λ e. off_d (sym e)) in omega arith)
       ]
     ];
     comes = λ j h. elim (cases_eq j (length nodes)) [
@@ -463,16 +537,20 @@ module _ (nodes : List Node) (labels : List (List ℕ)) (ns R ns' : List ℕ) (g
           let i = is j in let w = was j in let n = meet_not_new in
           let k : times numbers j ns ≡ times numbers (length nodes) ns = ap (λ (z : ℕ). times numbers z ns) e in
           omega (arith, one_le (numbers.eq j (length nodes)))
-      | inr apart ↦ let i = is j in let w = was j in let o = one_ne j (length nodes) apart in let q = s.once j in omega arith
+      | inr apart ↦ let i = is j in let w = was j in let o = one_ne j (length nodes) apart in let q = s.once j in omega
+          arith
     ];
     no_leaf = λ a e. absurd cc;
     trim = λ c e. absurd cc;
     meet = λ h f e. (let k : g ≡ h = cc in let k2 : d ≡ f = cc in
-        subst (λ (z : ℕ). IsMeet (labels ++ guard ∷ []) (length nodes) h z) k2 (subst (λ (z : ℕ). IsMeet (labels ++ guard ∷ []) (length nodes) z d) k meet_is));
+        subst (λ (z : ℕ). IsMeet (labels ++ guard ∷ []) (length nodes) h z) k2
+        (subst (λ (z : ℕ). IsMeet (labels ++ guard ∷ []) (length nodes) z d) k meet_is));
     lost = λ x j child had none.
         absurd (elim (meet_children j child) [
-          | inl e ↦ let k : has x guard ≡ has x (edge_at labels j) = ap (λ (z : ℕ). has x (edge_at labels z)) e in omega arith
-          | inr e ↦ let k : has x (edge_at labels d) ≡ has x (edge_at labels j) = ap (λ (z : ℕ). has x (edge_at labels z)) e in let i = inside x in omega arith
+          | inl e ↦ let k : has x guard
+              ≡ has x (edge_at labels j) = ap (λ (z : ℕ). has x (edge_at labels z)) e in omega arith
+          | inr e ↦ let k : has x (edge_at labels d)
+              ≡ has x (edge_at labels j) = ap (λ (z : ℕ). has x (edge_at labels z)) e in let i = inside x in omega arith
         ]);
     single = λ x j k none in_j in_k has_j has_k. absurd (let z = meet_none x j none in_j in omega arith);
     fewer = λ x none. let b = meet_before x in let w = meet_weight x in omega arith;

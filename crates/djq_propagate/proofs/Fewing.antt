@@ -1,5 +1,6 @@
 -- Over equal meets an update marks one tuple at most in each table.
-use Rattle.std.proofs.Common.{◌≡◌, ◌≢◌, ℕ, ◌<◌, ◌≤◌, Bool, true, false, cond, List, [], ◌∷◌, length, refl, ap, subst, sym, ◌∙◌, arith, inl, inr}
+use Rattle.std.proofs.Common.{◌≡◌, ◌≢◌, ℕ, ◌<◌, ◌≤◌, Bool, true, false, cond, List, [], ◌∷◌, length}
+use Rattle.std.proofs.Common.{refl, ap, subst, sym, ◌∙◌, arith, inl, inr}
 use Rattle.std.specs.Prelude.{◌==◌}
 use Rattle.std.proofs.lemmas.Bool.{cases_eq, cases_lt, cases_Bool}
 use Rattle.djq_index.specs.Tuple.{same, pick, one}
@@ -30,27 +31,32 @@ use Rattle.djq_propagate.proofs.Updating.{both, reducts_lived, leaf_below}
 
 -- ---- lists of one tuple at most
 
-few_same : (es : List Entry) → ((v : List ℕ) → cnt es v ≤ 1) → ((u v : List ℕ) → 0 < cnt es u → 0 < cnt es v → u ≡ v) → length es ≤ 1
+few_same : (es : List Entry) → ((v : List ℕ) → cnt es v ≤ 1) → ((u v : List ℕ) → 0 < cnt es u → 0 < cnt es v → u ≡ v)
+    → length es ≤ 1
 few_same [] most h = omega arith
 few_same (e ∷ []) most h = omega arith
 few_same (e ∷ f ∷ es) most h =
     let a = cnt_cons e (f ∷ es) e.tuple in let b = cnt_cons f es e.tuple in
     let c = cnt_cons e (f ∷ es) f.tuple in let d = cnt_cons f es f.tuple in
     let x = one_same e.tuple in let y = one_same f.tuple in
-    let twice : one (same f.tuple e.tuple) ≡ 1 = ap (λ (w : List ℕ). one (same f.tuple w)) (h e.tuple f.tuple (omega arith) (omega arith)) ∙ y in
+    let twice : one (same f.tuple e.tuple)
+    ≡ 1 = ap (λ (w : List ℕ). one (same f.tuple w)) (h e.tuple f.tuple (omega arith) (omega arith)) ∙ y in
     let m = most e.tuple in
     absurd (omega arith)
 
 lone : (es : List Entry) (u v : List ℕ) → length es ≤ 1 → 0 < cnt es u → 0 < cnt es v → u ≡ v
 unfolding cnt
 lone [] u v few a b = absurd (omega arith)
-lone (e ∷ []) u v few a b = sym (same_is e.tuple u (true_from_one (same e.tuple u) (omega arith))) ∙ same_is e.tuple v (true_from_one (same e.tuple v) (omega arith))
+lone (e ∷ []) u v few a b = sym (same_is e.tuple u (true_from_one (same e.tuple u) (omega arith)))
+    ∙ same_is e.tuple v (true_from_one (same e.tuple v) (omega arith))
 lone (e ∷ f ∷ es) u v few a b = absurd (omega arith)
 
 lone_many : (ks : List ℕ) (es : List Entry) (u v : List ℕ) → length es ≤ 1 → 0 < many ks es u → 0 < many ks es v → u ≡ v
 unfolding many
 lone_many ks [] u v few a b = absurd (omega arith)
-lone_many ks (e ∷ []) u v few a b = sym (same_is (pick ks e.tuple) u (true_from_one (same (pick ks e.tuple) u) (omega arith))) ∙ same_is (pick ks e.tuple) v (true_from_one (same (pick ks e.tuple) v) (omega arith))
+lone_many ks (e ∷ []) u v few a b = sym
+    (same_is (pick ks e.tuple) u (true_from_one (same (pick ks e.tuple) u) (omega arith)))
+    ∙ same_is (pick ks e.tuple) v (true_from_one (same (pick ks e.tuple) v) (omega arith))
 lone_many ks (e ∷ f ∷ es) u v few a b = absurd (omega arith)
 
 cnt_nothing : (v : List ℕ) → cnt [] v ≡ 0
@@ -69,29 +75,36 @@ marks_once t ts k f v = omega (arith, once t ts f k v, cnt_split (entries_at ts 
 
 -- ---- where marks begin
 
-pub one_lived : (t : Tree) (old new : List Table) (a : ℕ) (u : List ℕ) → Lived t old new a u → OneMore (entries_at old a) (entries_at new a)
+pub one_lived : (t : Tree) (old new : List Table) (a : ℕ) (u : List ℕ) → Lived t old new a u
+    → OneMore (entries_at old a) (entries_at new a)
 one_lived t old new a u l = record {
   tuple = u;
   only = λ v some none. elim (same_cases u v) [
     | inl here ↦ sym here
-    | inr other ↦ absurd (omega (arith, inserted_cnt (key_at old a) (entries_at old a) (entries_at new a) u l.gains v, one_other u v other))
+    | inr other ↦ absurd (omega
+        (arith, inserted_cnt (key_at old a) (entries_at old a) (entries_at new a) u l.gains v, one_other u v other))
   ];
 }
 
-pub one_died : (t : Tree) (old new : List Table) (a : ℕ) (u : List ℕ) → Died t old new a u → OneMore (entries_at new a) (entries_at old a)
+pub one_died : (t : Tree) (old new : List Table) (a : ℕ) (u : List ℕ) → Died t old new a u
+    → OneMore (entries_at new a) (entries_at old a)
 one_died t old new a u d = record {
   tuple = u;
   only = λ v some none. elim (same_cases u v) [
     | inl here ↦ sym here
-    | inr other ↦ absurd (omega (arith, removed_cnt (entries_at old a) (entries_at new a) u d.loses v, one_other u v other))
+    | inr other ↦ absurd (omega
+        (arith, removed_cnt (entries_at old a) (entries_at new a) u d.loses v, one_other u v other))
   ];
 }
 
 -- what came is marked, and that is one tuple in each table
-pub few_lived : (t : Tree) (old new : List Table) (a : ℕ) (u : List ℕ) → HasEqualMeets t → IsReducts (both t old) → a < t.leaves → IsBare old → Lived t old new a u → CameAs true old new → HaveFew new
+pub few_lived : (t : Tree) (old new : List Table) (a : ℕ) (u : List ℕ) → HasEqualMeets t → IsReducts (both t old)
+    → a < t.leaves → IsBare old → Lived t old new a u → CameAs true old new → HaveFew new
 few_lived t old new a u meets r leaf bare l p =
     let s = reducts_lived t old new a u r leaf l in
-    let one_at = one_more t old new a meets r s (λ j v low apart. ap (λ (es : List Entry). cnt es v) (l.below j (leaf_below t a j r.family.is_tree low apart))) (one_lived t old new a u l) in
+    let one_at = one_more t old new a meets r s
+    (λ j v low apart. ap (λ (es : List Entry). cnt es v) (l.below j (leaf_below t a j r.family.is_tree low apart)))
+    (one_lived t old new a u l) in
     record {
       each = λ i.
           let only : (v : List ℕ) → 0 < cnt (marks (entries_at new i)) v → v ≡ (one_at i).tuple =
@@ -101,55 +114,81 @@ few_lived t old new a u meets r leaf bare l p =
           few_same (marks (entries_at new i)) (marks_once t new i l.family) (λ v w x y. only v x ∙ sym (only w y));
     }
   where
-    new_count : (i : ℕ) (v : List ℕ) → IsReducts (both t new) → 0 < cnt (marks (entries_at new i)) v → cnt (entries_at old i) v ≡ 0
-    new_count i v s some = omega (arith, once t new s.family i v, cnt_split (entries_at new i) v, p.same i v, cnt_split (entries_at old i) v, bare.none i v)
+    new_count : (i : ℕ) (v : List ℕ) → IsReducts (both t new) → 0 < cnt (marks (entries_at new i)) v
+        → cnt (entries_at old i) v ≡ 0
+    new_count i v s some = omega (
+      arith,
+      once t new s.family i v,
+      cnt_split (entries_at new i) v,
+      p.same i v,
+      cnt_split (entries_at old i) v,
+      bare.none i v,
+    )
 
-pub few_marked : (t : Tree) (old new : List Table) (a : ℕ) (u : List ℕ) → IsBare old → IsTouched t old new a (λ v. one (same u v)) → HaveFew new
+pub few_marked : (t : Tree) (old new : List Table) (a : ℕ) (u : List ℕ) → IsBare old
+    → IsTouched t old new a (λ v. one (same u v)) → HaveFew new
 few_marked t old new a u bare x = record {
   each = λ i. elim (cases_eq i a) [
     | inl here ↦
         let only : (v : List ℕ) → 0 < cnt (marks (entries_at new a)) v → u ≡ v =
-        λ v some. let o = x.only v some in let b = bare.none a v in same_is u v (true_from_one (same u v) (omega arith)) in
-        subst (λ (k : ℕ). length (marks (entries_at new k)) ≤ 1) (sym here) (few_same (marks (entries_at new a)) (marks_once t new a x.family) (λ v w p q. sym (only v p) ∙ only w q))
-    | inr apart ↦ few_none (marks (entries_at new i)) (λ v. ap (λ (es : List Entry). cnt (marks es) v) (x.others i apart) ∙ bare.none i v)
+        λ v some. let o = x.only v some in let b = bare.none a v in same_is u v (true_from_one (same u v) (omega arith))
+        in
+        subst (λ (k : ℕ). length (marks (entries_at new k)) ≤ 1) (sym here)
+        (few_same (marks (entries_at new a)) (marks_once t new a x.family) (λ v w p q. sym (only v p) ∙ only w q))
+    | inr apart ↦ few_none (marks (entries_at new i))
+        (λ v. ap (λ (es : List Entry). cnt (marks es) v) (x.others i apart) ∙ bare.none i v)
   ];
 }
 
 -- ---- a step
 
 -- what agrees with one tuple is one tuple
-agree_lone : (n : Node) (j : ℕ) (ts : List Table) (es : List Entry) (u v : List ℕ) → length es ≤ 1 → ((g d : ℕ) → n ≡ Meet g d → (pick (key_at ts g) u ≡ u) × (pick (key_at ts g) v ≡ v))
+agree_lone : (n : Node) (j : ℕ) (ts : List Table) (es : List Entry) (u v : List ℕ) → length es ≤ 1
+    → ((g d : ℕ) → n ≡ Meet g d → (pick (key_at ts g) u ≡ u) × (pick (key_at ts g) v ≡ v))
     → 0 < agreeing n j ts es u → 0 < agreeing n j ts es v → u ≡ v
 unfolding agreeing
 agree_lone (Leaf a) j ts es u v few whole p q = absurd (omega arith)
 agree_lone (Trim c) j ts es u v few whole p q = lone_many (key_at ts c) es u v few p q
 agree_lone (Meet g d) j ts es u v few whole p q = by_side (g == j) p q
   where
-    by_side : (b : Bool) → 0 < cond b (cnt es u) (cnt es (pick (key_at ts g) u)) → 0 < cond b (cnt es v) (cnt es (pick (key_at ts g) v)) → u ≡ v
+    by_side : (b : Bool) → 0 < cond b (cnt es u) (cnt es (pick (key_at ts g) u))
+        → 0 < cond b (cnt es v) (cnt es (pick (key_at ts g) v)) → u ≡ v
     by_side true x y = lone es u v few x y
-    by_side false x y = let w = whole g d refl in sym w.0 ∙ lone es (pick (key_at ts g) u) (pick (key_at ts g) v) few x y ∙ w.1
+    by_side false x y = let w = whole g d refl in sym w.0
+        ∙ lone es (pick (key_at ts g) u) (pick (key_at ts g) v) few x y ∙ w.1
 
-few_touched : (t : Tree) (mid new : List Table) (j k : ℕ) (f : List ℕ → ℕ) → HasEqualMeets t → IsFamily t mid → k < length t.nodes → IsReductOf (node_at t.nodes k) mid k → IsTouched t mid new k f
-    → ((w : List ℕ) → 0 < cnt (marks (entries_at new k)) w → 0 < agreeing (node_at t.nodes k) j mid (marks (entries_at mid j)) w) → HaveFew mid → HaveFew new
+few_touched : (t : Tree) (mid new : List Table) (j k : ℕ) (f : List ℕ → ℕ) → HasEqualMeets t → IsFamily t mid
+    → k < length t.nodes → IsReductOf (node_at t.nodes k) mid k → IsTouched t mid new k f
+    → ((w : List ℕ) → 0 < cnt (marks (entries_at new k)) w
+    → 0 < agreeing (node_at t.nodes k) j mid (marks (entries_at mid j)) w) → HaveFew mid → HaveFew new
 few_touched t mid new j k f meets family within law x agrees few = record {
   each = λ i. elim (cases_eq i k) [
     | inr apart ↦ let m = few.each i in subst (λ (es : List Entry). length (marks es) ≤ 1) (sym (x.others i apart)) m
     | inl here ↦
         subst (λ (q : ℕ). length (marks (entries_at new q)) ≤ 1) (sym here)
         (few_same (marks (entries_at new k)) (marks_once t new k x.family)
-        (λ u v p q. agree_lone (node_at t.nodes k) j mid (marks (entries_at mid j)) u v (few.each j) (λ g d e. (whole u g d e p, whole v g d e q)) (agrees u p) (agrees v q)))
+        (λ u v p q. agree_lone (node_at t.nodes k) j mid (marks (entries_at mid j)) u v (few.each j)
+        (λ g d e. (whole u g d e p, whole v g d e q)) (agrees u p) (agrees v q)))
   ];
 }
   where
-    whole : (w : List ℕ) (g d : ℕ) → node_at t.nodes k ≡ Meet g d → 0 < cnt (marks (entries_at new k)) w → pick (key_at mid g) w ≡ w
+    whole : (w : List ℕ) (g d : ℕ) → node_at t.nodes k ≡ Meet g d → 0 < cnt (marks (entries_at new k)) w
+        → pick (key_at mid g) w ≡ w
     whole w g d e some =
-        let was : 0 < cnt (entries_at mid k) w = omega (arith, cnt_split (entries_at new k) w, tuples_same t mid new family x.family k x.supports w) in
-        whole_key t mid k g d w meets family e within (guard_some (node_at t.nodes k) mid k w law (cnt_supp (entries_at mid k) w (family.supported k) was) g d e)
+        let was : 0 < cnt (entries_at mid k) w = omega
+        (arith, cnt_split (entries_at new k) w, tuples_same t mid new family x.family k x.supports w) in
+        whole_key t mid k g d w meets family e within
+        (guard_some (node_at t.nodes k) mid k w law (cnt_supp (entries_at mid k) w (family.supported k) was) g d e)
 
-pub few_more : (t : Tree) (old mid new : List Table) (a k j : ℕ) (removal : Bool) → HasEqualMeets t → IsFamily t old → a < t.leaves → CanWalk t old a removal → k < length t.nodes → IsTouchedUp t old mid a → IsWalked t old mid a removal k → j ≡ path_at t.nodes a k
-    → (has_child (node_at t.nodes k) j ≡ true → t.second_stage ≤ k → IsTouched t mid new k (λ v. reach (node_at t.nodes k) false j mid (marks (entries_at mid j)) v))
-    → (has_child (node_at t.nodes k) j ≡ true → k < t.second_stage → removal ≡ true → IsTouched t mid new k (λ v. reach (node_at t.nodes k) true j mid (marks (entries_at mid j)) v))
-    → (k < t.second_stage → removal ≡ false → new ≡ mid) → (has_child (node_at t.nodes k) j ≡ false → new ≡ mid) → HaveFew mid → HaveFew new
+pub few_more : (t : Tree) (old mid new : List Table) (a k j : ℕ) (removal : Bool) → HasEqualMeets t → IsFamily t old
+    → a < t.leaves → CanWalk t old a removal → k < length t.nodes → IsTouchedUp t old mid a
+    → IsWalked t old mid a removal k → j ≡ path_at t.nodes a k
+    → (has_child (node_at t.nodes k) j ≡ true → t.second_stage ≤ k
+    → IsTouched t mid new k (λ v. reach (node_at t.nodes k) false j mid (marks (entries_at mid j)) v))
+    → (has_child (node_at t.nodes k) j ≡ true → k < t.second_stage → removal ≡ true
+    → IsTouched t mid new k (λ v. reach (node_at t.nodes k) true j mid (marks (entries_at mid j)) v))
+    → (k < t.second_stage → removal ≡ false → new ≡ mid) → (has_child (node_at t.nodes k) j ≡ false → new ≡ mid)
+    → HaveFew mid → HaveFew new
 few_more t old mid new a k j removal meets f leaf can within up x at above below idle apart few =
     elim (cases_Bool (has_child (node_at t.nodes k) j)) [
       | inr none ↦ subst HaveFew (sym (apart none)) few
@@ -159,16 +198,21 @@ few_more t old mid new a k j removal meets f leaf can within up x at above below
           | inl going ↦
               let y = below child low going in
               let other : k ≢ a = λ (e : k ≡ a). let h = inner_high t k j f.is_tree child in absurd (omega arith) in
-              few_touched t mid new j k (λ v. reach (node_at t.nodes k) true j mid (marks (entries_at mid j)) v) meets up.family within law y
-              (λ w some. reach_agrees (node_at t.nodes k) true j mid (marks (entries_at mid j)) w (let o = y.only w some in let b = bare_mid t old mid a k k removal x can other going (omega arith) w in omega arith)) few
+              few_touched t mid new j k (λ v. reach (node_at t.nodes k) true j mid (marks (entries_at mid j)) v) meets
+              up.family within law y
+              (λ w some. reach_agrees (node_at t.nodes k) true j mid (marks (entries_at mid j)) w
+              (let o = y.only w some in let b = bare_mid t old mid a k k removal x can other going (omega arith) w
+              in omega arith)) few
         ]
         | inr high ↦
             let y = above child high in
             let c = covered_mid t old mid a k j removal f up x can at child high in
-            few_touched t mid new j k (λ v. reach (node_at t.nodes k) false j mid (marks (entries_at mid j)) v) meets up.family within law y
+            few_touched t mid new j k (λ v. reach (node_at t.nodes k) false j mid (marks (entries_at mid j)) v) meets
+            up.family within law y
             (λ w some. elim (cases_lt 0 (cnt (marks (entries_at mid k)) w)) [
               | inl before ↦ c.each w before
-              | inr new_one ↦ reach_agrees (node_at t.nodes k) false j mid (marks (entries_at mid j)) w (let o = y.only w some in omega arith)
+              | inr new_one ↦ reach_agrees (node_at t.nodes k) false j mid (marks (entries_at mid j)) w
+                  (let o = y.only w some in omega arith)
             ]) few
       ]
     ]
@@ -177,13 +221,15 @@ few_more t old mid new a k j removal meets f leaf can within up x at above below
     law = (reduced_same t old mid 0 f up.family up.supports can.reduced).at k (omega arith) within
 
 -- what it counts
-few_groups : (ks : List ℕ) (gs es : List Entry) → ((u : List ℕ) → many ks gs u ≤ 1) → length es ≤ 1 → groups ks gs es ≤ 1
+few_groups : (ks : List ℕ) (gs es : List Entry) → ((u : List ℕ) → many ks gs u ≤ 1) → length es ≤ 1
+    → groups ks gs es ≤ 1
 unfolding groups
 few_groups ks gs [] h few = omega arith
 few_groups ks gs (e ∷ []) h few = omega (arith, h e.tuple)
 few_groups ks gs (e ∷ f ∷ es) h few = absurd (omega arith)
 
-few_cost : (t : Tree) (ts : List Table) (n : Node) (j k : ℕ) → HasEqualMeets t → IsFamily t ts → node_at t.nodes k ≡ n → k < length t.nodes → length (marks (entries_at ts j)) ≤ 1 → cost n j ts (marks (entries_at ts j)) ≤ 5
+few_cost : (t : Tree) (ts : List Table) (n : Node) (j k : ℕ) → HasEqualMeets t → IsFamily t ts → node_at t.nodes k ≡ n
+    → k < length t.nodes → length (marks (entries_at ts j)) ≤ 1 → cost n j ts (marks (entries_at ts j)) ≤ 5
 few_cost t ts (Leaf b) j k meets f e within few = omega (arith, cost_leaf_all b j ts (marks (entries_at ts j)))
 few_cost t ts (Trim c) j k meets f e within few = omega (arith, cost_trim_all c j ts (marks (entries_at ts j)))
 few_cost t ts (Meet g d) j k meets f e within few =
@@ -193,11 +239,13 @@ few_cost t ts (Meet g d) j k meets f e within few =
           omega (
             arith,
             cost_side_all g d j ts (marks (entries_at ts j)) other,
-            few_groups (key_at ts g) (entries_at ts g) (marks (entries_at ts j)) (λ u. group_single t ts k g d u meets f e within) few,
+            few_groups (key_at ts g) (entries_at ts g) (marks (entries_at ts j))
+                (λ u. group_single t ts k g d u meets f e within) few,
           )
     ]
 
-pub step_few : (t : Tree) (ts : List Table) (j k : ℕ) → HasEqualMeets t → IsStep t ts j k → length (marks (entries_at ts j)) ≤ 1 → cost (node_at t.nodes k) j ts (marks (entries_at ts j)) ≤ 5
+pub step_few : (t : Tree) (ts : List Table) (j k : ℕ) → HasEqualMeets t → IsStep t ts j k
+    → length (marks (entries_at ts j)) ≤ 1 → cost (node_at t.nodes k) j ts (marks (entries_at ts j)) ≤ 5
 step_few t ts j k meets s few = few_cost t ts (node_at t.nodes k) j k meets s.family refl s.within few
 
 -- ---- the marks go
@@ -205,36 +253,49 @@ step_few t ts j k meets s few = few_cost t ts (node_at t.nodes k) j k meets s.fa
 bare_marks : (es : List Entry) → length (marks (unmarked es)) ≡ 0
 bare_marks es = ap (λ (xs : List Entry). length xs) (unmarked_marks es)
 
-pub few_cleared : (old new : List Table) (k : ℕ) → Changed old new k → entries_at new k ≡ unmarked (entries_at old k) → HaveFew old → HaveFew new
+pub few_cleared : (old new : List Table) (k : ℕ) → Changed old new k → entries_at new k ≡ unmarked (entries_at old k)
+    → HaveFew old → HaveFew new
 few_cleared old new k c e few = record {
   each = λ i. elim (cases_eq i k) [
-    | inl here ↦ subst (λ (q : ℕ). length (marks (entries_at new q)) ≤ 1) (sym here) (let b = bare_marks (entries_at old k) in let l = ap (λ (es : List Entry). length (marks es)) e in omega arith)
+    | inl here ↦ subst (λ (q : ℕ). length (marks (entries_at new q)) ≤ 1) (sym here)
+        (let b = bare_marks (entries_at old k) in let l = ap (λ (es : List Entry). length (marks es)) e in omega arith)
     | inr apart ↦ subst (λ (es : List Entry). length (marks es) ≤ 1) (sym (c.others i apart)) (few.each i)
   ];
 }
 
-pub few_clear_more : (n : Node) (mid new : List Table) (j k : ℕ) → (has_child n j ≡ true → entries_at new k ≡ unmarked (entries_at mid k)) → (has_child n j ≡ true → Changed mid new k) → (has_child n j ≡ false → new ≡ mid) → HaveFew mid → HaveFew new
+pub few_clear_more : (n : Node) (mid new : List Table) (j k : ℕ)
+    → (has_child n j ≡ true → entries_at new k ≡ unmarked (entries_at mid k))
+    → (has_child n j ≡ true → Changed mid new k) → (has_child n j ≡ false → new ≡ mid) → HaveFew mid → HaveFew new
 few_clear_more n mid new j k clear change apart few =
     elim (cases_Bool (has_child n j)) [
       | inl child ↦ few_cleared mid new k (change child) (clear child) few
       | inr none ↦ subst HaveFew (sym (apart none)) few
     ]
 
-pub few_taken : (t : Tree) (old new : List Table) (a : ℕ) → HasTaken (both t old) (both t new) a → HaveFew old → HaveFew new
-few_taken t old new a x few = record { each = λ i. few_less (marks (entries_at new i)) (marks (entries_at old i)) (x.fewer.marked i) (few.each i) }
+pub few_taken : (t : Tree) (old new : List Table) (a : ℕ) → HasTaken (both t old) (both t new) a → HaveFew old
+    → HaveFew new
+few_taken t old new a x few = record
+    { each = λ i. few_less (marks (entries_at new i)) (marks (entries_at old i)) (x.fewer.marked i) (few.each i) }
 
 -- what is taken out of the leaf is one tuple
-pub one_taken : (t : Tree) (old new : List Table) (a : ℕ) → HasTaken (both t old) (both t new) a → HaveFew old → OneMore (entries_at new a) (entries_at old a)
+pub one_taken : (t : Tree) (old new : List Table) (a : ℕ) → HasTaken (both t old) (both t new) a → HaveFew old
+    → OneMore (entries_at new a) (entries_at old a)
 one_taken t old new a x few = from_marks (marks (entries_at old a)) refl
   where
-    marked : (v : List ℕ) → 0 < cnt (entries_at old a) v → cnt (entries_at new a) v ≡ 0 → 0 < cnt (marks (entries_at old a)) v
+    marked : (v : List ℕ) → 0 < cnt (entries_at old a) v → cnt (entries_at new a) v ≡ 0
+        → 0 < cnt (marks (entries_at old a)) v
     marked v some none = omega (arith, x.without.leaf v, cnt_split (entries_at old a) v)
 
     from_marks : (es : List Entry) → marks (entries_at old a) ≡ es → OneMore (entries_at new a) (entries_at old a)
-    from_marks [] e = record { tuple = []; only = λ v some none. absurd (let m = marked v some none in let z = ap (λ (xs : List Entry). cnt xs v) e in omega (arith, cnt_nothing v)) }
+    from_marks [] e = record {
+      tuple = [];
+      only = λ v some none. absurd
+          (let m = marked v some none in let z = ap (λ (xs : List Entry). cnt xs v) e in omega (arith, cnt_nothing v));
+    }
     from_marks (m ∷ es) e = record {
       tuple = m.tuple;
       only = λ v some none.
           lone (marks (entries_at old a)) v m.tuple (few.each a) (marked v some none)
-          (let z = ap (λ (xs : List Entry). cnt xs m.tuple) e in omega (arith, cnt_cons m es m.tuple, one_same m.tuple));
+          (let z = ap (λ (xs : List Entry). cnt xs m.tuple) e in omega
+          (arith, cnt_cons m es m.tuple, one_same m.tuple));
     }

@@ -1,5 +1,7 @@
 -- What a walk meets on its way.
-use Rattle.std.proofs.Common.{◌≡◌, ℕ, ◌+◌, ◌<◌, ◌≤◌, Bool, true, false, List, [], ◌∷◌, ◌++◌, length, take, drop, Option, Some, refl, ap, ap₂, subst, sym, ◌∙◌, arith, inl, inr}
+use Rattle.std.proofs.Common.{◌≡◌, ℕ, ◌+◌, ◌<◌, ◌≤◌, Bool, true, false, List, [], ◌∷◌, ◌++◌, length}
+use Rattle.std.proofs.Common.{take, drop, Option, Some, refl, ap, ap₂, subst, sym, ◌∙◌, arith, inl}
+use Rattle.std.proofs.Common.{inr}
 use Rattle.std.specs.Prelude.{nat_lt, ◌||◌, ◌==◌, Result, Ok, Err, OnErr, IfOk}
 use Rattle.std.proofs.lemmas.Bool.{cases_eq, cases_Bool, ltb-true, ltb-false, eqb-true, eq-eqb, ne_eqb, false≢true}
 use Rattle.djq_index.specs.declared.place.Place.{Place}
@@ -21,44 +23,66 @@ use Rattle.djq_propagate.proofs.Families.{same_keys}
 pub has_table : (t : Tree) (ts : List Table) (k : ℕ) → IsFamily t ts → k < length t.nodes → k < length ts
 has_table t ts k f h = let l = f.long in omega arith
 
-pub wide_now : (t : Tree) (ts us : List Table) (k : ℕ) → IsFamily t ts → IsFamily t us → k < length t.nodes → width_at us k ≡ width_at ts k
+pub wide_now : (t : Tree) (ts us : List Table) (k : ℕ) → IsFamily t ts → IsFamily t us → k < length t.nodes
+    → width_at us k ≡ width_at ts k
 wide_now t ts us k f g h = (g.keyed k h).width ∙ sym (f.keyed k h).width
 
 -- the node above, by its kind
-child_at : (t : Tree) (j k : ℕ) (o : Option ℕ) → IsTree t → o ≡ parent t.nodes j → o ≡ Some k → has_child (node_at t.nodes k) j ≡ true
+child_at : (t : Tree) (j k : ℕ) (o : Option ℕ) → IsTree t → o ≡ parent t.nodes j → o ≡ Some k
+    → has_child (node_at t.nodes k) j ≡ true
 child_at t j k o s up is = (parent_above t.nodes j k (rising_of t s) (sym up ∙ is)).2
 
-pub under_leaf : (t : Tree) (j k a : ℕ) (o : Option ℕ) (n : Node) → IsTree t → o ≡ parent t.nodes j → o ≡ Some k → n ≡ node_at t.nodes k → n ≡ Leaf a → ⊥
+pub under_leaf : (t : Tree) (j k a : ℕ) (o : Option ℕ) (n : Node) → IsTree t → o ≡ parent t.nodes j → o ≡ Some k → n
+    ≡ node_at t.nodes k → n ≡ Leaf a → ⊥
 under_leaf t j k a o n s up is here e =
-    let h : has_child (Leaf a) j ≡ true = subst (λ (m : Node). has_child m j ≡ true) (sym here ∙ e) (child_at t j k o s up is) in
+    let h : has_child (Leaf a) j
+    ≡ true = subst (λ (m : Node). has_child m j ≡ true) (sym here ∙ e) (child_at t j k o s up is) in
     false≢true h
 
 pub trim_same : (c j : ℕ) → has_child (Trim c) j ≡ true → c ≡ j
 trim_same c j h = eqb-true c j h
 
-pub under_trim : (t : Tree) (j k c : ℕ) (o : Option ℕ) (n : Node) → IsTree t → o ≡ parent t.nodes j → o ≡ Some k → k < length t.nodes → n ≡ node_at t.nodes k → n ≡ Trim c → IsUnder t k (Trim j) j
+pub under_trim : (t : Tree) (j k c : ℕ) (o : Option ℕ) (n : Node) → IsTree t → o ≡ parent t.nodes j → o ≡ Some k
+    → k < length t.nodes → n ≡ node_at t.nodes k → n ≡ Trim c → IsUnder t k (Trim j) j
 under_trim t j k c o n s up is within here e =
     let at : node_at t.nodes k ≡ Trim c = sym here ∙ e in
     let h : has_child (Trim c) j ≡ true = subst (λ (m : Node). has_child m j ≡ true) at (child_at t j k o s up is) in
     let same_one = trim_same c j h in
-    record { within = within; node = at ∙ ap (λ (x : ℕ). Trim x) same_one; child = subst (λ (x : ℕ). has_child (Trim x) j ≡ true) same_one h }
+    record {
+      within = within;
+      node = at
+          ∙ ap (λ (x : ℕ). Trim x) same_one;
+      child = subst (λ (x : ℕ). has_child (Trim x) j ≡ true) same_one h;
+    }
 
-pub under_guard : (t : Tree) (j k g d : ℕ) (o : Option ℕ) (n : Node) → IsTree t → o ≡ parent t.nodes j → o ≡ Some k → k < length t.nodes → n ≡ node_at t.nodes k → n ≡ Meet g d → g ≡ j → IsUnder t k (Meet j d) j
+pub under_guard : (t : Tree) (j k g d : ℕ) (o : Option ℕ) (n : Node) → IsTree t → o ≡ parent t.nodes j → o ≡ Some k
+    → k < length t.nodes → n ≡ node_at t.nodes k → n ≡ Meet g d → g ≡ j → IsUnder t k (Meet j d) j
 under_guard t j k g d o n s up is within here e same_one =
     let at : node_at t.nodes k ≡ Meet g d = sym here ∙ e in
     let h : has_child (Meet g d) j ≡ true = subst (λ (m : Node). has_child m j ≡ true) at (child_at t j k o s up is) in
-    record { within = within; node = at ∙ ap (λ (x : ℕ). Meet x d) same_one; child = subst (λ (x : ℕ). has_child (Meet x d) j ≡ true) same_one h }
+    record {
+      within = within;
+      node = at
+          ∙ ap (λ (x : ℕ). Meet x d) same_one;
+      child = subst (λ (x : ℕ). has_child (Meet x d) j ≡ true) same_one h;
+    }
 
 or_right : (a b : Bool) → a ≡ false → a || b ≡ true → b ≡ true
 or_right false b e h = h
 or_right true b e h = absurd (false≢true (sym e))
 
-pub under_side : (t : Tree) (j k g d : ℕ) (o : Option ℕ) (n : Node) → IsTree t → o ≡ parent t.nodes j → o ≡ Some k → k < length t.nodes → n ≡ node_at t.nodes k → n ≡ Meet g d → (g ≡ j → ⊥) → IsUnder t k (Meet g j) j
+pub under_side : (t : Tree) (j k g d : ℕ) (o : Option ℕ) (n : Node) → IsTree t → o ≡ parent t.nodes j → o ≡ Some k
+    → k < length t.nodes → n ≡ node_at t.nodes k → n ≡ Meet g d → (g ≡ j → ⊥) → IsUnder t k (Meet g j) j
 under_side t j k g d o n s up is within here e apart =
     let at : node_at t.nodes k ≡ Meet g d = sym here ∙ e in
     let h : has_child (Meet g d) j ≡ true = subst (λ (m : Node). has_child m j ≡ true) at (child_at t j k o s up is) in
     let same_one : d ≡ j = eqb-true d j (or_right (g == j) (d == j) (ne_eqb g j apart) h) in
-    record { within = within; node = at ∙ ap (λ (x : ℕ). Meet g x) same_one; child = subst (λ (x : ℕ). has_child (Meet g x) j ≡ true) same_one h }
+    record {
+      within = within;
+      node = at
+          ∙ ap (λ (x : ℕ). Meet g x) same_one;
+      child = subst (λ (x : ℕ). has_child (Meet g x) j ≡ true) same_one h;
+    }
 
 -- the other child of a meet
 pub guard_under : (t : Tree) (k g d j : ℕ) → IsUnder t k (Meet g d) j → IsUnder t k (Meet g d) g
@@ -76,12 +100,29 @@ shared_less b n is h = ltb-false 1 n (sym is ∙ h)
 
 -- each entry of a group, and each marked one, lies at its place
 further : (x : Entry) (es : List Entry) (p : Place) (u : List ℕ) → IsAt es p u → IsAt (x ∷ es) p u
-further x es p u a = record { front = x ∷ a.front; back = a.back; entry = a.entry; is = ap (λ (zs : List Entry). x ∷ zs) a.is; tuple = a.tuple; at = a.at }
+further x es p u a = record {
+  front = x ∷ a.front;
+  back = a.back;
+  entry = a.entry;
+  is = ap (λ (zs : List Entry). x ∷ zs) a.is;
+  tuple = a.tuple;
+  at = a.at;
+}
 
-first_at : (x : Entry) (es zs : List Entry) (xs : List Entry) (e : Entry) (ys : List Entry) → ((fs : List Entry) → zs ≡ fs ++ e ∷ ys → IsAt es e.at e.tuple) → x ∷ zs ≡ xs ++ e ∷ ys → IsAt (x ∷ es) e.at e.tuple
+first_at : (x : Entry) (es zs : List Entry) (xs : List Entry) (e : Entry) (ys : List Entry)
+    → ((fs : List Entry) → zs ≡ fs ++ e ∷ ys → IsAt es e.at e.tuple) → x ∷ zs ≡ xs ++ e ∷ ys
+    → IsAt (x ∷ es) e.at e.tuple
 first_at x es zs [] e ys rest h =
     let first : x ≡ e = cc in
-    record { front = []; back = es; entry = x; is = refl; tuple = ap (λ (d : Entry). d.tuple) first; at = ap (λ (d : Entry). d.at) first }
+    record {
+      front = [];
+      back = es;
+      entry = x;
+      is = refl;
+      tuple = ap (λ (d : Entry). d.tuple) first;
+      at = ap
+          (λ (d : Entry). d.at) first;
+    }
 first_at x es zs (f ∷ fs) e ys rest h = let k : zs ≡ fs ++ e ∷ ys = cc in further x es e.at e.tuple (rest fs k)
 
 no_group : (key : List ℕ) (w : List ℕ) (xs : List Entry) (e : Entry) (ys : List Entry) → grp key [] w ≡ xs ++ e ∷ ys → ⊥
@@ -89,11 +130,13 @@ unfolding grp
 no_group key w [] e ys h = cc
 no_group key w (x ∷ xs) e ys h = cc
 
-pub group_at : (key : List ℕ) (es : List Entry) (w : List ℕ) (xs : List Entry) (e : Entry) (ys : List Entry) → grp key es w ≡ xs ++ e ∷ ys → IsAt es e.at e.tuple
+pub group_at : (key : List ℕ) (es : List Entry) (w : List ℕ) (xs : List Entry) (e : Entry) (ys : List Entry)
+    → grp key es w ≡ xs ++ e ∷ ys → IsAt es e.at e.tuple
 group_at key [] w xs e ys h = absurd (no_group key w xs e ys h)
 group_at key (x ∷ es) w xs e ys h =
     elim (cases_Bool (same (pick key x.tuple) w)) [
-      | inl here ↦ first_at x es (grp key es w) xs e ys (λ fs k. group_at key es w fs e ys k) (sym (grp_yes key x es w here) ∙ h)
+      | inl here ↦ first_at x es (grp key es w) xs e ys (λ fs k. group_at key es w fs e ys k)
+          (sym (grp_yes key x es w here) ∙ h)
       | inr other ↦ further x es e.at e.tuple (group_at key es w xs e ys (sym (grp_no key x es w other) ∙ h))
     ]
 
@@ -102,7 +145,8 @@ unfolding marks
 no_marks [] e ys h = cc
 no_marks (x ∷ xs) e ys h = cc
 
-pub mark_at : (es : List Entry) (xs : List Entry) (e : Entry) (ys : List Entry) → marks es ≡ xs ++ e ∷ ys → IsAt es e.at e.tuple
+pub mark_at : (es : List Entry) (xs : List Entry) (e : Entry) (ys : List Entry) → marks es ≡ xs ++ e ∷ ys
+    → IsAt es e.at e.tuple
 mark_at [] xs e ys h = absurd (no_marks xs e ys h)
 mark_at (x ∷ es) xs e ys h =
     elim (cases_Bool x.marked) [
@@ -111,11 +155,14 @@ mark_at (x ∷ es) xs e ys h =
     ]
 
 -- where a walk along a group stands
-pub cut_of : (g : List Entry) (i : ℕ) (o : Option Place) (p : Place) → o ≡ head_at (drop i g) → o ≡ Some p → WalkCut g i p
+pub cut_of : (g : List Entry) (i : ℕ) (o : Option Place) (p : Place) → o ≡ head_at (drop i g) → o ≡ Some p
+    → WalkCut g i p
 cut_of g i o p next is = walk_cut g i p (sym next ∙ is)
 
-pub cut_at : (ks : List ℕ) (es : List Entry) (w : List ℕ) (i : ℕ) (p : Place) (k : WalkCut (grp ks es w) i p) → IsAt es p k.entry.tuple
-cut_at ks es w i p k = subst (λ (q : Place). IsAt es q k.entry.tuple) k.at (group_at ks es w (take i (grp ks es w)) k.entry (drop (i + 1) (grp ks es w)) k.is)
+pub cut_at : (ks : List ℕ) (es : List Entry) (w : List ℕ) (i : ℕ) (p : Place) (k : WalkCut (grp ks es w) i p)
+    → IsAt es p k.entry.tuple
+cut_at ks es w i p k = subst (λ (q : Place). IsAt es q k.entry.tuple) k.at
+    (group_at ks es w (take i (grp ks es w)) k.entry (drop (i + 1) (grp ks es w)) k.is)
 
 pub as_live : (es : List Entry) (p : Place) (u : List ℕ) → IsAt es p u → IsLive es p
 as_live es p u a = record { tuple = u; is_at = a }
@@ -124,7 +171,8 @@ pub moved_at : (es ds : List Entry) (p : Place) (u : List ℕ) → ds ≡ es →
 moved_at es ds p u e a = subst (λ (fs : List Entry). IsAt fs p u) (sym e) a
 
 -- the group stands still while the meet changes
-pub group_still : (t : Tree) (ts us : List Table) (g : ℕ) (w : List ℕ) → IsFamily t ts → IsFamily t us → entries_at us g ≡ entries_at ts g → grp (key_at us g) (entries_at us g) w ≡ grp (key_at ts g) (entries_at ts g) w
+pub group_still : (t : Tree) (ts us : List Table) (g : ℕ) (w : List ℕ) → IsFamily t ts → IsFamily t us → entries_at us g
+    ≡ entries_at ts g → grp (key_at us g) (entries_at us g) w ≡ grp (key_at ts g) (entries_at ts g) w
 group_still t ts us g w f h e = ap₂ (λ (ks : List ℕ) (es : List Entry). grp ks es w) (same_keys t ts us f h g) e
 
 -- answers of either kind
@@ -141,7 +189,8 @@ err_map (Ok a) P Q f h = tt
 err_map (Err e) P Q f h = f h
 
 -- nothing came
-pub refused_none : (t : Tree) (old new : List Table) (j : ℕ) → IsFamily t old → Changed old new j → entries_at new j ≡ entries_at old j → Refused t old new j
+pub refused_none : (t : Tree) (old new : List Table) (j : ℕ) → IsFamily t old → Changed old new j → entries_at new j
+    ≡ entries_at old j → Refused t old new j
 refused_none t old new j f c e = record {
   family = c.family t f;
   supports = λ i v. ap (λ (es : List Entry). supp es v) (all i);
@@ -149,22 +198,32 @@ refused_none t old new j f c e = record {
 }
   where
     all : (i : ℕ) → entries_at new i ≡ entries_at old i
-    all i = elim (cases_eq i j) [ inl here ↦ subst (λ (x : ℕ). entries_at new x ≡ entries_at old x) (sym here) e | inr apart ↦ c.others i apart ]
+    all i = elim (cases_eq i j) [
+      | inl here ↦ subst (λ (x : ℕ). entries_at new x ≡ entries_at old x) (sym here) e
+      | inr apart ↦ c.others i apart
+    ]
 
-pub plain_none : {m : Bool} (old new : List Table) (j : ℕ) → Changed old new j → entries_at new j ≡ entries_at old j → CameAs m old new
+pub plain_none : {m : Bool} (old new : List Table) (j : ℕ) → Changed old new j → entries_at new j ≡ entries_at old j
+    → CameAs m old new
 plain_none {m} old new j c e = record { same = λ i v. ap (λ (es : List Entry). cnt (unlike m es) v) (all i) }
   where
     all : (i : ℕ) → entries_at new i ≡ entries_at old i
-    all i = elim (cases_eq i j) [ inl here ↦ subst (λ (x : ℕ). entries_at new x ≡ entries_at old x) (sym here) e | inr apart ↦ c.others i apart ]
+    all i = elim (cases_eq i j) [
+      | inl here ↦ subst (λ (x : ℕ). entries_at new x ≡ entries_at old x) (sym here) e
+      | inr apart ↦ c.others i apart
+    ]
 
 -- the first of a group in the whole list
-cons_split : (x : Entry) (es : List Entry) (e : Entry) → (xs : List Entry) × (ys : List Entry) × (es ≡ xs ++ e ∷ ys) → (xs : List Entry) × (ys : List Entry) × (x ∷ es ≡ xs ++ e ∷ ys)
+cons_split : (x : Entry) (es : List Entry) (e : Entry) → (xs : List Entry) × (ys : List Entry) × (es ≡ xs ++ e ∷ ys)
+    → (xs : List Entry) × (ys : List Entry) × (x ∷ es ≡ xs ++ e ∷ ys)
 cons_split x es e s = (x ∷ s.0, s.1, ap (λ (zs : List Entry). x ∷ zs) s.2)
 
-pub group_split : (key : List ℕ) (es : List Entry) (w : List ℕ) (e : Entry) (rest : List Entry) → grp key es w ≡ e ∷ rest → (xs : List Entry) × (ys : List Entry) × (es ≡ xs ++ e ∷ ys)
+pub group_split : (key : List ℕ) (es : List Entry) (w : List ℕ) (e : Entry) (rest : List Entry) → grp key es w
+    ≡ e ∷ rest → (xs : List Entry) × (ys : List Entry) × (es ≡ xs ++ e ∷ ys)
 group_split key [] w e rest h = absurd (no_group key w [] e rest h)
 group_split key (x ∷ es) w e rest h =
     elim (cases_Bool (same (pick key x.tuple) w)) [
-      | inl here ↦ (let both : x ∷ grp key es w ≡ e ∷ rest = sym (grp_yes key x es w here) ∙ h in let first : x ≡ e = cc in ([], es, ap (λ (y : Entry). y ∷ es) first))
+      | inl here ↦ (let both : x ∷ grp key es w ≡ e ∷ rest = sym (grp_yes key x es w here) ∙ h in let first : x
+          ≡ e = cc in ([], es, ap (λ (y : Entry). y ∷ es) first))
       | inr other ↦ cons_split x es e (group_split key es w e rest (sym (grp_no key x es w other) ∙ h))
     ]

@@ -1,5 +1,7 @@
 -- The path from a leaf, and what isn't on it.
-use Rattle.std.proofs.Common.{◌≡◌, ◌≢◌, ℕ, zero, suc, ◌+◌, ◌*◌, ◌<◌, ◌≤◌, Bool, true, false, cond, List, length, refl, ap, ap₂, subst, sym, ◌∙◌, arith, inl, inr, ◌⊎◌, add-one}
+use Rattle.std.proofs.Common.{◌≡◌, ◌≢◌, ℕ, zero, suc, ◌+◌, ◌*◌, ◌<◌, ◌≤◌, Bool, true, false, cond}
+use Rattle.std.proofs.Common.{List, length, refl, ap, ap₂, subst, sym, ◌∙◌, arith, inl, inr, ◌⊎◌}
+use Rattle.std.proofs.Common.{add-one}
 use Rattle.std.proofs.lemmas.Bool.{cases_eq, cases_lt, cases_Bool, false≢true}
 use Rattle.djq_index.specs.Tuple.{one, pick}
 use Rattle.djq_index.specs.Entries.{Entry, supp, cnt, many, marks, unmarked}
@@ -25,7 +27,8 @@ pub on_at : (nodes : List Node) (a k j : ℕ) → j ≡ path_at nodes a k → on
 unfolding on_path
 on_at nodes a k j e = ap (λ (x : ℕ). has_child (node_at nodes k) x) (sym e)
 
-pub path_next : (nodes : List Node) (a k j r : ℕ) → j ≡ path_at nodes a k → r ≡ cond (has_child (node_at nodes k) j) k j → r ≡ path_at nodes a (k + 1)
+pub path_next : (nodes : List Node) (a k j r : ℕ) → j ≡ path_at nodes a k → r ≡ cond (has_child (node_at nodes k) j) k j
+    → r ≡ path_at nodes a (k + 1)
 unfolding path_at
 path_next nodes a k j r e h = rw add-one (h ∙ ap (λ (x : ℕ). cond (has_child (node_at nodes k) x) k x) e)
 
@@ -45,50 +48,65 @@ pub on_within : (t : Tree) (a k : ℕ) → on_path t.nodes a k ≡ true → k < 
 unfolding on_path
 on_within t a k h = child_within t.nodes k (path_at t.nodes a k) h
 
-pub child_on : (t : Tree) (a k i : ℕ) → IsTree t → has_child (node_at t.nodes k) i ≡ true → (i ≡ a) ⊎ (on_path t.nodes a i ≡ true) → path_at t.nodes a k ≡ i
-child_on t a k i s child on = reaches t.nodes a i k (rising_of t s k i child) on (free_below t i k k s child (omega arith))
+pub child_on : (t : Tree) (a k i : ℕ) → IsTree t → has_child (node_at t.nodes k) i ≡ true
+    → (i ≡ a) ⊎ (on_path t.nodes a i ≡ true) → path_at t.nodes a k ≡ i
+child_on t a k i s child on = reaches t.nodes a i k (rising_of t s k i child) on
+    (free_below t i k k s child (omega arith))
 
 -- off the path nothing follows from a leaf's tuples
-off_node : (t : Tree) (ts us : List Table) (a k : ℕ) (n : Node) → IsFamily t ts → IsFamily t us → node_at t.nodes k ≡ n → k < length t.nodes → IsOff t.nodes a k
+off_node : (t : Tree) (ts us : List Table) (a k : ℕ) (n : Node) → IsFamily t ts → IsFamily t us → node_at t.nodes k ≡ n
+    → k < length t.nodes → IsOff t.nodes a k
     → ((j : ℕ) (v : List ℕ) → j < t.leaves → j ≢ a → cnt (entries_at us j) v ≡ cnt (entries_at ts j) v)
-    → IsReductOf n ts k → IsReductOf n us k → ((i : ℕ) → i < k → IsOff t.nodes a i → (v : List ℕ) → cnt (entries_at us i) v ≡ cnt (entries_at ts i) v) → (v : List ℕ) → supp (entries_at us k) v ≡ supp (entries_at ts k) v
+    → IsReductOf n ts k → IsReductOf n us k
+    → ((i : ℕ) → i < k → IsOff t.nodes a i → (v : List ℕ) → cnt (entries_at us i) v ≡ cnt (entries_at ts i) v)
+    → (v : List ℕ) → supp (entries_at us k) v ≡ supp (entries_at ts k) v
 unfolding IsReductOf
-off_node t ts us a k (Leaf b) f g e within off leaves hs hu below v = hu v ∙ leaves k v (f.is_tree.inner k b within e) off.0 ∙ sym (hs v)
+off_node t ts us a k (Leaf b) f g e within off leaves hs hu below v = hu v
+    ∙ leaves k v (f.is_tree.inner k b within e) off.0 ∙ sym (hs v)
 off_node t ts us a k (Trim c) f g e within off leaves hs hu below v =
     let child = trim_child t.nodes k c e in
     hu v ∙ ap (λ (ks : List ℕ). many ks (entries_at us c) v) (same_keys t ts us f g c)
-    ∙ many_even (key_at ts c) (entries_at us c) (entries_at ts c) (below c (rising_of t f.is_tree k c child) (off_below t a k c f.is_tree child off.1)) v ∙ sym (hs v)
+    ∙ many_even (key_at ts c) (entries_at us c) (entries_at ts c)
+    (below c (rising_of t f.is_tree k c child) (off_below t a k c f.is_tree child off.1)) v ∙ sym (hs v)
 off_node t ts us a k (Meet x y) f g e within off leaves hs hu below v =
     let first = guard_child t.nodes k x y e in
     let second = side_child t.nodes k x y e in
     hu v
     ∙ ap₂ (λ (m n : ℕ). m * n) (below x (rising_of t f.is_tree k x first) (off_below t a k x f.is_tree first off.1) v)
-    (ap (λ (ks : List ℕ). cnt (entries_at us y) (pick ks v)) (same_keys t ts us f g x) ∙ below y (rising_of t f.is_tree k y second) (off_below t a k y f.is_tree second off.1) (pick (key_at ts x) v))
+    (ap (λ (ks : List ℕ). cnt (entries_at us y) (pick ks v)) (same_keys t ts us f g x)
+    ∙ below y (rising_of t f.is_tree k y second) (off_below t a k y f.is_tree second off.1) (pick (key_at ts x) v))
     ∙ sym (hs v)
 
-pub off_same : (t : Tree) (ts us : List Table) (a : ℕ) → IsFamily t ts → IsFamily t us → AreReduced t ts 0 → AreReduced t us 0 → ((j : ℕ) (v : List ℕ) → j < t.leaves → j ≢ a → cnt (entries_at us j) v ≡ cnt (entries_at ts j) v)
+pub off_same : (t : Tree) (ts us : List Table) (a : ℕ) → IsFamily t ts → IsFamily t us → AreReduced t ts 0
+    → AreReduced t us 0 →
+    ((j : ℕ) (v : List ℕ) → j < t.leaves → j ≢ a → cnt (entries_at us j) v ≡ cnt (entries_at ts j) v)
     → (n k : ℕ) → k < n → IsOff t.nodes a k → (v : List ℕ) → supp (entries_at us k) v ≡ supp (entries_at ts k) v
 off_same t ts us a f g rs ru leaves zero k less off v = absurd (omega arith)
 off_same t ts us a f g rs ru leaves (suc n) k less off v =
     elim (cases_lt k (length t.nodes)) [
       | inl within ↦
-          off_node t ts us a k (node_at t.nodes k) f g refl within off leaves (rs.at k (omega arith) within) (ru.at k (omega arith) within)
+          off_node t ts us a k (node_at t.nodes k) f g refl within off leaves (rs.at k (omega arith) within)
+          (ru.at k (omega arith) within)
           (λ i low other. tuples_same t ts us f g i (off_same t ts us a f g rs ru leaves n i (omega arith) other)) v
-      | inr past ↦ (let a1 = f.long in let b1 = g.long in ap (λ (es : List Entry). supp es v) (entries_past us k (omega arith) ∙ sym (entries_past ts k (omega arith))))
+      | inr past ↦ (let a1 = f.long in let b1 = g.long in ap (λ (es : List Entry). supp es v)
+          (entries_past us k (omega arith) ∙ sym (entries_past ts k (omega arith))))
     ]
 
 -- a walk along the path
 pub up_none : (t : Tree) (ts : List Table) (a : ℕ) → IsFamily t ts → IsTouchedUp t ts ts a
-up_none t ts a f = record { family = f; supports = λ i v. refl; long = λ i. refl; leaves = λ i h. refl; off = λ i h. refl }
+up_none t ts a f = record
+    { family = f; supports = λ i v. refl; long = λ i. refl; leaves = λ i h. refl; off = λ i h. refl }
 
 up_same : (t : Tree) (old mid new : List Table) (a : ℕ) → IsTouchedUp t old mid a → new ≡ mid → IsTouchedUp t old new a
 up_same t old mid new a x e = subst (λ (ts : List Table). IsTouchedUp t old ts a) (sym e) x
 
-up_touched : (t : Tree) (old mid new : List Table) (a k : ℕ) (f : List ℕ → ℕ) → IsTouchedUp t old mid a → on_path t.nodes a k ≡ true → IsTouched t mid new k f → IsTouchedUp t old new a
+up_touched : (t : Tree) (old mid new : List Table) (a k : ℕ) (f : List ℕ → ℕ) → IsTouchedUp t old mid a
+    → on_path t.nodes a k ≡ true → IsTouched t mid new k f → IsTouchedUp t old new a
 up_touched t old mid new a k f x on y = record {
   family = y.family;
   supports = λ i v. elim (cases_eq i k) [
-    | inl here ↦ subst (λ (z : ℕ). supp (entries_at new z) v ≡ supp (entries_at old z) v) (sym here) (y.supports v ∙ x.supports k v)
+    | inl here ↦ subst (λ (z : ℕ). supp (entries_at new z) v ≡ supp (entries_at old z) v) (sym here)
+        (y.supports v ∙ x.supports k v)
     | inr apart ↦ ap (λ (es : List Entry). supp es v) (y.others i apart) ∙ x.supports i v
   ];
   long = λ i. elim (cases_eq i k) [
@@ -96,12 +114,16 @@ up_touched t old mid new a k f x on y = record {
     | inr apart ↦ ap (λ (es : List Entry). length es) (y.others i apart) ∙ x.long i
   ];
   leaves = λ i low. let high = on_high t a k x.family.is_tree on in y.others i (omega arith) ∙ x.leaves i low;
-  off = λ i h. y.others i (λ (e : i ≡ k). absurd (false≢true (sym h.1 ∙ ap (λ (z : ℕ). on_path t.nodes a z) e ∙ on))) ∙ x.off i h;
+  off = λ i h. y.others i (λ (e : i ≡ k). absurd (false≢true (sym h.1 ∙ ap (λ (z : ℕ). on_path t.nodes a z) e ∙ on)))
+      ∙ x.off i h;
 }
 
-pub up_more : (t : Tree) (old mid new : List Table) (a k j second : ℕ) (removal : Bool) (f h : List ℕ → ℕ) → IsTouchedUp t old mid a → j ≡ path_at t.nodes a k
-    → (has_child (node_at t.nodes k) j ≡ true → second ≤ k → IsTouched t mid new k f) → (has_child (node_at t.nodes k) j ≡ true → k < second → removal ≡ true → IsTouched t mid new k h)
-    → (k < second → removal ≡ false → new ≡ mid) → (has_child (node_at t.nodes k) j ≡ false → new ≡ mid) → IsTouchedUp t old new a
+pub up_more : (t : Tree) (old mid new : List Table) (a k j second : ℕ) (removal : Bool) (f h : List ℕ → ℕ)
+    → IsTouchedUp t old mid a → j ≡ path_at t.nodes a k
+    → (has_child (node_at t.nodes k) j ≡ true → second ≤ k → IsTouched t mid new k f)
+    → (has_child (node_at t.nodes k) j ≡ true → k < second → removal ≡ true → IsTouched t mid new k h)
+    → (k < second → removal ≡ false → new ≡ mid) → (has_child (node_at t.nodes k) j ≡ false → new ≡ mid)
+    → IsTouchedUp t old new a
 up_more t old mid new a k j second removal f h x at above below idle apart =
     elim (cases_Bool (has_child (node_at t.nodes k) j)) [
       | inl child ↦ (
@@ -121,12 +143,14 @@ pub steps_none : (nodes : List Node) (a : ℕ) → steps nodes a 0 ≡ 0
 unfolding steps
 steps_none nodes a = refl
 
-pub steps_more : (nodes : List Node) (a k j : ℕ) → j ≡ path_at nodes a k → steps nodes a (k + 1) ≡ steps nodes a k + one (has_child (node_at nodes k) j)
+pub steps_more : (nodes : List Node) (a k j : ℕ) → j ≡ path_at nodes a k → steps nodes a (k + 1)
+    ≡ steps nodes a k + one (has_child (node_at nodes k) j)
 unfolding steps
 steps_more nodes a k j e = rw add-one (ap (λ (b : Bool). steps nodes a k + one b) (on_at nodes a k j e))
 
 pub steps_count : (x y z m c d e : ℕ) → x ≡ y + z → c ≤ d + y * m → e ≤ c + z * m → e ≤ d + x * m
-steps_count x y z m c d e h k l = let s : x * m ≡ (y + z) * m = ap (λ (n : ℕ). n * m) h in let r = spread y z m in omega arith
+steps_count x y z m c d e h k l = let s : x * m
+    ≡ (y + z) * m = ap (λ (n : ℕ). n * m) h in let r = spread y z m in omega arith
   where
     spread : (p q r : ℕ) → (p + q) * r ≡ p * r + q * r
     spread p q r = omega arith
@@ -136,15 +160,18 @@ unfolding cnt
 no_marks es v = ap (λ (xs : List Entry). cnt xs v) (unmarked_marks es)
 
 -- marks are cleared
-pub cleared_leaf : (t : Tree) (old new : List Table) (a : ℕ) → IsFamily t old → Changed old new a → entries_at new a ≡ unmarked (entries_at old a) → HasCleared t old new a 0
+pub cleared_leaf : (t : Tree) (old new : List Table) (a : ℕ) → IsFamily t old → Changed old new a → entries_at new a
+    ≡ unmarked (entries_at old a) → HasCleared t old new a 0
 cleared_leaf t old new a f c e = record {
   family = c.family t f;
   supports = λ i v. elim (cases_eq i a) [
-    | inl here ↦ subst (λ (z : ℕ). supp (entries_at new z) v ≡ supp (entries_at old z) v) (sym here) (ap (λ (es : List Entry). supp es v) e ∙ unmarked_supp (entries_at old a) v)
+    | inl here ↦ subst (λ (z : ℕ). supp (entries_at new z) v ≡ supp (entries_at old z) v) (sym here)
+        (ap (λ (es : List Entry). supp es v) e ∙ unmarked_supp (entries_at old a) v)
     | inr apart ↦ ap (λ (es : List Entry). supp es v) (c.others i apart)
   ];
   long = λ i. elim (cases_eq i a) [
-    | inl here ↦ subst (λ (z : ℕ). length (entries_at new z) ≡ length (entries_at old z)) (sym here) (ap (λ (es : List Entry). length es) e ∙ length_unmarked (entries_at old a))
+    | inl here ↦ subst (λ (z : ℕ). length (entries_at new z) ≡ length (entries_at old z)) (sym here)
+        (ap (λ (es : List Entry). length es) e ∙ length_unmarked (entries_at old a))
     | inr apart ↦ ap (λ (es : List Entry). length es) (c.others i apart)
   ];
   off = λ i h. c.others i h.0;
@@ -152,8 +179,10 @@ cleared_leaf t old new a f c e = record {
   path = λ i low on v. absurd (omega arith);
 }
 
-pub cleared_more : (t : Tree) (old mid new : List Table) (a k j : ℕ) → a < t.leaves → HasCleared t old mid a k → j ≡ path_at t.nodes a k → (has_child (node_at t.nodes k) j ≡ true → entries_at new k ≡ unmarked (entries_at mid k))
-    → (has_child (node_at t.nodes k) j ≡ true → Changed mid new k) → (has_child (node_at t.nodes k) j ≡ false → new ≡ mid) → HasCleared t old new a (k + 1)
+pub cleared_more : (t : Tree) (old mid new : List Table) (a k j : ℕ) → a < t.leaves → HasCleared t old mid a k → j
+    ≡ path_at t.nodes a k → (has_child (node_at t.nodes k) j ≡ true → entries_at new k ≡ unmarked (entries_at mid k))
+    → (has_child (node_at t.nodes k) j ≡ true → Changed mid new k)
+    → (has_child (node_at t.nodes k) j ≡ false → new ≡ mid) → HasCleared t old new a (k + 1)
 cleared_more t old mid new a k j leaf x at clear change apart =
     elim (cases_Bool (has_child (node_at t.nodes k) j)) [
       | inl child ↦ (
@@ -164,18 +193,23 @@ cleared_more t old mid new a k j leaf x at clear change apart =
           record {
             family = c.family t x.family;
             supports = λ i v. elim (cases_eq i k) [
-              | inl here ↦ subst (λ (z : ℕ). supp (entries_at new z) v ≡ supp (entries_at old z) v) (sym here) (ap (λ (es : List Entry). supp es v) e ∙ unmarked_supp (entries_at mid k) v ∙ x.supports k v)
+              | inl here ↦ subst (λ (z : ℕ). supp (entries_at new z) v ≡ supp (entries_at old z) v) (sym here)
+                  (ap (λ (es : List Entry). supp es v) e ∙ unmarked_supp (entries_at mid k) v ∙ x.supports k v)
               | inr other ↦ ap (λ (es : List Entry). supp es v) (c.others i other) ∙ x.supports i v
             ];
             long = λ i. elim (cases_eq i k) [
-              | inl here ↦ subst (λ (z : ℕ). length (entries_at new z) ≡ length (entries_at old z)) (sym here) (ap (λ (es : List Entry). length es) e ∙ length_unmarked (entries_at mid k) ∙ x.long k)
+              | inl here ↦ subst (λ (z : ℕ). length (entries_at new z) ≡ length (entries_at old z)) (sym here)
+                  (ap (λ (es : List Entry). length es) e ∙ length_unmarked (entries_at mid k) ∙ x.long k)
               | inr other ↦ ap (λ (es : List Entry). length es) (c.others i other) ∙ x.long i
             ];
-            off = λ i h. c.others i (λ (z : i ≡ k). absurd (false≢true (sym h.1 ∙ ap (λ (y : ℕ). on_path t.nodes a y) z ∙ on))) ∙ x.off i h;
+            off = λ i h. c.others i
+                (λ (z : i ≡ k). absurd (false≢true (sym h.1 ∙ ap (λ (y : ℕ). on_path t.nodes a y) z ∙ on))) ∙ x.off i h;
             leaf = λ v. ap (λ (es : List Entry). cnt (marks es) v) (c.others a (omega arith)) ∙ x.leaf v;
             path = λ i low on_i v. elim (cases_eq i k) [
-              | inl here ↦ subst (λ (z : ℕ). cnt (marks (entries_at new z)) v ≡ 0) (sym here) (ap (λ (es : List Entry). cnt (marks es) v) e ∙ no_marks (entries_at mid k) v)
-              | inr other ↦ ap (λ (es : List Entry). cnt (marks es) v) (c.others i other) ∙ x.path i (omega arith) on_i v
+              | inl here ↦ subst (λ (z : ℕ). cnt (marks (entries_at new z)) v ≡ 0) (sym here)
+                  (ap (λ (es : List Entry). cnt (marks es) v) e ∙ no_marks (entries_at mid k) v)
+              | inr other ↦ ap (λ (es : List Entry). cnt (marks es) v) (c.others i other)
+                  ∙ x.path i (omega arith) on_i v
             ];
           })
       | inr none ↦ (

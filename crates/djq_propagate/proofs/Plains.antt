@@ -1,5 +1,6 @@
 -- Marks while tuples come and go.
-use Rattle.std.proofs.Common.{◌≡◌, ℕ, ◌+◌, ◌≤◌, Bool, true, false, List, [], ◌∷◌, ◌++◌, refl, ap, subst, sym, ◌∙◌, arith, inl, inr}
+use Rattle.std.proofs.Common.{◌≡◌, ℕ, ◌+◌, ◌≤◌, Bool, true, false, List, [], ◌∷◌, ◌++◌, refl, ap}
+use Rattle.std.proofs.Common.{subst, sym, ◌∙◌, arith, inl, inr}
 use Rattle.std.proofs.lemmas.Bool.{cases_eq, cases_Bool, false≢true}
 use Rattle.djq_index.specs.Tuple.{same, one}
 use Rattle.djq_index.specs.Entries.{Entry, supp, cnt, marks, plain}
@@ -26,99 +27,164 @@ pub fewer_refl : (ts : List Table) → Fewer ts ts
 fewer_refl ts = record { unmarked = λ i v. omega arith; marked = λ i v. omega arith }
 
 pub fewer_trans : (ts us xs : List Table) → Fewer ts us → Fewer us xs → Fewer ts xs
-fewer_trans ts us xs a b = record { unmarked = λ i v. omega (arith, a.unmarked i v, b.unmarked i v); marked = λ i v. omega (arith, a.marked i v, b.marked i v) }
+fewer_trans ts us xs a b = record {
+  unmarked = λ i v. omega (arith, a.unmarked i v, b.unmarked i v);
+  marked = λ i v. omega
+      (arith, a.marked i v, b.marked i v);
+}
 
 -- at each node: what holds at k, and what holds of all that stay
-each : (P : List Entry → List Entry → Type 0) (old new : List Table) (k : ℕ) → Changed old new k → P (entries_at old k) (entries_at new k) → ((es : List Entry) → P es es) → (i : ℕ) → P (entries_at old i) (entries_at new i)
+each : (P : List Entry → List Entry → Type 0) (old new : List Table) (k : ℕ) → Changed old new k
+    → P (entries_at old k) (entries_at new k) → ((es : List Entry) → P es es) → (i : ℕ)
+    → P (entries_at old i) (entries_at new i)
 each P old new k c here stay i =
     elim (cases_eq i k) [
       | inl e ↦ subst (λ (j : ℕ). P (entries_at old j) (entries_at new j)) (sym e) here
-      | inr apart ↦ subst (λ (es : List Entry). P (entries_at old i) es) (sym (c.others i apart)) (stay (entries_at old i))
+      | inr apart ↦ subst (λ (es : List Entry). P (entries_at old i) es) (sym (c.others i apart))
+          (stay (entries_at old i))
     ]
 
-inserted_unlike : (m : Bool) (key : List ℕ) (old new : List Entry) (u : List ℕ) → InsertedAs m key old new u → unlike m new ≡ unlike m old
+inserted_unlike : (m : Bool) (key : List ℕ) (old new : List Entry) (u : List ℕ) → InsertedAs m key old new u
+    → unlike m new ≡ unlike m old
 inserted_unlike true key old new u i = inserted_plain key old new u i
-inserted_unlike false key old new u i = ap marks i.is ∙ marks_middle i.front i.entry i.back i.marked ∙ sym (ap marks i.was)
+inserted_unlike false key old new u i = ap marks i.is ∙ marks_middle i.front i.entry i.back i.marked
+    ∙ sym (ap marks i.was)
 
-pub inserted_same : {m : Bool} (old new : List Table) (k : ℕ) (u : List ℕ) → Changed old new k → InsertedAs m (key_at old k) (entries_at old k) (entries_at new k) u → CameAs m old new
+pub inserted_same : {m : Bool} (old new : List Table) (k : ℕ) (u : List ℕ) → Changed old new k
+    → InsertedAs m (key_at old k) (entries_at old k) (entries_at new k) u → CameAs m old new
 inserted_same {m} old new k u c i = record {
   same = each (λ ds es. (v : List ℕ) → cnt (unlike m es) v ≡ cnt (unlike m ds) v) old new k c
-      (λ v. ap (λ (es : List Entry). cnt es v) (inserted_unlike m (key_at old k) (entries_at old k) (entries_at new k) u i)) (λ es v. refl);
+      (λ v. ap (λ (es : List Entry). cnt es v)
+      (inserted_unlike m (key_at old k) (entries_at old k) (entries_at new k) u i)) (λ es v. refl);
 }
 
 -- more supports or fewer
-plain_alike : (xs : List Entry) (d e : Entry) (ys : List Entry) (v : List ℕ) → d.tuple ≡ e.tuple → d.marked ≡ e.marked → cnt (plain (xs ++ e ∷ ys)) v ≡ cnt (plain (xs ++ d ∷ ys)) v
+plain_alike : (xs : List Entry) (d e : Entry) (ys : List Entry) (v : List ℕ) → d.tuple ≡ e.tuple → d.marked ≡ e.marked
+    → cnt (plain (xs ++ e ∷ ys)) v ≡ cnt (plain (xs ++ d ∷ ys)) v
 plain_alike xs d e ys v t m =
     elim (cases_Bool d.marked) [
-      | inl marked ↦ ap (λ (es : List Entry). cnt es v) (plain_middle xs e ys (sym m ∙ marked) ∙ sym (plain_middle xs d ys marked))
+      | inl marked ↦ ap (λ (es : List Entry). cnt es v)
+          (plain_middle xs e ys (sym m ∙ marked) ∙ sym (plain_middle xs d ys marked))
       | inr other ↦
-          ap (λ (es : List Entry). cnt es v) (plain-append xs (e ∷ ys) ∙ ap (λ (es : List Entry). plain xs ++ es) (plain_no e ys (sym m ∙ other)))
+          ap (λ (es : List Entry). cnt es v)
+          (plain-append xs (e ∷ ys) ∙ ap (λ (es : List Entry). plain xs ++ es) (plain_no e ys (sym m ∙ other)))
           ∙ cnt_middle (plain xs) e (plain ys) v
           ∙ ap (λ (w : List ℕ). one (same w v) + cnt (plain xs ++ plain ys) v) (sym t)
-          ∙ sym (ap (λ (es : List Entry). cnt es v) (plain-append xs (d ∷ ys) ∙ ap (λ (es : List Entry). plain xs ++ es) (plain_no d ys other)) ∙ cnt_middle (plain xs) d (plain ys) v)
+          ∙ sym (ap (λ (es : List Entry). cnt es v)
+          (plain-append xs (d ∷ ys) ∙ ap (λ (es : List Entry). plain xs ++ es) (plain_no d ys other))
+          ∙ cnt_middle (plain xs) d (plain ys) v)
     ]
 
-pub supported_plain : (old new : List Entry) (u : List ℕ) (from to : ℕ) → Supported old new u from to → (v : List ℕ) → cnt (plain new) v ≡ cnt (plain old) v
+pub supported_plain : (old new : List Entry) (u : List ℕ) (from to : ℕ) → Supported old new u from to → (v : List ℕ)
+    → cnt (plain new) v ≡ cnt (plain old) v
 supported_plain old new u from to s v =
-    ap (λ (es : List Entry). cnt (plain es) v) s.is ∙ plain_alike s.front s.before s.after s.back v (s.tuple ∙ sym s.same_tuple) (sym s.same_mark) ∙ ap (λ (es : List Entry). cnt (plain es) v) (sym s.was)
+    ap (λ (es : List Entry). cnt (plain es) v) s.is
+    ∙ plain_alike s.front s.before s.after s.back v (s.tuple ∙ sym s.same_tuple) (sym s.same_mark)
+    ∙ ap (λ (es : List Entry). cnt (plain es) v) (sym s.was)
 
-pub supported_marks : (old new : List Entry) (u : List ℕ) (from to : ℕ) → Supported old new u from to → (v : List ℕ) → cnt (marks new) v ≡ cnt (marks old) v
+pub supported_marks : (old new : List Entry) (u : List ℕ) (from to : ℕ) → Supported old new u from to → (v : List ℕ)
+    → cnt (marks new) v ≡ cnt (marks old) v
 supported_marks old new u from to s v =
-    omega (arith, supported_plain old new u from to s v, supported_cnt old new u from to s v, cnt_split old v, cnt_split new v)
+    omega (
+      arith,
+      supported_plain old new u from to s v,
+      supported_cnt old new u from to s v,
+      cnt_split old v,
+      cnt_split
+          new v,
+    )
 
-supported_unlike : (m : Bool) (old new : List Entry) (u : List ℕ) (from to : ℕ) → Supported old new u from to → (v : List ℕ) → cnt (unlike m new) v ≡ cnt (unlike m old) v
+supported_unlike : (m : Bool) (old new : List Entry) (u : List ℕ) (from to : ℕ) → Supported old new u from to
+    → (v : List ℕ) → cnt (unlike m new) v ≡ cnt (unlike m old) v
 supported_unlike true old new u from to s v = supported_plain old new u from to s v
 supported_unlike false old new u from to s v = supported_marks old new u from to s v
 
-pub raised_same : {m : Bool} (old new : List Table) (k : ℕ) (u : List ℕ) (from to : ℕ) → Changed old new k → Supported (entries_at old k) (entries_at new k) u from to → CameAs m old new
+pub raised_same : {m : Bool} (old new : List Table) (k : ℕ) (u : List ℕ) (from to : ℕ) → Changed old new k
+    → Supported (entries_at old k) (entries_at new k) u from to → CameAs m old new
 raised_same {m} old new k u from to c s = record {
-  same = each (λ ds es. (v : List ℕ) → cnt (unlike m es) v ≡ cnt (unlike m ds) v) old new k c (supported_unlike m (entries_at old k) (entries_at new k) u from to s) (λ es v. refl);
+  same = each (λ ds es. (v : List ℕ) → cnt (unlike m es) v ≡ cnt (unlike m ds) v) old new k c
+      (supported_unlike m (entries_at old k) (entries_at new k) u from to s) (λ es v. refl);
 }
 
-pub lowered_fewer : (old new : List Table) (k : ℕ) (u : List ℕ) (from to : ℕ) → Changed old new k → Supported (entries_at old k) (entries_at new k) u from to → Fewer old new
+pub lowered_fewer : (old new : List Table) (k : ℕ) (u : List ℕ) (from to : ℕ) → Changed old new k
+    → Supported (entries_at old k) (entries_at new k) u from to → Fewer old new
 lowered_fewer old new k u from to c s = record {
-  unmarked = each (λ ds es. (v : List ℕ) → cnt (plain es) v ≤ cnt (plain ds) v) old new k c (λ v. omega (arith, supported_plain (entries_at old k) (entries_at new k) u from to s v)) (λ es v. omega arith);
-  marked = each (λ ds es. (v : List ℕ) → cnt (marks es) v ≤ cnt (marks ds) v) old new k c (λ v. omega (arith, supported_marks (entries_at old k) (entries_at new k) u from to s v)) (λ es v. omega arith);
+  unmarked = each (λ ds es. (v : List ℕ) → cnt (plain es) v ≤ cnt (plain ds) v) old new k c
+      (λ v. omega (arith, supported_plain (entries_at old k) (entries_at new k) u from to s v)) (λ es v. omega arith);
+  marked = each (λ ds es. (v : List ℕ) → cnt (marks es) v ≤ cnt (marks ds) v) old new k c
+      (λ v. omega (arith, supported_marks (entries_at old k) (entries_at new k) u from to s v)) (λ es v. omega arith);
 }
 
-plain_less : (xs : List Entry) (e : Entry) (ys : List Entry) (v : List ℕ) → cnt (plain (xs ++ ys)) v ≤ cnt (plain (xs ++ e ∷ ys)) v
+plain_less : (xs : List Entry) (e : Entry) (ys : List Entry) (v : List ℕ)
+    → cnt (plain (xs ++ ys)) v ≤ cnt (plain (xs ++ e ∷ ys)) v
 plain_less xs e ys v =
     elim (cases_Bool e.marked) [
       | inl marked ↦ rw (plain_middle xs e ys marked) (omega arith)
-      | inr other ↦ rw (plain-append, plain-append, plain_no e ys other) (omega (arith, cnt_middle (plain xs) e (plain ys) v))
+      | inr other ↦ rw (plain-append, plain-append, plain_no e ys other)
+          (omega (arith, cnt_middle (plain xs) e (plain ys) v))
     ]
 
-marks_less : (xs : List Entry) (e : Entry) (ys : List Entry) (v : List ℕ) → cnt (marks (xs ++ ys)) v ≤ cnt (marks (xs ++ e ∷ ys)) v
+marks_less : (xs : List Entry) (e : Entry) (ys : List Entry) (v : List ℕ)
+    → cnt (marks (xs ++ ys)) v ≤ cnt (marks (xs ++ e ∷ ys)) v
 marks_less xs e ys v =
     elim (cases_Bool e.marked) [
-      | inl marked ↦ rw (marks-append, marks-append, marks_yes e ys marked) (omega (arith, cnt_middle (marks xs) e (marks ys) v))
+      | inl marked ↦ rw (marks-append, marks-append, marks_yes e ys marked)
+          (omega (arith, cnt_middle (marks xs) e (marks ys) v))
       | inr other ↦ rw (marks_middle xs e ys other) (omega arith)
     ]
 
-pub removed_plain : (old new : List Entry) (u : List ℕ) → Removed old new u → (v : List ℕ) → cnt (plain new) v ≤ cnt (plain old) v
+pub removed_plain : (old new : List Entry) (u : List ℕ) → Removed old new u → (v : List ℕ)
+    → cnt (plain new) v ≤ cnt (plain old) v
 removed_plain old new u r v = rw (r.was, r.is) (plain_less r.front r.entry r.back v)
 
-pub removed_marks : (old new : List Entry) (u : List ℕ) → Removed old new u → (v : List ℕ) → cnt (marks new) v ≤ cnt (marks old) v
+pub removed_marks : (old new : List Entry) (u : List ℕ) → Removed old new u → (v : List ℕ)
+    → cnt (marks new) v ≤ cnt (marks old) v
 removed_marks old new u r v = rw (r.was, r.is) (marks_less r.front r.entry r.back v)
 
-pub removed_fewer : (old new : List Table) (k : ℕ) (u : List ℕ) → Changed old new k → Removed (entries_at old k) (entries_at new k) u → Fewer old new
+pub removed_fewer : (old new : List Table) (k : ℕ) (u : List ℕ) → Changed old new k
+    → Removed (entries_at old k) (entries_at new k) u → Fewer old new
 removed_fewer old new k u c r = record {
-  unmarked = each (λ ds es. (v : List ℕ) → cnt (plain es) v ≤ cnt (plain ds) v) old new k c (removed_plain (entries_at old k) (entries_at new k) u r) (λ es v. omega arith);
-  marked = each (λ ds es. (v : List ℕ) → cnt (marks es) v ≤ cnt (marks ds) v) old new k c (removed_marks (entries_at old k) (entries_at new k) u r) (λ es v. omega arith);
+  unmarked = each (λ ds es. (v : List ℕ) → cnt (plain es) v ≤ cnt (plain ds) v) old new k c
+      (removed_plain (entries_at old k) (entries_at new k) u r) (λ es v. omega arith);
+  marked = each (λ ds es. (v : List ℕ) → cnt (marks es) v ≤ cnt (marks ds) v) old new k c
+      (removed_marks (entries_at old k) (entries_at new k) u r) (λ es v. omega arith);
 }
 
 -- what came in between is gone again, so the marks are the same
-back_as : (m : Bool) (t : Tree) (ts us xs : List Table) → IsFamily t ts → IsFamily t us → IsFamily t xs → CameAs m ts us → Fewer us xs → ((i : ℕ) (v : List ℕ) → supp (entries_at xs i) v ≡ supp (entries_at ts i) v) → CameAs m ts xs
+back_as : (m : Bool) (t : Tree) (ts us xs : List Table) → IsFamily t ts → IsFamily t us → IsFamily t xs → CameAs m ts us
+    → Fewer us xs → ((i : ℕ) (v : List ℕ) → supp (entries_at xs i) v ≡ supp (entries_at ts i) v) → CameAs m ts xs
 back_as true t ts us xs f g h a b s = record {
   same = λ i v.
-      omega (arith, a.same i v, b.unmarked i v, b.marked i v, tuples_same t ts xs f h i (s i) v, once t us g i v, cnt_split (entries_at ts i) v, cnt_split (entries_at us i) v, cnt_split (entries_at xs i) v);
+      omega (
+        arith,
+        a.same i v,
+        b.unmarked i v,
+        b.marked i v,
+        tuples_same t ts xs f h i (s i) v,
+        once t us g i v,
+        cnt_split (entries_at ts i) v,
+        cnt_split (entries_at us i) v,
+        cnt_split (entries_at xs i) v,
+      );
 }
 back_as false t ts us xs f g h a b s = record {
   same = λ i v.
-      omega (arith, a.same i v, b.unmarked i v, b.marked i v, tuples_same t ts xs f h i (s i) v, once t us g i v, cnt_split (entries_at ts i) v, cnt_split (entries_at us i) v, cnt_split (entries_at xs i) v);
+      omega (
+        arith,
+        a.same i v,
+        b.unmarked i v,
+        b.marked i v,
+        tuples_same t ts xs f h i (s i) v,
+        once t us g i v,
+        cnt_split (entries_at ts i) v,
+        cnt_split (entries_at us i) v,
+        cnt_split (entries_at xs i) v,
+      );
 }
 
-pub back_same : {m : Bool} (t : Tree) (ts us xs : List Table) → IsFamily t ts → IsFamily t us → IsFamily t xs → CameAs m ts us → Fewer us xs → ((i : ℕ) (v : List ℕ) → supp (entries_at xs i) v ≡ supp (entries_at ts i) v) → CameAs m ts xs
+pub back_same : {m : Bool} (t : Tree) (ts us xs : List Table) → IsFamily t ts → IsFamily t us → IsFamily t xs
+    → CameAs m ts us → Fewer us xs → ((i : ℕ) (v : List ℕ) → supp (entries_at xs i) v ≡ supp (entries_at ts i) v)
+    → CameAs m ts xs
 back_same {m} t ts us xs f g h a b s = back_as m t ts us xs f g h a b s
 
 -- where nothing is marked, and what comes is not, nothing is
@@ -129,7 +195,8 @@ no_entries (e ∷ es) h = absurd (omega (arith, h e.tuple, cnt_cons e es e.tuple
 pub bare_at : (ts : List Table) (k : ℕ) → IsBare ts → marks (entries_at ts k) ≡ []
 bare_at ts k b = no_entries (marks (entries_at ts k)) (b.none k)
 
-pub still_bare : (m : Bool) (old new : List Table) → CameAs m old new → (m ≡ false → IsBare old) → m ≡ false → IsBare new
+pub still_bare : (m : Bool) (old new : List Table) → CameAs m old new → (m ≡ false → IsBare old) → m ≡ false
+    → IsBare new
 still_bare true old new c h e = absurd (false≢true (sym e))
 still_bare false old new c h e = record { none = λ i v. c.same i v ∙ (h refl).none i v }
 

@@ -1,5 +1,7 @@
 -- A group of a guard's tuples comes to its meet, or goes from it, one tuple after another.
-use Rattle.std.proofs.Common.{◌≡◌, ℕ, zero, suc, ◌+◌, ◌*◌, ◌<◌, ◌≤◌, Bool, true, false, cond, List, [], ◌∷◌, ◌++◌, length, take, drop, None, refl, ap, ◌∙◌, arith, inl, inr}
+use Rattle.std.proofs.Common.{◌≡◌, ℕ, zero, suc, ◌+◌, ◌*◌, ◌<◌, ◌≤◌, Bool, true, false, cond, List}
+use Rattle.std.proofs.Common.{[], ◌∷◌, ◌++◌, length, take, drop, None, refl, ap, ◌∙◌, arith, inl}
+use Rattle.std.proofs.Common.{inr}
 use Rattle.std.proofs.lemmas.Bool.{cases_lt}
 use Rattle.std.proofs.lemmas.List.{take-append-drop}
 use Rattle.std.proofs.Math.ListN.{drop_of_length-le}
@@ -20,20 +22,25 @@ use Rattle.djq_propagate.proofs.Families.{apart_of, below_up}
 pub group_once : (ks : List ℕ) (es : List Entry) (w v : List ℕ) → AreApart es → cnt (grp ks es w) v ≤ 1
 group_once ks es w v h =
     elim (same_cases (pick ks v) w) [
-      | inl here ↦ (let e = one_true (same (pick ks v) w) (is_same (pick ks v) w here) in rw (cnt_grp ks es w v, e) (omega (arith, cnt_once es v h)))
+      | inl here ↦ (let e = one_true (same (pick ks v) w) (is_same (pick ks v) w here) in rw (cnt_grp ks es w v, e)
+          (omega (arith, cnt_once es v h)))
       | inr other ↦ (let e = one_other (pick ks v) w other in rw (cnt_grp ks es w v, e) (omega arith))
     ]
 
-pub group_has : (ks : List ℕ) (es : List Entry) (w v : List ℕ) → 0 < cnt (grp ks es w) v → (0 < cnt es v) × (pick ks v ≡ w)
+pub group_has : (ks : List ℕ) (es : List Entry) (w v : List ℕ) → 0 < cnt (grp ks es w) v → (0 < cnt es v)
+    × (pick ks v ≡ w)
 group_has ks es w v h =
     elim (same_cases (pick ks v) w) [
-      | inl here ↦ (let e = one_true (same (pick ks v) w) (is_same (pick ks v) w here) in let k : cnt (grp ks es w) v ≡ cnt es v * 1 = rw (← e) (cnt_grp ks es w v) in (omega arith, here))
-      | inr other ↦ (let e = one_other (pick ks v) w other in let k : cnt (grp ks es w) v ≡ cnt es v * 0 = rw (← e) (cnt_grp ks es w v) in absurd (omega arith))
+      | inl here ↦ (let e = one_true (same (pick ks v) w) (is_same (pick ks v) w here) in let k : cnt (grp ks es w) v
+          ≡ cnt es v * 1 = rw (← e) (cnt_grp ks es w v) in (omega arith, here))
+      | inr other ↦ (let e = one_other (pick ks v) w other in let k : cnt (grp ks es w) v
+          ≡ cnt es v * 0 = rw (← e) (cnt_grp ks es w v) in absurd (omega arith))
     ]
 
 -- first parts of a list
 pub take_le : (g : List Entry) (i : ℕ) (v : List ℕ) → cnt (take i g) v ≤ cnt g v
-take_le g i v = omega (arith, cnt-append (take i g) (drop i g) v, ap (λ (es : List Entry). cnt es v) (take-append-drop i g))
+take_le g i v = omega
+    (arith, cnt-append (take i g) (drop i g) v, ap (λ (es : List Entry). cnt es v) (take-append-drop i g))
 
 pub take_all : (g : List Entry) (i : ℕ) (v : List ℕ) → drop i g ≡ [] → cnt (take i g) v ≡ cnt g v
 unfolding cnt
@@ -49,7 +56,8 @@ pub take_grows : (g : List Entry) (i n : ℕ) (v : List ℕ) → i ≤ n → cnt
 take_grows [] i n v h = omega (arith, take_le [] i v, nothing v)
 take_grows (e ∷ g) zero n v h = omega (arith, nothing v)
 take_grows (e ∷ g) (suc i) zero v h = absurd (omega arith)
-take_grows (e ∷ g) (suc i) (suc n) v h = omega (arith, cnt_cons e (take i g) v, cnt_cons e (take n g) v, take_grows g i n v (omega arith))
+take_grows (e ∷ g) (suc i) (suc n) v h = omega
+    (arith, cnt_cons e (take i g) v, cnt_cons e (take n g) v, take_grows g i n v (omega arith))
 
 pub head_none : (es : List Entry) → head_at es ≡ None → es ≡ []
 unfolding head_at
@@ -60,13 +68,29 @@ pub drop_group : (ks : List ℕ) (es : List Entry) (w : List ℕ) (n : ℕ) → 
 drop_group ks es w n h = drop_of_length-le (grp ks es w) (omega (arith, length_grp ks es w, many_length ks es w))
 
 -- the next one of the list
-pub cut_cnt : (g : List Entry) (i : ℕ) (e : Entry) (v : List ℕ) → g ≡ take i g ++ e ∷ drop (i + 1) g → (cnt g v ≡ cnt (take i g) v + one (same e.tuple v) + cnt (drop (i + 1) g) v) × (cnt (take (i + 1) g) v ≡ cnt (take i g) v + one (same e.tuple v))
+pub cut_cnt : (g : List Entry) (i : ℕ) (e : Entry) (v : List ℕ) → g ≡ take i g ++ e ∷ drop (i + 1) g
+    → (cnt g v ≡ cnt (take i g) v + one (same e.tuple v) + cnt (drop (i + 1) g) v)
+    × (cnt (take (i + 1) g) v ≡ cnt (take i g) v + one (same e.tuple v))
 cut_cnt g i e v h =
-    let whole : cnt g v ≡ cnt (take i g) v + one (same e.tuple v) + cnt (drop (i + 1) g) v = omega (arith, ap (λ (es : List Entry). cnt es v) h, cnt-append (take i g) (e ∷ drop (i + 1) g) v, cnt_cons e (drop (i + 1) g) v) in
-    (whole, omega (arith, ap (λ (es : List Entry). cnt es v) (take-append-drop (i + 1) g), cnt-append (take (i + 1) g) (drop (i + 1) g) v))
+    let whole : cnt g v ≡ cnt (take i g) v + one (same e.tuple v) + cnt (drop (i + 1) g) v = omega (
+      arith,
+      ap (λ (es : List Entry). cnt es v) h,
+      cnt-append (take i g) (e ∷ drop (i + 1) g) v,
+      cnt_cons e
+          (drop (i + 1) g) v,
+    ) in (
+      whole,
+      omega (
+        arith,
+        ap (λ (es : List Entry). cnt es v) (take-append-drop (i + 1) g),
+        cnt-append (take (i + 1) g)
+            (drop (i + 1) g) v,
+      ),
+    )
 
 -- where each stands once, those before it are others
-pub cut_new : (g : List Entry) (i : ℕ) (e : Entry) → ((v : List ℕ) → cnt g v ≤ 1) → g ≡ take i g ++ e ∷ drop (i + 1) g → (cnt (take i g) e.tuple ≡ 0) × (cnt g e.tuple ≡ 1) × (cnt (take (i + 1) g) e.tuple ≡ 1)
+pub cut_new : (g : List Entry) (i : ℕ) (e : Entry) → ((v : List ℕ) → cnt g v ≤ 1) → g ≡ take i g ++ e ∷ drop (i + 1) g
+    → (cnt (take i g) e.tuple ≡ 0) × (cnt g e.tuple ≡ 1) × (cnt (take (i + 1) g) e.tuple ≡ 1)
 cut_new g i e once_each h =
     let c = cut_cnt g i e e.tuple h in
     let first = c.0 in
@@ -76,41 +100,55 @@ cut_new g i e once_each h =
     (omega arith, omega arith, omega arith)
 
 pub present : (es : List Entry) (u : List ℕ) → 0 < supp es u → 0 < cnt es u
-present es u h = elim (cases_lt 0 (cnt es u)) [ inl some ↦ some | inr none ↦ absurd (omega (arith, supp_none es u (omega arith))) ]
+present es u h = elim (cases_lt 0 (cnt es u))
+    [ inl some ↦ some | inr none ↦ absurd (omega (arith, supp_none es u (omega arith))) ]
 
 -- none came yet
 pub grown_none : (t : Tree) (ts : List Table) (k : ℕ) (g : List Entry) → Ready t ts k → IsGrown t ts ts k (take 0 g)
-grown_none t ts k g r = record { family = r.family; low = λ i h. refl; came = λ v. omega (arith, none g v); reduced = r.reduced }
+grown_none t ts k g r = record
+    { family = r.family; low = λ i h. refl; came = λ v. omega (arith, none g v); reduced = r.reduced }
   where
     none : (h : List Entry) (v : List ℕ) → cnt (take 0 h) v ≡ 0
     none [] v = nothing v
     none (x ∷ xs) v = nothing v
 
-pub grown_ready : (t : Tree) (old mid : List Table) (k : ℕ) (es : List Entry) → k < length t.nodes → IsGrown t old mid k es → Ready t mid k
+pub grown_ready : (t : Tree) (old mid : List Table) (k : ℕ) (es : List Entry) → k < length t.nodes
+    → IsGrown t old mid k es → Ready t mid k
 grown_ready t old mid k es within g = record { family = g.family; within = within; reduced = g.reduced }
 
 -- one more came
-pub grown_more : (t : Tree) (old mid new : List Table) (k : ℕ) (g : List Entry) (i : ℕ) (e : Entry) → IsGrown t old mid k (take i g) → Lived t mid new k e.tuple → g ≡ take i g ++ e ∷ drop (i + 1) g → IsGrown t old new k (take (i + 1) g)
+pub grown_more : (t : Tree) (old mid new : List Table) (k : ℕ) (g : List Entry) (i : ℕ) (e : Entry)
+    → IsGrown t old mid k (take i g) → Lived t mid new k e.tuple → g ≡ take i g ++ e ∷ drop (i + 1) g
+    → IsGrown t old new k (take (i + 1) g)
 grown_more t old mid new k g i e was l cut = record {
   family = l.family;
   low = λ j less. l.below j (below_up t k j was.family.is_tree less) ∙ was.low j less;
-  came = λ v. omega (arith, inserted_supp (key_at mid k) (entries_at mid k) (entries_at new k) e.tuple l.gains v, was.came v, (cut_cnt g i e v cut).1);
+  came = λ v. omega (
+    arith,
+    inserted_supp (key_at mid k) (entries_at mid k) (entries_at new k) e.tuple l.gains v,
+    was.came v,
+    (cut_cnt g i e v cut).1,
+  );
   reduced = l.reduced;
 }
 
 -- none went yet
 pub emptied_none : (t : Tree) (ts : List Table) (k : ℕ) (g : List Entry) → Ready t ts k → IsEmptied t ts ts k (take 0 g)
-emptied_none t ts k g r = record { family = r.family; low = λ i h. refl; lost = λ v. omega (arith, none g v); reduced = r.reduced }
+emptied_none t ts k g r = record
+    { family = r.family; low = λ i h. refl; lost = λ v. omega (arith, none g v); reduced = r.reduced }
   where
     none : (h : List Entry) (v : List ℕ) → cnt (take 0 h) v ≡ 0
     none [] v = nothing v
     none (x ∷ xs) v = nothing v
 
-pub emptied_ready : (t : Tree) (old mid : List Table) (k : ℕ) (es : List Entry) → k < length t.nodes → IsEmptied t old mid k es → Ready t mid k
+pub emptied_ready : (t : Tree) (old mid : List Table) (k : ℕ) (es : List Entry) → k < length t.nodes
+    → IsEmptied t old mid k es → Ready t mid k
 emptied_ready t old mid k es within g = record { family = g.family; within = within; reduced = g.reduced }
 
 -- the next one is still there
-pub still_there : (t : Tree) (old mid : List Table) (k : ℕ) (g : List Entry) (i n : ℕ) (e : Entry) → IsEmptied t old mid k (take i g) → IsFull (entries_at old k) (take n g) → i < n → ((v : List ℕ) → cnt g v ≤ 1) → g ≡ take i g ++ e ∷ drop (i + 1) g → supp (entries_at mid k) e.tuple ≡ 1
+pub still_there : (t : Tree) (old mid : List Table) (k : ℕ) (g : List Entry) (i n : ℕ) (e : Entry)
+    → IsEmptied t old mid k (take i g) → IsFull (entries_at old k) (take n g) → i < n → ((v : List ℕ) → cnt g v ≤ 1) → g
+    ≡ take i g ++ e ∷ drop (i + 1) g → supp (entries_at mid k) e.tuple ≡ 1
 still_there t old mid k g i n e m full less once_each cut =
     let c = cut_new g i e once_each cut in
     let first = c.0 in
@@ -123,17 +161,26 @@ cond_one true n h = h
 cond_one false n h = refl
 
 -- one more went
-pub emptied_more : (t : Tree) (old mid new : List Table) (k : ℕ) (g : List Entry) (i : ℕ) (e : Entry) → IsEmptied t old mid k (take i g) → Died t mid new k e.tuple → supp (entries_at mid k) e.tuple ≡ 1 → g ≡ take i g ++ e ∷ drop (i + 1) g → IsEmptied t old new k (take (i + 1) g)
+pub emptied_more : (t : Tree) (old mid new : List Table) (k : ℕ) (g : List Entry) (i : ℕ) (e : Entry)
+    → IsEmptied t old mid k (take i g) → Died t mid new k e.tuple → supp (entries_at mid k) e.tuple ≡ 1 → g
+    ≡ take i g ++ e ∷ drop (i + 1) g → IsEmptied t old new k (take (i + 1) g)
 emptied_more t old mid new k g i e was d has cut = record {
   family = d.family;
   low = λ j less. d.below j (below_up t k j was.family.is_tree less) ∙ was.low j less;
   lost = λ v.
-      omega (arith, removed_supp (entries_at mid k) (entries_at new k) e.tuple d.loses (apart_of t mid was.family k) v, cond_one (same e.tuple v) (supp (entries_at mid k) e.tuple) has, was.lost v, (cut_cnt g i e v cut).1);
+      omega (
+        arith,
+        removed_supp (entries_at mid k) (entries_at new k) e.tuple d.loses (apart_of t mid was.family k) v,
+        cond_one (same e.tuple v) (supp (entries_at mid k) e.tuple) has,
+        was.lost v,
+        (cut_cnt g i e v cut).1,
+      );
   reduced = d.reduced;
 }
 
 -- all of a list that ends early
-pub emptied_all : (t : Tree) (old new : List Table) (k : ℕ) (g : List Entry) (i n : ℕ) → IsEmptied t old new k (take i g) → i ≤ n → drop i g ≡ [] → IsEmptied t old new k (take n g)
+pub emptied_all : (t : Tree) (old new : List Table) (k : ℕ) (g : List Entry) (i n : ℕ)
+    → IsEmptied t old new k (take i g) → i ≤ n → drop i g ≡ [] → IsEmptied t old new k (take n g)
 emptied_all t old new k g i n m less ends = record {
   family = m.family;
   low = m.low;

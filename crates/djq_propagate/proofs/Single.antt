@@ -1,5 +1,6 @@
 -- Over equal meets the reducts of one tree differ at each node by a tuple at most, where their leaves do at one.
-use Rattle.std.proofs.Common.{◌≡◌, ◌≢◌, ℕ, zero, suc, ◌+◌, ◌*◌, ◌<◌, ◌≤◌, Bool, true, false, ◌||◌, List, [], ◌∷◌, length, refl, ap, subst, sym, ◌∙◌, arith, inl, inr}
+use Rattle.std.proofs.Common.{◌≡◌, ◌≢◌, ℕ, zero, suc, ◌+◌, ◌*◌, ◌<◌, ◌≤◌, Bool, true, false, ◌||◌}
+use Rattle.std.proofs.Common.{List, [], ◌∷◌, length, refl, ap, subst, sym, ◌∙◌, arith, inl, inr}
 use Rattle.std.specs.Prelude.{◌==◌}
 use Rattle.std.proofs.lemmas.Bool.{cases_eq, cases_lt, cases_Bool, ne_eqb, eqb-true, false≢true}
 use Rattle.djq_index.specs.Tuple.{same, pick, one}
@@ -39,19 +40,24 @@ wide_tuple width (e ∷ es) v h some =
       | inr other ↦ wide_tuple width es v h.1 (omega (arith, one_other e.tuple v other))
     ]
 
-tuple_width : (t : Tree) (ts : List Table) (j : ℕ) (v : List ℕ) → IsFamily t ts → j < length t.nodes → 0 < cnt (entries_at ts j) v → length v ≡ length (label_at t.labels j)
+tuple_width : (t : Tree) (ts : List Table) (j : ℕ) (v : List ℕ) → IsFamily t ts → j < length t.nodes
+    → 0 < cnt (entries_at ts j) v → length v ≡ length (label_at t.labels j)
 unfolding entries_at width_at
-tuple_width t ts j v f within some = wide_tuple (table_at ts j).width (table_at ts j).entries v (f.sound j).wide some ∙ (f.keyed j within).width
+tuple_width t ts j v f within some = wide_tuple (table_at ts j).width (table_at ts j).entries v (f.sound j).wide some
+    ∙ (f.keyed j within).width
 
-pub whole_key : (t : Tree) (ts : List Table) (k g d : ℕ) (v : List ℕ) → HasEqualMeets t → IsFamily t ts → node_at t.nodes k ≡ Meet g d → k < length t.nodes → 0 < cnt (entries_at ts g) v → pick (key_at ts g) v ≡ v
+pub whole_key : (t : Tree) (ts : List Table) (k g d : ℕ) (v : List ℕ) → HasEqualMeets t → IsFamily t ts
+    → node_at t.nodes k ≡ Meet g d → k < length t.nodes → 0 < cnt (entries_at ts g) v → pick (key_at ts g) v ≡ v
 whole_key t ts k g d v meets f e within some =
     let low = (f.is_tree.meet k g d e).guard_lower in
     let here : g < length t.nodes = omega arith in
     let l = label_at t.labels g in
-    ap (λ (ks : List ℕ). pick ks v) ((f.keyed g here).key ∙ ap (columns l) (key_of_guard t k g d f.is_tree e ∙ meets.equal k g d e))
+    ap (λ (ks : List ℕ). pick ks v)
+    ((f.keyed g here).key ∙ ap (columns l) (key_of_guard t k g d f.is_tree e ∙ meets.equal k g d e))
     ∙ pick_itself l v (simple_of l (f.is_tree.sets g).rising) (tuple_width t ts g v f here some)
 
-many_whole : (ks : List ℕ) (es : List Entry) (u : List ℕ) → ((v : List ℕ) → 0 < cnt es v → pick ks v ≡ v) → many ks es u ≡ cnt es u
+many_whole : (ks : List ℕ) (es : List Entry) (u : List ℕ) → ((v : List ℕ) → 0 < cnt es v → pick ks v ≡ v) → many ks es u
+    ≡ cnt es u
 unfolding many cnt
 many_whole ks [] u h = refl
 many_whole ks (e ∷ es) u h =
@@ -59,8 +65,14 @@ many_whole ks (e ∷ es) u h =
     omega (arith, ap (λ (w : List ℕ). one (same w u)) here, many_whole ks es u (λ v some. h v (omega arith)))
 
 -- so its groups have one tuple
-pub group_single : (t : Tree) (ts : List Table) (k g d : ℕ) (u : List ℕ) → HasEqualMeets t → IsFamily t ts → node_at t.nodes k ≡ Meet g d → k < length t.nodes → many (key_at ts g) (entries_at ts g) u ≤ 1
-group_single t ts k g d u meets f e within = omega (arith, many_whole (key_at ts g) (entries_at ts g) u (λ v some. whole_key t ts k g d v meets f e within some), once t ts f g u)
+pub group_single : (t : Tree) (ts : List Table) (k g d : ℕ) (u : List ℕ) → HasEqualMeets t → IsFamily t ts
+    → node_at t.nodes k ≡ Meet g d → k < length t.nodes → many (key_at ts g) (entries_at ts g) u ≤ 1
+group_single t ts k g d u meets f e within = omega (
+  arith,
+  many_whole (key_at ts g) (entries_at ts g) u (λ v some. whole_key t ts k g d v meets f e within some),
+  once
+      t ts f g u,
+)
 
 -- ---- one tuple more
 
@@ -82,7 +94,8 @@ one_longer es (f ∷ fs) o most =
       | inl before ↦ omega arith
       | inr none ↦ elim (cases_lt 0 (cnt (f ∷ fs) v)) [
         | inr absent ↦ omega arith
-        | inl some ↦ let e = one_true (same o.tuple v) (is_same o.tuple v (sym (o.only v some (omega arith)))) in omega arith
+        | inl some ↦ let e = one_true (same o.tuple v) (is_same o.tuple v (sym (o.only v some (omega arith)))) in omega
+            arith
       ]
     ]) in
     omega arith
@@ -94,7 +107,12 @@ in_group ks [] u = omega arith
 in_group ks (e ∷ es) u =
     let r = in_group ks es u in
     elim (same_cases e.tuple u) [
-      | inl here ↦ omega (arith, one_le (same e.tuple u), one_true (same (pick ks e.tuple) (pick ks u)) (is_same (pick ks e.tuple) (pick ks u) (ap (pick ks) here)))
+      | inl here ↦ omega (
+        arith,
+        one_le (same e.tuple u),
+        one_true (same (pick ks e.tuple) (pick ks u))
+            (is_same (pick ks e.tuple) (pick ks u) (ap (pick ks) here)),
+      )
       | inr other ↦ omega (arith, one_other e.tuple u other)
     ]
 
@@ -115,16 +133,23 @@ second_child : (a b : Bool) → a ≡ false → (a || b) ≡ true → b ≡ true
 second_child false b e h = h
 second_child true b e h = absurd (false≢true (sym e))
 
-module _ (t : Tree) (ts us : List Table) (a : ℕ) (meets : HasEqualMeets t) (r : IsReducts (both t ts)) (s : IsReducts (both t us)) (others : (j : ℕ) (v : List ℕ) → j < t.leaves → j ≢ a → cnt (entries_at us j) v ≡ cnt (entries_at ts j) v) (more : OneMore (entries_at ts a) (entries_at us a)) where
+module _ (t : Tree) (ts us : List Table) (a : ℕ) (meets : HasEqualMeets t) (r : IsReducts (both t ts))
+    (s : IsReducts (both t us))
+    (others : (j : ℕ) (v : List ℕ) → j < t.leaves → j ≢ a → cnt (entries_at us j) v ≡ cnt (entries_at ts j) v)
+    (more : OneMore (entries_at ts a) (entries_at us a)) where
   off_even : (i : ℕ) → IsOff t.nodes a i → (v : List ℕ) → cnt (entries_at us i) v ≡ cnt (entries_at ts i) v
-  off_even i off v = tuples_same t ts us r.family s.family i (off_same t ts us a r.family s.family r.reduced s.reduced others (suc i) i (omega arith) off) v
+  off_even i off v = tuples_same t ts us r.family s.family i
+      (off_same t ts us a r.family s.family r.reduced s.reduced others (suc i) i (omega arith) off) v
 
   -- a node's other child is off the path
-  child_even : (n : Node) (j k c : ℕ) → node_at t.nodes k ≡ n → j ≡ path_at t.nodes a k → has_child n c ≡ true → (c ≡ j → ⊥) → (v : List ℕ) → cnt (entries_at us c) v ≡ cnt (entries_at ts c) v
+  child_even : (n : Node) (j k c : ℕ) → node_at t.nodes k ≡ n → j ≡ path_at t.nodes a k → has_child n c ≡ true
+      → (c ≡ j → ⊥) → (v : List ℕ) → cnt (entries_at us c) v ≡ cnt (entries_at ts c) v
   child_even n j k c e at child apart =
-      off_even c (other_off t a k c r.family.is_tree (ap (λ (m : Node). has_child m c) e ∙ child) (λ (q : c ≡ path_at t.nodes a k). apart (q ∙ sym at)))
+      off_even c (other_off t a k c r.family.is_tree (ap (λ (m : Node). has_child m c) e ∙ child)
+      (λ (q : c ≡ path_at t.nodes a k). apart (q ∙ sym at)))
 
-  trim_more : (c k : ℕ) → node_at t.nodes k ≡ Trim c → IsReductOf (Trim c) ts k → IsReductOf (Trim c) us k → OneMore (entries_at ts c) (entries_at us c) → OneMore (entries_at ts k) (entries_at us k)
+  trim_more : (c k : ℕ) → node_at t.nodes k ≡ Trim c → IsReductOf (Trim c) ts k → IsReductOf (Trim c) us k
+      → OneMore (entries_at ts c) (entries_at us c) → OneMore (entries_at ts k) (entries_at us k)
   trim_more c k e old new one = record {
     tuple = pick (key_at ts c) one.tuple;
     only = λ v some none.
@@ -133,15 +158,20 @@ module _ (t : Tree) (ts us : List Table) (a : ℕ) (meets : HasEqualMeets t) (r 
         let before = trim_law (Trim c) c ts k refl old v in
         let came = cnt_supp (entries_at us k) v (s.family.supported k) some in
         let lacked = supp_none (entries_at ts k) v none in
-        let here : 0 < many ks (entries_at us c) v = subst (λ (q : List ℕ). 0 < many q (entries_at us c) v) (same_keys t ts us r.family s.family c) (omega arith) in
+        let here : 0 < many ks (entries_at us c) v = subst (λ (q : List ℕ). 0 < many q (entries_at us c) v)
+        (same_keys t ts us r.family s.family c) (omega arith) in
         let h = holds ks (entries_at us c) v here in
         let u = h.entry.tuple in
         let has = there (entries_at us c) h.front h.entry h.back u h.is refl in
-        let grouped : cnt (entries_at ts c) u ≤ many ks (entries_at ts c) v = subst (λ (w : List ℕ). cnt (entries_at ts c) u ≤ many ks (entries_at ts c) w) h.key (in_group ks (entries_at ts c) u) in
+        let grouped : cnt (entries_at ts c) u ≤ many ks (entries_at ts c) v = subst
+        (λ (w : List ℕ). cnt (entries_at ts c) u ≤ many ks (entries_at ts c) w) h.key
+        (in_group ks (entries_at ts c) u) in
         sym h.key ∙ ap (pick ks) (one.only u has (omega arith));
   }
 
-  guard_more : (g d k : ℕ) → node_at t.nodes k ≡ Meet g d → IsReductOf (Meet g d) ts k → IsReductOf (Meet g d) us k → ((v : List ℕ) → cnt (entries_at us d) v ≡ cnt (entries_at ts d) v) → OneMore (entries_at ts g) (entries_at us g) → OneMore (entries_at ts k) (entries_at us k)
+  guard_more : (g d k : ℕ) → node_at t.nodes k ≡ Meet g d → IsReductOf (Meet g d) ts k → IsReductOf (Meet g d) us k
+      → ((v : List ℕ) → cnt (entries_at us d) v ≡ cnt (entries_at ts d) v) → OneMore (entries_at ts g) (entries_at us g)
+      → OneMore (entries_at ts k) (entries_at us k)
   guard_more g d k e old new even one = record {
     tuple = one.tuple;
     only = λ v some none.
@@ -149,12 +179,18 @@ module _ (t : Tree) (ts us : List Table) (a : ℕ) (meets : HasEqualMeets t) (r 
         let before = meet_law (Meet g d) g d ts k refl old v in
         let came = cnt_supp (entries_at us k) v (s.family.supported k) some in
         let lacked = supp_none (entries_at ts k) v none in
-        let guards = product_some (cnt (entries_at us g) v) (cnt (entries_at us d) (pick (key_at us g) v)) (omega arith) in
-        let sides : 0 < cnt (entries_at us d) (pick (key_at ts g) v) = subst (λ (q : List ℕ). 0 < cnt (entries_at us d) (pick q v)) (same_keys t ts us r.family s.family g) (right_some (cnt (entries_at us g) v) (cnt (entries_at us d) (pick (key_at us g) v)) (omega arith)) in
-        one.only v guards (left_zero (cnt (entries_at ts g) v) (cnt (entries_at ts d) (pick (key_at ts g) v)) (omega arith) (omega (arith, even (pick (key_at ts g) v))));
+        let guards = product_some (cnt (entries_at us g) v) (cnt (entries_at us d) (pick (key_at us g) v)) (omega arith)
+        in
+        let sides : 0 < cnt (entries_at us d) (pick (key_at ts g) v) = subst
+        (λ (q : List ℕ). 0 < cnt (entries_at us d) (pick q v)) (same_keys t ts us r.family s.family g)
+        (right_some (cnt (entries_at us g) v) (cnt (entries_at us d) (pick (key_at us g) v)) (omega arith)) in
+        one.only v guards (left_zero (cnt (entries_at ts g) v) (cnt (entries_at ts d) (pick (key_at ts g) v))
+        (omega arith) (omega (arith, even (pick (key_at ts g) v))));
   }
 
-  side_more : (g d k : ℕ) → node_at t.nodes k ≡ Meet g d → k < length t.nodes → IsReductOf (Meet g d) ts k → IsReductOf (Meet g d) us k → ((v : List ℕ) → cnt (entries_at us g) v ≡ cnt (entries_at ts g) v) → OneMore (entries_at ts d) (entries_at us d) → OneMore (entries_at ts k) (entries_at us k)
+  side_more : (g d k : ℕ) → node_at t.nodes k ≡ Meet g d → k < length t.nodes → IsReductOf (Meet g d) ts k
+      → IsReductOf (Meet g d) us k → ((v : List ℕ) → cnt (entries_at us g) v ≡ cnt (entries_at ts g) v)
+      → OneMore (entries_at ts d) (entries_at us d) → OneMore (entries_at ts k) (entries_at us k)
   side_more g d k e within old new even one = record {
     tuple = one.tuple;
     only = λ v some none.
@@ -162,35 +198,51 @@ module _ (t : Tree) (ts us : List Table) (a : ℕ) (meets : HasEqualMeets t) (r 
         let before = meet_law (Meet g d) g d ts k refl old v in
         let came = cnt_supp (entries_at us k) v (s.family.supported k) some in
         let lacked = supp_none (entries_at ts k) v none in
-        let guards : 0 < cnt (entries_at ts g) v = omega (arith, even v, product_some (cnt (entries_at us g) v) (cnt (entries_at us d) (pick (key_at us g) v)) (omega arith)) in
+        let guards : 0 < cnt (entries_at ts g) v = omega (
+          arith,
+          even v,
+          product_some (cnt (entries_at us g) v) (cnt (entries_at us d) (pick (key_at us g) v))
+              (omega arith),
+        ) in
         let whole = whole_key t ts k g d v meets r.family e within guards in
-        let sides : 0 < cnt (entries_at us d) (pick (key_at ts g) v) = subst (λ (q : List ℕ). 0 < cnt (entries_at us d) (pick q v)) (same_keys t ts us r.family s.family g) (right_some (cnt (entries_at us g) v) (cnt (entries_at us d) (pick (key_at us g) v)) (omega arith)) in
-        let fresh = right_zero (cnt (entries_at ts g) v) (cnt (entries_at ts d) (pick (key_at ts g) v)) (omega arith) guards in
+        let sides : 0 < cnt (entries_at us d) (pick (key_at ts g) v) = subst
+        (λ (q : List ℕ). 0 < cnt (entries_at us d) (pick q v)) (same_keys t ts us r.family s.family g)
+        (right_some (cnt (entries_at us g) v) (cnt (entries_at us d) (pick (key_at us g) v)) (omega arith)) in
+        let fresh = right_zero (cnt (entries_at ts g) v) (cnt (entries_at ts d) (pick (key_at ts g) v)) (omega arith)
+        guards in
         sym whole ∙ one.only (pick (key_at ts g) v) sides fresh;
   }
 
-  node_more : (n : Node) (j k : ℕ) → node_at t.nodes k ≡ n → k < length t.nodes → j ≡ path_at t.nodes a k → has_child n j ≡ true → IsReductOf n ts k → IsReductOf n us k → OneMore (entries_at ts j) (entries_at us j) → OneMore (entries_at ts k) (entries_at us k)
+  node_more : (n : Node) (j k : ℕ) → node_at t.nodes k ≡ n → k < length t.nodes → j ≡ path_at t.nodes a k
+      → has_child n j ≡ true → IsReductOf n ts k → IsReductOf n us k → OneMore (entries_at ts j) (entries_at us j)
+      → OneMore (entries_at ts k) (entries_at us k)
   node_more (Leaf b) j k e within at child old new one = absurd (false≢true child)
-  node_more (Trim c) j k e within at child old new one = trim_more c k e old new (subst (λ (i : ℕ). OneMore (entries_at ts i) (entries_at us i)) (sym (trim_same c j child)) one)
+  node_more (Trim c) j k e within at child old new one = trim_more c k e old new
+      (subst (λ (i : ℕ). OneMore (entries_at ts i) (entries_at us i)) (sym (trim_same c j child)) one)
   node_more (Meet g d) j k e within at child old new one =
       elim (cases_eq g j) [
         | inl here ↦
-            guard_more g d k e old new (child_even (Meet g d) j k d e at (side_has g d) (λ (q : d ≡ j). (r.family.is_tree.meet k g d e).apart (here ∙ sym q)))
+            guard_more g d k e old new
+            (child_even (Meet g d) j k d e at (side_has g d)
+            (λ (q : d ≡ j). (r.family.is_tree.meet k g d e).apart (here ∙ sym q)))
             (subst (λ (i : ℕ). OneMore (entries_at ts i) (entries_at us i)) (sym here) one)
         | inr other ↦
             let same_side : d ≡ j = eqb-true d j (second_child (g == j) (d == j) (ne_eqb g j other) child) in
-            side_more g d k e within old new (child_even (Meet g d) j k g e at (guard_has g d) other) (subst (λ (i : ℕ). OneMore (entries_at ts i) (entries_at us i)) (sym same_side) one)
+            side_more g d k e within old new (child_even (Meet g d) j k g e at (guard_has g d) other)
+            (subst (λ (i : ℕ). OneMore (entries_at ts i) (entries_at us i)) (sym same_side) one)
       ]
 
   path_more : (k : ℕ) → OneMore (entries_at ts (path_at t.nodes a k)) (entries_at us (path_at t.nodes a k))
   path_more zero = subst (λ (i : ℕ). OneMore (entries_at ts i) (entries_at us i)) (sym (path_zero t.nodes a)) more
   path_more (suc k) =
       elim (cases_Bool (has_child (node_at t.nodes k) (path_at t.nodes a k))) [
-        | inr none ↦ subst (λ (i : ℕ). OneMore (entries_at ts i) (entries_at us i)) (sym (path_off t.nodes a k none)) (path_more k)
+        | inr none ↦ subst (λ (i : ℕ). OneMore (entries_at ts i) (entries_at us i)) (sym (path_off t.nodes a k none))
+            (path_more k)
         | inl child ↦
             let within = child_within t.nodes k (path_at t.nodes a k) child in
             subst (λ (i : ℕ). OneMore (entries_at ts i) (entries_at us i)) (sym (path_on t.nodes a k child))
-            (node_more (node_at t.nodes k) (path_at t.nodes a k) k refl within refl child (r.reduced.at k (omega arith) within) (s.reduced.at k (omega arith) within) (path_more k))
+            (node_more (node_at t.nodes k) (path_at t.nodes a k) k refl within refl child
+            (r.reduced.at k (omega arith) within) (s.reduced.at k (omega arith) within) (path_more k))
       ]
 
   pub one_more : (i : ℕ) → OneMore (entries_at ts i) (entries_at us i)
@@ -199,7 +251,8 @@ module _ (t : Tree) (ts us : List Table) (a : ℕ) (meets : HasEqualMeets t) (r 
       elim (cases_eq i a) [
         | inl here ↦ subst (λ (k : ℕ). OneMore (entries_at ts k) (entries_at us k)) (sym here) more
         | inr apart ↦ elim (cases_Bool (on_path t.nodes a i)) [
-          | inl on ↦ subst (λ (k : ℕ). OneMore (entries_at ts k) (entries_at us k)) (path_on t.nodes a i on) (path_more (suc i))
+          | inl on ↦ subst (λ (k : ℕ). OneMore (entries_at ts k) (entries_at us k)) (path_on t.nodes a i on)
+              (path_more (suc i))
           | inr none ↦ none_more (entries_at ts i) (entries_at us i) (off_even i (apart, none))
         ]
       ]

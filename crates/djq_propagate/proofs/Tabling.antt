@@ -52,32 +52,47 @@ pub other_entries : (ts : List Table) (k i : ℕ) (t : Table) → i ≢ k → en
 unfolding entries_at
 other_entries ts k i t h = ap (λ (u : Table). u.entries) (other_table ts k i t h)
 
-set_size : (ts : List Table) (k : ℕ) (t : Table) → k < length ts → size (slice_set ts k t) + length (entries_at ts k) ≡ size ts + length t.entries
+set_size : (ts : List Table) (k : ℕ) (t : Table) → k < length ts → size (slice_set ts k t) + length (entries_at ts k)
+    ≡ size ts + length t.entries
 unfolding size entries_at table_at
 set_size ts k t h = sum_by-set (λ (u : Table). length u.entries) ts k t no_table h
 
 -- at each place: what holds of the new table at k and of the others as they were
-at_each : (P : Table → Type 0) (ts : List Table) (k : ℕ) (t : Table) → k < length ts → P t → (i : ℕ) → P (table_at ts i) → P (table_at (slice_set ts k t) i)
+at_each : (P : Table → Type 0) (ts : List Table) (k : ℕ) (t : Table) → k < length ts → P t → (i : ℕ) → P (table_at ts i)
+    → P (table_at (slice_set ts k t) i)
 at_each P ts k t h here i there =
     elim (cases_eq i k) [
-      | inl same ↦ subst (λ (j : ℕ). P (table_at (slice_set ts k t) j)) (sym same) (subst P (sym (set_table ts k t h)) here)
+      | inl same ↦ subst (λ (j : ℕ). P (table_at (slice_set ts k t) j)) (sym same)
+          (subst P (sym (set_table ts k t h)) here)
       | inr apart ↦ subst P (sym (other_table ts k i t apart)) there
     ]
 
-keyed_set : (ts : List Table) (k : ℕ) (t : Table) → k < length ts → t.key ≡ key_at ts k → t.width ≡ width_at ts k → (i : ℕ) → (key_at (slice_set ts k t) i ≡ key_at ts i) × (width_at (slice_set ts k t) i ≡ width_at ts i)
+keyed_set : (ts : List Table) (k : ℕ) (t : Table) → k < length ts → t.key ≡ key_at ts k → t.width ≡ width_at ts k
+    → (i : ℕ) → (key_at (slice_set ts k t) i ≡ key_at ts i) × (width_at (slice_set ts k t) i ≡ width_at ts i)
 unfolding key_at width_at
 keyed_set ts k t h key width i =
     elim (cases_eq i k) [
-      | inl same ↦ subst (λ (j : ℕ). ((table_at (slice_set ts k t) j).key ≡ (table_at ts j).key) × ((table_at (slice_set ts k t) j).width ≡ (table_at ts j).width)) (sym same)
-          (ap (λ (u : Table). u.key) (set_table ts k t h) ∙ key, ap (λ (u : Table). u.width) (set_table ts k t h) ∙ width)
-      | inr apart ↦ (ap (λ (u : Table). u.key) (other_table ts k i t apart), ap (λ (u : Table). u.width) (other_table ts k i t apart))
+      | inl same ↦ subst (λ (j : ℕ). ((table_at (slice_set ts k t) j).key ≡ (table_at ts j).key)
+          × ((table_at (slice_set ts k t) j).width ≡ (table_at ts j).width)) (sym same) (
+            ap (λ (u : Table). u.key) (set_table ts k t h) ∙ key,
+            ap (λ (u : Table). u.width) (set_table ts k t h)
+                ∙ width,
+          )
+      | inr apart ↦ (
+        ap (λ (u : Table). u.key) (other_table ts k i t apart),
+        ap (λ (u : Table). u.width)
+            (other_table ts k i t apart),
+      )
     ]
 
-supported_set : (ts : List Table) (k : ℕ) (t : Table) → k < length ts → (AreSupported (entries_at ts k) → AreSupported t.entries) → ((i : ℕ) → AreSupported (entries_at ts i)) → (i : ℕ) → AreSupported (entries_at (slice_set ts k t) i)
+supported_set : (ts : List Table) (k : ℕ) (t : Table) → k < length ts
+    → (AreSupported (entries_at ts k) → AreSupported t.entries) → ((i : ℕ) → AreSupported (entries_at ts i)) → (i : ℕ)
+    → AreSupported (entries_at (slice_set ts k t) i)
 unfolding entries_at
 supported_set ts k t h up all i = at_each (λ (u : Table). AreSupported u.entries) ts k t h (up (all k)) i (all i)
 
-pub changed_set : (ts : List Table) (k : ℕ) (t : Table) → k < length ts → IsTable t → t.key ≡ key_at ts k → t.width ≡ width_at ts k → (AreSupported (entries_at ts k) → AreSupported t.entries) → Changed ts (slice_set ts k t) k
+pub changed_set : (ts : List Table) (k : ℕ) (t : Table) → k < length ts → IsTable t → t.key ≡ key_at ts k → t.width
+    ≡ width_at ts k → (AreSupported (entries_at ts k) → AreSupported t.entries) → Changed ts (slice_set ts k t) k
 changed_set ts k t h sound key width supported = record {
   others = λ i apart. other_entries ts k i t apart;
   family = λ r f. record {
@@ -85,7 +100,8 @@ changed_set ts k t h sound key width supported = record {
     narrow = f.narrow;
     long = length-set ts k t ∙ f.long;
     sound = λ i. at_each IsTable ts k t h sound i (f.sound i);
-    keyed = λ i within. let s = keyed_set ts k t h key width i in record { width = s.1 ∙ (f.keyed i within).width; key = s.0 ∙ (f.keyed i within).key };
+    keyed = λ i within. let s = keyed_set ts k t h key width i in record
+        { width = s.1 ∙ (f.keyed i within).width; key = s.0 ∙ (f.keyed i within).key };
     supported = supported_set ts k t h supported f.supported;
   };
   size = sized;
@@ -95,21 +111,30 @@ changed_set ts k t h sound key width supported = record {
     sized = set_size ts k t h ∙ ap (λ (es : List Entry). size ts + length es) (sym (set_entries ts k t h))
 
 -- what holds of the old and the new table of a node
-pub back : (P : List Entry → Type 0) (ts : List Table) (k : ℕ) (t : Table) → k < length ts → t ≡ slice_index_or ts k t → P (entries_at ts k) → P t.entries
+pub back : (P : List Entry → Type 0) (ts : List Table) (k : ℕ) (t : Table) → k < length ts → t ≡ slice_index_or ts k t
+    → P (entries_at ts k) → P t.entries
 back P ts k t h e p = subst P (sym (entries_of ts k t (read_table ts k t h e))) p
 
-pub onto : (P : List Entry → List Entry → Type 0) (ts : List Table) (k : ℕ) (t s : Table) → k < length ts → t ≡ slice_index_or ts k t → P t.entries s.entries → P (entries_at ts k) (entries_at (slice_set ts k s) k)
+pub onto : (P : List Entry → List Entry → Type 0) (ts : List Table) (k : ℕ) (t s : Table) → k < length ts → t
+    ≡ slice_index_or ts k t → P t.entries s.entries → P (entries_at ts k) (entries_at (slice_set ts k s) k)
 onto P ts k t s h e p =
-    subst (λ (fs : List Entry). P (entries_at ts k) fs) (sym (set_entries ts k s h)) (subst (λ (es : List Entry). P es s.entries) (entries_of ts k t (read_table ts k t h e)) p)
+    subst (λ (fs : List Entry). P (entries_at ts k) fs) (sym (set_entries ts k s h))
+    (subst (λ (es : List Entry). P es s.entries) (entries_of ts k t (read_table ts k t h e)) p)
 
-pub onto_key : (P : List ℕ → List Entry → List Entry → Type 0) (ts : List Table) (k : ℕ) (t s : Table) → k < length ts → t ≡ slice_index_or ts k t → P t.key t.entries s.entries → P (key_at ts k) (entries_at ts k) (entries_at (slice_set ts k s) k)
+pub onto_key : (P : List ℕ → List Entry → List Entry → Type 0) (ts : List Table) (k : ℕ) (t s : Table) → k < length ts
+    → t ≡ slice_index_or ts k t → P t.key t.entries s.entries
+    → P (key_at ts k) (entries_at ts k) (entries_at (slice_set ts k s) k)
 onto_key P ts k t s h e p =
-    onto (P (key_at ts k)) ts k t s h e (subst (λ (ks : List ℕ). P ks t.entries s.entries) (key_of ts k t (read_table ts k t h e)) p)
+    onto (P (key_at ts k)) ts k t s h e
+    (subst (λ (ks : List ℕ). P ks t.entries s.entries) (key_of ts k t (read_table ts k t h e)) p)
 
-pub changed_into : (ts : List Table) (k : ℕ) (t s : Table) → k < length ts → t ≡ slice_index_or ts k t → IsTable s → s.key ≡ t.key → s.width ≡ t.width → (AreSupported t.entries → AreSupported s.entries) → Changed ts (slice_set ts k s) k
+pub changed_into : (ts : List Table) (k : ℕ) (t s : Table) → k < length ts → t ≡ slice_index_or ts k t → IsTable s
+    → s.key ≡ t.key → s.width ≡ t.width → (AreSupported t.entries → AreSupported s.entries)
+    → Changed ts (slice_set ts k s) k
 changed_into ts k t s h e sound key width up =
     let r = read_table ts k t h e in
-    changed_set ts k s h sound (key ∙ key_of ts k t r) (width ∙ width_of ts k t r) (λ a. up (back AreSupported ts k t h e a))
+    changed_set ts k s h sound (key ∙ key_of ts k t r) (width ∙ width_of ts k t r)
+    (λ a. up (back AreSupported ts k t h e a))
 
 -- each change of a table keeps tuples supported
 pub supported_middle : (xs : List Entry) (e : Entry) (ys : List Entry) → AreSupported (xs ++ e ∷ ys) → 0 < e.supports
@@ -117,21 +142,28 @@ unfolding AreSupported
 supported_middle [] e ys h = h.0
 supported_middle (x ∷ xs) e ys h = supported_middle xs e ys h.1
 
-pub insert_supported : {A E : Type 0} (m : Bool) (r : Result A E) (key : List ℕ) (old new : List Entry) (u : List ℕ) → IfOk r (λ p. InsertedAs m key old new u) → OnErr r (new ≡ old) → AreSupported old → AreSupported new
+pub insert_supported : {A E : Type 0} (m : Bool) (r : Result A E) (key : List ℕ) (old new : List Entry) (u : List ℕ)
+    → IfOk r (λ p. InsertedAs m key old new u) → OnErr r (new ≡ old) → AreSupported old → AreSupported new
 insert_supported m (Ok p) key old new u i e h = inserted_supported key old new u i h
 insert_supported m (Err x) key old new u i e h = subst AreSupported (sym e) h
 
-pub supports_supported : (old new : List Entry) (u : List ℕ) (from to : ℕ) → Supported old new u from to → 0 < to → AreSupported old → AreSupported new
+pub supports_supported : (old new : List Entry) (u : List ℕ) (from to : ℕ) → Supported old new u from to → 0 < to
+    → AreSupported old → AreSupported new
 supports_supported old new u from to s pos h =
     let has = s.has in
-    subst AreSupported (sym s.is) (supported_in s.front s.after s.back (omega arith) (supported_out s.front s.before s.back (subst AreSupported s.was h)))
+    subst AreSupported (sym s.is)
+    (supported_in s.front s.after s.back (omega arith)
+    (supported_out s.front s.before s.back (subst AreSupported s.was h)))
 
-pub touched_supported : (key : List ℕ) (old new : List Entry) (u : List ℕ) → Touched key old new u → AreSupported old → AreSupported new
+pub touched_supported : (key : List ℕ) (old new : List Entry) (u : List ℕ) → Touched key old new u → AreSupported old
+    → AreSupported new
 touched_supported key old new u t h =
     let was : AreSupported (t.front ++ t.before ∷ t.back) = subst AreSupported t.was h in
     let some = supported_middle t.front t.before t.back was in
     let same = t.same_supports in
-    subst AreSupported (sym t.is) (supported_in t.fore t.after t.rest (omega arith) (subst AreSupported t.between (supported_out t.front t.before t.back was)))
+    subst AreSupported (sym t.is)
+    (supported_in t.fore t.after t.rest (omega arith)
+    (subst AreSupported t.between (supported_out t.front t.before t.back was)))
 
 pub unmarked_supported : (es : List Entry) → AreSupported es → AreSupported (unmarked es)
 unfolding AreSupported unmarked bare
@@ -143,18 +175,22 @@ pub changed_none : (ts us : List Table) (k : ℕ) → us ≡ ts → Changed ts u
 changed_none ts us k e = record {
   others = λ i apart. ap (λ (xs : List Table). entries_at xs i) e;
   family = λ r f. subst (λ (xs : List Table). IsFamily r xs) (sym e) f;
-  size = ap (λ (xs : List Table). size xs + length (entries_at ts k)) e ∙ ap (λ (xs : List Table). size ts + length (entries_at xs k)) (sym e);
+  size = ap (λ (xs : List Table). size xs + length (entries_at ts k)) e
+      ∙ ap (λ (xs : List Table). size ts + length (entries_at xs k)) (sym e);
 }
 
 -- the width of a tuple that lies somewhere
-wide_middle : (width : ℕ) (xs : List Entry) (e : Entry) (ys : List Entry) → AreWide width (xs ++ e ∷ ys) → length e.tuple ≡ width
+wide_middle : (width : ℕ) (xs : List Entry) (e : Entry) (ys : List Entry) → AreWide width (xs ++ e ∷ ys)
+    → length e.tuple ≡ width
 unfolding AreWide
 wide_middle width [] e ys h = h.0
 wide_middle width (x ∷ xs) e ys h = wide_middle width xs e ys h.1
 
 pub wide_at : (width : ℕ) (es : List Entry) (p : Place) (u : List ℕ) → AreWide width es → IsAt es p u → length u ≡ width
-wide_at width es p u h a = ap (λ (v : List ℕ). length v) (sym a.tuple) ∙ wide_middle width a.front a.entry a.back (subst (λ (xs : List Entry). AreWide width xs) a.is h)
+wide_at width es p u h a = ap (λ (v : List ℕ). length v) (sym a.tuple)
+    ∙ wide_middle width a.front a.entry a.back (subst (λ (xs : List Entry). AreWide width xs) a.is h)
 
-pub wide_family : (t : Tree) (ts : List Table) (k : ℕ) (p : Place) (u : List ℕ) → IsFamily t ts → IsAt (entries_at ts k) p u → length u ≡ width_at ts k
+pub wide_family : (t : Tree) (ts : List Table) (k : ℕ) (p : Place) (u : List ℕ) → IsFamily t ts
+    → IsAt (entries_at ts k) p u → length u ≡ width_at ts k
 unfolding entries_at width_at
 wide_family t ts k p u f a = wide_at (table_at ts k).width (table_at ts k).entries p u (f.sound k).wide a

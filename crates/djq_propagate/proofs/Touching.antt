@@ -1,5 +1,7 @@
 -- Touches, one after another.
-use Rattle.std.proofs.Common.{◌≡◌, ℕ, ◌+◌, ◌*◌, ◌<◌, ◌≤◌, Bool, true, false, cond, List, [], ◌∷◌, ◌++◌, length, take, drop, Some, None, refl, ap, ap₂, subst, sym, ◌∙◌, arith, inl, inr}
+use Rattle.std.proofs.Common.{◌≡◌, ℕ, ◌+◌, ◌*◌, ◌<◌, ◌≤◌, Bool, true, false, cond, List, [], ◌∷◌}
+use Rattle.std.proofs.Common.{◌++◌, length, take, drop, Some, None, refl, ap, ap₂, subst, sym, ◌∙◌}
+use Rattle.std.proofs.Common.{arith, inl, inr}
 use Rattle.std.specs.Prelude.{◌==◌}
 use Rattle.std.proofs.lemmas.Bool.{cases_eq, cases_lt, cases_Bool, eq-eqb, ne_eqb}
 use Rattle.std.proofs.lemmas.List.{take-append-drop, length-take, append-nil}
@@ -34,7 +36,9 @@ use Rattle.djq_propagate.proofs.Sides.{head_none}
 use Rattle.djq_propagate.proofs.Going.{mark_at, group_at, group_split, trim_same}
 
 -- nothing is touched
-pub touched_none : (t : Tree) (ts : List Table) (k : ℕ) (f : List ℕ → ℕ) → IsFamily t ts → ((v : List ℕ) → 0 < cnt (entries_at ts k) v → 0 < f v → 0 < cnt (marks (entries_at ts k)) v) → IsTouched t ts ts k f
+pub touched_none : (t : Tree) (ts : List Table) (k : ℕ) (f : List ℕ → ℕ) → IsFamily t ts
+    → ((v : List ℕ) → 0 < cnt (entries_at ts k) v → 0 < f v → 0 < cnt (marks (entries_at ts k)) v)
+    → IsTouched t ts ts k f
 touched_none t ts k f family all = record {
   family = family;
   others = λ i h. refl;
@@ -46,7 +50,8 @@ touched_none t ts k f family all = record {
 }
 
 -- one tuple is
-pub touched_one : (t : Tree) (old new : List Table) (k : ℕ) (u : List ℕ) → IsFamily t old → Changed old new k → Touched (key_at old k) (entries_at old k) (entries_at new k) u → IsTouched t old new k (λ v. one (same u v))
+pub touched_one : (t : Tree) (old new : List Table) (k : ℕ) (u : List ℕ) → IsFamily t old → Changed old new k
+    → Touched (key_at old k) (entries_at old k) (entries_at new k) u → IsTouched t old new k (λ v. one (same u v))
 touched_one t old new k u f c x = record {
   family = c.family t f;
   others = c.others;
@@ -58,20 +63,23 @@ touched_one t old new k u f c x = record {
 }
 
 -- it is absent, or marked
-pub one_absent : (es : List Entry) (u v : List ℕ) → cnt es u ≡ 0 → 0 < cnt es v → 0 < one (same u v) → 0 < cnt (marks es) v
+pub one_absent : (es : List Entry) (u v : List ℕ) → cnt es u ≡ 0 → 0 < cnt es v → 0 < one (same u v)
+    → 0 < cnt (marks es) v
 one_absent es u v none some here =
     let e : u ≡ v = same_is u v (true_from_one (same u v) here) in
     let k : cnt es v ≡ 0 = subst (λ (w : List ℕ). cnt es w ≡ 0) e none in
     absurd (omega arith)
 
-pub one_marked : (es : List Entry) (u v : List ℕ) → AreApart es → is_marked es u ≡ true → 0 < cnt es v → 0 < one (same u v) → 0 < cnt (marks es) v
+pub one_marked : (es : List Entry) (u v : List ℕ) → AreApart es → is_marked es u ≡ true → 0 < cnt es v
+    → 0 < one (same u v) → 0 < cnt (marks es) v
 one_marked es u v h m some here =
     let e : u ≡ v = same_is u v (true_from_one (same u v) here) in
     let k : is_marked es v ≡ true = subst (λ (w : List ℕ). is_marked es w ≡ true) e m in
     omega (arith, marked_cnt es v h, one_true (is_marked es v) k)
 
 -- the same by another count
-pub touched_as : (t : Tree) (old new : List Table) (k : ℕ) (f h : List ℕ → ℕ) → IsTouched t old new k f → ((v : List ℕ) → h v ≡ f v) → IsTouched t old new k h
+pub touched_as : (t : Tree) (old new : List Table) (k : ℕ) (f h : List ℕ → ℕ) → IsTouched t old new k f
+    → ((v : List ℕ) → h v ≡ f v) → IsTouched t old new k h
 touched_as t old new k f h x same_count = record {
   family = x.family;
   others = x.others;
@@ -83,11 +91,13 @@ touched_as t old new k f h x same_count = record {
 }
 
 -- a tuple with so many supports is there
-tuples_touched : (t : Tree) (old new : List Table) (k : ℕ) (f : List ℕ → ℕ) → IsFamily t old → IsTouched t old new k f → (v : List ℕ) → cnt (entries_at new k) v ≡ cnt (entries_at old k) v
+tuples_touched : (t : Tree) (old new : List Table) (k : ℕ) (f : List ℕ → ℕ) → IsFamily t old → IsTouched t old new k f
+    → (v : List ℕ) → cnt (entries_at new k) v ≡ cnt (entries_at old k) v
 tuples_touched t old new k f family x v = tuples_same t old new family x.family k x.supports v
 
 -- and more
-pub touched_more : (t : Tree) (a b c : List Table) (k : ℕ) (f g h : List ℕ → ℕ) → IsFamily t a → IsTouched t a b k f → IsTouched t b c k g → ((v : List ℕ) → h v ≡ f v + g v) → IsTouched t a c k h
+pub touched_more : (t : Tree) (a b c : List Table) (k : ℕ) (f g h : List ℕ → ℕ) → IsFamily t a → IsTouched t a b k f
+    → IsTouched t b c k g → ((v : List ℕ) → h v ≡ f v + g v) → IsTouched t a c k h
 touched_more t a b c k f g h family x y sum = record {
   family = y.family;
   others = λ i apart. y.others i apart ∙ x.others i apart;
@@ -129,22 +139,28 @@ gate_test n = refl
 empty_many : (ks : List ℕ) (w : List ℕ) (es : List Entry) → many ks (plain es) w ≤ many ks es w
 empty_many ks w es = omega (arith, many_split ks es w)
 
-pub gate_none : (ks : List ℕ) (es : List Entry) (w : List ℕ) → head_at (grp ks es w) ≡ None → true ≡ gate true (many ks (plain es) w)
+pub gate_none : (ks : List ℕ) (es : List Entry) (w : List ℕ) → head_at (grp ks es w) ≡ None → true
+    ≡ gate true (many ks (plain es) w)
 gate_none ks es w h =
     let e : length (grp ks es w) ≡ 0 = ap (λ (xs : List Entry). length xs) (head_none (grp ks es w) h) in
-    sym (gate_test (many ks (plain es) w) ∙ eq-eqb (many ks (plain es) w) 0 (omega (arith, length_grp ks es w, empty_many ks w es)))
+    sym (gate_test (many ks (plain es) w)
+    ∙ eq-eqb (many ks (plain es) w) 0 (omega (arith, length_grp ks es w, empty_many ks w es)))
 
-first_of_group : (g : List Entry) (p : Place) → head_at g ≡ Some p → (e : Entry) × (rest : List Entry) × (g ≡ e ∷ rest) × (e.at ≡ p)
+first_of_group : (g : List Entry) (p : Place) → head_at g ≡ Some p → (e : Entry) × (rest : List Entry) × (g ≡ e ∷ rest)
+    × (e.at ≡ p)
 unfolding head_at
 first_of_group [] p h = absurd cc
 first_of_group (e ∷ g) p h = (e, g, refl, cc)
 
-marked_middle : (xs : List Entry) (e : Entry) (ys : List Entry) → AreApart (xs ++ e ∷ ys) → is_marked (xs ++ e ∷ ys) e.tuple ≡ e.marked
+marked_middle : (xs : List Entry) (e : Entry) (ys : List Entry) → AreApart (xs ++ e ∷ ys)
+    → is_marked (xs ++ e ∷ ys) e.tuple ≡ e.marked
 unfolding AreApart
 marked_middle [] e ys h = is_marked_here e ys e.tuple (same_refl e.tuple)
 marked_middle (x ∷ xs) e ys h =
     elim (same_cases x.tuple e.tuple) [
-      | inl here ↦ absurd (let none : cnt (xs ++ e ∷ ys) e.tuple ≡ 0 = subst (λ (w : List ℕ). cnt (xs ++ e ∷ ys) w ≡ 0) here h.0 in omega (arith, there (xs ++ e ∷ ys) xs e ys e.tuple refl refl))
+      | inl here ↦ absurd (let none : cnt (xs ++ e ∷ ys) e.tuple
+          ≡ 0 = subst (λ (w : List ℕ). cnt (xs ++ e ∷ ys) w ≡ 0) here h.0 in omega
+          (arith, there (xs ++ e ∷ ys) xs e ys e.tuple refl refl))
       | inr other ↦ is_marked_else x (xs ++ e ∷ ys) e.tuple other ∙ marked_middle xs e ys h.1
     ]
 
@@ -155,68 +171,110 @@ pub record IsFirst (ks : List ℕ) (es : List Entry) (w : List ℕ) (p : Place) 
   pub is : grp ks es w ≡ entry ∷ rest
   pub is_at : IsAt es p entry.tuple
 
-pub first_is : (ks : List ℕ) (es : List Entry) (w : List ℕ) (p : Place) → head_at (grp ks es w) ≡ Some p → IsFirst ks es w p
+pub first_is : (ks : List ℕ) (es : List Entry) (w : List ℕ) (p : Place) → head_at (grp ks es w) ≡ Some p
+    → IsFirst ks es w p
 first_is ks es w p h =
     let c = first_of_group (grp ks es w) p h in
-    record { entry = c.0; rest = c.1; is = c.2; is_at = subst (λ (q : Place). IsAt es q c.0.tuple) c.3 (group_at ks es w [] c.0 c.1 c.2) }
+    record {
+      entry = c.0;
+      rest = c.1;
+      is = c.2;
+      is_at = subst (λ (q : Place). IsAt es q c.0.tuple) c.3
+          (group_at ks es w [] c.0 c.1 c.2);
+    }
 
-entry_mark : (ks : List ℕ) (es : List Entry) (w : List ℕ) (e : Entry) (rest : List Entry) → AreApart es → grp ks es w ≡ e ∷ rest → is_marked es e.tuple ≡ e.marked
+entry_mark : (ks : List ℕ) (es : List Entry) (w : List ℕ) (e : Entry) (rest : List Entry) → AreApart es → grp ks es w
+    ≡ e ∷ rest → is_marked es e.tuple ≡ e.marked
 entry_mark ks es w e rest h is =
     let s = group_split ks es w e rest is in
-    subst (λ (xs : List Entry). is_marked xs e.tuple ≡ e.marked) (sym s.2) (marked_middle s.0 e s.1 (subst AreApart s.2 h))
+    subst (λ (xs : List Entry). is_marked xs e.tuple ≡ e.marked) (sym s.2)
+    (marked_middle s.0 e s.1 (subst AreApart s.2 h))
 
-pub gate_first : (t : Tree) (ts : List Table) (k : ℕ) (w : List ℕ) (p : Place) (b : Bool) (x : IsFirst (key_at ts k) (entries_at ts k) w p) → IsFamily t ts → b ≡ is_marked (entries_at ts k) x.entry.tuple → b ≡ gate true (many (key_at ts k) (plain (entries_at ts k)) w)
+pub gate_first : (t : Tree) (ts : List Table) (k : ℕ) (w : List ℕ) (p : Place) (b : Bool)
+    (x : IsFirst (key_at ts k) (entries_at ts k) w p) → IsFamily t ts → b ≡ is_marked (entries_at ts k) x.entry.tuple
+    → b ≡ gate true (many (key_at ts k) (plain (entries_at ts k)) w)
 gate_first t ts k w p b x f e =
     let m = e ∙ entry_mark (key_at ts k) (entries_at ts k) w x.entry x.rest (apart_of t ts f k) x.is in
     elim (cases_Bool x.entry.marked) [
-      | inl marked ↦ (let none = whole_group (key_at ts k) (entries_at ts k) w x.entry x.rest (last_of t ts k f) x.is marked in
-          m ∙ marked ∙ sym (gate_test (many (key_at ts k) (plain (entries_at ts k)) w) ∙ eq-eqb (many (key_at ts k) (plain (entries_at ts k)) w) 0 none))
+      | inl marked ↦ (let none = whole_group (key_at ts k) (entries_at ts k) w x.entry x.rest (last_of t ts k f) x.is
+          marked in
+          m ∙ marked ∙ sym (gate_test (many (key_at ts k) (plain (entries_at ts k)) w)
+          ∙ eq-eqb (many (key_at ts k) (plain (entries_at ts k)) w) 0 none))
       | inr other ↦ (let some = part_group (key_at ts k) (entries_at ts k) w x.entry x.rest x.is other in
-          m ∙ other ∙ sym (gate_test (many (key_at ts k) (plain (entries_at ts k)) w) ∙ ne_eqb (many (key_at ts k) (plain (entries_at ts k)) w) 0 (λ (z : many (key_at ts k) (plain (entries_at ts k)) w ≡ 0). absurd (omega arith))))
+          m ∙ other ∙ sym (gate_test (many (key_at ts k) (plain (entries_at ts k)) w)
+          ∙ ne_eqb (many (key_at ts k) (plain (entries_at ts k)) w) 0
+          (λ (z : many (key_at ts k) (plain (entries_at ts k)) w ≡ 0). absurd (omega arith))))
     ]
 
 -- a trim
-pub reach_yes : (j : ℕ) (ts : List Table) (u v w : List ℕ) (going b : Bool) → w ≡ pick (key_at ts j) u → b ≡ gate going (many (key_at ts j) (plain (entries_at ts j)) w) → b ≡ true → reach_one (Trim j) going j ts u v ≡ one (same w v)
+pub reach_yes : (j : ℕ) (ts : List Table) (u v w : List ℕ) (going b : Bool) → w ≡ pick (key_at ts j) u → b
+    ≡ gate going (many (key_at ts j) (plain (entries_at ts j)) w) → b ≡ true → reach_one (Trim j) going j ts u v
+    ≡ one (same w v)
 unfolding reach_one
 reach_yes j ts u v w going b e g yes_gate =
     elim (same_cases w v) [
       | inl here ↦ (
-          let open_gate : one (gate going (many (key_at ts j) (plain (entries_at ts j)) v)) ≡ 1 = one_true (gate going (many (key_at ts j) (plain (entries_at ts j)) v)) (ap (λ (x : List ℕ). gate going (many (key_at ts j) (plain (entries_at ts j)) x)) (sym here) ∙ sym g ∙ yes_gate) in
-          let k : one (same (pick (key_at ts j) u) v) * one (gate going (many (key_at ts j) (plain (entries_at ts j)) v)) ≡ one (same (pick (key_at ts j) u) v) * 1 = ap (λ (n : ℕ). one (same (pick (key_at ts j) u) v) * n) open_gate in
+          let open_gate : one (gate going (many (key_at ts j) (plain (entries_at ts j)) v))
+          ≡ 1 = one_true (gate going (many (key_at ts j) (plain (entries_at ts j)) v))
+          (ap (λ (x : List ℕ). gate going (many (key_at ts j) (plain (entries_at ts j)) x)) (sym here) ∙ sym g
+          ∙ yes_gate) in
+          let k : one (same (pick (key_at ts j) u) v) * one
+          (gate going (many (key_at ts j) (plain (entries_at ts j)) v))
+          ≡ one (same (pick (key_at ts j) u) v) * 1 = ap (λ (n : ℕ). one (same (pick (key_at ts j) u) v) * n)
+          open_gate in
           omega (arith, ap (λ (x : List ℕ). one (same x v)) e))
       | inr other ↦ (
-          let none : one (same (pick (key_at ts j) u) v) ≡ 0 = ap (λ (x : List ℕ). one (same x v)) (sym e) ∙ one_other w v other in
-          let k : one (same (pick (key_at ts j) u) v) * one (gate going (many (key_at ts j) (plain (entries_at ts j)) v)) ≡ 0 * one (gate going (many (key_at ts j) (plain (entries_at ts j)) v)) = ap (λ (n : ℕ). n * one (gate going (many (key_at ts j) (plain (entries_at ts j)) v))) none in
+          let none : one (same (pick (key_at ts j) u) v) ≡ 0 = ap (λ (x : List ℕ). one (same x v)) (sym e)
+          ∙ one_other w v other in
+          let k : one (same (pick (key_at ts j) u) v) * one
+          (gate going (many (key_at ts j) (plain (entries_at ts j)) v))
+          ≡ 0 * one (gate going (many (key_at ts j) (plain (entries_at ts j)) v)) = ap
+          (λ (n : ℕ). n * one (gate going (many (key_at ts j) (plain (entries_at ts j)) v))) none in
           omega (arith, one_other w v other))
     ]
 
-pub reach_no : (j : ℕ) (ts : List Table) (u v w : List ℕ) (going b : Bool) → w ≡ pick (key_at ts j) u → b ≡ gate going (many (key_at ts j) (plain (entries_at ts j)) w) → b ≡ false → reach_one (Trim j) going j ts u v ≡ 0
+pub reach_no : (j : ℕ) (ts : List Table) (u v w : List ℕ) (going b : Bool) → w ≡ pick (key_at ts j) u → b
+    ≡ gate going (many (key_at ts j) (plain (entries_at ts j)) w) → b ≡ false → reach_one (Trim j) going j ts u v ≡ 0
 unfolding reach_one
 reach_no j ts u v w going b e g no_gate =
     elim (same_cases w v) [
       | inl here ↦ (
-          let shut : one (gate going (many (key_at ts j) (plain (entries_at ts j)) v)) ≡ 0 = one_false (gate going (many (key_at ts j) (plain (entries_at ts j)) v)) (ap (λ (x : List ℕ). gate going (many (key_at ts j) (plain (entries_at ts j)) x)) (sym here) ∙ sym g ∙ no_gate) in
-          let k : one (same (pick (key_at ts j) u) v) * one (gate going (many (key_at ts j) (plain (entries_at ts j)) v)) ≡ one (same (pick (key_at ts j) u) v) * 0 = ap (λ (n : ℕ). one (same (pick (key_at ts j) u) v) * n) shut in
+          let shut : one (gate going (many (key_at ts j) (plain (entries_at ts j)) v))
+          ≡ 0 = one_false (gate going (many (key_at ts j) (plain (entries_at ts j)) v))
+          (ap (λ (x : List ℕ). gate going (many (key_at ts j) (plain (entries_at ts j)) x)) (sym here) ∙ sym g
+          ∙ no_gate) in
+          let k : one (same (pick (key_at ts j) u) v) * one
+          (gate going (many (key_at ts j) (plain (entries_at ts j)) v))
+          ≡ one (same (pick (key_at ts j) u) v) * 0 = ap (λ (n : ℕ). one (same (pick (key_at ts j) u) v) * n) shut
+          in
           omega arith)
       | inr other ↦ (
-          let none : one (same (pick (key_at ts j) u) v) ≡ 0 = ap (λ (x : List ℕ). one (same x v)) (sym e) ∙ one_other w v other in
-          let k : one (same (pick (key_at ts j) u) v) * one (gate going (many (key_at ts j) (plain (entries_at ts j)) v)) ≡ 0 * one (gate going (many (key_at ts j) (plain (entries_at ts j)) v)) = ap (λ (n : ℕ). n * one (gate going (many (key_at ts j) (plain (entries_at ts j)) v))) none in
+          let none : one (same (pick (key_at ts j) u) v) ≡ 0 = ap (λ (x : List ℕ). one (same x v)) (sym e)
+          ∙ one_other w v other in
+          let k : one (same (pick (key_at ts j) u) v) * one
+          (gate going (many (key_at ts j) (plain (entries_at ts j)) v))
+          ≡ 0 * one (gate going (many (key_at ts j) (plain (entries_at ts j)) v)) = ap
+          (λ (n : ℕ). n * one (gate going (many (key_at ts j) (plain (entries_at ts j)) v))) none in
           omega arith)
     ]
 
 -- by the kind of the node
-pub reach_leaf : (n : Node) (a : ℕ) (going : Bool) (j : ℕ) (ts : List Table) (u v : List ℕ) → n ≡ Leaf a → reach_one n going j ts u v ≡ 0
+pub reach_leaf : (n : Node) (a : ℕ) (going : Bool) (j : ℕ) (ts : List Table) (u v : List ℕ) → n ≡ Leaf a
+    → reach_one n going j ts u v ≡ 0
 unfolding reach_one
 reach_leaf n a going j ts u v e = rw e refl
 
-pub reach_trim : (n : Node) (c : ℕ) (going : Bool) (j : ℕ) (ts : List Table) (u v : List ℕ) → n ≡ Trim c → reach_one n going j ts u v ≡ reach_one (Trim c) going j ts u v
+pub reach_trim : (n : Node) (c : ℕ) (going : Bool) (j : ℕ) (ts : List Table) (u v : List ℕ) → n ≡ Trim c
+    → reach_one n going j ts u v ≡ reach_one (Trim c) going j ts u v
 reach_trim n c going j ts u v e = ap (λ (m : Node). reach_one m going j ts u v) e
 
-pub reach_guard : (n : Node) (g s : ℕ) (going : Bool) (j : ℕ) (ts : List Table) (u v : List ℕ) → n ≡ Meet g s → g ≡ j → reach_one n going j ts u v ≡ one (same u v)
+pub reach_guard : (n : Node) (g s : ℕ) (going : Bool) (j : ℕ) (ts : List Table) (u v : List ℕ) → n ≡ Meet g s → g ≡ j
+    → reach_one n going j ts u v ≡ one (same u v)
 unfolding reach_one
 reach_guard n g s going j ts u v e here = rw (e, eq-eqb g j here) refl
 
-pub reach_side : (n : Node) (g s : ℕ) (going : Bool) (j : ℕ) (ts : List Table) (u v : List ℕ) → n ≡ Meet g s → (g ≡ j → ⊥) → reach_one n going j ts u v ≡ cnt (grp (key_at ts g) (entries_at ts g) u) v
+pub reach_side : (n : Node) (g s : ℕ) (going : Bool) (j : ℕ) (ts : List Table) (u v : List ℕ) → n ≡ Meet g s
+    → (g ≡ j → ⊥) → reach_one n going j ts u v ≡ cnt (grp (key_at ts g) (entries_at ts g) u) v
 unfolding reach_one
 reach_side n g s going j ts u v e other = rw (e, ne_eqb g j other) refl
 
@@ -228,27 +286,46 @@ pub cost_guard : (n : Node) (g s j : ℕ) (ts : List Table) (u : List ℕ) → n
 unfolding cost_one
 cost_guard n g s j ts u e here = rw (e, eq-eqb g j here) refl
 
-pub cost_side : (n : Node) (g s j : ℕ) (ts : List Table) (u : List ℕ) → n ≡ Meet g s → (g ≡ j → ⊥) → cost_one n j ts u ≡ 1 + 3 * many (key_at ts g) (entries_at ts g) u
+pub cost_side : (n : Node) (g s j : ℕ) (ts : List Table) (u : List ℕ) → n ≡ Meet g s → (g ≡ j → ⊥) → cost_one n j ts u
+    ≡ 1 + 3 * many (key_at ts g) (entries_at ts g) u
 unfolding cost_one
 cost_side n g s j ts u e other = rw (e, ne_eqb g j other) refl
 
 -- reach and cost read the child's tables alone, which stand still
-pub reach_still : (n : Node) (going : Bool) (j : ℕ) (ts us : List Table) (u v : List ℕ) → ((c : ℕ) → key_at us c ≡ key_at ts c) → ((c : ℕ) → has_child n c ≡ true → entries_at us c ≡ entries_at ts c) → reach_one n going j us u v ≡ reach_one n going j ts u v
+pub reach_still : (n : Node) (going : Bool) (j : ℕ) (ts us : List Table) (u v : List ℕ)
+    → ((c : ℕ) → key_at us c ≡ key_at ts c) → ((c : ℕ) → has_child n c ≡ true → entries_at us c ≡ entries_at ts c)
+    → reach_one n going j us u v ≡ reach_one n going j ts u v
 unfolding reach_one
 reach_still (Leaf a) going j ts us u v keys kids = refl
-reach_still (Trim c) going j ts us u v keys kids = ap₂ (λ (ks : List ℕ) (es : List Entry). one (same (pick ks u) v) * one (gate going (many ks (plain es) v))) (keys c) (kids c (eq-eqb c c refl))
-reach_still (Meet g s) going j ts us u v keys kids = ap₂ (λ (ks : List ℕ) (es : List Entry). cond (g == j) (one (same u v)) (cnt (grp ks es u) v)) (keys g) (kids g (guard_has g s))
+reach_still (Trim c) going j ts us u v keys kids = ap₂
+    (λ (ks : List ℕ) (es : List Entry). one (same (pick ks u) v) * one (gate going (many ks (plain es) v))) (keys c)
+    (kids c (eq-eqb c c refl))
+reach_still (Meet g s) going j ts us u v keys kids = ap₂
+    (λ (ks : List ℕ) (es : List Entry). cond (g == j) (one (same u v)) (cnt (grp ks es u) v)) (keys g)
+    (kids g (guard_has g s))
 
-pub cost_still : (n : Node) (j : ℕ) (ts us : List Table) (u : List ℕ) → ((c : ℕ) → key_at us c ≡ key_at ts c) → ((c : ℕ) → has_child n c ≡ true → entries_at us c ≡ entries_at ts c) → cost_one n j us u ≡ cost_one n j ts u
+pub cost_still : (n : Node) (j : ℕ) (ts us : List Table) (u : List ℕ) → ((c : ℕ) → key_at us c ≡ key_at ts c)
+    → ((c : ℕ) → has_child n c ≡ true → entries_at us c ≡ entries_at ts c) → cost_one n j us u ≡ cost_one n j ts u
 unfolding cost_one
 cost_still (Leaf a) j ts us u keys kids = refl
 cost_still (Trim c) j ts us u keys kids = refl
-cost_still (Meet g s) j ts us u keys kids = ap₂ (λ (ks : List ℕ) (es : List Entry). cond (g == j) 2 (1 + 3 * many ks es u)) (keys g) (kids g (guard_has g s))
+cost_still (Meet g s) j ts us u keys kids = ap₂
+    (λ (ks : List ℕ) (es : List Entry). cond (g == j) 2 (1 + 3 * many ks es u)) (keys g) (kids g (guard_has g s))
 
 -- one marked tuple more
-cut_many : (ks : List ℕ) (g : List Entry) (i : ℕ) (e : Entry) (w : List ℕ) → g ≡ take i g ++ e ∷ drop (i + 1) g → many ks (take (i + 1) g) w ≡ many ks (take i g) w + one (same (pick ks e.tuple) w)
+cut_many : (ks : List ℕ) (g : List Entry) (i : ℕ) (e : Entry) (w : List ℕ) → g ≡ take i g ++ e ∷ drop (i + 1) g
+    → many ks (take (i + 1) g) w ≡ many ks (take i g) w + one (same (pick ks e.tuple) w)
 cut_many ks g i e w h =
-    omega (arith, ap (λ (es : List Entry). many ks es w) h, many-append ks (take i g) (e ∷ drop (i + 1) g) w, many_cons ks e (drop (i + 1) g) w, ap (λ (es : List Entry). many ks es w) (take-append-drop (i + 1) g), many-append ks (take (i + 1) g) (drop (i + 1) g) w)
+    omega (
+      arith,
+      ap (λ (es : List Entry). many ks es w) h,
+      many-append ks (take i g) (e ∷ drop (i + 1) g) w,
+      many_cons
+          ks e (drop (i + 1) g) w,
+      ap (λ (es : List Entry). many ks es w) (take-append-drop (i + 1) g),
+      many-append ks
+          (take (i + 1) g) (drop (i + 1) g) w,
+    )
 
 spread : (a b c : ℕ) → (a + b) * c ≡ a * c + b * c
 spread a b c = omega arith
@@ -260,17 +337,28 @@ cond_sum : (b : Bool) (x y z p q r : ℕ) → x ≡ y + z → p ≡ q + r → co
 cond_sum true x y z p q r h k = h
 cond_sum false x y z p q r h k = k
 
-pub reach_more : (n : Node) (going : Bool) (j : ℕ) (ts : List Table) (g : List Entry) (i : ℕ) (e : Entry) (v : List ℕ) → g ≡ take i g ++ e ∷ drop (i + 1) g → reach n going j ts (take (i + 1) g) v ≡ reach n going j ts (take i g) v + reach_one n going j ts e.tuple v
+pub reach_more : (n : Node) (going : Bool) (j : ℕ) (ts : List Table) (g : List Entry) (i : ℕ) (e : Entry) (v : List ℕ)
+    → g ≡ take i g ++ e ∷ drop (i + 1) g → reach n going j ts (take (i + 1) g) v
+    ≡ reach n going j ts (take i g) v + reach_one n going j ts e.tuple v
 unfolding reach reach_one
 reach_more (Leaf a) going j ts g i e v h = refl
 reach_more (Trim c) going j ts g i e v h =
-    ap (λ (x : ℕ). x * one (gate going (many (key_at ts c) (plain (entries_at ts c)) v))) (cut_many (key_at ts c) g i e v h) ∙ spread (many (key_at ts c) (take i g) v) (one (same (pick (key_at ts c) e.tuple) v)) (one (gate going (many (key_at ts c) (plain (entries_at ts c)) v)))
+    ap (λ (x : ℕ). x * one (gate going (many (key_at ts c) (plain (entries_at ts c)) v)))
+    (cut_many (key_at ts c) g i e v h)
+    ∙ spread (many (key_at ts c) (take i g) v) (one (same (pick (key_at ts c) e.tuple) v))
+    (one (gate going (many (key_at ts c) (plain (entries_at ts c)) v)))
 reach_more (Meet c s) going j ts g i e v h =
-    cond_sum (c == j) (cnt (take (i + 1) g) v) (cnt (take i g) v) (one (same e.tuple v)) (cnt (entries_at ts c) v * cnt (take (i + 1) g) (pick (key_at ts c) v)) (cnt (entries_at ts c) v * cnt (take i g) (pick (key_at ts c) v)) (cnt (grp (key_at ts c) (entries_at ts c) e.tuple) v)
+    cond_sum (c == j) (cnt (take (i + 1) g) v) (cnt (take i g) v) (one (same e.tuple v))
+    (cnt (entries_at ts c) v * cnt (take (i + 1) g) (pick (key_at ts c) v))
+    (cnt (entries_at ts c) v * cnt (take i g) (pick (key_at ts c) v))
+    (cnt (grp (key_at ts c) (entries_at ts c) e.tuple) v)
     (cut_cnt g i e v h).1
     (ap (λ (x : ℕ). cnt (entries_at ts c) v * x) (cut_cnt g i e (pick (key_at ts c) v) h).1
-    ∙ spread_left (cnt (entries_at ts c) v) (cnt (take i g) (pick (key_at ts c) v)) (one (same e.tuple (pick (key_at ts c) v)))
-    ∙ ap (λ (x : ℕ). cnt (entries_at ts c) v * cnt (take i g) (pick (key_at ts c) v) + x) (ap (λ (q : Bool). cnt (entries_at ts c) v * one q) (same_sym e.tuple (pick (key_at ts c) v)) ∙ sym (cnt_grp (key_at ts c) (entries_at ts c) e.tuple v)))
+    ∙ spread_left (cnt (entries_at ts c) v) (cnt (take i g) (pick (key_at ts c) v))
+    (one (same e.tuple (pick (key_at ts c) v)))
+    ∙ ap (λ (x : ℕ). cnt (entries_at ts c) v * cnt (take i g) (pick (key_at ts c) v) + x)
+    (ap (λ (q : Bool). cnt (entries_at ts c) v * one q) (same_sym e.tuple (pick (key_at ts c) v))
+    ∙ sym (cnt_grp (key_at ts c) (entries_at ts c) e.tuple v)))
 
 pub reach_nothing : (n : Node) (going : Bool) (j : ℕ) (ts : List Table) (v : List ℕ) → reach n going j ts [] v ≡ 0
 unfolding reach many cnt
@@ -282,12 +370,14 @@ reach_nothing (Meet g s) going j ts v = none (g == j) (cnt (entries_at ts g) v)
     none true m = refl
     none false m = omega arith
 
-cost-append : (n : Node) (j : ℕ) (ts : List Table) (xs ys : List Entry) → cost n j ts (xs ++ ys) ≡ cost n j ts xs + cost n j ts ys
+cost-append : (n : Node) (j : ℕ) (ts : List Table) (xs ys : List Entry) → cost n j ts (xs ++ ys)
+    ≡ cost n j ts xs + cost n j ts ys
 unfolding cost
 cost-append n j ts [] ys = omega arith
 cost-append n j ts (e ∷ xs) ys = omega (arith, cost-append n j ts xs ys)
 
-cost_cons : (n : Node) (j : ℕ) (ts : List Table) (e : Entry) (es : List Entry) → cost n j ts (e ∷ es) ≡ 1 + cost_one n j ts e.tuple + cost n j ts es
+cost_cons : (n : Node) (j : ℕ) (ts : List Table) (e : Entry) (es : List Entry) → cost n j ts (e ∷ es)
+    ≡ 1 + cost_one n j ts e.tuple + cost n j ts es
 unfolding cost
 cost_cons n j ts e es = refl
 
@@ -295,12 +385,22 @@ pub cost_none : (n : Node) (j : ℕ) (ts : List Table) → cost n j ts [] ≡ 0
 unfolding cost
 cost_none n j ts = refl
 
-pub cost_more : (n : Node) (j : ℕ) (ts : List Table) (g : List Entry) (i : ℕ) (e : Entry) → g ≡ take i g ++ e ∷ drop (i + 1) g → cost n j ts (take (i + 1) g) ≡ cost n j ts (take i g) + 1 + cost_one n j ts e.tuple
+pub cost_more : (n : Node) (j : ℕ) (ts : List Table) (g : List Entry) (i : ℕ) (e : Entry) → g
+    ≡ take i g ++ e ∷ drop (i + 1) g → cost n j ts (take (i + 1) g)
+    ≡ cost n j ts (take i g) + 1 + cost_one n j ts e.tuple
 cost_more n j ts g i e h =
-    omega (arith, ap (λ (es : List Entry). cost n j ts es) h, cost-append n j ts (take i g) (e ∷ drop (i + 1) g), cost_cons n j ts e (drop (i + 1) g), ap (λ (es : List Entry). cost n j ts es) (take-append-drop (i + 1) g), cost-append n j ts (take (i + 1) g) (drop (i + 1) g))
+    omega (
+      arith,
+      ap (λ (es : List Entry). cost n j ts es) h,
+      cost-append n j ts (take i g) (e ∷ drop (i + 1) g),
+      cost_cons n j ts e (drop (i + 1) g),
+      ap (λ (es : List Entry). cost n j ts es) (take-append-drop (i + 1) g),
+      cost-append n j ts (take (i + 1) g) (drop (i + 1) g),
+    )
 
 pub cost_le : (n : Node) (j : ℕ) (ts : List Table) (g : List Entry) (i : ℕ) → cost n j ts (take i g) ≤ cost n j ts g
-cost_le n j ts g i = omega (arith, ap (λ (es : List Entry). cost n j ts es) (take-append-drop i g), cost-append n j ts (take i g) (drop i g))
+cost_le n j ts g i = omega
+    (arith, ap (λ (es : List Entry). cost n j ts es) (take-append-drop i g), cost-append n j ts (take i g) (drop i g))
 
 -- first parts of lists
 pub take_zero : (g : List Entry) (v : List ℕ) → cnt (take 0 g) v ≡ 0
@@ -316,15 +416,22 @@ cut_length g i e h =
     omega (arith, ap (λ (es : List Entry). length es) h, length-append (take i g) (e ∷ drop (i + 1) g), length-take i g)
 
 pub cut_mark : (es : List Entry) (i : ℕ) (p : Place) (k : WalkCut (marks es) i p) → IsAt es p k.entry.tuple
-cut_mark es i p k = subst (λ (q : Place). IsAt es q k.entry.tuple) k.at (mark_at es (take i (marks es)) k.entry (drop (i + 1) (marks es)) k.is)
+cut_mark es i p k = subst (λ (q : Place). IsAt es q k.entry.tuple) k.at
+    (mark_at es (take i (marks es)) k.entry (drop (i + 1) (marks es)) k.is)
 
 -- a step is under its node
-pub step_trim : (t : Tree) (j k c : ℕ) (n : Node) → has_child (node_at t.nodes k) j ≡ true → k < length t.nodes → n ≡ node_at t.nodes k → n ≡ Trim c → IsUnder t k (Trim j) j
+pub step_trim : (t : Tree) (j k c : ℕ) (n : Node) → has_child (node_at t.nodes k) j ≡ true → k < length t.nodes → n
+    ≡ node_at t.nodes k → n ≡ Trim c → IsUnder t k (Trim j) j
 step_trim t j k c n child within here e =
     let at : node_at t.nodes k ≡ Trim c = sym here ∙ e in
     let h : has_child (Trim c) j ≡ true = subst (λ (m : Node). has_child m j ≡ true) at child in
     let same_one = trim_same c j h in
-    record { within = within; node = at ∙ ap (λ (x : ℕ). Trim x) same_one; child = subst (λ (x : ℕ). has_child (Trim x) j ≡ true) same_one h }
+    record {
+      within = within;
+      node = at
+          ∙ ap (λ (x : ℕ). Trim x) same_one;
+      child = subst (λ (x : ℕ). has_child (Trim x) j ≡ true) same_one h;
+    }
 
 pub step_lower : (t : Tree) (ts : List Table) (j k : ℕ) → IsStep t ts j k → j < k
 step_lower t ts j k s = rising_of t s.family.is_tree k j s.child
@@ -333,8 +440,10 @@ pub guard_lower : (t : Tree) (k g d : ℕ) (n : Node) → IsTree t → n ≡ nod
 guard_lower t k g d n s here e = (s.meet k g d (sym here ∙ e)).guard_lower
 
 -- the children's tables stand still while their parent's tuples are touched
-pub kids_still : (t : Tree) (ts us : List Table) (k : ℕ) (f : List ℕ → ℕ) → IsTree t → IsTouched t ts us k f → (c : ℕ) → has_child (node_at t.nodes k) c ≡ true → entries_at us c ≡ entries_at ts c
-kids_still t ts us k f s x c child = let low = rising_of t s k c child in x.others c (λ (e : c ≡ k). absurd (omega arith))
+pub kids_still : (t : Tree) (ts us : List Table) (k : ℕ) (f : List ℕ → ℕ) → IsTree t → IsTouched t ts us k f → (c : ℕ)
+    → has_child (node_at t.nodes k) c ≡ true → entries_at us c ≡ entries_at ts c
+kids_still t ts us k f s x c child = let low = rising_of t s k c child in x.others c
+    (λ (e : c ≡ k). absurd (omega arith))
 
 unmarked_nil : marks [] ≡ []
 unfolding marks
@@ -363,25 +472,36 @@ unfolding groups many
 groups_none ks [] = refl
 groups_none ks (e ∷ es) = omega (arith, groups_none ks es)
 
-groups_first : (ks : List ℕ) (x : Entry) (gs es : List Entry) → groups ks (x ∷ gs) es ≡ cnt es (pick ks x.tuple) + groups ks gs es
+groups_first : (ks : List ℕ) (x : Entry) (gs es : List Entry) → groups ks (x ∷ gs) es
+    ≡ cnt es (pick ks x.tuple) + groups ks gs es
 unfolding groups
 groups_first ks x gs [] = omega (arith, cnt_zero (pick ks x.tuple))
 groups_first ks x gs (e ∷ es) =
-    omega (arith, groups_first ks x gs es, many_cons ks x gs e.tuple, cnt_cons e es (pick ks x.tuple), ap one (same_sym (pick ks x.tuple) e.tuple))
+    omega (
+      arith,
+      groups_first ks x gs es,
+      many_cons ks x gs e.tuple,
+      cnt_cons e es (pick ks x.tuple),
+      ap one
+          (same_sym (pick ks x.tuple) e.tuple),
+    )
 
 groups_le : (ks : List ℕ) (gs es : List Entry) → ((v : List ℕ) → cnt es v ≤ 1) → groups ks gs es ≤ length gs
 groups_le ks [] es h = omega (arith, groups_none ks es)
 groups_le ks (x ∷ gs) es h = omega (arith, groups_first ks x gs es, h (pick ks x.tuple), groups_le ks gs es h)
 
-pub cost_side_all : (g s j : ℕ) (ts : List Table) (es : List Entry) → (g ≡ j → ⊥) → cost (Meet g s) j ts es ≡ 2 * length es + 3 * groups (key_at ts g) (entries_at ts g) es
+pub cost_side_all : (g s j : ℕ) (ts : List Table) (es : List Entry) → (g ≡ j → ⊥) → cost (Meet g s) j ts es
+    ≡ 2 * length es + 3 * groups (key_at ts g) (entries_at ts g) es
 unfolding cost groups
 cost_side_all g s j ts [] other = refl
-cost_side_all g s j ts (e ∷ es) other = omega (arith, cost_side (Meet g s) g s j ts e.tuple refl other, cost_side_all g s j ts es other)
+cost_side_all g s j ts (e ∷ es) other = omega
+    (arith, cost_side (Meet g s) g s j ts e.tuple refl other, cost_side_all g s j ts es other)
 
 pub cost_guard_all : (g s j : ℕ) (ts : List Table) (es : List Entry) → g ≡ j → cost (Meet g s) j ts es ≡ 3 * length es
 unfolding cost
 cost_guard_all g s j ts [] here = refl
-cost_guard_all g s j ts (e ∷ es) here = omega (arith, cost_guard (Meet g s) g s j ts e.tuple refl here, cost_guard_all g s j ts es here)
+cost_guard_all g s j ts (e ∷ es) here = omega
+    (arith, cost_guard (Meet g s) g s j ts e.tuple refl here, cost_guard_all g s j ts es here)
 
 pub cost_trim_all : (c j : ℕ) (ts : List Table) (es : List Entry) → cost (Trim c) j ts es ≡ 4 * length es
 unfolding cost
@@ -393,12 +513,20 @@ unfolding cost cost_one
 cost_leaf_all a j ts [] = refl
 cost_leaf_all a j ts (e ∷ es) = omega (arith, cost_leaf_all a j ts es)
 
-pub cost_bound : (t : Tree) (ts : List Table) (n : Node) (j m : ℕ) → IsFamily t ts → ((i : ℕ) → length (entries_at ts i) ≤ m) → cost n j ts (marks (entries_at ts j)) ≤ 5 * m
-cost_bound t ts (Leaf a) j m f h = omega (arith, cost_leaf_all a j ts (marks (entries_at ts j)), marks_length (entries_at ts j), h j)
-cost_bound t ts (Trim c) j m f h = omega (arith, cost_trim_all c j ts (marks (entries_at ts j)), marks_length (entries_at ts j), h j)
+pub cost_bound : (t : Tree) (ts : List Table) (n : Node) (j m : ℕ) → IsFamily t ts
+    → ((i : ℕ) → length (entries_at ts i) ≤ m) → cost n j ts (marks (entries_at ts j)) ≤ 5 * m
+cost_bound t ts (Leaf a) j m f h = omega
+    (arith, cost_leaf_all a j ts (marks (entries_at ts j)), marks_length (entries_at ts j), h j)
+cost_bound t ts (Trim c) j m f h = omega
+    (arith, cost_trim_all c j ts (marks (entries_at ts j)), marks_length (entries_at ts j), h j)
 cost_bound t ts (Meet g s) j m f h =
     elim (cases_eq g j) [
-      | inl here ↦ omega (arith, cost_guard_all g s j ts (marks (entries_at ts j)) here, marks_length (entries_at ts j), h j)
+      | inl here ↦ omega (
+        arith,
+        cost_guard_all g s j ts (marks (entries_at ts j)) here,
+        marks_length (entries_at ts j),
+        h j,
+      )
       | inr other ↦
           omega (
             arith,
@@ -406,7 +534,8 @@ cost_bound t ts (Meet g s) j m f h =
             marks_length (entries_at ts j),
             h j,
             h g,
-            groups_le (key_at ts g) (entries_at ts g) (marks (entries_at ts j)) (λ v. omega (arith, once t ts f j v, cnt_split (entries_at ts j) v)),
+            groups_le (key_at ts g) (entries_at ts g) (marks (entries_at ts j))
+                (λ v. omega (arith, once t ts f j v, cnt_split (entries_at ts j) v)),
           )
     ]
 

@@ -1,5 +1,6 @@
 -- From the walks to the calls of an update.
-use Rattle.std.proofs.Common.{◌≡◌, ◌≢◌, ℕ, suc, ◌+◌, ◌<◌, true, false, List, [], ◌∷◌, length, Some, refl, ap, subst, sym, ◌∙◌, arith, inl, inr}
+use Rattle.std.proofs.Common.{◌≡◌, ◌≢◌, ℕ, suc, ◌+◌, ◌<◌, true, false, List, [], ◌∷◌, length, Some}
+use Rattle.std.proofs.Common.{refl, ap, subst, sym, ◌∙◌, arith, inl, inr}
 use Rattle.std.proofs.lemmas.Bool.{cases_eq, cases_lt, cases_Bool, false≢true}
 use Rattle.djq_index.specs.declared.place.Place.{Place}
 use Rattle.djq_index.specs.Tuple.{one, same}
@@ -18,7 +19,8 @@ use Rattle.djq_reduct.specs.Marks.{on_path, IsOff, IsBare, AreOnPath, IsWithout}
 use Rattle.djq_propagate.specs.Walks.{Ready, Lived, Died, Refused, Fewer, CameAs, IsBelow}
 use Rattle.djq_propagate.specs.Touches.{IsTouched, IsTouchedUp, CanWalk, IsWalked}
 use Rattle.djq_propagate.specs.Batches.{times, HaveCome, HasInsertedAll, HasGainedAll}
-use Rattle.djq_propagate.specs.Updates.{HasInserted, HasMarked, HasKept, HasDropped, HasTaken, HasCleared, HasGained, HasLost}
+use Rattle.djq_propagate.specs.Updates.{HasInserted, HasMarked, HasKept, HasDropped, HasTaken}
+use Rattle.djq_propagate.specs.Updates.{HasCleared, HasGained, HasLost}
 use Rattle.djq_propagate.proofs.Families.{once, apart_of, tuples_same, reduced_same}
 use Rattle.djq_propagate.proofs.Sides.{cond_one}
 use Rattle.djq_propagate.proofs.Plains.{fewer_refl, fewer_trans}
@@ -46,15 +48,19 @@ ready_leaf t ts a r h = record {
 pub leaf_below : (t : Tree) (a i : ℕ) → IsTree t → i < t.leaves → i ≢ a → IsBelow t a i
 leaf_below t a i s h apart = (apart, (λ k child. let high = inner_high t k a s child in omega arith))
 
-leaf_supp : (t : Tree) (ts : List Table) (i : ℕ) → IsReducts (both t ts) → i < t.leaves → (v : List ℕ) → supp (entries_at ts i) v ≡ cnt (entries_at ts i) v
-leaf_supp t ts i r h v = leaf_law (node_at t.nodes i) i ts i (r.family.is_tree.leaf i h) (r.reduced.at i (omega arith) (leaf_within t i r.family.is_tree h)) v
+leaf_supp : (t : Tree) (ts : List Table) (i : ℕ) → IsReducts (both t ts) → i < t.leaves → (v : List ℕ)
+    → supp (entries_at ts i) v ≡ cnt (entries_at ts i) v
+leaf_supp t ts i r h v = leaf_law (node_at t.nodes i) i ts i (r.family.is_tree.leaf i h)
+    (r.reduced.at i (omega arith) (leaf_within t i r.family.is_tree h)) v
 
-from_leaf : (n : Node) (i : ℕ) (ts : List Table) → n ≡ Leaf i → ((v : List ℕ) → supp (entries_at ts i) v ≡ cnt (entries_at ts i) v) → IsReductOf n ts i
+from_leaf : (n : Node) (i : ℕ) (ts : List Table) → n ≡ Leaf i
+    → ((v : List ℕ) → supp (entries_at ts i) v ≡ cnt (entries_at ts i) v) → IsReductOf n ts i
 unfolding IsReductOf
 from_leaf n i ts e h = subst (λ (m : Node). IsReductOf m ts i) (sym e) h
 
 -- the tables are reducts again once a leaf's tuple has gone up
-reducts_from : (t : Tree) (old new : List Table) (a : ℕ) → IsReducts (both t old) → a < t.leaves → IsFamily t new → AreReduced t new (a + 1) → ((i : ℕ) → IsBelow t a i → entries_at new i ≡ entries_at old i)
+reducts_from : (t : Tree) (old new : List Table) (a : ℕ) → IsReducts (both t old) → a < t.leaves → IsFamily t new
+    → AreReduced t new (a + 1) → ((i : ℕ) → IsBelow t a i → entries_at new i ≡ entries_at old i)
     → ((v : List ℕ) → supp (entries_at new a) v ≡ cnt (entries_at new a) v) → IsReducts (both t new)
 reducts_from t old new a r h f up below here = record {
   family = f;
@@ -62,39 +68,78 @@ reducts_from t old new a r h f up below here = record {
     at = λ k low within. elim (cases_lt a k) [
       | inl above ↦ up.at k (omega arith) within
       | inr under ↦ elim (cases_eq k a) [
-        | inl same_one ↦ subst (λ (z : ℕ). IsReductOf (node_at t.nodes z) new z) (sym same_one) (from_leaf (node_at t.nodes a) a new (r.family.is_tree.leaf a h) here)
+        | inl same_one ↦ subst (λ (z : ℕ). IsReductOf (node_at t.nodes z) new z) (sym same_one)
+            (from_leaf (node_at t.nodes a) a new (r.family.is_tree.leaf a h) here)
         | inr apart ↦
             (let e = below k (leaf_below t a k r.family.is_tree (omega arith) apart) in
-            from_leaf (node_at t.nodes k) k new (r.family.is_tree.leaf k (omega arith)) (λ v. ap (λ (es : List Entry). supp es v) e ∙ leaf_supp t old k r (omega arith) v ∙ ap (λ (es : List Entry). cnt es v) (sym e)))
+            from_leaf (node_at t.nodes k) k new (r.family.is_tree.leaf k (omega arith))
+            (λ v. ap (λ (es : List Entry). supp es v) e ∙ leaf_supp t old k r (omega arith) v
+            ∙ ap (λ (es : List Entry). cnt es v) (sym e)))
       ]
     ];
   };
 }
 
-pub reducts_lived : (t : Tree) (old new : List Table) (a : ℕ) (u : List ℕ) → IsReducts (both t old) → a < t.leaves → Lived t old new a u → IsReducts (both t new)
+pub reducts_lived : (t : Tree) (old new : List Table) (a : ℕ) (u : List ℕ) → IsReducts (both t old) → a < t.leaves
+    → Lived t old new a u → IsReducts (both t new)
 reducts_lived t old new a u r h l =
     reducts_from t old new a r h l.family l.reduced l.below
-    (λ v. omega (arith, inserted_supp (key_at old a) (entries_at old a) (entries_at new a) u l.gains v, inserted_cnt (key_at old a) (entries_at old a) (entries_at new a) u l.gains v, leaf_supp t old a r h v))
+    (λ v. omega (
+      arith,
+      inserted_supp (key_at old a) (entries_at old a) (entries_at new a) u l.gains v,
+      inserted_cnt
+          (key_at old a) (entries_at old a) (entries_at new a) u l.gains v,
+      leaf_supp t old a r h v,
+    ))
 
-pub reducts_died : (t : Tree) (old new : List Table) (a : ℕ) (u : List ℕ) → IsReducts (both t old) → a < t.leaves → Died t old new a u → IsReducts (both t new)
+pub reducts_died : (t : Tree) (old new : List Table) (a : ℕ) (u : List ℕ) → IsReducts (both t old) → a < t.leaves
+    → Died t old new a u → IsReducts (both t new)
 reducts_died t old new a u r h d =
-    let unit : supp (entries_at old a) u ≡ 1 = omega (arith, leaf_supp t old a r h u, removed_cnt (entries_at old a) (entries_at new a) u d.loses u, one_same u, once t old r.family a u) in
+    let unit : supp (entries_at old a) u
+    ≡ 1 = omega (
+      arith,
+      leaf_supp t old a r h u,
+      removed_cnt (entries_at old a) (entries_at new a) u d.loses u,
+      one_same u,
+      once t old r.family a u,
+    ) in
     reducts_from t old new a r h d.family d.reduced d.below
-    (λ v. omega (arith, removed_supp (entries_at old a) (entries_at new a) u d.loses (apart_of t old r.family a) v, cond_one (same u v) (supp (entries_at old a) u) unit, removed_cnt (entries_at old a) (entries_at new a) u d.loses v, leaf_supp t old a r h v))
+    (λ v. omega (
+      arith,
+      removed_supp (entries_at old a) (entries_at new a) u d.loses (apart_of t old r.family a) v,
+      cond_one (same u v) (supp (entries_at old a) u) unit,
+      removed_cnt (entries_at old a) (entries_at new a) u
+          d.loses v,
+      leaf_supp t old a r h v,
+    ))
 
-pub reducts_same : (t : Tree) (old new : List Table) → IsReducts (both t old) → IsFamily t new → ((i : ℕ) (v : List ℕ) → supp (entries_at new i) v ≡ supp (entries_at old i) v) → IsReducts (both t new)
+pub reducts_same : (t : Tree) (old new : List Table) → IsReducts (both t old) → IsFamily t new
+    → ((i : ℕ) (v : List ℕ) → supp (entries_at new i) v ≡ supp (entries_at old i) v) → IsReducts (both t new)
 reducts_same t old new r f h = record { family = f; reduced = reduced_same t old new 0 r.family f h r.reduced }
 
-pub tables_same : (t : Tree) (old new : List Table) → IsFamily t old → IsFamily t new → ((i : ℕ) (v : List ℕ) → supp (entries_at new i) v ≡ supp (entries_at old i) v) → SameTables (both t old) (both t new)
+pub tables_same : (t : Tree) (old new : List Table) → IsFamily t old → IsFamily t new
+    → ((i : ℕ) (v : List ℕ) → supp (entries_at new i) v ≡ supp (entries_at old i) v)
+    → SameTables (both t old) (both t new)
 tables_same t old new f g h = record { tuples = λ i v. tuples_same t old new f g i (h i) v; supports = h }
 
 -- marks of tuples that stay
-pub bare_same : (t : Tree) (old new : List Table) → IsFamily t old → IsFamily t new → ((i : ℕ) (v : List ℕ) → supp (entries_at new i) v ≡ supp (entries_at old i) v) → CameAs true old new → IsBare old → IsBare new
+pub bare_same : (t : Tree) (old new : List Table) → IsFamily t old → IsFamily t new
+    → ((i : ℕ) (v : List ℕ) → supp (entries_at new i) v ≡ supp (entries_at old i) v) → CameAs true old new → IsBare old
+    → IsBare new
 bare_same t old new f g h p b = record {
-  none = λ i v. omega (arith, tuples_same t old new f g i (h i) v, p.same i v, b.none i v, cnt_split (entries_at old i) v, cnt_split (entries_at new i) v);
+  none = λ i v. omega (
+    arith,
+    tuples_same t old new f g i (h i) v,
+    p.same i v,
+    b.none i v,
+    cnt_split (entries_at old i)
+        v,
+    cnt_split (entries_at new i) v,
+  );
 }
 
-pub refused_kept : (t : Tree) (old new : List Table) (a : ℕ) → IsReducts (both t old) → Refused t old new a → IsBare new → HasKept (both t old) (both t new)
+pub refused_kept : (t : Tree) (old new : List Table) (a : ℕ) → IsReducts (both t old) → Refused t old new a → IsBare new
+    → HasKept (both t old) (both t new)
 refused_kept t old new a r x b = record {
   sound = reducts_same t old new r x.family x.supports;
   tree = refl;
@@ -103,21 +148,25 @@ refused_kept t old new a r x b = record {
 }
 
 -- an update without marks
-pub gained_all : (t : Tree) (old new : List Table) (a : ℕ) (u : List ℕ) → IsReducts (both t old) → a < t.leaves → IsBare new → Lived t old new a u → HasGained (both t old) (both t new) a u
+pub gained_all : (t : Tree) (old new : List Table) (a : ℕ) (u : List ℕ) → IsReducts (both t old) → a < t.leaves
+    → IsBare new → Lived t old new a u → HasGained (both t old) (both t new) a u
 gained_all t old new a u r h b l = record {
   sound = reducts_lived t old new a u r h l;
   tree = refl;
   leaf = inserted_cnt (key_at old a) (entries_at old a) (entries_at new a) u l.gains;
-  others = λ j v low apart. ap (λ (es : List Entry). cnt es v) (l.below j (leaf_below t a j r.family.is_tree low apart));
+  others = λ j v low apart. ap (λ (es : List Entry). cnt es v)
+      (l.below j (leaf_below t a j r.family.is_tree low apart));
   bare = b;
 }
 
-pub lost_all : (t : Tree) (old new : List Table) (a : ℕ) (u : List ℕ) → IsReducts (both t old) → a < t.leaves → IsBare new → Died t old new a u → HasLost (both t old) (both t new) a u
+pub lost_all : (t : Tree) (old new : List Table) (a : ℕ) (u : List ℕ) → IsReducts (both t old) → a < t.leaves
+    → IsBare new → Died t old new a u → HasLost (both t old) (both t new) a u
 lost_all t old new a u r h b d = record {
   sound = reducts_died t old new a u r h d;
   tree = refl;
   leaf = removed_cnt (entries_at old a) (entries_at new a) u d.loses;
-  others = λ j v low apart. ap (λ (es : List Entry). cnt es v) (d.below j (leaf_below t a j r.family.is_tree low apart));
+  others = λ j v low apart. ap (λ (es : List Entry). cnt es v)
+      (d.below j (leaf_below t a j r.family.is_tree low apart));
   bare = b;
 }
 
@@ -126,45 +175,75 @@ pub times_one : (u v : List ℕ) → times (u ∷ []) v ≡ one (same u v)
 unfolding times
 times_one u v = omega arith
 
-pub lived_come : (t : Tree) (old new : List Table) (a : ℕ) (u : List ℕ) → IsReducts (both t old) → a < t.leaves → Lived t old new a u → HaveCome t old new a (u ∷ [])
+pub lived_come : (t : Tree) (old new : List Table) (a : ℕ) (u : List ℕ) → IsReducts (both t old) → a < t.leaves
+    → Lived t old new a u → HaveCome t old new a (u ∷ [])
 lived_come t old new a u r h l = record {
   sound = reducts_lived t old new a u r h l;
-  leaf = λ v. omega (arith, inserted_cnt (key_at old a) (entries_at old a) (entries_at new a) u l.gains v, times_one u v);
-  others = λ j v low apart. ap (λ (es : List Entry). cnt es v) (l.below j (leaf_below t a j r.family.is_tree low apart));
+  leaf = λ v. omega (
+    arith,
+    inserted_cnt (key_at old a) (entries_at old a) (entries_at new a) u l.gains v,
+    times_one u
+        v,
+  );
+  others = λ j v low apart. ap (λ (es : List Entry). cnt es v)
+      (l.below j (leaf_below t a j r.family.is_tree low apart));
 }
 
 -- before the walk
-pub can_come : (t : Tree) (old mid : List Table) (a : ℕ) (us : List (List ℕ)) → IsReducts (both t old) → IsBare old → HaveCome t old mid a us → CameAs true old mid → CanWalk t mid a false
+pub can_come : (t : Tree) (old mid : List Table) (a : ℕ) (us : List (List ℕ)) → IsReducts (both t old) → IsBare old
+    → HaveCome t old mid a us → CameAs true old mid → CanWalk t mid a false
 can_come t old mid a us r b x p = record {
   reduced = x.sound.reduced;
   covered = λ k high on. covered_new t old mid a k r x.sound b p x.others on;
   bare = λ e. absurd (false≢true e);
 }
 
-pub can_insert : (t : Tree) (old mid : List Table) (a : ℕ) (u : List ℕ) → IsReducts (both t old) → a < t.leaves → IsBare old → Lived t old mid a u → CameAs true old mid → CanWalk t mid a false
+pub can_insert : (t : Tree) (old mid : List Table) (a : ℕ) (u : List ℕ) → IsReducts (both t old) → a < t.leaves
+    → IsBare old → Lived t old mid a u → CameAs true old mid → CanWalk t mid a false
 can_insert t old mid a u r h b l p = can_come t old mid a (u ∷ []) r b (lived_come t old mid a u r h l) p
 
-pub can_remove : (t : Tree) (old mid : List Table) (a : ℕ) (f : List ℕ → ℕ) → IsReducts (both t old) → a < t.leaves → IsBare old → IsTouched t old mid a f → CanWalk t mid a true
+pub can_remove : (t : Tree) (old mid : List Table) (a : ℕ) (f : List ℕ → ℕ) → IsReducts (both t old) → a < t.leaves
+    → IsBare old → IsTouched t old mid a f → CanWalk t mid a true
 can_remove t old mid a f r h b y = record {
   reduced = reduced_same t old mid 0 r.family y.family (λ i v. elim (cases_eq i a) [
     | inl here ↦ subst (λ (z : ℕ). supp (entries_at mid z) v ≡ supp (entries_at old z) v) (sym here) (y.supports v)
     | inr apart ↦ ap (λ (es : List Entry). supp es v) (y.others i apart)
   ]) r.reduced;
-  covered = λ k high on. record { each = λ w some. absurd (let up = on_high t a k r.family.is_tree on in omega (arith, b.none k w, ap (λ (es : List Entry). cnt (marks es) w) (y.others k (omega arith)))) };
+  covered = λ k high on. record {
+    each = λ w some. absurd
+        (let up = on_high t a k r.family.is_tree on in omega
+        (arith, b.none k w, ap (λ (es : List Entry). cnt (marks es) w) (y.others k (omega arith))));
+  };
   bare = λ e i apart v. ap (λ (es : List Entry). cnt (marks es) v) (y.others i apart) ∙ b.none i v;
 }
 
 -- an insertion
-pub all_inserted : (t : Tree) (old mid new : List Table) (a : ℕ) (us : List (List ℕ)) → IsReducts (both t old) → a < t.leaves → IsBare old → HaveCome t old mid a us → CameAs true old mid → IsTouchedUp t mid new a → IsWalked t mid new a false (length t.nodes)
+pub all_inserted : (t : Tree) (old mid new : List Table) (a : ℕ) (us : List (List ℕ)) → IsReducts (both t old)
+    → a < t.leaves → IsBare old → HaveCome t old mid a us → CameAs true old mid → IsTouchedUp t mid new a
+    → IsWalked t mid new a false (length t.nodes)
     → HasInsertedAll (both t old) (both t new) a us
 all_inserted t old mid new a us r h b come p x walk = record {
   sound = reducts_same t mid new come.sound x.family x.supports;
   without = record {
     tree = refl;
-    leaf = λ v. omega (arith, ap (λ (es : List Entry). cnt (plain es) v) (x.leaves a h), p.same a v, b.none a v, cnt_split (entries_at old a) v);
+    leaf = λ v. omega (
+      arith,
+      ap (λ (es : List Entry). cnt (plain es) v) (x.leaves a h),
+      p.same a v,
+      b.none a v,
+      cnt_split (entries_at old a) v,
+    );
     others = λ j v low apart. sym (ap (λ (es : List Entry). cnt es v) (x.leaves j low) ∙ come.others j v low apart);
   };
-  marked = λ v. omega (arith, ap (λ (es : List Entry). cnt (marks es) v) (x.leaves a h), come.leaf v, p.same a v, cnt_split (entries_at old a) v, cnt_split (entries_at mid a) v, b.none a v);
+  marked = λ v. omega (
+    arith,
+    ap (λ (es : List Entry). cnt (marks es) v) (x.leaves a h),
+    come.leaf v,
+    p.same a v,
+    cnt_split (entries_at old a) v,
+    cnt_split (entries_at mid a) v,
+    b.none a v,
+  );
   are_marks = record {
     path = record {
       off = λ i off v.
@@ -175,32 +254,50 @@ all_inserted t old mid new a us r h b come p x walk = record {
             b.none i v,
             cnt_split (entries_at old i) v,
             cnt_split (entries_at mid i) v,
-            tuples_same t old mid r.family come.sound.family i (off_same t old mid a r.family come.sound.family r.reduced come.sound.reduced come.others (suc i) i (omega arith) off) v,
+            tuples_same t old mid r.family come.sound.family i
+                (off_same t old mid a r.family come.sound.family r.reduced come.sound.reduced come.others (suc i) i
+                (omega arith) off) v,
           );
     };
     low = λ k second on.
         plain_new t old new k (node_at t.nodes k) r.family x.family (r.reduced.at k (omega arith) (on_within t a k on))
-        (λ i less v. omega (arith, ap (λ (es : List Entry). cnt (plain es) v) (walk.skipped refl i (omega arith)), p.same i v, b.none i v, cnt_split (entries_at old i) v)) (rising_of t r.family.is_tree k);
+        (λ i less v. omega (
+          arith,
+          ap (λ (es : List Entry). cnt (plain es) v) (walk.skipped refl i (omega arith)),
+          p.same i v,
+          b.none i v,
+          cnt_split (entries_at old i) v,
+        )) (rising_of t r.family.is_tree k);
     high = λ k second on. walk.high k (on_within t a k on) second on;
   };
 }
 
 -- of one tuple
-pub inserted_one : (old new : Reducts) (a : ℕ) (u : List ℕ) → HasInsertedAll old new a (u ∷ []) → HasInserted old new a u
-inserted_one old new a u x = record { sound = x.sound; without = x.without; marked = λ v. x.marked v ∙ times_one u v; are_marks = x.are_marks }
+pub inserted_one : (old new : Reducts) (a : ℕ) (u : List ℕ) → HasInsertedAll old new a (u ∷ [])
+    → HasInserted old new a u
+inserted_one old new a u x = record
+    { sound = x.sound; without = x.without; marked = λ v. x.marked v ∙ times_one u v; are_marks = x.are_marks }
 
-pub inserted_all : (t : Tree) (old mid new : List Table) (a : ℕ) (u : List ℕ) → IsReducts (both t old) → a < t.leaves → IsBare old → Lived t old mid a u → CameAs true old mid → IsTouchedUp t mid new a → IsWalked t mid new a false (length t.nodes) → HasInserted (both t old) (both t new) a u
-inserted_all t old mid new a u r h b l p x walk = inserted_one (both t old) (both t new) a u (all_inserted t old mid new a (u ∷ []) r h b (lived_come t old mid a u r h l) p x walk)
+pub inserted_all : (t : Tree) (old mid new : List Table) (a : ℕ) (u : List ℕ) → IsReducts (both t old) → a < t.leaves
+    → IsBare old → Lived t old mid a u → CameAs true old mid → IsTouchedUp t mid new a
+    → IsWalked t mid new a false (length t.nodes) → HasInserted (both t old) (both t new) a u
+inserted_all t old mid new a u r h b l p x walk = inserted_one (both t old) (both t new) a u
+    (all_inserted t old mid new a (u ∷ []) r h b (lived_come t old mid a u r h l) p x walk)
 
 -- a tuple is marked for a removal
-pub marked_all : (t : Tree) (old mid new : List Table) (a : ℕ) (u : List ℕ) → IsReducts (both t old) → a < t.leaves → IsBare old → 0 < cnt (entries_at old a) u → IsTouched t old mid a (λ v. one (same u v)) → IsTouchedUp t mid new a → IsWalked t mid new a true (length t.nodes) → HasMarked (both t old) (both t new) a u
+pub marked_all : (t : Tree) (old mid new : List Table) (a : ℕ) (u : List ℕ) → IsReducts (both t old) → a < t.leaves
+    → IsBare old → 0 < cnt (entries_at old a) u → IsTouched t old mid a (λ v. one (same u v)) → IsTouchedUp t mid new a
+    → IsWalked t mid new a true (length t.nodes) → HasMarked (both t old) (both t new) a u
 marked_all t old mid new a u r h b there y x walk = record {
   sound = reducts_same t old new r x.family all;
   tree = refl;
   tables = tables_same t old new r.family x.family all;
   marked = λ v. ap (λ (es : List Entry). cnt (marks es) v) (x.leaves a h) ∙ mark v;
   are_marks = record {
-    path = record { off = λ i off v. ap (λ (es : List Entry). cnt (marks es) v) (x.off i off ∙ y.others i off.0) ∙ b.none i v };
+    path = record {
+      off = λ i off v. ap (λ (es : List Entry). cnt (marks es) v) (x.off i off ∙ y.others i off.0)
+          ∙ b.none i v;
+    };
     low = λ k second on. walk.low k (on_within t a k on) second refl on;
     high = λ k second on. walk.high k (on_within t a k on) second on;
   };
@@ -217,7 +314,8 @@ marked_all t old mid new a u r h b there y x walk = record {
         elim (same_cases u v) [
           | inl here ↦ (
               let test = one_true (same u v) (is_same u v here) in
-              let some : 0 < cnt (entries_at old a) v = subst (λ (w : List ℕ). 0 < cnt (entries_at old a) w) here there in
+              let some : 0 < cnt (entries_at old a) v = subst (λ (w : List ℕ). 0 < cnt (entries_at old a) w) here there
+              in
               omega (arith, y.comes v some (omega arith), once t mid y.family a v, cnt_split (entries_at mid a) v))
           | inr other ↦ (
               let test = one_other u v other in
@@ -235,13 +333,16 @@ pub record IsTaking (t : Tree) (old new : List Table) (a : ℕ) : Type 0 where
   pub lesser : Fewer old new
 
 pub taking_none : (t : Tree) (ts : List Table) (a : ℕ) → IsReducts (both t ts) → IsTaking t ts ts a
-taking_none t ts a r = record { sound = r; unmarked = λ v. refl; others = λ j v low apart. refl; lesser = fewer_refl ts }
+taking_none t ts a r = record
+    { sound = r; unmarked = λ v. refl; others = λ j v low apart. refl; lesser = fewer_refl ts }
 
-pub taking_more : (t : Tree) (old mid new : List Table) (a : ℕ) (u : List ℕ) → a < t.leaves → IsTaking t old mid a → Died t mid new a u → Fewer mid new → 0 < cnt (marks (entries_at mid a)) u → IsTaking t old new a
+pub taking_more : (t : Tree) (old mid new : List Table) (a : ℕ) (u : List ℕ) → a < t.leaves → IsTaking t old mid a
+    → Died t mid new a u → Fewer mid new → 0 < cnt (marks (entries_at mid a)) u → IsTaking t old new a
 taking_more t old mid new a u h x d w marked = record {
   sound = reducts_died t mid new a u x.sound h d;
   unmarked = λ v. stays v ∙ x.unmarked v;
-  others = λ j v low apart. ap (λ (es : List Entry). cnt es v) (d.below j (leaf_below t a j x.sound.family.is_tree low apart)) ∙ x.others j v low apart;
+  others = λ j v low apart. ap (λ (es : List Entry). cnt es v)
+      (d.below j (leaf_below t a j x.sound.family.is_tree low apart)) ∙ x.others j v low apart;
   lesser = fewer_trans old mid new x.lesser w;
 }
   where
@@ -249,15 +350,30 @@ taking_more t old mid new a u h x d w marked = record {
     stays v =
         elim (same_cases u v) [
           | inl here ↦ (
-              let some : 0 < cnt (marks (entries_at mid a)) v = subst (λ (y : List ℕ). 0 < cnt (marks (entries_at mid a)) y) here marked in
+              let some : 0 < cnt (marks (entries_at mid a)) v = subst
+              (λ (y : List ℕ). 0 < cnt (marks (entries_at mid a)) y) here marked in
               omega (arith, once t mid x.sound.family a v, cnt_split (entries_at mid a) v, w.unmarked a v))
-          | inr other ↦ omega (arith, one_other u v other, removed_cnt (entries_at mid a) (entries_at new a) u d.loses v, cnt_split (entries_at mid a) v, cnt_split (entries_at new a) v, w.unmarked a v, w.marked a v)
+          | inr other ↦ omega (
+            arith,
+            one_other u v other,
+            removed_cnt (entries_at mid a) (entries_at new a) u d.loses
+                v,
+            cnt_split (entries_at mid a) v,
+            cnt_split (entries_at new a) v,
+            w.unmarked a v,
+            w.marked a v,
+          )
         ]
 
-pub taking_done : (t : Tree) (old new : List Table) (a : ℕ) → IsTaking t old new a → ((v : List ℕ) → cnt (marks (entries_at new a)) v ≡ 0) → HasTaken (both t old) (both t new) a
+pub taking_done : (t : Tree) (old new : List Table) (a : ℕ) → IsTaking t old new a
+    → ((v : List ℕ) → cnt (marks (entries_at new a)) v ≡ 0) → HasTaken (both t old) (both t new) a
 taking_done t old new a x none = record {
   sound = x.sound;
-  without = record { tree = refl; leaf = λ v. omega (arith, x.unmarked v, none v, cnt_split (entries_at new a) v); others = x.others };
+  without = record {
+    tree = refl;
+    leaf = λ v. omega (arith, x.unmarked v, none v, cnt_split (entries_at new a) v);
+    others = x.others;
+  };
   fewer = x.lesser;
 }
 
@@ -274,7 +390,8 @@ pub record IsMarkedAt (es : List Entry) (p : Place) : Type 0 where
   pub is_at : IsAt es p tuple
   pub some : 0 < cnt (marks es) tuple
 
-first_cons : (g : List Entry) (p : Place) → head_at g ≡ Some p → (e : Entry) × (rest : List Entry) × (g ≡ e ∷ rest) × (e.at ≡ p)
+first_cons : (g : List Entry) (p : Place) → head_at g ≡ Some p → (e : Entry) × (rest : List Entry) × (g ≡ e ∷ rest)
+    × (e.at ≡ p)
 unfolding head_at
 first_cons [] p h = absurd cc
 first_cons (e ∷ g) p h = (e, g, refl, cc)
@@ -285,11 +402,18 @@ first_mark es p h =
     record {
       tuple = c.0.tuple;
       is_at = subst (λ (q : Place). IsAt es q c.0.tuple) c.3 (mark_at es [] c.0 c.1 c.2);
-      some = omega (arith, ap (λ (xs : List Entry). cnt xs c.0.tuple) c.2, cnt_cons c.0 c.1 c.0.tuple, one_same c.0.tuple);
+      some = omega (
+        arith,
+        ap (λ (xs : List Entry). cnt xs c.0.tuple) c.2,
+        cnt_cons c.0 c.1 c.0.tuple,
+        one_same
+            c.0.tuple,
+      );
     }
 
 -- the endings
-bare_all : (t : Tree) (old new : List Table) (a : ℕ) → HasCleared t old new a (length t.nodes) → ((i : ℕ) → IsOff t.nodes a i → (v : List ℕ) → cnt (marks (entries_at new i)) v ≡ 0) → IsBare new
+bare_all : (t : Tree) (old new : List Table) (a : ℕ) → HasCleared t old new a (length t.nodes)
+    → ((i : ℕ) → IsOff t.nodes a i → (v : List ℕ) → cnt (marks (entries_at new i)) v ≡ 0) → IsBare new
 bare_all t old new a x off = record {
   none = λ i v. elim (cases_eq i a) [
     | inl here ↦ subst (λ (z : ℕ). cnt (marks (entries_at new z)) v ≡ 0) (sym here) (x.leaf v)
@@ -300,7 +424,8 @@ bare_all t old new a x off = record {
   ];
 }
 
-pub kept_all : (t : Tree) (old new : List Table) (a : ℕ) → IsReducts (both t old) → AreOnPath t old a → HasCleared t old new a (length t.nodes) → HasKept (both t old) (both t new)
+pub kept_all : (t : Tree) (old new : List Table) (a : ℕ) → IsReducts (both t old) → AreOnPath t old a
+    → HasCleared t old new a (length t.nodes) → HasKept (both t old) (both t new)
 kept_all t old new a r p x = record {
   sound = reducts_same t old new r x.family x.supports;
   tree = refl;
@@ -308,52 +433,71 @@ kept_all t old new a r p x = record {
   bare = bare_all t old new a x (λ i off v. ap (λ (es : List Entry). cnt (marks es) v) (x.off i off) ∙ p.off i off v);
 }
 
-pub dropped_all : (t : Tree) (old mid new : List Table) (a : ℕ) → a < t.leaves → AreOnPath t old a → HasTaken (both t old) (both t mid) a → HasCleared t mid new a (length t.nodes) → HasDropped (both t old) (both t new) a
+pub dropped_all : (t : Tree) (old mid new : List Table) (a : ℕ) → a < t.leaves → AreOnPath t old a
+    → HasTaken (both t old) (both t mid) a → HasCleared t mid new a (length t.nodes)
+    → HasDropped (both t old) (both t new) a
 dropped_all t old mid new a h p y x = record {
   sound = reducts_same t mid new y.sound x.family x.supports;
   without = record {
     tree = refl;
     leaf = λ v. tuples_same t mid new y.sound.family x.family a (x.supports a) v ∙ y.without.leaf v;
-    others = λ j v low apart. tuples_same t mid new y.sound.family x.family j (x.supports j) v ∙ y.without.others j v low apart;
+    others = λ j v low apart. tuples_same t mid new y.sound.family x.family j (x.supports j) v
+        ∙ y.without.others j v low apart;
   };
-  bare = bare_all t mid new a x (λ i off v. omega (arith, ap (λ (es : List Entry). cnt (marks es) v) (x.off i off), y.fewer.marked i v, p.off i off v));
+  bare = bare_all t mid new a x
+      (λ i off v. omega (
+        arith,
+        ap (λ (es : List Entry). cnt (marks es) v) (x.off i off),
+        y.fewer.marked i v,
+        p.off i
+            off v,
+      ));
 }
 
 -- undone
-pub undone : (before middle after : Reducts) (a : ℕ) → IsReducts before → IsReducts after → IsWithout middle before a → IsWithout middle after a → SameTables before after
+pub undone : (before middle after : Reducts) (a : ℕ) → IsReducts before → IsReducts after → IsWithout middle before a
+    → IsWithout middle after a → SameTables before after
 undone before middle after a r s x y = one_family before after r s (record {
   same_tree = y.tree ∙ sym x.tree;
   same = λ j u low. elim (cases_eq j a) [
-    | inl here ↦ subst (λ (z : ℕ). cnt (entries_at after.tables z) u ≡ cnt (entries_at before.tables z) u) (sym here) (y.leaf u ∙ sym (x.leaf u))
-    | inr apart ↦ (let low2 : j < middle.tree.leaves = subst (λ (t : Tree). j < t.leaves) x.tree low in y.others j u low2 apart ∙ sym (x.others j u low2 apart))
+    | inl here ↦ subst (λ (z : ℕ). cnt (entries_at after.tables z) u ≡ cnt (entries_at before.tables z) u) (sym here)
+        (y.leaf u ∙ sym (x.leaf u))
+    | inr apart ↦ (let low2 : j < middle.tree.leaves = subst (λ (t : Tree). j < t.leaves) x.tree low in y.others j u
+        low2 apart ∙ sym (x.others j u low2 apart))
   ];
 })
 
 -- an update with marks leaves what one without them does, once it is ended
-pub inserted_gained : (old mid new : Reducts) (a : ℕ) (u : List ℕ) → HasInserted old mid a u → HasKept mid new → HasGained old new a u
+pub inserted_gained : (old mid new : Reducts) (a : ℕ) (u : List ℕ) → HasInserted old mid a u → HasKept mid new
+    → HasGained old new a u
 inserted_gained old mid new a u x k = record {
   sound = k.sound;
   tree = k.tree ∙ sym x.without.tree;
   leaf = λ v. omega (arith, k.tables.tuples a v, cnt_split (entries_at mid.tables a) v, x.without.leaf v, x.marked v);
-  others = λ j v low apart. k.tables.tuples j v ∙ sym (x.without.others j v (subst (λ (t : Tree). j < t.leaves) x.without.tree low) apart);
+  others = λ j v low apart. k.tables.tuples j v
+      ∙ sym (x.without.others j v (subst (λ (t : Tree). j < t.leaves) x.without.tree low) apart);
   bare = k.bare;
 }
 
-pub inserted_gained_all : (old mid new : Reducts) (a : ℕ) (us : List (List ℕ)) → HasInsertedAll old mid a us → HasKept mid new → HasGainedAll old new a us
+pub inserted_gained_all : (old mid new : Reducts) (a : ℕ) (us : List (List ℕ)) → HasInsertedAll old mid a us
+    → HasKept mid new → HasGainedAll old new a us
 inserted_gained_all old mid new a us x k = record {
   sound = k.sound;
   tree = k.tree ∙ sym x.without.tree;
   leaf = λ v. omega (arith, k.tables.tuples a v, cnt_split (entries_at mid.tables a) v, x.without.leaf v, x.marked v);
-  others = λ j v low apart. k.tables.tuples j v ∙ sym (x.without.others j v (subst (λ (t : Tree). j < t.leaves) x.without.tree low) apart);
+  others = λ j v low apart. k.tables.tuples j v
+      ∙ sym (x.without.others j v (subst (λ (t : Tree). j < t.leaves) x.without.tree low) apart);
   bare = k.bare;
 }
 
-pub marked_lost : (old mid new : Reducts) (a : ℕ) (u : List ℕ) → HasMarked old mid a u → HasDropped mid new a → HasLost old new a u
+pub marked_lost : (old mid new : Reducts) (a : ℕ) (u : List ℕ) → HasMarked old mid a u → HasDropped mid new a
+    → HasLost old new a u
 marked_lost old mid new a u x d = record {
   sound = d.sound;
   tree = d.without.tree ∙ x.tree;
   leaf = λ v. omega (arith, x.tables.tuples a v, cnt_split (entries_at mid.tables a) v, d.without.leaf v, x.marked v);
-  others = λ j v low apart. d.without.others j v (subst (λ (t : Tree). j < t.leaves) (sym x.tree) low) apart ∙ x.tables.tuples j v;
+  others = λ j v low apart. d.without.others j v (subst (λ (t : Tree). j < t.leaves) (sym x.tree) low) apart
+      ∙ x.tables.tuples j v;
   bare = d.bare;
 }
 

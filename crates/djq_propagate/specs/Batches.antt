@@ -47,7 +47,8 @@ pub record HasGainedAll (old new : Reducts) (a : ℕ) (us : List (List ℕ)) : T
   pub sound : IsReducts new
   pub tree : new.tree ≡ old.tree
   pub leaf : (v : List ℕ) → cnt (entries_at new.tables a) v ≡ cnt (entries_at old.tables a) v + times us v
-  pub others : (j : ℕ) (v : List ℕ) → j < old.tree.leaves → j ≢ a → cnt (entries_at new.tables j) v ≡ cnt (entries_at old.tables j) v
+  pub others : (j : ℕ) (v : List ℕ) → j < old.tree.leaves → j ≢ a → cnt (entries_at new.tables j) v
+      ≡ cnt (entries_at old.tables j) v
   pub bare : IsBare new.tables
 
 -- the tuples us went from the leaf a, each other leaf holds what it held, and no tuple is marked
@@ -55,5 +56,6 @@ pub record HasLostAll (old new : Reducts) (a : ℕ) (us : List (List ℕ)) : Typ
   pub sound : IsReducts new
   pub tree : new.tree ≡ old.tree
   pub leaf : (v : List ℕ) → cnt (entries_at old.tables a) v ≡ cnt (entries_at new.tables a) v + times us v
-  pub others : (j : ℕ) (v : List ℕ) → j < old.tree.leaves → j ≢ a → cnt (entries_at new.tables j) v ≡ cnt (entries_at old.tables j) v
+  pub others : (j : ℕ) (v : List ℕ) → j < old.tree.leaves → j ≢ a → cnt (entries_at new.tables j) v
+      ≡ cnt (entries_at old.tables j) v
   pub bare : IsBare new.tables

@@ -29,12 +29,14 @@ gate true n = n == 0
 -- what a marked tuple u of the child j reaches at a node, and what the marked tuples es reach
 unfoldable pub reach_one : Node → Bool → ℕ → List Table → List ℕ → List ℕ → ℕ
 reach_one (Leaf a) going j ts u w = 0
-reach_one (Trim c) going j ts u w = one (same (pick (key_at ts c) u) w) * one (gate going (many (key_at ts c) (plain (entries_at ts c)) w))
+reach_one (Trim c) going j ts u w = one (same (pick (key_at ts c) u) w) * one
+    (gate going (many (key_at ts c) (plain (entries_at ts c)) w))
 reach_one (Meet g s) going j ts u w = cond (g == j) (one (same u w)) (cnt (grp (key_at ts g) (entries_at ts g) u) w)
 
 unfoldable pub reach : Node → Bool → ℕ → List Table → List Entry → List ℕ → ℕ
 reach (Leaf a) going j ts es w = 0
-reach (Trim c) going j ts es w = many (key_at ts c) es w * one (gate going (many (key_at ts c) (plain (entries_at ts c)) w))
+reach (Trim c) going j ts es w = many (key_at ts c) es w * one
+    (gate going (many (key_at ts c) (plain (entries_at ts c)) w))
 reach (Meet g s) going j ts es w = cond (g == j) (cnt es w) (cnt (entries_at ts g) w * cnt es (pick (key_at ts g) w))
 
 -- what it counts
@@ -70,7 +72,8 @@ pub record IsCovered (n : Node) (ts : List Table) (j k : ℕ) : Type 0 where
 -- before a removal there are none above it
 pub record CanWalk (t : Tree) (ts : List Table) (a : ℕ) (removal : Bool) : Type 0 where
   pub reduced : AreReduced t ts 0
-  pub covered : (k : ℕ) → t.second_stage ≤ k → on_path t.nodes a k ≡ true → IsCovered (node_at t.nodes k) ts (path_at t.nodes a k) k
+  pub covered : (k : ℕ) → t.second_stage ≤ k → on_path t.nodes a k ≡ true
+      → IsCovered (node_at t.nodes k) ts (path_at t.nodes a k) k
   pub bare : removal ≡ true → (i : ℕ) → i ≢ a → (v : List ℕ) → cnt (marks (entries_at ts i)) v ≡ 0
 
 -- at most one tuple is marked in each table
@@ -82,5 +85,7 @@ pub record IsWalked (t : Tree) (old new : List Table) (a : ℕ) (removal : Bool)
   pub later : (i : ℕ) → k ≤ i → entries_at new i ≡ entries_at old i
   pub keeps : (i : ℕ) (v : List ℕ) → cnt (marks (entries_at old i)) v ≤ cnt (marks (entries_at new i)) v
   pub skipped : removal ≡ false → (i : ℕ) → i < t.second_stage → entries_at new i ≡ entries_at old i
-  pub low : (i : ℕ) → i < k → i < t.second_stage → removal ≡ true → on_path t.nodes a i ≡ true → ArePlainAt (node_at t.nodes i) new i
-  pub high : (i : ℕ) → i < k → t.second_stage ≤ i → on_path t.nodes a i ≡ true → AgreeAt (node_at t.nodes i) new (path_at t.nodes a i) i
+  pub low : (i : ℕ) → i < k → i < t.second_stage → removal ≡ true → on_path t.nodes a i ≡ true
+      → ArePlainAt (node_at t.nodes i) new i
+  pub high : (i : ℕ) → i < k → t.second_stage ≤ i → on_path t.nodes a i ≡ true
+      → AgreeAt (node_at t.nodes i) new (path_at t.nodes a i) i

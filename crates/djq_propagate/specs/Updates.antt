@@ -44,7 +44,8 @@ pub record HasGained (old new : Reducts) (a : ℕ) (u : List ℕ) : Type 0 where
   pub sound : IsReducts new
   pub tree : new.tree ≡ old.tree
   pub leaf : (v : List ℕ) → cnt (entries_at new.tables a) v ≡ cnt (entries_at old.tables a) v + one (same u v)
-  pub others : (j : ℕ) (v : List ℕ) → j < old.tree.leaves → j ≢ a → cnt (entries_at new.tables j) v ≡ cnt (entries_at old.tables j) v
+  pub others : (j : ℕ) (v : List ℕ) → j < old.tree.leaves → j ≢ a → cnt (entries_at new.tables j) v
+      ≡ cnt (entries_at old.tables j) v
   pub bare : IsBare new.tables
 
 -- the tuple u went from the leaf a, each other leaf holds what it held, and no tuple is marked
@@ -52,7 +53,8 @@ pub record HasLost (old new : Reducts) (a : ℕ) (u : List ℕ) : Type 0 where
   pub sound : IsReducts new
   pub tree : new.tree ≡ old.tree
   pub leaf : (v : List ℕ) → cnt (entries_at old.tables a) v ≡ cnt (entries_at new.tables a) v + one (same u v)
-  pub others : (j : ℕ) (v : List ℕ) → j < old.tree.leaves → j ≢ a → cnt (entries_at new.tables j) v ≡ cnt (entries_at old.tables j) v
+  pub others : (j : ℕ) (v : List ℕ) → j < old.tree.leaves → j ≢ a → cnt (entries_at new.tables j) v
+      ≡ cnt (entries_at old.tables j) v
   pub bare : IsBare new.tables
 
 -- the marked tuples of the leaf a went from its table, and from those above what stood by them

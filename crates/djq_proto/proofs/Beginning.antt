@@ -47,7 +47,8 @@ neither false q e = (refl, e)
 
 -- a word of another first byte
 other_first : (b c : ℕ) (bs cs : Bytes) → eqb b c ≡ false → bytes_eq (b ∷ bs) (c ∷ cs) ≡ false
-other_first b c bs cs e = false_from_ne_true (bytes_eq (b ∷ bs) (c ∷ cs)) (λ same. apart ((bytes_eq-decides (b ∷ bs) (c ∷ cs)).0 same))
+other_first b c bs cs e = false_from_ne_true (bytes_eq (b ∷ bs) (c ∷ cs))
+    (λ same. apart ((bytes_eq-decides (b ∷ bs) (c ∷ cs)).0 same))
   where
     apart : b ∷ bs ≡ c ∷ cs → ⊥
     apart f = let first : b ≡ c = cc in both_ways (eqb b c) e (eq-eqb b c first)
@@ -85,7 +86,8 @@ IsOther t = begins_row (t.0 ∷ tokens t.1) ≡ false
 
 less_other : (bs : Bytes) → IsOther (less_front bs)
 less_other [] = refl
-less_other (b ∷ bs) = cond_both (eqb b 45) _ _ IsOther (λ _. refl) (λ _. cond_both (eqb b 61) _ _ IsOther (λ _. refl) (λ _. refl))
+less_other (b ∷ bs) = cond_both (eqb b 45) _ _ IsOther (λ _. refl)
+    (λ _. cond_both (eqb b 61) _ _ IsOther (λ _. refl) (λ _. refl))
 
 greater_other : (bs : Bytes) → IsOther (greater_front bs)
 greater_other [] = refl
@@ -99,7 +101,8 @@ text_other : (o : Option (Bytes × Bytes)) → IsOther (text_front o)
 text_other None = refl
 text_other (Some r) = cond_both (may_end r.1) (text r.0, r.1) (stray, r.1) IsOther (λ _. refl) (λ _. refl)
 
-front_other : (b : ℕ) (bs : Bytes) → eqb b 97 ≡ false → eqb b 100 ≡ false → begins_row (and_then tokens (token_front (b ∷ bs))) ≡ false
+front_other : (b : ℕ) (bs : Bytes) → eqb b 97 ≡ false → eqb b 100 ≡ false
+    → begins_row (and_then tokens (token_front (b ∷ bs))) ≡ false
 front_other b bs a d =
     cond_both (eqb b 40) _ _ IsOther (λ _. refl) (λ _.
     cond_both (eqb b 41) _ _ IsOther (λ _. refl) (λ _.
@@ -109,12 +112,14 @@ front_other b bs a d =
     cond_both (eqb b 62) _ _ IsOther (λ _. greater_other bs) (λ _.
     cond_both (eqb b 33) _ _ IsOther (λ _. not_other bs) (λ _.
     cond_both (eqb b 34) _ _ IsOther (λ _. text_other (text_in false bs)) (λ _.
-    other_word (b ∷ word_front bs) (other_first b 97 (word_front bs) (100 ∷ 100 ∷ []) a) (other_first b 100 (word_front bs) (101 ∷ 108 ∷ []) d)))))))))
+    other_word (b ∷ word_front bs) (other_first b 97 (word_front bs) (100 ∷ 100 ∷ []) a)
+    (other_first b 100 (word_front bs) (101 ∷ 108 ∷ []) d)))))))))
 
 pub begins_other : (line : Bytes) → may_begin line ≡ false → begins_row (tokens line) ≡ false
 begins_other [] e = ap begins_row (tokens-none [] refl)
 begins_other (b ∷ bs) e =
     let last = neither (eqb b 32 || eqb b 97) (eqb b 100) e in
     let some = neither (eqb b 32) (eqb b 97) last.0 in
-    ap begins_row (tokens-step (b ∷ bs)) ∙ ap (λ (cs : Bytes). begins_row (and_then tokens (token_front cs))) (cond-false _ _ _ some.0)
+    ap begins_row (tokens-step (b ∷ bs))
+    ∙ ap (λ (cs : Bytes). begins_row (and_then tokens (token_front cs))) (cond-false _ _ _ some.0)
     ∙ front_other b bs some.1 last.1

@@ -31,7 +31,8 @@ use Rattle.djq_proto.specs.declared.refusal.LineRefusal.TheVariants.{Syntax, Ran
 use Rattle.djq_proto.proofs.Listing.{all_true}
 
 -- a relation that is refused
-pub rel_refused : (o : Option (Bytes × List ColumnType)) (e : LineRefusal) → ReadsAs (λ p. list_all (λ _. true) p.1) o (Err e) → Gives (option_map (λ p. Rel p.0 p.1) o) (Err e)
+pub rel_refused : (o : Option (Bytes × List ColumnType)) (e : LineRefusal)
+    → ReadsAs (λ p. list_all (λ _. true) p.1) o (Err e) → Gives (option_map (λ p. Rel p.0 p.1) o) (Err e)
 rel_refused None e h = (cc, tt)
 rel_refused (Some p) Syntax h = absurd h
 rel_refused (Some p) Range h = absurd (true≢false (sym (all_true p.1) ∙ h))
@@ -59,13 +60,15 @@ some_of_three (a ∷ b ∷ []) h = absurd (cc)
 some_of_three (a ∷ b ∷ c ∷ ts) h = refl
 
 -- a query that is refused
-pub query_refused : (o : Option Query) (e : LineRefusal) → ReadsAs is_small_query o (Err e) → Gives (option_map (λ q. Register q) o) (Err e)
+pub query_refused : (o : Option Query) (e : LineRefusal) → ReadsAs is_small_query o (Err e)
+    → Gives (option_map (λ q. Register q) o) (Err e)
 query_refused None e h = (cc, tt)
 query_refused (Some q) Syntax h = absurd h
 query_refused (Some q) Range h = (h, tt)
 query_refused (Some q) NoMem h = (h, refl)
 
 -- a query that is kept
-pub query_made : (o : Option Query) (q : Query) → ReadsAs is_small_query o (Ok q) → Gives (option_map (λ q. Register q) o) (Ok (Register q))
+pub query_made : (o : Option Query) (q : Query) → ReadsAs is_small_query o (Ok q)
+    → Gives (option_map (λ q. Register q) o) (Ok (Register q))
 query_made None q h = absurd (cc)
 query_made (Some p) q h = ((ap (λ x. Register x) h.0, h.1), tt)

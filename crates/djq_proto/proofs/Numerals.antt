@@ -1,5 +1,8 @@
 -- Words are read as numbers exactly where they denote them.
-use Rattle.std.proofs.Common.{◌≡◌, ℕ, ℤ, pos, negsuc, neg_ℤ, zero, suc, ◌+◌, ◌-◌, ◌*◌, ◌^◌, ◌<◌, ◌≤◌, Bool, true, false, cond, ◌&&◌, ◌||◌, [], ◌∷◌, length, Option, Some, None, option_map, refl, sym, ap, ◌∙◌, arith, eqb, leb, inl, inr, codes}
+use Rattle.std.proofs.Common.{◌≡◌, ℕ, ℤ, pos, negsuc, neg_ℤ, zero, suc, ◌+◌, ◌-◌, ◌*◌, ◌^◌, ◌<◌}
+use Rattle.std.proofs.Common.{◌≤◌, Bool, true, false, cond, ◌&&◌, ◌||◌, [], ◌∷◌, length, Option}
+use Rattle.std.proofs.Common.{Some, None, option_map, refl, sym, ap, ◌∙◌, arith, eqb, leb, inl, inr}
+use Rattle.std.proofs.Common.{codes}
 use Rattle.std.specs.List.{list_all}
 use Rattle.std.proofs.Math.Dec.{eqb-suc-zero}
 use Rattle.std.proofs.Math.Nat.{pow-suc}
@@ -8,7 +11,8 @@ use Rattle.djq_model.specs.Data.{Bytes, bytes_eq}
 use Rattle.djq_value.specs.Literal.{is_digit, is_lower, is_name, digits_value, natural_of, minus, integer_of}
 use Rattle.djq_proto.specs.Saying.{IsNumeral, IsInteger, decimal}
 
-pub map_some : {A B : Type 0} (f : A → B) (o : Option A) (b : B) → option_map f o ≡ Some b → (a : A) × (o ≡ Some a) × (f a ≡ b)
+pub map_some : {A B : Type 0} (f : A → B) (o : Option A) (b : B) → option_map f o ≡ Some b → (a : A) × (o ≡ Some a)
+    × (f a ≡ b)
 map_some f None b e = absurd cc
 map_some f (Some a) b e = (a, refl, cc)
 
@@ -22,7 +26,8 @@ shifted n x p q r e = rw e (omega arith)
 digits_value-decimal : (n : ℕ) (ds : Bytes) → digits_value n ds ≡ n * 10 ^ length ds + decimal ds
 digits_value-decimal n [] = omega arith
 digits_value-decimal n (d ∷ ds) =
-    digits_value-decimal (n * 10 + (d - 48)) ds ∙ shifted n (d - 48) (10 ^ length ds) (decimal ds) (10 ^ suc (length ds)) (pow-suc 10 (length ds))
+    digits_value-decimal (n * 10 + (d - 48)) ds
+    ∙ shifted n (d - 48) (10 ^ length ds) (decimal ds) (10 ^ suc (length ds)) (pow-suc 10 (length ds))
 
 whole-decimal : (ds : Bytes) → digits_value 0 ds ≡ decimal ds
 whole-decimal ds = digits_value-decimal 0 ds ∙ omega arith
@@ -47,7 +52,14 @@ integer_said [] i e = absurd cc
 integer_said (b ∷ bs) i e = elim (cases_Bool (eqb b 45)) [
   | inl is ↦
       let found = map_some minus (natural_of bs) i (sym (cond-true _ _ _ is) ∙ e) in
-      inr (bs, found.0, ap (λ x. x ∷ bs) (eqb-true b 45 is), numeral_said bs found.0 found.1, sym found.2 ∙ minus-neg found.0)
+      inr (
+        bs,
+        found.0,
+        ap (λ x. x ∷ bs) (eqb-true b 45 is),
+        numeral_said bs found.0 found.1,
+        sym found.2
+            ∙ minus-neg found.0,
+      )
   | inr other ↦
       let found = map_some (λ n. pos n) (natural_of (b ∷ bs)) i (sym (cond-false _ _ _ other) ∙ e) in
       inl (found.0, numeral_said (b ∷ bs) found.0 found.1, sym found.2)
@@ -63,7 +75,8 @@ pub integer_from : (w : Bytes) (i : ℤ) → IsInteger w i → integer_of w ≡ 
 integer_from [] i (inl h) = absurd (omega (arith, h.1.some))
 integer_from (b ∷ bs) i (inl h) =
     let first = digit_first b bs h.1.digits in
-    cond-false _ _ _ (ne_eqb b 45 (λ e. absurd (omega (arith, e, first.0)))) ∙ ap (option_map (λ n. pos n)) (numeral_from (b ∷ bs) h.0 h.1) ∙ ap (λ k. Some k) (sym h.2)
+    cond-false _ _ _ (ne_eqb b 45 (λ e. absurd (omega (arith, e, first.0))))
+    ∙ ap (option_map (λ n. pos n)) (numeral_from (b ∷ bs) h.0 h.1) ∙ ap (λ k. Some k) (sym h.2)
 integer_from w i (inr h) =
     ap integer_of h.2 ∙ ap (option_map minus) (numeral_from h.0 h.1 h.3) ∙ ap (λ k. Some k) (minus-neg h.1 ∙ sym h.4)
 
@@ -76,7 +89,9 @@ leb_above a b h = no (leb a b) refl
 
 -- a byte below the letters begins no name
 low_first : (b : ℕ) (bs : Bytes) → b ≤ 57 → is_name (b ∷ bs) ≡ false
-low_first b bs h = ap (λ t. (t && leb b 122) && (list_all (λ c. is_lower c || is_digit c || eqb c 95) bs && leb (length bs) 31)) (leb_above 97 b (omega (arith, h)))
+low_first b bs h = ap
+    (λ t. (t && leb b 122) && (list_all (λ c. is_lower c || is_digit c || eqb c 95) bs && leb (length bs) 31))
+    (leb_above 97 b (omega (arith, h)))
 
 other_first : (b c : ℕ) (bs : Bytes) → b < c → bytes_eq (b ∷ bs) (c ∷ []) ≡ false
 other_first b c bs h = ap (λ t. t && bytes_eq bs []) (ne_eqb b c (λ e. absurd (omega (arith, e, h))))
@@ -84,5 +99,6 @@ other_first b c bs h = ap (λ t. t && bytes_eq bs []) (ne_eqb b c (λ e. absurd 
 -- An integer is no name and no hole.
 pub integer_no_name : (w : Bytes) (i : ℤ) → IsInteger w i → (is_name w ≡ false) × (bytes_eq w (codes "_") ≡ false)
 integer_no_name [] i h = (refl, refl)
-integer_no_name (b ∷ bs) i (inl h) = let first = digit_first b bs h.1.digits in (low_first b bs first.1, other_first b 95 bs (omega (arith, first.1)))
+integer_no_name (b ∷ bs) i (inl h) = let first = digit_first b bs h.1.digits in
+    (low_first b bs first.1, other_first b 95 bs (omega (arith, first.1)))
 integer_no_name w i (inr h) = (ap is_name h.2, ap (λ v. bytes_eq v (codes "_")) h.2)

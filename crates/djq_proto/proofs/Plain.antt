@@ -1,8 +1,11 @@
 -- A line with a row of integers has no byte that isn't ASCII.
-use Rattle.std.proofs.Common.{◌≡◌, ◌<◌, ◌||◌, ℕ, pos, Bool, true, false, List, [], ◌∷◌, ◌++◌, Option, Some, None, refl, sym, ap, ◌∙◌, arith, eqb, leb, inl, inr, All, codes}
+use Rattle.std.proofs.Common.{◌≡◌, ◌<◌, ◌||◌, ℕ, pos, Bool, true, false, List, [], ◌∷◌, ◌++◌}
+use Rattle.std.proofs.Common.{Option, Some, None, refl, sym, ap, ◌∙◌, arith, eqb, leb, inl, inr}
+use Rattle.std.proofs.Common.{All, codes}
 use Rattle.std.specs.List.{list_all}
 use Rattle.std.specs.Str.{is_utf8}
-use Rattle.std.proofs.lemmas.Bool.{and_from, and_parts, cases_Bool, cond-false, cond-true, eqb-true, le-leb, leb-true, or_from}
+use Rattle.std.proofs.lemmas.Bool.{and_from, and_parts, cases_Bool, cond-false, cond-true, eqb-true}
+use Rattle.std.proofs.lemmas.Bool.{le-leb, leb-true, or_from}
 use Rattle.std.proofs.lemmas.List.Elements.{All-nil, All-cons, All-head, All-tail}
 use Rattle.std.proofs.lemmas.List.Folds.{list_all-append}
 use Rattle.std.proofs.lemmas.Str.{IsUtf8-from_ascii, is_utf8-from_IsUtf8}
@@ -33,7 +36,8 @@ low_lower b h = le-leb b 127 (omega (arith, leb-true b 122 (and_parts (leb 97 b)
 low_digits : (ds : Bytes) → list_all is_digit ds ≡ true → list_all is_low ds ≡ true
 low_digits [] h = refl
 low_digits (d ∷ ds) h =
-    let parts = and_parts (is_digit d) (list_all is_digit ds) h in and_from _ _ (low_digit d parts.0) (low_digits ds parts.1)
+    let parts = and_parts (is_digit d) (list_all is_digit ds) h in and_from _ _ (low_digit d parts.0)
+    (low_digits ds parts.1)
 
 low_integer : (w : Bytes) (i : _) → integer_of w ≡ Some i → list_all is_low w ≡ true
 low_integer [] i e = absurd (cc)
@@ -61,7 +65,8 @@ low_follow c h = elim (cases_Bool (is_lower c)) [
 low_tail : (bs : Bytes) → list_all (λ c. is_lower c || is_digit c || eqb c 95) bs ≡ true → list_all is_low bs ≡ true
 low_tail [] h = refl
 low_tail (c ∷ cs) h =
-    let parts = and_parts (is_lower c || is_digit c || eqb c 95) (list_all (λ d. is_lower d || is_digit d || eqb d 95) cs) h in
+    let parts = and_parts (is_lower c || is_digit c || eqb c 95)
+    (list_all (λ d. is_lower d || is_digit d || eqb d 95) cs) h in
     and_from _ _ (low_follow c parts.0) (low_tail cs parts.1)
 
 low_name : (w : Bytes) → is_name w ≡ true → list_all is_low w ≡ true
@@ -93,7 +98,8 @@ low_real (stray ∷ ts) h = absurd h.0
 
 low_spaces : (bs : Bytes) → IsSpaces bs → list_all is_low bs ≡ true
 low_spaces [] h = refl
-low_spaces (b ∷ bs) h = and_from _ _ (ap is_low (All-head (λ x. x ≡ 32) b bs h)) (low_spaces bs (All-tail (λ x. x ≡ 32) b bs h))
+low_spaces (b ∷ bs) h = and_from _ _ (ap is_low (All-head (λ x. x ≡ 32) b bs h))
+    (low_spaces bs (All-tail (λ x. x ≡ 32) b bs h))
 
 low_line : (ts : List Token) (line : Bytes) → AreLow ts → IsSpelling ts line → list_all is_low line ≡ true
 low_line [] line h s = low_spaces line s
@@ -146,9 +152,12 @@ low_utf8 line ts e h =
     let low = low_line ts line h (tokens_spelled line ts e (low_real ts h)) in
     is_utf8-from_IsUtf8 line (IsUtf8-from_ascii line (IsAscii-from_all line (low_all line low)))
 
-pub numbers_utf8 : (line : Bytes) (verb : RowWord) (old ts : List Token) (name : Bytes) (xs : Tuple) → TakesRowWord (tokens line) (Some verb) old → old ≡ word name ∷ ts → is_name name ≡ true
+pub numbers_utf8 : (line : Bytes) (verb : RowWord) (old ts : List Token) (name : Bytes) (xs : Tuple)
+    → TakesRowWord (tokens line) (Some verb) old → old ≡ word name ∷ ts → is_name name ≡ true
     → all_of literal_of ts ≡ Some xs → list_all is_number xs ≡ true → is_utf8 line ≡ true
 numbers_utf8 line Add old ts name xs taken e named all numbers =
-    low_utf8 line (word (codes "add") ∷ word name ∷ ts) (taken ∙ ap (λ us. word (codes "add") ∷ us) e) (refl, (low_name name named, low_numbers ts xs all numbers))
+    low_utf8 line (word (codes "add") ∷ word name ∷ ts) (taken ∙ ap (λ us. word (codes "add") ∷ us) e)
+    (refl, (low_name name named, low_numbers ts xs all numbers))
 numbers_utf8 line Del old ts name xs taken e named all numbers =
-    low_utf8 line (word (codes "del") ∷ word name ∷ ts) (taken ∙ ap (λ us. word (codes "del") ∷ us) e) (refl, (low_name name named, low_numbers ts xs all numbers))
+    low_utf8 line (word (codes "del") ∷ word name ∷ ts) (taken ∙ ap (λ us. word (codes "del") ∷ us) e)
+    (refl, (low_name name named, low_numbers ts xs all numbers))

@@ -1,5 +1,6 @@
 -- From what was read behind a row's keyword to what its line says.
-use Rattle.std.proofs.Common.{◌≡◌, ◌&&◌, Bool, true, false, cond, List, [], ◌∷◌, ◌++◌, Option, Some, None, option_map, Result, Ok, Err, refl, sym, ap, subst, ◌∙◌}
+use Rattle.std.proofs.Common.{◌≡◌, ◌&&◌, Bool, true, false, cond, List, [], ◌∷◌, ◌++◌, Option, Some}
+use Rattle.std.proofs.Common.{None, option_map, Result, Ok, Err, refl, sym, ap, subst, ◌∙◌}
 use Rattle.std.specs.List.{list_all}
 use Rattle.std.specs.Str.{is_utf8}
 use Rattle.std.specs.Borrow.{Bor}
@@ -29,7 +30,8 @@ row_command Del name row = DeleteRow name row
 abbrev pub made_of : RowWord → Option (Bytes × Tuple) → Option Command
 made_of verb o = option_map (λ p. row_command verb p.0 p.1) o
 
-ranged : (verb : RowWord) (name : Bytes) (row : Tuple) → is_in_range (row_command verb name row) ≡ list_all is_small_value row
+ranged : (verb : RowWord) (name : Bytes) (row : Tuple) → is_in_range (row_command verb name row)
+    ≡ list_all is_small_value row
 ranged Add name row = refl
 ranged Del name row = refl
 
@@ -37,12 +39,15 @@ takes : (verb : RowWord) (name : Bytes) (row : Tuple) → takes_memory_to_read (
 takes Add name row = refl
 takes Del name row = refl
 
-row_made : (verb : RowWord) (o : Option (Bytes × Tuple)) (name : Bytes) (row : Tuple) → ReadsAs (λ p. list_all is_small_value p.1) o (Ok (name, row))
+row_made : (verb : RowWord) (o : Option (Bytes × Tuple)) (name : Bytes) (row : Tuple)
+    → ReadsAs (λ p. list_all is_small_value p.1) o (Ok (name, row))
     → Gives (made_of verb o) (Ok (row_command verb name row))
 row_made verb None name row h = absurd (cc)
-row_made verb (Some p) name row h = ((ap (λ (q : Bytes × Tuple). row_command verb q.0 q.1) h.0, ranged verb p.0 p.1 ∙ h.1), tt)
+row_made verb (Some p) name row h =
+    ((ap (λ (q : Bytes × Tuple). row_command verb q.0 q.1) h.0, ranged verb p.0 p.1 ∙ h.1), tt)
 
-row_refused : (verb : RowWord) (o : Option (Bytes × Tuple)) (e : LineRefusal) → ReadsAs (λ p. list_all is_small_value p.1) o (Err e) → Gives (made_of verb o) (Err e)
+row_refused : (verb : RowWord) (o : Option (Bytes × Tuple)) (e : LineRefusal)
+    → ReadsAs (λ p. list_all is_small_value p.1) o (Err e) → Gives (made_of verb o) (Err e)
 row_refused verb None e h = (cc, tt)
 row_refused verb (Some p) Syntax h = absurd h
 row_refused verb (Some p) Range h = (ranged verb p.0 p.1 ∙ h, tt)
@@ -54,28 +59,36 @@ begun Add ts rest h = ap row_word_in h
 begun Del ts rest h = ap row_word_in h
 
 -- what they say then
-behind : (verb : RowWord) (ts rest : List Token) → TakesRowWord ts (Some verb) rest → command_in ts ≡ made_of verb (named_some literal_of rest)
+behind : (verb : RowWord) (ts rest : List Token) → TakesRowWord ts (Some verb) rest → command_in ts
+    ≡ made_of verb (named_some literal_of rest)
 behind Add ts rest h = ap command_in h
 behind Del ts rest h = ap command_in h
 
-made_guarded : (verb : RowWord) (b : Bool) (o : Option (Bytes × Tuple)) → cond b (made_of verb o) None ≡ made_of verb (cond b o None)
+made_guarded : (verb : RowWord) (b : Bool) (o : Option (Bytes × Tuple)) → cond b (made_of verb o) None
+    ≡ made_of verb (cond b o None)
 made_guarded verb true o = refl
 made_guarded verb false o = refl
 
 -- what a line says that begins with it
-line_made : (verb : RowWord) (line : Bytes) (rest : List Token) → TakesRowWord (tokens line) (Some verb) rest → command_of line ≡ made_of verb (named_in line rest)
+line_made : (verb : RowWord) (line : Bytes) (rest : List Token) → TakesRowWord (tokens line) (Some verb) rest
+    → command_of line ≡ made_of verb (named_in line rest)
 unfolding command_of
 line_made verb line rest h =
-    ap (λ o. cond (is_utf8 line) o None) (behind verb (tokens line) rest h) ∙ made_guarded verb (is_utf8 line) (named_some literal_of rest)
+    ap (λ o. cond (is_utf8 line) o None) (behind verb (tokens line) rest h)
+    ∙ made_guarded verb (is_utf8 line) (named_some literal_of rest)
 
 -- a line that gives a row
-pub line_said : (verb : RowWord) (line : Bytes) (rest : List Token) (name : Bor Bytes) (row : Tuple) → TakesRowWord (tokens line) (Some verb) rest
-    → ReadsAs (λ p. list_all is_small_value p.1) (named_in line rest) (named_read (Ok name) row) → Reads line (Ok (row_command verb name.now row))
+pub line_said : (verb : RowWord) (line : Bytes) (rest : List Token) (name : Bor Bytes) (row : Tuple)
+    → TakesRowWord (tokens line) (Some verb) rest
+    → ReadsAs (λ p. list_all is_small_value p.1) (named_in line rest) (named_read (Ok name) row)
+    → Reads line (Ok (row_command verb name.now row))
 line_said verb line rest name row taken h =
-    subst (λ o. Gives o (Ok (row_command verb name.now row))) (sym (line_made verb line rest taken)) (row_made verb (named_in line rest) name.now row h)
+    subst (λ o. Gives o (Ok (row_command verb name.now row))) (sym (line_made verb line rest taken))
+    (row_made verb (named_in line rest) name.now row h)
 
 -- a line that is refused
-pub line_refused : (verb : RowWord) (line : Bytes) (rest : List Token) (e : LineRefusal) (row : Tuple) → TakesRowWord (tokens line) (Some verb) rest
+pub line_refused : (verb : RowWord) (line : Bytes) (rest : List Token) (e : LineRefusal) (row : Tuple)
+    → TakesRowWord (tokens line) (Some verb) rest
     → ReadsAs (λ p. list_all is_small_value p.1) (named_in line rest) (named_read (Err e) row) → Reads line (Err e)
 line_refused verb line rest e row taken h =
     subst (λ o. Gives o (Err e)) (sym (line_made verb line rest taken)) (row_refused verb (named_in line rest) e h)
@@ -92,16 +105,21 @@ some_named old [] name e named some = absurd (some refl)
 some_named old (t ∷ ts) name e named some = ap (named_some literal_of) e ∙ cond-true _ _ _ named
 
 -- Each value is an integer of few digits.
-pub numbers_named : (line : Bytes) (verb : RowWord) (old ts new : List Token) (name : Bytes) (row : Tuple) → TakesRowWord (tokens line) (Some verb) old → old ≡ word name ∷ ts → is_name name ≡ true → (ts ≡ [] → ⊥)
+pub numbers_named : (line : Bytes) (verb : RowWord) (old ts new : List Token) (name : Bytes) (row : Tuple)
+    → TakesRowWord (tokens line) (Some verb) old → old ≡ word name ∷ ts → is_name name ≡ true → (ts ≡ [] → ⊥)
     → ReadsNumbers ts [] new row → new ≡ [] → ReadsNamed line old (Ok (name, row))
 numbers_named line verb old ts new name row taken e named some h done =
     let all : all_of literal_of ts ≡ Some h.0 = onto_done literal_of (all_of literal_of ts) h.0 new h.4 done in
     let valid = numbers_utf8 line verb old ts name h.0 taken e named all h.2 in
-    let is : named_some literal_of old ≡ Some (name, h.0) = some_named old ts name e named some ∙ ap (option_map (λ (xs : Tuple). (name, xs))) all in
+    let is : named_some literal_of old ≡ Some (name, h.0) = some_named old ts name e named some
+    ∙ ap (option_map (λ (xs : Tuple). (name, xs))) all in
     let r : Result (Bytes × Tuple) LineRefusal = Ok (name, row) in
-    subst (λ o. ReadsAs (λ p. list_all is_small_value p.1) o r) (sym (cond-true _ _ _ valid ∙ is)) (ap (λ (xs : Tuple). (name, xs)) h.1, h.3)
+    subst (λ o. ReadsAs (λ p. list_all is_small_value p.1) o r) (sym (cond-true _ _ _ valid ∙ is))
+    (ap (λ (xs : Tuple). (name, xs)) h.1, h.3)
 
 -- a value that is refused behind others that are small
-pub last_refused : (xs : Tuple) (x : Value) (e : LineRefusal) → list_all is_small_value xs ≡ true → ReadsAs is_small_value (Some x) (Err e) → IsRefused (Some (xs ++ x ∷ [])) e
+pub last_refused : (xs : Tuple) (x : Value) (e : LineRefusal) → list_all is_small_value xs ≡ true
+    → ReadsAs is_small_value (Some x) (Err e) → IsRefused (Some (xs ++ x ∷ [])) e
 last_refused xs x e h r =
-    same_err is_small_value (list_all is_small_value) x (xs ++ x ∷ []) e (all_last is_small_value xs x ∙ ap (λ b. b && is_small_value x) h) r
+    same_err is_small_value (list_all is_small_value) x (xs ++ x ∷ []) e
+    (all_last is_small_value xs x ∙ ap (λ b. b && is_small_value x) h) r

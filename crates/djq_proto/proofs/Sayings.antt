@@ -182,7 +182,8 @@ atom_said (word r ∷ ts) a rest e =
     let behind : found.0.1 ≡ rest = ap (λ (z : Atom × List Token). z.1) found.2 in
     record {
       front = word r ∷ list_tokens list.items;
-      say = subst (λ (b : Atom). SaysAtom b (word r ∷ list_tokens list.items)) same (list.items, guarded.0, list.say, refl);
+      say = subst (λ (b : Atom). SaysAtom b (word r ∷ list_tokens list.items)) same
+          (list.items, guarded.0, list.say, refl);
       split = ap (λ us. word r ∷ us) (list.split ∙ ap (λ us. list_tokens list.items ++ us) behind);
     }
 atom_said (text t ∷ ts) a rest e = absurd (cc)
@@ -206,9 +207,12 @@ record IsItem (n : ℕ) (i : Item) (ts rest : List Token) : Type 0 where
   say : SaysItem n i front
   split : ts ≡ front ++ rest
 
-atom_item_said : (n : ℕ) (ts : List Token) (i : Item) (rest : List Token) → option_map {U = Item × List Token} (λ (r : Atom × List Token). (atom r.0, r.1)) (atom_in ts) ≡ Some (i, rest) → IsItem n i ts rest
+atom_item_said : (n : ℕ) (ts : List Token) (i : Item) (rest : List Token)
+    → option_map {U = Item × List Token} (λ (r : Atom × List Token). (atom r.0, r.1)) (atom_in ts) ≡ Some (i, rest)
+    → IsItem n i ts rest
 atom_item_said n ts i rest e =
-    let found = map_some {B = Item × List Token} (λ (r : Atom × List Token). (atom r.0, r.1)) (atom_in ts) (i, rest) e in
+    let found = map_some {B = Item × List Token} (λ (r : Atom × List Token). (atom r.0, r.1)) (atom_in ts) (i, rest) e
+    in
     let said = atom_said ts found.0.0 found.0.1 found.1 in
     let same : atom found.0.0 ≡ i = ap (λ (z : Item × List Token). z.0) found.2 in
     record {
@@ -217,7 +221,8 @@ atom_item_said n ts i rest e =
       split = said.split ∙ ap (λ us. said.front ++ us) (ap (λ (z : Item × List Token). z.1) found.2);
     }
 
-comparison_said : (n : ℕ) (x : Bytes) (o : Operator) (t : Token) (ts : List Token) (i : Item) (rest : List Token) → comparison_of n x o (t ∷ ts) ≡ Some (i, rest) → IsItem n i (word x ∷ operator o ∷ t ∷ ts) rest
+comparison_said : (n : ℕ) (x : Bytes) (o : Operator) (t : Token) (ts : List Token) (i : Item) (rest : List Token)
+    → comparison_of n x o (t ∷ ts) ≡ Some (i, rest) → IsItem n i (word x ∷ operator o ∷ t ∷ ts) rest
 comparison_said n x o t ts i rest e =
     let make : Value → Item × List Token = λ v. (comparison (compared n x o v), ts) in
     let guarded = guard_some (is_name x) (option_map make (literal_of t)) (i, rest) e in
@@ -225,11 +230,13 @@ comparison_said n x o t ts i rest e =
     let same : comparison (compared n x o found.0) ≡ i = ap (λ (z : Item × List Token). z.0) found.2 in
     record {
       front = word x ∷ operator o ∷ t ∷ [];
-      say = subst (λ (j : Item). SaysItem n j (word x ∷ operator o ∷ t ∷ [])) same ((t, guarded.0, value_said t found.0 found.1, refl), refl);
+      say = subst (λ (j : Item). SaysItem n j (word x ∷ operator o ∷ t ∷ [])) same
+          ((t, guarded.0, value_said t found.0 found.1, refl), refl);
       split = ap (λ us. word x ∷ operator o ∷ t ∷ us) (ap (λ (z : Item × List Token). z.1) found.2);
     }
 
-item_said : (n : ℕ) (ts : List Token) (i : Item) (rest : List Token) → item_in n ts ≡ Some (i, rest) → IsItem n i ts rest
+item_said : (n : ℕ) (ts : List Token) (i : Item) (rest : List Token) → item_in n ts ≡ Some (i, rest)
+    → IsItem n i ts rest
 item_said n (word x ∷ operator o ∷ []) i rest e = absurd (cc)
 item_said n (word x ∷ operator o ∷ t ∷ ts) i rest e = comparison_said n x o t ts i rest e
 item_said n [] i rest e = atom_item_said n [] i rest e
@@ -250,19 +257,25 @@ item_said n (operator o ∷ ts) i rest e = atom_item_said n (operator o ∷ ts) 
 item_said n (stray ∷ ts) i rest e = atom_item_said n (stray ∷ ts) i rest e
 
 -- an atom isn't a comparison: a `(` is behind its name
-atom_first : (n : ℕ) (r : Bytes) (us ts : List Token) → item_in n (word r ∷ (list_tokens us ++ ts)) ≡ option_map {U = Item × List Token} (λ (p : Atom × List Token). (atom p.0, p.1)) (atom_in (word r ∷ (list_tokens us ++ ts)))
+atom_first : (n : ℕ) (r : Bytes) (us ts : List Token) → item_in n (word r ∷ (list_tokens us ++ ts))
+    ≡ option_map {U = Item × List Token} (λ (p : Atom × List Token). (atom p.0, p.1))
+    (atom_in (word r ∷ (list_tokens us ++ ts)))
 atom_first n r [] ts = refl
 atom_first n r (u ∷ us) ts = refl
 
-item_from : (n : ℕ) (i : Item) (front rest : List Token) → SaysItem n i front → item_in n (front ++ rest) ≡ Some (i, rest)
+item_from : (n : ℕ) (i : Item) (front rest : List Token) → SaysItem n i front → item_in n (front ++ rest)
+    ≡ Some (i, rest)
 item_from n (atom a) front rest s =
     ap (λ us. item_in n (us ++ rest)) s.3 ∙ atom_first n a.relation s.0 rest
-    ∙ ap (option_map {U = Item × List Token} (λ (p : Atom × List Token). (atom p.0, p.1))) (ap (λ us. atom_in (us ++ rest)) (sym s.3) ∙ atom_from a front rest s)
+    ∙ ap (option_map {U = Item × List Token} (λ (p : Atom × List Token). (atom p.0, p.1)))
+    (ap (λ us. atom_in (us ++ rest)) (sym s.3) ∙ atom_from a front rest s)
 item_from n (comparison c) front rest s =
     let said = s.0 in
     ap (λ us. item_in n (us ++ rest)) said.3 ∙ cond-true _ _ _ said.1
-    ∙ ap (option_map {U = Item × List Token} (λ (v : Value). (comparison (compared n c.variable c.operator v), rest))) (value_from said.0 c.constant said.2)
-    ∙ ap {B = Option (Item × List Token)} (λ (k : ℕ). Some (comparison (compared k c.variable c.operator c.constant), rest)) (sym s.1)
+    ∙ ap (option_map {U = Item × List Token} (λ (v : Value). (comparison (compared n c.variable c.operator v), rest)))
+    (value_from said.0 c.constant said.2)
+    ∙ ap {B = Option (Item × List Token)}
+    (λ (k : ℕ). Some (comparison (compared k c.variable c.operator c.constant), rest)) (sym s.1)
 
 -- Items.
 
@@ -281,11 +294,13 @@ AreItems n b ts = (items : List Item) × SaysItems n items ts × (body_of items 
 last_said : (n : ℕ) (i : Item) (ts : List Token) → IsItem n i ts [] → SaysItem n i ts
 last_said n i ts s = subst (SaysItem n i) (sym (s.split ∙ append-nil s.front)) s.say
 
-several_said : (n : ℕ) (i : Item) (more : List Item) (ts us : List Token) → IsItem n i ts (comma ∷ us) → SaysItems (past_item n i) more us → SaysItems n (i ∷ more) ts
+several_said : (n : ℕ) (i : Item) (more : List Item) (ts us : List Token) → IsItem n i ts (comma ∷ us)
+    → SaysItems (past_item n i) more us → SaysItems n (i ∷ more) ts
 several_said n i [] ts us s m = absurd m
 several_said n i (j ∷ js) ts us s m = (s.front, us, s.say, m, s.split)
 
-put_parts : (i : Item) (o : Option Body) (b : Body) → put_item i o ≡ Some b → (more : Body) × (o ≡ Some more) × (put_item i (Some more) ≡ Some b)
+put_parts : (i : Item) (o : Option Body) (b : Body) → put_item i o ≡ Some b → (more : Body) × (o ≡ Some more)
+    × (put_item i (Some more) ≡ Some b)
 put_parts (atom a) None b e = absurd (cc)
 put_parts (comparison c) None b e = absurd (cc)
 put_parts (atom a) (Some more) b e = (more, refl, e)
@@ -295,7 +310,9 @@ items_said : (k n : ℕ) (ts : List Token) (b : Body) → items_within k n ts �
 items_said zero n ts b e = absurd (cc)
 items_said (suc k) n ts b e = go (item_in n ts) refl e (λ m us more h. items_said k m us more h)
   where
-    go : (o : Option (Item × List Token)) → item_in n ts ≡ o → behind_item (items_within k) n o ≡ Some b → ((m : ℕ) (us : List Token) (more : Body) → items_within k m us ≡ Some more → AreItems m more us) → AreItems n b ts
+    go : (o : Option (Item × List Token)) → item_in n ts ≡ o → behind_item (items_within k) n o ≡ Some b
+        → ((m : ℕ) (us : List Token) (more : Body) → items_within k m us ≡ Some more → AreItems m more us)
+        → AreItems n b ts
     go None is e said = absurd (cc)
     go (Some (i, [])) is e said =
         let same : body_of (i ∷ []) ≡ b = cc (sym (put_item-of i []) ∙ e) in
@@ -303,7 +320,8 @@ items_said (suc k) n ts b e = go (item_in n ts) refl e (λ m us more h. items_sa
     go (Some (i, comma ∷ us)) is e said =
         let parts = put_parts i (items_within k (past_item n i) us) b e in
         let more = said (past_item n i) us parts.0 parts.1 in
-        let all : Some (body_of (i ∷ more.0)) ≡ Some b = sym (put_item-of i more.0) ∙ ap (λ (c : Body). put_item i (Some c)) more.2 ∙ parts.2 in
+        let all : Some (body_of (i ∷ more.0)) ≡ Some b = sym (put_item-of i more.0)
+        ∙ ap (λ (c : Body). put_item i (Some c)) more.2 ∙ parts.2 in
         let same : body_of (i ∷ more.0) ≡ b = cc (all) in
         (i ∷ more.0, several_said n i more.0 ts us (item_said n ts i (comma ∷ us) is) more.1, same)
     go (Some (i, word w ∷ us)) is e said = absurd (cc)
@@ -316,7 +334,8 @@ items_said (suc k) n ts b e = go (item_in n ts) refl e (λ m us more h. items_sa
 
 items_from : (n : ℕ) (items : List Item) (ts : List Token) → SaysItems n items ts → items_in n ts ≡ Some (body_of items)
 items_from n [] ts s = absurd s
-items_from n (i ∷ []) ts s = items_in-step n ts ∙ ap (behind_item items_in n) (ap (item_in n) (sym (append-nil ts)) ∙ item_from n i ts [] s) ∙ put_item-of i []
+items_from n (i ∷ []) ts s = items_in-step n ts
+    ∙ ap (behind_item items_in n) (ap (item_in n) (sym (append-nil ts)) ∙ item_from n i ts [] s) ∙ put_item-of i []
 items_from n (i ∷ j ∷ js) ts s =
     items_in-step n ts ∙ ap (behind_item items_in n) (ap (item_in n) s.4 ∙ item_from n i s.0 (comma ∷ s.1) s.2)
     ∙ ap (put_item i) (items_from (past_item n i) (j ∷ js) s.1 s.3) ∙ put_item-of i (j ∷ js)
@@ -327,7 +346,8 @@ items_from n (i ∷ j ∷ js) ts s =
 some_atoms : (o : Option Body) (b : Body) → with_atoms o ≡ Some b → (o ≡ Some b) × (0 < length b.0)
 some_atoms None b e = absurd (cc)
 some_atoms (Some ([], cs)) b e = absurd (cc)
-some_atoms (Some (a ∷ more, cs)) b e = let same : (a ∷ more, cs) ≡ b = cc in (e, subst (λ (c : Body). 0 < length c.0) same (omega arith))
+some_atoms (Some (a ∷ more, cs)) b e = let same : (a ∷ more, cs)
+    ≡ b = cc in (e, subst (λ (c : Body). 0 < length c.0) same (omega arith))
 
 atoms_some : (b : Body) → 0 < length b.0 → with_atoms (Some b) ≡ Some b
 atoms_some ([], cs) some = absurd (omega (arith, some))
@@ -357,11 +377,14 @@ arrow_said (comma ∷ us) b e = absurd (cc)
 arrow_said (operator o ∷ us) b e = absurd (cc)
 arrow_said (stray ∷ us) b e = absurd (cc)
 
-head_parts : (n : Bytes) (o : Option (List Bytes × List Token)) (q : Query) → query_of n o ≡ Some q → (head : List Bytes) × (rest : List Token) × (b : Body)
-    × (o ≡ Some (head, rest)) × (body_in rest ≡ Some b) × (record { name = n; head = head; atoms = b.0; comparisons = b.1 } ≡ q)
+head_parts : (n : Bytes) (o : Option (List Bytes × List Token)) (q : Query) → query_of n o ≡ Some q
+    → (head : List Bytes) × (rest : List Token) × (b : Body)
+    × (o ≡ Some (head, rest)) × (body_in rest ≡ Some b)
+    × (record { name = n; head = head; atoms = b.0; comparisons = b.1 } ≡ q)
 head_parts n None q e = absurd (cc)
 head_parts n (Some p) q e =
-    let found = map_some (λ (b : Body). record { name = n; head = p.0; atoms = b.0; comparisons = b.1 }) (body_in p.1) q e in
+    let found = map_some (λ (b : Body). record { name = n; head = p.0; atoms = b.0; comparisons = b.1 }) (body_in p.1) q
+    e in
     (p.0, p.1, found.0, refl, found.1, found.2)
 
 query_said : (ts : List Token) (q : Query) → query_in ts ≡ Some q → SaysQuery q ts
@@ -373,8 +396,15 @@ query_said (word n ∷ ts) q e =
     let body = arrow_said parts.1 parts.2 parts.4 in
     let atoms = ap (λ (b : Body). b.0) (sym body.same) in
     let comparisons = ap (λ (b : Body). b.1) (sym body.same) in
-    subst (λ (p : Query). SaysQuery p (word n ∷ ts)) parts.5
-    (head.items, body.body, guarded.0, head.say, (body.items, body.say, atoms, comparisons, body.some), ap (λ us. word n ∷ us) (head.split ∙ ap (λ us. list_tokens head.items ++ us) body.split))
+    subst (λ (p : Query). SaysQuery p (word n ∷ ts)) parts.5 (
+      head.items,
+      body.body,
+      guarded.0,
+      head.say,
+      (body.items, body.say, atoms, comparisons, body.some),
+      ap
+          (λ us. word n ∷ us) (head.split ∙ ap (λ us. list_tokens head.items ++ us) body.split),
+    )
 query_said (text t ∷ ts) q e = absurd (cc)
 query_said (open_paren ∷ ts) q e = absurd (cc)
 query_said (close_paren ∷ ts) q e = absurd (cc)
@@ -385,13 +415,16 @@ query_said (stray ∷ ts) q e = absurd (cc)
 
 body_from : (q : Query) (ts : List Token) → SaysBody q ts → with_atoms (items_in 0 ts) ≡ Some (q.atoms, q.comparisons)
 body_from q ts s =
-    ap with_atoms (items_from 0 s.0 ts s.1 ∙ ap₂ {C = Option Body} (λ (atoms : List Atom) (cs : List Comparison). Some (atoms, cs)) (sym s.2) (sym s.3)) ∙ atoms_some (q.atoms, q.comparisons) s.4
+    ap with_atoms (items_from 0 s.0 ts s.1
+    ∙ ap₂ {C = Option Body} (λ (atoms : List Atom) (cs : List Comparison). Some (atoms, cs)) (sym s.2) (sym s.3))
+    ∙ atoms_some (q.atoms, q.comparisons) s.4
 
 query_from : (q : Query) (ts : List Token) → SaysQuery q ts → query_in ts ≡ Some q
 query_from q ts s =
     ap query_in s.5 ∙ cond-true _ _ _ s.2
     ∙ ap (query_of q.name) (list_from name_of SaysName name_from refl q.head s.0 (arrow ∷ s.1) s.3)
-    ∙ ap (option_map (λ (b : Body). record { name = q.name; head = q.head; atoms = b.0; comparisons = b.1 })) (body_from q s.1 s.4)
+    ∙ ap (option_map (λ (b : Body). record { name = q.name; head = q.head; atoms = b.0; comparisons = b.1 }))
+    (body_from q s.1 s.4)
 
 -- A name and items.
 
@@ -402,7 +435,9 @@ record IsNamed {A : Type 0} (says : A → Token → Type 0) (n : Bytes) (xs : Li
   say : AllZip says xs items
   split : ts ≡ word n ∷ items
 
-any_said : {A : Type 0} (of : Token → Option A) (says : A → Token → Type 0) → ((t : Token) (a : A) → of t ≡ Some a → says a t) → (ts : List Token) (p : Bytes × List A) → named_any of ts ≡ Some p → IsNamed says p.0 p.1 ts
+any_said : {A : Type 0} (of : Token → Option A) (says : A → Token → Type 0)
+    → ((t : Token) (a : A) → of t ≡ Some a → says a t) → (ts : List Token) (p : Bytes × List A) → named_any of ts
+    ≡ Some p → IsNamed says p.0 p.1 ts
 any_said of says item [] p e = absurd (cc)
 any_said {A} of says item (word n ∷ ts) p e =
     let guarded = guard_some (is_name n) (option_map (λ (xs : List A). (n, xs)) (all_of of ts)) p e in
@@ -411,7 +446,8 @@ any_said {A} of says item (word n ∷ ts) p e =
     record {
       items = ts;
       named = subst IsName name guarded.0;
-      say = subst (λ (xs : List A). AllZip says xs ts) (ap (λ (z : Bytes × List A). z.1) found.2) (all_said of says item ts found.0 found.1);
+      say = subst (λ (xs : List A). AllZip says xs ts) (ap (λ (z : Bytes × List A). z.1) found.2)
+          (all_said of says item ts found.0 found.1);
       split = ap (λ w. word w ∷ ts) name;
     }
 any_said of says item (text t ∷ ts) p e = absurd (cc)
@@ -422,15 +458,21 @@ any_said of says item (arrow ∷ ts) p e = absurd (cc)
 any_said of says item (operator o ∷ ts) p e = absurd (cc)
 any_said of says item (stray ∷ ts) p e = absurd (cc)
 
-any_from : {A : Type 0} (of : Token → Option A) (says : A → Token → Type 0) → ((t : Token) (a : A) → says a t → of t ≡ Some a) → (n : Bytes) (xs : List A) (us : List Token) → IsName n → AllZip says xs us
+any_from : {A : Type 0} (of : Token → Option A) (says : A → Token → Type 0)
+    → ((t : Token) (a : A) → says a t → of t ≡ Some a) → (n : Bytes) (xs : List A) (us : List Token) → IsName n
+    → AllZip says xs us
     → named_any of (word n ∷ us) ≡ Some (n, xs)
-any_from {A} of says item n xs us named h = cond-true _ _ _ named ∙ ap (option_map (λ (ys : List A). (n, ys))) (all_from of says item xs us h)
+any_from {A} of says item n xs us named h = cond-true _ _ _ named
+    ∙ ap (option_map (λ (ys : List A). (n, ys))) (all_from of says item xs us h)
 
-zip_some : {A : Type 0} (says : A → Token → Type 0) (xs : List A) (t : Token) (ts : List Token) → AllZip says xs (t ∷ ts) → 0 < length xs
+zip_some : {A : Type 0} (says : A → Token → Type 0) (xs : List A) (t : Token) (ts : List Token)
+    → AllZip says xs (t ∷ ts) → 0 < length xs
 zip_some says [] t ts h = absurd h
 zip_some says (x ∷ xs) t ts h = omega arith
 
-some_said : {A : Type 0} (of : Token → Option A) (says : A → Token → Type 0) → ((t : Token) (a : A) → of t ≡ Some a → says a t) → (ts : List Token) (p : Bytes × List A) → named_some of ts ≡ Some p → IsNamed says p.0 p.1 ts × (0 < length p.1)
+some_said : {A : Type 0} (of : Token → Option A) (says : A → Token → Type 0)
+    → ((t : Token) (a : A) → of t ≡ Some a → says a t) → (ts : List Token) (p : Bytes × List A) → named_some of ts
+    ≡ Some p → IsNamed says p.0 p.1 ts × (0 < length p.1)
 some_said of says item [] p e = absurd (cc)
 some_said of says item (word n ∷ []) p e = absurd (cc)
 some_said {A} of says item (word n ∷ t ∷ ts) p e =
@@ -448,7 +490,9 @@ some_said of says item (arrow ∷ ts) p e = absurd (cc)
 some_said of says item (operator o ∷ ts) p e = absurd (cc)
 some_said of says item (stray ∷ ts) p e = absurd (cc)
 
-some_from : {A : Type 0} (of : Token → Option A) (says : A → Token → Type 0) → ((t : Token) (a : A) → says a t → of t ≡ Some a) → (n : Bytes) (xs : List A) (us : List Token) → IsName n → 0 < length xs → AllZip says xs us
+some_from : {A : Type 0} (of : Token → Option A) (says : A → Token → Type 0)
+    → ((t : Token) (a : A) → says a t → of t ≡ Some a) → (n : Bytes) (xs : List A) (us : List Token) → IsName n
+    → 0 < length xs → AllZip says xs us
     → named_some of (word n ∷ us) ≡ Some (n, xs)
 some_from of says item n [] us named some h = absurd (omega (arith, some))
 some_from of says item n (x ∷ xs) [] named some h = absurd h
@@ -500,7 +544,8 @@ one_said (word m ∷ []) n e =
     (subst IsName same guarded.0, ap (λ w. word w ∷ []) same)
 one_said _ n e = absurd cc
 
-two_said : (ts : List Token) (p : Bytes × Bytes) → two_names ts ≡ Some p → IsName p.0 × IsName p.1 × (ts ≡ word p.0 ∷ word p.1 ∷ [])
+two_said : (ts : List Token) (p : Bytes × Bytes) → two_names ts ≡ Some p → IsName p.0 × IsName p.1
+    × (ts ≡ word p.0 ∷ word p.1 ∷ [])
 two_said (word m ∷ word n ∷ []) p e =
     let guarded = guard_some (is_name m && is_name n) (Some (m, n)) p e in
     let names = and_parts (is_name m) (is_name n) guarded.0 in
@@ -515,7 +560,8 @@ count_said (Some n) k e =
     let same : n ≡ k = cc (guarded.1) in
     (guarded.1, subst (λ m. is_count m ≡ true) same guarded.0)
 
-next_said : (ts : List Token) (p : Bytes × ℕ) → name_and_count ts ≡ Some p → Says (Next p.0 p.1) (word (codes "next") ∷ ts)
+next_said : (ts : List Token) (p : Bytes × ℕ) → name_and_count ts ≡ Some p
+    → Says (Next p.0 p.1) (word (codes "next") ∷ ts)
 next_said (word c ∷ word w ∷ []) p e =
     let guarded = guard_some (is_name c) (option_map (λ (n : ℕ). (c, n)) (count_of (natural_of w))) p e in
     let found = map_some (λ (n : ℕ). (c, n)) (count_of (natural_of w)) p guarded.1 in
@@ -566,49 +612,65 @@ keyword_said w k e =
     pick (bytes_eq w (codes "close")) (Some CloseWord) _ (Some k) e7 (λ is h. text_is w CloseWord k is h) (λ _ e8.
     pick (bytes_eq w (codes "has")) (Some HasWord) _ (Some k) e8 (λ is h. text_is w HasWord k is h) (λ _ e9.
     pick (bytes_eq w (codes "watch")) (Some WatchWord) _ (Some k) e9 (λ is h. text_is w WatchWord k is h) (λ _ e10.
-    pick (bytes_eq w (codes "unwatch")) (Some UnwatchWord) _ (Some k) e10 (λ is h. text_is w UnwatchWord k is h) (λ _ e11.
-    pick (bytes_eq w (codes "explain")) (Some ExplainWord) _ (Some k) e11 (λ is h. text_is w ExplainWord k is h) (λ _ e12.
+    pick (bytes_eq w (codes "unwatch")) (Some UnwatchWord) _ (Some k) e10 (λ is h. text_is w UnwatchWord k is h)
+    (λ _ e11.
+    pick (bytes_eq w (codes "explain")) (Some ExplainWord) _ (Some k) e11 (λ is h. text_is w ExplainWord k is h)
+    (λ _ e12.
     pick (bytes_eq w (codes "shape")) (Some ShapeWord) _ (Some k) e12 (λ is h. text_is w ShapeWord k is h) (λ _ e13.
     pick (bytes_eq w (codes "batch")) (Some BatchWord) _ (Some k) e13 (λ is h. text_is w BatchWord k is h) (λ _ e14.
     pick (bytes_eq w (codes "done")) (Some DoneWord) _ (Some k) e14 (λ is h. text_is w DoneWord k is h) (λ _ e15.
-    pick (bytes_eq w (codes "abandon")) (Some AbandonWord) _ (Some k) e15 (λ is h. text_is w AbandonWord k is h) (λ _ e16.
+    pick (bytes_eq w (codes "abandon")) (Some AbandonWord) _ (Some k) e15 (λ is h. text_is w AbandonWord k is h)
+    (λ _ e16.
     pick (bytes_eq w (codes "quit")) (Some QuitWord) _ (Some k) e16 (λ is h. text_is w QuitWord k is h) (λ _ e17.
     pick (bytes_eq w (codes "stop")) (Some StopWord) None (Some k) e17 (λ is h. text_is w StopWord k is h) (λ _ e18.
     absurd (cc))))))))))))))))))))
   where
-    text_is : (w : Bytes) (here k : Keyword) → bytes_eq w (keyword_text here) ≡ true → Some here ≡ Some k → w ≡ keyword_text k
-    text_is w here k is h = let same : here ≡ k = cc in (bytes_eq-decides w (keyword_text here)).0 is ∙ ap keyword_text same
+    text_is : (w : Bytes) (here k : Keyword) → bytes_eq w (keyword_text here) ≡ true → Some here ≡ Some k → w
+        ≡ keyword_text k
+    text_is w here k is h = let same : here ≡ k = cc in (bytes_eq-decides w (keyword_text here)).0 is
+        ∙ ap keyword_text same
 
 -- Commands.
 
-row_said : (keyword : Bytes) (ts : List Token) (n : Bytes) (vs : Tuple) → IsNamed SaysValue n vs ts → SaysRow keyword n vs (word keyword ∷ ts)
+row_said : (keyword : Bytes) (ts : List Token) (n : Bytes) (vs : Tuple) → IsNamed SaysValue n vs ts
+    → SaysRow keyword n vs (word keyword ∷ ts)
 row_said keyword ts n vs h = (h.items, h.named, h.say, ap (λ us. word keyword ∷ us) h.split)
 
-named_one : (keyword : Bytes) (make : Bytes → Command) (ts : List Token) (c : Command) → ((n : Bytes) (us : List Token) → SaysOne keyword n us → Says (make n) us) → option_map make (one_name ts) ≡ Some c → Says c (word keyword ∷ ts)
+named_one : (keyword : Bytes) (make : Bytes → Command) (ts : List Token) (c : Command)
+    → ((n : Bytes) (us : List Token) → SaysOne keyword n us → Says (make n) us) → option_map make (one_name ts) ≡ Some c
+    → Says c (word keyword ∷ ts)
 named_one keyword make ts c says e =
     let found = map_some make (one_name ts) c e in
     let one = one_said ts found.0 found.1 in
-    subst (λ (d : Command). Says d (word keyword ∷ ts)) found.2 (says found.0 (word keyword ∷ ts) (one.0, ap (λ us. word keyword ∷ us) one.1))
+    subst (λ (d : Command). Says d (word keyword ∷ ts)) found.2
+    (says found.0 (word keyword ∷ ts) (one.0, ap (λ us. word keyword ∷ us) one.1))
 
 -- a keyword alone
-alone_said : (keyword : Bytes) (command : Command) (ts : List Token) (c : Command) → ((us : List Token) → us ≡ word keyword ∷ [] → Says command us) → nothing command ts ≡ Some c → Says c (word keyword ∷ ts)
+alone_said : (keyword : Bytes) (command : Command) (ts : List Token) (c : Command)
+    → ((us : List Token) → us ≡ word keyword ∷ [] → Says command us) → nothing command ts ≡ Some c
+    → Says c (word keyword ∷ ts)
 alone_said keyword command ts c says e =
     let none = nothing_said command c ts e in
-    subst (λ (d : Command). Says d (word keyword ∷ ts)) none.1 (says (word keyword ∷ ts) (ap (λ us. word keyword ∷ us) none.0))
+    subst (λ (d : Command). Says d (word keyword ∷ ts)) none.1
+    (says (word keyword ∷ ts) (ap (λ us. word keyword ∷ us) none.0))
 
-behind_said : (k : Keyword) (ts : List Token) (c : Command) → command_behind k ts ≡ Some c → Says c (word (keyword_text k) ∷ ts)
+behind_said : (k : Keyword) (ts : List Token) (c : Command) → command_behind k ts ≡ Some c
+    → Says c (word (keyword_text k) ∷ ts)
 behind_said RelWord ts c e =
     let found = map_some (λ (p : Bytes × List ColumnType). Rel p.0 p.1) (named_some type_of ts) c e in
     let some = some_said type_of SaysType type_said ts found.0 found.1 in
-    subst (λ (d : Command). Says d (word (codes "rel") ∷ ts)) found.2 (some.0.items, some.0.named, some.1, some.0.say, ap (λ us. word (codes "rel") ∷ us) some.0.split)
+    subst (λ (d : Command). Says d (word (codes "rel") ∷ ts)) found.2
+    (some.0.items, some.0.named, some.1, some.0.say, ap (λ us. word (codes "rel") ∷ us) some.0.split)
 behind_said AddWord ts c e =
     let found = map_some (λ (p : Bytes × Tuple). Add p.0 p.1) (named_some literal_of ts) c e in
     let some = some_said literal_of SaysValue value_said ts found.0 found.1 in
-    subst (λ (d : Command). Says d (word (codes "add") ∷ ts)) found.2 (some.1, row_said (codes "add") ts found.0.0 found.0.1 some.0)
+    subst (λ (d : Command). Says d (word (codes "add") ∷ ts)) found.2
+    (some.1, row_said (codes "add") ts found.0.0 found.0.1 some.0)
 behind_said DelWord ts c e =
     let found = map_some (λ (p : Bytes × Tuple). Del p.0 p.1) (named_some literal_of ts) c e in
     let some = some_said literal_of SaysValue value_said ts found.0 found.1 in
-    subst (λ (d : Command). Says d (word (codes "del") ∷ ts)) found.2 (some.1, row_said (codes "del") ts found.0.0 found.0.1 some.0)
+    subst (λ (d : Command). Says d (word (codes "del") ∷ ts)) found.2
+    (some.1, row_said (codes "del") ts found.0.0 found.0.1 some.0)
 behind_said QueryWord ts c e =
     let found = map_some (λ q. Register q) (query_in ts) c e in
     subst (λ (d : Command). Says d (word (codes "query") ∷ ts)) found.2 (ts, query_said ts found.0 found.1, refl)
@@ -621,14 +683,16 @@ behind_said DropWord ts c e = named_one (codes "drop") (λ q. Drop q) ts c (λ n
 behind_said OpenWord ts c e =
     let found = map_some (λ (p : Bytes × Bytes). Open p.0 p.1) (two_names ts) c e in
     let two = two_said ts found.0 found.1 in
-    subst (λ (d : Command). Says d (word (codes "open") ∷ ts)) found.2 (two.0, two.1, ap (λ us. word (codes "open") ∷ us) two.2)
+    subst (λ (d : Command). Says d (word (codes "open") ∷ ts)) found.2
+    (two.0, two.1, ap (λ us. word (codes "open") ∷ us) two.2)
 behind_said NextWord ts c e =
     let found = map_some (λ (p : Bytes × ℕ). Next p.0 p.1) (name_and_count ts) c e in
     subst (λ (d : Command). Says d (word (codes "next") ∷ ts)) found.2 (next_said ts found.0 found.1)
 behind_said CloseWord ts c e = named_one (codes "close") (λ q. Close q) ts c (λ n us s. s) e
 behind_said HasWord ts c e =
     let found = map_some (λ (p : Bytes × Tuple). Has p.0 p.1) (named_any literal_of ts) c e in
-    subst (λ (d : Command). Says d (word (codes "has") ∷ ts)) found.2 (row_said (codes "has") ts found.0.0 found.0.1 (any_said literal_of SaysValue value_said ts found.0 found.1))
+    subst (λ (d : Command). Says d (word (codes "has") ∷ ts)) found.2
+    (row_said (codes "has") ts found.0.0 found.0.1 (any_said literal_of SaysValue value_said ts found.0 found.1))
 behind_said WatchWord ts c e = named_one (codes "watch") (λ q. Watch q) ts c (λ n us s. s) e
 behind_said UnwatchWord ts c e = named_one (codes "unwatch") (λ q. Unwatch q) ts c (λ n us s. s) e
 behind_said ExplainWord ts c e = named_one (codes "explain") (λ q. Explain q) ts c (λ n us s. s) e
@@ -639,9 +703,11 @@ behind_said AbandonWord ts c e = alone_said (codes "abandon") Abandon ts c (λ u
 behind_said QuitWord ts c e = alone_said (codes "quit") Quit ts c (λ us s. s) e
 behind_said StopWord ts c e = alone_said (codes "stop") Stop ts c (λ us s. s) e
 
-with_said : (w : Bytes) (o : Option Keyword) (ts : List Token) (c : Command) → keyword_of w ≡ o → command_with o ts ≡ Some c → Says c (word w ∷ ts)
+with_said : (w : Bytes) (o : Option Keyword) (ts : List Token) (c : Command) → keyword_of w ≡ o → command_with o ts
+    ≡ Some c → Says c (word w ∷ ts)
 with_said w None ts c is e = absurd (cc)
-with_said w (Some k) ts c is e = subst (λ (v : Bytes). Says c (word v ∷ ts)) (sym (keyword_said w k is)) (behind_said k ts c e)
+with_said w (Some k) ts c is e = subst (λ (v : Bytes). Says c (word v ∷ ts)) (sym (keyword_said w k is))
+    (behind_said k ts c e)
 
 command_said : (ts : List Token) (c : Command) → command_in ts ≡ Some c → Says c ts
 command_said [] c e = absurd (cc)
@@ -655,20 +721,31 @@ command_said (operator o ∷ ts) c e = absurd (cc)
 command_said (stray ∷ ts) c e = absurd (cc)
 
 said_read : (c : Command) (ts : List Token) → Says c ts → command_in ts ≡ Some c
-said_read (Rel n cs) ts s = ap command_in s.4 ∙ ap (option_map (λ (p : Bytes × List ColumnType). Rel p.0 p.1)) (some_from type_of SaysType type_from n cs s.0 s.1 s.2 s.3)
-said_read (Add n vs) ts s = ap command_in s.1.3 ∙ ap (option_map (λ (p : Bytes × Tuple). Add p.0 p.1)) (some_from literal_of SaysValue value_from n vs s.1.0 s.1.1 s.0 s.1.2)
-said_read (Del n vs) ts s = ap command_in s.1.3 ∙ ap (option_map (λ (p : Bytes × Tuple). Del p.0 p.1)) (some_from literal_of SaysValue value_from n vs s.1.0 s.1.1 s.0 s.1.2)
+said_read (Rel n cs) ts s = ap command_in s.4
+    ∙ ap (option_map (λ (p : Bytes × List ColumnType). Rel p.0 p.1))
+    (some_from type_of SaysType type_from n cs s.0 s.1 s.2 s.3)
+said_read (Add n vs) ts s = ap command_in s.1.3
+    ∙ ap (option_map (λ (p : Bytes × Tuple). Add p.0 p.1))
+    (some_from literal_of SaysValue value_from n vs s.1.0 s.1.1 s.0 s.1.2)
+said_read (Del n vs) ts s = ap command_in s.1.3
+    ∙ ap (option_map (λ (p : Bytes × Tuple). Del p.0 p.1))
+    (some_from literal_of SaysValue value_from n vs s.1.0 s.1.1 s.0 s.1.2)
 said_read (Register q) ts s = ap command_in s.2 ∙ ap (option_map (λ p. Register p)) (query_from q s.0 s.1)
 said_read (Union n ms) ts s =
     ap command_in s.4
     ∙ ap (option_map (λ (p : Bytes × List Bytes). Union p.0 p.1)) (members_from n ms s.0 s.1 s.2 s.3)
 said_read (Drop q) ts s = ap command_in s.1 ∙ ap (option_map (λ n. Drop n)) (cond-true _ _ _ s.0)
-said_read (Open c q) ts s = ap command_in s.2 ∙ ap (option_map (λ (p : Bytes × Bytes). Open p.0 p.1)) (cond-true _ _ _ (and_from (is_name c) (is_name q) s.0 s.1))
+said_read (Open c q) ts s = ap command_in s.2
+    ∙ ap (option_map (λ (p : Bytes × Bytes). Open p.0 p.1)) (cond-true _ _ _ (and_from (is_name c) (is_name q) s.0 s.1))
 said_read (Next c k) ts s =
     ap command_in s.5
-    ∙ ap (option_map (λ (p : Bytes × ℕ). Next p.0 p.1)) (cond-true _ _ _ s.1 ∙ ap (option_map (λ (n : ℕ). (c, n))) (ap count_of (numeral_from s.0 k s.2) ∙ cond-true _ _ _ (and_from (leb 1 k) (leb k 1000) (le-leb 1 k s.3) (le-leb k 1000 s.4))))
+    ∙ ap (option_map (λ (p : Bytes × ℕ). Next p.0 p.1))
+    (cond-true _ _ _ s.1 ∙ ap (option_map (λ (n : ℕ). (c, n)))
+    (ap count_of (numeral_from s.0 k s.2)
+    ∙ cond-true _ _ _ (and_from (leb 1 k) (leb k 1000) (le-leb 1 k s.3) (le-leb k 1000 s.4))))
 said_read (Close c) ts s = ap command_in s.1 ∙ ap (option_map (λ n. Close n)) (cond-true _ _ _ s.0)
-said_read (Has q vs) ts s = ap command_in s.3 ∙ ap (option_map (λ (p : Bytes × Tuple). Has p.0 p.1)) (any_from literal_of SaysValue value_from q vs s.0 s.1 s.2)
+said_read (Has q vs) ts s = ap command_in s.3
+    ∙ ap (option_map (λ (p : Bytes × Tuple). Has p.0 p.1)) (any_from literal_of SaysValue value_from q vs s.0 s.1 s.2)
 said_read (Watch q) ts s = ap command_in s.1 ∙ ap (option_map (λ n. Watch n)) (cond-true _ _ _ s.0)
 said_read (Unwatch q) ts s = ap command_in s.1 ∙ ap (option_map (λ n. Unwatch n)) (cond-true _ _ _ s.0)
 said_read (Explain q) ts s = ap command_in s.1 ∙ ap (option_map (λ n. Explain n)) (cond-true _ _ _ s.0)

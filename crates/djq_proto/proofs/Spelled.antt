@@ -81,19 +81,22 @@ append_real (comma ∷ ts) us h k = append_real ts us h k
 append_real (arrow ∷ ts) us h k = append_real ts us h k
 append_real (operator o ∷ ts) us h k = append_real ts us h k
 
-items_real : {A : Type 0} (says : A → Token → Type 0) → ((a : A) (t : Token) → says a t → HasNoStray (t ∷ [])) → (xs : List A) (us : List Token) → AllZip says xs us → HasNoStray us
+items_real : {A : Type 0} (says : A → Token → Type 0) → ((a : A) (t : Token) → says a t → HasNoStray (t ∷ []))
+    → (xs : List A) (us : List Token) → AllZip says xs us → HasNoStray us
 items_real says real [] [] h = tt
 items_real says real [] (u ∷ us) h = absurd h
 items_real says real (x ∷ xs) [] h = absurd h
 items_real says real (x ∷ xs) (u ∷ us) h = with_real u us (real x u h.0) (items_real says real xs us h.1)
 
-more_real : {A : Type 0} (says : A → Token → Type 0) → ((a : A) (t : Token) → says a t → HasNoStray (t ∷ [])) → (xs : List A) (us : List Token) → AllZip says xs us → HasNoStray (more_tokens us)
+more_real : {A : Type 0} (says : A → Token → Type 0) → ((a : A) (t : Token) → says a t → HasNoStray (t ∷ []))
+    → (xs : List A) (us : List Token) → AllZip says xs us → HasNoStray (more_tokens us)
 more_real says real [] [] h = tt
 more_real says real [] (u ∷ us) h = absurd h
 more_real says real (x ∷ xs) [] h = absurd h
 more_real says real (x ∷ xs) (u ∷ us) h = with_real u (more_tokens us) (real x u h.0) (more_real says real xs us h.1)
 
-list_real : {A : Type 0} (says : A → Token → Type 0) → ((a : A) (t : Token) → says a t → HasNoStray (t ∷ [])) → (xs : List A) (us : List Token) → AllZip says xs us → HasNoStray (list_tokens us)
+list_real : {A : Type 0} (says : A → Token → Type 0) → ((a : A) (t : Token) → says a t → HasNoStray (t ∷ []))
+    → (xs : List A) (us : List Token) → AllZip says xs us → HasNoStray (list_tokens us)
 list_real says real [] [] h = tt
 list_real says real [] (u ∷ us) h = absurd h
 list_real says real (x ∷ xs) [] h = absurd h
@@ -123,7 +126,8 @@ atom_real : (a : Atom) (ts : List Token) → SaysAtom a ts → HasNoStray ts
 atom_real a ts s = as_real ts (word a.relation ∷ list_tokens s.0) s.3 (list_real SaysTerm term_real a.terms s.0 s.2)
 
 comparison_real : (c : Comparison) (ts : List Token) → SaysComparison c ts → HasNoStray ts
-comparison_real c ts s = as_real ts (word c.variable ∷ operator c.operator ∷ s.0 ∷ []) s.3 (value_real c.constant s.0 s.2)
+comparison_real c ts s = as_real ts (word c.variable ∷ operator c.operator ∷ s.0 ∷ []) s.3
+    (value_real c.constant s.0 s.2)
 
 item_real : (n : ℕ) (i : Item) (ts : List Token) → SaysItem n i ts → HasNoStray ts
 item_real n (atom a) ts s = atom_real a ts s
@@ -132,7 +136,8 @@ item_real n (comparison c) ts s = comparison_real c ts s.0
 body_real : (n : ℕ) (items : List Item) (ts : List Token) → SaysItems n items ts → HasNoStray ts
 body_real n [] ts s = absurd s
 body_real n (i ∷ []) ts s = item_real n i ts s
-body_real n (i ∷ j ∷ js) ts s = as_real ts (s.0 ++ comma ∷ s.1) s.4 (append_real s.0 (comma ∷ s.1) (item_real n i s.0 s.2) (body_real (past_item n i) (j ∷ js) s.1 s.3))
+body_real n (i ∷ j ∷ js) ts s = as_real ts (s.0 ++ comma ∷ s.1) s.4
+    (append_real s.0 (comma ∷ s.1) (item_real n i s.0 s.2) (body_real (past_item n i) (j ∷ js) s.1 s.3))
 
 says_real : (c : Command) (ts : List Token) → Says c ts → HasNoStray ts
 says_real (Rel n cs) ts s = as_real ts _ s.4 (items_real SaysType type_real cs s.0 s.3)
@@ -140,7 +145,9 @@ says_real (Add n vs) ts s = as_real ts _ s.1.3 (items_real SaysValue value_real 
 says_real (Del n vs) ts s = as_real ts _ s.1.3 (items_real SaysValue value_real vs s.1.0 s.1.2)
 says_real (Register q) ts s =
     let r = s.1 in
-    as_real ts _ s.2 (as_real s.0 _ r.5 (append_real (list_tokens r.0) (arrow ∷ r.1) (list_real SaysName name_real q.head r.0 r.3) (body_real 0 r.4.0 r.1 r.4.1)))
+    as_real ts _ s.2 (as_real s.0 _ r.5
+    (append_real (list_tokens r.0) (arrow ∷ r.1) (list_real SaysName name_real q.head r.0 r.3)
+    (body_real 0 r.4.0 r.1 r.4.1)))
 says_real (Union n ms) ts s = as_real ts _ s.4 (items_real SaysName name_real ms s.0 s.3)
 says_real (Drop q) ts s = as_real ts _ s.1 tt
 says_real (Open c q) ts s = as_real ts _ s.2 tt
@@ -162,12 +169,19 @@ unfolding command_of
 spelled line c e =
     let guarded = guard_some (is_utf8 line) (command_in (tokens line)) c e in
     let said = (commands_are_said (tokens line) c).0 guarded.1 in
-    record { utf8 = IsUtf8-from_is_utf8 line guarded.0; tokens = tokens line; says = said; spelled = (tokens_are_spelled line (tokens line)).0 (refl, says_real c (tokens line) said) }
+    record {
+      utf8 = IsUtf8-from_is_utf8 line guarded.0;
+      tokens = tokens line;
+      says = said;
+      spelled =
+          (tokens_are_spelled line (tokens line)).0 (refl, says_real c (tokens line) said);
+    }
 
 read : (line : Bytes) (c : Command) → Spells c line → command_of line ≡ Some c
 unfolding command_of
 read line c s =
-    cond-true _ _ _ (utf8_yes line s.utf8) ∙ ap command_in ((tokens_are_spelled line s.tokens).1 s.spelled).0 ∙ (commands_are_said s.tokens c).1 s.says
+    cond-true _ _ _ (utf8_yes line s.utf8) ∙ ap command_in ((tokens_are_spelled line s.tokens).1 s.spelled).0
+    ∙ (commands_are_said s.tokens c).1 s.says
 
 pub commands_are_spelled : (line : Bytes) (c : Command) → (command_of line ≡ Some c) ↔ Spells c line
 commands_are_spelled line c = (spelled line c, read line c)

@@ -7,7 +7,8 @@ use Rattle.std.proofs.lemmas.Bool.{false_from_ne_true}
 use Rattle.std.specs.Prelude.{IsUtf8}
 
 -- an answer that is Ok exactly where a test says so
-pub ok_is : {A E : Type 0} (r : Result A E) (b : Bool) (P : A → Type 0) (Q : E → Type 0) → MatchResult r P Q → ((a : A) → P a → b ≡ true) → ((e : E) → Q e → b ≡ false) → is_ok r ≡ b
+pub ok_is : {A E : Type 0} (r : Result A E) (b : Bool) (P : A → Type 0) (Q : E → Type 0) → MatchResult r P Q
+    → ((a : A) → P a → b ≡ true) → ((e : E) → Q e → b ≡ false) → is_ok r ≡ b
 ok_is (Ok a) b P Q h valid invalid = sym (valid a h)
 ok_is (Err e) b P Q h valid invalid = sym (invalid e h)
 

@@ -1,6 +1,8 @@
 -- The order of refusals.
 use Rattle.djq_value.specs.declared.literal.LiteralRefusal.{LiteralRefusal}
-use Rattle.djq_value.specs.declared.literal.LiteralRefusal.TheVariants.{Syntax as NoLiteral, Range as PastLimit, NoMem as OutOfMemory}
+use Rattle.djq_value.specs.declared.literal.LiteralRefusal.TheVariants.{Syntax as NoLiteral}
+use Rattle.djq_value.specs.declared.literal.LiteralRefusal.TheVariants.{Range as PastLimit}
+use Rattle.djq_value.specs.declared.literal.LiteralRefusal.TheVariants.{NoMem as OutOfMemory}
 use Rattle.djq_proto.specs.declared.refusal.LineRefusal.{LineRefusal}
 use Rattle.djq_proto.specs.declared.refusal.LineRefusal.TheVariants.{Syntax, Range, NoMem}
 

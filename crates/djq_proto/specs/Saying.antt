@@ -75,7 +75,8 @@ pub record IsNumeral (ds : Bytes) (n : ℕ) : Type 0 where
 
 -- digits, or a `-` and digits: the number that the digits denote, or its negative
 abbrev pub IsInteger : Bytes → ℤ → Type 0
-IsInteger w i = ((n : ℕ) × IsNumeral w n × (i ≡ pos n)) ⊎ ((ds : Bytes) × (n : ℕ) × (w ≡ codes "-" ++ ds) × IsNumeral ds n × (i ≡ neg_ℤ (pos n)))
+IsInteger w i = ((n : ℕ) × IsNumeral w n × (i ≡ pos n)) ⊎
+    ((ds : Bytes) × (n : ℕ) × (w ≡ codes "-" ++ ds) × IsNumeral ds n × (i ≡ neg_ℤ (pos n)))
 
 -- Which token says an item.
 
@@ -107,7 +108,8 @@ list_tokens (u ∷ us) = open_paren ∷ u ∷ more_tokens us
 
 -- a relation and a list of terms
 abbrev pub SaysAtom : Atom → List Token → Type 0
-SaysAtom a ts = (us : List Token) × IsName a.relation × AllZip SaysTerm a.terms us × (ts ≡ word a.relation ∷ list_tokens us)
+SaysAtom a ts = (us : List Token) × IsName a.relation × AllZip SaysTerm a.terms us
+    × (ts ≡ word a.relation ∷ list_tokens us)
 
 -- a variable, a comparison's sign and a constant
 abbrev pub SaysComparison : Comparison → List Token → Type 0
@@ -162,7 +164,8 @@ SaysRow keyword n vs ts = (us : List Token) × IsName n × AllZip SaysValue vs u
 
 -- the tokens that say a command
 abbrev pub Says : Command → List Token → Type 0
-Says (Rel n cs) ts = (us : List Token) × IsName n × (0 < length cs) × AllZip SaysType cs us × (ts ≡ word (codes "rel") ∷ word n ∷ us)
+Says (Rel n cs) ts = (us : List Token) × IsName n × (0 < length cs) × AllZip SaysType cs us
+    × (ts ≡ word (codes "rel") ∷ word n ∷ us)
 Says (Add n vs) ts = (0 < length vs) × SaysRow (codes "add") n vs ts
 Says (Del n vs) ts = (0 < length vs) × SaysRow (codes "del") n vs ts
 Says (Register q) ts = (us : List Token) × SaysQuery q us × (ts ≡ word (codes "query") ∷ us)
@@ -170,7 +173,8 @@ Says (Union n ms) ts = (us : List Token) × IsName n × (2 ≤ length ms) × All
     × (ts ≡ word (codes "union") ∷ word n ∷ us)
 Says (Drop q) ts = SaysOne (codes "drop") q ts
 Says (Open c q) ts = IsName c × IsName q × (ts ≡ word (codes "open") ∷ word c ∷ word q ∷ [])
-Says (Next c k) ts = (ds : Bytes) × IsName c × IsNumeral ds k × (1 ≤ k) × (k ≤ NEXT_COUNT) × (ts ≡ word (codes "next") ∷ word c ∷ word ds ∷ [])
+Says (Next c k) ts = (ds : Bytes) × IsName c × IsNumeral ds k × (1 ≤ k) × (k ≤ NEXT_COUNT)
+    × (ts ≡ word (codes "next") ∷ word c ∷ word ds ∷ [])
 Says (Close c) ts = SaysOne (codes "close") c ts
 Says (Has q vs) ts = SaysRow (codes "has") q vs ts
 Says (Watch q) ts = SaysOne (codes "watch") q ts

@@ -7,7 +7,8 @@ use Rattle.djq_proto.specs.declared.splitter.Front.TheVariants.{Line, Dry, Long}
 
 -- The answer is what stands in front of the bytes; of a line it tells its end, and where what is behind it begins.
 abbrev pub IsFront : Bytes → Front → Type 0
-IsFront held (Line end rest) = (front_of held ≡ a_line (take end held) (drop rest held)) × (end ≤ rest) × (rest ≤ length held) × (0 < rest)
+IsFront held (Line end rest) = (front_of held ≡ a_line (take end held) (drop rest held)) × (end ≤ rest)
+    × (rest ≤ length held) × (0 < rest)
 IsFront held Dry = front_of held ≡ dry
 IsFront held Long = front_of held ≡ too_long
 

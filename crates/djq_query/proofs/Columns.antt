@@ -1,5 +1,7 @@
 -- Loops over the places of terms and columns.
-use Rattle.std.proofs.Common.{◌≡◌, ℕ, suc, ◌+◌, ◌<◌, ◌≤◌, List, [], ◌∷◌, Bool, true, false, length, get_or, drop, min, refl, sym, subst, ap, ap₂, ◌∙◌, add-one, arith, drop-cons}
+use Rattle.std.proofs.Common.{◌≡◌, ℕ, suc, ◌+◌, ◌<◌, ◌≤◌, List, [], ◌∷◌, Bool, true, false, length}
+use Rattle.std.proofs.Common.{get_or, drop, min, refl, sym, subst, ap, ap₂, ◌∙◌, add-one, arith}
+use Rattle.std.proofs.Common.{drop-cons}
 use Rattle.std.specs.Prelude.{◌||◌}
 use Rattle.std.proofs.lemmas.List.{drop_all}
 use Rattle.std.proofs.lemmas.Bool.{cases_lt}
@@ -16,7 +18,8 @@ use Rattle.djq_lines.specs.Columns.{columns_of}
 use Rattle.djq_query.specs.Clashes.{clashes_with, mixes}
 
 -- a list from a place on
-pub from_place : {A : Type 0} (xs : List A) (i : ℕ) (x : A) → i < length xs → x ≡ get_or xs i x → drop i xs ≡ x ∷ drop (i + 1) xs
+pub from_place : {A : Type 0} (xs : List A) (i : ℕ) (x : A) → i < length xs → x ≡ get_or xs i x → drop i xs
+    ≡ x ∷ drop (i + 1) xs
 from_place xs i x below is =
     rw add-one (drop-cons xs i x below ∙ ap (λ y. y ∷ drop (suc i) xs) (sym is))
 
@@ -27,18 +30,23 @@ any_rest : (p : Term → ColumnType → Bool) (ts : List Term) (cs : List Column
 any_rest p ts cs i t c below under e f = ap₂ (any_column p) (from_place ts i t below e) (from_place cs i c under f)
 
 -- a place passes
-pub any_here : (p : Term → ColumnType → Bool) (ts : List Term) (cs : List ColumnType) (i : ℕ) (t : Term) (c : ColumnType) (b : Bool)
+pub any_here : (p : Term → ColumnType → Bool) (ts : List Term) (cs : List ColumnType) (i : ℕ) (t : Term)
+    (c : ColumnType) (b : Bool)
     → i < min (length ts) (length cs) → t ≡ get_or ts i t → c ≡ get_or cs i c → b ≡ p t c → b ≡ true
     → any_column p ts cs ≡ any_column p (drop i ts) (drop i cs) → any_column p ts cs ≡ true
 any_here p ts cs i t c b below e f tested passes rest =
-    rest ∙ any_rest p ts cs i t c (omega arith) (omega arith) e f ∙ ap (λ v. v || any_column p (drop (i + 1) ts) (drop (i + 1) cs)) (sym tested ∙ passes)
+    rest ∙ any_rest p ts cs i t c (omega arith) (omega arith) e f
+    ∙ ap (λ v. v || any_column p (drop (i + 1) ts) (drop (i + 1) cs)) (sym tested ∙ passes)
 
 -- it doesn't, and the places behind it decide
-pub any_on : (p : Term → ColumnType → Bool) (ts : List Term) (cs : List ColumnType) (i : ℕ) (t : Term) (c : ColumnType) (b : Bool)
+pub any_on : (p : Term → ColumnType → Bool) (ts : List Term) (cs : List ColumnType) (i : ℕ) (t : Term) (c : ColumnType)
+    (b : Bool)
     → i < min (length ts) (length cs) → t ≡ get_or ts i t → c ≡ get_or cs i c → b ≡ p t c → b ≡ false
-    → any_column p ts cs ≡ any_column p (drop i ts) (drop i cs) → any_column p ts cs ≡ any_column p (drop (i + 1) ts) (drop (i + 1) cs)
+    → any_column p ts cs ≡ any_column p (drop i ts) (drop i cs) → any_column p ts cs
+    ≡ any_column p (drop (i + 1) ts) (drop (i + 1) cs)
 any_on p ts cs i t c b below e f tested fails rest =
-    rest ∙ any_rest p ts cs i t c (omega arith) (omega arith) e f ∙ ap (λ v. v || any_column p (drop (i + 1) ts) (drop (i + 1) cs)) (sym tested ∙ fails)
+    rest ∙ any_rest p ts cs i t c (omega arith) (omega arith) e f
+    ∙ ap (λ v. v || any_column p (drop (i + 1) ts) (drop (i + 1) cs)) (sym tested ∙ fails)
 
 any_none : (p : Term → ColumnType → Bool) (ts : List Term) → any_column p ts [] ≡ false
 any_none p [] = refl
@@ -46,7 +54,8 @@ any_none p (t ∷ ts) = refl
 
 -- no place is left
 pub any_over : (p : Term → ColumnType → Bool) (ts : List Term) (cs : List ColumnType) (i : ℕ)
-    → min (length ts) (length cs) ≤ i → any_column p ts cs ≡ any_column p (drop i ts) (drop i cs) → any_column p ts cs ≡ false
+    → min (length ts) (length cs) ≤ i → any_column p ts cs ≡ any_column p (drop i ts) (drop i cs) → any_column p ts cs
+    ≡ false
 any_over p ts cs i past rest =
     rest ∙ ⊎_elim
     (λ short. ap (λ xs. any_column p xs (drop i cs)) (drop_all i ts (omega arith)))
@@ -54,14 +63,17 @@ any_over p ts cs i past rest =
     (cases_lt (length ts) (i + 1))
 
 -- a test that never passes
-any_never : (p : Term → ColumnType → Bool) → ((t : Term) (c : ColumnType) → p t c ≡ false) → (ts : List Term) (cs : List ColumnType) → any_column p ts cs ≡ false
+any_never : (p : Term → ColumnType → Bool) → ((t : Term) (c : ColumnType) → p t c ≡ false)
+    → (ts : List Term) (cs : List ColumnType) → any_column p ts cs ≡ false
 any_never p never [] cs = refl
 any_never p never (t ∷ ts) [] = refl
 any_never p never (t ∷ ts) (c ∷ cs) = rw (never t c) (any_never p never ts cs)
 
-place_never : (p : Term → ColumnType → Bool) → ((t : Term) (c : ColumnType) → p t c ≡ false) → (relations : List Relation) (atoms : List Atom) → any_place p relations atoms ≡ false
+place_never : (p : Term → ColumnType → Bool) → ((t : Term) (c : ColumnType) → p t c ≡ false)
+    → (relations : List Relation) (atoms : List Atom) → any_place p relations atoms ≡ false
 place_never p never relations [] = refl
-place_never p never relations (a ∷ atoms) = rw (any_never p never a.terms (columns_of relations a.relation)) (place_never p never relations atoms)
+place_never p never relations (a ∷ atoms) = rw (any_never p never a.terms (columns_of relations a.relation))
+    (place_never p never relations atoms)
 
 hole_alone : (c : ColumnType) (t : Term) (d : ColumnType) → is_clash Hole c t d ≡ false
 hole_alone c (Variable x) d = refl
@@ -73,29 +85,40 @@ constant_alone v c (Variable x) d = refl
 constant_alone v c Hole d = refl
 constant_alone v c (Constant w) d = refl
 
-pub hole_mixes : (relations : List Relation) (atoms : List Atom) (t : Term) (c : ColumnType) → t ≡ Hole → mixes relations atoms t c ≡ false
+pub hole_mixes : (relations : List Relation) (atoms : List Atom) (t : Term) (c : ColumnType) → t ≡ Hole
+    → mixes relations atoms t c ≡ false
 unfolding mixes
-hole_mixes relations atoms t c e = subst (λ u. mixes relations atoms u c ≡ false) (sym e) (place_never (is_clash Hole c) (hole_alone c) relations atoms)
+hole_mixes relations atoms t c e = subst (λ u. mixes relations atoms u c ≡ false) (sym e)
+    (place_never (is_clash Hole c) (hole_alone c) relations atoms)
 
-pub constant_mixes : (relations : List Relation) (atoms : List Atom) (t : Term) (v : Value) (c : ColumnType) → t ≡ Constant v → mixes relations atoms t c ≡ false
+pub constant_mixes : (relations : List Relation) (atoms : List Atom) (t : Term) (v : Value) (c : ColumnType) → t
+    ≡ Constant v → mixes relations atoms t c ≡ false
 unfolding mixes
-constant_mixes relations atoms t v c e = subst (λ u. mixes relations atoms u c ≡ false) (sym e) (place_never (is_clash (Constant v) c) (constant_alone v c) relations atoms)
+constant_mixes relations atoms t v c e = subst (λ u. mixes relations atoms u c ≡ false) (sym e)
+    (place_never (is_clash (Constant v) c) (constant_alone v c) relations atoms)
 
 -- tests that agree
-any_as : (p r : Term → ColumnType → Bool) → ((t : Term) (c : ColumnType) → p t c ≡ r t c) → (ts : List Term) (cs : List ColumnType) → any_column p ts cs ≡ any_column r ts cs
+any_as : (p r : Term → ColumnType → Bool) → ((t : Term) (c : ColumnType) → p t c ≡ r t c)
+    → (ts : List Term) (cs : List ColumnType) → any_column p ts cs ≡ any_column r ts cs
 any_as p r same [] cs = refl
 any_as p r same (t ∷ ts) [] = refl
 any_as p r same (t ∷ ts) (c ∷ cs) = ap₂ (λ a b. a || b) (same t c) (any_as p r same ts cs)
 
-place_as : (p r : Term → ColumnType → Bool) → ((t : Term) (c : ColumnType) → p t c ≡ r t c) → (relations : List Relation) (atoms : List Atom) → any_place p relations atoms ≡ any_place r relations atoms
+place_as : (p r : Term → ColumnType → Bool) → ((t : Term) (c : ColumnType) → p t c ≡ r t c)
+    → (relations : List Relation) (atoms : List Atom) → any_place p relations atoms ≡ any_place r relations atoms
 place_as p r same relations [] = refl
-place_as p r same relations (a ∷ atoms) = ap₂ (λ x y. x || y) (any_as p r same a.terms (columns_of relations a.relation)) (place_as p r same relations atoms)
+place_as p r same relations (a ∷ atoms) = ap₂ (λ x y. x || y)
+    (any_as p r same a.terms (columns_of relations a.relation)) (place_as p r same relations atoms)
 
-same_clash : (x : Bytes) (c : ColumnType) (t : Term) (d : ColumnType) → is_clash (Variable x) c t d ≡ clashes_with x c t d
+same_clash : (x : Bytes) (c : ColumnType) (t : Term) (d : ColumnType) → is_clash (Variable x) c t d
+    ≡ clashes_with x c t d
 same_clash x c (Variable y) d = refl
 same_clash x c Hole d = refl
 same_clash x c (Constant v) d = refl
 
-pub variable_mixes : (relations : List Relation) (atoms : List Atom) (t : Term) (x : Bytes) (c : ColumnType) → t ≡ Variable x → mixes relations atoms t c ≡ any_place (clashes_with x c) relations atoms
+pub variable_mixes : (relations : List Relation) (atoms : List Atom) (t : Term) (x : Bytes) (c : ColumnType) → t
+    ≡ Variable x → mixes relations atoms t c ≡ any_place (clashes_with x c) relations atoms
 unfolding mixes
-variable_mixes relations atoms t x c e = subst (λ u. mixes relations atoms u c ≡ any_place (clashes_with x c) relations atoms) (sym e) (place_as (is_clash (Variable x) c) (clashes_with x c) (same_clash x c) relations atoms)
+variable_mixes relations atoms t x c e = subst
+    (λ u. mixes relations atoms u c ≡ any_place (clashes_with x c) relations atoms) (sym e)
+    (place_as (is_clash (Variable x) c) (clashes_with x c) (same_clash x c) relations atoms)

@@ -1,5 +1,6 @@
 -- What the tests of a pattern mean.
-use Rattle.std.proofs.Common.{◌≡◌, ℕ, ℤ, suc, ◌+◌, List, [], ◌∷◌, ◌++◌, Bool, true, false, get_or, refl, sym, ap, ap₂, ◌∙◌, arith, inl, inr}
+use Rattle.std.proofs.Common.{◌≡◌, ℕ, ℤ, suc, ◌+◌, List, [], ◌∷◌, ◌++◌, Bool, true, false, get_or}
+use Rattle.std.proofs.Common.{refl, sym, ap, ap₂, ◌∙◌, arith, inl, inr}
 use Rattle.std.specs.Prelude.{◌==◌, ⊤, cond, not, All, map, slice_index, FitsSigned}
 use Rattle.std.specs.Ordering.{int_eq}
 use Rattle.std.specs.Int.{w64, cast_unsigned, cast_signed}
@@ -11,7 +12,8 @@ use Rattle.std.proofs.lemmas.Int.{to_z-of_z}
 use Rattle.std.proofs.lemmas.List.Elements.{All-nil, All-cons, All-head, All-tail}
 use Rattle.djq_model.specs.declared.value.Value.TheVariants.{Int}
 use Rattle.djq_model.specs.declared.query.Operator.{Operator}
-use Rattle.djq_model.specs.declared.query.Operator.TheVariants.{Less, LessOrEqual, Greater, GreaterOrEqual, Equal, NotEqual}
+use Rattle.djq_model.specs.declared.query.Operator.TheVariants.{Less, LessOrEqual, Greater}
+use Rattle.djq_model.specs.declared.query.Operator.TheVariants.{GreaterOrEqual, Equal, NotEqual}
 use Rattle.djq_model.specs.Answer.{compares}
 use Rattle.djq_hyper.specs.Hypergraph.{member}
 use Rattle.djq_query.specs.declared.numbered.NumberedComparison.{NumberedComparison}
@@ -20,20 +22,23 @@ use Rattle.djq_query.specs.Pattern.{passes, Passes, test_of, tests_of}
 
 -- integers over their bits
 
-same_integers : (i j : ℤ) → FitsSigned w64 i → FitsSigned w64 j → (cast_unsigned w64 i == cast_unsigned w64 j) ≡ int_eq i j
+same_integers : (i j : ℤ) → FitsSigned w64 i → FitsSigned w64 j → (cast_unsigned w64 i == cast_unsigned w64 j)
+    ≡ int_eq i j
 same_integers i j f g = by_test (int_eq i j) refl
   where
     back : (k : ℤ) → FitsSigned w64 k → cast_signed w64 (cast_unsigned w64 k) ≡ k
     back k h = to_z-of_z w64 k h
 
     by_test : (b : Bool) → int_eq i j ≡ b → (cast_unsigned w64 i == cast_unsigned w64 j) ≡ int_eq i j
-    by_test true e = eq-eqb (cast_unsigned w64 i) (cast_unsigned w64 j) (ap (cast_unsigned w64) ((Decides-int_eq i j).0 e)) ∙ sym e
+    by_test true e = eq-eqb (cast_unsigned w64 i) (cast_unsigned w64 j)
+        (ap (cast_unsigned w64) ((Decides-int_eq i j).0 e)) ∙ sym e
     by_test false e =
         ne_eqb (cast_unsigned w64 i) (cast_unsigned w64 j)
         (λ s. false≢true (sym e ∙ (Decides-int_eq i j).1 (sym (back i f) ∙ ap (cast_signed w64) s ∙ back j g)))
         ∙ sym e
 
-pub integers_compare : (o : Operator) (i j : ℤ) → FitsSigned w64 i → FitsSigned w64 j → passes o (cast_unsigned w64 i) (cast_unsigned w64 j) ≡ compares o (Int i) (Int j)
+pub integers_compare : (o : Operator) (i j : ℤ) → FitsSigned w64 i → FitsSigned w64 j
+    → passes o (cast_unsigned w64 i) (cast_unsigned w64 j) ≡ compares o (Int i) (Int j)
 integers_compare Equal i j f g = same_integers i j f g
 integers_compare NotEqual i j f g = ap not (same_integers i j f g)
 integers_compare Less i j f g = ap₂ lt_z (to_z-of_z w64 i f) (to_z-of_z w64 j g)
@@ -47,7 +52,8 @@ integers_compare GreaterOrEqual i j f g = ap₂ (λ a b. not (lt_z a b)) (to_z-o
 one_more : (k : ℕ) → 1 + k ≡ suc k
 one_more k = omega arith
 
-pub cell_under : (label : List ℕ) (a : ℕ → ℕ) (x : ℕ) → member x label ≡ true → slice_index (map a label) (position_or_len (λ y. y == x) label) ≡ a x
+pub cell_under : (label : List ℕ) (a : ℕ → ℕ) (x : ℕ) → member x label ≡ true
+    → slice_index (map a label) (position_or_len (λ y. y == x) label) ≡ a x
 cell_under [] a x h = absurd (false≢true h)
 cell_under (y ∷ label) a x h =
     elim (cases_eq x y) [
@@ -55,31 +61,48 @@ cell_under (y ∷ label) a x h =
       | inr apart ↦ (
           let k : member x label ≡ true = rw (ne_eqb x y apart) at h in
           rw (ne_eqb y x (λ e. apart (sym e)))
-          (ap (λ (n : ℕ). get_or (a y ∷ map a label) n 0) (one_more (position_or_len (λ y. y == x) label)) ∙ cell_under label a x k))
+          (ap (λ (n : ℕ). get_or (a y ∷ map a label) n 0) (one_more (position_or_len (λ y. y == x) label))
+          ∙ cell_under label a x k))
     ]
 
 abbrev pub AreHeld : List ℕ → (ℕ → ℕ) → List NumberedComparison → List ℕ → Type 0
 AreHeld label a [] cells = ⊤
 AreHeld label a (c ∷ cs) [] = ⊤
-AreHeld label a (c ∷ cs) (cell ∷ cells) = (member c.variable label ≡ true → passes c.operator (a c.variable) cell ≡ true) × AreHeld label a cs cells
+AreHeld label a (c ∷ cs) (cell ∷ cells) =
+    (member c.variable label ≡ true → passes c.operator (a c.variable) cell ≡ true) × AreHeld label a cs cells
 
 abbrev a_test : List ℕ → NumberedComparison → ℕ → Test
-a_test label c cell = record { place = position_or_len (λ y. y == c.variable) label; operator = c.operator; cell = cell }
+a_test label c cell = record
+    { place = position_or_len (λ y. y == c.variable) label; operator = c.operator; cell = cell }
 
-test_is : (label : List ℕ) (a : ℕ → ℕ) (c : NumberedComparison) (cell : ℕ) → member c.variable label ≡ true → passes c.operator (slice_index (map a label) (position_or_len (λ y. y == c.variable) label)) cell ≡ passes c.operator (a c.variable) cell
+test_is : (label : List ℕ) (a : ℕ → ℕ) (c : NumberedComparison) (cell : ℕ) → member c.variable label ≡ true
+    → passes c.operator (slice_index (map a label) (position_or_len (λ y. y == c.variable) label)) cell
+    ≡ passes c.operator (a c.variable) cell
 test_is label a c cell there = ap (λ (k : ℕ). passes c.operator k cell) (cell_under label a c.variable there)
 
-first_held : (label : List ℕ) (a : ℕ → ℕ) (c : NumberedComparison) (cell : ℕ) (ts : List Test) (b : Bool) → member c.variable label ≡ b
-    → All (Passes (map a label)) (cond b (a_test label c cell ∷ []) [] ++ ts) → (member c.variable label ≡ true → passes c.operator (a c.variable) cell ≡ true) × All (Passes (map a label)) ts
-first_held label a c cell ts true is h = (λ there. sym (test_is label a c cell there) ∙ All-head (Passes (map a label)) (a_test label c cell) ts h, All-tail (Passes (map a label)) (a_test label c cell) ts h)
+first_held : (label : List ℕ) (a : ℕ → ℕ) (c : NumberedComparison) (cell : ℕ) (ts : List Test) (b : Bool)
+    → member c.variable label ≡ b
+    → All (Passes (map a label)) (cond b (a_test label c cell ∷ []) [] ++ ts)
+    → (member c.variable label ≡ true → passes c.operator (a c.variable) cell ≡ true)
+    × All (Passes (map a label)) ts
+first_held label a c cell ts true is h = (
+  λ there. sym (test_is label a c cell there)
+      ∙ All-head (Passes (map a label)) (a_test label c cell) ts h,
+  All-tail (Passes (map a label)) (a_test label c cell)
+      ts h,
+)
 first_held label a c cell ts false is h = (λ there. absurd (false≢true (sym is ∙ there)), h)
 
-held_first : (label : List ℕ) (a : ℕ → ℕ) (c : NumberedComparison) (cell : ℕ) (ts : List Test) (b : Bool) → member c.variable label ≡ b
-    → (member c.variable label ≡ true → passes c.operator (a c.variable) cell ≡ true) → All (Passes (map a label)) ts → All (Passes (map a label)) (cond b (a_test label c cell ∷ []) [] ++ ts)
-held_first label a c cell ts true is f h = All-cons (Passes (map a label)) (a_test label c cell) ts (test_is label a c cell is ∙ f is) h
+held_first : (label : List ℕ) (a : ℕ → ℕ) (c : NumberedComparison) (cell : ℕ) (ts : List Test) (b : Bool)
+    → member c.variable label ≡ b
+    → (member c.variable label ≡ true → passes c.operator (a c.variable) cell ≡ true) → All (Passes (map a label)) ts
+    → All (Passes (map a label)) (cond b (a_test label c cell ∷ []) [] ++ ts)
+held_first label a c cell ts true is f h = All-cons (Passes (map a label)) (a_test label c cell) ts
+    (test_is label a c cell is ∙ f is) h
 held_first label a c cell ts false is f h = h
 
-pub tests_held : (label : List ℕ) (a : ℕ → ℕ) (cs : List NumberedComparison) (cells : List ℕ) → All (Passes (map a label)) (tests_of label cs cells) → AreHeld label a cs cells
+pub tests_held : (label : List ℕ) (a : ℕ → ℕ) (cs : List NumberedComparison) (cells : List ℕ)
+    → All (Passes (map a label)) (tests_of label cs cells) → AreHeld label a cs cells
 unfolding tests_of test_of
 tests_held label a [] cells h = tt
 tests_held label a (c ∷ cs) [] h = tt
@@ -87,8 +110,10 @@ tests_held label a (c ∷ cs) (cell ∷ cells) h =
     let parts = first_held label a c cell (tests_of label cs cells) (member c.variable label) refl h in
     (parts.0, tests_held label a cs cells parts.1)
 
-pub held_tests : (label : List ℕ) (a : ℕ → ℕ) (cs : List NumberedComparison) (cells : List ℕ) → AreHeld label a cs cells → All (Passes (map a label)) (tests_of label cs cells)
+pub held_tests : (label : List ℕ) (a : ℕ → ℕ) (cs : List NumberedComparison) (cells : List ℕ) → AreHeld label a cs cells
+    → All (Passes (map a label)) (tests_of label cs cells)
 unfolding tests_of test_of
 held_tests label a [] cells h = All-nil (Passes (map a label))
 held_tests label a (c ∷ cs) [] h = All-nil (Passes (map a label))
-held_tests label a (c ∷ cs) (cell ∷ cells) h = held_first label a c cell (tests_of label cs cells) (member c.variable label) refl h.0 (held_tests label a cs cells h.1)
+held_tests label a (c ∷ cs) (cell ∷ cells) h = held_first label a c cell (tests_of label cs cells)
+    (member c.variable label) refl h.0 (held_tests label a cs cells h.1)

@@ -11,8 +11,13 @@ use Rattle.djq_lines.specs.Variables.{stands_in}
 use Rattle.djq_query.specs.Clashes.{mixes}
 use Rattle.djq_value.specs.Literal.{are_different}
 use Rattle.djq_lines.specs.declared.answer.Refusal.{Refusal}
-use Rattle.djq_lines.specs.declared.answer.Refusal.TheVariants.{NoRelation, Arity, WrongType, VariableType, Unbound, HeadRepeated, HeadUnbound, Limit}
-use Rattle.djq_lines.specs.QueryFault.{any_place, is_clash, reads_unknown, has_wrong_arity, has_misfit, has_clash, is_miscompared, compares_unbound, has_miscompared, repeats_head, has_unbound_head, is_too_large, query_fault}
+use Rattle.djq_lines.specs.declared.answer.Refusal.TheVariants.{NoRelation, Arity, WrongType}
+use Rattle.djq_lines.specs.declared.answer.Refusal.TheVariants.{VariableType, Unbound, HeadRepeated}
+use Rattle.djq_lines.specs.declared.answer.Refusal.TheVariants.{HeadUnbound, Limit}
+use Rattle.djq_lines.specs.QueryFault.{any_place, is_clash, reads_unknown, has_wrong_arity}
+use Rattle.djq_lines.specs.QueryFault.{has_misfit, has_clash, is_miscompared, compares_unbound}
+use Rattle.djq_lines.specs.QueryFault.{has_miscompared, repeats_head, has_unbound_head}
+use Rattle.djq_lines.specs.QueryFault.{is_too_large, query_fault}
 
 on : (b : Bool) (r : Refusal) (o p : Option Refusal) → b ≡ false → p ≡ o → p ≡ cond b (Some r) o
 on true r o p e f = absurd cc
@@ -22,14 +27,20 @@ here : (b : Bool) (r : Refusal) (o : Option Refusal) → b ≡ true → Some r �
 here true r o e = refl
 here false r o e = absurd cc
 
-pub fault_arity : (rs : List Relation) (q : Query) → reads_unknown rs q ≡ false → has_wrong_arity rs q ≡ true → Some Arity ≡ query_fault rs q
+pub fault_arity : (rs : List Relation) (q : Query) → reads_unknown rs q ≡ false → has_wrong_arity rs q ≡ true
+    → Some Arity ≡ query_fault rs q
 fault_arity rs q a b = on (reads_unknown rs q) NoRelation _ _ a (here (has_wrong_arity rs q) Arity _ b)
 
-pub fault_misfit : (rs : List Relation) (q : Query) → reads_unknown rs q ≡ false → has_wrong_arity rs q ≡ false → has_misfit rs q ≡ true → Some WrongType ≡ query_fault rs q
-fault_misfit rs q a b c = on (reads_unknown rs q) NoRelation _ _ a (on (has_wrong_arity rs q) Arity _ _ b (here (has_misfit rs q) WrongType _ c))
+pub fault_misfit : (rs : List Relation) (q : Query) → reads_unknown rs q ≡ false → has_wrong_arity rs q ≡ false
+    → has_misfit rs q ≡ true → Some WrongType ≡ query_fault rs q
+fault_misfit rs q a b c = on (reads_unknown rs q) NoRelation _ _ a
+    (on (has_wrong_arity rs q) Arity _ _ b (here (has_misfit rs q) WrongType _ c))
 
-pub fault_clash : (rs : List Relation) (q : Query) → reads_unknown rs q ≡ false → has_wrong_arity rs q ≡ false → has_misfit rs q ≡ false → has_clash rs q ≡ true → Some VariableType ≡ query_fault rs q
-fault_clash rs q a b c d = on (reads_unknown rs q) NoRelation _ _ a (on (has_wrong_arity rs q) Arity _ _ b (on (has_misfit rs q) WrongType _ _ c (here (has_clash rs q) VariableType _ d)))
+pub fault_clash : (rs : List Relation) (q : Query) → reads_unknown rs q ≡ false → has_wrong_arity rs q ≡ false
+    → has_misfit rs q ≡ false → has_clash rs q ≡ true → Some VariableType ≡ query_fault rs q
+fault_clash rs q a b c d = on (reads_unknown rs q) NoRelation _ _ a
+    (on (has_wrong_arity rs q) Arity _ _ b
+    (on (has_misfit rs q) WrongType _ _ c (here (has_clash rs q) VariableType _ d)))
 
 -- no place of the atoms is wrong
 pub record AreAtomsSound (rs : List Relation) (q : Query) : Type 0 where
@@ -46,52 +57,79 @@ pub record IsBodySound (rs : List Relation) (q : Query) : Type 0 where
 
 -- what comes behind the atoms, and behind the body
 abbrev of_head : Query → Option Refusal
-of_head q = cond (repeats_head q) (Some HeadRepeated) (cond (has_unbound_head q) (Some HeadUnbound) (cond (is_too_large q) (Some Limit) None))
+of_head q = cond (repeats_head q) (Some HeadRepeated)
+    (cond (has_unbound_head q) (Some HeadUnbound) (cond (is_too_large q) (Some Limit) None))
 
 abbrev of_comparisons : List Relation → Query → Option Refusal
-of_comparisons rs q = cond (compares_unbound q) (Some Unbound) (cond (has_miscompared rs q) (Some WrongType) (of_head q))
+of_comparisons rs q = cond (compares_unbound q) (Some Unbound)
+    (cond (has_miscompared rs q) (Some WrongType) (of_head q))
 
-behind_atoms : (rs : List Relation) (q : Query) (o : Option Refusal) → AreAtomsSound rs q → o ≡ of_comparisons rs q → o ≡ query_fault rs q
-behind_atoms rs q o s e = on (reads_unknown rs q) NoRelation _ _ s.known (on (has_wrong_arity rs q) Arity _ _ s.arity (on (has_misfit rs q) WrongType _ _ s.fits (on (has_clash rs q) VariableType _ _ s.clashes e)))
+behind_atoms : (rs : List Relation) (q : Query) (o : Option Refusal) → AreAtomsSound rs q → o ≡ of_comparisons rs q → o
+    ≡ query_fault rs q
+behind_atoms rs q o s e = on (reads_unknown rs q) NoRelation _ _ s.known
+    (on (has_wrong_arity rs q) Arity _ _ s.arity
+    (on (has_misfit rs q) WrongType _ _ s.fits (on (has_clash rs q) VariableType _ _ s.clashes e)))
 
 behind : (rs : List Relation) (q : Query) (o : Option Refusal) → IsBodySound rs q → o ≡ of_head q → o ≡ query_fault rs q
-behind rs q o s e = behind_atoms rs q o s.atoms (on (compares_unbound q) Unbound _ _ s.bound (on (has_miscompared rs q) WrongType _ _ s.compared e))
+behind rs q o s e = behind_atoms rs q o s.atoms
+    (on (compares_unbound q) Unbound _ _ s.bound (on (has_miscompared rs q) WrongType _ _ s.compared e))
 
-pub fault_compared_unbound : (rs : List Relation) (q : Query) → AreAtomsSound rs q → compares_unbound q ≡ true → Some Unbound ≡ query_fault rs q
+pub fault_compared_unbound : (rs : List Relation) (q : Query) → AreAtomsSound rs q → compares_unbound q ≡ true
+    → Some Unbound ≡ query_fault rs q
 fault_compared_unbound rs q s a = behind_atoms rs q (Some Unbound) s (here (compares_unbound q) Unbound _ a)
 
-pub fault_miscompared : (rs : List Relation) (q : Query) → AreAtomsSound rs q → compares_unbound q ≡ false → has_miscompared rs q ≡ true → Some WrongType ≡ query_fault rs q
-fault_miscompared rs q s a b = behind_atoms rs q (Some WrongType) s (on (compares_unbound q) Unbound _ _ a (here (has_miscompared rs q) WrongType _ b))
+pub fault_miscompared : (rs : List Relation) (q : Query) → AreAtomsSound rs q → compares_unbound q ≡ false
+    → has_miscompared rs q ≡ true → Some WrongType ≡ query_fault rs q
+fault_miscompared rs q s a b = behind_atoms rs q (Some WrongType) s
+    (on (compares_unbound q) Unbound _ _ a (here (has_miscompared rs q) WrongType _ b))
 
 different : (b : Bool) → b ≡ true → not b ≡ false
 different true e = refl
 different false e = absurd cc
 
-pub fault_repeated : (rs : List Relation) (q : Query) → IsBodySound rs q → are_different q.head ≡ false → Some HeadRepeated ≡ query_fault rs q
+pub fault_repeated : (rs : List Relation) (q : Query) → IsBodySound rs q → are_different q.head ≡ false
+    → Some HeadRepeated ≡ query_fault rs q
 fault_repeated rs q s a = behind rs q (Some HeadRepeated) s (here (repeats_head q) HeadRepeated _ (ap not a))
 
-pub fault_unbound : (rs : List Relation) (q : Query) → IsBodySound rs q → are_different q.head ≡ true → has_unbound_head q ≡ true → Some HeadUnbound ≡ query_fault rs q
-fault_unbound rs q s a b = behind rs q (Some HeadUnbound) s (on (repeats_head q) HeadRepeated _ _ (different (are_different q.head) a) (here (has_unbound_head q) HeadUnbound _ b))
+pub fault_unbound : (rs : List Relation) (q : Query) → IsBodySound rs q → are_different q.head ≡ true
+    → has_unbound_head q ≡ true → Some HeadUnbound ≡ query_fault rs q
+fault_unbound rs q s a b = behind rs q (Some HeadUnbound) s
+    (on (repeats_head q) HeadRepeated _ _ (different (are_different q.head) a)
+    (here (has_unbound_head q) HeadUnbound _ b))
 
-pub fault_limit : (rs : List Relation) (q : Query) → IsBodySound rs q → are_different q.head ≡ true → has_unbound_head q ≡ false → is_too_large q ≡ true → Some Limit ≡ query_fault rs q
-fault_limit rs q s a b c = behind rs q (Some Limit) s (on (repeats_head q) HeadRepeated _ _ (different (are_different q.head) a) (on (has_unbound_head q) HeadUnbound _ _ b (here (is_too_large q) Limit _ c)))
+pub fault_limit : (rs : List Relation) (q : Query) → IsBodySound rs q → are_different q.head ≡ true → has_unbound_head q
+    ≡ false → is_too_large q ≡ true → Some Limit ≡ query_fault rs q
+fault_limit rs q s a b c = behind rs q (Some Limit) s
+    (on (repeats_head q) HeadRepeated _ _ (different (are_different q.head) a)
+    (on (has_unbound_head q) HeadUnbound _ _ b (here (is_too_large q) Limit _ c)))
 
-pub fault_none : (rs : List Relation) (q : Query) → IsBodySound rs q → are_different q.head ≡ true → has_unbound_head q ≡ false → is_too_large q ≡ false → None ≡ query_fault rs q
-fault_none rs q s a b c = behind rs q None s (on (repeats_head q) HeadRepeated _ _ (different (are_different q.head) a) (on (has_unbound_head q) HeadUnbound _ _ b (on (is_too_large q) Limit _ _ c refl)))
+pub fault_none : (rs : List Relation) (q : Query) → IsBodySound rs q → are_different q.head ≡ true → has_unbound_head q
+    ≡ false → is_too_large q ≡ false → None ≡ query_fault rs q
+fault_none rs q s a b c = behind rs q None s
+    (on (repeats_head q) HeadRepeated _ _ (different (are_different q.head) a)
+    (on (has_unbound_head q) HeadUnbound _ _ b (on (is_too_large q) Limit _ _ c refl)))
 
 -- the conditions over a body and a head that are the query's
-pub clash_over : (rs : List Relation) (q : Query) (atoms : List Atom) → atoms ≡ q.atoms → has_clash rs q ≡ any_place (mixes rs atoms) rs atoms
+pub clash_over : (rs : List Relation) (q : Query) (atoms : List Atom) → atoms ≡ q.atoms → has_clash rs q
+    ≡ any_place (mixes rs atoms) rs atoms
 unfolding mixes
 clash_over rs q atoms e = ap (λ (ats : List Atom). any_place (λ t c. any_place (is_clash t c) rs ats) rs ats) (sym e)
 
-pub unbound_over : (q : Query) (atoms : List Atom) (head : List Bytes) → atoms ≡ q.atoms → head ≡ q.head → has_unbound_head q ≡ list_any (λ x. not (stands_in atoms x)) head
-unbound_over q atoms head e f = ap₂ (λ (ats : List Atom) (xs : List Bytes). list_any (λ x. not (stands_in ats x)) xs) (sym e) (sym f)
+pub unbound_over : (q : Query) (atoms : List Atom) (head : List Bytes) → atoms ≡ q.atoms → head ≡ q.head
+    → has_unbound_head q ≡ list_any (λ x. not (stands_in atoms x)) head
+unbound_over q atoms head e f = ap₂ (λ (ats : List Atom) (xs : List Bytes). list_any (λ x. not (stands_in ats x)) xs)
+    (sym e) (sym f)
 
-pub compared_unbound_over : (q : Query) (atoms : List Atom) (comparisons : List Comparison) → atoms ≡ q.atoms → comparisons ≡ q.comparisons → compares_unbound q ≡ list_any (λ c. not (stands_in atoms c.variable)) comparisons
-compared_unbound_over q atoms comparisons e f = ap₂ (λ (ats : List Atom) (cs : List Comparison). list_any (λ c. not (stands_in ats c.variable)) cs) (sym e) (sym f)
+pub compared_unbound_over : (q : Query) (atoms : List Atom) (comparisons : List Comparison) → atoms ≡ q.atoms
+    → comparisons ≡ q.comparisons → compares_unbound q ≡ list_any (λ c. not (stands_in atoms c.variable)) comparisons
+compared_unbound_over q atoms comparisons e f = ap₂
+    (λ (ats : List Atom) (cs : List Comparison). list_any (λ c. not (stands_in ats c.variable)) cs) (sym e) (sym f)
 
-pub miscompared_over : (rs : List Relation) (q : Query) (atoms : List Atom) (comparisons : List Comparison) → atoms ≡ q.atoms → comparisons ≡ q.comparisons → has_miscompared rs q ≡ list_any (λ c. any_place (is_miscompared c) rs atoms) comparisons
-miscompared_over rs q atoms comparisons e f = ap₂ (λ (ats : List Atom) (cs : List Comparison). list_any (λ c. any_place (is_miscompared c) rs ats) cs) (sym e) (sym f)
+pub miscompared_over : (rs : List Relation) (q : Query) (atoms : List Atom) (comparisons : List Comparison) → atoms
+    ≡ q.atoms → comparisons ≡ q.comparisons → has_miscompared rs q
+    ≡ list_any (λ c. any_place (is_miscompared c) rs atoms) comparisons
+miscompared_over rs q atoms comparisons e f = ap₂
+    (λ (ats : List Atom) (cs : List Comparison). list_any (λ c. any_place (is_miscompared c) rs ats) cs) (sym e) (sym f)
 
 -- a query without a fault
 

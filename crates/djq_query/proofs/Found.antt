@@ -17,4 +17,5 @@ is_found rs name = by_test (ltb at (length rs)) refl
 
     by_test : (b : Bool) → ltb at (length rs) ≡ b → IsId rs name (cond b (Some at) None)
     by_test true e = (ltb-true at (length rs) e, sym (find_at (λ (r : Relation). bytes_eq r.name name) rs))
-    by_test false e = find_at (λ (r : Relation). bytes_eq r.name name) rs ∙ slice_get_past rs at (ltb-false at (length rs) e)
+    by_test false e = find_at (λ (r : Relation). bytes_eq r.name name) rs
+        ∙ slice_get_past rs at (ltb-false at (length rs) e)

@@ -1,5 +1,7 @@
 -- Numbers of names, terms and atoms.
-use Rattle.std.proofs.Common.{◌≡◌, ℕ, suc, ◌+◌, ◌<◌, ◌≤◌, List, [], ◌∷◌, ◌++◌, Bool, true, false, length, get_or, take, drop, refl, sym, subst, ap, ap₂, ◌∙◌, arith, ltb, append_assoc, add-one, drop-cons, length-append}
+use Rattle.std.proofs.Common.{◌≡◌, ℕ, suc, ◌+◌, ◌<◌, ◌≤◌, List, [], ◌∷◌, ◌++◌, Bool, true, false}
+use Rattle.std.proofs.Common.{length, get_or, take, drop, refl, sym, subst, ap, ap₂, ◌∙◌, arith}
+use Rattle.std.proofs.Common.{ltb, append_assoc, add-one, drop-cons, length-append}
 use Rattle.std.specs.Prelude.{unwrap_or, nat_lt, ◌&&◌, ◌==◌, Option, None, Some, cond, not, position, map, ◌||◌}
 use Rattle.std.specs.List.{fold, list_all, list_any, position_or_len, prefix_len}
 use Rattle.std.proofs.lemmas.List.{append-nil, drop_all, take_more, map-append}
@@ -15,13 +17,16 @@ use Rattle.djq_model.specs.declared.relation.Relation.{Relation}
 use Rattle.djq_model.specs.declared.query.Atom.{Atom}
 use Rattle.djq_model.specs.declared.query.Comparison.{Comparison}
 use Rattle.djq_lines.specs.Columns.{columns_of}
-use Rattle.djq_lines.specs.Variables.{Label, is_known, is_named, stands_in, variables_of, with_term, with_terms, with_atom}
+use Rattle.djq_lines.specs.Variables.{Label, is_known, is_named, stands_in, variables_of, with_term}
+use Rattle.djq_lines.specs.Variables.{with_terms, with_atom}
 use Rattle.djq_query.specs.declared.numbered.NumberedAtom.{NumberedAtom}
 use Rattle.djq_query.specs.declared.numbered.NumberedComparison.{NumberedComparison}
 use Rattle.djq_query.proofs.Counting.{terms_more, atoms_more, known_behind, or_false}
 use Rattle.djq_query.specs.declared.numbered.Variable.{Variable}
 use Rattle.djq_query.specs.declared.numbered.NumberedTerm.{NumberedTerm}
-use Rattle.djq_query.specs.Numbered.{labels, number_of, numbered, numbered_terms, numbered_comparison, with_place, with_places, with_columns, is_below, are_below, IsNumberedAtom, AreNumbered}
+use Rattle.djq_query.specs.Numbered.{labels, number_of, numbered, numbered_terms}
+use Rattle.djq_query.specs.Numbered.{numbered_comparison, with_place, with_places, with_columns}
+use Rattle.djq_query.specs.Numbered.{is_below, are_below, IsNumberedAtom, AreNumbered}
 use Rattle.djq_query.proofs.Columns.{from_place}
 
 ltb_up : (a b : ℕ) → ltb (1 + a) (suc b) ≡ ltb a b
@@ -40,12 +45,14 @@ any_at : (p : Label → Bool) (xs : List Label) → list_any p xs ≡ ltb (posit
 any_at p [] = refl
 any_at p (x ∷ xs) = step (p x) (any_at p xs)
   where
-    step : (b : Bool) → list_any p xs ≡ ltb (position_or_len p xs) (length xs) → (b || list_any p xs) ≡ ltb (cond (not b) (1 + position_or_len p xs) 0) (suc (length xs))
+    step : (b : Bool) → list_any p xs ≡ ltb (position_or_len p xs) (length xs) → (b || list_any p xs)
+        ≡ ltb (cond (not b) (1 + position_or_len p xs) 0) (suc (length xs))
     step true h = sym (lt-ltb 0 (suc (length xs)) (omega arith))
     step false h = h ∙ sym (ltb_up (position_or_len p xs) (length xs))
 
 -- the first of variables is that of their names
-prefix_named : (p : Label → Bool) (known : List Variable) → prefix_len (λ (v : Variable). p v.name) known ≡ prefix_len p (labels known)
+prefix_named : (p : Label → Bool) (known : List Variable) → prefix_len (λ (v : Variable). p v.name) known
+    ≡ prefix_len p (labels known)
 prefix_named p [] = refl
 prefix_named p (v ∷ known) = ap (λ (n : ℕ). cond (p v.name) (1 + n) 0) (prefix_named p known)
 
@@ -53,9 +60,11 @@ pub length_labels : (known : List Variable) → length (labels known) ≡ length
 length_labels [] = refl
 length_labels (v ∷ known) = ap suc (length_labels known)
 
-number_at : (known : List Variable) (x : Bytes) → position (λ (v : Variable). is_named x v.name) known ≡ cond (is_known (labels known) x) (Some (number_of (labels known) x)) None
+number_at : (known : List Variable) (x : Bytes) → position (λ (v : Variable). is_named x v.name) known
+    ≡ cond (is_known (labels known) x) (Some (number_of (labels known) x)) None
 number_at known x =
-    ap₂ (λ (n m : ℕ). cond (ltb n m) (Some n) None) (prefix_named (λ l. not (is_named x l)) known) (sym (length_labels known))
+    ap₂ (λ (n m : ℕ). cond (ltb n m) (Some n) None) (prefix_named (λ l. not (is_named x l)) known)
+    (sym (length_labels known))
     ∙ ap (λ b. cond b (Some (number_of (labels known) x)) None) (sym (any_at (is_named x) (labels known)))
 
 number_some : (b : Bool) (n m : ℕ) → cond b (Some n) None ≡ Some m → (b ≡ true) × (n ≡ m)
@@ -68,30 +77,39 @@ number_none false n e = refl
 
 -- a name that is known, and one that isn't
 
-pub known_found : (known : List Variable) (x : Bytes) (n : ℕ) → position (λ (v : Variable). is_named x v.name) known ≡ Some n → (is_known (labels known) x ≡ true) × (number_of (labels known) x ≡ n)
-known_found known x n e = number_some (is_known (labels known) x) (number_of (labels known) x) n (sym (number_at known x) ∙ e)
+pub known_found : (known : List Variable) (x : Bytes) (n : ℕ) → position (λ (v : Variable). is_named x v.name) known
+    ≡ Some n → (is_known (labels known) x ≡ true) × (number_of (labels known) x ≡ n)
+known_found known x n e = number_some (is_known (labels known) x) (number_of (labels known) x) n
+    (sym (number_at known x) ∙ e)
 
-pub known_missed : (known : List Variable) (x : Bytes) → position (λ (v : Variable). is_named x v.name) known ≡ None → (is_known (labels known) x ≡ false) × (number_of (labels known) x ≡ length known)
+pub known_missed : (known : List Variable) (x : Bytes) → position (λ (v : Variable). is_named x v.name) known ≡ None
+    → (is_known (labels known) x ≡ false) × (number_of (labels known) x ≡ length known)
 known_missed known x e =
-    let unknown : is_known (labels known) x ≡ false = number_none (is_known (labels known) x) (number_of (labels known) x) (sym (number_at known x) ∙ e) in
-    let past : length (labels known) ≤ number_of (labels known) x = ltb-false (number_of (labels known) x) (length (labels known)) (sym (any_at (is_named x) (labels known)) ∙ unknown) in
+    let unknown : is_known (labels known) x
+    ≡ false = number_none (is_known (labels known) x) (number_of (labels known) x) (sym (number_at known x) ∙ e) in
+    let past : length (labels known) ≤ number_of (labels known) x = ltb-false (number_of (labels known) x)
+    (length (labels known)) (sym (any_at (is_named x) (labels known)) ∙ unknown) in
     (unknown, omega (arith, at_most (λ l. not (is_named x l)) (labels known), length_labels known))
 
 -- terms, one after another
 
-pub with_known : (known : List Variable) (x : Bytes) (c : ColumnType) → is_known (labels known) x ≡ true → with_place known (Named x) c ≡ known
+pub with_known : (known : List Variable) (x : Bytes) (c : ColumnType) → is_known (labels known) x ≡ true
+    → with_place known (Named x) c ≡ known
 unfolding with_place
 with_known known x c e = rw e refl
 
-pub with_unknown : (known : List Variable) (x : Bytes) (c : ColumnType) → is_known (labels known) x ≡ false → with_place known (Named x) c ≡ known ++ record { name = Some x; column = c } ∷ []
+pub with_unknown : (known : List Variable) (x : Bytes) (c : ColumnType) → is_known (labels known) x ≡ false
+    → with_place known (Named x) c ≡ known ++ record { name = Some x; column = c } ∷ []
 unfolding with_place
 with_unknown known x c e = rw e refl
 
-pub with_hole : (known : List Variable) (t : Term) (c : ColumnType) → t ≡ Hole → with_place known t c ≡ known ++ record { name = None; column = c } ∷ []
+pub with_hole : (known : List Variable) (t : Term) (c : ColumnType) → t ≡ Hole → with_place known t c
+    ≡ known ++ record { name = None; column = c } ∷ []
 unfolding with_place
 with_hole known t c e = ap (λ u. with_place known u c) e
 
-pub with_constant : (known : List Variable) (t : Term) (v : Value) (c : ColumnType) → t ≡ Constant v → with_place known t c ≡ known
+pub with_constant : (known : List Variable) (t : Term) (v : Value) (c : ColumnType) → t ≡ Constant v
+    → with_place known t c ≡ known
 unfolding with_place
 with_constant known t v c e = ap (λ u. with_place known u c) e
 
@@ -99,38 +117,49 @@ labels_behind : (known : List Variable) (v : Variable) → labels (known ++ v �
 labels_behind [] v = refl
 labels_behind (w ∷ known) v = ap (λ (ls : List Label). w.name ∷ ls) (labels_behind known v)
 
-label_step : (known : List Variable) (x : Bytes) (c : ColumnType) (b : Bool) → labels (cond b known (known ++ record { name = Some x; column = c } ∷ [])) ≡ cond b (labels known) (labels known ++ Some x ∷ [])
+label_step : (known : List Variable) (x : Bytes) (c : ColumnType) (b : Bool)
+    → labels (cond b known (known ++ record { name = Some x; column = c } ∷ []))
+    ≡ cond b (labels known) (labels known ++ Some x ∷ [])
 label_step known x c true = refl
 label_step known x c false = labels_behind known (record { name = Some x; column = c })
 
-pub labels_with : (known : List Variable) (t : Term) (c : ColumnType) → labels (with_place known t c) ≡ with_term (labels known) t
+pub labels_with : (known : List Variable) (t : Term) (c : ColumnType) → labels (with_place known t c)
+    ≡ with_term (labels known) t
 unfolding with_place
 labels_with known (Named x) c = label_step known x c (is_known (labels known) x)
 labels_with known Hole c = labels_behind known (record { name = None; column = c })
 labels_with known (Constant v) c = refl
 
 -- a list from a place on, as it is read
-from_read : {A : Type 0} (xs : List A) (i : ℕ) (x d : A) → i < length xs → x ≡ get_or xs i d → drop i xs ≡ x ∷ drop (i + 1) xs
+from_read : {A : Type 0} (xs : List A) (i : ℕ) (x d : A) → i < length xs → x ≡ get_or xs i d → drop i xs
+    ≡ x ∷ drop (i + 1) xs
 from_read xs i x d below is = rw add-one (drop-cons xs i d below ∙ ap (λ y. y ∷ drop (suc i) xs) (sym is))
 
-pub numbered_step : (done : List NumberedTerm) (known : List Variable) (ts : List Term) (i : ℕ) (t : Term) (c : ColumnType) → i < length ts → t ≡ get_or ts i t
-    → (done ++ numbered (labels known) t ∷ []) ++ numbered_terms (labels (with_place known t c)) (drop (i + 1) ts) ≡ done ++ numbered_terms (labels known) (drop i ts)
+pub numbered_step : (done : List NumberedTerm) (known : List Variable) (ts : List Term) (i : ℕ) (t : Term)
+    (c : ColumnType) → i < length ts → t ≡ get_or ts i t
+    → (done ++ numbered (labels known) t ∷ []) ++ numbered_terms (labels (with_place known t c)) (drop (i + 1) ts)
+    ≡ done ++ numbered_terms (labels known) (drop i ts)
 unfolding numbered_terms
 numbered_step done known ts i t c below is =
-    append_assoc done (numbered (labels known) t ∷ []) (numbered_terms (labels (with_place known t c)) (drop (i + 1) ts))
+    append_assoc done (numbered (labels known) t ∷ [])
+    (numbered_terms (labels (with_place known t c)) (drop (i + 1) ts))
     ∙ ap (λ ls. done ++ numbered (labels known) t ∷ numbered_terms ls (drop (i + 1) ts)) (labels_with known t c)
     ∙ ap (λ us. done ++ numbered_terms (labels known) us) (sym (from_place ts i t below is))
 
-pub places_step : (known : List Variable) (ts : List Term) (cs : List ColumnType) (i : ℕ) (t : Term) (c d : ColumnType) → i < length ts → i < length cs → t ≡ get_or ts i t → c ≡ get_or cs i d
+pub places_step : (known : List Variable) (ts : List Term) (cs : List ColumnType) (i : ℕ) (t : Term) (c d : ColumnType)
+    → i < length ts → i < length cs → t ≡ get_or ts i t → c ≡ get_or cs i d
     → with_places (with_place known t c) (drop (i + 1) ts) (drop (i + 1) cs) ≡ with_places known (drop i ts) (drop i cs)
 unfolding with_places
-places_step known ts cs i t c d below under e f = sym (ap₂ (with_places known) (from_place ts i t below e) (from_read cs i c d under f))
+places_step known ts cs i t c d below under e f = sym
+    (ap₂ (with_places known) (from_place ts i t below e) (from_read cs i c d under f))
 
-pub numbered_end : (done : List NumberedTerm) (known : List Label) (ts : List Term) (i : ℕ) → length ts ≤ i → done ++ numbered_terms known (drop i ts) ≡ done
+pub numbered_end : (done : List NumberedTerm) (known : List Label) (ts : List Term) (i : ℕ) → length ts ≤ i
+    → done ++ numbered_terms known (drop i ts) ≡ done
 unfolding numbered_terms
 numbered_end done known ts i past = ap (λ us. done ++ numbered_terms known us) (drop_all i ts past) ∙ append-nil done
 
-pub places_end : (known : List Variable) (ts : List Term) (cs : List ColumnType) (i : ℕ) → length ts ≤ i → with_places known (drop i ts) (drop i cs) ≡ known
+pub places_end : (known : List Variable) (ts : List Term) (cs : List ColumnType) (i : ℕ) → length ts ≤ i
+    → with_places known (drop i ts) (drop i cs) ≡ known
 unfolding with_places
 places_end known ts cs i past = ap (λ us. with_places known us (drop i cs)) (drop_all i ts past)
 
@@ -144,7 +173,8 @@ pub not_false : (b : Bool) → not b ≡ false → b ≡ true
 not_false true e = refl
 not_false false e = absurd (false≢true (sym e))
 
-pub any_false_at : {A : Type 0} (p : A → Bool) (xs : List A) (i : ℕ) (x : A) → list_any p xs ≡ false → i < length xs → x ≡ get_or xs i x → p x ≡ false
+pub any_false_at : {A : Type 0} (p : A → Bool) (xs : List A) (i : ℕ) (x : A) → list_any p xs ≡ false → i < length xs → x
+    ≡ get_or xs i x → p x ≡ false
 any_false_at p xs i x none below is = by_test (p x) refl
   where
     by_test : (b : Bool) → p x ≡ b → p x ≡ false
@@ -159,51 +189,75 @@ same_length a b e = by_test (a == b) refl e
     by_test false is h = absurd (false≢true (sym h))
 
 -- an atom among those with the right number of terms
-pub arity_at : (rs : List Relation) (atoms : List Atom) (i : ℕ) (a : Atom) → list_any (λ (a : Atom). not (length a.terms == length (columns_of rs a.relation))) atoms ≡ false → i < length atoms → a ≡ get_or atoms i a
+pub arity_at : (rs : List Relation) (atoms : List Atom) (i : ℕ) (a : Atom)
+    → list_any (λ (a : Atom). not (length a.terms == length (columns_of rs a.relation))) atoms ≡ false
+    → i < length atoms → a ≡ get_or atoms i a
     → length a.terms ≡ length (columns_of rs a.relation)
-arity_at rs atoms i a none below is = same_length (length a.terms) (length (columns_of rs a.relation)) (any_false_at (λ (a : Atom). not (length a.terms == length (columns_of rs a.relation))) atoms i a none below is)
+arity_at rs atoms i a none below is = same_length (length a.terms) (length (columns_of rs a.relation))
+    (any_false_at (λ (a : Atom). not (length a.terms == length (columns_of rs a.relation))) atoms i a none below is)
 
-labels_places : (known : List Variable) (ts : List Term) (cs : List ColumnType) → length ts ≡ length cs → labels (with_places known ts cs) ≡ with_terms (labels known) ts
+labels_places : (known : List Variable) (ts : List Term) (cs : List ColumnType) → length ts ≡ length cs
+    → labels (with_places known ts cs) ≡ with_terms (labels known) ts
 unfolding with_places
 labels_places known [] cs e = refl
 labels_places known (t ∷ ts) [] e = absurd (omega arith)
-labels_places known (t ∷ ts) (c ∷ cs) e = labels_places (with_place known t c) ts cs (omega arith) ∙ ap (λ ls. with_terms ls ts) (labels_with known t c)
+labels_places known (t ∷ ts) (c ∷ cs) e = labels_places (with_place known t c) ts cs (omega arith)
+    ∙ ap (λ ls. with_terms ls ts) (labels_with known t c)
 
-pub numbered_on : (rs : List Relation) (known old : List Variable) (atoms : List Atom) (done : List NumberedAtom) (i : ℕ) (a : Atom) (n : NumberedAtom)
-    → i < length atoms → a ≡ get_or atoms i a → length a.terms ≡ length (columns_of rs a.relation) → IsNumberedAtom rs (labels known) a n
-    → ((ns : List NumberedAtom) → AreNumbered rs (labels known) (drop i atoms) ns → AreNumbered rs (labels old) atoms (done ++ ns))
-    → (ns : List NumberedAtom) → AreNumbered rs (labels (with_columns rs known a)) (drop (i + 1) atoms) ns → AreNumbered rs (labels old) atoms ((done ++ n ∷ []) ++ ns)
+pub numbered_on : (rs : List Relation) (known old : List Variable) (atoms : List Atom) (done : List NumberedAtom)
+    (i : ℕ) (a : Atom) (n : NumberedAtom)
+    → i < length atoms → a ≡ get_or atoms i a → length a.terms ≡ length (columns_of rs a.relation)
+    → IsNumberedAtom rs (labels known) a n
+    → ((ns : List NumberedAtom) → AreNumbered rs (labels known) (drop i atoms) ns
+    → AreNumbered rs (labels old) atoms (done ++ ns))
+    → (ns : List NumberedAtom) → AreNumbered rs (labels (with_columns rs known a)) (drop (i + 1) atoms) ns
+    → AreNumbered rs (labels old) atoms ((done ++ n ∷ []) ++ ns)
 unfolding AreNumbered
 numbered_on rs known old atoms done i a n below is arity one before ns more =
     subst (λ (ms : List NumberedAtom). AreNumbered rs (labels old) atoms ms) (sym (append_assoc done (n ∷ []) ns))
     (before (n ∷ ns)
-    (subst (λ (rest : List Atom). AreNumbered rs (labels known) rest (n ∷ ns)) (sym (from_place atoms i a below is))
-    (one, subst (λ (ls : List Label). AreNumbered rs ls (drop (i + 1) atoms) ns) (labels_places known a.terms (columns_of rs a.relation) arity) more)))
+    (subst (λ (rest : List Atom). AreNumbered rs (labels known) rest (n ∷ ns)) (sym (from_place atoms i a below is)) (
+      one,
+      subst (λ (ls : List Label). AreNumbered rs ls (drop (i + 1) atoms) ns)
+          (labels_places known a.terms (columns_of rs a.relation) arity) more,
+    )))
 
-pub numbered_all : (rs : List Relation) (known : List Label) (atoms : List Atom) (i : ℕ) → length atoms ≤ i → AreNumbered rs known (drop i atoms) []
+pub numbered_all : (rs : List Relation) (known : List Label) (atoms : List Atom) (i : ℕ) → length atoms ≤ i
+    → AreNumbered rs known (drop i atoms) []
 unfolding AreNumbered
-numbered_all rs known atoms i past = subst (λ (rest : List Atom). AreNumbered rs known rest []) (sym (drop_all i atoms past)) tt
+numbered_all rs known atoms i past = subst (λ (rest : List Atom). AreNumbered rs known rest [])
+    (sym (drop_all i atoms past)) tt
 
-pub numbered_over : (rs : List Relation) (known old : List Variable) (atoms : List Atom) (done : List NumberedAtom) (i : ℕ) → length atoms ≤ i
-    → ((ns : List NumberedAtom) → AreNumbered rs (labels known) (drop i atoms) ns → AreNumbered rs (labels old) atoms (done ++ ns)) → AreNumbered rs (labels old) atoms done
+pub numbered_over : (rs : List Relation) (known old : List Variable) (atoms : List Atom) (done : List NumberedAtom)
+    (i : ℕ) → length atoms ≤ i
+    → ((ns : List NumberedAtom) → AreNumbered rs (labels known) (drop i atoms) ns
+    → AreNumbered rs (labels old) atoms (done ++ ns)) → AreNumbered rs (labels old) atoms done
 numbered_over rs known old atoms done i past before =
-    subst (λ (ms : List NumberedAtom). AreNumbered rs (labels old) atoms ms) (append-nil done) (before [] (numbered_all rs (labels known) atoms i past))
+    subst (λ (ms : List NumberedAtom). AreNumbered rs (labels old) atoms ms) (append-nil done)
+    (before [] (numbered_all rs (labels known) atoms i past))
 
-pub columns_on : (rs : List Relation) (known : List Variable) (atoms : List Atom) (i : ℕ) (a : Atom) → i < length atoms → a ≡ get_or atoms i a
-    → fold (with_columns rs) (with_columns rs known a) (drop (i + 1) atoms) ≡ fold (with_columns rs) known (drop i atoms)
+pub columns_on : (rs : List Relation) (known : List Variable) (atoms : List Atom) (i : ℕ) (a : Atom) → i < length atoms
+    → a ≡ get_or atoms i a
+    → fold (with_columns rs) (with_columns rs known a) (drop (i + 1) atoms)
+    ≡ fold (with_columns rs) known (drop i atoms)
 columns_on rs known atoms i a below is = ap (fold (with_columns rs) known) (sym (from_place atoms i a below is))
 
-pub columns_over : (rs : List Relation) (known : List Variable) (atoms : List Atom) (i : ℕ) → length atoms ≤ i → fold (with_columns rs) known (drop i atoms) ≡ known
+pub columns_over : (rs : List Relation) (known : List Variable) (atoms : List Atom) (i : ℕ) → length atoms ≤ i
+    → fold (with_columns rs) known (drop i atoms) ≡ known
 columns_over rs known atoms i past = ap (fold (with_columns rs) known) (drop_all i atoms past)
 
 -- the variables with their types are those without them
-pub labels_columns : (rs : List Relation) (known : List Variable) (atoms : List Atom) → list_any (λ (a : Atom). not (length a.terms == length (columns_of rs a.relation))) atoms ≡ false
+pub labels_columns : (rs : List Relation) (known : List Variable) (atoms : List Atom)
+    → list_any (λ (a : Atom). not (length a.terms == length (columns_of rs a.relation))) atoms ≡ false
     → labels (fold (with_columns rs) known atoms) ≡ fold with_atom (labels known) atoms
 labels_columns rs known [] none = refl
 labels_columns rs known (a ∷ atoms) none =
-    let parts = both_false (not (length a.terms == length (columns_of rs a.relation))) (list_any (λ (a : Atom). not (length a.terms == length (columns_of rs a.relation))) atoms) none in
+    let parts = both_false (not (length a.terms == length (columns_of rs a.relation)))
+    (list_any (λ (a : Atom). not (length a.terms == length (columns_of rs a.relation))) atoms) none in
     labels_columns rs (with_columns rs known a) atoms parts.1
-    ∙ ap (λ (ls : List Label). fold with_atom ls atoms) (labels_places known a.terms (columns_of rs a.relation) (same_length (length a.terms) (length (columns_of rs a.relation)) parts.0))
+    ∙ ap (λ (ls : List Label). fold with_atom ls atoms)
+    (labels_places known a.terms (columns_of rs a.relation)
+    (same_length (length a.terms) (length (columns_of rs a.relation)) parts.0))
 
 -- names of a head
 
@@ -211,11 +265,13 @@ or_else : (b : Bool) (n m : ℕ) → (b ≡ false → n ≡ m) → unwrap_or (co
 or_else true n m f = refl
 or_else false n m f = sym (f refl)
 
-pub number_or : (known : List Variable) (x : Bytes) → unwrap_or (position (λ (v : Variable). is_named x v.name) known) (length known) ≡ number_of (labels known) x
+pub number_or : (known : List Variable) (x : Bytes)
+    → unwrap_or (position (λ (v : Variable). is_named x v.name) known) (length known) ≡ number_of (labels known) x
 number_or known x =
     ap (λ (o : Option ℕ). unwrap_or o (length known)) (number_at known x)
     ∙ or_else (is_known (labels known) x) (number_of (labels known) x) (length known)
-    (λ unknown. (known_missed known x (number_at known x ∙ ap (λ b. cond b (Some (number_of (labels known) x)) None) unknown)).1)
+    (λ unknown. (known_missed known x
+    (number_at known x ∙ ap (λ b. cond b (Some (number_of (labels known) x)) None) unknown)).1)
 
 -- numbers are within
 
@@ -225,16 +281,20 @@ both_true b c e f = rw e f
 number_within : (known : List Label) (x : Bytes) → is_known known x ≡ true → number_of known x < length known
 number_within known x e = ltb-true (number_of known x) (length known) (sym (any_at (is_named x) known) ∙ e)
 
-name_below : (known : List Label) (x : Bytes) (b : Bool) (m : ℕ) → is_known known x ≡ b → length (cond b known (known ++ Some x ∷ [])) ≤ m → number_of known x < m
+name_below : (known : List Label) (x : Bytes) (b : Bool) (m : ℕ) → is_known known x ≡ b
+    → length (cond b known (known ++ Some x ∷ [])) ≤ m → number_of known x < m
 name_below known x true m e h = omega (arith, number_within known x e)
-name_below known x false m e h = omega (arith, at_most (λ l. not (is_named x l)) known, length-append known (Some x ∷ []))
+name_below known x false m e h = omega
+    (arith, at_most (λ l. not (is_named x l)) known, length-append known (Some x ∷ []))
 
-term_below : (known : List Label) (t : Term) (m : ℕ) → length (with_term known t) ≤ m → is_below m (numbered known t) ≡ true
+term_below : (known : List Label) (t : Term) (m : ℕ) → length (with_term known t) ≤ m → is_below m (numbered known t)
+    ≡ true
 term_below known (Named x) m h = lt-ltb (number_of known x) m (name_below known x (is_known known x) m refl h)
 term_below known Hole m h = lt-ltb (length known) m (omega (arith, h, length-append known (None ∷ [])))
 term_below known (Constant v) m h = refl
 
-terms_below : (known : List Label) (ts : List Term) (m : ℕ) → length (with_terms known ts) ≤ m → are_below m (numbered_terms known ts) ≡ true
+terms_below : (known : List Label) (ts : List Term) (m : ℕ) → length (with_terms known ts) ≤ m
+    → are_below m (numbered_terms known ts) ≡ true
 unfolding numbered_terms
 terms_below known [] m h = refl
 terms_below known (t ∷ ts) m h =
@@ -242,7 +302,8 @@ terms_below known (t ∷ ts) m h =
     (term_below known t m (omega (arith, terms_more (with_term known t) ts)))
     (terms_below (with_term known t) ts m h)
 
-pub atoms_below : (rs : List Relation) (known : List Label) (atoms : List Atom) (ns : List NumberedAtom) (m : ℕ) → AreNumbered rs known atoms ns → length (fold with_atom known atoms) ≤ m
+pub atoms_below : (rs : List Relation) (known : List Label) (atoms : List Atom) (ns : List NumberedAtom) (m : ℕ)
+    → AreNumbered rs known atoms ns → length (fold with_atom known atoms) ≤ m
     → list_all (λ (n : NumberedAtom). are_below m n.terms) ns ≡ true
 unfolding AreNumbered
 atoms_below rs known [] [] m h l = refl
@@ -253,34 +314,49 @@ atoms_below rs known (a ∷ atoms) (n ∷ ns) m h l =
     (ap (are_below m) h.0.1 ∙ terms_below known a.terms m (omega (arith, atoms_more (with_atom known a) atoms)))
     (atoms_below rs (with_atom known a) atoms ns m h.1 l)
 
-pub head_below : (atoms : List Atom) (head : List Bytes) → list_any (λ x. not (stands_in atoms x)) head ≡ false → list_all (λ x. nat_lt x (length (variables_of atoms))) (map (number_of (variables_of atoms)) head) ≡ true
+pub head_below : (atoms : List Atom) (head : List Bytes) → list_any (λ x. not (stands_in atoms x)) head ≡ false
+    → list_all (λ x. nat_lt x (length (variables_of atoms))) (map (number_of (variables_of atoms)) head) ≡ true
 head_below atoms [] none = refl
 head_below atoms (x ∷ head) none =
     let parts = both_false (not (stands_in atoms x)) (list_any (λ x. not (stands_in atoms x)) head) none in
-    let known : is_known (variables_of atoms) x ≡ true = known_behind atoms [] x ∙ or_false (stands_in atoms x) ∙ not_false (stands_in atoms x) parts.0 in
-    both_true (nat_lt (number_of (variables_of atoms) x) (length (variables_of atoms))) (list_all (λ x. nat_lt x (length (variables_of atoms))) (map (number_of (variables_of atoms)) head))
-    (lt-ltb (number_of (variables_of atoms) x) (length (variables_of atoms)) (number_within (variables_of atoms) x known))
+    let known : is_known (variables_of atoms) x ≡ true = known_behind atoms [] x ∙ or_false (stands_in atoms x)
+    ∙ not_false (stands_in atoms x) parts.0 in
+    both_true (nat_lt (number_of (variables_of atoms) x) (length (variables_of atoms)))
+    (list_all (λ x. nat_lt x (length (variables_of atoms))) (map (number_of (variables_of atoms)) head))
+    (lt-ltb (number_of (variables_of atoms) x) (length (variables_of atoms))
+    (number_within (variables_of atoms) x known))
     (head_below atoms head parts.1)
 
-pub compared_below : (atoms : List Atom) (comparisons : List Comparison) → list_any (λ c. not (stands_in atoms c.variable)) comparisons ≡ false
-    → list_all (λ (c : NumberedComparison). nat_lt c.variable (length (variables_of atoms))) (map (numbered_comparison (variables_of atoms)) comparisons) ≡ true
+pub compared_below : (atoms : List Atom) (comparisons : List Comparison)
+    → list_any (λ c. not (stands_in atoms c.variable)) comparisons ≡ false
+    → list_all (λ (c : NumberedComparison). nat_lt c.variable (length (variables_of atoms)))
+    (map (numbered_comparison (variables_of atoms)) comparisons) ≡ true
 compared_below atoms [] none = refl
 compared_below atoms (c ∷ cs) none =
-    let parts = both_false (not (stands_in atoms c.variable)) (list_any (λ (c : Comparison). not (stands_in atoms c.variable)) cs) none in
-    let known : is_known (variables_of atoms) c.variable ≡ true = known_behind atoms [] c.variable ∙ or_false (stands_in atoms c.variable) ∙ not_false (stands_in atoms c.variable) parts.0 in
-    both_true (nat_lt (number_of (variables_of atoms) c.variable) (length (variables_of atoms))) (list_all (λ (n : NumberedComparison). nat_lt n.variable (length (variables_of atoms))) (map (numbered_comparison (variables_of atoms)) cs))
-    (lt-ltb (number_of (variables_of atoms) c.variable) (length (variables_of atoms)) (number_within (variables_of atoms) c.variable known))
+    let parts = both_false (not (stands_in atoms c.variable))
+    (list_any (λ (c : Comparison). not (stands_in atoms c.variable)) cs) none in
+    let known : is_known (variables_of atoms) c.variable ≡ true = known_behind atoms [] c.variable
+    ∙ or_false (stands_in atoms c.variable) ∙ not_false (stands_in atoms c.variable) parts.0 in
+    both_true (nat_lt (number_of (variables_of atoms) c.variable) (length (variables_of atoms)))
+    (list_all (λ (n : NumberedComparison). nat_lt n.variable (length (variables_of atoms)))
+    (map (numbered_comparison (variables_of atoms)) cs))
+    (lt-ltb (number_of (variables_of atoms) c.variable) (length (variables_of atoms))
+    (number_within (variables_of atoms) c.variable known))
     (compared_below atoms cs parts.1)
 
 -- one more comparison
-pub compared_step : (f : Comparison → NumberedComparison) (xs : List Comparison) (i : ℕ) (x : Comparison) → i < length xs → x ≡ get_or xs i x → map f (take (i + 1) xs) ≡ map f (take i xs) ++ f x ∷ []
+pub compared_step : (f : Comparison → NumberedComparison) (xs : List Comparison) (i : ℕ) (x : Comparison)
+    → i < length xs → x ≡ get_or xs i x → map f (take (i + 1) xs) ≡ map f (take i xs) ++ f x ∷ []
 compared_step f xs i x below is =
-    ap (map f) (take_more xs i x below ∙ ap (λ (n : Comparison). take i xs ++ n ∷ []) (sym is)) ∙ map-append f (take i xs) (x ∷ [])
+    ap (map f) (take_more xs i x below ∙ ap (λ (n : Comparison). take i xs ++ n ∷ []) (sym is))
+    ∙ map-append f (take i xs) (x ∷ [])
 
 -- one more name of a head
-pub head_step : (f : Bytes → ℕ) (xs : List Bytes) (i : ℕ) (x : Bytes) → i < length xs → x ≡ get_or xs i x → map f (take (i + 1) xs) ≡ map f (take i xs) ++ f x ∷ []
+pub head_step : (f : Bytes → ℕ) (xs : List Bytes) (i : ℕ) (x : Bytes) → i < length xs → x ≡ get_or xs i x
+    → map f (take (i + 1) xs) ≡ map f (take i xs) ++ f x ∷ []
 head_step f xs i x below is =
-    ap (map f) (take_more xs i x below ∙ ap (λ (n : Bytes). take i xs ++ n ∷ []) (sym is)) ∙ map-append f (take i xs) (x ∷ [])
+    ap (map f) (take_more xs i x below ∙ ap (λ (n : Bytes). take i xs ++ n ∷ []) (sym is))
+    ∙ map-append f (take i xs) (x ∷ [])
 
 -- a name that isn't known has the next number
 pub number_unknown : (known : List Label) (x : Bytes) → is_known known x ≡ false → number_of known x ≡ length known

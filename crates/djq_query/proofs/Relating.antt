@@ -10,6 +10,7 @@ found_at (r ∷ rs) zero below = refl
 found_at [] id below = absurd (omega arith)
 found_at (r ∷ rs) (suc id) below = found_at rs id (omega arith)
 
-pub id_none : (relations : List Relation) (name : Bytes) (id : Option ℕ) → IsId relations name id → is_none (relation_of relations name) ≡ is_none id
+pub id_none : (relations : List Relation) (name : Bytes) (id : Option ℕ) → IsId relations name id
+    → is_none (relation_of relations name) ≡ is_none id
 id_none relations name None h = ap is_none h
 id_none relations name (Some id) h = ap is_none (sym h.1) ∙ found_at relations id h.0

@@ -1,5 +1,7 @@
 -- What the numbers of a query mean.
-use Rattle.std.proofs.Common.{◌≡◌, ℕ, zero, suc, ◌+◌, ◌<◌, ◌≤◌, List, [], ◌∷◌, ◌++◌, Bool, true, false, length, refl, sym, subst, ap, ap₂, ◌∙◌, arith, inl, inr, length-append}
+use Rattle.std.proofs.Common.{◌≡◌, ℕ, zero, suc, ◌+◌, ◌<◌, ◌≤◌, List, [], ◌∷◌, ◌++◌, Bool, true}
+use Rattle.std.proofs.Common.{false, length, refl, sym, subst, ap, ap₂, ◌∙◌, arith, inl, inr}
+use Rattle.std.proofs.Common.{length-append}
 use Rattle.std.specs.Prelude.{Option, None, Some, cond, not, map, slice_get, ◌||◌}
 use Rattle.std.specs.List.{fold, list_any, find}
 use Rattle.std.proofs.lemmas.Bool.{false≢true, ne_eqb, eq-eqb, cases_lt}
@@ -14,13 +16,16 @@ use Rattle.djq_model.specs.declared.query.Term.TheVariants.{Variable as Named, H
 use Rattle.djq_model.specs.Data.{Bytes, bytes_eq}
 use Rattle.djq_model.specs.Equality.{bytes_eq-decides}
 use Rattle.djq_lines.specs.QueryFault.{query_fault}
-use Rattle.djq_lines.specs.Variables.{Label, is_known, is_named, stands_in, variables_of, with_term, with_terms, with_atom}
+use Rattle.djq_lines.specs.Variables.{Label, is_known, is_named, stands_in, variables_of, with_term}
+use Rattle.djq_lines.specs.Variables.{with_terms, with_atom}
 use Rattle.djq_query.specs.declared.numbered.NumberedTerm.{NumberedTerm}
 use Rattle.djq_query.specs.declared.numbered.NumberedTerm.TheVariants.{Variable as Number, Constant as Fixed}
 use Rattle.djq_query.specs.declared.numbered.NumberedAtom.{NumberedAtom}
 use Rattle.djq_query.specs.declared.numbered.NumberedComparison.{NumberedComparison}
-use Rattle.djq_query.specs.Numbered.{Numbered, IsNumbered, labels, number_of, numbered, numbered_terms, numbered_comparison, AreNumbered}
-use Rattle.djq_query.specs.Meaning.{Rise, holes_among, holes_in, IsShown, AreShown, AreAtomsShown, AreComparisonsShown, IsShownBy}
+use Rattle.djq_query.specs.Numbered.{Numbered, IsNumbered, labels, number_of, numbered}
+use Rattle.djq_query.specs.Numbered.{numbered_terms, numbered_comparison, AreNumbered}
+use Rattle.djq_query.specs.Meaning.{Rise, holes_among, holes_in, IsShown, AreShown, AreAtomsShown}
+use Rattle.djq_query.specs.Meaning.{AreComparisonsShown, IsShownBy}
 use Rattle.djq_query.proofs.Counting.{term_more, known_behind, or_false}
 use Rattle.djq_query.proofs.Faults.{sound_of}
 use Rattle.djq_query.proofs.Numbers.{both_false, not_false, labels_columns, number_unknown}
@@ -35,25 +40,30 @@ last : (ls : List Label) (l : Label) → slice_get (ls ++ l ∷ []) (length ls) 
 last [] l = refl
 last (m ∷ ls) l = last ls l
 
-name_kept : (known : List Label) (x : Bytes) (b : Bool) (k : ℕ) (l : Label) → slice_get known k ≡ Some l → slice_get (cond b known (known ++ Some x ∷ [])) k ≡ Some l
+name_kept : (known : List Label) (x : Bytes) (b : Bool) (k : ℕ) (l : Label) → slice_get known k ≡ Some l
+    → slice_get (cond b known (known ++ Some x ∷ [])) k ≡ Some l
 name_kept known x true k l e = e
 name_kept known x false k l e = kept known (Some x ∷ []) k l e
 
-term_kept : (known : List Label) (t : Term) (k : ℕ) (l : Label) → slice_get known k ≡ Some l → slice_get (with_term known t) k ≡ Some l
+term_kept : (known : List Label) (t : Term) (k : ℕ) (l : Label) → slice_get known k ≡ Some l
+    → slice_get (with_term known t) k ≡ Some l
 term_kept known (Named x) k l e = name_kept known x (is_known known x) k l e
 term_kept known Hole k l e = kept known (None ∷ []) k l e
 term_kept known (Constant v) k l e = e
 
-terms_kept : (known : List Label) (ts : List Term) (k : ℕ) (l : Label) → slice_get known k ≡ Some l → slice_get (with_terms known ts) k ≡ Some l
+terms_kept : (known : List Label) (ts : List Term) (k : ℕ) (l : Label) → slice_get known k ≡ Some l
+    → slice_get (with_terms known ts) k ≡ Some l
 terms_kept known [] k l e = e
 terms_kept known (t ∷ ts) k l e = terms_kept (with_term known t) ts k l (term_kept known t k l e)
 
-atoms_kept : (known : List Label) (atoms : List Atom) (k : ℕ) (l : Label) → slice_get known k ≡ Some l → slice_get (fold with_atom known atoms) k ≡ Some l
+atoms_kept : (known : List Label) (atoms : List Atom) (k : ℕ) (l : Label) → slice_get known k ≡ Some l
+    → slice_get (fold with_atom known atoms) k ≡ Some l
 atoms_kept known [] k l e = e
 atoms_kept known (a ∷ atoms) k l e = atoms_kept (with_atom known a) atoms k l (terms_kept known a.terms k l e)
 
 -- a known name is at its number
-found_step : (known : List Label) (y x : Bytes) (b : Bool) → bytes_eq y x ≡ b → (is_known known x ≡ true → find (is_named x) known ≡ Some (Some x)) → (b || is_known known x) ≡ true
+found_step : (known : List Label) (y x : Bytes) (b : Bool) → bytes_eq y x ≡ b
+    → (is_known known x ≡ true → find (is_named x) known ≡ Some (Some x)) → (b || is_known known x) ≡ true
     → cond b (Some (Some y)) (find (is_named x) known) ≡ Some (Some x)
 found_step known y x true is f h = ap (λ (z : Bytes). Some (Some z)) ((bytes_eq-decides y x).0 is)
 found_step known y x false is f h = f h
@@ -63,10 +73,12 @@ found_named [] x e = absurd (false≢true e)
 found_named (None ∷ known) x e = found_named known x e
 found_named (Some y ∷ known) x e = found_step known y x (bytes_eq y x) refl (found_named known x) e
 
-pub named_at : (known : List Label) (x : Bytes) → is_known known x ≡ true → slice_get known (number_of known x) ≡ Some (Some x)
+pub named_at : (known : List Label) (x : Bytes) → is_known known x ≡ true → slice_get known (number_of known x)
+    ≡ Some (Some x)
 named_at known x e = sym (find_at (is_named x) known) ∙ found_named known x e
 
-name_shown : (known : List Label) (x : Bytes) (b : Bool) → is_known known x ≡ b → slice_get (cond b known (known ++ Some x ∷ [])) (number_of known x) ≡ Some (Some x)
+name_shown : (known : List Label) (x : Bytes) (b : Bool) → is_known known x ≡ b
+    → slice_get (cond b known (known ++ Some x ∷ [])) (number_of known x) ≡ Some (Some x)
 name_shown known x true e = named_at known x e
 name_shown known x false e = ap (slice_get (known ++ Some x ∷ [])) (number_unknown known x e) ∙ last known (Some x)
 
@@ -75,7 +87,8 @@ term_shown known (Named x) = name_shown known x (is_known known x) refl
 term_shown known Hole = last known None
 term_shown known (Constant v) = refl
 
-shown_kept : (ls ms : List Label) (t : Term) (n : NumberedTerm) → ((k : ℕ) (l : Label) → slice_get ls k ≡ Some l → slice_get ms k ≡ Some l) → IsShown ls t n → IsShown ms t n
+shown_kept : (ls ms : List Label) (t : Term) (n : NumberedTerm)
+    → ((k : ℕ) (l : Label) → slice_get ls k ≡ Some l → slice_get ms k ≡ Some l) → IsShown ls t n → IsShown ms t n
 shown_kept ls ms (Named x) (Number k) f h = f k (Some x) h
 shown_kept ls ms Hole (Number k) f h = f k None h
 shown_kept ls ms (Constant v) (Fixed w) f h = h
@@ -83,15 +96,19 @@ shown_kept ls ms (Named x) (Fixed w) f h = absurd h
 shown_kept ls ms Hole (Fixed w) f h = absurd h
 shown_kept ls ms (Constant v) (Number k) f h = absurd h
 
-terms_shown : (known ms : List Label) (ts : List Term) → ((k : ℕ) (l : Label) → slice_get (with_terms known ts) k ≡ Some l → slice_get ms k ≡ Some l) → AreShown ms ts (numbered_terms known ts)
+terms_shown : (known ms : List Label) (ts : List Term)
+    → ((k : ℕ) (l : Label) → slice_get (with_terms known ts) k ≡ Some l → slice_get ms k ≡ Some l)
+    → AreShown ms ts (numbered_terms known ts)
 unfolding numbered_terms
 terms_shown known ms [] f = tt
 terms_shown known ms (t ∷ ts) f = (
-  shown_kept (with_term known t) ms t (numbered known t) (λ k l e. f k l (terms_kept (with_term known t) ts k l e)) (term_shown known t),
+  shown_kept (with_term known t) ms t (numbered known t) (λ k l e. f k l (terms_kept (with_term known t) ts k l e))
+      (term_shown known t),
   terms_shown (with_term known t) ms ts f,
 )
 
-atoms_shown : (rs : List Relation) (known ms : List Label) (atoms : List Atom) (ns : List NumberedAtom) → ((k : ℕ) (l : Label) → slice_get (fold with_atom known atoms) k ≡ Some l → slice_get ms k ≡ Some l)
+atoms_shown : (rs : List Relation) (known ms : List Label) (atoms : List Atom) (ns : List NumberedAtom)
+    → ((k : ℕ) (l : Label) → slice_get (fold with_atom known atoms) k ≡ Some l → slice_get ms k ≡ Some l)
     → AreNumbered rs known atoms ns → AreAtomsShown rs ms atoms ns
 unfolding AreNumbered
 atoms_shown rs known ms [] [] f h = tt
@@ -99,7 +116,8 @@ atoms_shown rs known ms [] (n ∷ ns) f h = absurd h
 atoms_shown rs known ms (a ∷ atoms) [] f h = absurd h
 atoms_shown rs known ms (a ∷ atoms) (n ∷ ns) f h = (
   h.0.0,
-  subst (AreShown ms a.terms) (sym h.0.1) (terms_shown known ms a.terms (λ k l e. f k l (atoms_kept (with_atom known a) atoms k l e))),
+  subst (AreShown ms a.terms) (sym h.0.1)
+      (terms_shown known ms a.terms (λ k l e. f k l (atoms_kept (with_atom known a) atoms k l e))),
   atoms_shown rs (with_atom known a) ms atoms ns f h.1,
 )
 
@@ -119,46 +137,58 @@ same_label l m o e f = cc
 named_cond : (x : Bytes) (l : Label) → l ≡ Some x → ◌≡◌ {A = ℕ} (cond (is_named x l) 0 1) 0
 named_cond x l e = ap (λ (m : Label). cond {A = ℕ} (is_named x m) 0 1) e ∙ ap (λ b. cond {A = ℕ} b 0 1) (same_bytes x)
 
-unique_more : (known : List Label) (l : Label) → ((k : ℕ) (x : Bytes) → slice_get known k ≡ Some (Some x) → number_of known x ≡ k)
-    → ((x : Bytes) → l ≡ Some x → is_known known x ≡ false) → (k : ℕ) (x : Bytes) → slice_get (known ++ l ∷ []) k ≡ Some (Some x) → number_of (known ++ l ∷ []) x ≡ k
+unique_more : (known : List Label) (l : Label)
+    → ((k : ℕ) (x : Bytes) → slice_get known k ≡ Some (Some x) → number_of known x ≡ k)
+    → ((x : Bytes) → l ≡ Some x → is_known known x ≡ false) → (k : ℕ) (x : Bytes) → slice_get (known ++ l ∷ []) k
+    ≡ Some (Some x) → number_of (known ++ l ∷ []) x ≡ k
 unique_more known l one fresh k x e =
     elim (cases_lt k (length known)) [
       | inl below ↦
           let before : number_of known x ≡ k = one k x (sym (left_of known (l ∷ []) k below) ∙ e) in
           position_or_len_push (is_named x) known l
-          ∙ ap (λ b. cond b (length known + cond (is_named x l) 0 1) (number_of known x)) (ne_eqb (number_of known x) (length known) (λ s. absurd (omega arith)))
+          ∙ ap (λ b. cond b (length known + cond (is_named x l) 0 1) (number_of known x))
+          (ne_eqb (number_of known x) (length known) (λ s. absurd (omega arith)))
           ∙ before
       | inr above ↦
           let within = slice_get_within (known ++ l ∷ []) k (Some x) e in
           let at : k ≡ length known = omega (arith, within, length-append known (l ∷ [])) in
-          let is : l ≡ Some x = same_label l (Some x) (slice_get (known ++ l ∷ []) k) (ap (slice_get (known ++ l ∷ [])) at ∙ last known l) e in
+          let is : l ≡ Some x = same_label l (Some x) (slice_get (known ++ l ∷ []) k)
+          (ap (slice_get (known ++ l ∷ [])) at ∙ last known l) e in
           let zero_more : ◌≡◌ {A = ℕ} (cond (is_named x l) 0 1) 0 = named_cond x l is in
           position_or_len_push (is_named x) known l
-          ∙ ap (λ b. cond b (length known + cond (is_named x l) 0 1) (number_of known x)) (eq-eqb (number_of known x) (length known) (number_unknown known x (fresh x is)))
+          ∙ ap (λ b. cond b (length known + cond (is_named x l) 0 1) (number_of known x))
+          (eq-eqb (number_of known x) (length known) (number_unknown known x (fresh x is)))
           ∙ omega arith
     ]
 
-name_unique : (known : List Label) (y : Bytes) (b : Bool) → is_known known y ≡ b → ((k : ℕ) (x : Bytes) → slice_get known k ≡ Some (Some x) → number_of known x ≡ k)
-    → (k : ℕ) (x : Bytes) → slice_get (cond b known (known ++ Some y ∷ [])) k ≡ Some (Some x) → number_of (cond b known (known ++ Some y ∷ [])) x ≡ k
+name_unique : (known : List Label) (y : Bytes) (b : Bool) → is_known known y ≡ b
+    → ((k : ℕ) (x : Bytes) → slice_get known k ≡ Some (Some x) → number_of known x ≡ k)
+    → (k : ℕ) (x : Bytes) → slice_get (cond b known (known ++ Some y ∷ [])) k ≡ Some (Some x)
+    → number_of (cond b known (known ++ Some y ∷ [])) x ≡ k
 name_unique known y true e one k x h = one k x h
-name_unique known y false e one k x h = unique_more known (Some y) one (λ z s. subst (λ (w : Bytes). is_known known w ≡ false) (same_name y z s) e) k x h
+name_unique known y false e one k x h = unique_more known (Some y) one
+    (λ z s. subst (λ (w : Bytes). is_known known w ≡ false) (same_name y z s) e) k x h
   where
     same_name : (y z : Bytes) → Some y ≡ Some z → y ≡ z
     same_name y z s = cc
 
-term_unique : (known : List Label) (t : Term) → ((k : ℕ) (x : Bytes) → slice_get known k ≡ Some (Some x) → number_of known x ≡ k)
+term_unique : (known : List Label) (t : Term)
+    → ((k : ℕ) (x : Bytes) → slice_get known k ≡ Some (Some x) → number_of known x ≡ k)
     → (k : ℕ) (x : Bytes) → slice_get (with_term known t) k ≡ Some (Some x) → number_of (with_term known t) x ≡ k
 term_unique known (Named y) one k x h = name_unique known y (is_known known y) refl one k x h
 term_unique known Hole one k x h = unique_more known None one (λ z s. absurd cc) k x h
 term_unique known (Constant v) one k x h = one k x h
 
-terms_unique : (known : List Label) (ts : List Term) → ((k : ℕ) (x : Bytes) → slice_get known k ≡ Some (Some x) → number_of known x ≡ k)
+terms_unique : (known : List Label) (ts : List Term)
+    → ((k : ℕ) (x : Bytes) → slice_get known k ≡ Some (Some x) → number_of known x ≡ k)
     → (k : ℕ) (x : Bytes) → slice_get (with_terms known ts) k ≡ Some (Some x) → number_of (with_terms known ts) x ≡ k
 terms_unique known [] one k x h = one k x h
 terms_unique known (t ∷ ts) one k x h = terms_unique (with_term known t) ts (term_unique known t one) k x h
 
-atoms_unique : (known : List Label) (atoms : List Atom) → ((k : ℕ) (x : Bytes) → slice_get known k ≡ Some (Some x) → number_of known x ≡ k)
-    → (k : ℕ) (x : Bytes) → slice_get (fold with_atom known atoms) k ≡ Some (Some x) → number_of (fold with_atom known atoms) x ≡ k
+atoms_unique : (known : List Label) (atoms : List Atom)
+    → ((k : ℕ) (x : Bytes) → slice_get known k ≡ Some (Some x) → number_of known x ≡ k)
+    → (k : ℕ) (x : Bytes) → slice_get (fold with_atom known atoms) k ≡ Some (Some x)
+    → number_of (fold with_atom known atoms) x ≡ k
 atoms_unique known [] one k x h = one k x h
 atoms_unique known (a ∷ atoms) one k x h = atoms_unique (with_atom known a) atoms (terms_unique known a.terms one) k x h
 
@@ -172,19 +202,23 @@ unfolding Rise
 rise_from m k [] le h = tt
 rise_from m k (x ∷ xs) le h = (omega (arith, h.0), h.1)
 
-terms_rise : (known : List Label) (ts : List Term) (rest : List ℕ) → Rise (length (with_terms known ts)) rest → Rise (length known) (holes_among ts (numbered_terms known ts) ++ rest)
+terms_rise : (known : List Label) (ts : List Term) (rest : List ℕ) → Rise (length (with_terms known ts)) rest
+    → Rise (length known) (holes_among ts (numbered_terms known ts) ++ rest)
 unfolding holes_among numbered_terms Rise
 terms_rise known [] rest h = h
 terms_rise known (Named x ∷ ts) rest h =
-    rise_from (length known) (length (with_term known (Named x))) (holes_among ts (numbered_terms (with_term known (Named x)) ts) ++ rest)
+    rise_from (length known) (length (with_term known (Named x)))
+    (holes_among ts (numbered_terms (with_term known (Named x)) ts) ++ rest)
     (term_more known (Named x)) (terms_rise (with_term known (Named x)) ts rest h)
 terms_rise known (Hole ∷ ts) rest h = (
   omega arith,
-  subst (λ (m : ℕ). Rise m (holes_among ts (numbered_terms (with_term known Hole) ts) ++ rest)) (length-append known (None ∷ [])) (terms_rise (with_term known Hole) ts rest h),
+  subst (λ (m : ℕ). Rise m (holes_among ts (numbered_terms (with_term known Hole) ts) ++ rest))
+      (length-append known (None ∷ [])) (terms_rise (with_term known Hole) ts rest h),
 )
 terms_rise known (Constant v ∷ ts) rest h = terms_rise known ts rest h
 
-atoms_rise : (rs : List Relation) (known : List Label) (atoms : List Atom) (ns : List NumberedAtom) → AreNumbered rs known atoms ns → Rise (length known) (holes_in atoms ns)
+atoms_rise : (rs : List Relation) (known : List Label) (atoms : List Atom) (ns : List NumberedAtom)
+    → AreNumbered rs known atoms ns → Rise (length known) (holes_in atoms ns)
 unfolding AreNumbered holes_in Rise
 atoms_rise rs known [] [] h = tt
 atoms_rise rs known [] (n ∷ ns) h = absurd h
@@ -198,31 +232,45 @@ head_shown : (atoms : List Atom) (head : List Bytes) → list_any (λ x. not (st
 head_shown atoms [] none = refl
 head_shown atoms (x ∷ head) none =
     let parts = both_false (not (stands_in atoms x)) (list_any (λ x. not (stands_in atoms x)) head) none in
-    let known : is_known (variables_of atoms) x ≡ true = known_behind atoms [] x ∙ or_false (stands_in atoms x) ∙ not_false (stands_in atoms x) parts.0 in
+    let known : is_known (variables_of atoms) x ≡ true = known_behind atoms [] x ∙ or_false (stands_in atoms x)
+    ∙ not_false (stands_in atoms x) parts.0 in
     ap₂ (λ o os. o ∷ os) (named_at (variables_of atoms) x known) (head_shown atoms head parts.1)
 
-compared_shown : (atoms : List Atom) (comparisons : List Comparison) → list_any (λ c. not (stands_in atoms c.variable)) comparisons ≡ false
+compared_shown : (atoms : List Atom) (comparisons : List Comparison)
+    → list_any (λ c. not (stands_in atoms c.variable)) comparisons ≡ false
     → AreComparisonsShown (variables_of atoms) comparisons (map (numbered_comparison (variables_of atoms)) comparisons)
 compared_shown atoms [] none = tt
 compared_shown atoms (c ∷ cs) none =
-    let parts = both_false (not (stands_in atoms c.variable)) (list_any (λ (c : Comparison). not (stands_in atoms c.variable)) cs) none in
-    let known : is_known (variables_of atoms) c.variable ≡ true = known_behind atoms [] c.variable ∙ or_false (stands_in atoms c.variable) ∙ not_false (stands_in atoms c.variable) parts.0 in
-    (record { variable = named_at (variables_of atoms) c.variable known; operator = refl; constant = refl }, compared_shown atoms cs parts.1)
+    let parts = both_false (not (stands_in atoms c.variable))
+    (list_any (λ (c : Comparison). not (stands_in atoms c.variable)) cs) none in
+    let known : is_known (variables_of atoms) c.variable ≡ true = known_behind atoms [] c.variable
+    ∙ or_false (stands_in atoms c.variable) ∙ not_false (stands_in atoms c.variable) parts.0 in (
+      record { variable = named_at (variables_of atoms) c.variable known; operator = refl; constant = refl },
+      compared_shown atoms cs parts.1,
+    )
 
 -- a query without a fault, by number
-pub shown_by : (rs : List Relation) (q : Query) (n : Numbered) → query_fault rs q ≡ None → IsNumbered rs q n → IsShownBy rs q n
+pub shown_by : (rs : List Relation) (q : Query) (n : Numbered) → query_fault rs q ≡ None → IsNumbered rs q n
+    → IsShownBy rs q n
 shown_by rs q n fault numbered =
     let sound = sound_of rs q fault in
-    let named : labels n.variables ≡ variables_of q.atoms = ap labels numbered.variables ∙ labels_columns rs [] q.atoms sound.arity in
-    let heads : n.head ≡ map (number_of (variables_of q.atoms)) q.head = numbered.head ∙ ap (λ (ls : List Label). map (number_of ls) q.head) named in
-    let tests : n.comparisons ≡ map (numbered_comparison (variables_of q.atoms)) q.comparisons = numbered.comparisons ∙ ap (λ (ls : List Label). map (numbered_comparison ls) q.comparisons) named in
+    let named : labels n.variables ≡ variables_of q.atoms = ap labels numbered.variables
+    ∙ labels_columns rs [] q.atoms sound.arity in
+    let heads : n.head ≡ map (number_of (variables_of q.atoms)) q.head = numbered.head
+    ∙ ap (λ (ls : List Label). map (number_of ls) q.head) named in
+    let tests : n.comparisons ≡ map (numbered_comparison (variables_of q.atoms)) q.comparisons = numbered.comparisons
+    ∙ ap (λ (ls : List Label). map (numbered_comparison ls) q.comparisons) named in
     record {
       variables = named;
-      body = subst (λ (ls : List Label). AreAtomsShown rs ls q.atoms n.atoms) (sym named) (atoms_shown rs [] (variables_of q.atoms) q.atoms n.atoms (λ k l e. e) numbered.atoms);
+      body = subst (λ (ls : List Label). AreAtomsShown rs ls q.atoms n.atoms) (sym named)
+          (atoms_shown rs [] (variables_of q.atoms) q.atoms n.atoms (λ k l e. e) numbered.atoms);
       comparisons =
           subst (λ (ls : List Label). AreComparisonsShown ls q.comparisons n.comparisons) (sym named)
-          (subst (λ (cs : List NumberedComparison). AreComparisonsShown (variables_of q.atoms) q.comparisons cs) (sym tests) (compared_shown q.atoms q.comparisons sound.compared_bound));
-      one = subst (λ (ls : List Label). (k : ℕ) (x : Bytes) → slice_get ls k ≡ Some (Some x) → number_of ls x ≡ k) (sym named) (atoms_unique [] q.atoms none_unique);
+          (subst (λ (cs : List NumberedComparison). AreComparisonsShown (variables_of q.atoms) q.comparisons cs)
+          (sym tests) (compared_shown q.atoms q.comparisons sound.compared_bound));
+      one = subst (λ (ls : List Label). (k : ℕ) (x : Bytes) → slice_get ls k ≡ Some (Some x) → number_of ls x ≡ k)
+          (sym named) (atoms_unique [] q.atoms none_unique);
       fresh = atoms_rise rs [] q.atoms n.atoms numbered.atoms;
-      head = ap₂ (λ (ls : List Label) (ns : List ℕ). map (slice_get ls) ns) named heads ∙ head_shown q.atoms q.head sound.bound;
+      head = ap₂ (λ (ls : List Label) (ns : List ℕ). map (slice_get ls) ns) named heads
+          ∙ head_shown q.atoms q.head sound.bound;
     }

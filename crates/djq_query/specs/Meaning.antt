@@ -80,9 +80,11 @@ pub record IsShownBy (rs : List Relation) (q : Query) (n : Numbered) : Type 0 wh
   pub variables : labels n.variables ≡ variables_of q.atoms
   pub body : AreAtomsShown rs (labels n.variables) q.atoms n.atoms
   pub comparisons : AreComparisonsShown (labels n.variables) q.comparisons n.comparisons
-  pub one : (k : ℕ) (x : Bytes) → slice_get (labels n.variables) k ≡ Some (Some x) → number_of (labels n.variables) x ≡ k
+  pub one : (k : ℕ) (x : Bytes) → slice_get (labels n.variables) k ≡ Some (Some x) → number_of (labels n.variables) x
+      ≡ k
   pub fresh : Rise 0 (holes_in q.atoms n.atoms)
   pub head : map (slice_get (labels n.variables)) n.head ≡ map (λ x. Some (Some x)) q.head
 
 abbrev pub NumbersAreShown : Type 0
-NumbersAreShown = (rs : List Relation) (q : Query) (n : Numbered) → query_fault rs q ≡ None → IsNumbered rs q n → IsShownBy rs q n
+NumbersAreShown = (rs : List Relation) (q : Query) (n : Numbered) → query_fault rs q ≡ None → IsNumbered rs q n
+    → IsShownBy rs q n

@@ -1,5 +1,6 @@
 -- Queries over numbers, and the numbering of a query.
-use Rattle.std.specs.Prelude.{ℕ, ◌==◌, List, [], ◌∷◌, ◌++◌, ◌≡◌, ◌≤◌, Bool, true, false, nat_lt, Option, None, Some, if◌then◌else◌, length, map, slice_get}
+use Rattle.std.specs.Prelude.{ℕ, ◌==◌, List, [], ◌∷◌, ◌++◌, ◌≡◌, ◌≤◌, Bool, true, false, nat_lt}
+use Rattle.std.specs.Prelude.{Option, None, Some, if◌then◌else◌, length, map, slice_get}
 use Rattle.std.specs.List.{list_all, fold}
 use Rattle.djq_model.specs.declared.relation.ColumnType.{ColumnType}
 use Rattle.djq_model.specs.declared.relation.Relation.{Relation}

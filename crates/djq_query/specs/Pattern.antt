@@ -1,5 +1,6 @@
 -- Atoms whose constants are cells, and the rows that they give.
-use Rattle.std.specs.Prelude.{ℕ, ℤ, ◌==◌, ◌≡◌, ◌≤◌, ◌<◌, List, [], ◌∷◌, ◌++◌, Bool, true, false, not, nat_lt, All, if◌then◌else◌, length, map, slice_index, slice_set}
+use Rattle.std.specs.Prelude.{ℕ, ℤ, ◌==◌, ◌≡◌, ◌≤◌, ◌<◌, List, [], ◌∷◌, ◌++◌, Bool, true, false}
+use Rattle.std.specs.Prelude.{not, nat_lt, All, if◌then◌else◌, length, map, slice_index, slice_set}
 use Rattle.std.specs.Int.{w64, cast_signed}
 use Rattle.std.specs.Int.Signed.{lt_z}
 use Rattle.std.specs.List.{list_all, list_any, position_or_len}

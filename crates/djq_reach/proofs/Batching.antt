@@ -1,5 +1,7 @@
 -- Many rows that come into the queries in places, one query after another, and are given back.
-use Rattle.std.proofs.Common.{ℕ, List, [], ◌∷◌, ◌++◌, ◌+◌, ◌*◌, ◌-◌, ◌≡◌, ◌<◌, ◌≤◌, Bool, true, false, refl, sym, ap, ◌∙◌, subst, length, get_or, set, take, arith, inl, inr, length-set}
+use Rattle.std.proofs.Common.{ℕ, List, [], ◌∷◌, ◌++◌, ◌+◌, ◌*◌, ◌-◌, ◌≡◌, ◌<◌, ◌≤◌, Bool, true}
+use Rattle.std.proofs.Common.{false, refl, sym, ap, ◌∙◌, subst, length, get_or, set, take, arith}
+use Rattle.std.proofs.Common.{inl, inr, length-set}
 use Rattle.std.specs.Prelude.{◌==◌, ◌||◌, Option, None, Some, IsSomeAnd, filter, slice_index_or, sum_by}
 use Rattle.std.proofs.lemmas.Bool.{eqb-true, eq-eqb, false≢true}
 use Rattle.std.proofs.lemmas.List.{take_more, get_or-set_other}
@@ -25,9 +27,11 @@ use Rattle.djq_live.proofs.Sizing.{fewer_stay}
 use Rattle.djq_reach.specs.Places.{place_at, is_reader, log_at, no_log, AreOnce}
 use Rattle.djq_reach.specs.Reaching.{DoneAt, Reach, AllAt}
 use Rattle.djq_reach.specs.Tending.{Tends, TendedAt, work_of, work_at}
-use Rattle.djq_reach.specs.Batching.{Comes, CanComeAll, CanGoAll, CanGiveAll, TakesInAll, Refuses, LetsOutAll, GivesAllBack, OthersStay, WorksBatch}
+use Rattle.djq_reach.specs.Batching.{Comes, CanComeAll, CanGoAll, CanGiveAll, TakesInAll, Refuses}
+use Rattle.djq_reach.specs.Batching.{LetsOutAll, GivesAllBack, OthersStay, WorksBatch}
 use Rattle.djq_reach.proofs.Among.{apart, reader_more, or_true, or_false}
-use Rattle.djq_reach.proofs.Reaching.{some_as, only, once_at, reader_there, reader_front, same_then, same_refl, front_kept, done_back}
+use Rattle.djq_reach.proofs.Reaching.{some_as, only, once_at, reader_there, reader_front, same_then}
+use Rattle.djq_reach.proofs.Reaching.{same_refl, front_kept, done_back}
 use Rattle.djq_reach.proofs.Tending.{unreached}
 use Rattle.djq_reach.proofs.Going.{OneLess, one_less, none_came}
 use Rattle.djq_reach.proofs.Working.{sums_both}
@@ -35,7 +39,8 @@ use Rattle.djq_reach.proofs.Working.{sums_both}
 -- ---- what bounds a query, summed over places
 
 abbrev pub Bounds : (ℕ → Live → Type 0) → (ℕ → Option Live → ℕ) → List ℕ → List (Option Live) → ℕ → ℕ → Type 0
-Bounds P w places gs before now = (n : ℕ) → AllAt places gs (P n) → now ≤ before + sum_by (λ i. w n (place_at gs i)) places
+Bounds P w places gs before now = (n : ℕ) → AllAt places gs (P n)
+    → now ≤ before + sum_by (λ i. w n (place_at gs i)) places
 
 module _ (P : ℕ → Live → Type 0) (w : ℕ → Option Live → ℕ) where
   pub bounds_none : (gs : List (Option Live)) (x : ℕ) → Bounds P w [] gs x x
@@ -64,7 +69,8 @@ module _ (P : ℕ → Live → Type 0) (w : ℕ → Option Live → ℕ) where
       let total = sum_by-append (λ (j : ℕ). w n (place_at gs j)) done (i ∷ []) in
       omega (arith, first, second, one, other, even, total)
 
-  pub bounds_next : (R : Live → Live → Type 0) (places : List ℕ) (k d : ℕ) (gs hs : List (Option Live)) (x y z : ℕ) → AreOnce places
+  pub bounds_next : (R : Live → Live → Type 0) (places : List ℕ) (k d : ℕ) (gs hs : List (Option Live)) (x y z : ℕ)
+      → AreOnce places
       → k < length places → Reach (take k places) R gs hs → Bounds P w (take k places) gs x y
       → Bounds P w (get_or places k d ∷ []) hs y z → Bounds P w (take (k + 1) places) gs x z
   bounds_next R places k d gs hs x y z o low r a b =
@@ -72,7 +78,8 @@ module _ (P : ℕ → Live → Type 0) (w : ℕ → Option Live → ℕ) where
       (bounds_more (take k places) (get_or places k d) gs hs x y z (unreached R places k d gs hs o low r) a b)
 
   -- the front of the places counts no more than all
-  pub bounds_front : (places : List ℕ) (k : ℕ) (gs : List (Option Live)) (x y : ℕ) → Bounds P w (take k places) gs x y → Bounds P w places gs x y
+  pub bounds_front : (places : List ℕ) (k : ℕ) (gs : List (Option Live)) (x y : ℕ) → Bounds P w (take k places) gs x y
+      → Bounds P w places gs x y
   bounds_front places k gs x y h n all =
       let part = h n (λ j e. all j (reader_front places k j e)) in
       omega (arith, part, sum_by-take-le (λ (j : ℕ). w n (place_at gs j)) places k)
@@ -127,22 +134,31 @@ kept_same c d l same kept = record {
 }
 
 -- the last of the rows that are left can go
-pub last_goes : (c : Catalog) (at : ℕ) (cells : List (List ℕ)) (cell : List ℕ) (l : Live) → Among c at (cells ++ cell ∷ []) l → CanDelete l at cell
+pub last_goes : (c : Catalog) (at : ℕ) (cells : List (List ℕ)) (cell : List ℕ) (l : Live)
+    → Among c at (cells ++ cell ∷ []) l → CanDelete l at cell
 last_goes c at cells cell l a =
     let less = one_less c a.now at cells cell a.rows a.comes in
     record { before = a.now; after = less.middle; row = less.row; kept = a.kept; there = less.there; went = less.went }
 
-pub last_gone : (c : Catalog) (at : ℕ) (cells : List (List ℕ)) (cell : List ℕ) (l m : Live) → Among c at (cells ++ cell ∷ []) l
+pub last_gone : (c : Catalog) (at : ℕ) (cells : List (List ℕ)) (cell : List ℕ) (l m : Live)
+    → Among c at (cells ++ cell ∷ []) l
     → Follows (λ x y row. Went x y at cell row) l m → Among c at cells m
 last_gone c at cells cell l m a gone =
     let less = one_less c a.now at cells cell a.rows a.comes in
-    record { now = less.middle; rows = less.rows; comes = less.comes; kept = gone a.now less.middle less.row a.kept less.went }
+    record {
+      now = less.middle;
+      rows = less.rows;
+      comes = less.comes;
+      kept = gone a.now less.middle less.row a.kept
+          less.went;
+    }
 
 pub all_gone : (c : Catalog) (at : ℕ) (l : Live) → Among c at [] l → IsKept c l
 all_gone c at l a = kept_same a.now c l (none_came c a.now at a.rows a.comes) a.kept
 
 -- the rows that are left, and the last of them
-pub left_one : (rows : List (List ℕ)) (left : ℕ) (x y : List ℕ) → 0 < left → left ≤ length rows → x ≡ slice_index_or rows (left - 1) x
+pub left_one : (rows : List (List ℕ)) (left : ℕ) (x y : List ℕ) → 0 < left → left ≤ length rows → x
+    ≡ slice_index_or rows (left - 1) x
     → y ≡ x → take left rows ≡ take (left - 1) rows ++ y ∷ []
 left_one rows left x y some low is same =
     let whole : left ≡ left - 1 + 1 = omega (arith, some) in
@@ -158,132 +174,161 @@ left_none rows left none =
     nothing [] = refl
     nothing (x ∷ xs) = refl
 
-pub counts_as_one : (l : Live) (at k j before now : ℕ) → k ≡ j → CountsUpdate k l at before now → CountsUpdate j l at before now
+pub counts_as_one : (l : Live) (at k j before now : ℕ) → k ≡ j → CountsUpdate k l at before now
+    → CountsUpdate j l at before now
 counts_as_one l at k j before now e h = subst (λ (i : ℕ). CountsUpdate i l at before now) e h
 
 -- so many updates, in a place
-pub works_update : (l : Live) (at times before now : ℕ) → CountsUpdate times l at before now → (n : ℕ) → HasAtMost l.reducts n
+pub works_update : (l : Live) (at times before now : ℕ) → CountsUpdate times l at before now → (n : ℕ)
+    → HasAtMost l.reducts n
     → now ≤ before + work_of at times (n + 0) false (Some l)
 works_update l at times before now h n has =
     let even : n ≡ n + 0 = omega arith in
     subst (λ (m : ℕ). now ≤ before + work_of at times m false (Some l)) even (h n has)
 
 -- so many times the bound
-pub bound_as : (l m : Live) (at n : ℕ) → SameQuery l m → atoms_over m at * update_bound m n ≡ atoms_over l at * update_bound l n
+pub bound_as : (l m : Live) (at n : ℕ) → SameQuery l m → atoms_over m at * update_bound m n
+    ≡ atoms_over l at * update_bound l n
 bound_as l m at n same =
-    ap (λ (x : Numbered). length (filter (λ a. a.relation == at) x.atoms) * (16 * ((length x.atoms + length x.variables) * (n + 1)))) same.numbered
+    ap (λ (x : Numbered). length (filter (λ a. a.relation == at) x.atoms) *
+    (16 * ((length x.atoms + length x.variables) * (n + 1)))) same.numbered
 
-pub counts_gone : (l m : Live) (at k before mid now : ℕ) → SameQuery l m → ((n : ℕ) → HasAtMost l.reducts n → HasAtMost m.reducts n)
+pub counts_gone : (l m : Live) (at k before mid now : ℕ) → SameQuery l m
+    → ((n : ℕ) → HasAtMost l.reducts n → HasAtMost m.reducts n)
     → CountsUpdate k l at before mid → CountsUpdate 1 m at mid now → CountsUpdate (k + 1) l at before now
 counts_gone l m at k before mid now same few a b n has =
     let first = a n has in
     let second = b n (few n has) in
     let even = bound_as l m at n same in
-    let whole : (k + 1) * (atoms_over l at * update_bound l n) ≡ k * (atoms_over l at * update_bound l n) + atoms_over l at * update_bound l n = omega arith in
+    let whole : (k + 1) * (atoms_over l at * update_bound l n)
+    ≡ k * (atoms_over l at * update_bound l n) + atoms_over l at * update_bound l n = omega arith in
     omega (arith, first, second, even, whole)
 
 -- ---- the conditions of the loops
 
-pub all_come_in : (places : List ℕ) (at : ℕ) (cells : List (List ℕ)) (gs : List (Option Live)) → CanComeAll places at cells gs → AllAt places gs (λ l. CanAddAll l at cells)
+pub all_come_in : (places : List ℕ) (at : ℕ) (cells : List (List ℕ)) (gs : List (Option Live))
+    → CanComeAll places at cells gs → AllAt places gs (λ l. CanAddAll l at cells)
 all_come_in places at cells gs h i e = some_as (place_at gs i) (λ l. IsKept h.before l) (λ l. CanAddAll l at cells)
     (λ l k. record { before = h.before; after = h.after; rows = h.rows; kept = k; came = h.comes.came }) (h.kept i e)
 
-pub all_go_out : (places : List ℕ) (at : ℕ) (cells : List (List ℕ)) (gs : List (Option Live)) → CanGoAll places at cells gs → AllAt places gs (λ l. CanGiveAll l at cells)
+pub all_go_out : (places : List ℕ) (at : ℕ) (cells : List (List ℕ)) (gs : List (Option Live))
+    → CanGoAll places at cells gs → AllAt places gs (λ l. CanGiveAll l at cells)
 all_go_out places at cells gs h i e = some_as (place_at gs i) (λ l. IsKept h.after l) (λ l. CanGiveAll l at cells)
     (λ l k. record { before = h.before; after = h.after; rows = h.rows; comes = h.comes; kept = k }) (h.kept i e)
 
-module _ (places : List ℕ) (k d at : ℕ) (cells : List (List ℕ)) (old now mid : List (Option Live)) (o : AreOnce places) (low : k < length places)
-    (took : Reach (take k places) (TakesInAll at cells) old now) (last : Reach (get_or places k d ∷ []) Refuses now mid) where
-  pub front_gives : CanComeAll places at cells old → CanGoAll (take k places) at cells mid
-  front_gives h = record {
-    before = h.before;
-    after = h.after;
-    rows = h.rows;
-    comes = h.comes;
-    kept = front_kept places k d (TakesInAll at cells) Refuses (λ l. IsKept h.before l) (λ l. IsKept h.after l) old now mid o low h.kept took last
-        (λ l m k' t. t.follows h.before h.after h.rows k' h.comes.came);
-  }
+module _ (places : List ℕ) (k d at : ℕ) (cells : List (List ℕ)) (old now mid : List (Option Live)) (o : AreOnce places)
+    (low : k < length places)
+    (took : Reach (take k places) (TakesInAll at cells) old now) (last : Reach (get_or places k d ∷ []) Refuses now mid)
+  where
+    pub front_gives : CanComeAll places at cells old → CanGoAll (take k places) at cells mid
+    front_gives h = record {
+      before = h.before;
+      after = h.after;
+      rows = h.rows;
+      comes = h.comes;
+      kept = front_kept places k d (TakesInAll at cells) Refuses (λ l. IsKept h.before l)
+          (λ l. IsKept h.after l) old now
+          mid o low h.kept took last
+          (λ l m k' t. t.follows h.before h.after h.rows k' h.comes.came);
+    }
 
-  pub given_all_back : (new : List (Option Live)) → Reach (take k places) (LetsOutAll at cells) mid new → Reach places (GivesAllBack at cells) old new
-  given_all_back new out =
-      done_back places k d (TakesInAll at cells) Refuses (LetsOutAll at cells) (GivesAllBack at cells) old now mid new o low took last out
-      (λ l m n t u. record {
-        kept = λ c d rows comes kept. u.follows c d rows comes (t.follows c d rows kept comes.came);
-        same = same_then l m n t.same u.same;
-        few = λ x c d rows comes kept has.
-            fewer_stay n.reducts m.reducts (x + length cells) (u.follows c d rows comes (t.follows c d rows kept comes.came)).over.reducts u.fewer
-            (grown_by l.reducts m.reducts x (length cells) t.same.tree t.grows has);
-      })
-      (λ l m t. record {
-        kept = λ c d rows comes kept. t.kept c kept;
-        same = t.same;
-        few = λ x c d rows comes kept has. more_room m.reducts x (length cells) (as_many l.reducts m.reducts x t.same.tree t.tables has);
-      })
-      (λ l. record {
-        kept = λ c d rows comes kept. kept;
-        same = same_refl l;
-        few = λ x c d rows comes kept has. more_room l.reducts x (length cells) has;
-      })
+    pub given_all_back : (new : List (Option Live)) → Reach (take k places) (LetsOutAll at cells) mid new
+        → Reach places (GivesAllBack at cells) old new
+    given_all_back new out =
+        done_back places k d (TakesInAll at cells) Refuses (LetsOutAll at cells) (GivesAllBack at cells)
+        old now mid new o
+        low took last out
+        (λ l m n t u. record {
+          kept = λ c d rows comes kept. u.follows c d rows comes (t.follows c d rows kept comes.came);
+          same = same_then l m n t.same u.same;
+          few = λ x c d rows comes kept has.
+              fewer_stay n.reducts m.reducts (x + length cells)
+              (u.follows c d rows comes (t.follows c d rows kept comes.came)).over.reducts u.fewer
+              (grown_by l.reducts m.reducts x (length cells) t.same.tree t.grows has);
+        })
+        (λ l m t. record {
+          kept = λ c d rows comes kept. t.kept c kept;
+          same = t.same;
+          few = λ x c d rows comes kept has. more_room m.reducts x (length cells)
+              (as_many l.reducts m.reducts x t.same.tree t.tables has);
+        })
+        (λ l. record {
+          kept = λ c d rows comes kept. kept;
+          same = same_refl l;
+          few = λ x c d rows comes kept has. more_room l.reducts x (length cells) has;
+        })
 
-  -- taken in and given back row by row
-  pub batch_back : (x y z u : ℕ) → WorksBatch (take k places) old at (length cells) 1 x y
-      → WorksBatch (get_or places k d ∷ []) now at (length cells) 2 y z → WorksBatch (take k places) mid at 0 (length cells) z u
-      → WorksBatch places old at (length cells) (length cells + 2) x u
-  batch_back x y z u first second third n few =
-      let i = get_or places k d in
-      let m = n + length cells in
-      let same = unreached (TakesInAll at cells) places k d old now o low took in
-      let a = first n (λ j e. few j (reader_front places k j e)) in
-      let b = second n (λ j e.
-      subst (λ (q : ℕ). IsSomeAnd (place_at now q) (λ l. HasAtMost l.reducts n)) (eqb-true i j (sym (only i j) ∙ e))
-      (subst (λ (q : Option Live). IsSomeAnd q (λ l. HasAtMost l.reducts n)) (sym same) (few i (reader_there places k d low)))) in
-      let c = third m (λ j e. (grown j e).0) in
-      let front = sums_both (work_at old at 1 m (λ j. false)) (work_at mid at (length cells) (m + 0) (λ j. false))
-      (work_at old at (length cells + 2) m (λ j. false)) (take k places) (λ j e. (grown j e).1) in
-      let one = sum_by-cons (work_at now at 2 m (λ j. false)) i [] in
-      let even : work_at now at 2 m (λ j. false) i ≡ work_at old at 2 m (λ j. false) i = ap (work_of at 2 m false) same in
-      let least = fewer_times (place_at old i) m in
-      let more = sum_by_more (work_at old at (length cells + 2) m (λ j. false)) places k d low in
-      let all = sum_by-take-le (work_at old at (length cells + 2) m (λ j. false)) places (k + 1) in
-      omega (arith, a, b, c, front, one, even, least, more, all)
-    where
-      fewer_times : (p : Option Live) (m : ℕ) → work_of at 2 m false p ≤ work_of at (length cells + 2) m false p
-      fewer_times None m = omega arith
-      fewer_times (Some l) m =
-          let w = atoms_over l at * update_bound l m in
-          let whole : (length cells + 2) * w ≡ length cells * w + 2 * w = omega arith in
-          omega (arith, whole)
-
-      both : (p q : Option Live) → DoneAt (TakesInAll at cells) true p q → IsSomeAnd p (λ l. HasAtMost l.reducts n)
-          → IsSomeAnd q (λ l. HasAtMost l.reducts (n + length cells))
-          × (work_of at 1 (n + length cells) false p + work_of at (length cells) (n + length cells + 0) false q ≤ work_of at (length cells + 2) (n + length cells) false p)
-      both None None t h = absurd h
-      both None (Some m) t h = absurd h
-      both (Some l) None t h = absurd t
-      both (Some l) (Some m) t h = (
-        grown_by l.reducts m.reducts n (length cells) t.same.tree t.grows h,
-        (let w = atoms_over l at * update_bound l (n + length cells) in
-            let even : atoms_over m at * update_bound m (n + length cells + 0) ≡ w =
-            bound_as l m at (n + length cells + 0) t.same ∙ ap (λ (x : ℕ). atoms_over l at * update_bound l x) (omega arith) in
-            let e : length cells * (atoms_over m at * update_bound m (n + length cells + 0)) ≡ length cells * w = ap (λ (x : ℕ). length cells * x) even in
+    -- taken in and given back row by row
+    pub batch_back : (x y z u : ℕ) → WorksBatch (take k places) old at (length cells) 1 x y
+        → WorksBatch (get_or places k d ∷ []) now at (length cells) 2 y z
+        → WorksBatch (take k places) mid at 0 (length cells) z u
+        → WorksBatch places old at (length cells) (length cells + 2) x u
+    batch_back x y z u first second third n few =
+        let i = get_or places k d in
+        let m = n + length cells in
+        let same = unreached (TakesInAll at cells) places k d old now o low took in
+        let a = first n (λ j e. few j (reader_front places k j e)) in
+        let b = second n (λ j e.
+        subst (λ (q : ℕ). IsSomeAnd (place_at now q) (λ l. HasAtMost l.reducts n)) (eqb-true i j (sym (only i j) ∙ e))
+        (subst (λ (q : Option Live). IsSomeAnd q (λ l. HasAtMost l.reducts n)) (sym same)
+        (few i (reader_there places k d low)))) in
+        let c = third m (λ j e. (grown j e).0) in
+        let front = sums_both (work_at old at 1 m (λ j. false)) (work_at mid at (length cells) (m + 0) (λ j. false))
+        (work_at old at (length cells + 2) m (λ j. false)) (take k places) (λ j e. (grown j e).1) in
+        let one = sum_by-cons (work_at now at 2 m (λ j. false)) i [] in
+        let even : work_at now at 2 m (λ j. false) i
+        ≡ work_at old at 2 m (λ j. false) i = ap (work_of at 2 m false) same in
+        let least = fewer_times (place_at old i) m in
+        let more = sum_by_more (work_at old at (length cells + 2) m (λ j. false)) places k d low in
+        let all = sum_by-take-le (work_at old at (length cells + 2) m (λ j. false)) places (k + 1) in
+        omega (arith, a, b, c, front, one, even, least, more, all)
+      where
+        fewer_times : (p : Option Live) (m : ℕ) → work_of at 2 m false p ≤ work_of at (length cells + 2) m false p
+        fewer_times None m = omega arith
+        fewer_times (Some l) m =
+            let w = atoms_over l at * update_bound l m in
             let whole : (length cells + 2) * w ≡ length cells * w + 2 * w = omega arith in
-            omega (arith, e, whole)),
-      )
+            omega (arith, whole)
 
-      grown : (j : ℕ) → is_reader (take k places) j ≡ true
-          → IsSomeAnd (place_at mid j) (λ l. HasAtMost l.reducts (n + length cells))
-          × (work_at old at 1 (n + length cells) (λ j. false) j + work_at mid at (length cells) (n + length cells + 0) (λ j. false) j
-          ≤ work_at old at (length cells + 2) (n + length cells) (λ j. false) j)
-      grown j e =
-          let other : (get_or places k d == j) ≡ false = apart (get_or places k d) j (λ s.
-          false≢true (sym (once_at places k d o low) ∙ ap (is_reader (take k places)) s ∙ e)) in
-          let middle : place_at mid j ≡ place_at now j =
-          subst (λ (b : Bool). DoneAt Refuses b (place_at now j) (place_at mid j)) (only (get_or places k d) j ∙ other) (last.each j) in
-          subst (λ (q : Option Live). IsSomeAnd q (λ l. HasAtMost l.reducts (n + length cells))
-          × (work_at old at 1 (n + length cells) (λ j. false) j + work_of at (length cells) (n + length cells + 0) false q
-          ≤ work_at old at (length cells + 2) (n + length cells) (λ j. false) j)) (sym middle)
-          (both (place_at old j) (place_at now j)
-          (subst (λ (b : Bool). DoneAt (TakesInAll at cells) b (place_at old j) (place_at now j)) e (took.each j)) (few j (reader_front places k j e)))
+        both : (p q : Option Live) → DoneAt (TakesInAll at cells) true p q → IsSomeAnd p (λ l. HasAtMost l.reducts n)
+            → IsSomeAnd q (λ l. HasAtMost l.reducts (n + length cells))
+            × (work_of at 1 (n + length cells) false p + work_of at (length cells) (n + length cells + 0) false q ≤
+            work_of at (length cells + 2) (n + length cells) false p)
+        both None None t h = absurd h
+        both None (Some m) t h = absurd h
+        both (Some l) None t h = absurd t
+        both (Some l) (Some m) t h = (
+          grown_by l.reducts m.reducts n (length cells) t.same.tree t.grows h,
+          (let w = atoms_over l at * update_bound l (n + length cells) in
+              let even : atoms_over m at * update_bound m (n + length cells + 0) ≡ w =
+              bound_as l m at (n + length cells + 0) t.same
+              ∙ ap (λ (x : ℕ). atoms_over l at * update_bound l x) (omega arith) in
+              let e : length cells * (atoms_over m at * update_bound m (n + length cells + 0))
+              ≡ length cells * w = ap (λ (x : ℕ). length cells * x) even in
+              let whole : (length cells + 2) * w ≡ length cells * w + 2 * w = omega arith in
+              omega (arith, e, whole)),
+        )
+
+        grown : (j : ℕ) → is_reader (take k places) j ≡ true
+            → IsSomeAnd (place_at mid j) (λ l. HasAtMost l.reducts (n + length cells))
+            × (work_at old at 1 (n + length cells) (λ j. false) j + work_at mid at (length cells) (n + length cells + 0)
+            (λ j. false) j
+            ≤ work_at old at (length cells + 2) (n + length cells) (λ j. false) j)
+        grown j e =
+            let other : (get_or places k d == j) ≡ false = apart (get_or places k d) j (λ s.
+            false≢true (sym (once_at places k d o low) ∙ ap (is_reader (take k places)) s ∙ e)) in
+            let middle : place_at mid j ≡ place_at now j =
+            subst (λ (b : Bool). DoneAt Refuses b (place_at now j) (place_at mid j))
+            (only (get_or places k d) j ∙ other)
+            (last.each j) in
+            subst (λ (q : Option Live). IsSomeAnd q (λ l. HasAtMost l.reducts (n + length cells))
+            × (work_at old at 1 (n + length cells) (λ j. false) j + work_of at (length cells)
+            (n + length cells + 0) false
+            q
+            ≤ work_at old at (length cells + 2) (n + length cells) (λ j. false) j)) (sym middle)
+            (both (place_at old j) (place_at now j)
+            (subst (λ (b : Bool). DoneAt (TakesInAll at cells) b (place_at old j) (place_at now j)) e (took.each j))
+            (few j (reader_front places k j e)))
 
 -- ---- logs in other places
 
@@ -296,13 +341,15 @@ others_set logs i m = record {
   others = λ j e. get_or-set_other logs i j m no_log (λ s. false≢true (sym e ∙ only i j ∙ eq-eqb i j (sym s)));
 }
 
-pub others_next : (places : List ℕ) (k d : ℕ) (old mid new : List Log) → k < length places → OthersStay (take k places) old mid
+pub others_next : (places : List ℕ) (k d : ℕ) (old mid new : List Log) → k < length places
+    → OthersStay (take k places) old mid
     → OthersStay (get_or places k d ∷ []) mid new → OthersStay (take (k + 1) places) old new
 others_next places k d old mid new low a b = record {
   long = b.long ∙ a.long;
   others = λ j e.
       let parts = either (is_reader (take k places) j) (get_or places k d == j)
-      (sym (ap (λ (ps : List ℕ). is_reader ps j) (take_more places k d low) ∙ reader_more (take k places) (get_or places k d) j) ∙ e) in
+      (sym (ap (λ (ps : List ℕ). is_reader ps j) (take_more places k d low)
+      ∙ reader_more (take k places) (get_or places k d) j) ∙ e) in
       b.others j (only (get_or places k d) j ∙ parts.1) ∙ a.others j parts.0;
 }
   where
@@ -310,7 +357,8 @@ others_next places k d old mid new low a b = record {
     either true c e = absurd (false≢true (sym e))
     either false c e = (refl, e)
 
-pub others_front : (places : List ℕ) (k : ℕ) (old new : List Log) → OthersStay (take k places) old new → OthersStay places old new
+pub others_front : (places : List ℕ) (k : ℕ) (old new : List Log) → OthersStay (take k places) old new
+    → OthersStay places old new
 others_front places k old new a = record {
   long = a.long;
   others = λ j e. a.others j (outside j (is_reader (take k places) j) refl e);

@@ -1,5 +1,7 @@
 -- Logs that are emptied, those of some places after those of others.
-use Rattle.std.proofs.Common.{ℕ, zero, suc, List, [], ◌∷◌, ◌++◌, ◌+◌, ◌≡◌, ◌<◌, ◌≤◌, Bool, true, false, refl, sym, ap, ap₂, ◌∙◌, subst, length, get_or, set, take, arith, length-set}
+use Rattle.std.proofs.Common.{ℕ, zero, suc, List, [], ◌∷◌, ◌++◌, ◌+◌, ◌≡◌, ◌<◌, ◌≤◌, Bool, true}
+use Rattle.std.proofs.Common.{false, refl, sym, ap, ap₂, ◌∙◌, subst, length, get_or, set, take}
+use Rattle.std.proofs.Common.{arith, length-set}
 use Rattle.std.specs.Prelude.{◌==◌, ◌||◌, ◌&&◌, All, slice_index_or}
 use Rattle.std.proofs.lemmas.Bool.{eqb-true, eq-eqb, false≢true}
 use Rattle.std.proofs.lemmas.List.{take_more, get_or-set_same, get_or-set_other, get_or_default}
@@ -16,11 +18,13 @@ use Rattle.djq_reach.proofs.Reaching.{everywhere}
 -- ---- places one after another
 
 -- what is read of a list of lists
-pub list_read : (readers : List (List ℕ)) (r : ℕ) (p q : List ℕ) → r < length readers → p ≡ slice_index_or readers r p → q ≡ p → q ≡ readers_at readers r
+pub list_read : (readers : List (List ℕ)) (r : ℕ) (p q : List ℕ) → r < length readers → p ≡ slice_index_or readers r p
+    → q ≡ p → q ≡ readers_at readers r
 list_read readers r p q low is same = same ∙ is ∙ get_or_default readers r p [] low
 
 -- what holds of each group holds of the one that is read
-pub each_group : (P : Group → Type 0) (groups : List Group) (k : ℕ) (g : Group) → k < length groups → g ≡ slice_index_or groups k g → All P groups → P g
+pub each_group : (P : Group → Type 0) (groups : List Group) (k : ℕ) (g : Group) → k < length groups → g
+    ≡ slice_index_or groups k g → All P groups → P g
 each_group P groups k g low is all = subst P (sym is) (all k g low)
 
 pub reader_both : (xs ys : List ℕ) (i : ℕ) → is_reader (xs ++ ys) i ≡ (is_reader xs i || is_reader ys i)
@@ -41,30 +45,39 @@ or_none true = refl
 or_none false = refl
 
 reached_end : (readers : List (List ℕ)) (groups : List Group) (g : Group) (i : ℕ)
-    → is_reader (reached readers (groups ++ g ∷ [])) i ≡ (is_reader (reached readers groups) i || is_reader (readers_at readers g.relation.at) i)
-reached_end readers [] g i = reader_both (readers_at readers g.relation.at) [] i ∙ or_none (is_reader (readers_at readers g.relation.at) i)
+    → is_reader (reached readers (groups ++ g ∷ [])) i
+    ≡ (is_reader (reached readers groups) i || is_reader (readers_at readers g.relation.at) i)
+reached_end readers [] g i = reader_both (readers_at readers g.relation.at) [] i
+    ∙ or_none (is_reader (readers_at readers g.relation.at) i)
 reached_end readers (h ∷ groups) g i =
     reader_both (readers_at readers h.relation.at) (reached readers (groups ++ g ∷ [])) i
     ∙ ap (λ b. is_reader (readers_at readers h.relation.at) i || b) (reached_end readers groups g i)
-    ∙ either_or (is_reader (readers_at readers h.relation.at) i) (is_reader (reached readers groups) i) (is_reader (readers_at readers g.relation.at) i)
-    ∙ ap (λ b. b || is_reader (readers_at readers g.relation.at) i) (sym (reader_both (readers_at readers h.relation.at) (reached readers groups) i))
+    ∙ either_or (is_reader (readers_at readers h.relation.at) i) (is_reader (reached readers groups) i)
+    (is_reader (readers_at readers g.relation.at) i)
+    ∙ ap (λ b. b || is_reader (readers_at readers g.relation.at) i)
+    (sym (reader_both (readers_at readers h.relation.at) (reached readers groups) i))
 
 -- a group more
-pub reached_more : (readers : List (List ℕ)) (groups : List Group) (k : ℕ) (g : Group) (i : ℕ) → k < length groups → g ≡ slice_index_or groups k g
-    → is_reader (reached readers (take (k + 1) groups)) i ≡ (is_reader (reached readers (take k groups)) i || is_reader (readers_at readers g.relation.at) i)
+pub reached_more : (readers : List (List ℕ)) (groups : List Group) (k : ℕ) (g : Group) (i : ℕ) → k < length groups → g
+    ≡ slice_index_or groups k g
+    → is_reader (reached readers (take (k + 1) groups)) i
+    ≡ (is_reader (reached readers (take k groups)) i || is_reader (readers_at readers g.relation.at) i)
 reached_more readers groups k g i low is =
-    ap (λ (gs : List Group). is_reader (reached readers gs) i) (take_more groups k g low ∙ ap (λ (h : Group). take k groups ++ h ∷ []) (sym is))
+    ap (λ (gs : List Group). is_reader (reached readers gs) i)
+    (take_more groups k g low ∙ ap (λ (h : Group). take k groups ++ h ∷ []) (sym is))
     ∙ reached_end readers (take k groups) g i
 
 -- the groups in front reach no more than all
-pub reached_front : (readers : List (List ℕ)) (groups : List Group) (k i : ℕ) → is_reader (reached readers (take k groups)) i ≡ true → is_reader (reached readers groups) i ≡ true
+pub reached_front : (readers : List (List ℕ)) (groups : List Group) (k i : ℕ)
+    → is_reader (reached readers (take k groups)) i ≡ true → is_reader (reached readers groups) i ≡ true
 reached_front readers [] zero i e = e
 reached_front readers [] (suc k) i e = e
 reached_front readers (g ∷ groups) zero i e = absurd (false≢true e)
 reached_front readers (g ∷ groups) (suc k) i e =
     reader_both (readers_at readers g.relation.at) (reached readers groups) i
     ∙ step (is_reader (readers_at readers g.relation.at) i)
-    (sym (reader_both (readers_at readers g.relation.at) (reached readers (take k groups)) i) ∙ e) (reached_front readers groups k i)
+    (sym (reader_both (readers_at readers g.relation.at) (reached readers (take k groups)) i) ∙ e)
+    (reached_front readers groups k i)
   where
     step : (b : Bool) → (b || is_reader (reached readers (take k groups)) i) ≡ true
         → (is_reader (reached readers (take k groups)) i ≡ true → is_reader (reached readers groups) i ≡ true)
@@ -73,7 +86,8 @@ reached_front readers (g ∷ groups) (suc k) i e =
     step false f more = more f
 
 -- a group reaches no more than all
-pub reached_one : (readers : List (List ℕ)) (groups : List Group) (k : ℕ) (g : Group) (i : ℕ) → k < length groups → g ≡ slice_index_or groups k g
+pub reached_one : (readers : List (List ℕ)) (groups : List Group) (k : ℕ) (g : Group) (i : ℕ) → k < length groups → g
+    ≡ slice_index_or groups k g
     → is_reader (readers_at readers g.relation.at) i ≡ true → is_reader (reached readers groups) i ≡ true
 reached_one readers groups k g i low is e =
     reached_front readers groups (k + 1) i
@@ -100,9 +114,11 @@ taken_all P (x ∷ xs) (suc k) h = All-cons P x (take k xs) (All-head P x xs h) 
 -- ---- logs
 
 pub clears_none : (p : ℕ → Bool) (logs : List Log) → ((i : ℕ) → p i ≡ false) → Clears p logs logs
-clears_none p logs none = record { long = refl; emptied = λ i e. absurd (false≢true (sym (none i) ∙ e)); others = λ i e. refl }
+clears_none p logs none = record
+    { long = refl; emptied = λ i e. absurd (false≢true (sym (none i) ∙ e)); others = λ i e. refl }
 
-pub clears_both : (p q r : ℕ → Bool) (old mid new : List Log) → ((i : ℕ) → r i ≡ (p i || q i)) → Clears p old mid → Clears q mid new → Clears r old new
+pub clears_both : (p q r : ℕ → Bool) (old mid new : List Log) → ((i : ℕ) → r i ≡ (p i || q i)) → Clears p old mid
+    → Clears q mid new → Clears r old new
 clears_both p q r old mid new are a b = record {
   long = b.long ∙ a.long;
   emptied = λ i e. emptied i (p i) (q i) refl refl (sym (are i) ∙ e);
@@ -120,7 +136,8 @@ clears_both p q r old mid new are a b = record {
     others i false true e f h = absurd (false≢true (sym h ∙ ap₂ (λ c d. c || d) e f))
 
 -- the log in one place
-pub clears_at : (logs : List Log) (i : ℕ) (w : Bool) (log m : Log) → i < length logs → log ≡ slice_index_or logs i log → Readies w log m
+pub clears_at : (logs : List Log) (i : ℕ) (w : Bool) (log m : Log) → i < length logs → log ≡ slice_index_or logs i log
+    → Readies w log m
     → Clears (λ j. (i == j) && w) logs (set logs i m)
 clears_at logs i w log m low is ready = record {
   long = length-set logs i m;
@@ -131,14 +148,16 @@ clears_at logs i w log m low is ready = record {
     read : log ≡ log_at logs i
     read = is ∙ get_or_default logs i log no_log low
 
-    emptied : (j : ℕ) (b : Bool) → (i == j) ≡ b → (v : Bool) → w ≡ v → ((i == j) && w) ≡ true → IsEmpty (log_at (set logs i m) j)
+    emptied : (j : ℕ) (b : Bool) → (i == j) ≡ b → (v : Bool) → w ≡ v → ((i == j) && w) ≡ true
+        → IsEmpty (log_at (set logs i m) j)
     emptied j true e true f h =
         subst (λ (k : ℕ). IsEmpty (log_at (set logs i m) k)) (eqb-true i j e)
         (subst IsEmpty (sym (get_or-set_same logs i m no_log low)) (subst (λ (b : Bool). Readies b log m) f ready))
     emptied j false e v f h = absurd (false≢true (sym (ap (λ b. b && w) e) ∙ h))
     emptied j true e false f h = absurd (false≢true (sym (ap₂ (λ b c. b && c) e f) ∙ h))
 
-    others : (j : ℕ) (b : Bool) → (i == j) ≡ b → (v : Bool) → w ≡ v → ((i == j) && w) ≡ false → log_at (set logs i m) j ≡ log_at logs j
+    others : (j : ℕ) (b : Bool) → (i == j) ≡ b → (v : Bool) → w ≡ v → ((i == j) && w) ≡ false → log_at (set logs i m) j
+        ≡ log_at logs j
     others j false e v f h = get_or-set_other logs i j m no_log (λ s. false≢true (sym e ∙ eq-eqb i j (sym s)))
     others j true e false f h =
         subst (λ (k : ℕ). log_at (set logs i m) k ≡ log_at logs k) (eqb-true i j e)
@@ -147,14 +166,17 @@ clears_at logs i w log m low is ready = record {
 
 -- the watched of the places so far, and one more
 pub watched_more : (watchers places : List ℕ) (k d i : ℕ) → k < length places → i ≡ get_or places k d → (j : ℕ)
-    → (is_reader (take (k + 1) places) j && watched_at watchers j) ≡ ((is_reader (take k places) j && watched_at watchers j) || ((i == j) && watched_at watchers i))
+    → (is_reader (take (k + 1) places) j && watched_at watchers j)
+    ≡ ((is_reader (take k places) j && watched_at watchers j) || ((i == j) && watched_at watchers i))
 watched_more watchers places k d i low at j =
     ap (λ b. b && watched_at watchers j) (ap (λ (ps : List ℕ). is_reader ps j) (take_more places k d low
     ∙ ap (λ (x : ℕ). take k places ++ x ∷ []) (sym at)) ∙ reader_more (take k places) i j)
     ∙ by (is_reader (take k places) j) (i == j) refl
   where
-    by : (a b : Bool) → (i == j) ≡ b → ((a || b) && watched_at watchers j) ≡ ((a && watched_at watchers j) || (b && watched_at watchers i))
-    by true true e = itself (watched_at watchers j) (watched_at watchers i) (ap (watched_at watchers) (sym (eqb-true i j e)))
+    by : (a b : Bool) → (i == j) ≡ b → ((a || b) && watched_at watchers j)
+        ≡ ((a && watched_at watchers j) || (b && watched_at watchers i))
+    by true true e = itself (watched_at watchers j) (watched_at watchers i)
+        (ap (watched_at watchers) (sym (eqb-true i j e)))
       where
         itself : (v w : Bool) → v ≡ w → v ≡ (v || w)
         itself true w e = refl

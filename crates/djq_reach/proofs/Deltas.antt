@@ -1,8 +1,11 @@
 -- Deltas of consecutive changes, where answers only come.
-use Rattle.std.proofs.Common.{ℕ, List, [], ◌∷◌, ◌++◌, ◌+◌, ◌≡◌, ◌<◌, ◌⊎◌, Bool, true, false, refl, sym, ap, ◌∙◌, subst, inl, inr, arith, length}
+use Rattle.std.proofs.Common.{ℕ, List, [], ◌∷◌, ◌++◌, ◌+◌, ◌≡◌, ◌<◌, ◌⊎◌, Bool, true, false, refl}
+use Rattle.std.proofs.Common.{sym, ap, ◌∙◌, subst, inl, inr, arith, length}
 use Rattle.std.specs.Prelude.{All, AllPairs, Contains, not, cond, filter, map}
 use Rattle.std.proofs.lemmas.List.{map-append}
-use Rattle.std.proofs.lemmas.List.Elements.{All-nil, All-cons, All-head, All-tail, All-append, All-contains, Contains-append_left, Contains-append_right}
+use Rattle.std.proofs.lemmas.List.Elements.{All-nil, All-cons, All-head, All-tail, All-append}
+use Rattle.std.proofs.lemmas.List.Elements.{All-contains, Contains-append_left}
+use Rattle.std.proofs.lemmas.List.Elements.{Contains-append_right}
 use Rattle.std.proofs.lemmas.List.Kept.{AllPairs-cons}
 use Rattle.djq_model.specs.Data.{Tuple}
 use Rattle.djq_model.specs.Answer.{AreDifferent}
@@ -17,15 +20,18 @@ abbrev answers_in : List Change → List Tuple
 answers_in cs = map (λ (c : Change). c.answer) cs
 
 -- what holds of all changes holds of their answers
-answers_hold : (P : Change → Type 0) (Q : Tuple → Type 0) (cs : List Change) → ((c : Change) → P c → Q c.answer) → All P cs → All Q (answers_in cs)
+answers_hold : (P : Change → Type 0) (Q : Tuple → Type 0) (cs : List Change) → ((c : Change) → P c → Q c.answer)
+    → All P cs → All Q (answers_in cs)
 answers_hold P Q [] f h = All-nil Q
-answers_hold P Q (c ∷ cs) f h = All-cons Q c.answer (answers_in cs) (f c (All-head P c cs h)) (answers_hold P Q cs f (All-tail P c cs h))
+answers_hold P Q (c ∷ cs) f h = All-cons Q c.answer (answers_in cs) (f c (All-head P c cs h))
+    (answers_hold P Q cs f (All-tail P c cs h))
 
 changed_as : (P Q : Change → Type 0) (cs : List Change) → ((c : Change) → P c → Q c) → All P cs → All Q cs
 changed_as P Q cs f h = λ k d low. f _ (h k d low)
 
 -- ---- some of the changes
-kept_within : (P : Tuple → Type 0) (p : Change → Bool) (cs : List Change) → All P (answers_in cs) → All P (answers_in (filter p cs))
+kept_within : (P : Tuple → Type 0) (p : Change → Bool) (cs : List Change) → All P (answers_in cs)
+    → All P (answers_in (filter p cs))
 kept_within P p [] h = All-nil P
 kept_within P p (c ∷ cs) h = step (p c) (kept_within P p cs (All-tail P c.answer (answers_in cs) h))
   where
@@ -33,22 +39,27 @@ kept_within P p (c ∷ cs) h = step (p c) (kept_within P p cs (All-tail P c.answ
     step true rest = All-cons P c.answer (answers_in (filter p cs)) (All-head P c.answer (answers_in cs) h) rest
     step false rest = rest
 
-kept_different : (p : Change → Bool) (cs : List Change) → AreDifferent (answers_in cs) → AreDifferent (answers_in (filter p cs))
+kept_different : (p : Change → Bool) (cs : List Change) → AreDifferent (answers_in cs)
+    → AreDifferent (answers_in (filter p cs))
 kept_different p [] h = h
 kept_different p (c ∷ cs) h =
-    step (p c) (kept_within (λ t. c.answer ≡ t → ⊥) p cs (pairs_head (λ (s t : Tuple). s ≡ t → ⊥) c.answer (answers_in cs) h))
+    step (p c) (kept_within (λ t. c.answer ≡ t → ⊥) p cs
+    (pairs_head (λ (s t : Tuple). s ≡ t → ⊥) c.answer (answers_in cs) h))
     (kept_different p cs (pairs_tail (λ (s t : Tuple). s ≡ t → ⊥) c.answer (answers_in cs) h))
   where
-    step : (b : Bool) → All (λ t. c.answer ≡ t → ⊥) (answers_in (filter p cs)) → AreDifferent (answers_in (filter p cs)) → AreDifferent (answers_in (cond b (c ∷ filter p cs) (filter p cs)))
+    step : (b : Bool) → All (λ t. c.answer ≡ t → ⊥) (answers_in (filter p cs)) → AreDifferent (answers_in (filter p cs))
+        → AreDifferent (answers_in (cond b (c ∷ filter p cs) (filter p cs)))
     step true first rest = AllPairs-cons (λ (s t : Tuple). s ≡ t → ⊥) c.answer (answers_in (filter p cs)) first rest
     step false first rest = rest
 
-kept_parts : {A : Type 0} (p : A → Bool) (xs : List A) → length (filter p xs) + length (filter (λ x. not (p x)) xs) ≡ length xs
+kept_parts : {A : Type 0} (p : A → Bool) (xs : List A) → length (filter p xs) + length (filter (λ x. not (p x)) xs)
+    ≡ length xs
 kept_parts p [] = refl
 kept_parts p (x ∷ xs) = step (p x) (kept_parts p xs)
   where
     step : (b : Bool) → length (filter p xs) + length (filter (λ x. not (p x)) xs) ≡ length xs
-        → length (cond b (x ∷ filter p xs) (filter p xs)) + length (cond (not b) (x ∷ filter (λ x. not (p x)) xs) (filter (λ x. not (p x)) xs)) ≡ length (x ∷ xs)
+        → length (cond b (x ∷ filter p xs) (filter p xs)) + length
+        (cond (not b) (x ∷ filter (λ x. not (p x)) xs) (filter (λ x. not (p x)) xs)) ≡ length (x ∷ xs)
     step true e = omega (arith, e)
     step false e = omega (arith, e)
 
@@ -111,10 +122,13 @@ module _ (A B C : Tuple → Type 0) (up : Grows A B) (more : Grows B C) (decided
         (pairs_join (λ (s t : Tuple). s ≡ t → ⊥) (answers_in xs) (answers_in ys) x.different y.different
         (answers_hold (λ c. HasChanged A B c.sign c.answer) (λ s. All (λ t. s ≡ t → ⊥) (answers_in ys)) xs
         (λ c h. answers_hold (λ d. HasChanged B C d.sign d.answer) (λ t. c.answer ≡ t → ⊥) ys
-        (λ d k same. (only_later d.sign d.answer k).1 (subst B same (only_came c.sign c.answer h).0)) y.changed) x.changed));
+        (λ d k same. (only_later d.sign d.answer k).1 (subst B same (only_came c.sign c.answer h).0)) y.changed)
+        x.changed));
     changed = All-append (λ c. HasChanged A C c.sign c.answer) xs ys
-        (changed_as (λ c. HasChanged A B c.sign c.answer) (λ c. HasChanged A C c.sign c.answer) xs (λ c h. first_both c.sign c.answer h) x.changed)
-        (changed_as (λ c. HasChanged B C c.sign c.answer) (λ c. HasChanged A C c.sign c.answer) ys (λ c h. last_both c.sign c.answer h) y.changed);
+        (changed_as (λ c. HasChanged A B c.sign c.answer) (λ c. HasChanged A C c.sign c.answer) xs
+        (λ c h. first_both c.sign c.answer h) x.changed)
+        (changed_as (λ c. HasChanged B C c.sign c.answer) (λ c. HasChanged A C c.sign c.answer) ys
+        (λ c h. last_both c.sign c.answer h) y.changed);
     complete = there;
   }
     where
@@ -124,7 +138,8 @@ module _ (A B C : Tuple → Type 0) (up : Grows A B) (more : Grows B C) (decided
         where
           by : Decided (B t) → Contains (xs ++ ys) (record { sign = Came; answer = t })
           by (inl b) = Contains-append_left xs ys (record { sign = Came; answer = t }) (x.complete Came t (b, h.1))
-          by (inr none) = Contains-append_right xs ys (record { sign = Came; answer = t }) (y.complete Came t (h.0, none))
+          by (inr none) = Contains-append_right xs ys (record { sign = Came; answer = t })
+              (y.complete Came t (h.0, none))
 
   early : (c : Change) → is_early B decided c ≡ true → HasChanged A C c.sign c.answer → HasChanged A B c.sign c.answer
   early c e h = by c.sign h
@@ -133,7 +148,8 @@ module _ (A B C : Tuple → Type 0) (up : Grows A B) (more : Grows B C) (decided
       by Came h = (held (decided c.answer) e, h.1)
       by Went h = absurd (h.1 (more c.answer (up c.answer h.0)))
 
-  late : (c : Change) → not (is_early B decided c) ≡ true → HasChanged A C c.sign c.answer → HasChanged B C c.sign c.answer
+  late : (c : Change) → not (is_early B decided c) ≡ true → HasChanged A C c.sign c.answer
+      → HasChanged B C c.sign c.answer
   late c e h = by c.sign h
     where
       by : (s : Sign) → HasChanged A C s c.answer → HasChanged B C s c.answer
@@ -143,15 +159,19 @@ module _ (A B C : Tuple → Type 0) (up : Grows A B) (more : Grows B C) (decided
   pub early_delta : (zs : List Change) → IsDelta A C zs → IsDelta A B (early_part B decided zs)
   early_delta zs z = record {
     different = kept_different (is_early B decided) zs z.different;
-    changed = kept_hold (λ c. HasChanged A C c.sign c.answer) (λ c. HasChanged A B c.sign c.answer) (is_early B decided) zs early z.changed;
-    complete = λ s t h. kept_there (is_early B decided) zs (record { sign = s; answer = t }) (is_held (decided t) (only_came s t h).0) (z.complete s t (first_both s t h));
+    changed = kept_hold (λ c. HasChanged A C c.sign c.answer) (λ c. HasChanged A B c.sign c.answer) (is_early B decided)
+        zs early z.changed;
+    complete = λ s t h. kept_there (is_early B decided) zs (record { sign = s; answer = t })
+        (is_held (decided t) (only_came s t h).0) (z.complete s t (first_both s t h));
   }
 
   pub late_delta : (zs : List Change) → IsDelta A C zs → IsDelta B C (late_part B decided zs)
   late_delta zs z = record {
     different = kept_different (λ c. not (is_early B decided c)) zs z.different;
-    changed = kept_hold (λ c. HasChanged A C c.sign c.answer) (λ c. HasChanged B C c.sign c.answer) (λ c. not (is_early B decided c)) zs late z.changed;
-    complete = λ s t h. kept_there (λ c. not (is_early B decided c)) zs (record { sign = s; answer = t }) (isnt_held (decided t) (only_later s t h).1) (z.complete s t (last_both s t h));
+    changed = kept_hold (λ c. HasChanged A C c.sign c.answer) (λ c. HasChanged B C c.sign c.answer)
+        (λ c. not (is_early B decided c)) zs late z.changed;
+    complete = λ s t h. kept_there (λ c. not (is_early B decided c)) zs (record { sign = s; answer = t })
+        (isnt_held (decided t) (only_later s t h).1) (z.complete s t (last_both s t h));
   }
 
 -- where nothing changes, nothing is told
@@ -167,10 +187,12 @@ delta_none A B up down = record {
     there Went t h = absurd (h.1 (up t h.0))
 
 -- a delta is one between any sets of the same answers
-pub delta_as : (A B C D : Tuple → Type 0) → Grows A B → Grows B A → Grows C D → Grows D C → (xs : List Change) → IsDelta A C xs → IsDelta B D xs
+pub delta_as : (A B C D : Tuple → Type 0) → Grows A B → Grows B A → Grows C D → Grows D C → (xs : List Change)
+    → IsDelta A C xs → IsDelta B D xs
 delta_as A B C D ab ba cd dc xs x = record {
   different = x.different;
-  changed = changed_as (λ c. HasChanged A C c.sign c.answer) (λ c. HasChanged B D c.sign c.answer) xs (λ c h. forth c.sign c.answer h) x.changed;
+  changed = changed_as (λ c. HasChanged A C c.sign c.answer) (λ c. HasChanged B D c.sign c.answer) xs
+      (λ c h. forth c.sign c.answer h) x.changed;
   complete = λ s t h. x.complete s t (back s t h);
 }
   where

@@ -1,8 +1,11 @@
 -- Rows that came go again, the last one first: there is a catalog that has one row less.
-use Rattle.std.proofs.Common.{ℕ, zero, suc, List, [], ◌∷◌, ◌++◌, ◌+◌, ◌≡◌, ◌≢◌, ◌<◌, ◌≤◌, Bool, true, false, refl, sym, ap, ap₂, ◌∙◌, subst, inl, inr, arith, length, get_or, set, length-set, append-nil, append_assoc}
+use Rattle.std.proofs.Common.{ℕ, zero, suc, List, [], ◌∷◌, ◌++◌, ◌+◌, ◌≡◌, ◌≢◌, ◌<◌, ◌≤◌, Bool}
+use Rattle.std.proofs.Common.{true, false, refl, sym, ap, ap₂, ◌∙◌, subst, inl, inr, arith, length}
+use Rattle.std.proofs.Common.{get_or, set, length-set, append-nil, append_assoc}
 use Rattle.std.specs.Prelude.{All, AllPairs, Contains, cond, map, slice_set}
 use Rattle.std.proofs.lemmas.Bool.{cases_eq, cases_lt, false≢true}
-use Rattle.std.proofs.lemmas.List.{get_or_append_left, get_or-set_same, get_or-set_other, get_or_past, length-append, length-map}
+use Rattle.std.proofs.lemmas.List.{get_or_append_left, get_or-set_same, get_or-set_other}
+use Rattle.std.proofs.lemmas.List.{get_or_past, length-append, length-map}
 use Rattle.djq_model.specs.declared.relation.Relation.{Relation}
 use Rattle.djq_model.specs.declared.relation.CountedRow.{CountedRow}
 use Rattle.djq_model.specs.declared.relation.ColumnType.{ColumnType}
@@ -11,7 +14,9 @@ use Rattle.djq_model.specs.Equality.{tuple_eq-decides}
 use Rattle.djq_model.specs.Answer.{AreDifferent}
 use Rattle.djq_model.specs.Typed.{fits}
 use Rattle.djq_rows.specs.Cells.{HaveCells, StandFor}
-use Rattle.djq_rows.specs.Catalog.{Catalog, IsCatalog, IsKept as IsKeptRelation, IsCounted, StandForRow, no_relation, relation_at, counted_at, rows_at, with_rows_at}
+use Rattle.djq_rows.specs.Catalog.{Catalog, IsCatalog, IsKept as IsKeptRelation, IsCounted}
+use Rattle.djq_rows.specs.Catalog.{StandForRow, no_relation, relation_at, counted_at, rows_at}
+use Rattle.djq_rows.specs.Catalog.{with_rows_at}
 use Rattle.djq_live.specs.Changes.{IsLater, CameAll, Went, StandForRows, HasSameRows}
 use Rattle.djq_live.proofs.Members.{in_last}
 use Rattle.djq_reach.specs.Batching.{Comes}
@@ -56,7 +61,8 @@ counted_ends : (ks : List CountedRow) (xs : List Tuple) (row : Tuple) → tuples
     → Ends (λ fs. tuples_of fs ≡ xs) (λ k. k.row ≡ row) ks
 counted_ends [] [] row e = absurd cc
 counted_ends [] (x ∷ xs) row e = absurd cc
-counted_ends (k ∷ []) [] row e = record { front = []; last = k; is = refl; before = refl; there = first_same k.row row [] [] e }
+counted_ends (k ∷ []) [] row e = record
+    { front = []; last = k; is = refl; before = refl; there = first_same k.row row [] [] e }
 counted_ends (k ∷ j ∷ ks) [] row e = absurd cc
 counted_ends (k ∷ ks) (x ∷ xs) row e =
     let more = counted_ends ks xs row (rest_same k.row x (tuples_of ks) (xs ++ row ∷ []) e) in
@@ -114,7 +120,8 @@ without_last : (xs : List Tuple) (row : Tuple) → AreDifferent (xs ++ row ∷ [
 without_last [] row h = ap (λ (b : Bool). cond b [] (row ∷ [])) ((tuple_eq-decides row row).1 refl)
 without_last (x ∷ xs) row h =
     ap (λ (b : Bool). cond b (xs ++ row ∷ []) (x ∷ without_row (xs ++ row ∷ []) row)) (apart (tuple_eq x row) refl)
-    ∙ ap (λ ys. x ∷ ys) (without_last xs row (λ i j d less low. h (suc i) (suc j) d (omega (arith, less)) (omega (arith, low))))
+    ∙ ap (λ ys. x ∷ ys) (without_last xs row
+    (λ i j d less low. h (suc i) (suc j) d (omega (arith, less)) (omega (arith, low))))
   where
     apart : (b : Bool) → tuple_eq x row ≡ b → b ≡ false
     apart false e = refl
@@ -143,7 +150,8 @@ module _ (d : Catalog) (at : ℕ) (fs : List CountedRow) (low : at < length d.re
   long = length-set d.relations at one
 
   -- what is the same of the relation with fewer rows is the same of each
-  field : {A : Type 0} (f : Relation → A) → f one ≡ f (relation_at d.relations at) → (x : Relation) (k : ℕ) → k < length d.relations
+  field : {A : Type 0} (f : Relation → A) → f one ≡ f (relation_at d.relations at) → (x : Relation) (k : ℕ)
+      → k < length d.relations
       → f (get_or fewer.relations k x) ≡ f (get_or d.relations k x)
   field f e x k within = elim (cases_eq k at) [
     | inl same ↦ subst (λ (j : ℕ). f (get_or fewer.relations j x) ≡ f (get_or d.relations j x)) (sym same)
@@ -184,7 +192,8 @@ module _ (d : Catalog) (at : ℕ) (fs : List CountedRow) (low : at < length d.re
         some = old.some;
         narrow = old.narrow;
         typed = all_front (λ row. fits (relation_at d.relations at).types row ≡ true) (tuples_of fs) (tuples_of ks)
-            (subst (λ (ts : List Tuple). All (λ row. fits (relation_at d.relations at).types row ≡ true) ts) whole old.typed);
+            (subst (λ (ts : List Tuple). All (λ row. fits (relation_at d.relations at).types row ≡ true) ts) whole
+            old.typed);
         differ = pairs_front (λ (s t : Tuple). s ≡ t → ⊥) (tuples_of fs) (tuples_of ks)
             (subst (λ (ts : List Tuple). AreDifferent ts) whole old.differ);
         cells = all_front (HaveCells d.texts) (tuples_of fs) (tuples_of ks)
@@ -194,7 +203,8 @@ module _ (d : Catalog) (at : ℕ) (fs : List CountedRow) (low : at < length d.re
         counted = all_front IsCounted fs ks (subst (λ (xs : List CountedRow). All IsCounted xs) e old.counted);
       }
 
-      relation_kept : (k : ℕ) (x : Relation) → k < length d.relations → IsKeptRelation d.texts (get_or fewer.relations k x)
+      relation_kept : (k : ℕ) (x : Relation) → k < length d.relations
+          → IsKeptRelation d.texts (get_or fewer.relations k x)
       relation_kept k x within = elim (cases_eq k at) [
         | inl same ↦ subst (λ (j : ℕ). IsKeptRelation d.texts (get_or fewer.relations j x)) (sym same)
             (subst (λ (r : Relation). IsKeptRelation d.texts r) (sym (here x)) one_kept)
@@ -236,11 +246,13 @@ module _ (d : Catalog) (at : ℕ) (fs : List CountedRow) (low : at < length d.re
   types_here = ap (λ (r : Relation). r.types) (here no_relation)
 
 -- a relation with a row is there
-within_rows : (d : Catalog) (at : ℕ) (xs : List Tuple) (row : Tuple) → rows_at d.relations at ≡ xs ++ row ∷ [] → at < length d.relations
+within_rows : (d : Catalog) (at : ℕ) (xs : List Tuple) (row : Tuple) → rows_at d.relations at ≡ xs ++ row ∷ []
+    → at < length d.relations
 within_rows d at xs row e = elim (cases_lt at (length d.relations)) [
   | inl low ↦ low
   | inr high ↦
-      let none : rows_at d.relations at ≡ [] = ap (λ (r : Relation). tuples_in r) (get_or_past d.relations at no_relation high) in
+      let none : rows_at d.relations at
+      ≡ [] = ap (λ (r : Relation). tuples_in r) (get_or_past d.relations at no_relation high) in
       let long = length-append xs (row ∷ []) in
       absurd (omega (arith, ap length (sym none ∙ e), long))
 ]
@@ -281,14 +293,16 @@ one_less c d at cells cell rows h = record {
   };
   went = record {
     later = later_fewer d at fs within d catalog (later_itself d h.came.later.catalog);
-    stand = subst (λ (ts : List ColumnType). StandFor d.texts ts cell ends.last) (sym (types_here d at fs within)) ends.there;
+    stand = subst (λ (ts : List ColumnType). StandFor d.texts ts cell ends.last) (sym (types_here d at fs within))
+        ends.there;
     rows = rows_here d at fs within ∙ counted.before
         ∙ sym (ap (λ (ts : List Tuple). without_row ts ends.last) shape
         ∙ without_last (rows_at c.relations at ++ ends.front) ends.last
         (subst (λ (ts : List Tuple). AreDifferent ts) shape (h.came.later.catalog.kept at no_relation within).differ));
     others = λ k low other. rows_elsewhere d at fs within k other;
   };
-  there = subst (λ (ts : List Tuple). Contains ts ends.last) (sym shape) (in_last ends.last (rows_at c.relations at ++ ends.front));
+  there = subst (λ (ts : List Tuple). Contains ts ends.last) (sym shape)
+      (in_last ends.last (rows_at c.relations at ++ ends.front));
 }
   where
     ends : StandEnds d at cells cell rows
@@ -301,7 +315,8 @@ one_less c d at cells cell rows h = record {
     within : at < length d.relations
     within = within_rows d at (rows_at c.relations at ++ ends.front) ends.last shape
 
-    counted : Ends (λ fs. tuples_of fs ≡ rows_at c.relations at ++ ends.front) (λ k. k.row ≡ ends.last) (counted_at d.relations at)
+    counted : Ends (λ fs. tuples_of fs ≡ rows_at c.relations at ++ ends.front) (λ k. k.row ≡ ends.last)
+        (counted_at d.relations at)
     counted = counted_ends (counted_at d.relations at) (rows_at c.relations at ++ ends.front) ends.last shape
 
     fs : List CountedRow
@@ -316,7 +331,8 @@ none_came c d at rows h = record {
   later = h.back;
   same = λ k low. elim (cases_eq k at) [
     | inl e ↦ subst (λ (j : ℕ). rows_at c.relations j ≡ rows_at d.relations j) (sym e)
-        (sym (h.came.rows ∙ ap (λ (ts : List Tuple). rows_at c.relations at ++ ts) (none rows h.came.stand) ∙ append-nil (rows_at c.relations at)))
+        (sym (h.came.rows ∙ ap (λ (ts : List Tuple). rows_at c.relations at ++ ts) (none rows h.came.stand)
+        ∙ append-nil (rows_at c.relations at)))
     | inr other ↦ sym (h.came.others k (omega (arith, low, h.back.long)) other)
   ];
 }

@@ -1,6 +1,7 @@
 -- Answers of a query where rows come into a relation: they only come, and where the query doesn't read
 -- the relation they stay.
-use Rattle.std.proofs.Common.{ℕ, List, [], ◌∷◌, ◌++◌, ◌≡◌, ◌<◌, Bool, true, false, refl, sym, ap, ◌∙◌, subst, inl, inr, arith, length}
+use Rattle.std.proofs.Common.{ℕ, List, [], ◌∷◌, ◌++◌, ◌≡◌, ◌<◌, Bool, true, false, refl, sym, ap}
+use Rattle.std.proofs.Common.{◌∙◌, subst, inl, inr, arith, length}
 use Rattle.std.specs.Prelude.{◌||◌, All, Contains}
 use Rattle.std.specs.List.{list_any}
 use Rattle.std.proofs.lemmas.Bool.{cases_eq, false≢true}
@@ -45,7 +46,8 @@ rows_later c d vs a m later is =
     (let low = is.below in let long = later.long in omega (arith, low, long))
     (later.named m.relation is.below ∙ is.named))
 
-module _ (c d : Catalog) (at : ℕ) (cells : List (List ℕ)) (new : List Tuple) (vs : List Variable) (catalog : IsCatalog c)
+module _ (c d : Catalog) (at : ℕ) (cells : List (List ℕ)) (new : List Tuple) (vs : List Variable)
+    (catalog : IsCatalog c)
     (came : CameAll c d at cells new) where
   atoms_stay : (atoms : List Atom) (ms : List NumberedAtom) → AreAtomsOf c vs atoms ms
       → All (Stays c.relations d.relations) atoms
@@ -58,13 +60,15 @@ module _ (c d : Catalog) (at : ℕ) (cells : List (List ℕ)) (new : List Tuple)
       (more row (subst (λ (rows : List Tuple). Contains rows row) (rows_are c vs a m catalog h.0) there)))
       (atoms_stay atoms ms h.1)
     where
-      more : (row : Tuple) → Contains (rows_at c.relations m.relation) row → Contains (rows_at d.relations m.relation) row
+      more : (row : Tuple) → Contains (rows_at c.relations m.relation) row
+          → Contains (rows_at d.relations m.relation) row
       more row there = elim (cases_eq m.relation at) [
         | inl same ↦ subst (λ (k : ℕ). Contains (rows_at d.relations k) row) (sym same)
             (subst (λ (rows : List Tuple). Contains rows row) (sym came.rows)
             (Contains-append_left (rows_at c.relations at) new row
             (subst (λ (k : ℕ). Contains (rows_at c.relations k) row) same there)))
-        | inr other ↦ subst (λ (rows : List Tuple). Contains rows row) (sym (came.others m.relation h.0.below other)) there
+        | inr other ↦ subst (λ (rows : List Tuple). Contains rows row) (sym (came.others m.relation h.0.below other))
+            there
       ]
 
   atoms_back : (atoms : List Atom) (ms : List NumberedAtom) → AreAtomsOf c vs atoms ms
@@ -74,7 +78,8 @@ module _ (c d : Catalog) (at : ℕ) (cells : List (List ℕ)) (new : List Tuple)
   atoms_back [] (m ∷ ms) h none = absurd h
   atoms_back (a ∷ atoms) [] h none = absurd h
   atoms_back (a ∷ atoms) (m ∷ ms) h none =
-      let parts = either (bytes_eq a.relation (relation_at c.relations at).name) (list_any (λ (b : Atom). bytes_eq b.relation (relation_at c.relations at).name) atoms) none in
+      let parts = either (bytes_eq a.relation (relation_at c.relations at).name)
+      (list_any (λ (b : Atom). bytes_eq b.relation (relation_at c.relations at).name) atoms) none in
       All-cons (Stays d.relations c.relations) a atoms
       (λ row there. subst (λ (rows : List Tuple). Contains rows row) (sym (rows_are c vs a m catalog h.0))
       (subst (λ (rows : List Tuple). Contains rows row) (came.others m.relation h.0.below (other parts.0))
@@ -92,14 +97,16 @@ module _ (c d : Catalog) (at : ℕ) (cells : List (List ℕ)) (new : List Tuple)
           false≢true (sym isnt ∙ (bytes_eq-decides a.relation (relation_at c.relations at).name).1 named)
 
 -- answers only come
-pub came_grows : (c d : Catalog) (at : ℕ) (cells : List (List ℕ)) (new : List Tuple) (q : Query) (n : Numbered) → IsAsked c q n
+pub came_grows : (c d : Catalog) (at : ℕ) (cells : List (List ℕ)) (new : List Tuple) (q : Query) (n : Numbered)
+    → IsAsked c q n
     → CameAll c d at cells new → Grows (IsAnswer c.relations q) (IsAnswer d.relations q)
 came_grows c d at cells new q n asked came =
     answers_stay c.relations d.relations q
     (atoms_stay c d at cells new n.variables asked.catalog came q.atoms n.atoms asked.atoms)
 
 -- and stay where the relation isn't read
-pub came_stays : (c d : Catalog) (at : ℕ) (cells : List (List ℕ)) (new : List Tuple) (q : Query) (n : Numbered) → IsAsked c q n
+pub came_stays : (c d : Catalog) (at : ℕ) (cells : List (List ℕ)) (new : List Tuple) (q : Query) (n : Numbered)
+    → IsAsked c q n
     → CameAll c d at cells new → reads q (relation_at c.relations at).name ≡ false
     → Grows (IsAnswer d.relations q) (IsAnswer c.relations q)
 came_stays c d at cells new q n asked came none =

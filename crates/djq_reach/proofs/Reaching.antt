@@ -1,5 +1,7 @@
 -- What is done to the queries in places, one after another.
-use Rattle.std.proofs.Common.{ℕ, zero, suc, List, [], ◌∷◌, ◌++◌, ◌+◌, ◌≡◌, ◌<◌, ◌≤◌, ◌⊎◌, inl, inr, Bool, true, false, refl, sym, ap, ap₂, ◌∙◌, subst, length, get_or, set, take, arith, length-set}
+use Rattle.std.proofs.Common.{ℕ, zero, suc, List, [], ◌∷◌, ◌++◌, ◌+◌, ◌≡◌, ◌<◌, ◌≤◌, ◌⊎◌, inl, inr}
+use Rattle.std.proofs.Common.{Bool, true, false, refl, sym, ap, ap₂, ◌∙◌, subst, length, get_or}
+use Rattle.std.proofs.Common.{set, take, arith, length-set}
 use Rattle.std.specs.Prelude.{◌==◌, ◌||◌, Option, None, Some, IsSomeAnd}
 use Rattle.std.proofs.lemmas.Bool.{eqb-true, eq-eqb, cases_order, cases_lt, false≢true}
 use Rattle.std.proofs.lemmas.List.{get_or-set_same, get_or-set_other, take_more, get_or_past, get_or_default}
@@ -38,8 +40,10 @@ reach_one Does gs new i l m e is does = record {
       (subst (λ (b : Bool). DoneAt Does b (place_at gs i) (place_at new i)) (sym (only i i ∙ eq-eqb i i refl))
       (subst (λ (o : Option Live). DoneAt Does true o (place_at new i)) (sym e)
       (subst (λ (o : Option Live). DoneAt Does true (Some l) o)
-      (sym (ap (λ (hs : List (Option Live)). place_at hs i) is ∙ get_or-set_same gs i (Some m) None (place_below gs i l e))) does)))
-      (λ j d. subst (λ (b : Bool). DoneAt Does b (place_at gs j) (place_at new j)) (sym (only i j ∙ apart i j (λ s. d (sym s))))
+      (sym (ap (λ (hs : List (Option Live)). place_at hs i) is
+      ∙ get_or-set_same gs i (Some m) None (place_below gs i l e))) does)))
+      (λ j d. subst (λ (b : Bool). DoneAt Does b (place_at gs j) (place_at new j))
+      (sym (only i j ∙ apart i j (λ s. d (sym s))))
       (ap (λ (hs : List (Option Live)). place_at hs j) is ∙ get_or-set_other gs i j (Some m) None d));
 }
 
@@ -49,7 +53,8 @@ reach_none Does gs = record { length = refl; each = λ i. refl }
 
 -- a place more
 pub reach_more : (Does : Live → Live → Type 0) (done : List ℕ) (i : ℕ) (old mid new : List (Option Live))
-    → Reach done Does old mid → Reach (i ∷ []) Does mid new → is_reader done i ≡ false → Reach (done ++ i ∷ []) Does old new
+    → Reach done Does old mid → Reach (i ∷ []) Does mid new → is_reader done i ≡ false
+    → Reach (done ++ i ∷ []) Does old new
 reach_more Does done i old mid new a b out = record {
   length = b.length ∙ a.length;
   each = everywhere (λ j. DoneAt Does (is_reader (done ++ i ∷ []) j) (place_at old j) (place_at new j)) i
@@ -60,18 +65,22 @@ reach_more Does done i old mid new a b out = record {
       (subst (λ (b : Bool). DoneAt Does b (place_at mid i) (place_at new i)) (only i i ∙ eq-eqb i i refl) (b.each i))))
       (λ j d.
       let same : place_at new j ≡ place_at mid j =
-      subst (λ (b : Bool). DoneAt Does b (place_at mid j) (place_at new j)) (only i j ∙ apart i j (λ s. d (sym s))) (b.each j) in
+      subst (λ (b : Bool). DoneAt Does b (place_at mid j) (place_at new j)) (only i j ∙ apart i j (λ s. d (sym s)))
+      (b.each j) in
       subst (λ (b : Bool). DoneAt Does b (place_at old j) (place_at new j))
-      (sym (reader_more done i j ∙ ap (λ b. is_reader done j || b) (apart i j (λ s. d (sym s))) ∙ or_false (is_reader done j)))
+      (sym (reader_more done i j ∙ ap (λ b. is_reader done j || b) (apart i j (λ s. d (sym s)))
+      ∙ or_false (is_reader done j)))
       (subst (λ (o : Option Live). DoneAt Does (is_reader done j) (place_at old j) o) (sym same) (a.each j)));
 }
 
 -- a list of different places, cut at one
-pub once_at : (places : List ℕ) (k d : ℕ) → AreOnce places → k < length places → is_reader (take k places) (get_or places k d) ≡ false
+pub once_at : (places : List ℕ) (k d : ℕ) → AreOnce places → k < length places
+    → is_reader (take k places) (get_or places k d) ≡ false
 once_at [] k d o l = absurd (omega arith)
 once_at (p ∷ places) zero d o l = refl
 once_at (p ∷ places) (suc k) d o l =
-    ap₂ (λ a b. a || b) (apart p (get_or places k d) (λ e. false≢true (sym o.0 ∙ there places k e (omega arith)))) (once_at places k d o.1 (omega arith))
+    ap₂ (λ a b. a || b) (apart p (get_or places k d) (λ e. false≢true (sym o.0 ∙ there places k e (omega arith))))
+    (once_at places k d o.1 (omega arith))
   where
     there : (places : List ℕ) (k : ℕ) → p ≡ get_or places k d → k < length places → is_reader places p ≡ true
     there [] k e l = absurd (omega arith)
@@ -81,10 +90,12 @@ once_at (p ∷ places) (suc k) d o l =
 pub reader_there : (places : List ℕ) (k d : ℕ) → k < length places → is_reader places (get_or places k d) ≡ true
 reader_there [] k d l = absurd (omega arith)
 reader_there (p ∷ places) zero d l = ap (λ b. b || is_reader places p) (eq-eqb p p refl)
-reader_there (p ∷ places) (suc k) d l = ap (λ b. (p == get_or places k d) || b) (reader_there places k d (omega arith)) ∙ or_true (p == get_or places k d)
+reader_there (p ∷ places) (suc k) d l = ap (λ b. (p == get_or places k d) || b) (reader_there places k d (omega arith))
+    ∙ or_true (p == get_or places k d)
 
 -- what holds of a place that isn't reached yet
-pub still : (Does : Live → Live → Type 0) (places : List ℕ) (k d : ℕ) (old now : List (Option Live)) (P : Live → Type 0) → AreOnce places → k < length places
+pub still : (Does : Live → Live → Type 0) (places : List ℕ) (k d : ℕ) (old now : List (Option Live)) (P : Live → Type 0)
+    → AreOnce places → k < length places
     → Reach (take k places) Does old now → AllAt places old P → IsSomeAnd (place_at now (get_or places k d)) P
 still Does places k d old now P o l r all =
     let i = get_or places k d in
@@ -93,8 +104,10 @@ still Does places k d old now P o l r all =
     subst (λ (p : Option Live). IsSomeAnd p P) (sym same) (all i (reader_there places k d l))
 
 -- the loop over places goes on by one
-pub reach_next : (Does : Live → Live → Type 0) (places : List ℕ) (k d : ℕ) (old mid new : List (Option Live)) → AreOnce places → k < length places
-    → Reach (take k places) Does old mid → Reach (get_or places k d ∷ []) Does mid new → Reach (take (k + 1) places) Does old new
+pub reach_next : (Does : Live → Live → Type 0) (places : List ℕ) (k d : ℕ) (old mid new : List (Option Live))
+    → AreOnce places → k < length places
+    → Reach (take k places) Does old mid → Reach (get_or places k d ∷ []) Does mid new
+    → Reach (take (k + 1) places) Does old new
 reach_next Does places k d old mid new o l a b =
     subst (λ (ps : List ℕ). Reach ps Does old new) (sym (take_more places k d l))
     (reach_more Does (take k places) (get_or places k d) old mid new a b (once_at places k d o l))
@@ -108,10 +121,12 @@ below_some gs i P h = by_place (place_at gs i) refl h
     by_place None e k = absurd k
     by_place (Some l) e k = place_below gs i l e
 
-pub place_read : (gs : List (Option Live)) (i : ℕ) (p : Option Live) (l : Live) → i < length gs → p ≡ get_or gs i p → p ≡ Some l → place_at gs i ≡ Some l
+pub place_read : (gs : List (Option Live)) (i : ℕ) (p : Option Live) (l : Live) → i < length gs → p ≡ get_or gs i p → p
+    ≡ Some l → place_at gs i ≡ Some l
 place_read gs i p l low is some = sym (get_or_default gs i p None low) ∙ sym is ∙ some
 
-pub reach_read : (Does : Live → Live → Type 0) (gs : List (Option Live)) (i : ℕ) (p : Option Live) (l m : Live) (P : Live → Type 0) → IsSomeAnd (place_at gs i) P
+pub reach_read : (Does : Live → Live → Type 0) (gs : List (Option Live)) (i : ℕ) (p : Option Live) (l m : Live)
+    (P : Live → Type 0) → IsSomeAnd (place_at gs i) P
     → p ≡ get_or gs i p → p ≡ Some l → Does l m → Reach (i ∷ []) Does gs (set gs i (Some m))
 reach_read Does gs i p l m P h is some does =
     reach_one Does gs (set gs i (Some m)) i l m (place_read gs i p l (below_some gs i P h) is some) refl does
@@ -122,13 +137,16 @@ some_as (Some l) P Q f h = f l h
 
 -- what the conditions of the loops give each query
 
-pub all_come : (places : List ℕ) (at : ℕ) (cells : List ℕ) (gs : List (Option Live)) → CanCome places at cells gs → AllAt places gs (λ l. CanAdd l at cells)
+pub all_come : (places : List ℕ) (at : ℕ) (cells : List ℕ) (gs : List (Option Live)) → CanCome places at cells gs
+    → AllAt places gs (λ l. CanAdd l at cells)
 all_come places at cells gs h i e = some_as (place_at gs i) (λ l. IsKept h.before l) (λ l. CanAdd l at cells)
     (λ l k. record { before = h.before; after = h.after; row = h.row; kept = k; came = h.came }) (h.kept i e)
 
-pub all_go : (places : List ℕ) (at : ℕ) (cells : List ℕ) (gs : List (Option Live)) → CanGo places at cells gs → AllAt places gs (λ l. CanDelete l at cells)
+pub all_go : (places : List ℕ) (at : ℕ) (cells : List ℕ) (gs : List (Option Live)) → CanGo places at cells gs
+    → AllAt places gs (λ l. CanDelete l at cells)
 all_go places at cells gs h i e = some_as (place_at gs i) (λ l. IsKept h.before l) (λ l. CanDelete l at cells)
-    (λ l k. record { before = h.before; after = h.after; row = h.row; kept = k; there = h.there; went = h.went }) (h.kept i e)
+    (λ l k. record { before = h.before; after = h.after; row = h.row; kept = k; there = h.there; went = h.went })
+    (h.kept i e)
 
 pub reader_front : (places : List ℕ) (k i : ℕ) → is_reader (take k places) i ≡ true → is_reader places i ≡ true
 reader_front [] zero i e = e
@@ -136,7 +154,8 @@ reader_front [] (suc k) i e = e
 reader_front (p ∷ places) zero i e = absurd cc
 reader_front (p ∷ places) (suc k) i e = step (p == i) e (reader_front places k i)
   where
-    step : (b : Bool) → (b || is_reader (take k places) i) ≡ true → (is_reader (take k places) i ≡ true → is_reader places i ≡ true) → (b || is_reader places i) ≡ true
+    step : (b : Bool) → (b || is_reader (take k places) i) ≡ true
+        → (is_reader (take k places) i ≡ true → is_reader places i ≡ true) → (b || is_reader places i) ≡ true
     step true f more = refl
     step false f more = more f
 
@@ -151,13 +170,18 @@ once_front (p ∷ places) (suc k) o = (none (is_reader (take k places) p) refl, 
     none false e = refl
 
 -- where one is refused, what was done to those in front of it holds of them
-pub front_kept : (places : List ℕ) (k d : ℕ) (Does Last : Live → Live → Type 0) (P Q : Live → Type 0) (old now new : List (Option Live)) → AreOnce places → k < length places → AllAt places old P
-    → Reach (take k places) Does old now → Reach (get_or places k d ∷ []) Last now new → ((l m : Live) → P l → Does l m → Q m) → AllAt (take k places) new Q
+pub front_kept : (places : List ℕ) (k d : ℕ) (Does Last : Live → Live → Type 0) (P Q : Live → Type 0)
+    (old now new : List (Option Live)) → AreOnce places → k < length places → AllAt places old P
+    → Reach (take k places) Does old now → Reach (get_or places k d ∷ []) Last now new
+    → ((l m : Live) → P l → Does l m → Q m) → AllAt (take k places) new Q
 front_kept places k d Does Last P Q old now new o low h r last turns i e =
     let same : place_at new i ≡ place_at now i =
-    subst (λ (b : Bool). DoneAt Last b (place_at now i) (place_at new i)) (only (get_or places k d) i ∙ apart_last) (last.each i) in
+    subst (λ (b : Bool). DoneAt Last b (place_at now i) (place_at new i)) (only (get_or places k d) i ∙ apart_last)
+    (last.each i) in
     subst (λ (q : Option Live). IsSomeAnd q Q) (sym same)
-    (done (place_at old i) (place_at now i) (subst (λ (b : Bool). DoneAt Does b (place_at old i) (place_at now i)) e (r.each i)) (h i (reader_front places k i e)))
+    (done (place_at old i) (place_at now i)
+    (subst (λ (b : Bool). DoneAt Does b (place_at old i) (place_at now i)) e (r.each i))
+    (h i (reader_front places k i e)))
   where
     apart_last : (get_or places k d == i) ≡ false
     apart_last = apart (get_or places k d) i (λ s.
@@ -170,15 +194,18 @@ front_kept places k d Does Last P Q old now new o low h r last turns i e =
     done (Some l) (Some m) t k' = turns l m k' t
 
 -- they can give back
-pub front_goes : (places : List ℕ) (k d at : ℕ) (cells : List ℕ) (old now new : List (Option Live)) → AreOnce places → k < length places → CanCome places at cells old
-    → Reach (take k places) (TakesIn at cells) old now → Reach (get_or places k d ∷ []) Remains now new → CanGo (take k places) at cells new
+pub front_goes : (places : List ℕ) (k d at : ℕ) (cells : List ℕ) (old now new : List (Option Live)) → AreOnce places
+    → k < length places → CanCome places at cells old
+    → Reach (take k places) (TakesIn at cells) old now → Reach (get_or places k d ∷ []) Remains now new
+    → CanGo (take k places) at cells new
 front_goes places k d at cells old now new o low h r last = record {
   before = h.after;
   after = h.before;
   row = h.row;
   there = h.there;
   went = h.went;
-  kept = front_kept places k d (TakesIn at cells) Remains (λ l. IsKept h.before l) (λ l. IsKept h.after l) old now new o low h.kept r last
+  kept = front_kept places k d (TakesIn at cells) Remains (λ l. IsKept h.before l) (λ l. IsKept h.after l) old now new o
+      low h.kept r last
       (λ l m k' t. t.follows h.before h.after h.row k' h.came);
 }
 
@@ -195,8 +222,10 @@ same_then l m n s t = record {
 }
 
 -- What was done to some of the places and undone again: to those in front of one, which refused it.
-pub done_back : (places : List ℕ) (k d : ℕ) (Does Last Back Out : Live → Live → Type 0) (old now mid new : List (Option Live)) → AreOnce places → k < length places
-    → Reach (take k places) Does old now → Reach (get_or places k d ∷ []) Last now mid → Reach (take k places) Back mid new
+pub done_back : (places : List ℕ) (k d : ℕ) (Does Last Back Out : Live → Live → Type 0)
+    (old now mid new : List (Option Live)) → AreOnce places → k < length places
+    → Reach (take k places) Does old now → Reach (get_or places k d ∷ []) Last now mid
+    → Reach (take k places) Back mid new
     → ((l m n : Live) → Does l m → Back m n → Out l n) → ((l m : Live) → Last l m → Out l m) → ((l : Live) → Out l l)
     → Reach places Out old new
 done_back places k d Does Last Back Out old now mid new o low a b c two refused itself = record {
@@ -225,26 +254,36 @@ done_back places k d Does Last Back Out old now mid new o low a b c two refused 
     none true (Some l) None e = absurd cc
     none true (Some l) (Some m) e = subst (λ (q : Option Live). DoneAt Out true (Some l) q) (sym e) (itself l)
 
-    by_last : (i : ℕ) → is_reader (take k places) i ≡ false → (f : Bool) → (get_or places k d == i) ≡ f → DoneAt Out (is_reader places i) (place_at old i) (place_at new i)
+    by_last : (i : ℕ) → is_reader (take k places) i ≡ false → (f : Bool) → (get_or places k d == i) ≡ f
+        → DoneAt Out (is_reader places i) (place_at old i) (place_at new i)
     by_last i e true f =
-        let first : place_at now i ≡ place_at old i = subst (λ (b : Bool). DoneAt Does b (place_at old i) (place_at now i)) e (a.each i) in
-        let end : place_at new i ≡ place_at mid i = subst (λ (b : Bool). DoneAt Back b (place_at mid i) (place_at new i)) e (c.each i) in
-        let here : is_reader places i ≡ true = ap (is_reader places) (sym (eqb-true (get_or places k d) i f)) ∙ reader_there places k d low in
+        let first : place_at now i
+        ≡ place_at old i = subst (λ (b : Bool). DoneAt Does b (place_at old i) (place_at now i)) e (a.each i) in
+        let end : place_at new i
+        ≡ place_at mid i = subst (λ (b : Bool). DoneAt Back b (place_at mid i) (place_at new i)) e (c.each i) in
+        let here : is_reader places i ≡ true = ap (is_reader places) (sym (eqb-true (get_or places k d) i f))
+        ∙ reader_there places k d low in
         subst (λ (b : Bool). DoneAt Out b (place_at old i) (place_at new i)) (sym here)
         (subst (λ (q : Option Live). DoneAt Out true (place_at old i) q) (sym end)
         (subst (λ (p : Option Live). DoneAt Out true p (place_at mid i)) first
-        (one (place_at now i) (place_at mid i) (subst (λ (b : Bool). DoneAt Last b (place_at now i) (place_at mid i)) (only (get_or places k d) i ∙ f) (b.each i)))))
+        (one (place_at now i) (place_at mid i)
+        (subst (λ (b : Bool). DoneAt Last b (place_at now i) (place_at mid i)) (only (get_or places k d) i ∙ f)
+        (b.each i)))))
     by_last i e false f =
         none (is_reader places i) (place_at old i) (place_at new i)
         (subst (λ (b : Bool). DoneAt Back b (place_at mid i) (place_at new i)) e (c.each i)
-        ∙ subst (λ (b : Bool). DoneAt Last b (place_at now i) (place_at mid i)) (only (get_or places k d) i ∙ f) (b.each i)
+        ∙ subst (λ (b : Bool). DoneAt Last b (place_at now i) (place_at mid i)) (only (get_or places k d) i ∙ f)
+        (b.each i)
         ∙ subst (λ (b : Bool). DoneAt Does b (place_at old i) (place_at now i)) e (a.each i))
 
-    by_front : (i : ℕ) (e : Bool) → is_reader (take k places) i ≡ e → DoneAt Out (is_reader places i) (place_at old i) (place_at new i)
+    by_front : (i : ℕ) (e : Bool) → is_reader (take k places) i ≡ e
+        → DoneAt Out (is_reader places i) (place_at old i) (place_at new i)
     by_front i true e =
         let other : (get_or places k d == i) ≡ false = apart (get_or places k d) i (λ s.
         false≢true (sym (once_at places k d o low) ∙ ap (is_reader (take k places)) s ∙ e)) in
-        let middle : place_at mid i ≡ place_at now i = subst (λ (b : Bool). DoneAt Last b (place_at now i) (place_at mid i)) (only (get_or places k d) i ∙ other) (b.each i) in
+        let middle : place_at mid i
+        ≡ place_at now i = subst (λ (b : Bool). DoneAt Last b (place_at now i) (place_at mid i))
+        (only (get_or places k d) i ∙ other) (b.each i) in
         subst (λ (b : Bool). DoneAt Out b (place_at old i) (place_at new i)) (sym (reader_front places k i e))
         (both (place_at old i) (place_at now i) (place_at new i)
         (subst (λ (b : Bool). DoneAt Does b (place_at old i) (place_at now i)) e (a.each i))
@@ -253,8 +292,10 @@ done_back places k d Does Last Back Out old now mid new o low a b c two refused 
     by_front i false e = by_last i e (get_or places k d == i) refl
 
 -- a row that came into some of the places and went again
-pub given_back : (places : List ℕ) (k d at : ℕ) (cells : List ℕ) (old now mid new : List (Option Live)) → AreOnce places → k < length places
-    → Reach (take k places) (TakesIn at cells) old now → Reach (get_or places k d ∷ []) Remains now mid → Reach (take k places) (LetsOut at cells) mid new
+pub given_back : (places : List ℕ) (k d at : ℕ) (cells : List ℕ) (old now mid new : List (Option Live)) → AreOnce places
+    → k < length places
+    → Reach (take k places) (TakesIn at cells) old now → Reach (get_or places k d ∷ []) Remains now mid
+    → Reach (take k places) (LetsOut at cells) mid new
     → Reach places (GivesBack at cells) old new
 given_back places k d at cells old now mid new o low a b c =
     done_back places k d (TakesIn at cells) Remains (LetsOut at cells) (GivesBack at cells) old now mid new o low a b c

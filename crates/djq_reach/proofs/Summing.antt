@@ -1,5 +1,7 @@
 -- Sums over places and groups.
-use Rattle.std.proofs.Common.{ℕ, List, [], ◌∷◌, ◌++◌, ◌+◌, ◌-◌, ◌*◌, ◌≡◌, ◌<◌, ◌≤◌, Bool, true, false, cond, refl, sym, ap, ◌∙◌, subst, length, take, arith, mul-le-mul_left}
+use Rattle.std.proofs.Common.{ℕ, List, [], ◌∷◌, ◌++◌, ◌+◌, ◌-◌, ◌*◌, ◌≡◌, ◌<◌, ◌≤◌, Bool, true}
+use Rattle.std.proofs.Common.{false, cond, refl, sym, ap, ◌∙◌, subst, length, take, arith}
+use Rattle.std.proofs.Common.{mul-le-mul_left}
 use Rattle.std.specs.Prelude.{◌==◌, Option, None, Some, IsSomeAnd, sum_by}
 use Rattle.std.proofs.lemmas.Bool.{eqb-true, false≢true}
 use Rattle.std.proofs.lemmas.List.Sums.{sum_by-cons, sum_by-append, sum_by_more}
@@ -30,7 +32,8 @@ pub work_same : (ps : List ℕ) (gs hs : List (Option Live)) (at times n i : ℕ
     → work_of at times n false (place_at hs i) ≡ work_of at times n false (place_at gs i)
 work_same ps gs hs at times n i r = by (is_reader ps i) (place_at gs i) (place_at hs i) (r.each i)
   where
-    by : (b : Bool) (p q : Option Live) → DoneAt SameQuery b p q → work_of at times n false q ≡ work_of at times n false p
+    by : (b : Bool) (p q : Option Live) → DoneAt SameQuery b p q → work_of at times n false q
+        ≡ work_of at times n false p
     by false p q e = ap (work_of at times n false) e
     by true None None t = refl
     by true None (Some m) t = absurd t
@@ -44,11 +47,13 @@ works_same ps places gs hs at times n r =
     (λ i e. let same = work_same ps gs hs at times n i r in omega (arith, same))
 
 -- the groups that are left
-pub sums_left : (F : Group → ℕ) (groups : List Group) (left : ℕ) (g : Group) (before x y : ℕ) → 0 < left → left ≤ length groups
+pub sums_left : (F : Group → ℕ) (groups : List Group) (left : ℕ) (g : Group) (before x y : ℕ) → 0 < left
+    → left ≤ length groups
     → sum_by F (take (left - 1 + 1) groups) ≡ sum_by F (take (left - 1) groups) + F g
     → x + sum_by F (take left groups) ≤ before + sum_by F groups → y ≤ x + F g
     → y + sum_by F (take (left - 1) groups) ≤ before + sum_by F groups
 sums_left F groups left g before x y some low more whole step =
     let same : left ≡ left - 1 + 1 = omega (arith, some) in
-    let even : sum_by F (take left groups) ≡ sum_by F (take (left - 1 + 1) groups) = ap (λ (n : ℕ). sum_by F (take n groups)) same in
+    let even : sum_by F (take left groups)
+    ≡ sum_by F (take (left - 1 + 1) groups) = ap (λ (n : ℕ). sum_by F (take n groups)) same in
     omega (arith, more, whole, step, even)

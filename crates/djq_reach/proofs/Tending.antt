@@ -1,6 +1,9 @@
 -- What is done to the logs of the queries in places, one after another, and what listing counts.
-use Rattle.std.proofs.Common.{ℕ, zero, suc, List, [], ◌∷◌, ◌++◌, ◌+◌, ◌≡◌, ◌≢◌, ◌<◌, inl, inr, Bool, true, false, refl, sym, ap, ◌∙◌, subst, length, get_or, set, take, arith, length-set}
-use Rattle.std.specs.Prelude.{◌==◌, ◌||◌, ◌&&◌, Option, None, Some, IsSomeAnd, cond, map, nat_lt, All, Result, Ok, Err, OnOk, OnErr}
+use Rattle.std.proofs.Common.{ℕ, zero, suc, List, [], ◌∷◌, ◌++◌, ◌+◌, ◌≡◌, ◌≢◌, ◌<◌, inl, inr, Bool}
+use Rattle.std.proofs.Common.{true, false, refl, sym, ap, ◌∙◌, subst, length, get_or, set, take}
+use Rattle.std.proofs.Common.{arith, length-set}
+use Rattle.std.specs.Prelude.{◌==◌, ◌||◌, ◌&&◌, Option, None, Some, IsSomeAnd, cond, map, nat_lt}
+use Rattle.std.specs.Prelude.{All, Result, Ok, Err, OnOk, OnErr}
 use Rattle.std.proofs.lemmas.Bool.{eqb-true, eq-eqb, false≢true}
 use Rattle.std.proofs.lemmas.List.{get_or-set_same, get_or-set_other, take_more, get_or_default}
 use Rattle.std.proofs.lemmas.List.Sums.{sum_by-cons, sum_by-append, sum_by-take-le}
@@ -12,7 +15,8 @@ use Rattle.djq_live.specs.Live.{Live, IsKept, IsShowable}
 use Rattle.djq_live.specs.Updating.{change_of, IsDeltaOf, delta_bound, LogsWhere, CountsDelta, IsEmpty}
 use Rattle.djq_reach.specs.Places.{place_at, is_reader, log_at, no_log, watched_at, AreOnce}
 use Rattle.djq_reach.specs.Reaching.{DoneAt, Reach, AllAt}
-use Rattle.djq_reach.specs.Tending.{Readies, TellsWhere, TellsAt, Shows, TendedAt, Tends, Empties, cost_of, cost_at, Costs}
+use Rattle.djq_reach.specs.Tending.{Readies, TellsWhere, TellsAt, Shows, TendedAt, Tends, Empties}
+use Rattle.djq_reach.specs.Tending.{cost_of, cost_at, Costs}
 use Rattle.djq_reach.proofs.Among.{apart, reader_more, or_true, or_false}
 use Rattle.djq_reach.proofs.Reaching.{below_some, everywhere, only, once_at, reader_there}
 
@@ -22,13 +26,15 @@ reader_front [] (suc k) i e = e
 reader_front (p ∷ places) zero i e = absurd (false≢true e)
 reader_front (p ∷ places) (suc k) i e = step (p == i) e (reader_front places k i)
   where
-    step : (b : Bool) → (b || is_reader (take k places) i) ≡ true → (is_reader (take k places) i ≡ true → is_reader places i ≡ true) → (b || is_reader places i) ≡ true
+    step : (b : Bool) → (b || is_reader (take k places) i) ≡ true
+        → (is_reader (take k places) i ≡ true → is_reader places i ≡ true) → (b || is_reader places i) ≡ true
     step true f more = refl
     step false f more = more f
 
 -- ---- one log
 
-pub tells_where : {R : Type 0} (Changed : Catalog → Catalog → R → Type 0) (b : Bool) (l : Live) (old mid new : Log) → Readies b old mid → LogsWhere b Changed l mid new → TellsWhere b Changed l old new
+pub tells_where : {R : Type 0} (Changed : Catalog → Catalog → R → Type 0) (b : Bool) (l : Live) (old mid new : Log)
+    → Readies b old mid → LogsWhere b Changed l mid new → TellsWhere b Changed l old new
 tells_where Changed true l old mid new r h = record {
   tells = λ e c d row k ch. subst (λ (ls : List Line). IsDeltaOf l c d (map (change_of d.texts l) ls))
       (sym (h.behind e ∙ ap (λ (xs : List Line). xs ++ h.lines) r.lines)) (h.tells e c d row k ch);
@@ -38,18 +44,22 @@ tells_where Changed true l old mid new r h = record {
 tells_where Changed false l old mid new r h = h ∙ r
 
 -- a log that tells anew, or is as it was, or empty, can be shown
-pub shows_where : (Changed : Catalog → Catalog → Tuple → Type 0) (b : Bool) (i : ℕ) (l : Live) (old new : Log) → TellsWhere b Changed l old new → Shows Changed i l old new
+pub shows_where : (Changed : Catalog → Catalog → Tuple → Type 0) (b : Bool) (i : ℕ) (l : Live) (old new : Log)
+    → TellsWhere b Changed l old new → Shows Changed i l old new
 shows_where Changed true i l old new h = inr h.shown
 shows_where Changed false i l old new h = inl h
 
 pub all_none : (P : Line → Type 0) (xs : List Line) → xs ≡ [] → All P xs
 all_none P xs e = subst (λ (ys : List Line). All P ys) (sym e) (λ k d low. absurd (omega (arith, low)))
 
-pub shows_none : (Changed : Catalog → Catalog → Tuple → Type 0) (i : ℕ) (l : Live) (old new : Log) → new.lines ≡ [] → Shows Changed i l old new
+pub shows_none : (Changed : Catalog → Catalog → Tuple → Type 0) (i : ℕ) (l : Live) (old new : Log) → new.lines ≡ []
+    → Shows Changed i l old new
 shows_none Changed i l old new e = inr (λ kept c d row k ch. all_none (λ x. IsShowable d.texts l x.answer) new.lines e)
 
 -- either way
-pub shows_either : {A E : Type 0} (Changed : Catalog → Catalog → Tuple → Type 0) (b : Bool) (i : ℕ) (l : Live) (old new : Log) (r : Result A E) → OnOk r (TellsWhere b Changed l old new) → OnErr r (new.lines ≡ []) → Shows Changed i l old new
+pub shows_either : {A E : Type 0} (Changed : Catalog → Catalog → Tuple → Type 0) (b : Bool) (i : ℕ) (l : Live)
+    (old new : Log) (r : Result A E) → OnOk r (TellsWhere b Changed l old new) → OnErr r (new.lines ≡ [])
+    → Shows Changed i l old new
 shows_either Changed b i l old new (Ok a) h e = shows_where Changed b i l old new h
 shows_either Changed b i l old new (Err x) h e = shows_none Changed i l old new e
 
@@ -77,85 +87,114 @@ on_refused (Ok a) f h k = tt
 on_refused (Err e) f h k = f h k
 
 -- a place that is to be reached is there
-pub place_within : (places : List ℕ) (k d : ℕ) (gs : List (Option Live)) (P : Live → Type 0) → k < length places → AllAt places gs P → get_or places k d < length gs
-place_within places k d gs P low all = below_some gs (get_or places k d) P (all (get_or places k d) (reader_there places k d low))
+pub place_within : (places : List ℕ) (k d : ℕ) (gs : List (Option Live)) (P : Live → Type 0) → k < length places
+    → AllAt places gs P → get_or places k d < length gs
+place_within places k d gs P low all = below_some gs (get_or places k d) P
+    (all (get_or places k d) (reader_there places k d low))
 
 -- ---- logs in places
 
-pub tends_one : (Does : ℕ → Live → Log → Log → Type 0) (gs : List (Option Live)) (logs : List Log) (i : ℕ) (l : Live) (m : Log) → i < length logs → place_at gs i ≡ Some l
+pub tends_one : (Does : ℕ → Live → Log → Log → Type 0) (gs : List (Option Live)) (logs : List Log) (i : ℕ) (l : Live)
+    (m : Log) → i < length logs → place_at gs i ≡ Some l
     → Does i l (log_at logs i) m → Tends (i ∷ []) Does gs logs (set logs i m)
 tends_one Does gs logs i l m low e does = record {
   long = length-set logs i m;
-  each = everywhere (λ j. TendedAt (Does j) (is_reader (i ∷ []) j) (place_at gs j) (log_at logs j) (log_at (set logs i m) j)) i
-      (subst (λ (b : Bool). TendedAt (Does i) b (place_at gs i) (log_at logs i) (log_at (set logs i m) i)) (sym (only i i ∙ eq-eqb i i refl))
+  each = everywhere (λ j. TendedAt (Does j) (is_reader (i ∷ []) j) (place_at gs j) (log_at logs j)
+      (log_at (set logs i m) j)) i
+      (subst (λ (b : Bool). TendedAt (Does i) b (place_at gs i) (log_at logs i) (log_at (set logs i m) i))
+      (sym (only i i ∙ eq-eqb i i refl))
       (subst (λ (o : Option Live). TendedAt (Does i) true o (log_at logs i) (log_at (set logs i m) i)) (sym e)
       (subst (λ (x : Log). Does i l (log_at logs i) x) (sym (get_or-set_same logs i m no_log low)) does)))
-      (λ j d. subst (λ (b : Bool). TendedAt (Does j) b (place_at gs j) (log_at logs j) (log_at (set logs i m) j)) (sym (only i j ∙ apart i j (λ s. d (sym s))))
+      (λ j d. subst (λ (b : Bool). TendedAt (Does j) b (place_at gs j) (log_at logs j) (log_at (set logs i m) j))
+      (sym (only i j ∙ apart i j (λ s. d (sym s))))
       (get_or-set_other logs i j m no_log d));
 }
 
 -- the log in a place, as the code reads it
-pub tends_read : (Does : ℕ → Live → Log → Log → Type 0) (gs : List (Option Live)) (logs : List Log) (i : ℕ) (l : Live) (log m : Log) → i < length logs → place_at gs i ≡ Some l
+pub tends_read : (Does : ℕ → Live → Log → Log → Type 0) (gs : List (Option Live)) (logs : List Log) (i : ℕ) (l : Live)
+    (log m : Log) → i < length logs → place_at gs i ≡ Some l
     → log ≡ get_or logs i log → Does i l log m → Tends (i ∷ []) Does gs logs (set logs i m)
-tends_read Does gs logs i l log m low e is does = tends_one Does gs logs i l m low e (subst (λ (x : Log). Does i l x m) (log_read logs i log low is) does)
+tends_read Does gs logs i l log m low e is does = tends_one Does gs logs i l m low e
+    (subst (λ (x : Log). Does i l x m) (log_read logs i log low is) does)
 
-pub tends_none : (Does : ℕ → Live → Log → Log → Type 0) (gs : List (Option Live)) (logs : List Log) → Tends [] Does gs logs logs
+pub tends_none : (Does : ℕ → Live → Log → Log → Type 0) (gs : List (Option Live)) (logs : List Log)
+    → Tends [] Does gs logs logs
 tends_none Does gs logs = record { long = refl; each = λ i. refl }
 
-pub tends_more : (Does : ℕ → Live → Log → Log → Type 0) (done : List ℕ) (i : ℕ) (gs hs : List (Option Live)) (old mid new : List Log)
-    → Tends done Does gs old mid → Tends (i ∷ []) Does hs mid new → place_at hs i ≡ place_at gs i → is_reader done i ≡ false → Tends (done ++ i ∷ []) Does gs old new
+pub tends_more : (Does : ℕ → Live → Log → Log → Type 0) (done : List ℕ) (i : ℕ) (gs hs : List (Option Live))
+    (old mid new : List Log)
+    → Tends done Does gs old mid → Tends (i ∷ []) Does hs mid new → place_at hs i ≡ place_at gs i → is_reader done i
+    ≡ false → Tends (done ++ i ∷ []) Does gs old new
 tends_more Does done i gs hs old mid new a b same out = record {
   long = b.long ∙ a.long;
-  each = everywhere (λ j. TendedAt (Does j) (is_reader (done ++ i ∷ []) j) (place_at gs j) (log_at old j) (log_at new j)) i
+  each = everywhere (λ j. TendedAt (Does j) (is_reader (done ++ i ∷ []) j) (place_at gs j) (log_at old j)
+      (log_at new j)) i
       (subst (λ (t : Bool). TendedAt (Does i) t (place_at gs i) (log_at old i) (log_at new i))
       (sym (reader_more done i i ∙ ap (λ t. is_reader done i || t) (eq-eqb i i refl) ∙ or_true (is_reader done i)))
       (subst (λ (o : Option Live). TendedAt (Does i) true o (log_at old i) (log_at new i)) same
       (subst (λ (x : Log). TendedAt (Does i) true (place_at hs i) x (log_at new i))
       (subst (λ (t : Bool). TendedAt (Does i) t (place_at gs i) (log_at old i) (log_at mid i)) out (a.each i))
-      (subst (λ (t : Bool). TendedAt (Does i) t (place_at hs i) (log_at mid i) (log_at new i)) (only i i ∙ eq-eqb i i refl) (b.each i)))))
+      (subst (λ (t : Bool). TendedAt (Does i) t (place_at hs i) (log_at mid i) (log_at new i))
+      (only i i ∙ eq-eqb i i refl) (b.each i)))))
       (λ j d.
       let kept : log_at new j ≡ log_at mid j =
-      subst (λ (t : Bool). TendedAt (Does j) t (place_at hs j) (log_at mid j) (log_at new j)) (only i j ∙ apart i j (λ s. d (sym s))) (b.each j) in
+      subst (λ (t : Bool). TendedAt (Does j) t (place_at hs j) (log_at mid j) (log_at new j))
+      (only i j ∙ apart i j (λ s. d (sym s))) (b.each j) in
       subst (λ (t : Bool). TendedAt (Does j) t (place_at gs j) (log_at old j) (log_at new j))
-      (sym (reader_more done i j ∙ ap (λ t. is_reader done j || t) (apart i j (λ s. d (sym s))) ∙ or_false (is_reader done j)))
-      (subst (λ (x : Log). TendedAt (Does j) (is_reader done j) (place_at gs j) (log_at old j) x) (sym kept) (a.each j)));
+      (sym (reader_more done i j ∙ ap (λ t. is_reader done j || t) (apart i j (λ s. d (sym s)))
+      ∙ or_false (is_reader done j)))
+      (subst (λ (x : Log). TendedAt (Does j) (is_reader done j) (place_at gs j) (log_at old j) x) (sym kept)
+      (a.each j)));
 }
 
 -- a place that isn't reached yet
-pub unreached : (R : Live → Live → Type 0) (places : List ℕ) (k d : ℕ) (old now : List (Option Live)) → AreOnce places → k < length places
+pub unreached : (R : Live → Live → Type 0) (places : List ℕ) (k d : ℕ) (old now : List (Option Live)) → AreOnce places
+    → k < length places
     → Reach (take k places) R old now → place_at now (get_or places k d) ≡ place_at old (get_or places k d)
-unreached R places k d old now o l r = subst (λ (b : Bool). DoneAt R b (place_at old (get_or places k d)) (place_at now (get_or places k d))) (once_at places k d o l) (r.each (get_or places k d))
+unreached R places k d old now o l r = subst
+    (λ (b : Bool). DoneAt R b (place_at old (get_or places k d)) (place_at now (get_or places k d)))
+    (once_at places k d o l) (r.each (get_or places k d))
 
-pub tends_next : (R : Live → Live → Type 0) (Does : ℕ → Live → Log → Log → Type 0) (places : List ℕ) (k d : ℕ) (gs hs : List (Option Live)) (old mid new : List Log) → AreOnce places → k < length places
-    → Reach (take k places) R gs hs → Tends (take k places) Does gs old mid → Tends (get_or places k d ∷ []) Does hs mid new → Tends (take (k + 1) places) Does gs old new
+pub tends_next : (R : Live → Live → Type 0) (Does : ℕ → Live → Log → Log → Type 0) (places : List ℕ) (k d : ℕ)
+    (gs hs : List (Option Live)) (old mid new : List Log) → AreOnce places → k < length places
+    → Reach (take k places) R gs hs → Tends (take k places) Does gs old mid
+    → Tends (get_or places k d ∷ []) Does hs mid new → Tends (take (k + 1) places) Does gs old new
 tends_next R Does places k d gs hs old mid new o l r a b =
     subst (λ (ps : List ℕ). Tends ps Does gs old new) (sym (take_more places k d l))
-    (tends_more Does (take k places) (get_or places k d) gs hs old mid new a b (unreached R places k d gs hs o l r) (once_at places k d o l))
+    (tends_more Does (take k places) (get_or places k d) gs hs old mid new a b (unreached R places k d gs hs o l r)
+    (once_at places k d o l))
 
-pub tends_as : (Does Do : ℕ → Live → Log → Log → Type 0) (ps : List ℕ) (gs : List (Option Live)) (old new : List Log) → ((i : ℕ) (l : Live) (x y : Log) → Does i l x y → Do i l x y)
+pub tends_as : (Does Do : ℕ → Live → Log → Log → Type 0) (ps : List ℕ) (gs : List (Option Live)) (old new : List Log)
+    → ((i : ℕ) (l : Live) (x y : Log) → Does i l x y → Do i l x y)
     → Tends ps Does gs old new → Tends ps Do gs old new
 tends_as Does Do ps gs old new f t = record {
   long = t.long;
   each = λ i. by_place i (is_reader ps i) (place_at gs i) (t.each i);
 }
   where
-    by_place : (i : ℕ) (b : Bool) (o : Option Live) → TendedAt (Does i) b o (log_at old i) (log_at new i) → TendedAt (Do i) b o (log_at old i) (log_at new i)
+    by_place : (i : ℕ) (b : Bool) (o : Option Live) → TendedAt (Does i) b o (log_at old i) (log_at new i)
+        → TendedAt (Do i) b o (log_at old i) (log_at new i)
     by_place i false o h = h
     by_place i true None h = tt
     by_place i true (Some l) h = f i l (log_at old i) (log_at new i) h
 
-pub tells_show : (Changed : Catalog → Catalog → Tuple → Type 0) (ws ps : List ℕ) (gs : List (Option Live)) (old new : List Log) → Tends ps (TellsAt ws Changed) gs old new → Tends ps (Shows Changed) gs old new
+pub tells_show : (Changed : Catalog → Catalog → Tuple → Type 0) (ws ps : List ℕ) (gs : List (Option Live))
+    (old new : List Log) → Tends ps (TellsAt ws Changed) gs old new → Tends ps (Shows Changed) gs old new
 tells_show Changed ws ps gs old new t =
-    tends_as (TellsAt ws Changed) (Shows Changed) ps gs old new (λ i l x y h. shows_where Changed (watched_at ws i) i l x y h) t
+    tends_as (TellsAt ws Changed) (Shows Changed) ps gs old new
+    (λ i l x y h. shows_where Changed (watched_at ws i) i l x y h) t
 
 -- where only the front of the places was reached
-pub shows_front : (Changed : Catalog → Catalog → Tuple → Type 0) (places : List ℕ) (k : ℕ) (gs : List (Option Live)) (old new : List Log) → Tends (take k places) (Shows Changed) gs old new → Tends places (Shows Changed) gs old new
+pub shows_front : (Changed : Catalog → Catalog → Tuple → Type 0) (places : List ℕ) (k : ℕ) (gs : List (Option Live))
+    (old new : List Log) → Tends (take k places) (Shows Changed) gs old new → Tends places (Shows Changed) gs old new
 shows_front Changed places k gs old new t = record {
   long = t.long;
   each = λ i. by_front i (is_reader (take k places) i) refl (is_reader places i) refl (place_at gs i) (t.each i);
 }
   where
-    by_front : (i : ℕ) (a : Bool) → is_reader (take k places) i ≡ a → (b : Bool) → is_reader places i ≡ b → (o : Option Live) → TendedAt (Shows Changed i) a o (log_at old i) (log_at new i) → TendedAt (Shows Changed i) b o (log_at old i) (log_at new i)
+    by_front : (i : ℕ) (a : Bool) → is_reader (take k places) i ≡ a → (b : Bool) → is_reader places i ≡ b
+        → (o : Option Live) → TendedAt (Shows Changed i) a o (log_at old i) (log_at new i)
+        → TendedAt (Shows Changed i) b o (log_at old i) (log_at new i)
     by_front i false e false f o h = h
     by_front i false e true f None h = tt
     by_front i false e true f (Some l) h = inl h
@@ -218,7 +257,8 @@ empties_next places k d i old mid m low at within a none = record {
 -- ---- what listing counts
 
 -- nothing, where nobody watches
-pub lists_nothing : {R : Type 0} (Changed : Catalog → Catalog → R → Type 0) (l : Live) (b : Bool) (at before now : ℕ) → b ≡ false → CountsDelta b Changed l at before now → now ≡ before
+pub lists_nothing : {R : Type 0} (Changed : Catalog → Catalog → R → Type 0) (l : Live) (b : Bool) (at before now : ℕ)
+    → b ≡ false → CountsDelta b Changed l at before now → now ≡ before
 lists_nothing Changed l true at before now e h = absurd (false≢true (sym e))
 lists_nothing Changed l false at before now e h = h
 
@@ -226,26 +266,34 @@ module _ {R : Type 0} (Changed : Catalog → Catalog → R → Type 0) (ws : Lis
   pub costs_none : (gs : List (Option Live)) (n : ℕ) → Costs Changed [] ws gs at n n
   costs_none gs n c d row f ch kept deltas = omega arith
 
-  pub costs_one : (gs : List (Option Live)) (i : ℕ) (l : Live) (b : Bool) (before now : ℕ) → place_at gs i ≡ Some l → b ≡ watched_at ws i → CountsDelta b Changed l at before now
+  pub costs_one : (gs : List (Option Live)) (i : ℕ) (l : Live) (b : Bool) (before now : ℕ) → place_at gs i ≡ Some l → b
+      ≡ watched_at ws i → CountsDelta b Changed l at before now
       → Costs Changed (i ∷ []) ws gs at before now
   costs_one gs i l true before now there w h c d row f ch kept deltas =
       let mine : is_reader (i ∷ []) i ≡ true = only i i ∙ eq-eqb i i refl in
       let k : IsKept c l = subst (λ (o : Option Live). IsSomeAnd o (λ x. IsKept c x)) there (kept i mine) in
       let bound = h c d row (f i) k ch (deltas i l mine (sym w) there) in
-      let cost : cost_at ws gs at f i ≡ delta_bound l at (f i) = ap (λ t. cond t (cost_of at (f i) (place_at gs i)) 0) (sym w) ∙ ap (cost_of at (f i)) there in
+      let cost : cost_at ws gs at f i
+      ≡ delta_bound l at (f i) = ap (λ t. cond t (cost_of at (f i) (place_at gs i)) 0) (sym w)
+      ∙ ap (cost_of at (f i)) there in
       let total = sum_by-cons (cost_at ws gs at f) i [] in
       omega (arith, bound, cost, total)
   costs_one gs i l false before now there w h c d row f ch kept deltas = omega (arith, h)
 
-  pub costs_more : (done : List ℕ) (i : ℕ) (gs hs : List (Option Live)) (before mid now : ℕ) → place_at hs i ≡ place_at gs i
-      → Costs Changed done ws gs at before mid → Costs Changed (i ∷ []) ws hs at mid now → Costs Changed (done ++ i ∷ []) ws gs at before now
+  pub costs_more : (done : List ℕ) (i : ℕ) (gs hs : List (Option Live)) (before mid now : ℕ) → place_at hs i
+      ≡ place_at gs i
+      → Costs Changed done ws gs at before mid → Costs Changed (i ∷ []) ws hs at mid now
+      → Costs Changed (done ++ i ∷ []) ws gs at before now
   costs_more done i gs hs before mid now same a b c d row f ch kept deltas =
       let first = a c d row f ch (λ j e. kept j (in_front j e)) (λ j l e. deltas j l (in_front j e)) in
       let here : (j : ℕ) → is_reader (i ∷ []) j ≡ true → i ≡ j = λ j e. eqb-true i j (sym (only i j) ∙ e) in
       let last = b c d row f ch
-      (λ j e. subst (λ (k : ℕ). IsSomeAnd (place_at hs k) (λ l. IsKept c l)) (here j e) (subst (λ (o : Option Live). IsSomeAnd o (λ l. IsKept c l)) (sym same) (kept i at_end)))
-      (λ j l e w there. deltas j l (subst (λ (k : ℕ). is_reader (done ++ i ∷ []) k ≡ true) (here j e) at_end) w (sym (ap (place_at gs) (here j e)) ∙ sym same ∙ ap (place_at hs) (here j e) ∙ there)) in
-      let cost : cost_at ws hs at f i ≡ cost_at ws gs at f i = ap (λ (o : Option Live). cond (watched_at ws i) (cost_of at (f i) o) 0) same in
+      (λ j e. subst (λ (k : ℕ). IsSomeAnd (place_at hs k) (λ l. IsKept c l)) (here j e)
+      (subst (λ (o : Option Live). IsSomeAnd o (λ l. IsKept c l)) (sym same) (kept i at_end)))
+      (λ j l e w there. deltas j l (subst (λ (k : ℕ). is_reader (done ++ i ∷ []) k ≡ true) (here j e) at_end) w
+      (sym (ap (place_at gs) (here j e)) ∙ sym same ∙ ap (place_at hs) (here j e) ∙ there)) in
+      let cost : cost_at ws hs at f i
+      ≡ cost_at ws gs at f i = ap (λ (o : Option Live). cond (watched_at ws i) (cost_of at (f i) o) 0) same in
       let one = sum_by-cons (cost_at ws hs at f) i [] in
       let other = sum_by-cons (cost_at ws gs at f) i [] in
       let total = sum_by-append (cost_at ws gs at f) done (i ∷ []) in
@@ -257,15 +305,19 @@ module _ {R : Type 0} (Changed : Catalog → Catalog → R → Type 0) (ws : Lis
       at_end : is_reader (done ++ i ∷ []) i ≡ true
       at_end = reader_more done i i ∙ ap (λ t. is_reader done i || t) (eq-eqb i i refl) ∙ or_true (is_reader done i)
 
-  pub costs_next : (R : Live → Live → Type 0) (places : List ℕ) (k d : ℕ) (gs hs : List (Option Live)) (before mid now : ℕ) → AreOnce places → k < length places
-      → Reach (take k places) R gs hs → Costs Changed (take k places) ws gs at before mid → Costs Changed (get_or places k d ∷ []) ws hs at mid now
+  pub costs_next : (R : Live → Live → Type 0) (places : List ℕ) (k d : ℕ) (gs hs : List (Option Live))
+      (before mid now : ℕ) → AreOnce places → k < length places
+      → Reach (take k places) R gs hs → Costs Changed (take k places) ws gs at before mid
+      → Costs Changed (get_or places k d ∷ []) ws hs at mid now
       → Costs Changed (take (k + 1) places) ws gs at before now
   costs_next R places k d gs hs before mid now o l r a b =
       subst (λ (ps : List ℕ). Costs Changed ps ws gs at before now) (sym (take_more places k d l))
       (costs_more (take k places) (get_or places k d) gs hs before mid now (unreached R places k d gs hs o l r) a b)
 
   -- the front of the places costs no more than all
-  pub costs_front : (places : List ℕ) (k : ℕ) (gs : List (Option Live)) (before now : ℕ) → Costs Changed (take k places) ws gs at before now → Costs Changed places ws gs at before now
+  pub costs_front : (places : List ℕ) (k : ℕ) (gs : List (Option Live)) (before now : ℕ)
+      → Costs Changed (take k places) ws gs at before now → Costs Changed places ws gs at before now
   costs_front places k gs before now h c d row f ch kept deltas =
-      let part = h c d row f ch (λ j e. kept j (reader_front places k j e)) (λ j l e. deltas j l (reader_front places k j e)) in
+      let part = h c d row f ch (λ j e. kept j (reader_front places k j e))
+      (λ j l e. deltas j l (reader_front places k j e)) in
       omega (arith, part, sum_by-take-le (cost_at ws gs at f) places k)

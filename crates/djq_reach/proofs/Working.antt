@@ -1,5 +1,7 @@
 -- How much updates of the queries in places count, one after another.
-use Rattle.std.proofs.Common.{ℕ, List, [], ◌∷◌, ◌++◌, ◌+◌, ◌*◌, ◌≡◌, ◌<◌, ◌≤◌, Bool, true, false, refl, sym, ap, ◌∙◌, subst, length, get_or, take, arith, mul-le-mul_left}
+use Rattle.std.proofs.Common.{ℕ, List, [], ◌∷◌, ◌++◌, ◌+◌, ◌*◌, ◌≡◌, ◌<◌, ◌≤◌, Bool, true, false}
+use Rattle.std.proofs.Common.{refl, sym, ap, ◌∙◌, subst, length, get_or, take, arith}
+use Rattle.std.proofs.Common.{mul-le-mul_left}
 use Rattle.std.specs.Prelude.{◌==◌, ◌||◌, Option, None, Some, IsSomeAnd, filter, sum_by}
 use Rattle.std.proofs.lemmas.Bool.{eqb-true, eq-eqb, false≢true}
 use Rattle.std.proofs.lemmas.List.{take_more}

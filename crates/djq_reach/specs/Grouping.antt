@@ -1,5 +1,7 @@
 -- What groups of rows, each of a relation, do to the queries that read one of the relations.
-use Rattle.std.specs.Prelude.{ℕ, List, [], ◌∷◌, ◌++◌, ◌≡◌, ◌<◌, ◌≤◌, ◌+◌, ◌*◌, ◌&&◌, Bool, true, false, Option, None, Some, All, if◌then◌else◌, length, map, filter, sum_by, ⊤}
+use Rattle.std.specs.Prelude.{ℕ, List, [], ◌∷◌, ◌++◌, ◌≡◌, ◌<◌, ◌≤◌, ◌+◌, ◌*◌, ◌&&◌, Bool, true}
+use Rattle.std.specs.Prelude.{false, Option, None, Some, All, if◌then◌else◌, length, map, filter}
+use Rattle.std.specs.Prelude.{sum_by, ⊤}
 use Rattle.djq_model.specs.Data.{Tuple}
 use Rattle.djq_machine.specs.Delta.{Change}
 use Rattle.djq_machine.specs.Store.{most_steps}

@@ -1,5 +1,6 @@
 -- Queries in their places, who watches them, and their logs.
-use Rattle.std.specs.Prelude.{ℕ, List, [], ◌∷◌, ◌==◌, ◌≡◌, nat_lt, Bool, true, false, Option, None, Some, slice_index_or, ⊤}
+use Rattle.std.specs.Prelude.{ℕ, List, [], ◌∷◌, ◌==◌, ◌≡◌, nat_lt, Bool, true, false, Option, None}
+use Rattle.std.specs.Prelude.{Some, slice_index_or, ⊤}
 use Rattle.std.specs.List.{list_any}
 use Rattle.djq_model.specs.Data.{Bytes}
 use Rattle.djq_machine.specs.Stale.{reads}

@@ -1,5 +1,7 @@
 -- What a change does to the logs of the queries that read its relation, and what listing counts.
-use Rattle.std.specs.Prelude.{ℕ, List, [], ◌≡◌, ◌<◌, ◌≤◌, ◌+◌, ◌*◌, ◌⊎◌, Bool, true, false, Option, None, Some, IsSomeAnd, min, if◌then◌else◌, length, map, sum_by, All, ⊤}
+use Rattle.std.specs.Prelude.{ℕ, List, [], ◌≡◌, ◌<◌, ◌≤◌, ◌+◌, ◌*◌, ◌⊎◌, Bool, true, false, Option}
+use Rattle.std.specs.Prelude.{None, Some, IsSomeAnd, min, if◌then◌else◌, length, map, sum_by, All}
+use Rattle.std.specs.Prelude.{⊤}
 use Rattle.djq_model.specs.Data.{Bytes, Tuple}
 use Rattle.djq_machine.specs.Delta.{Change}
 use Rattle.djq_hyper.specs.Flat.{IsFlat}
@@ -8,7 +10,8 @@ use Rattle.djq_propagate.specs.Updates.{HasAtMost}
 use Rattle.djq_cursor.specs.Log.{Log}
 use Rattle.djq_rows.specs.Catalog.{Catalog}
 use Rattle.djq_live.specs.Live.{Live, IsKept, IsShowable}
-use Rattle.djq_live.specs.Updating.{change_of, CountsFlat, CountsUpdate, IsDeltaOf, IsEmpty, atoms_over, delta_bound, flat_bound, update_bound}
+use Rattle.djq_live.specs.Updating.{change_of, CountsFlat, CountsUpdate, IsDeltaOf, IsEmpty}
+use Rattle.djq_live.specs.Updating.{atoms_over, delta_bound, flat_bound, update_bound}
 use Rattle.djq_reach.specs.Places.{place_at, is_reader, log_at, watched_at}
 use Rattle.djq_reach.specs.Reaching.{AllAt}
 

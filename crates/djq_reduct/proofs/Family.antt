@@ -1,5 +1,6 @@
 -- Reducts are known once the leaves' tuples are.
-use Rattle.std.proofs.Common.{◌≡◌, ℕ, zero, suc, ◌*◌, ◌<◌, ◌≤◌, List, [], length, refl, ap, ap₂, subst, sym, ◌∙◌, arith, inl, inr}
+use Rattle.std.proofs.Common.{◌≡◌, ℕ, zero, suc, ◌*◌, ◌<◌, ◌≤◌, List, [], length, refl, ap, ap₂}
+use Rattle.std.proofs.Common.{subst, sym, ◌∙◌, arith, inl, inr}
 use Rattle.std.proofs.lemmas.Bool.{cases_lt}
 use Rattle.std.specs.Prelude.{slice_index_or}
 use Rattle.std.proofs.lemmas.List.{get_or_past, get_or_read}
@@ -27,15 +28,18 @@ unfolding entries_at table_at
 entries_past ts k h = ap (λ (t : Table). t.entries) (get_or_past ts k no_table h)
 
 -- the equation of a node, by the kind of node
-pub leaf_law : (n : Node) (a : ℕ) (ts : List Table) (k : ℕ) → n ≡ Leaf a → IsReductOf n ts k → (w : List ℕ) → supp (entries_at ts k) w ≡ cnt (entries_at ts k) w
+pub leaf_law : (n : Node) (a : ℕ) (ts : List Table) (k : ℕ) → n ≡ Leaf a → IsReductOf n ts k → (w : List ℕ)
+    → supp (entries_at ts k) w ≡ cnt (entries_at ts k) w
 unfolding IsReductOf
 leaf_law n a ts k e h = subst (λ (m : Node). IsReductOf m ts k) e h
 
-pub trim_law : (n : Node) (c : ℕ) (ts : List Table) (k : ℕ) → n ≡ Trim c → IsReductOf n ts k → (w : List ℕ) → supp (entries_at ts k) w ≡ many (key_at ts c) (entries_at ts c) w
+pub trim_law : (n : Node) (c : ℕ) (ts : List Table) (k : ℕ) → n ≡ Trim c → IsReductOf n ts k → (w : List ℕ)
+    → supp (entries_at ts k) w ≡ many (key_at ts c) (entries_at ts c) w
 unfolding IsReductOf
 trim_law n c ts k e h = subst (λ (m : Node). IsReductOf m ts k) e h
 
-pub meet_law : (n : Node) (g s : ℕ) (ts : List Table) (k : ℕ) → n ≡ Meet g s → IsReductOf n ts k → (w : List ℕ) → supp (entries_at ts k) w ≡ cnt (entries_at ts g) w * cnt (entries_at ts s) (pick (key_at ts g) w)
+pub meet_law : (n : Node) (g s : ℕ) (ts : List Table) (k : ℕ) → n ≡ Meet g s → IsReductOf n ts k → (w : List ℕ)
+    → supp (entries_at ts k) w ≡ cnt (entries_at ts g) w * cnt (entries_at ts s) (pick (key_at ts g) w)
 unfolding IsReductOf
 meet_law n g s ts k e h = subst (λ (m : Node). IsReductOf m ts k) e h
 
@@ -43,20 +47,27 @@ meet_law n g s ts k e h = subst (λ (m : Node). IsReductOf m ts k) e h
 abbrev Agree : Reducts → Reducts → ℕ → Type 0
 Agree r s k = (u : List ℕ) → supp (entries_at s.tables k) u ≡ supp (entries_at r.tables k) u
 
-cnt_agree : (r s : Reducts) (k : ℕ) → IsReducts r → IsReducts s → Agree r s k → (u : List ℕ) → cnt (entries_at s.tables k) u ≡ cnt (entries_at r.tables k) u
+cnt_agree : (r s : Reducts) (k : ℕ) → IsReducts r → IsReducts s → Agree r s k → (u : List ℕ)
+    → cnt (entries_at s.tables k) u ≡ cnt (entries_at r.tables k) u
 cnt_agree r s k hr hs a =
-    cnt_same (entries_at s.tables k) (entries_at r.tables k) (apart_at s.tables k (hs.family.sound k)) (apart_at r.tables k (hr.family.sound k)) (hs.family.supported k) (hr.family.supported k) a
+    cnt_same (entries_at s.tables k) (entries_at r.tables k) (apart_at s.tables k (hs.family.sound k))
+    (apart_at r.tables k (hr.family.sound k)) (hs.family.supported k) (hr.family.supported k) a
 
-many_agree : (r s : Reducts) (k : ℕ) (key : List ℕ) → IsReducts r → IsReducts s → Agree r s k → (u : List ℕ) → many key (entries_at s.tables k) u ≡ many key (entries_at r.tables k) u
+many_agree : (r s : Reducts) (k : ℕ) (key : List ℕ) → IsReducts r → IsReducts s → Agree r s k → (u : List ℕ)
+    → many key (entries_at s.tables k) u ≡ many key (entries_at r.tables k) u
 many_agree r s k key hr hs a =
-    many_same key (entries_at s.tables k) (entries_at r.tables k) (apart_at s.tables k (hs.family.sound k)) (apart_at r.tables k (hr.family.sound k)) (hs.family.supported k) (hr.family.supported k) a
+    many_same key (entries_at s.tables k) (entries_at r.tables k) (apart_at s.tables k (hs.family.sound k))
+    (apart_at r.tables k (hr.family.sound k)) (hs.family.supported k) (hr.family.supported k) a
 
-key_agree : (r s : Reducts) (k : ℕ) → IsReducts r → IsReducts s → s.tree ≡ r.tree → k < length r.tree.nodes → key_at s.tables k ≡ key_at r.tables k
+key_agree : (r s : Reducts) (k : ℕ) → IsReducts r → IsReducts s → s.tree ≡ r.tree → k < length r.tree.nodes
+    → key_at s.tables k ≡ key_at r.tables k
 key_agree r s k hr hs e h =
-    (hs.family.keyed k (subst (λ (t : Tree). k < length t.nodes) (sym e) h)).key ∙ ap (λ (t : Tree). columns (label_at t.labels k) (key_of t k)) e ∙ sym (hr.family.keyed k h).key
+    (hs.family.keyed k (subst (λ (t : Tree). k < length t.nodes) (sym e) h)).key
+    ∙ ap (λ (t : Tree). columns (label_at t.labels k) (key_of t k)) e ∙ sym (hr.family.keyed k h).key
 
 -- a node agrees where its children do
-node_agrees : (r s : Reducts) (k : ℕ) (n : Node) → IsReducts r → IsReducts s → SameLeaves r s → k < length r.tree.nodes → node_at r.tree.nodes k ≡ n
+node_agrees : (r s : Reducts) (k : ℕ) (n : Node) → IsReducts r → IsReducts s → SameLeaves r s → k < length r.tree.nodes
+    → node_at r.tree.nodes k ≡ n
     → ((i : ℕ) → i < k → Agree r s i) → Agree r s k
 node_agrees r s k (Leaf a) hr hs h within e below u =
     let other : node_at s.tree.nodes k ≡ Leaf a = ap (λ (t : Tree). node_at t.nodes k) h.same_tree ∙ e in
@@ -79,12 +90,15 @@ node_agrees r s k (Meet g d) hr hs h within e below u =
     let low : g < k = m.guard_lower in
     meet_law (node_at s.tree.nodes k) g d s.tables k other (hs.reduced.at k (omega arith) inside) u
     ∙ ap₂ (λ (a b : ℕ). a * b) (cnt_agree r s g hr hs (below g m.guard_lower) u)
-    (ap (λ (ks : List ℕ). cnt (entries_at s.tables d) (pick ks u)) (key_agree r s g hr hs h.same_tree (omega arith)) ∙ cnt_agree r s d hr hs (below d m.side_lower) (pick (key_at r.tables g) u))
+    (ap (λ (ks : List ℕ). cnt (entries_at s.tables d) (pick ks u)) (key_agree r s g hr hs h.same_tree (omega arith))
+    ∙ cnt_agree r s d hr hs (below d m.side_lower) (pick (key_at r.tables g) u))
     ∙ sym (meet_law (node_at r.tree.nodes k) g d r.tables k e (hr.reduced.at k (omega arith) within) u)
 
-past_agrees : (r s : Reducts) (k : ℕ) → IsReducts r → IsReducts s → SameLeaves r s → length r.tree.nodes ≤ k → Agree r s k
+past_agrees : (r s : Reducts) (k : ℕ) → IsReducts r → IsReducts s → SameLeaves r s → length r.tree.nodes ≤ k
+    → Agree r s k
 past_agrees r s k hr hs h past u =
-    ap (λ (es : List Entry). supp es u) (entries_past s.tables k (rw hs.family.long (subst (λ (t : Tree). length t.nodes ≤ k) (sym h.same_tree) past)))
+    ap (λ (es : List Entry). supp es u)
+    (entries_past s.tables k (rw hs.family.long (subst (λ (t : Tree). length t.nodes ≤ k) (sym h.same_tree) past)))
     ∙ sym (ap (λ (es : List Entry). supp es u) (entries_past r.tables k (rw hr.family.long past)))
 
 -- so all agree, from the leaves up
@@ -92,7 +106,8 @@ agree_below : (r s : Reducts) (n : ℕ) → IsReducts r → IsReducts s → Same
 agree_below r s zero hr hs h k low = absurd (omega arith)
 agree_below r s (suc n) hr hs h k low =
     elim (cases_lt k (length r.tree.nodes)) [
-      | inl within ↦ node_agrees r s k (node_at r.tree.nodes k) hr hs h within refl (λ i lower. agree_below r s n hr hs h i (omega arith))
+      | inl within ↦ node_agrees r s k (node_at r.tree.nodes k) hr hs h within refl
+          (λ i lower. agree_below r s n hr hs h i (omega arith))
       | inr past ↦ past_agrees r s k hr hs h past
     ]
 
@@ -104,10 +119,13 @@ one_family r s hr hs h = record {
 }
 
 -- the table that a place of the list has
-pub at_place : (ts : List Table) (k : ℕ) (t : Table) → t ≡ table_at ts k → (t.entries ≡ entries_at ts k) × (t.key ≡ key_at ts k) × (t.width ≡ width_at ts k)
+pub at_place : (ts : List Table) (k : ℕ) (t : Table) → t ≡ table_at ts k → (t.entries ≡ entries_at ts k)
+    × (t.key ≡ key_at ts k) × (t.width ≡ width_at ts k)
 unfolding entries_at key_at width_at table_at
 at_place ts k t e = (ap (λ (u : Table). u.entries) e, ap (λ (u : Table). u.key) e, ap (λ (u : Table). u.width) e)
 
-pub read_at : (r s : Reducts) (k : ℕ) (t : Table) → r ≡ s → k < length r.tables → t ≡ slice_index_or r.tables k t → t ≡ table_at s.tables k
+pub read_at : (r s : Reducts) (k : ℕ) (t : Table) → r ≡ s → k < length r.tables → t ≡ slice_index_or r.tables k t → t
+    ≡ table_at s.tables k
 unfolding table_at
-read_at r s k t same within e = get_or_read r.tables k t within e no_table ∙ ap (λ (q : Reducts). slice_index_or q.tables k no_table) same
+read_at r s k t same within e = get_or_read r.tables k t within e no_table
+    ∙ ap (λ (q : Reducts). slice_index_or q.tables k no_table) same

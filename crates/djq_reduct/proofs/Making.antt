@@ -1,5 +1,6 @@
 -- A tree's tables while no leaf has a tuple.
-use Rattle.std.proofs.Common.{◌≡◌, ℕ, zero, suc, ◌+◌, ◌*◌, ◌<◌, ◌≤◌, List, [], ◌∷◌, ◌++◌, length, refl, ap, subst, sym, ◌∙◌, arith, inl, inr, length-append}
+use Rattle.std.proofs.Common.{◌≡◌, ℕ, zero, suc, ◌+◌, ◌*◌, ◌<◌, ◌≤◌, List, [], ◌∷◌, ◌++◌, length}
+use Rattle.std.proofs.Common.{refl, ap, subst, sym, ◌∙◌, arith, inl, inr, length-append}
 use Rattle.std.specs.Prelude.{slice_index_or}
 use Rattle.std.proofs.lemmas.Bool.{cases_lt, cases_eq}
 use Rattle.std.proofs.lemmas.List.{get_or_past, get_or_append_left}
@@ -34,8 +35,11 @@ made_at t zero k h = absurd (omega arith)
 made_at t (suc n) k h =
     let long = length_tables t n in
     elim (cases_eq k n) [
-      | inl last ↦ subst (λ i. slice_index_or (empty_tables t n ++ empty_table t n ∷ []) i no_table ≡ empty_table t k) (long ∙ sym last) (get_or-append_seam (empty_tables t n) (empty_table t n) [] no_table ∙ ap (λ i. empty_table t i) (sym last))
-      | inr other ↦ get_or_append_left (empty_tables t n) (empty_table t n ∷ []) no_table k (omega arith) ∙ made_at t n k (omega arith)
+      | inl last ↦ subst (λ i. slice_index_or (empty_tables t n ++ empty_table t n ∷ []) i no_table ≡ empty_table t k)
+          (long ∙ sym last) (get_or-append_seam (empty_tables t n) (empty_table t n) [] no_table
+          ∙ ap (λ i. empty_table t i) (sym last))
+      | inr other ↦ get_or_append_left (empty_tables t n) (empty_table t n ∷ []) no_table k (omega arith)
+          ∙ made_at t n k (omega arith)
     ]
 
 made_past : (t : Tree) (n k : ℕ) → n ≤ k → table_at (empty_tables t n) k ≡ no_table
@@ -59,19 +63,22 @@ blank_columns : AreColumns 0 []
 unfolding AreColumns
 blank_columns = tt
 
-pub fitting : (t : Tree) (k : ℕ) → IsTree t → AreColumns (length (label_at t.labels k)) (columns (label_at t.labels k) (key_of t k))
+pub fitting : (t : Tree) (k : ℕ) → IsTree t
+    → AreColumns (length (label_at t.labels k)) (columns (label_at t.labels k) (key_of t k))
 fitting t k h = columns_within (label_at t.labels k) (key_of t k) (key_within t k (key_of t k) h refl)
 
 made_sound : (t : Tree) (n k : ℕ) → IsTree t → IsTable (table_at (empty_tables t n) k)
 made_sound t n k h =
     elim (cases_lt k n) [
-      | inl within ↦ subst IsTable (sym (made_at t n k within)) (blank (length (label_at t.labels k)) (columns (label_at t.labels k) (key_of t k)) (fitting t k h))
+      | inl within ↦ subst IsTable (sym (made_at t n k within))
+          (blank (length (label_at t.labels k)) (columns (label_at t.labels k) (key_of t k)) (fitting t k h))
       | inr past ↦ subst IsTable (sym (made_past t n k past)) (blank 0 [] blank_columns)
     ]
 
 made_keyed : (t : Tree) (n k : ℕ) → k < n → IsKeyed t (empty_tables t n) k
 unfolding width_at key_at
-made_keyed t n k h = record { width = ap (λ (u : Table). u.width) (made_at t n k h); key = ap (λ (u : Table). u.key) (made_at t n k h) }
+made_keyed t n k h = record
+    { width = ap (λ (u : Table). u.width) (made_at t n k h); key = ap (λ (u : Table). u.key) (made_at t n k h) }
 
 none_supported : AreSupported []
 unfolding AreSupported
@@ -103,10 +110,12 @@ none_reduct : (n : Node) (ts : List Table) (k : ℕ) → ((i : ℕ) → entries_
 unfolding IsReductOf
 none_reduct (Leaf a) ts k h = λ w. rw (h k) (no_supp w ∙ sym (no_cnt w))
 none_reduct (Trim c) ts k h = λ w. rw (h k, h c) (no_supp w ∙ sym (no_many (key_at ts c) w))
-none_reduct (Meet g s) ts k h = λ w. rw (h k, h g, h s) (no_supp w ∙ omega (arith, no_cnt w, ap (λ n. n * cnt [] (pick (key_at ts g) w)) (no_cnt w)))
+none_reduct (Meet g s) ts k h = λ w. rw (h k, h g, h s)
+    (no_supp w ∙ omega (arith, no_cnt w, ap (λ n. n * cnt [] (pick (key_at ts g) w)) (no_cnt w)))
 
 -- so they are reducts
-pub made_reducts : (t : Tree) → IsTree t → IsNarrow t → IsReducts (record { tree = t; tables = empty_tables t (length t.nodes) })
+pub made_reducts : (t : Tree) → IsTree t → IsNarrow t
+    → IsReducts (record { tree = t; tables = empty_tables t (length t.nodes) })
 made_reducts t h narrow = record {
   family = record {
     is_tree = h;
@@ -116,5 +125,8 @@ made_reducts t h narrow = record {
     keyed = λ k within. made_keyed t (length t.nodes) k within;
     supported = λ k. subst AreSupported (sym (made_entries t (length t.nodes) k)) none_supported;
   };
-  reduced = record { at = λ k low within. none_reduct (node_at t.nodes k) (empty_tables t (length t.nodes)) k (λ i. made_entries t (length t.nodes) i) };
+  reduced = record {
+    at = λ k low within. none_reduct (node_at t.nodes k) (empty_tables t (length t.nodes)) k
+        (λ i. made_entries t (length t.nodes) i);
+  };
 }

@@ -1,5 +1,6 @@
 -- Columns of a label.
-use Rattle.std.proofs.Common.{◌≡◌, ℕ, suc, ◌<◌, Bool, true, false, List, [], ◌∷◌, length, refl, ap, subst, sym, ◌∙◌, arith, inl, inr, append_assoc}
+use Rattle.std.proofs.Common.{◌≡◌, ℕ, suc, ◌<◌, Bool, true, false, List, [], ◌∷◌, length, refl, ap}
+use Rattle.std.proofs.Common.{subst, sym, ◌∙◌, arith, inl, inr, append_assoc}
 use Rattle.std.specs.Prelude.{◌&&◌, ◌++◌, Option, Some, None, option_to_list, IfNone, nat_eq}
 use Rattle.std.specs.Option.{option_eq}
 use Rattle.std.proofs.lemmas.List.{append-nil}
@@ -32,7 +33,11 @@ and_right false b h = absurd (false≢true h)
 pub columns_within : (l k : List ℕ) → subset k l ≡ true → AreColumns (length l) (columns l k)
 unfolding columns AreColumns
 columns_within l [] h = tt
-columns_within l (x ∷ k) h = (column_within l x (and_left (member x l) (subset k l) h), columns_within l k (and_right (member x l) (subset k l) h))
+columns_within l (x ∷ k) h = (
+  column_within l x (and_left (member x l) (subset k l) h),
+  columns_within l k
+      (and_right (member x l) (subset k l) h),
+)
 
 -- one step of the search for a column
 pub column_here : (y : ℕ) (ys : List ℕ) (x : ℕ) → y ≡ x → column (y ∷ ys) x ≡ 0
@@ -56,28 +61,36 @@ unfolding columns
 columns_none l = refl
 
 -- one step of the search for a column: the lowest variable that is left is taken out
-pub column_found : (o : Option ℕ) (old new : List ℕ) (x : ℕ) → old ≡ option_to_list o ++ new → o ≡ Some x → column old x ≡ 0
+pub column_found : (o : Option ℕ) (old new : List ℕ) (x : ℕ) → old ≡ option_to_list o ++ new → o ≡ Some x → column old x
+    ≡ 0
 column_found o old new x taken found =
     let e : old ≡ x ∷ new = taken ∙ ap (λ (p : Option ℕ). option_to_list p ++ new) found in
     ap (λ (l : List ℕ). column l x) e ∙ column_here x new x refl
 
-pub column_missed : (o : Option ℕ) (old new : List ℕ) (x : ℕ) → old ≡ option_to_list o ++ new → IfNone o (old ≡ []) → 0 < length old → (o ≡ Some x → ⊥) → (column old x ≡ suc (column new x)) × (length old ≡ suc (length new))
+pub column_missed : (o : Option ℕ) (old new : List ℕ) (x : ℕ) → old ≡ option_to_list o ++ new → IfNone o (old ≡ [])
+    → 0 < length old → (o ≡ Some x → ⊥) → (column old x ≡ suc (column new x)) × (length old ≡ suc (length new))
 column_missed None old new x taken none some other = absurd (omega (arith, ap (λ (l : List ℕ). length l) none))
-column_missed (Some y) old new x taken none some other =
-    (ap (λ (l : List ℕ). column l x) taken ∙ column_on y new x (λ e. other (ap (λ (z : ℕ). Some z) e)), ap (λ (l : List ℕ). length l) taken)
+column_missed (Some y) old new x taken none some other = (
+  ap (λ (l : List ℕ). column l x) taken
+      ∙ column_on y new x (λ e. other (ap (λ (z : ℕ). Some z) e)),
+  ap (λ (l : List ℕ). length l) taken,
+)
 
 pub column_left : (l : List ℕ) (x : ℕ) → length l ≡ 0 → column l x ≡ 0
 column_left [] x h = column_none x
 column_left (y ∷ ys) x h = absurd (omega arith)
 
-pub columns_step : (label done : List ℕ) (o : Option ℕ) (old new : List ℕ) (x : ℕ) → old ≡ option_to_list o ++ new → o ≡ Some x
+pub columns_step : (label done : List ℕ) (o : Option ℕ) (old new : List ℕ) (x : ℕ) → old ≡ option_to_list o ++ new → o
+    ≡ Some x
     → (done ++ column label x ∷ []) ++ columns label new ≡ done ++ columns label old
 columns_step label done o old new x taken some =
     let e : old ≡ x ∷ new = taken ∙ ap (λ (p : Option ℕ). option_to_list p ++ new) some in
-    append_assoc done (column label x ∷ []) (columns label new) ∙ ap (λ (l : List ℕ). done ++ l) (sym (columns_on label x new) ∙ ap (λ (l : List ℕ). columns label l) (sym e))
+    append_assoc done (column label x ∷ []) (columns label new)
+    ∙ ap (λ (l : List ℕ). done ++ l) (sym (columns_on label x new) ∙ ap (λ (l : List ℕ). columns label l) (sym e))
 
 pub columns_end : (label done all old : List ℕ) → done ++ columns label old ≡ all → old ≡ [] → done ≡ all
-columns_end label done all old h e = sym (append-nil done) ∙ ap (λ (l : List ℕ). done ++ l) (sym (columns_none label) ∙ ap (λ (l : List ℕ). columns label l) (sym e)) ∙ h
+columns_end label done all old h e = sym (append-nil done)
+    ∙ ap (λ (l : List ℕ). done ++ l) (sym (columns_none label) ∙ ap (λ (l : List ℕ). columns label l) (sym e)) ∙ h
 
 pub same_option : (o : Option ℕ) (x : ℕ) (b : Bool) → b ≡ option_eq nat_eq o (Some x) → b ≡ true → o ≡ Some x
 same_option None x b h e = absurd (false≢true (sym h ∙ e))

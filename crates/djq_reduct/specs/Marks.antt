@@ -39,13 +39,17 @@ agreeing (Meet g s) j ts es w = cond (g == j) (cnt es w) (cnt es (pick (key_at t
 -- the marked tuples of the node k are those that agree with a marked tuple of its child j
 pub record AgreeAt (n : Node) (ts : List Table) (j k : ℕ) : Type 0 where
   pub up : (w : List ℕ) → 0 < cnt (marks (entries_at ts k)) w → 0 < agreeing n j ts (marks (entries_at ts j)) w
-  pub down : (w : List ℕ) → 0 < cnt (entries_at ts k) w → 0 < agreeing n j ts (marks (entries_at ts j)) w → 0 < cnt (marks (entries_at ts k)) w
+  pub down : (w : List ℕ) → 0 < cnt (entries_at ts k) w → 0 < agreeing n j ts (marks (entries_at ts j)) w
+      → 0 < cnt (marks (entries_at ts k)) w
 
 -- the unmarked tuples of the node k are what its children's unmarked tuples make of it
 unfoldable pub ArePlainAt : Node → List Table → ℕ → Type 0
 ArePlainAt (Leaf a) ts k = (w : List ℕ) → 0 ≤ cnt (plain (entries_at ts k)) w
-ArePlainAt (Trim c) ts k = (w : List ℕ) → (0 < cnt (plain (entries_at ts k)) w → 0 < many (key_at ts c) (plain (entries_at ts c)) w) × (0 < many (key_at ts c) (plain (entries_at ts c)) w → 0 < cnt (plain (entries_at ts k)) w)
-ArePlainAt (Meet g s) ts k = (w : List ℕ) → cnt (plain (entries_at ts k)) w ≡ cnt (plain (entries_at ts g)) w * cnt (plain (entries_at ts s)) (pick (key_at ts g) w)
+ArePlainAt (Trim c) ts k = (w : List ℕ)
+    → (0 < cnt (plain (entries_at ts k)) w → 0 < many (key_at ts c) (plain (entries_at ts c)) w)
+    × (0 < many (key_at ts c) (plain (entries_at ts c)) w → 0 < cnt (plain (entries_at ts k)) w)
+ArePlainAt (Meet g s) ts k = (w : List ℕ) → cnt (plain (entries_at ts k)) w
+    ≡ cnt (plain (entries_at ts g)) w * cnt (plain (entries_at ts s)) (pick (key_at ts g) w)
 
 -- the marks of an unfinished update of the leaf a. On its path, up to the lowest node in `out`, the marked
 -- tuples are those that would not be there without the leaf's marked ones; above it those that agree with
@@ -53,10 +57,12 @@ ArePlainAt (Meet g s) ts k = (w : List ℕ) → cnt (plain (entries_at ts k)) w 
 pub record AreMarks (t : Tree) (ts : List Table) (a : ℕ) : Type 0 where
   pub path : AreOnPath t ts a
   pub low : (k : ℕ) → k < t.second_stage → on_path t.nodes a k ≡ true → ArePlainAt (node_at t.nodes k) ts k
-  pub high : (k : ℕ) → t.second_stage ≤ k → on_path t.nodes a k ≡ true → AgreeAt (node_at t.nodes k) ts (path_at t.nodes a k) k
+  pub high : (k : ℕ) → t.second_stage ≤ k → on_path t.nodes a k ≡ true
+      → AgreeAt (node_at t.nodes k) ts (path_at t.nodes a k) k
 
 -- `small` is `big` without the marked tuples of the leaf a
 pub record IsWithout (big small : Reducts) (a : ℕ) : Type 0 where
   pub tree : small.tree ≡ big.tree
   pub leaf : (v : List ℕ) → cnt (entries_at small.tables a) v ≡ cnt (plain (entries_at big.tables a)) v
-  pub others : (j : ℕ) (v : List ℕ) → j < big.tree.leaves → j ≢ a → cnt (entries_at small.tables j) v ≡ cnt (entries_at big.tables j) v
+  pub others : (j : ℕ) (v : List ℕ) → j < big.tree.leaves → j ≢ a → cnt (entries_at small.tables j) v
+      ≡ cnt (entries_at big.tables j) v

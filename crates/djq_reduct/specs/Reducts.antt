@@ -22,7 +22,8 @@ pub record Reducts : Type 0 where
 unfoldable pub IsReductOf : Node → List Table → ℕ → Type 0
 IsReductOf (Leaf a) ts k = (w : List ℕ) → supp (entries_at ts k) w ≡ cnt (entries_at ts k) w
 IsReductOf (Trim c) ts k = (w : List ℕ) → supp (entries_at ts k) w ≡ many (key_at ts c) (entries_at ts c) w
-IsReductOf (Meet g s) ts k = (w : List ℕ) → supp (entries_at ts k) w ≡ cnt (entries_at ts g) w * cnt (entries_at ts s) (pick (key_at ts g) w)
+IsReductOf (Meet g s) ts k = (w : List ℕ) → supp (entries_at ts k) w
+    ≡ cnt (entries_at ts g) w * cnt (entries_at ts s) (pick (key_at ts g) w)
 
 -- the table k has a column for each variable of its node's label, and the node's group key
 pub record IsKeyed (t : Tree) (ts : List Table) (k : ℕ) : Type 0 where

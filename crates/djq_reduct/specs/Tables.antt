@@ -28,4 +28,5 @@ width_at ts k = (table_at ts k).width
 -- the table of the node k while it has no tuple: a column for each variable of the label, in rising order,
 -- and the node's group key
 abbrev pub empty_table : Tree → ℕ → Table
-empty_table t k = record { width = length (label_at t.labels k); key = columns (label_at t.labels k) (key_of t k); entries = [] }
+empty_table t k = record
+    { width = length (label_at t.labels k); key = columns (label_at t.labels k) (key_of t k); entries = [] }

@@ -1,5 +1,6 @@
 -- How a line is printed piece by piece.
-use Rattle.std.proofs.Common.{◌≡◌, ◌+◌, ◌<◌, ◌++◌, ℕ, suc, List, length, take, drop, get_or, refl, sym, ap, subst, ◌∙◌, arith, append_assoc, length-append}
+use Rattle.std.proofs.Common.{◌≡◌, ◌+◌, ◌<◌, ◌++◌, ℕ, suc, List, length, take, drop, get_or, refl}
+use Rattle.std.proofs.Common.{sym, ap, subst, ◌∙◌, arith, append_assoc, length-append}
 use Rattle.std.proofs.lemmas.List.{take_at, take-take, take_all}
 use Rattle.std.specs.List.{flat_map}
 use Rattle.std.specs.Prelude.{Result, Ok, Err, IsErr}
@@ -19,7 +20,8 @@ put_behind old mid new text more p h = record {
 }
 
 -- a piece that was cut, behind one that was put, and in front of others
-pub cut_behind : (old mid new : Filled) (text more rest : Bytes) → Put old mid text → Cut mid new more → Cut old new ((text ++ more) ++ rest)
+pub cut_behind : (old mid new : Filled) (text more rest : Bytes) → Put old mid text → Cut mid new more
+    → Cut old new ((text ++ more) ++ rest)
 cut_behind old mid new text more rest p h =
     let long : length mid.items ≡ length old.items + length text = ap length p.items ∙ length-append old.items text in
     record {
@@ -58,6 +60,7 @@ put_item text old mid new xs k x h e p c =
     (put_behind old mid new (flat_map text (take k xs)) (text x) p c)
 
 -- what an error says of the output
-pub adds_err : {A E : Type 0} (old new : Filled) (text : Bytes) (r : Result A E) → IsErr r → Cut old new text → Adds old new text r
+pub adds_err : {A E : Type 0} (old new : Filled) (text : Bytes) (r : Result A E) → IsErr r → Cut old new text
+    → Adds old new text r
 adds_err old new text (Ok a) e h = absurd (cc)
 adds_err old new text (Err e) i h = h

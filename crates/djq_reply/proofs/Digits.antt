@@ -10,7 +10,8 @@ pub few_digits : (n : ℕ) → n < 2 ^ 64 → length (decimal n) ≤ 20
 few_digits n h = length-decimal-le 20 n (omega arith) (omega (arith, h)) h
 
 -- a number of one digit behind another one
-pub and_digit : (words : Bytes) (n d : ℕ) → d < 10 → numbered_twice words n d ≡ words ++ decimal n ++ 32 ∷ (48 + d) ∷ 10 ∷ []
+pub and_digit : (words : Bytes) (n d : ℕ) → d < 10 → numbered_twice words n d
+    ≡ words ++ decimal n ++ 32 ∷ (48 + d) ∷ 10 ∷ []
 and_digit words n d h =
     ap (λ (ds : Bytes). line (words ++ decimal n ++ codes " " ++ ds)) (decimal_digit d h)
     ∙ append_assoc (words ++ decimal n ++ codes " ") ((48 + d) ∷ []) (10 ∷ [])

@@ -11,7 +11,10 @@ use Rattle.djq_laws.specs.Course.{Does, last_write}
 use Rattle.djq_laws.proofs.Courses.{does_well}
 use Rattle.djq_laws.proofs.Heading.{headline}
 use Rattle.djq_run.specs.declared.status.Status.{Status}
-use Rattle.djq_run.specs.declared.status.Status.TheVariants.{Done, Usage, ReadFault, WriteFault, HubFault, TurnsUsed, NoMemory, Schedule, SessionEnded, DiskFault, LogFull, BadLog, Mirror}
+use Rattle.djq_run.specs.declared.status.Status.TheVariants.{Done, Usage, ReadFault, WriteFault}
+use Rattle.djq_run.specs.declared.status.Status.TheVariants.{HubFault, TurnsUsed, NoMemory}
+use Rattle.djq_run.specs.declared.status.Status.TheVariants.{Schedule, SessionEnded, DiskFault}
+use Rattle.djq_run.specs.declared.status.Status.TheVariants.{LogFull, BadLog, Mirror}
 use Rattle.djq_run.specs.Ends.{is_write_fault}
 use Rattle.djq_run.specs.LastWrite.{FailedWriteIsLast}
 

@@ -1,5 +1,6 @@
 -- How a run ends: what the session came to, as a status.
-use Rattle.std.specs.Prelude.{ℕ, List, [], ◌∷◌, ◌⊎◌, false, Result, Ok, Err, is_err, ⊤, ◌++◌, ◌≡◌, ◌+◌, ◌<◌, ◌≤◌, true, Option, None, Some, IsSomeAnd, is_some, length}
+use Rattle.std.specs.Prelude.{ℕ, List, [], ◌∷◌, ◌⊎◌, false, Result, Ok, Err, is_err, ⊤, ◌++◌, ◌≡◌}
+use Rattle.std.specs.Prelude.{◌+◌, ◌<◌, ◌≤◌, true, Option, None, Some, IsSomeAnd, is_some, length}
 use Rattle.std.proofs.Common.{refl, sym, ap, ◌∙◌, subst, inl, inr, length-append, arith}
 use Rattle.std.proofs.lemmas.Grind.{flat_map-append}
 use Rattle.djq_io.specs.Source.{Reading}
@@ -21,12 +22,18 @@ use Rattle.djq_laws.specs.Course.{Outside, Course, AwaitsInput}
 use Rattle.djq_laws.proofs.Moving.{Comes, is_held, out_of_memory, is_dropped, Ends, input_ends, had_ended}
 use Rattle.djq_laws.proofs.Courses.{course_then, course_then_done, course_then_failed}
 use Rattle.djq_run.specs.declared.status.Status.{Status}
-use Rattle.djq_run.specs.declared.status.Status.TheVariants.{Done, Usage, ReadFault, HubFault, TurnsUsed, NoMemory, Schedule, SessionEnded, DiskFault, LogFull, BadLog, Mirror, WriteFault as StatusWriteFault}
+use Rattle.djq_run.specs.declared.status.Status.TheVariants.{Done, Usage, ReadFault, HubFault}
+use Rattle.djq_run.specs.declared.status.Status.TheVariants.{TurnsUsed, NoMemory, Schedule}
+use Rattle.djq_run.specs.declared.status.Status.TheVariants.{SessionEnded, DiskFault, LogFull}
+use Rattle.djq_run.specs.declared.status.Status.TheVariants.{BadLog, Mirror}
+use Rattle.djq_run.specs.declared.status.Status.TheVariants.{WriteFault as StatusWriteFault}
 use Rattle.djq_run.specs.declared.session.Served.{Served}
 use Rattle.djq_run.specs.declared.session.Served.TheVariants.{AwaitsInput as Waiting, Ended, WriteFault}
-use Rattle.djq_run.specs.Ends.{Awaits, IsAtEnd, IsWellEnded, EndedBy, IsCutOff, Stands, ReadsCount, WritesCount, RunEnds}
+use Rattle.djq_run.specs.Ends.{Awaits, IsAtEnd, IsWellEnded, EndedBy, IsCutOff, Stands, ReadsCount}
+use Rattle.djq_run.specs.Ends.{WritesCount, RunEnds}
 use Rattle.djq_run.proofs.Going.{PieceFed, awaits, by_opening, goes_begun}
-use Rattle.djq_run.specs.Parts.{GoesTo, Serves, WritesCount as ServedCount, GoesOn, ReadEnds, status_of, has_failed, failed_by}
+use Rattle.djq_run.specs.Parts.{GoesTo, Serves, WritesCount as ServedCount, GoesOn, ReadEnds}
+use Rattle.djq_run.specs.Parts.{status_of, has_failed, failed_by}
 
 -- a session that awaits input is open, and has no end cause
 none_kept : (o : Option Session) → IsSomeAnd o AwaitsInput → cause_in o ≡ None
@@ -47,24 +54,38 @@ none_input : (c d : Option EndCause) → c ≡ None → d ≡ Some Input → (d 
 none_input c d none is back = let e = back is in cc
 
 -- a session with a cause, and what that cause says
-ended_by : (P : EndCause → Type 0) (st : State) (c : EndCause) → cause_of st 1 ≡ Some c → pending_of st 1 ≡ [] → P c → EndedBy P st
-ended_by P st c cause pending h = record { written = pending; cause = subst (λ (o : Option EndCause). IsSomeAnd o P) (sym cause) h }
+ended_by : (P : EndCause → Type 0) (st : State) (c : EndCause) → cause_of st 1 ≡ Some c → pending_of st 1 ≡ [] → P c
+    → EndedBy P st
+ended_by P st c cause pending h = record
+    { written = pending; cause = subst (λ (o : Option EndCause). IsSomeAnd o P) (sym cause) h }
 
 -- What the session came to behind a piece, as where the run goes on to or ends, since no line ends its input.
-pub served_as : (served : Served) (fed : Bytes) (before now : Outside) (old mid new : State) → cause_of old 1 ≡ None → (cause_of mid 1 ≡ Some Input → cause_of old 1 ≡ Some Input) → Serves served mid new
-    → 0 < length fed → now.read_faults ≡ before.read_faults → ServedCount served before.write_faults now.write_faults → GoesOn (status_of served) fed before now new
+pub served_as : (served : Served) (fed : Bytes) (before now : Outside) (old mid new : State) → cause_of old 1 ≡ None
+    → (cause_of mid 1 ≡ Some Input → cause_of old 1 ≡ Some Input) → Serves served mid new
+    → 0 < length fed → now.read_faults ≡ before.read_faults → ServedCount served before.write_faults now.write_faults
+    → GoesOn (status_of served) fed before now new
 served_as Waiting fed before now old mid new running input h some reads writes = (h, omega (arith, some), reads, writes)
-served_as (Ended Input) fed before now old mid new running input h some reads writes = absurd (none_input (cause_of old 1) (cause_of mid 1) running (h.2 refl) input)
-served_as (Ended Quit) fed before now old mid new running input h some reads writes = (ended_by (IsWellEnded now.reading new) new Quit h.0 h.1 tt, reads, writes)
-served_as (Ended Stop) fed before now old mid new running input h some reads writes = (ended_by (IsWellEnded now.reading new) new Stop h.0 h.1 tt, reads, writes)
-served_as (Ended Long) fed before now old mid new running input h some reads writes = (ended_by (λ c. IsCutOff c) new Long h.0 h.1 tt, reads, writes)
-served_as (Ended Slow) fed before now old mid new running input h some reads writes = (ended_by (λ c. IsCutOff c) new Slow h.0 h.1 tt, reads, writes)
-served_as (Ended Memory) fed before now old mid new running input h some reads writes = (ended_by (λ c. c ≡ Memory) new Memory h.0 h.1 refl, reads, writes)
-served_as WriteFault fed before now old mid new running input h some reads writes =
-    (record { some = h.0; at_end = λ e. absurd (none_input (cause_of old 1) (cause_of mid 1) running (h.1 e) input) }, reads, writes)
+served_as (Ended Input) fed before now old mid new running input h some reads writes = absurd
+    (none_input (cause_of old 1) (cause_of mid 1) running (h.2 refl) input)
+served_as (Ended Quit) fed before now old mid new running input h some reads writes =
+    (ended_by (IsWellEnded now.reading new) new Quit h.0 h.1 tt, reads, writes)
+served_as (Ended Stop) fed before now old mid new running input h some reads writes =
+    (ended_by (IsWellEnded now.reading new) new Stop h.0 h.1 tt, reads, writes)
+served_as (Ended Long) fed before now old mid new running input h some reads writes =
+    (ended_by (λ c. IsCutOff c) new Long h.0 h.1 tt, reads, writes)
+served_as (Ended Slow) fed before now old mid new running input h some reads writes =
+    (ended_by (λ c. IsCutOff c) new Slow h.0 h.1 tt, reads, writes)
+served_as (Ended Memory) fed before now old mid new running input h some reads writes =
+    (ended_by (λ c. c ≡ Memory) new Memory h.0 h.1 refl, reads, writes)
+served_as WriteFault fed before now old mid new running input h some reads writes = (
+  record { some = h.0; at_end = λ e. absurd (none_input (cause_of old 1) (cause_of mid 1) running (h.1 e) input) },
+  reads,
+  writes,
+)
 
 -- no piece ends a session's input
-pub piece_input : (old new : State) (bytes : Bytes) → Comes old new 1 bytes → cause_of new 1 ≡ Some Input → cause_of old 1 ≡ Some Input
+pub piece_input : (old new : State) (bytes : Bytes) → Comes old new 1 bytes → cause_of new 1 ≡ Some Input
+    → cause_of old 1 ≡ Some Input
 piece_input old new bytes (is_held a b d e f) cause = cc
 piece_input old new bytes (out_of_memory a b d e f) cause = cc
 piece_input old new bytes (is_dropped a c b d e f) cause = cc
@@ -90,10 +111,12 @@ input_ended old mid waits (had_ended a c b d e f) = absurd (some_none (sym (awai
     some_none : None ≡ Some c → ⊥
     some_none e = cc
 
-pub ends_done : (reading : Option Reading) (mid new : State) → InputEnded mid → cause_of new 1 ≡ cause_of mid 1 → held_of new 1 ≡ held_of mid 1 → pending_of new 1 ≡ [] → IsAtEnd reading
+pub ends_done : (reading : Option Reading) (mid new : State) → InputEnded mid → cause_of new 1 ≡ cause_of mid 1
+    → held_of new 1 ≡ held_of mid 1 → pending_of new 1 ≡ [] → IsAtEnd reading
     → EndedBy (IsWellEnded reading new) new
 ends_done reading mid new ended cause held pending at_end =
-    ended_by (IsWellEnded reading new) new Input (cause ∙ ended.cause) pending (at_end, ap (λ bytes. is_dry bytes) held ∙ ended.dry)
+    ended_by (IsWellEnded reading new) new Input (cause ∙ ended.cause) pending
+    (at_end, ap (λ bytes. is_dry bytes) held ∙ ended.dry)
 
 -- the bytes fed along a course and one behind it
 pub fed_more : (o o' o'' : Outside) (old mid new : State) (c : Course old o o' mid) (well : c.failed ≡ false)
@@ -102,7 +125,8 @@ pub fed_more : (o o' o'' : Outside) (old mid new : State) (c : Course old o o' m
     (all_fed 1 d.done)
 fed_more o o' o'' old mid new c well d =
     ap (λ (done : List Did). length (all_fed 1 done)) (course_then_done o o' o'' old mid new c well d)
-    ∙ ap length (flat_map-append (λ (x : Did). fed_by 1 x.event) c.done d.done) ∙ length-append (all_fed 1 c.done) (all_fed 1 d.done)
+    ∙ ap length (flat_map-append (λ (x : Did). fed_by 1 x.event) c.done d.done)
+    ∙ length-append (all_fed 1 c.done) (all_fed 1 d.done)
 
 -- a run ends by a write that failed as serving does
 served_failed : (served : Served) → has_failed served ≡ failed_by (status_of served)
@@ -119,19 +143,22 @@ served_failed WriteFault = refl
 pub piece_ends : (served : Served) (o mid_o o' : Outside) (old mid new : State) (bytes : Bytes)
     → PieceFed o mid_o old mid bytes → GoesTo (has_failed served) mid mid_o o' new → Awaits old
     → Comes old mid 1 bytes
-    → Serves served mid new → 0 < length bytes → o'.read_faults ≡ o.read_faults → ServedCount served o.write_faults o'.write_faults → ReadEnds (status_of served) o o' old new
+    → Serves served mid new → 0 < length bytes → o'.read_faults ≡ o.read_faults
+    → ServedCount served o.write_faults o'.write_faults → ReadEnds (status_of served) o o' old new
 piece_ends served o mid_o o' old mid new bytes piece c waits comes serves some reads writes =
     let whole = course_then o mid_o o' old mid new piece.course piece.well c.0 in
     record {
       course = whole;
       failed = course_then_failed o mid_o o' old mid new piece.course piece.well c.0 ∙ c.1 ∙ served_failed served;
-      goes_on = served_as served (all_fed 1 whole.done) o o' old mid new (awaits_running old waits) (piece_input old mid bytes comes) serves
+      goes_on = served_as served (all_fed 1 whole.done) o o' old mid new (awaits_running old waits)
+          (piece_input old mid bytes comes) serves
           (omega (arith, some, fed_more o mid_o o' old mid new piece.course piece.well c.0, ap length piece.fed))
           reads writes;
     }
 
 -- What a status says, with more bytes fed before.
-stands_more : (status : Status) (fed fed' : Bytes) (reading : Option Reading) (st : State) → length fed ≤ length fed' → Stands status fed reading st → Stands status fed' reading st
+stands_more : (status : Status) (fed fed' : Bytes) (reading : Option Reading) (st : State) → length fed ≤ length fed'
+    → Stands status fed reading st → Stands status fed' reading st
 stands_more Done fed fed' reading st more h = h
 stands_more SessionEnded fed fed' reading st more h = h
 stands_more NoMemory fed fed' reading st more h = h
@@ -153,7 +180,8 @@ still_at_end reading reading' h same = subst (λ (r : Option Reading). IsAtEnd r
 -- The run so far, in which no fault was met, and a read that ends it.
 pub run_ends : (status : Status) (before mid_o now : Outside) (start mid state : State)
     (c : Course start before mid_o mid) → c.failed ≡ false → (r : ReadEnds (Some status) mid_o now mid state)
-    → mid_o.read_faults ≡ before.read_faults → mid_o.write_faults ≡ before.write_faults → RunEnds status before now start state
+    → mid_o.read_faults ≡ before.read_faults → mid_o.write_faults ≡ before.write_faults
+    → RunEnds status before now start state
 run_ends status before mid_o now start mid state c well r reads writes =
     let d : Course mid mid_o now state = r.course in
     let g = r.goes_on in
@@ -168,13 +196,16 @@ run_ends status before mid_o now start mid state c well r reads writes =
     }
 
 -- The session as it opens, where no other is open.
-opened_parts : (old mid : State) → old.sessions ≡ [] → ((length old.sessions < SESSIONS) × (mid ≡ record old { sessions = old.sessions ++ fresh 1 ∷ [] })) ⊎ (mid ≡ old)
+opened_parts : (old mid : State) → old.sessions ≡ []
+    → ((length old.sessions < SESSIONS) × (mid ≡ record old { sessions = old.sessions ++ fresh 1 ∷ [] })) ⊎ (mid ≡ old)
     → (held_of mid 1 ≡ []) × (cause_of mid 1 ≡ None)
 opened_parts old mid none (inl h) =
-    let alone : mid ≡ record old { sessions = fresh 1 ∷ [] } = h.1 ∙ ap (λ (xs : List Session). record old { sessions = xs ++ fresh 1 ∷ [] }) none in
+    let alone : mid ≡ record old { sessions = fresh 1 ∷ [] } = h.1
+    ∙ ap (λ (xs : List Session). record old { sessions = xs ++ fresh 1 ∷ [] }) none in
     (ap (λ st. held_of st 1) alone, ap (λ st. cause_of st 1) alone)
 opened_parts old mid none (inr h) =
-    let alone : mid ≡ record old { sessions = [] } = h ∙ ap (λ (xs : List Session). record old { sessions = xs }) none in
+    let alone : mid ≡ record old { sessions = [] } = h
+    ∙ ap (λ (xs : List Session). record old { sessions = xs }) none in
     (ap (λ st. held_of st 1) alone, ap (λ st. cause_of st 1) alone)
 
 pub opened_awaits : (old new : State) → old.sessions ≡ [] → Makes old (opened 1) new → IsOpen new 1 → Awaits new
@@ -183,7 +214,8 @@ opened_awaits old new none m there =
     let parts = opened_parts old h.mid none h.acts.2 in
     let held : held_of new 1 ≡ [] = stepped_held old (opened 1) m.effect new h 1 ∙ parts.0 in
     let quiet : to_session 1 m.effect.queued ≡ [] = ap (λ (e : Effect). to_session 1 e.queued) h.acts.0 in
-    let pending : pending_of new 1 ≡ [] = step_bytes old (opened 1) m.effect new h 1 ∙ ap (λ q. pending_of old 1 ++ q) quiet
+    let pending : pending_of new 1 ≡ [] = step_bytes old (opened 1) m.effect new h 1
+    ∙ ap (λ q. pending_of old 1 ++ q) quiet
     ∙ ap (λ (xs : List Session). pending_of (record old { sessions = xs }) 1 ++ []) none in
     awaits new there pending (stepped_cause old (opened 1) m.effect new h 1 ∙ parts.1) (ap (λ bytes. is_dry bytes) held)
 
@@ -217,7 +249,8 @@ not_begun o old new same =
     record { course = none.0; failed = none.1; stands = inr (refl, same); read_faults = refl; write_faults = refl }
 
 -- Out of memory as the session opens.
-pub not_opened : (o : Outside) (old new : State) (r : Result ⊤ OpenRefusal) → is_err r ≡ true → OpenGives old 1 r new → RunEnds NoMemory o o old new
+pub not_opened : (o : Outside) (old new : State) (r : Result ⊤ OpenRefusal) → is_err r ≡ true → OpenGives old 1 r new
+    → RunEnds NoMemory o o old new
 not_opened o old new (Ok u) e h = absurd cc
 not_opened o old new (Err Full) e h = not_begun o old new h.1
 not_opened o old new (Err NoMem) e h = not_begun o old new h.1

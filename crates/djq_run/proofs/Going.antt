@@ -1,5 +1,6 @@
 -- How a run goes on, by each of its events.
-use Rattle.std.specs.Prelude.{ℕ, List, [], ◌∷◌, ◌≡◌, ◌+◌, ◌<◌, ◌≤◌, Bool, true, false, Option, None, Some, IsSome, IsSomeAnd, length, take}
+use Rattle.std.specs.Prelude.{ℕ, List, [], ◌∷◌, ◌≡◌, ◌+◌, ◌<◌, ◌≤◌, Bool, true, false, Option, None}
+use Rattle.std.specs.Prelude.{Some, IsSome, IsSomeAnd, length, take}
 use Rattle.std.proofs.Common.{refl, sym, ap, ◌∙◌, subst, append-nil, length-take, arith}
 use Rattle.djq_io.specs.Source.{Reading, Gives, GivesPiece}
 use Rattle.djq_io.specs.Sink.{Gains}
@@ -15,7 +16,9 @@ use Rattle.djq_machine.specs.Run.{Did, all_fed, pending_of, pending_in, piece_of
 use Rattle.djq_machine.specs.Call.{IsOpen, Makes, MakesCounted, Counts, cause_of, cause_in, held_of, held_in}
 use Rattle.djq_laws.specs.declared.limits.TheConstants.{READ_BYTES}
 use Rattle.djq_laws.specs.Course.{Outside, outside, Course, MayRun, AwaitsInput, writes_by}
-use Rattle.djq_laws.proofs.Courses.{course_begun, course_begun_well, course_one, course_one_done, course_one_well, course_failed, course_failed_so, course_then, course_then_failed}
+use Rattle.djq_laws.proofs.Courses.{course_begun, course_begun_well, course_one, course_one_done}
+use Rattle.djq_laws.proofs.Courses.{course_one_well, course_failed, course_failed_so, course_then}
+use Rattle.djq_laws.proofs.Courses.{course_then_failed}
 use Rattle.djq_run.specs.Ends.{Awaits}
 use Rattle.djq_run.specs.Parts.{GoesTo, with_sink}
 
@@ -33,17 +36,25 @@ by_event o o' old new event m may gives gains same =
     )
 
 -- what is known of an open session's parts holds of the session
-of_session : (st : State) (o : Option Session) → IsSome o → (P : Session → Type 0) → ((x : Session) → o ≡ Some x → P x) → IsSomeAnd o P
+of_session : (st : State) (o : Option Session) → IsSome o → (P : Session → Type 0) → ((x : Session) → o ≡ Some x → P x)
+    → IsSomeAnd o P
 of_session st None there P f = cc
 of_session st (Some x) there P f = f x refl
 
 flushed_session : (st : State) → IsOpen st 1 → pending_of st 1 ≡ [] → IsSomeAnd (session_of st 1) (λ x. x.pending ≡ [])
-flushed_session st there pending = of_session st (session_of st 1) there (λ x. x.pending ≡ []) (λ x e. sym (ap pending_in e) ∙ pending)
+flushed_session st there pending = of_session st (session_of st 1) there (λ x. x.pending ≡ [])
+    (λ x e. sym (ap pending_in e) ∙ pending)
 
-pub awaits : (st : State) → IsOpen st 1 → pending_of st 1 ≡ [] → cause_of st 1 ≡ None → is_dry (held_of st 1) ≡ true → Awaits st
+pub awaits : (st : State) → IsOpen st 1 → pending_of st 1 ≡ [] → cause_of st 1 ≡ None → is_dry (held_of st 1) ≡ true
+    → Awaits st
 awaits st there pending running dry =
     of_session st (session_of st 1) there AwaitsInput
-    (λ x e. record { written = sym (ap pending_in e) ∙ pending; running = sym (ap cause_in e) ∙ running; dry = ap (λ (o : Option Session). is_dry (held_in o)) (sym e) ∙ dry })
+    (λ x e. record {
+      written = sym (ap pending_in e) ∙ pending;
+      running = sym (ap cause_in e)
+          ∙ running;
+      dry = ap (λ (o : Option Session). is_dry (held_in o)) (sym e) ∙ dry;
+    })
 
 -- session 1 opens where no session is open
 pub by_opening : (o : Outside) (old new : State) → old.sessions ≡ [] → Makes old (opened 1) new

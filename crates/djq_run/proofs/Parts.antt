@@ -1,5 +1,6 @@
 -- What the parts of a run leave of the session.
-use Rattle.std.specs.Prelude.{ℕ, List, [], ◌∷◌, ◌≡◌, ◌<◌, ◌≤◌, false, Option, None, Some, IfSome, MatchOption, length, take}
+use Rattle.std.specs.Prelude.{ℕ, List, [], ◌∷◌, ◌≡◌, ◌<◌, ◌≤◌, false, Option, None, Some, IfSome}
+use Rattle.std.specs.Prelude.{MatchOption, length, take}
 use Rattle.std.proofs.Common.{refl, sym, ap, ◌∙◌, subst, inl, inr, length-append, length-take, arith}
 use Rattle.djq_io.specs.declared.sink.Write.{Write}
 use Rattle.djq_lines.specs.declared.answer.EndCause.{EndCause}
@@ -37,7 +38,8 @@ no_bytes [] e = refl
 no_bytes (b ∷ bs) e = absurd (omega (arith, e))
 
 -- a write that took all leaves nothing pending
-pub none_pending : (n : ℕ) (old new : State) → n ≡ length (pending_of old 1) → Takes old new 1 (take n (pending_of old 1)) → pending_of new 1 ≡ []
+pub none_pending : (n : ℕ) (old new : State) → n ≡ length (pending_of old 1)
+    → Takes old new 1 (take n (pending_of old 1)) → pending_of new 1 ≡ []
 none_pending n old new all t =
     no_bytes (pending_of new 1)
     (omega (
@@ -63,7 +65,8 @@ none_input c none e = cc
 run_input : (c : Option EndCause) → IfSome c EndsByRun → c ≡ Some Input → ⊥
 run_input c h e = subst (λ (o : Option EndCause). IfSome o EndsByRun) e h
 
-pub line_ran : (old new : State) (before now : Counts) → IsOpen old 1 → pending_of old 1 ≡ [] → RanStep old 1 new before now → LineRan old new before now
+pub line_ran : (old new : State) (before now : Counts) → IsOpen old 1 → pending_of old 1 ≡ []
+    → RanStep old 1 new before now → LineRan old new before now
 line_ran old new before now there pending (l, inl m) =
     let f : StepsLine old new 1 (blank l) = stepped_facts old 1 (blank l) m.effect new m.step in
     record {
@@ -89,8 +92,10 @@ pub record LineEnded (c : EndCause) (old new : State) (before now : Counts) : Ty
   pub cause : cause_of new 1 ≡ Some c
   pub input : c ≡ Input → cause_of old 1 ≡ Some Input
 
-ended_now : (c : EndCause) (old new : State) (before now : Counts) (outcome : LineOutcome) → IsOpen old 1 → pending_of old 1 ≡ []
-    → MakesCounted old (stepped 1 outcome) new before now → (StepsLine old new 1 outcome → cause_of new 1 ≡ Some c) → (c ≡ Input → ⊥) → LineEnded c old new before now
+ended_now : (c : EndCause) (old new : State) (before now : Counts) (outcome : LineOutcome) → IsOpen old 1
+    → pending_of old 1 ≡ []
+    → MakesCounted old (stepped 1 outcome) new before now → (StepsLine old new 1 outcome → cause_of new 1 ≡ Some c)
+    → (c ≡ Input → ⊥) → LineEnded c old new before now
 ended_now c old new before now outcome there pending m cause no_input =
     let f : StepsLine old new 1 outcome = stepped_facts old 1 outcome m.effect new m.step in
     record {
@@ -100,16 +105,22 @@ ended_now c old new before now outcome there pending m cause no_input =
       input = λ e. absurd (no_input e);
     }
 
-ended_by : (c : EndCause) (old new : State) (before now : Counts) → IsOpen old 1 → pending_of old 1 ≡ [] → EndedStepAs c old 1 new before now → LineEnded c old new before now
-ended_by Long old new before now there pending m = ended_now Long old new before now long there pending m (λ f. f.cause) (λ e. cc)
-ended_by Slow old new before now there pending m = ended_now Slow old new before now (slow m.0) there pending m.1 (λ f. f.cause) (λ e. cc)
-ended_by Memory old new before now there pending m = ended_now Memory old new before now (no_room m.0) there pending m.1 (λ f. f.cause) (λ e. cc)
+ended_by : (c : EndCause) (old new : State) (before now : Counts) → IsOpen old 1 → pending_of old 1 ≡ []
+    → EndedStepAs c old 1 new before now → LineEnded c old new before now
+ended_by Long old new before now there pending m = ended_now Long old new before now long there pending m (λ f. f.cause)
+    (λ e. cc)
+ended_by Slow old new before now there pending m = ended_now Slow old new before now (slow m.0) there pending m.1
+    (λ f. f.cause) (λ e. cc)
+ended_by Memory old new before now there pending m = ended_now Memory old new before now (no_room m.0) there pending m.1
+    (λ f. f.cause) (λ e. cc)
 ended_by Input old new before now there pending m = absurd m
 ended_by Quit old new before now there pending m = absurd m
 ended_by Stop old new before now there pending m = absurd m
 
-ended_before : (c : EndCause) (old new : State) (before now : Counts) (cause : Option EndCause) → cause_of old 1 ≡ cause → IsOpen old 1 → pending_of old 1 ≡ []
-    → MatchOption cause (EndedStepAs c old 1 new before now) (λ d. (d ≡ c) × (new ≡ old) × (now ≡ before)) → LineEnded c old new before now
+ended_before : (c : EndCause) (old new : State) (before now : Counts) (cause : Option EndCause) → cause_of old 1 ≡ cause
+    → IsOpen old 1 → pending_of old 1 ≡ []
+    → MatchOption cause (EndedStepAs c old 1 new before now) (λ d. (d ≡ c) × (new ≡ old) × (now ≡ before))
+    → LineEnded c old new before now
 ended_before c old new before now None e there pending h = ended_by c old new before now there pending h
 ended_before c old new before now (Some d) e there pending h =
     let same : cause_of old 1 ≡ Some c = e ∙ ap (λ k. Some k) h.0 in
@@ -123,8 +134,10 @@ ended_before c old new before now (Some d) e there pending h =
       input = λ i. same ∙ ap (λ k. Some k) i;
     }
 
-pub line_ended : (c : EndCause) (old new : State) (before now : Counts) (kept : List Bytes) → IsOpen old 1 → pending_of old 1 ≡ [] → StepGives old 1 (Ended c) new before now kept → LineEnded c old new before now
-line_ended c old new before now kept there pending h = ended_before c old new before now (cause_of old 1) refl there pending h.1
+pub line_ended : (c : EndCause) (old new : State) (before now : Counts) (kept : List Bytes) → IsOpen old 1
+    → pending_of old 1 ≡ [] → StepGives old 1 (Ended c) new before now kept → LineEnded c old new before now
+line_ended c old new before now kept there pending h = ended_before c old new before now (cause_of old 1) refl there
+    pending h.1
 
 -- a session has one end cause
 pub one_cause : (c d : EndCause) (o : Option EndCause) → o ≡ Some c → o ≡ Some d → c ≡ d

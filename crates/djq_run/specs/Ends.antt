@@ -12,7 +12,10 @@ use Rattle.djq_machine.specs.Call.{cause_of, held_of}
 use Rattle.djq_laws.specs.declared.limits.TheConstants.{MOST_READS}
 use Rattle.djq_laws.specs.Course.{Outside, Course, AwaitsInput}
 use Rattle.djq_run.specs.declared.status.Status.{Status}
-use Rattle.djq_run.specs.declared.status.Status.TheVariants.{Done, Usage, ReadFault, WriteFault, HubFault, TurnsUsed, NoMemory, Schedule, SessionEnded, DiskFault, LogFull, BadLog, Mirror}
+use Rattle.djq_run.specs.declared.status.Status.TheVariants.{Done, Usage, ReadFault, WriteFault}
+use Rattle.djq_run.specs.declared.status.Status.TheVariants.{HubFault, TurnsUsed, NoMemory}
+use Rattle.djq_run.specs.declared.status.Status.TheVariants.{Schedule, SessionEnded, DiskFault}
+use Rattle.djq_run.specs.declared.status.Status.TheVariants.{LogFull, BadLog, Mirror}
 
 -- Nothing is pending for the session, no line of it can be run, and it has no end cause.
 abbrev pub Awaits : State → Type 0

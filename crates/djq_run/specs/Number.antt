@@ -1,7 +1,10 @@
 -- The numbers of statuses.
 use Rattle.std.specs.Prelude.{ℕ}
 use Rattle.djq_run.specs.declared.status.Status.{Status}
-use Rattle.djq_run.specs.declared.status.Status.TheVariants.{Done, Usage, ReadFault, WriteFault, HubFault, TurnsUsed, NoMemory, Schedule, SessionEnded, DiskFault, LogFull, BadLog, Mirror}
+use Rattle.djq_run.specs.declared.status.Status.TheVariants.{Done, Usage, ReadFault, WriteFault}
+use Rattle.djq_run.specs.declared.status.Status.TheVariants.{HubFault, TurnsUsed, NoMemory}
+use Rattle.djq_run.specs.declared.status.Status.TheVariants.{Schedule, SessionEnded, DiskFault}
+use Rattle.djq_run.specs.declared.status.Status.TheVariants.{LogFull, BadLog, Mirror}
 
 -- The number with which the process ends.
 abbrev pub number_of : Status → ℕ

@@ -9,7 +9,8 @@ use Rattle.djq_machine.specs.Run.{pending_of, all_fed}
 use Rattle.djq_machine.specs.Call.{IsOpen, Counts, cause_of, held_of}
 use Rattle.djq_laws.specs.Course.{Outside, Course}
 use Rattle.djq_run.specs.declared.status.Status.{Status}
-use Rattle.djq_run.specs.declared.status.Status.TheVariants.{Done, NoMemory, SessionEnded, WriteFault as StatusWriteFault}
+use Rattle.djq_run.specs.declared.status.Status.TheVariants.{Done, NoMemory, SessionEnded}
+use Rattle.djq_run.specs.declared.status.Status.TheVariants.{WriteFault as StatusWriteFault}
 use Rattle.djq_run.specs.declared.session.Served.{Served}
 use Rattle.djq_run.specs.declared.session.Served.TheVariants.{AwaitsInput, Ended, WriteFault}
 use Rattle.djq_run.specs.Ends.{Awaits, Stands, ReadsCount, WritesCount as StatusCount, is_write_fault}

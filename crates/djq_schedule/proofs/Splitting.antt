@@ -1,12 +1,14 @@
 -- How bytes are split at a sign, and cut into lines.
-use Rattle.std.specs.Prelude.{ℕ, zero, suc, List, [], ◌∷◌, ◌==◌, ◌≡◌, ◌+◌, ◌<◌, Bool, true, false, cond, None, Some, length, take, drop}
+use Rattle.std.specs.Prelude.{ℕ, zero, suc, List, [], ◌∷◌, ◌==◌, ◌≡◌, ◌+◌, ◌<◌, Bool, true, false}
+use Rattle.std.specs.Prelude.{cond, None, Some, length, take, drop}
 use Rattle.std.proofs.Common.{refl, ap, ◌∙◌, get_or, arith}
 use Rattle.memchr.specs.Find.{IsFirstByte, is_byte}
 use Rattle.djq_model.specs.Data.{Bytes}
 use Rattle.djq_schedule.specs.Schedule.{before, behind, rest_of, with_first, lines_of}
 
 -- what stands before the first of these bytes, and behind it
-pub split_found : (sign : ℕ) (xs : Bytes) (k : ℕ) → k < length xs → (get_or xs k 0 == sign) ≡ true → ((j : ℕ) → j < k → (get_or xs j 0 == sign) ≡ false)
+pub split_found : (sign : ℕ) (xs : Bytes) (k : ℕ) → k < length xs → (get_or xs k 0 == sign) ≡ true
+    → ((j : ℕ) → j < k → (get_or xs j 0 == sign) ≡ false)
     → (before sign xs ≡ take k xs) × (behind sign xs ≡ Some (drop (k + 1) xs))
 split_found sign [] k within is first = absurd (omega (arith, within))
 split_found sign (x ∷ xs) zero within is first = let here : (x == sign) ≡ true = is in (rw here refl, rw here refl)
@@ -19,7 +21,8 @@ split_found sign (x ∷ xs) (suc k) within is first =
     more n = omega arith
 
 -- where there is none
-pub split_none : (sign : ℕ) (xs : Bytes) → ((j : ℕ) → j < length xs → (get_or xs j 0 == sign) ≡ false) → (before sign xs ≡ xs) × (behind sign xs ≡ None)
+pub split_none : (sign : ℕ) (xs : Bytes) → ((j : ℕ) → j < length xs → (get_or xs j 0 == sign) ≡ false)
+    → (before sign xs ≡ xs) × (behind sign xs ≡ None)
 split_none sign [] other = (refl, refl)
 split_none sign (x ∷ xs) other =
     let here : (x == sign) ≡ false = other 0 (omega arith) in
@@ -27,10 +30,12 @@ split_none sign (x ∷ xs) other =
     (rw here (ap (λ (ys : Bytes). x ∷ ys) rest.0), rw here rest.1)
 
 -- the first line, and those behind it
-pub first_line : (b : ℕ) (bytes : Bytes) → lines_of (b ∷ bytes) ≡ before 10 (b ∷ bytes) ∷ lines_of (rest_of (behind 10 (b ∷ bytes)))
+pub first_line : (b : ℕ) (bytes : Bytes) → lines_of (b ∷ bytes)
+    ≡ before 10 (b ∷ bytes) ∷ lines_of (rest_of (behind 10 (b ∷ bytes)))
 first_line b [] = last (b == 10)
   where
-    last : (t : Bool) → cond t ([] ∷ []) (with_first b []) ≡ cond t [] (b ∷ []) ∷ lines_of (rest_of (cond t (Some []) None))
+    last : (t : Bool) → cond t ([] ∷ []) (with_first b [])
+        ≡ cond t [] (b ∷ []) ∷ lines_of (rest_of (cond t (Some []) None))
     last true = refl
     last false = refl
 first_line b (d ∷ bytes) = at_first (b == 10) (first_line d bytes)
@@ -46,8 +51,11 @@ fails : (t : Bool) → (t ≡ true → ⊥) → t ≡ false
 fails true h = absurd (h refl)
 fails false h = refl
 
-pub split_first : (sign : ℕ) (xs : Bytes) (k : ℕ) → IsFirstByte (is_byte sign) xs (Some k) → (before sign xs ≡ take k xs) × (behind sign xs ≡ Some (drop (k + 1) xs))
-split_first sign xs k h = split_found sign xs k h.0.high h.1 (λ j less. fails (get_or xs j 0 == sign) (h.0.before j (omega arith) less))
+pub split_first : (sign : ℕ) (xs : Bytes) (k : ℕ) → IsFirstByte (is_byte sign) xs (Some k)
+    → (before sign xs ≡ take k xs) × (behind sign xs ≡ Some (drop (k + 1) xs))
+split_first sign xs k h = split_found sign xs k h.0.high h.1
+    (λ j less. fails (get_or xs j 0 == sign) (h.0.before j (omega arith) less))
 
-pub split_none_of : (sign : ℕ) (xs : Bytes) → IsFirstByte (is_byte sign) xs None → (before sign xs ≡ xs) × (behind sign xs ≡ None)
+pub split_none_of : (sign : ℕ) (xs : Bytes) → IsFirstByte (is_byte sign) xs None → (before sign xs ≡ xs)
+    × (behind sign xs ≡ None)
 split_none_of sign xs h = split_none sign xs (λ j less. fails (get_or xs j 0 == sign) (h j (omega arith) less))

@@ -1,12 +1,14 @@
 -- The hub that a schedule is.
-use Rattle.std.specs.Prelude.{ℕ, List, [], ◌∷◌, ◌++◌, ◌≡◌, ◌+◌, Bool, true, false, nat_le, Option, None, Some, IsSomeAnd, if◌then◌else◌, length, Result, Ok, Err}
+use Rattle.std.specs.Prelude.{ℕ, List, [], ◌∷◌, ◌++◌, ◌≡◌, ◌+◌, Bool, true, false, nat_le, Option}
+use Rattle.std.specs.Prelude.{None, Some, IsSomeAnd, if◌then◌else◌, length, Result, Ok, Err}
 use Rattle.djq_io.specs.Hub.{no_ids}
 use Rattle.djq_io.specs.MemHub.{Recorded, with_coming}
 use Rattle.djq_io.specs.declared.hub.Coming.{Coming}
 use Rattle.djq_model.specs.Data.{Bytes}
 use Rattle.djq_schedule.specs.declared.schedule.ScheduleRefusal.{ScheduleRefusal}
 use Rattle.djq_schedule.specs.declared.schedule.ScheduleRefusal.TheVariants.{Outside, NoMem}
-use Rattle.djq_schedule.specs.Schedule.{Order, Stage, lines_of, order_of, may_stand, stage_after, blocked_after, turn_of}
+use Rattle.djq_schedule.specs.Schedule.{Order, Stage, lines_of, order_of, may_stand, stage_after}
+use Rattle.djq_schedule.specs.Schedule.{blocked_after, turn_of}
 
 -- what a line says, where it is in the grammar at this stage
 abbrev pub standing : Stage → Option Order → Option Order

@@ -1,5 +1,7 @@
 -- Schedules: which lines are in their grammar, and which turns of a hub they are.
-use Rattle.std.specs.Prelude.{ℕ, List, [], ◌∷◌, ◌++◌, ◌==◌, ◌+◌, ◌*◌, ◌-◌, ◌&&◌, Bool, true, false, not, nat_le, nat_lt, nat_eq, Option, None, Some, is_none, if◌then◌else◌, filter, codes}
+use Rattle.std.specs.Prelude.{ℕ, List, [], ◌∷◌, ◌++◌, ◌==◌, ◌+◌, ◌*◌, ◌-◌, ◌&&◌, Bool, true, false}
+use Rattle.std.specs.Prelude.{not, nat_le, nat_lt, nat_eq, Option, None, Some, is_none}
+use Rattle.std.specs.Prelude.{if◌then◌else◌, filter, codes}
 use Rattle.std.specs.List.{list_any}
 use Rattle.djq_io.specs.declared.hub.Incoming.{Incoming}
 use Rattle.djq_io.specs.declared.hub.Incoming.TheVariants.{Opens, Brings, Ends, Nothing}

@@ -23,9 +23,11 @@ none_is : (lines : List Bytes) → [] ≡ lines ∷ [] → ⊥
 none_is lines e = cc
 
 -- The group that a step keeps is the one that its lines are: none, where there are none.
-pub step_group : (old : State) (s : ℕ) (new : State) (mid now : Counts) (kept : Bool) (lines : List Bytes) → (ran : RanStep old s new mid now)
+pub step_group : (old : State) (s : ℕ) (new : State) (mid now : Counts) (kept : Bool) (lines : List Bytes)
+    → (ran : RanStep old s new mid now)
     → KeepsGroup kept (groups_by old s new mid now ran) lines → groups_by old s new mid now ran ≡ grouped lines
-step_group old s new mid now false lines ran (none, no_lines) = none ∙ ap (λ (ls : List Bytes). grouped ls) (sym no_lines)
+step_group old s new mid now false lines ran (none, no_lines) = none
+    ∙ ap (λ (ls : List Bytes). grouped ls) (sym no_lines)
 step_group old s new mid now true lines (l, inl m) is = absurd (none_is lines is)
 step_group old s new mid now true lines (l, inr m) is = is ∙ by m.effect.kept is
   where
@@ -35,8 +37,11 @@ step_group old s new mid now true lines (l, inr m) is = is ∙ by m.effect.kept 
     by (the_batch held) e = with_line (codes "batch") (held ++ codes "done" ∷ []) lines e
 
 -- They are lines.
-pub step_lines : (old : State) (s : ℕ) (new : State) (mid now : Counts) (kept : Bool) (lines : List Bytes) → HoldLines old → (ran : RanStep old s new mid now)
+pub step_lines : (old : State) (s : ℕ) (new : State) (mid now : Counts) (kept : Bool) (lines : List Bytes)
+    → HoldLines old → (ran : RanStep old s new mid now)
     → KeepsGroup kept (groups_by old s new mid now ran) lines → AllByRecursion IsLine lines
-step_lines old s new mid now false lines hold ran (none, no_lines) = subst (λ (ls : List Bytes). AllByRecursion IsLine ls) (sym no_lines) tt
+step_lines old s new mid now false lines hold ran (none, no_lines) = subst
+    (λ (ls : List Bytes). AllByRecursion IsLine ls) (sym no_lines) tt
 step_lines old s new mid now true lines hold (l, inl m) is = absurd (none_is lines is)
-step_lines old s new mid now true lines hold (l, inr m) is = kept_lines old s l m.effect m.step.mid m.step.acts hold lines is
+step_lines old s new mid now true lines hold (l, inr m) is = kept_lines old s l m.effect m.step.mid m.step.acts hold
+    lines is

@@ -1,9 +1,13 @@
 -- That the machine and the hub have the same sessions, and which of them a flush is at.
-use Rattle.std.specs.Prelude.{ℕ, List, [], ◌∷◌, ◌++◌, ◌==◌, ◌≡◌, ◌<◌, ◌≤◌, ◌⊎◌, ◌&&◌, ◌||◌, Bool, true, false, not, cond, nat_eq, nat_le, nat_lt, MatchBool, Option, None, Some, is_some, IsSome, IsSomeAnd, IfSome, find, filter, slice_get, length, map, All, Contains}
+use Rattle.std.specs.Prelude.{ℕ, List, [], ◌∷◌, ◌++◌, ◌==◌, ◌≡◌, ◌<◌, ◌≤◌, ◌⊎◌, ◌&&◌, ◌||◌, Bool}
+use Rattle.std.specs.Prelude.{true, false, not, cond, nat_eq, nat_le, nat_lt, MatchBool, Option}
+use Rattle.std.specs.Prelude.{None, Some, is_some, IsSome, IsSomeAnd, IfSome, find, filter}
+use Rattle.std.specs.Prelude.{slice_get, length, map, All, Contains}
 use Rattle.std.specs.List.{list_any}
 use Rattle.std.proofs.Common.{refl, sym, ap, ◌∙◌, subst, inl, inr, arith}
 use Rattle.std.proofs.lemmas.Bool.{and_parts, eqb-true, eq-eqb, leb-true}
-use Rattle.std.proofs.lemmas.List.Elements.{All-nil, All-cons, All-head, All-tail, All-filter, All-contains, All-contains_itself, Contains-push}
+use Rattle.std.proofs.lemmas.List.Elements.{All-nil, All-cons, All-head, All-tail, All-filter}
+use Rattle.std.proofs.lemmas.List.Elements.{All-contains, All-contains_itself, Contains-push}
 use Rattle.djq_io.specs.Hub.{Ids, IsNew as IsNewId, IsRunning, with_opened, EndsInput, without}
 use Rattle.djq_io.proofs.Membership.{is_member}
 use Rattle.djq_machine.specs.State.{State, Session}
@@ -18,12 +22,15 @@ use Rattle.djq_serve.specs.Kept.{Agrees, IsNew}
 use Rattle.djq_serve.specs.Parts.{IsServed, NotServed}
 
 -- an id is that of an open session exactly where it is among the ids
-open_any : (xs : List Session) (s : ℕ) → is_some (find (λ (x : Session). x.id == s) xs) ≡ list_any (λ i. nat_eq i s) (map (λ (x : Session). x.id) xs)
+open_any : (xs : List Session) (s : ℕ) → is_some (find (λ (x : Session). x.id == s) xs)
+    ≡ list_any (λ i. nat_eq i s) (map (λ (x : Session). x.id) xs)
 open_any [] s = refl
 open_any (x ∷ xs) s = at_first (x.id == s) (open_any xs s)
   where
-    at_first : (b : Bool) → is_some (find (λ (y : Session). y.id == s) xs) ≡ list_any (λ i. nat_eq i s) (map (λ (y : Session). y.id) xs)
-        → is_some (cond b (Some x) (find (λ (y : Session). y.id == s) xs)) ≡ (b || list_any (λ i. nat_eq i s) (map (λ (y : Session). y.id) xs))
+    at_first : (b : Bool) → is_some (find (λ (y : Session). y.id == s) xs)
+        ≡ list_any (λ i. nat_eq i s) (map (λ (y : Session). y.id) xs)
+        → is_some (cond b (Some x) (find (λ (y : Session). y.id == s) xs))
+        ≡ (b || list_any (λ i. nat_eq i s) (map (λ (y : Session). y.id) xs))
     at_first true h = refl
     at_first false h = h
 
@@ -41,17 +48,20 @@ pub found_passes : {A : Type 0} (p : A → Bool) (xs : List A) (x : A) → find 
 found_passes p [] x e = absurd cc
 found_passes p (y ∷ xs) x e = at_first (p y) refl e (λ k. found_passes p xs x k)
   where
-    at_first : (b : Bool) → p y ≡ b → cond b (Some y) (find p xs) ≡ Some x → (find p xs ≡ Some x → p x ≡ true) → p x ≡ true
+    at_first : (b : Bool) → p y ≡ b → cond b (Some y) (find p xs) ≡ Some x → (find p xs ≡ Some x → p x ≡ true) → p x
+        ≡ true
     at_first true passes k rest = subst (λ (z : _). p z ≡ true) (inside y x k) passes
     at_first false passes k rest = rest k
 
 -- The session that a flush is at is open, of at least the id that the flush is from, and something is due to it.
 pub due_open : (st : State) (from s : ℕ) → first_due st from ≡ Some s → IsOpen st s
 due_open st from s h =
-    contains_open st s (all_found (Contains (ids_of st)) (λ i. nat_le from i && is_due st i) (ids_of st) s (All-contains_itself (ids_of st)) h)
+    contains_open st s (all_found (Contains (ids_of st)) (λ i. nat_le from i && is_due st i) (ids_of st) s
+    (All-contains_itself (ids_of st)) h)
 
 due_parts : (st : State) (from s : ℕ) → first_due st from ≡ Some s → (nat_le from s ≡ true) × (is_due st s ≡ true)
-due_parts st from s h = and_parts (nat_le from s) (is_due st s) (found_passes (λ i. nat_le from i && is_due st i) (ids_of st) s h)
+due_parts st from s h = and_parts (nat_le from s) (is_due st s)
+    (found_passes (λ i. nat_le from i && is_due st i) (ids_of st) s h)
 
 pub due_above : (st : State) (from s : ℕ) → first_due st from ≡ Some s → from ≤ s
 due_above st from s h = leb-true from s (due_parts st from s h).0
@@ -62,7 +72,8 @@ due_ended st from s h none =
     ap (λ (bytes : Bytes). nat_lt 0 (length bytes) || is_some (cause_of st s)) (sym none) ∙ (due_parts st from s h).1
 
 -- The hub has the machine's sessions, after a change that opens and closes none.
-pub agrees_same : (old new : State) (ids ids' : Ids) → ids_of new ≡ ids_of old → ids' ≡ ids → Agrees old ids → Agrees new ids'
+pub agrees_same : (old new : State) (ids ids' : Ids) → ids_of new ≡ ids_of old → ids' ≡ ids → Agrees old ids
+    → Agrees new ids'
 agrees_same old new ids ids' same hub a = record {
   same = ap (λ (i : Ids). i.open_ids) hub ∙ a.same ∙ sym same;
   newest = subst (λ (i : Ids). All (λ s. IsSomeAnd i.newest (λ n. s ≤ n)) (ids_of new)) (sym hub)
@@ -70,7 +81,8 @@ agrees_same old new ids ids' same hub a = record {
 }
 
 -- a session was closed at both
-pub agrees_closed : (old new : State) (ids ids' : Ids) (s : ℕ) → ids_of new ≡ filter (λ i. not (i == s)) (ids_of old) → ids' ≡ without ids s → Agrees old ids → Agrees new ids'
+pub agrees_closed : (old new : State) (ids ids' : Ids) (s : ℕ) → ids_of new ≡ filter (λ i. not (i == s)) (ids_of old)
+    → ids' ≡ without ids s → Agrees old ids → Agrees new ids'
 agrees_closed old new ids ids' s gone hub a = record {
   same = ap (λ (i : Ids). i.open_ids) hub ∙ ap (λ (is : List ℕ). filter (λ i. not (i == s)) is) a.same ∙ sym gone;
   newest = subst (λ (i : Ids). All (λ t. IsSomeAnd i.newest (λ n. t ≤ n)) (ids_of new)) (sym hub)
@@ -94,15 +106,18 @@ all_as : (P Q : ℕ → Type 0) → ((x : ℕ) → P x → Q x) → (xs : List �
 all_as P Q f [] h = All-nil Q
 all_as P Q f (x ∷ xs) h = All-cons Q x xs (f x (All-head P x xs h)) (all_as P Q f xs (All-tail P x xs h))
 
-pub is_new : (st : State) (ids ids' : Ids) (s : ℕ) → IsNewId ids s → ids' ≡ with_opened ids s → Agrees st ids → IsNew st ids' s
+pub is_new : (st : State) (ids ids' : Ids) (s : ℕ) → IsNewId ids s → ids' ≡ with_opened ids s → Agrees st ids
+    → IsNew st ids' s
 is_new st ids ids' s new hub a = record {
   same = ap (λ (i : Ids). i.open_ids) hub ∙ ap (λ (is : List ℕ). is ++ s ∷ []) a.same;
   newest = ap (λ (i : Ids). i.newest) hub;
-  above = all_as (λ t. IsSomeAnd ids.newest (λ n. t ≤ n)) (λ t. t < s) (λ t known. above_newest ids.newest s t new known) (ids_of st) a.newest;
+  above = all_as (λ t. IsSomeAnd ids.newest (λ n. t ≤ n)) (λ t. t < s)
+      (λ t known. above_newest ids.newest s t new known) (ids_of st) a.newest;
 }
 
 -- that an id is above the open ones, as the machine asks for it
-above_in : (xs : List Session) (s : ℕ) → All (λ t. t < s) (map (λ (x : Session). x.id) xs) → All (λ (x : Session). x.id < s) xs
+above_in : (xs : List Session) (s : ℕ) → All (λ t. t < s) (map (λ (x : Session). x.id) xs)
+    → All (λ (x : Session). x.id < s) xs
 above_in [] s h = All-nil (λ (x : Session). x.id < s)
 above_in (x ∷ xs) s h =
     All-cons (λ (y : Session). y.id < s) x xs (All-head (λ t. t < s) x.id (map (λ (y : Session). y.id) xs) h)
@@ -117,7 +132,8 @@ not_open st s above there =
     absurd (omega (arith, less))
 
 -- it was let in
-opened_ids : (old new : State) (s : ℕ) (above : All (λ t. t < s) (ids_of old)) → IsOpen new s → (ids_of new ≡ ids_of old ++ s ∷ []) ⊎ (ids_of new ≡ ids_of old) → ids_of new ≡ ids_of old ++ s ∷ []
+opened_ids : (old new : State) (s : ℕ) (above : All (λ t. t < s) (ids_of old)) → IsOpen new s
+    → (ids_of new ≡ ids_of old ++ s ∷ []) ⊎ (ids_of new ≡ ids_of old) → ids_of new ≡ ids_of old ++ s ∷ []
 opened_ids old new s above there (inl h) = h
 opened_ids old new s above there (inr h) =
     absurd (not_open new s (subst (λ (is : List ℕ). All (λ t. t < s) is) (sym h) above) there)
@@ -126,14 +142,17 @@ all_push : (P : ℕ → Type 0) (xs : List ℕ) (s : ℕ) → All P xs → P s �
 all_push P [] s h p = All-cons P s [] p (All-nil P)
 all_push P (x ∷ xs) s h p = All-cons P x (xs ++ s ∷ []) (All-head P x xs h) (all_push P xs s (All-tail P x xs h) p)
 
-pub opens_in : (old new : State) (ids ids' : Ids) (s : ℕ) → IsNew old ids s → Makes old (opened s) new → IsOpen new s → ids' ≡ ids → Agrees new ids'
+pub opens_in : (old new : State) (ids ids' : Ids) (s : ℕ) → IsNew old ids s → Makes old (opened s) new → IsOpen new s
+    → ids' ≡ ids → Agrees new ids'
 opens_in old new ids ids' s n m there hub =
     let both = opened_ids old new s n.above there (step_ids old (opened s) m.effect new m.step) in
     let all : All (λ t. t ≤ s) (ids_of old ++ s ∷ []) =
-    all_push (λ t. t ≤ s) (ids_of old) s (all_as (λ t. t < s) (λ t. t ≤ s) (λ t less. omega (arith, less)) (ids_of old) n.above) (omega arith) in
+    all_push (λ t. t ≤ s) (ids_of old) s
+    (all_as (λ t. t < s) (λ t. t ≤ s) (λ t less. omega (arith, less)) (ids_of old) n.above) (omega arith) in
     record {
       same = ap (λ (i : Ids). i.open_ids) hub ∙ n.same ∙ sym both;
-      newest = subst (λ (o : Option ℕ). All (λ t. IsSomeAnd o (λ k. t ≤ k)) (ids_of new)) (sym (ap (λ (i : Ids). i.newest) hub ∙ n.newest))
+      newest = subst (λ (o : Option ℕ). All (λ t. IsSomeAnd o (λ k. t ≤ k)) (ids_of new))
+          (sym (ap (λ (i : Ids). i.newest) hub ∙ n.newest))
           (subst (λ (is : List ℕ). All (λ t. t ≤ s) is) (sym both) all);
     }
 
@@ -147,14 +166,17 @@ dropped_last [] s h = at_last (s == s) (eq-eqb s s refl)
 dropped_last (x ∷ xs) s h = at_first (x == s) refl (dropped_last xs s (All-tail (λ t. t < s) x xs h))
   where
     at_first : (b : Bool) → (x == s) ≡ b → filter (λ i. not (i == s)) (xs ++ s ∷ []) ≡ xs
-        → cond (not b) (x ∷ filter (λ i. not (i == s)) (xs ++ s ∷ [])) (filter (λ i. not (i == s)) (xs ++ s ∷ [])) ≡ x ∷ xs
+        → cond (not b) (x ∷ filter (λ i. not (i == s)) (xs ++ s ∷ [])) (filter (λ i. not (i == s)) (xs ++ s ∷ []))
+        ≡ x ∷ xs
     at_first true e rest = let less = All-head (λ t. t < s) x xs h in absurd (omega (arith, less, eqb-true x s e))
     at_first false e rest = ap (λ (is : List ℕ). x ∷ is) rest
 
 pub refused_in : (st : State) (ids ids' : Ids) (s : ℕ) → IsNew st ids s → ids' ≡ without ids s → Agrees st ids'
 refused_in st ids ids' s n hub = record {
-  same = ap (λ (i : Ids). i.open_ids) hub ∙ ap (λ (is : List ℕ). filter (λ i. not (i == s)) is) n.same ∙ dropped_last (ids_of st) s n.above;
-  newest = subst (λ (o : Option ℕ). All (λ t. IsSomeAnd o (λ k. t ≤ k)) (ids_of st)) (sym (ap (λ (i : Ids). i.newest) hub ∙ n.newest))
+  same = ap (λ (i : Ids). i.open_ids) hub ∙ ap (λ (is : List ℕ). filter (λ i. not (i == s)) is) n.same
+      ∙ dropped_last (ids_of st) s n.above;
+  newest = subst (λ (o : Option ℕ). All (λ t. IsSomeAnd o (λ k. t ≤ k)) (ids_of st))
+      (sym (ap (λ (i : Ids). i.newest) hub ∙ n.newest))
       (all_as (λ t. t < s) (λ t. t ≤ s) (λ t less. omega (arith, less)) (ids_of st) n.above);
 }
 
@@ -171,7 +193,8 @@ agrees_none st ids none hub =
     let no_ids : ids_of st ≡ [] = ap (λ (xs : List Session). map (λ (x : Session). x.id) xs) none in
     record {
       same = hub ∙ sym no_ids;
-      newest = subst (λ (is : List ℕ). All (λ s. IsSomeAnd ids.newest (λ n. s ≤ n)) is) (sym no_ids) (All-nil (λ s. IsSomeAnd ids.newest (λ n. s ≤ n)));
+      newest = subst (λ (is : List ℕ). All (λ s. IsSomeAnd ids.newest (λ n. s ≤ n)) is) (sym no_ids)
+          (All-nil (λ s. IsSomeAnd ids.newest (λ n. s ≤ n)));
     }
 
 -- The first open session: it is open, and closed it is one fewer.
@@ -191,14 +214,17 @@ filter_fewer s (x ∷ xs) = at_first (x == s) (filter_fewer s xs)
     at_first true h = omega (arith, h)
     at_first false h = omega (arith, h)
 
-pub first_fewer : (st : State) (s : ℕ) → first_open st ≡ Some s → length (filter (λ i. not (i == s)) (ids_of st)) < length (ids_of st)
+pub first_fewer : (st : State) (s : ℕ) → first_open st ≡ Some s
+    → length (filter (λ i. not (i == s)) (ids_of st)) < length (ids_of st)
 first_fewer st s h = without_first (ids_of st) h
   where
     without_first : (is : List ℕ) → slice_get is 0 ≡ Some s → length (filter (λ i. not (i == s)) is) < length is
     without_first [] e = absurd cc
     without_first (i ∷ is) e = at_first (i == s) (eq-eqb i s (inside i s e))
       where
-        at_first : (b : Bool) → b ≡ true → length (cond (not b) (i ∷ filter (λ j. not (j == s)) is) (filter (λ j. not (j == s)) is)) < length (i ∷ is)
+        at_first : (b : Bool) → b ≡ true
+            → length (cond (not b) (i ∷ filter (λ j. not (j == s)) is) (filter (λ j. not (j == s)) is)) < length
+            (i ∷ is)
         at_first true same = omega (arith, filter_fewer s is)
         at_first false same = absurd cc
 
@@ -211,7 +237,8 @@ none_first st none = no_ids (ids_of st) none
     no_ids (i ∷ is) e = absurd cc
 
 -- whether an id is among the ids, as the code asks
-pub served_by : (st : State) (s : ℕ) (b : Bool) → b ≡ list_any (λ i. nat_eq i s) (ids_of st) → st.stopped ≡ false → MatchBool b (IsServed st s) (NotServed st s)
+pub served_by : (st : State) (s : ℕ) (b : Bool) → b ≡ list_any (λ i. nat_eq i s) (ids_of st) → st.stopped ≡ false
+    → MatchBool b (IsServed st s) (NotServed st s)
 served_by st s true e going = record { is_open = open_any st.sessions s ∙ sym e; going = going }
 served_by st s false e going = inr (λ there. absurd (no_one (sym e ∙ refl) (sym (open_any st.sessions s) ∙ there)))
   where

@@ -22,7 +22,8 @@ use Rattle.djq_laws.specs.declared.limits.TheConstants.{READ_BYTES}
 use Rattle.djq_serve.specs.declared.served.Served.{Served}
 use Rattle.djq_serve.specs.declared.served.Served.TheVariants.{HubFault}
 use Rattle.djq_serve.specs.Told.{Shown, Tells, turns_in}
-use Rattle.djq_serve.specs.Server.{next_turn, no_turn, waiting, lines, flushing, closing, server, offering, LetsIn, refusal_for}
+use Rattle.djq_serve.specs.Server.{next_turn, no_turn, waiting, lines, flushing, closing, server}
+use Rattle.djq_serve.specs.Server.{offering, LetsIn, refusal_for}
 use Rattle.djq_serve.specs.Goes.{Far, one_turn, seen, Goes}
 use Rattle.djq_serve.specs.Kept.{Agrees, IsNew}
 use Rattle.djq_serve.specs.Parts.{Admits, Refuses, MayAnswer, TurnAnswers}
@@ -45,10 +46,13 @@ stays_out st s above = record {
 }
 
 pub not_let_in : (st new : State) (ids : Ids) (s : ℕ) → IsNew st ids s → new ≡ st → Makes st (opened s) new
-not_let_in st new ids s n same = subst (λ (k : State). Makes st (opened s) k) (sym same) (record { effect = nothing; step = stays_out st s (is_above st ids s n) })
+not_let_in st new ids s n same = subst (λ (k : State). Makes st (opened s) k) (sym same)
+    (record { effect = nothing; step = stays_out st s (is_above st ids s n) })
 
-pub is_let_in : (st new : State) (hub : Shown) (s : ℕ) → Makes st (opened s) new → IsOpen new s → Admits st hub s new hub
-is_let_in st new hub s makes there = record { makes = makes; more = []; lets_in = inl (there, refl); told = tells_none hub }
+pub is_let_in : (st new : State) (hub : Shown) (s : ℕ) → Makes st (opened s) new → IsOpen new s
+    → Admits st hub s new hub
+is_let_in st new hub s makes there = record
+    { makes = makes; more = []; lets_in = inl (there, refl); told = tells_none hub }
 
 full_text : (st : State) → SESSIONS ≤ length st.sessions → refusal_for st ≡ end_full
 full_text st many = ap (λ b. cond b end_memory end_full) (le-ltb (length st.sessions) SESSIONS many)
@@ -56,12 +60,19 @@ full_text st many = ap (λ b. cond b end_memory end_full) (le-ltb (length st.ses
 memory_text : (st : State) → length st.sessions < SESSIONS → refusal_for st ≡ end_memory
 memory_text st few = ap (λ b. cond b end_memory end_full) (lt-ltb (length st.sessions) SESSIONS few)
 
-refused : (st new : State) (hub hub' : Shown) (s : ℕ) (text : Bytes) → IsNew st hub.ids s → new ≡ st → refusal_for st ≡ text → Refuses hub s text hub' → Admits st hub s new hub'
+refused : (st new : State) (hub hub' : Shown) (s : ℕ) (text : Bytes) → IsNew st hub.ids s → new ≡ st → refusal_for st
+    ≡ text → Refuses hub s text hub' → Admits st hub s new hub'
 refused st new hub hub' s text n same is_text r = record {
   makes = not_let_in st new hub.ids s n same;
   more = offering s text r.sent ∷ Closing s ∷ [];
   lets_in = subst (λ (t : Bytes). LetsIn s st (offering s t r.sent ∷ Closing s ∷ []) new) is_text
-      (inr (λ there. not_open st s n.above (subst (λ (k : State). IsOpen k s) same there), r.sent, subst (λ (t : Bytes). Takes r.sent t) (sym is_text) r.takes, refl));
+      (inr (
+        λ there. not_open st s n.above (subst (λ (k : State). IsOpen k s) same there),
+        r.sent,
+        subst
+            (λ (t : Bytes). Takes r.sent t) (sym is_text) r.takes,
+        refl,
+      ));
   told = r.told;
 }
 
@@ -71,20 +82,26 @@ pub refuses_by : (hub hub' : Shown) (s : ℕ) (sent : Sent) (piece text : Bytes)
 refuses_by hub hub' s sent piece text same takes told ids =
     subst (λ (t : Bytes). Refuses hub s t hub') same (record { sent = sent; takes = takes; told = told; ids = ids })
 
-pub is_full : (st new : State) (hub hub' : Shown) (s : ℕ) → IsNew st hub.ids s → new ≡ st → SESSIONS ≤ length st.sessions → Refuses hub s end_full hub' → Admits st hub s new hub'
+pub is_full : (st new : State) (hub hub' : Shown) (s : ℕ) → IsNew st hub.ids s → new ≡ st
+    → SESSIONS ≤ length st.sessions → Refuses hub s end_full hub' → Admits st hub s new hub'
 is_full st new hub hub' s n same many r = refused st new hub hub' s end_full n same (full_text st many) r
 
-pub is_unmade : (st new : State) (hub hub' : Shown) (s : ℕ) → IsNew st hub.ids s → new ≡ st → length st.sessions < SESSIONS → Refuses hub s end_memory hub' → Admits st hub s new hub'
+pub is_unmade : (st new : State) (hub hub' : Shown) (s : ℕ) → IsNew st hub.ids s → new ≡ st
+    → length st.sessions < SESSIONS → Refuses hub s end_memory hub' → Admits st hub s new hub'
 is_unmade st new hub hub' s n same few r = refused st new hub hub' s end_memory n same (memory_text st few) r
 
-pub out_agrees : (st new : State) (hub hub' : Shown) (s : ℕ) (text : Bytes) → IsNew st hub.ids s → new ≡ st → Refuses hub s text hub' → Agrees new hub'.ids
-out_agrees st new hub hub' s text n same r = subst (λ (k : State). Agrees k hub'.ids) (sym same) (refused_in st hub.ids hub'.ids s n r.ids)
+pub out_agrees : (st new : State) (hub hub' : Shown) (s : ℕ) (text : Bytes) → IsNew st hub.ids s → new ≡ st
+    → Refuses hub s text hub' → Agrees new hub'.ids
+out_agrees st new hub hub' s text n same r = subst (λ (k : State). Agrees k hub'.ids) (sym same)
+    (refused_in st hub.ids hub'.ids s n r.ids)
 
 -- what the machine answers
-pub full_gives : (st new : State) (s : ℕ) (r : OpenRefusal) → r ≡ Full → OpenGives st s (Err r) new → (SESSIONS ≤ length st.sessions) × (new ≡ st)
+pub full_gives : (st new : State) (s : ℕ) (r : OpenRefusal) → r ≡ Full → OpenGives st s (Err r) new
+    → (SESSIONS ≤ length st.sessions) × (new ≡ st)
 full_gives st new s r e h = subst (λ (q : OpenRefusal). OpenGives st s (Err q) new) e h
 
-pub unmade_gives : (st new : State) (s : ℕ) (r : OpenRefusal) → r ≡ NoMem → OpenGives st s (Err r) new → (length st.sessions < SESSIONS) × (new ≡ st)
+pub unmade_gives : (st new : State) (s : ℕ) (r : OpenRefusal) → r ≡ NoMem → OpenGives st s (Err r) new
+    → (length st.sessions < SESSIONS) × (new ≡ st)
 unmade_gives st new s r e h = subst (λ (q : OpenRefusal). OpenGives st s (Err q) new) e h
 
 -- A session opened.
@@ -92,38 +109,50 @@ none_more : (s : ℕ) (st new : State) (more : List Told) → LetsIn s st more n
 none_more s st new more (inl h) = ap turns_in h.1
 none_more s st new more (inr h) = ap turns_in h.3
 
-pub turn_opens : (hub mid hub' : Shown) (counted : Counts) (f : Far) (st new : State) (s : ℕ) → Tells hub mid (Turning (Opened s) [] ∷ []) → Admits st mid s new hub'
+pub turn_opens : (hub mid hub' : Shown) (counted : Counts) (f : Far) (st new : State) (s : ℕ)
+    → Tells hub mid (Turning (Opened s) [] ∷ []) → Admits st mid s new hub'
     → Goes (seen hub counted f) (server st waiting) (seen hub' counted (one_turn f)) (server new (flushing 0 next_turn))
 turn_opens hub mid hub' counted f st new s told a =
     turn_goes hub hub' counted f st new (Opened s) [] a.more _ (flushing 0 next_turn)
-    (happens (opened s) st new a.makes, a.lets_in, refl) (none_more s st new a.more a.lets_in) refl (tells_more hub mid hub' (Turning (Opened s) [] ∷ []) a.more told a.told)
+    (happens (opened s) st new a.makes, a.lets_in, refl) (none_more s st new a.more a.lets_in) refl
+    (tells_more hub mid hub' (Turning (Opened s) [] ∷ []) a.more told a.told)
 
 -- bytes came
-pub turn_feeds : (hub hub' : Shown) (counted : Counts) (f : Far) (st new : State) (s n : ℕ) (buf : Bytes) → 1 ≤ n → n ≤ length buf → length buf ≡ READ_BYTES → Makes st (fed s (take n buf)) new
+pub turn_feeds : (hub hub' : Shown) (counted : Counts) (f : Far) (st new : State) (s n : ℕ) (buf : Bytes) → 1 ≤ n
+    → n ≤ length buf → length buf ≡ READ_BYTES → Makes st (fed s (take n buf)) new
     → Tells hub hub' (Turning (Brought s n) (take n buf) ∷ [])
     → Goes (seen hub counted f) (server st waiting) (seen hub' counted (one_turn f)) (server new (lines s))
 turn_feeds hub hub' counted f st new s n buf some within room makes told =
-    turn_goes hub hub' counted f st new (Brought s n) (take n buf) [] _ (lines s)
-    (happens (fed s (take n buf)) st new makes, refl, refl, (omega (arith, length-take n buf, within), omega (arith, some), omega (arith, within, room))) refl refl told
+    turn_goes hub hub' counted f st new (Brought s n) (take n buf) [] _ (lines s) (
+      happens (fed s (take n buf)) st new makes,
+      refl,
+      refl,
+      (omega (arith, length-take n buf, within), omega (arith, some), omega (arith, within, room)),
+    ) refl refl told
 
 -- the input of a session ended
-pub turn_ends : (hub hub' : Shown) (counted : Counts) (f : Far) (st new : State) (s : ℕ) → Makes st (ended s) new → Tells hub hub' (Turning (Ended s) [] ∷ [])
+pub turn_ends : (hub hub' : Shown) (counted : Counts) (f : Far) (st new : State) (s : ℕ) → Makes st (ended s) new
+    → Tells hub hub' (Turning (Ended s) [] ∷ [])
     → Goes (seen hub counted f) (server st waiting) (seen hub' counted (one_turn f)) (server new (flushing 0 next_turn))
 turn_ends hub hub' counted f st new s makes told =
-    turn_goes hub hub' counted f st new (Ended s) [] [] _ (flushing 0 next_turn) (happens (ended s) st new makes, refl, refl) refl refl told
+    turn_goes hub hub' counted f st new (Ended s) [] [] _ (flushing 0 next_turn)
+    (happens (ended s) st new makes, refl, refl) refl refl told
 
 -- nothing came, nothing will come, or the hub failed
 pub turn_idles : (hub hub' : Shown) (counted : Counts) (f : Far) (st : State) → Tells hub hub' (Turning Idle [] ∷ [])
     → Goes (seen hub counted f) (server st waiting) (seen hub' counted (one_turn f)) (server st (flushing 0 next_turn))
-turn_idles hub hub' counted f st told = turn_goes hub hub' counted f st st Idle [] [] [] (flushing 0 next_turn) ((refl, refl), refl, refl) refl refl told
+turn_idles hub hub' counted f st told = turn_goes hub hub' counted f st st Idle [] [] [] (flushing 0 next_turn)
+    ((refl, refl), refl, refl) refl refl told
 
 pub turn_over : (hub hub' : Shown) (counted : Counts) (f : Far) (st : State) → Tells hub hub' (Turning HubOver [] ∷ [])
     → Goes (seen hub counted f) (server st waiting) (seen hub' counted (one_turn f)) (server st (flushing 0 no_turn))
-turn_over hub hub' counted f st told = turn_goes hub hub' counted f st st HubOver [] [] [] (flushing 0 no_turn) ((refl, refl), refl, refl) refl refl told
+turn_over hub hub' counted f st told = turn_goes hub hub' counted f st st HubOver [] [] [] (flushing 0 no_turn)
+    ((refl, refl), refl, refl) refl refl told
 
 pub turn_fails : (hub hub' : Shown) (counted : Counts) (f : Far) (st : State) → Tells hub hub' (Turning Failed [] ∷ [])
     → Goes (seen hub counted f) (server st waiting) (seen hub' counted (one_turn f)) (server st (closing HubFault))
-turn_fails hub hub' counted f st told = turn_goes hub hub' counted f st st Failed [] [] [] (closing HubFault) ((refl, refl), refl, refl) refl refl told
+turn_fails hub hub' counted f st told = turn_goes hub hub' counted f st st Failed [] [] [] (closing HubFault)
+    ((refl, refl), refl, refl) refl refl told
 
 -- what the end of a turn answers, where the hub met no fault in it
 pub quiet_answers : (r : Option Served) (before now : ℕ) → MayAnswer r → now ≡ before → TurnAnswers r before now

@@ -33,7 +33,8 @@ rising_from old told done x z alone same tells =
     let none : ids_of old ≡ [] = ap (λ (xs : List Session). map (λ (x : Session). x.id) xs) alone in
     (subst (λ (is : List ℕ). AllPairs (λ s t. s < t) (is ++ all_opened done)) (sym none) rising, rising)
 
-pub serve_logs : (answer : Served) (turns : ℕ) (x y z : Shown) (before now : Counts) (old mid new : State) (g g' : Option ℕ) (d d' : Option History)
+pub serve_logs : (answer : Served) (turns : ℕ) (x y z : Shown) (before now : Counts) (old mid new : State)
+    (g g' : Option ℕ) (d d' : Option History)
     → old.stopped ≡ false
     → old.sessions ≡ [] → Took answer turns x before old y now mid g g' d d'
     → ((k : Served) → GoesQuietly y (server mid (closing k)) z (server new (closing k))) → ids_of new ≡ []
@@ -41,9 +42,11 @@ pub serve_logs : (answer : Served) (turns : ℕ) (x y z : Shown) (before now : C
     → ServeLogs answer turns x before old z now new g g' d d'
 serve_logs answer turns x y z before now old mid new g g' d d' going alone took closes none agrees =
     let end : Far = far took.taken took.groups in
-    let whole = goes_then (seen x before (far 0 [])) (server old waiting) (seen y now end) (server mid (closing answer)) (seen z now end) (server new (closing answer))
+    let whole = goes_then (seen x before (far 0 [])) (server old waiting) (seen y now end) (server mid (closing answer))
+    (seen z now end) (server new (closing answer))
     took.goes (closes answer now end) in
-    let runs : Run old (all_done whole.moves) new = serve_runs (server old waiting) whole.moves (server new (closing answer)) whole.walk in
+    let runs : Run old (all_done whole.moves) new = serve_runs (server old waiting) whole.moves
+    (server new (closing answer)) whole.walk in
     let once = rising_from old (all_told whole.moves) (all_done whole.moves) x z alone
     (serve_opens (server old waiting) whole.moves (server new (closing answer)) whole.walk) whole.told in
     record {

@@ -36,17 +36,20 @@ goes_by o a o' b m serves told listing turned kept = record {
 }
 
 -- one move that counts nothing, takes no turn and keeps no line
-pub goes_quietly : (hub hub' : Shown) (a b : Server) (m : Move) → Serves a m b → Tells hub hub' m.told → turns_in m.told ≡ 0 → groups_of m.done ≡ [] → GoesQuietly hub a hub' b
+pub goes_quietly : (hub hub' : Shown) (a b : Server) (m : Move) → Serves a m b → Tells hub hub' m.told → turns_in m.told
+    ≡ 0 → groups_of m.done ≡ [] → GoesQuietly hub a hub' b
 goes_quietly hub hub' a b m serves told none unkept counted f =
     goes_by (seen hub counted f) a (seen hub' counted f) b m serves told (omega arith) (omega (arith, none))
     (sym (ap (λ (gs : List Group). f.kept ++ gs) unkept ∙ append-nil f.kept))
 
 -- some moves, and then others
-pub goes_then : (o : Seen) (a : Server) (o' : Seen) (b : Server) (o'' : Seen) (c : Server) → Goes o a o' b → Goes o' b o'' c → Goes o a o'' c
+pub goes_then : (o : Seen) (a : Server) (o' : Seen) (b : Server) (o'' : Seen) (c : Server) → Goes o a o' b
+    → Goes o' b o'' c → Goes o a o'' c
 goes_then o a o' b o'' c g h = record {
   moves = g.moves ++ h.moves;
   walk = walk_then Serves a g.moves b h.moves c g.walk h.walk;
-  told = subst (λ (ts : List Told). Tells o.hub o''.hub ts) (sym (flat_map-append (λ (m : Move). m.told) g.moves h.moves))
+  told = subst (λ (ts : List Told). Tells o.hub o''.hub ts)
+      (sym (flat_map-append (λ (m : Move). m.told) g.moves h.moves))
       (tells_more o.hub o'.hub o''.hub (all_told g.moves) (all_told h.moves) g.told h.told);
   listing = omega (
     arith,
@@ -70,8 +73,10 @@ goes_then o a o' b o'' c g h = record {
 }
 
 -- some moves, and then others, that count nothing, take no turn and keep no line
-pub quietly_then : (x : Shown) (a : Server) (y : Shown) (b : Server) (z : Shown) (c : Server) → GoesQuietly x a y b → GoesQuietly y b z c → GoesQuietly x a z c
-quietly_then x a y b z c g h counted f = goes_then (seen x counted f) a (seen y counted f) b (seen z counted f) c (g counted f) (h counted f)
+pub quietly_then : (x : Shown) (a : Server) (y : Shown) (b : Server) (z : Shown) (c : Server) → GoesQuietly x a y b
+    → GoesQuietly y b z c → GoesQuietly x a z c
+quietly_then x a y b z c g h counted f = goes_then (seen x counted f) a (seen y counted f) b (seen z counted f) c
+    (g counted f) (h counted f)
 
 pub quietly_none : (x : Shown) (a : Server) → GoesQuietly x a x a
 quietly_none x a counted f = goes_none (seen x counted f) a

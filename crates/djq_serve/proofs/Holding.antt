@@ -14,4 +14,5 @@ made_holds_lines old event new m hold = step_hold_lines old event m.effect new m
 
 -- and behind all moves
 pub goes_hold_lines : (x y : Seen) (old new : Server) → Goes x old y new → HoldLines old.state → HoldLines new.state
-goes_hold_lines x y old new g hold = runs_hold_lines old.state (all_done g.moves) new.state (serve_runs old g.moves new g.walk) hold
+goes_hold_lines x y old new g hold = runs_hold_lines old.state (all_done g.moves) new.state
+    (serve_runs old g.moves new g.walk) hold

@@ -1,5 +1,6 @@
 -- Which sessions hold no line that could be run, behind each step.
-use Rattle.std.specs.Prelude.{ℕ, List, [], ◌==◌, ◌≡◌, ◌≤◌, Bool, true, false, not, Option, None, Some, IsSome, filter, length, Contains}
+use Rattle.std.specs.Prelude.{ℕ, List, [], ◌==◌, ◌≡◌, ◌≤◌, Bool, true, false, not, Option, None}
+use Rattle.std.specs.Prelude.{Some, IsSome, filter, length, Contains}
 use Rattle.std.proofs.Common.{refl, sym, ap, ◌∙◌, subst, inl, inr, append-nil, arith}
 use Rattle.std.proofs.lemmas.Bool.{eqb-true, eq-eqb}
 use Rattle.std.proofs.lemmas.List.Elements.{filter_passes, All-contains}
@@ -22,17 +23,21 @@ use Rattle.djq_serve.proofs.Agreeing.{open_contains}
 abbrev Keeps : State → State → ℕ → Type 0
 Keeps old new t = (held_of new t ≡ held_of old t) × (IsSome (cause_of old t) → IsSome (cause_of new t))
 
-kept_held : (held held' : Bytes) (cause cause' : Option EndCause) → HeldStep [] [] held held' cause cause' → (held' ≡ held) × (IsSome cause → IsSome cause')
+kept_held : (held held' : Bytes) (cause cause' : Option EndCause) → HeldStep [] [] held held' cause cause'
+    → (held' ≡ held) × (IsSome cause → IsSome cause')
 kept_held held held' cause cause' (holds none is so) = (is ∙ append-nil held, λ c. (so c).0)
 kept_held held held' cause cause' (takes l is none front running) = absurd cc
 kept_held held held' cause cause' (drops none is so) = (is, λ c. so)
 
 -- a step keeps each session for which it brings nothing and takes no line, and which it doesn't close
-kept : (old : State) (event : Event) (e : Effect) (new : State) → Step old event e new → (t : ℕ) → fed_by t event ≡ [] → line_by t event ≡ [] → SparesSession event t → Keeps old new t
+kept : (old : State) (event : Event) (e : Effect) (new : State) → Step old event e new → (t : ℕ) → fed_by t event ≡ []
+    → line_by t event ≡ [] → SparesSession event t → Keeps old new t
 kept old event e new h t none_fed no_line spared =
     kept_held (held_of old t) (held_of new t) (cause_of old t) (cause_of new t)
-    (subst (λ (came : Bytes). HeldStep came [] (held_of old t) (held_of new t) (cause_of old t) (cause_of new t)) none_fed
-    (subst (λ (lines : List Bytes). HeldStep (fed_by t event) lines (held_of old t) (held_of new t) (cause_of old t) (cause_of new t)) no_line
+    (subst (λ (came : Bytes). HeldStep came [] (held_of old t) (held_of new t) (cause_of old t) (cause_of new t))
+    none_fed
+    (subst (λ (lines : List Bytes). HeldStep (fed_by t event) lines (held_of old t) (held_of new t) (cause_of old t)
+    (cause_of new t)) no_line
     (step_holds old event e new h t spared)))
 
 kept_settled : (old new : State) (t : ℕ) → Keeps old new t → IsSettled old t → IsSettled new t
@@ -53,16 +58,20 @@ closed_settled st s h = inr (ap (λ (bytes : Bytes). is_dry bytes) (closed_held 
 -- the ids without that of a session don't have it
 pub without_it : (s : ℕ) (xs : List ℕ) → Contains (filter (λ i. not (i == s)) xs) s → ⊥
 without_it s xs h =
-    let fails : not (s == s) ≡ true = All-contains (λ i. not (i == s) ≡ true) (filter (λ i. not (i == s)) xs) s (filter_passes (λ i. not (i == s)) xs) h in
+    let fails : not (s == s)
+    ≡ true = All-contains (λ i. not (i == s) ≡ true) (filter (λ i. not (i == s)) xs) s
+    (filter_passes (λ i. not (i == s)) xs) h in
     let same : (s == s) ≡ true = eq-eqb s s refl in
     absurd cc
 
-pub closed_ids : (old : State) (s : ℕ) (bytes : Bytes) (new : State) → Makes old (closed s bytes) new → ids_of new ≡ filter (λ i. not (i == s)) (ids_of old)
+pub closed_ids : (old : State) (s : ℕ) (bytes : Bytes) (new : State) → Makes old (closed s bytes) new → ids_of new
+    ≡ filter (λ i. not (i == s)) (ids_of old)
 closed_ids old s bytes new m = step_ids old (closed s bytes) m.effect new m.step
 
 pub is_closed : (old : State) (s : ℕ) (bytes : Bytes) (new : State) → Makes old (closed s bytes) new → IsOpen new s → ⊥
 is_closed old s bytes new m there =
-    without_it s (ids_of old) (subst (λ (is : List ℕ). Contains is s) (closed_ids old s bytes new m) (open_contains new s there))
+    without_it s (ids_of old)
+    (subst (λ (is : List ℕ). Contains is s) (closed_ids old s bytes new m) (open_contains new s there))
 
 -- no further bytes are held, where they are the same
 no_more : (held held' : Bytes) → held' ≡ held → length held' ≤ length held
@@ -78,7 +87,8 @@ took_spares old s bytes new m =
       stopped = step_stopped old (took s bytes) m.effect new m.step tt;
     }
 
-pub closed_spares : (old : State) (s : ℕ) (bytes : Bytes) (new : State) → Makes old (closed s bytes) new → Spares old new
+pub closed_spares : (old : State) (s : ℕ) (bytes : Bytes) (new : State) → Makes old (closed s bytes) new
+    → Spares old new
 closed_spares old s bytes new m = record {
   settled = λ t h. settled_at t (s == t) refl h;
   held = λ t. held_at t (s == t) refl;
@@ -90,11 +100,13 @@ closed_spares old s bytes new m = record {
 
     settled_at : (t : ℕ) (b : Bool) → (s == t) ≡ b → IsSettled old t → IsSettled new t
     settled_at t true same h = closed_settled new t (gone t same)
-    settled_at t false apart h = kept_settled old new t (kept old (closed s bytes) m.effect new m.step t refl refl apart) h
+    settled_at t false apart h = kept_settled old new t
+        (kept old (closed s bytes) m.effect new m.step t refl refl apart) h
 
     held_at : (t : ℕ) (b : Bool) → (s == t) ≡ b → length (held_of new t) ≤ length (held_of old t)
     held_at t true same = omega (arith, ap length (closed_held new t (gone t same)))
-    held_at t false apart = no_more (held_of old t) (held_of new t) (kept old (closed s bytes) m.effect new m.step t refl refl apart).0
+    held_at t false apart = no_more (held_of old t) (held_of new t)
+        (kept old (closed s bytes) m.effect new m.step t refl refl apart).0
 
 pub spares_same : (st : State) → Spares st st
 spares_same st = record { settled = λ t h. h; held = λ t. omega arith; stopped = refl }
@@ -107,11 +119,13 @@ spares_then a b c g h = record {
 }
 
 -- what comes of a session leaves the others settled
-pub fed_settled : (old : State) (s : ℕ) (bytes : Bytes) (new : State) → Makes old (fed s bytes) new → AllSettled old → OthersSettled s new
+pub fed_settled : (old : State) (s : ℕ) (bytes : Bytes) (new : State) → Makes old (fed s bytes) new → AllSettled old
+    → OthersSettled s new
 fed_settled old s bytes new m all t apart =
     kept_settled old new t (kept old (fed s bytes) m.effect new m.step t (rw apart refl) refl tt) (all t)
 
-pub ran_settled : (old : State) (s : ℕ) (outcome : LineOutcome) (e : Effect) (new : State) → Step old (stepped s outcome) e new → OthersSettled s old → OthersSettled s new
+pub ran_settled : (old : State) (s : ℕ) (outcome : LineOutcome) (e : Effect) (new : State)
+    → Step old (stepped s outcome) e new → OthersSettled s old → OthersSettled s new
 ran_settled old s outcome e new h others t apart =
     kept_settled old new t (kept old (stepped s outcome) e new h t refl (rw apart refl) tt) (others t apart)
 
@@ -119,7 +133,8 @@ pub ended_settled : (old : State) (s : ℕ) (new : State) → Makes old (ended s
 ended_settled old s new m all t = kept_settled old new t (kept old (ended s) m.effect new m.step t refl refl tt) (all t)
 
 pub opened_settled : (old : State) (s : ℕ) (new : State) → Makes old (opened s) new → AllSettled old → AllSettled new
-opened_settled old s new m all t = kept_settled old new t (kept old (opened s) m.effect new m.step t refl refl tt) (all t)
+opened_settled old s new m all t = kept_settled old new t (kept old (opened s) m.effect new m.step t refl refl tt)
+    (all t)
 
 -- all are settled: a session and the others
 pub one_and_others : (st : State) (s : ℕ) → IsSettled st s → OthersSettled s st → AllSettled st

@@ -16,7 +16,8 @@ use Rattle.djq_laws.proofs.Courses.{walk_then}
 use Rattle.djq_serve.specs.Server.{offering}
 use Rattle.djq_serve.specs.Told.{Shown, shown, place, Answers, Shows, Tells}
 
-played_none : (script : Option Script) (ids : Ids) → WhereTold script script (λ a b. Walk Answers (place a ids) [] (place b ids))
+played_none : (script : Option Script) (ids : Ids)
+    → WhereTold script script (λ a b. Walk Answers (place a ids) [] (place b ids))
 played_none None ids = tt
 played_none (Some s) ids = refl
 
@@ -42,21 +43,25 @@ tells_more a b c told more h l = record {
   played = played_more a.script b.script c.script a.ids b.ids c.ids told more h.played l.played;
 }
 
-where_as : (a b : Option Script) (P Q : Script → Script → Type 0) → ((x y : Script) → P x y → Q x y) → WhereTold a b P → WhereTold a b Q
+where_as : (a b : Option Script) (P Q : Script → Script → Type 0) → ((x y : Script) → P x y → Q x y) → WhereTold a b P
+    → WhereTold a b Q
 where_as a None P Q f h = tt
 where_as None (Some y) P Q f h = absurd h
 where_as (Some x) (Some y) P Q f h = f x y h
 
 -- a turn
-pub tells_turn : (past past' : Option (List Told)) (script script' : Option Script) (ids ids' : Ids) (turn : Turn) (buf : Bytes)
+pub tells_turn : (past past' : Option (List Told)) (script script' : Option Script) (ids ids' : Ids) (turn : Turn)
+    (buf : Bytes)
     → length buf ≡ READ_BYTES → Gains past past' (Turning turn (brought turn buf) ∷ [])
     → WhereTold script script' (λ x y. Follows ids turn buf x y) → Turns turn (length buf) ids ids'
     → Tells (shown past script ids) (shown past' script' ids') (Turning turn (brought turn buf) ∷ [])
 tells_turn past past' script script' ids ids' turn buf room gains follows turns = record {
   past = gains;
   ids = (ids', subst (λ (n : ℕ). Turns turn n ids ids') room turns, refl);
-  played = where_as script script' (λ x y. Follows ids turn buf x y) (λ x y. Walk Answers (place x ids) (Turning turn (brought turn buf) ∷ []) (place y ids'))
-      (λ x y f. (place y ids', (buf, room, refl, f, subst (λ (n : ℕ). Turns turn n ids ids') room turns), refl)) follows;
+  played = where_as script script' (λ x y. Follows ids turn buf x y)
+      (λ x y. Walk Answers (place x ids) (Turning turn (brought turn buf) ∷ []) (place y ids'))
+      (λ x y f. (place y ids', (buf, room, refl, f, subst (λ (n : ℕ). Turns turn n ids ids') room turns), refl))
+      follows;
 }
 
 -- a send

@@ -23,9 +23,11 @@ empty [] e = refl
 empty (b ∷ bytes) e = absurd (omega (arith, e))
 
 -- where a flush goes on, as a number that is computed
-pub at_place : (x y : Shown) (old new : State) (from to place : ℕ) (next : Next) → place ≡ to → GoesQuietly x (server old (flushing from next)) y (server new (flushing to next))
+pub at_place : (x y : Shown) (old new : State) (from to place : ℕ) (next : Next) → place ≡ to
+    → GoesQuietly x (server old (flushing from next)) y (server new (flushing to next))
     → GoesQuietly x (server old (flushing from next)) y (server new (flushing place next))
-at_place x y old new from to place next same goes = subst (λ (k : ℕ). GoesQuietly x (server old (flushing from next)) y (server new (flushing k next))) (sym same) goes
+at_place x y old new from to place next same goes = subst
+    (λ (k : ℕ). GoesQuietly x (server old (flushing from next)) y (server new (flushing k next))) (sym same) goes
 
 -- all pending bytes were offered
 pub offers_all : (x y : Shown) (s : ℕ) (sent : Sent) (piece pending : Bytes) → piece ≡ pending
@@ -35,9 +37,11 @@ offers_all x y s sent piece pending same told =
     subst (λ (bytes : Bytes). Tells x y (offering s bytes sent ∷ [])) same told
 
 -- some of the pending bytes were taken
-pub takes_some : (x y : Shown) (old new : State) (s n : ℕ) (piece : Bytes) → piece ≡ pending_of old s → 1 ≤ n → n ≤ length piece
+pub takes_some : (x y : Shown) (old new : State) (s n : ℕ) (piece : Bytes) → piece ≡ pending_of old s → 1 ≤ n
+    → n ≤ length piece
     → Makes old (took s (take n (pending_of old s))) new → Tells x y (offering s piece (Took n) ∷ [])
-    → (from : ℕ) (next : Next) → first_due old from ≡ Some s → GoesQuietly x (server old (flushing from next)) y (server new (flushing s next))
+    → (from : ℕ) (next : Next) → first_due old from ≡ Some s
+    → GoesQuietly x (server old (flushing from next)) y (server new (flushing s next))
 takes_some x y old new s n piece is_piece some within makes told from next due =
     visit_takes x y old new from next s n due some (omega (arith, within, ap length is_piece)) makes
     (offers_all x y s (Took n) piece (pending_of old s) is_piece told)
@@ -56,11 +60,15 @@ flush_begun x st agrees = record {
 }
 
 -- a session was visited
-pub flush_more : (x y z : Shown) (old now new : State) (from s to : ℕ) → Flushing x y old now from → first_due now from ≡ Some s
-    → ((at : ℕ) (next : Next) → first_due now at ≡ Some s → GoesQuietly y (server now (flushing at next)) z (server new (flushing to next))) → Agrees new z.ids → Spares now new → Flushing x z old new to
+pub flush_more : (x y z : Shown) (old now new : State) (from s to : ℕ) → Flushing x y old now from → first_due now from
+    ≡ Some s
+    → ((at : ℕ) (next : Next) → first_due now at ≡ Some s
+    → GoesQuietly y (server now (flushing at next)) z (server new (flushing to next))) → Agrees new z.ids
+    → Spares now new → Flushing x z old new to
 flush_more x y z old now new from s to f due visited agrees spares = record {
   agrees = agrees;
-  goes = λ next. quietly_then x (server old (flushing 0 next)) y (server now (flushing from next)) z (server new (flushing to next)) (f.goes next) (visited from next due);
+  goes = λ next. quietly_then x (server old (flushing 0 next)) y (server now (flushing from next)) z
+      (server new (flushing to next)) (f.goes next) (visited from next due);
   spares = spares_then old now new f.spares spares;
 }
 

@@ -1,5 +1,6 @@
 -- What the loops of the server keep.
-use Rattle.std.specs.Prelude.{ℕ, [], ◌∷◌, ◌+◌, ◌-◌, ◌++◌, ◌==◌, ◌≡◌, ◌<◌, ◌≤◌, ◌⊎◌, true, false, Some, IsSome, IsSomeAnd, length, sum_by, All}
+use Rattle.std.specs.Prelude.{ℕ, [], ◌∷◌, ◌+◌, ◌-◌, ◌++◌, ◌==◌, ◌≡◌, ◌<◌, ◌≤◌, ◌⊎◌, true, false}
+use Rattle.std.specs.Prelude.{Some, IsSome, IsSomeAnd, length, sum_by, All}
 use Rattle.djq_io.specs.Hub.{Ids}
 use Rattle.djq_machine.specs.State.{State, Session}
 use Rattle.djq_machine.specs.Step.{is_dry}

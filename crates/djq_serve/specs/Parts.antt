@@ -14,7 +14,8 @@ use Rattle.djq_machine.specs.Call.{IsOpen, Makes, Counts}
 use Rattle.djq_serve.specs.declared.served.Served.{Served}
 use Rattle.djq_serve.specs.declared.served.Served.TheVariants.{Stopped, Over, TurnsUsed, HubFault, DiskFault, LogFull}
 use Rattle.djq_serve.specs.Told.{Shown, Tells}
-use Rattle.djq_serve.specs.Server.{Next, next_turn, Phase, waiting, lines, flushing, closing, server, after, offering, LetsIn}
+use Rattle.djq_serve.specs.Server.{Next, next_turn, Phase, waiting, lines, flushing, closing}
+use Rattle.djq_serve.specs.Server.{server, after, offering, LetsIn}
 use Rattle.djq_serve.specs.Goes.{Far, far, one_turn, with_groups, seen, Goes, GoesQuietly}
 use Rattle.djq_serve.specs.Kept.{AllSettled}
 use Rattle.djq_serve.specs.Ends.{HasTaken}

@@ -1,6 +1,8 @@
 -- What the server does: one thing after another, by the machine's state and where the server
 -- stands.
-use Rattle.std.specs.Prelude.{ℕ, List, [], ◌∷◌, ◌≡◌, ◌+◌, ◌<◌, ◌≤◌, ◌⊎◌, ◌&&◌, Bool, true, false, not, nat_lt, Option, None, Some, is_none, IsSome, IsSomeAnd, slice_get, length, take, if◌then◌else◌}
+use Rattle.std.specs.Prelude.{ℕ, List, [], ◌∷◌, ◌≡◌, ◌+◌, ◌<◌, ◌≤◌, ◌⊎◌, ◌&&◌, Bool, true, false}
+use Rattle.std.specs.Prelude.{not, nat_lt, Option, None, Some, is_none, IsSome, IsSomeAnd}
+use Rattle.std.specs.Prelude.{slice_get, length, take, if◌then◌else◌}
 use Rattle.std.specs.List.{flat_map}
 use Rattle.djq_io.specs.Hub.{Takes, taken_by}
 use Rattle.djq_io.specs.declared.hub.Turn.{Turn}

@@ -1,5 +1,8 @@
 -- The first of a list that passes a test: found, and taken out.
-use Rattle.std.proofs.Common.{ℕ, zero, suc, ◌<◌, ◌≤◌, ◌≡◌, ◌||◌, Bool, true, false, cond, ltb, List, [], ◌∷◌, length, take, drop, get_or, find, position, Option, None, Some, refl, sym, subst, ap, ◌∙◌, arith, length-append, length-take, length-drop}
+use Rattle.std.proofs.Common.{ℕ, zero, suc, ◌<◌, ◌≤◌, ◌≡◌, ◌||◌, Bool, true, false, cond, ltb, List}
+use Rattle.std.proofs.Common.{[], ◌∷◌, length, take, drop, get_or, find, position, Option, None}
+use Rattle.std.proofs.Common.{Some, refl, sym, subst, ap, ◌∙◌, arith, length-append, length-take}
+use Rattle.std.proofs.Common.{length-drop}
 use Rattle.std.specs.List.{list_any, position_or_len, remove, slice_get}
 use Rattle.std.specs.Option.{is_some, IfSome, IsSomeAnd}
 use Rattle.std.proofs.lemmas.List.Quantifiers.{position-Some}
@@ -9,11 +12,13 @@ use Rattle.std.proofs.lemmas.Bool.{cond-true, cond-false, ltb-false}
 use Rattle.djq_model.specs.Data.{drop_first}
 
 -- where none is found, none passes
-pub none_passes : {A : Type 0} (p : A → Bool) (xs : List A) → find p xs ≡ None → (k : ℕ) (d : A) → k < length xs → p (get_or xs k d) ≡ false
+pub none_passes : {A : Type 0} (p : A → Bool) (xs : List A) → find p xs ≡ None → (k : ℕ) (d : A) → k < length xs
+    → p (get_or xs k d) ≡ false
 none_passes p [] h k d l = absurd (omega arith)
 none_passes p (x ∷ xs) h k d l = step (p x) k refl h (λ rest j m. none_passes p xs rest j d m) l
   where
-    step : (b : Bool) (k : ℕ) → p x ≡ b → cond b (Some x) (find p xs) ≡ None → (find p xs ≡ None → (j : ℕ) → j < length xs → p (get_or xs j d) ≡ false)
+    step : (b : Bool) (k : ℕ) → p x ≡ b → cond b (Some x) (find p xs) ≡ None
+        → (find p xs ≡ None → (j : ℕ) → j < length xs → p (get_or xs j d) ≡ false)
         → k < suc (length xs) → p (get_or (x ∷ xs) k d) ≡ false
     step true k e h below l = absurd (cc)
     step false zero e h below l = e
@@ -21,20 +26,26 @@ none_passes p (x ∷ xs) h k d l = step (p x) k refl h (λ rest j m. none_passes
 
 -- where none is found, there is no place
 pub not_found : {A : Type 0} (p : A → Bool) (xs : List A) → position p xs ≡ None → find p xs ≡ None
-not_found p xs h = find_at p xs ∙ slice_get_past xs (position_or_len p xs) (ltb-false (position_or_len p xs) (length xs) (isnt (ltb (position_or_len p xs) (length xs)) (position_or_len p xs) h))
+not_found p xs h = find_at p xs
+    ∙ slice_get_past xs (position_or_len p xs)
+    (ltb-false (position_or_len p xs) (length xs)
+    (isnt (ltb (position_or_len p xs) (length xs)) (position_or_len p xs) h))
   where
     isnt : (b : Bool) (i : ℕ) → cond b (Some i) None ≡ None → b ≡ false
     isnt true i h = cc
     isnt false i h = refl
 
-drop_at : {A : Type 0} (p : A → Bool) (xs : List A) (i : ℕ) (d : A) → i < length xs → p (get_or xs i d) ≡ true → ((k : ℕ) → k < i → p (get_or xs k d) ≡ false) → remove xs i ≡ drop_first p xs
+drop_at : {A : Type 0} (p : A → Bool) (xs : List A) (i : ℕ) (d : A) → i < length xs → p (get_or xs i d) ≡ true
+    → ((k : ℕ) → k < i → p (get_or xs k d) ≡ false) → remove xs i ≡ drop_first p xs
 drop_at p [] i d l h before = absurd (omega arith)
 drop_at p (x ∷ xs) zero d l h before = sym (cond-true _ _ _ h)
 drop_at p (x ∷ xs) (suc i) d l h before =
-    ap (λ r. x ∷ r) (drop_at p xs i d (omega arith) h (λ k m. before (suc k) (omega arith))) ∙ sym (cond-false _ _ _ (before 0 (omega arith)))
+    ap (λ r. x ∷ r) (drop_at p xs i d (omega arith) h (λ k m. before (suc k) (omega arith)))
+    ∙ sym (cond-false _ _ _ (before 0 (omega arith)))
 
 -- Taking out where the first stands is dropping the first.
-pub removed_first : {A : Type 0} (p : A → Bool) (xs : List A) (i : ℕ) → position p xs ≡ Some i → remove xs i ≡ drop_first p xs
+pub removed_first : {A : Type 0} (p : A → Bool) (xs : List A) (i : ℕ) → position p xs ≡ Some i → remove xs i
+    ≡ drop_first p xs
 removed_first p [] i h = absurd (cc)
 removed_first p (x ∷ xs) i h = let at = position-Some p (x ∷ xs) i x h in drop_at p (x ∷ xs) i x at.0 at.1 at.2
 
@@ -43,19 +54,22 @@ pub none_dropped : {A : Type 0} (p : A → Bool) (xs : List A) → find p xs ≡
 none_dropped p [] h = refl
 none_dropped p (x ∷ xs) h = step (p x) (λ rest. none_dropped p xs rest) h
   where
-    step : (b : Bool) → (find p xs ≡ None → drop_first p xs ≡ xs) → cond b (Some x) (find p xs) ≡ None → cond b xs (x ∷ drop_first p xs) ≡ x ∷ xs
+    step : (b : Bool) → (find p xs ≡ None → drop_first p xs ≡ xs) → cond b (Some x) (find p xs) ≡ None
+        → cond b xs (x ∷ drop_first p xs) ≡ x ∷ xs
     step true rest h = absurd (cc)
     step false rest h = ap (λ r. x ∷ r) (rest h)
 
 -- a list is no longer without one
 pub few_left : {A : Type 0} (xs : List A) (i most : ℕ) → length xs ≤ most → length (remove xs i) ≤ most
-few_left xs i most h = omega (arith, length-append (take i xs) (drop (suc i) xs), length-take i xs, length-drop (suc i) xs)
+few_left xs i most h = omega
+    (arith, length-append (take i xs) (drop (suc i) xs), length-take i xs, length-drop (suc i) xs)
 
 none_any : {A : Type 0} (p : A → Bool) (xs : List A) → find p xs ≡ None → list_any p xs ≡ false
 none_any p [] h = refl
 none_any p (x ∷ xs) h = step (p x) (λ rest. none_any p xs rest) h
   where
-    step : (b : Bool) → (find p xs ≡ None → list_any p xs ≡ false) → cond b (Some x) (find p xs) ≡ None → (b || list_any p xs) ≡ false
+    step : (b : Bool) → (find p xs ≡ None → list_any p xs ≡ false) → cond b (Some x) (find p xs) ≡ None
+        → (b || list_any p xs) ≡ false
     step true rest h = absurd (cc)
     step false rest h = rest h
 
@@ -64,7 +78,8 @@ any_at p [] i h = absurd (cc)
 any_at p (x ∷ xs) i h = let at = position-Some p (x ∷ xs) i x h in list_any_at p (x ∷ xs) i x at.0 at.1
 
 -- There is a place exactly where one passes.
-pub placed_any : {A : Type 0} (p : A → Bool) (xs : List A) (place : Option ℕ) → place ≡ position p xs → is_some place ≡ list_any p xs
+pub placed_any : {A : Type 0} (p : A → Bool) (xs : List A) (place : Option ℕ) → place ≡ position p xs → is_some place
+    ≡ list_any p xs
 placed_any p xs None e = sym (none_any p xs (not_found p xs (sym e)))
 placed_any p xs (Some i) e = sym (any_at p xs i (sym e))
 

@@ -1,5 +1,6 @@
 -- What contracts see of a session, and what its calls do to it.
-use Rattle.std.specs.Prelude.{ℕ, List, [], ◌∷◌, ◌≡◌, ◌+◌, ◌++◌, ◌≤◌, ◌<◌, ◌||◌, Bool, false, nat_lt, Option, None, Some, is_some, Result, Ok, Err, length, find, AllPairs}
+use Rattle.std.specs.Prelude.{ℕ, List, [], ◌∷◌, ◌≡◌, ◌+◌, ◌++◌, ◌≤◌, ◌<◌, ◌||◌, Bool, false, nat_lt}
+use Rattle.std.specs.Prelude.{Option, None, Some, is_some, Result, Ok, Err, length, find, AllPairs}
 use Rattle.djq_model.specs.Data.{Bytes, bytes_eq}
 use Rattle.djq_lines.specs.declared.limits.TheConstants.{CURSORS, LAST_LINE_BYTES}
 use Rattle.djq_lines.specs.declared.answer.EndCause.{EndCause}
@@ -78,7 +79,8 @@ KeepsFor count old new (Err e) = (old ≤ new) × (old < count + LAST_LINE_BYTES
 
 -- A line is queued, the cause kept, and the batch dropped, where one was open.
 abbrev pub EndsWith : {C Q : Type 0} → Dialog C Q → Dialog C Q → Bytes → EndCause → Type 0
-EndsWith old new line cause = new ≡ record old { pending = old.pending ++ line; room = new.room; cause = Some cause; batch = None }
+EndsWith old new line cause = new
+    ≡ record old { pending = old.pending ++ line; room = new.room; cause = Some cause; batch = None }
 
 -- the rows that a batch holds; none where none is open
 abbrev pub rows_held : Option (List HeldRow) → List HeldRow
@@ -88,7 +90,9 @@ rows_held (Some rows) = rows
 -- The last cursor is gone, and what was kept for it is given back.
 abbrev pub PopsCursor : {C Q : Type 0} → Dialog C Q → Dialog C Q → Option C → Type 0
 PopsCursor old new None = (old.cursors ≡ []) × (new ≡ old)
-PopsCursor {C = C} old new (Some c) = (name : Bytes) × (old.cursors ≡ new.cursors ++ record { name = name; cursor = c } ∷ []) × (new ≡ record old { cursors = new.cursors })
+PopsCursor {C = C} old new (Some c) = (name : Bytes)
+    × (old.cursors ≡ new.cursors ++ record { name = name; cursor = c } ∷ [])
+    × (new ≡ record old { cursors = new.cursors })
 
 -- The last watch is gone, and is given back.
 abbrev pub PopsWatch : {C Q : Type 0} → Dialog C Q → Dialog C Q → Option Q → Type 0

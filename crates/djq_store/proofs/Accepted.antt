@@ -1,5 +1,8 @@
 -- What unions tell of a change that was made, and what that counts.
-use Rattle.std.specs.Prelude.{ℕ, zero, suc, List, [], ◌∷◌, ◌≡◌, ◌↔◌, ◌+◌, ◌*◌, ◌<◌, ◌≤◌, ◌&&◌, ◌⊎◌, nat_lt, Bool, true, false, cond, Option, None, Some, is_some, IsSomeAnd, filter, find, map, length, sum_by, slice_get, unwrap_or, option_to_list, ◌++◌, All, Contains}
+use Rattle.std.specs.Prelude.{ℕ, zero, suc, List, [], ◌∷◌, ◌≡◌, ◌↔◌, ◌+◌, ◌*◌, ◌<◌, ◌≤◌, ◌&&◌, ◌⊎◌}
+use Rattle.std.specs.Prelude.{nat_lt, Bool, true, false, cond, Option, None, Some, is_some}
+use Rattle.std.specs.Prelude.{IsSomeAnd, filter, find, map, length, sum_by, slice_get, unwrap_or}
+use Rattle.std.specs.Prelude.{option_to_list, ◌++◌, All, Contains}
 use Rattle.std.specs.List.{list_any}
 use Rattle.std.proofs.Common.{refl, sym, ap, ap₂, ◌∙◌, subst, inl, inr, arith}
 use Rattle.std.proofs.lemmas.Bool.{false≢true, lt-ltb, ltb-true}
@@ -60,7 +63,8 @@ some_there (Some x) P k = (x, refl, k)
 module _ (change : RowsChange) (relations : List Bytes) (turn : Turn) (e e' : Kept) (us us' : List (Option Joined))
     (b : Behind (Some change) relations turn e e' us us') (order : List ℕ) (w : IsListed e us order)
     (sessions : List ℕ) (c : IsCounted e us sessions) (eds : List Delta)
-    (are : AreDeltas (e.store).relations change (map (λ (r : Registered). r.query) (affected_of e.registered change)) eds)
+    (are : AreDeltas (e.store).relations change (map (λ (r : Registered). r.query) (affected_of e.registered change))
+    eds)
     (spares : SparesOthers (e.store).relations change)
     (out : (q : Query) → is_touched change q ≡ true → is_outdated change (a_query q) ≡ true)
     (hits : (q : Query) → is_touched change q ≡ list_any (reads q) relations)
@@ -68,9 +72,11 @@ module _ (change : RowsChange) (relations : List Bytes) (turn : Turn) (e e' : Ke
     (came : Bool) (way : GoRows came (e.store).relations change.after)
     (logs : LogsTell e' (affected_of e.registered change) eds) where
   -- what is told of a query that is listed
-  pub told_place : (m : ℕ) → Contains (places change relations turn e e' us us' b order w sessions c eds are spares out) m
+  pub told_place : (m : ℕ)
+      → Contains (places change relations turn e e' us us' b order w sessions c eds are spares out) m
       → (told_at e' (record { at = m }) ≡ None)
-      ⊎ (told_at e' (record { at = m }) ≡ Some (f change relations turn e e' us us' b order w sessions c eds are spares out m))
+      ⊎ (told_at e' (record { at = m })
+      ≡ Some (f change relations turn e e' us us' b order w sessions c eds are spares out m))
   told_place m k =
       let fs = f change relations turn e e' us us' b order w sessions c eds are spares out in
       let r = mapped_was (λ (s : Registered). s.id.at) (affected_of e.registered change) m k in
@@ -103,7 +109,8 @@ module _ (change : RowsChange) (relations : List Bytes) (turn : Turn) (e e' : Ke
 
     listed : (m : ℕ) → Contains (filter (λ i. is_touched change (qs i)) ms) m
         → Contains (places change relations turn e e' us us' b order w sessions c eds are spares out) m
-    listed m d = member_listed change relations turn e e' us us' b order w sessions c eds are spares out k j there some m d
+    listed m d = member_listed change relations turn e e' us us' b order w sessions c eds are spares out k j there some
+        m d
 
     -- its members now
     pub members_now : members_at e' ms ≡ map qs ms
@@ -138,7 +145,8 @@ module _ (change : RowsChange) (relations : List Bytes) (turn : Turn) (e e' : Ke
           let is : changes ≡ fs i = only (told_place i (listed i mine)) says in
           subst (λ (rs : List Relation). IsDelta (IsAnswer (e.store).relations l.query) (IsAnswer rs l.query) changes)
           (sym after)
-          (subst (λ (cs : List Change). IsDelta (IsAnswer (e.store).relations l.query) (IsAnswer change.after l.query) cs)
+          (subst (λ (cs : List Change). IsDelta (IsAnswer (e.store).relations l.query) (IsAnswer change.after l.query)
+          cs)
           (sym is)
           (subst (λ (q : Query). IsDelta (IsAnswer (e.store).relations q) (IsAnswer change.after q) (fs i)) query
           (deltas change relations turn e e' us us' b order w sessions c eds are spares out i (listed i mine))));
@@ -199,9 +207,11 @@ module _ (change : RowsChange) (relations : List Bytes) (turn : Turn) (e e' : Ke
         omega (arith, is, each, fewer)
       where
         count_few : (m : ℕ) → (told_at e' (record { at = m }) ≡ None)
-            ⊎ (told_at e' (record { at = m }) ≡ Some (f change relations turn e e' us us' b order w sessions c eds are spares out m))
+            ⊎ (told_at e' (record { at = m })
+            ≡ Some (f change relations turn e e' us us' b order w sessions c eds are spares out m))
             → count_in e' m ≤ length (f change relations turn e e' us us' b order w sessions c eds are spares out m)
         count_few m (inl none) =
-            let e : count_in e' m ≡ 0 = ap (λ (o : Option (List Change)). length (unwrap_or o [])) none in omega (arith, e)
+            let e : count_in e' m
+            ≡ 0 = ap (λ (o : Option (List Change)). length (unwrap_or o [])) none in omega (arith, e)
         count_few m (inr is) =
             let e = ap (λ (o : Option (List Change)). length (unwrap_or o [])) is in omega (arith, e)

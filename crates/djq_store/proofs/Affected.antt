@@ -1,5 +1,8 @@
--- What a change affects, in order of registration: the queries that the engine's change affects, and the unions of them.
-use Rattle.std.specs.Prelude.{ℕ, zero, suc, List, [], ◌∷◌, ◌≡◌, ◌==◌, ◌+◌, ◌-◌, ◌<◌, ◌&&◌, ◌||◌, ◌⊎◌, nat_lt, Bool, true, false, cond, Option, None, Some, is_some, filter, find, map, AllPairs, Contains}
+-- What a change affects, in order of registration: the queries that the engine's change affects, and the unions of
+-- them.
+use Rattle.std.specs.Prelude.{ℕ, zero, suc, List, [], ◌∷◌, ◌≡◌, ◌==◌, ◌+◌, ◌-◌, ◌<◌, ◌&&◌, ◌||◌}
+use Rattle.std.specs.Prelude.{◌⊎◌, nat_lt, Bool, true, false, cond, Option, None, Some, is_some}
+use Rattle.std.specs.Prelude.{filter, find, map, AllPairs, Contains}
 use Rattle.std.specs.List.{list_any}
 use Rattle.std.proofs.Common.{refl, sym, ap, ap₂, ◌∙◌, subst, inl, inr}
 use Rattle.std.proofs.lemmas.Bool.{eqb-true, eq-eqb, false≢true, lt-ltb}
@@ -15,7 +18,8 @@ use Rattle.djq_engine.specs.Kept.{Kept, Registered, same_query, registered_at, r
 use Rattle.djq_engine.specs.Places.{id_at}
 use Rattle.djq_engine.proofs.Listing.{filter_members, reader_filter}
 use Rattle.djq_united.specs.United.{union_of}
-use Rattle.djq_deltas.proofs.Lists.{nothing_there, first_or_later, first_there, later_there, kept_there, mapped_there, pairs_head, pairs_tail}
+use Rattle.djq_deltas.proofs.Lists.{nothing_there, first_or_later, first_there, later_there}
+use Rattle.djq_deltas.proofs.Lists.{kept_there, mapped_there, pairs_head, pairs_tail}
 use Rattle.djq_store.specs.declared.joined.Joined.{Joined}
 use Rattle.djq_store.specs.declared.settling.Turn.{Turn}
 use Rattle.djq_store.specs.Affecting.{is_reached, is_member_reached, is_affected}
@@ -77,7 +81,8 @@ reached_is p rs r apart c = by (p r) refl
 
     there : p r ≡ true → is_reached ids r.id.at ≡ true
     there hit = any_there (λ (id : QueryId). id.at == r.id.at) ids r.id
-        (mapped_there (λ (s : Registered). s.id) (filter p rs) r (kept_there p rs r hit c)) (eq-eqb r.id.at r.id.at refl)
+        (mapped_there (λ (s : Registered). s.id) (filter p rs) r (kept_there p rs r hit c))
+        (eq-eqb r.id.at r.id.at refl)
 
     only : {x y : Registered} → Some x ≡ Some y → x ≡ y
     only h = cc
@@ -110,7 +115,8 @@ module _ (change : RowsChange) (relations : List Bytes) (turn : Turn) (e e' : Ke
   query_reached : (at : ℕ) (s : Seat e at) → is_reached e'.affected at ≡ out_at at
   query_reached at s =
       ap (λ (ids : List QueryId). is_reached ids at) affects
-      ∙ ap (λ (id : QueryId). is_reached (map (λ (r : Registered). r.id) (readers_of e.registered change)) id.at) (sym s.id)
+      ∙ ap (λ (id : QueryId). is_reached (map (λ (r : Registered). r.id) (readers_of e.registered change)) id.at)
+      (sym s.id)
       ∙ reached_is (λ (r : Registered). is_outdated change r.query) e.registered s.registered b.did.before.apart
       (found_there e.registered (id_at at) s.registered s.found)
       ∙ ap (is_outdated change) (s.is ∙ sym (listed_seat e b.did.before us at s))
@@ -124,20 +130,24 @@ module _ (change : RowsChange) (relations : List Bytes) (turn : Turn) (e e' : Ke
       (λ m c.
       let l = member_there (Some change) relations turn e e' us us' b j.union united m c in
       let s = seat_here e b.did.before m l.0 l.1 in
-      query_reached m s ∙ ap (is_outdated change) (listed_seat e b.did.before us m s ∙ ap a_query (sym (ap the_query s.there))))
+      query_reached m s ∙ ap (is_outdated change)
+      (listed_seat e b.did.before us m s ∙ ap a_query (sym (ap the_query s.there))))
       ∙ sym (outdated_member (Some change) relations turn e e' us us' b j.union united)
 
   same_test : (at : ℕ) → is_reader order at ≡ true → is_affected (is_reached e'.affected) us at ≡ out_at at
   same_test at there = by (cases_place at)
     where
-      by : (at < QUERIES) ⊎ Slot at → is_affected (is_reached e'.affected) us at ≡ is_outdated change (listed_at e.places us at)
+      by : (at < QUERIES) ⊎ Slot at → is_affected (is_reached e'.affected) us at
+          ≡ is_outdated change (listed_at e.places us at)
       by (inl low) =
           low_place at (is_reached e'.affected) (λ k. is_member_reached (is_reached e'.affected) (joined_at us k)) low
           ∙ query_reached at (order_seat e b.did.before us order w at there low)
       by (inr s) =
-          let joint = order_joint e b.did.before us order w s.slot (subst (λ (i : ℕ). is_reader order i ≡ true) s.is there) in
+          let joint = order_joint e b.did.before us order w s.slot
+          (subst (λ (i : ℕ). is_reader order i ≡ true) s.is there) in
           ap (is_affected (is_reached e'.affected) us) s.is
-          ∙ high_place s.slot (is_reached e'.affected) (λ k. is_member_reached (is_reached e'.affected) (joined_at us k))
+          ∙ high_place s.slot (is_reached e'.affected)
+          (λ k. is_member_reached (is_reached e'.affected) (joined_at us k))
           ∙ ap (is_member_reached (is_reached e'.affected)) joint.there
           ∙ member_reached s.slot joint.union joint.there
           ∙ ap (is_outdated change) (sym (ap (listed_at e.places us) s.is ∙ listed_joint e.places us s.slot joint))
@@ -161,14 +171,16 @@ module _ (change : RowsChange) (relations : List Bytes) (turn : Turn) (e e' : Ke
       filter_mapped_at =
           filter_mapped out_at (λ (r : Registered). r.id.at) e.registered
           ∙ ap (map (λ (r : Registered). r.id.at))
-          (filter_same (λ (r : Registered). out_at r.id.at) (λ (r : Registered). is_outdated change r.query) e.registered
+          (filter_same (λ (r : Registered). out_at r.id.at) (λ (r : Registered). is_outdated change r.query)
+          e.registered
           (λ r c. ap (is_outdated change) (engine_listed e b.did.before us order w [] r c)))
 
       unsettled : (us : List (Option Joined)) → list_any (is_settled e' relations) us ≡ false → (k : ℕ) (j : Joined)
           → joined_at us k ≡ Some j → is_settled e' relations (Some j) ≡ false
       unsettled [] miss k j there = absurd cc
       unsettled (o ∷ us) miss zero j there =
-          ap (is_settled e' relations) (sym there) ∙ (or_none (is_settled e' relations o) (list_any (is_settled e' relations) us) miss).0
+          ap (is_settled e' relations) (sym there)
+          ∙ (or_none (is_settled e' relations o) (list_any (is_settled e' relations) us) miss).0
       unsettled (o ∷ us) miss (suc k) j there =
           unsettled us (or_none (is_settled e' relations o) (list_any (is_settled e' relations) us) miss).1 k j there
 
@@ -178,7 +190,8 @@ module _ (change : RowsChange) (relations : List Bytes) (turn : Turn) (e e' : Ke
           by : (at < QUERIES) ⊎ Slot at → is_outdated change (listed_at e.places us at) ≡ false
           by (inl low) = absurd (false≢true (sym high ∙ lt-ltb at QUERIES low))
           by (inr s) =
-              let joint = order_joint e b.did.before us order w s.slot (subst (λ (i : ℕ). is_reader order i ≡ true) s.is there) in
+              let joint = order_joint e b.did.before us order w s.slot
+              (subst (λ (i : ℕ). is_reader order i ≡ true) s.is there) in
               ap (is_outdated change) (ap (listed_at e.places us) s.is ∙ listed_joint e.places us s.slot joint)
               ∙ sym (ap is_some (first_outdates (Some change) relations turn e e' us us' b joint.union.union
               (w.united s.slot joint.union joint.there)))

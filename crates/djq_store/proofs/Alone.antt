@@ -1,5 +1,6 @@
 -- Where no union is registered, whichever relations change, the same comes of it.
-use Rattle.std.specs.Prelude.{ℕ, zero, suc, List, [], ◌∷◌, ◌≡◌, ◌≤◌, false, Option, None, Some, map, length, vec_capacity}
+use Rattle.std.specs.Prelude.{ℕ, zero, suc, List, [], ◌∷◌, ◌≡◌, ◌≤◌, false, Option, None, Some, map}
+use Rattle.std.specs.Prelude.{length, vec_capacity}
 use Rattle.std.specs.List.{list_any}
 use Rattle.std.proofs.Common.{refl, sym, ap, ◌∙◌, subst, inr, arith}
 use Rattle.std.proofs.lemmas.Bool.{false≢true}
@@ -47,7 +48,8 @@ module _ (names : List Bytes) (p p' : Parts) (none : has_union p.unions.items �
     long = ap (λ (us : List (Option Joined)). length us) unions;
     unions = λ k.
         let there = none_there p.unions.items none k in
-        subst (λ (o : Option Joined). SettlesAt p.engine names ((p.engine).store).seq turn o (joined_at p'.unions.items k)) (sym there)
+        subst (λ (o : Option Joined). SettlesAt p.engine names ((p.engine).store).seq turn o
+        (joined_at p'.unions.items k)) (sym there)
         (ap (λ (us : List (Option Joined)). joined_at us k) unions ∙ there);
     order = order;
     sessions = sessions;
@@ -59,5 +61,7 @@ module _ (names : List Bytes) (p p' : Parts) (none : has_union p.unions.items �
       → p'.order ≡ p.order → p'.sessions ≡ p.sessions → p'.affected.items ≡ map (λ id. id.at) p.engine.affected
       → vec_capacity p.affected ≤ vec_capacity p'.affected → Follows names turn p p'
   follows_made Lacked made engine unions order sessions own room = absurd (made refl)
-  follows_made Came made engine unions order sessions own room = follows_alone Came engine unions order sessions own room
-  follows_made Went made engine unions order sessions own room = follows_alone Went engine unions order sessions own room
+  follows_made Came made engine unions order sessions own room = follows_alone Came engine unions order sessions own
+      room
+  follows_made Went made engine unions order sessions own room = follows_alone Went engine unions order sessions own
+      room

@@ -1,6 +1,10 @@
 -- What is asked of a store, by name and by id.
-use Rattle.std.proofs.Common.{ℕ, zero, suc, List, [], ◌∷◌, ◌++◌, ◌+◌, ◌-◌, ◌≡◌, ◌<◌, ◌≤◌, ◌⊎◌, inl, inr, Bool, true, false, refl, sym, ap, ap₂, ◌∙◌, subst, length, get_or, arith}
-use Rattle.std.specs.Prelude.{◌==◌, ◌&&◌, Option, None, Some, IsSome, IsSomeAnd, is_some, is_none, nat_lt, option_map, cond, map, All, AllPairs, Result, Ok, Err, option_to_list, slice_get, ⊤}
+use Rattle.std.proofs.Common.{ℕ, zero, suc, List, [], ◌∷◌, ◌++◌, ◌+◌, ◌-◌, ◌≡◌, ◌<◌, ◌≤◌, ◌⊎◌, inl}
+use Rattle.std.proofs.Common.{inr, Bool, true, false, refl, sym, ap, ap₂, ◌∙◌, subst, length}
+use Rattle.std.proofs.Common.{get_or, arith}
+use Rattle.std.specs.Prelude.{◌==◌, ◌&&◌, Option, None, Some, IsSome, IsSomeAnd, is_some, is_none}
+use Rattle.std.specs.Prelude.{nat_lt, option_map, cond, map, All, AllPairs, Result, Ok, Err}
+use Rattle.std.specs.Prelude.{option_to_list, slice_get, ⊤}
 use Rattle.std.proofs.lemmas.Bool.{cases_lt, eqb-true, eq-eqb, lt-ltb, false≢true}
 use Rattle.std.proofs.lemmas.List.Kept.{AllPairs-cons}
 use Rattle.std.proofs.lemmas.List.{get_or-map, get_or_past, length-map}
@@ -24,7 +28,8 @@ use Rattle.djq_reach.specs.Places.{is_reader, AreOnce}
 use Rattle.djq_engine.specs.declared.cursor.CursorId.{CursorId}
 use Rattle.djq_engine.specs.declared.cursor.QueryId.{QueryId}
 use Rattle.djq_engine.specs.Kept as kept
-use Rattle.djq_engine.specs.Kept.{Kept, Registered, AtPlace, IsShown, AnswerIs, IsRegistered, same_query, registered_at, registered_of, held_at}
+use Rattle.djq_engine.specs.Kept.{Kept, Registered, AtPlace, IsShown, AnswerIs, IsRegistered}
+use Rattle.djq_engine.specs.Kept.{same_query, registered_at, registered_of, held_at}
 use Rattle.djq_engine.specs.Places.{id_at}
 use Rattle.djq_engine.proofs.Conditions.{answers_done}
 use Rattle.djq_engine.proofs.Listing.{here, behind}
@@ -41,7 +46,11 @@ use Rattle.djq_store.proofs.Found.{map_mapped, found_passes, found_all, find_map
 use Rattle.djq_store.proofs.Held.{held_low}
 use Rattle.djq_store.proofs.Members.{first_there}
 use Rattle.djq_store.proofs.Named.{Called}
-use Rattle.djq_store.proofs.Ordered.{Seat, Joint, NoUnion, place_named, listed_low, listed_joint, listed_seat, order_seat, seat_order, seat_of, seat_here, order_joint, registered_is, registered_has, registered_gives, registered_there, registered_by_name, named_joint, engine_named, engine_listed}
+use Rattle.djq_store.proofs.Ordered.{Seat, Joint, NoUnion, place_named, listed_low, listed_joint}
+use Rattle.djq_store.proofs.Ordered.{listed_seat, order_seat, seat_order, seat_of, seat_here}
+use Rattle.djq_store.proofs.Ordered.{order_joint, registered_is, registered_has, registered_gives}
+use Rattle.djq_store.proofs.Ordered.{registered_there, registered_by_name, named_joint}
+use Rattle.djq_store.proofs.Ordered.{engine_named, engine_listed}
 use Rattle.djq_store.proofs.Seats.{low_place, high_place, places_low, places_high}
 use Rattle.djq_store.proofs.Slots.{slot_below}
 use Rattle.djq_store.proofs.Unions.{union_listed}
@@ -51,7 +60,8 @@ pub pairs_of : {A : Type 0} (R : A → A → Type 0) (f : ℕ → A) (xs : List 
     → ((i j : ℕ) → is_reader xs i ≡ true → is_reader xs j ≡ true → (i ≡ j → ⊥) → R (f i) (f j)) → AllPairs R (map f xs)
 pairs_of R f [] once h = λ i j d low high. absurd (omega arith)
 pairs_of R f (x ∷ xs) once h =
-    AllPairs-cons R (f x) (map f xs) (each xs (λ i there. h x i (here x xs) (behind x xs i there) (λ e. differ i there e)))
+    AllPairs-cons R (f x) (map f xs)
+    (each xs (λ i there. h x i (here x xs) (behind x xs i there) (λ e. differ i there e)))
     (pairs_of R f xs once.1 (λ i j at_i at_j d. h i j (behind x xs i at_i) (behind x xs j at_j) d))
   where
     differ : (i : ℕ) → is_reader xs i ≡ true → x ≡ i → ⊥
@@ -63,43 +73,59 @@ pairs_of R f (x ∷ xs) once h =
     each (y ∷ ys) h (suc k) d low = each ys (λ i there. h i (behind y ys i there)) k d (omega arith)
 
 -- a slot has one union
-pub same_slot : (us : List (Option Joined)) (k : ℕ) (j x : Joined) → joined_at us k ≡ Some j → joined_at us k ≡ Some x → j ≡ x
+pub same_slot : (us : List (Option Joined)) (k : ℕ) (j x : Joined) → joined_at us k ≡ Some j → joined_at us k ≡ Some x
+    → j ≡ x
 same_slot us k j x e f = same (sym e ∙ f)
   where
     same : {x y : Joined} → Some x ≡ Some y → x ≡ y
     same e = cc
 
 -- as many members as places
-pub count_members : (gs : List (Option Live)) (ks : List ℕ) → AllByRecursion (λ k. IsSomeAnd (query_at gs k) (λ l. ⊤)) ks → length (map (λ l. l.query) (queries_at gs ks)) ≡ length ks
+pub count_members : (gs : List (Option Live)) (ks : List ℕ)
+    → AllByRecursion (λ k. IsSomeAnd (query_at gs k) (λ l. ⊤)) ks → length (map (λ l. l.query) (queries_at gs ks))
+    ≡ length ks
 count_members gs [] h = refl
 count_members gs (k ∷ ks) h = by_place (query_at gs k) h.0 (count_members gs ks h.1)
   where
-    by_place : (o : Option Live) → IsSomeAnd o (λ l. ⊤) → length (map (λ l. l.query) (queries_at gs ks)) ≡ length ks → length (map (λ l. l.query) (option_to_list o ++ queries_at gs ks)) ≡ suc (length ks)
+    by_place : (o : Option Live) → IsSomeAnd o (λ l. ⊤) → length (map (λ l. l.query) (queries_at gs ks)) ≡ length ks
+        → length (map (λ l. l.query) (option_to_list o ++ queries_at gs ks)) ≡ suc (length ks)
     by_place None x more = absurd x
-    by_place (Some l) x more = let n : suc (length (map (λ l. l.query) (queries_at gs ks))) ≡ suc (length ks) = omega arith in n
+    by_place (Some l) x more = let n : suc (length (map (λ l. l.query) (queries_at gs ks)))
+        ≡ suc (length ks) = omega arith in n
 
-module _ (e : Kept) (b : IsEngine e) (us : List (Option Joined)) (order sessions affected : List ℕ) (w : IsListed e us order) where
+module _ (e : Kept) (b : IsEngine e) (us : List (Option Joined)) (order sessions affected : List ℕ)
+    (w : IsListed e us order) where
   abbrev old : Kept
   old = seen e us order sessions affected
 
   -- ---- by name
 
-  pub union_id : (name : Bytes) (k : ℕ) → Called us name k → option_map (λ r. r.id) (registered_of old.registered name) ≡ Some (id_at (QUERIES + k))
+  pub union_id : (name : Bytes) (k : ℕ) → Called us name k → option_map (λ r. r.id) (registered_of old.registered name)
+      ≡ Some (id_at (QUERIES + k))
   union_id name k f =
       ap (option_map (λ (r : Registered). r.id)) (registered_by_name e b us order w sessions name
-      ∙ ap (option_map (registered_as e.places us sessions)) (named_joint e b us order w name k (record { union = f.union; there = f.there }) f.called))
+      ∙ ap (option_map (registered_as e.places us sessions))
+      (named_joint e b us order w name k (record { union = f.union; there = f.there }) f.called))
 
-  pub query_id_same : (name : Bytes) → NoUnion us name → option_map (λ r. r.id) (registered_of old.registered name) ≡ option_map (λ r. r.id) (registered_of e.registered name)
+  pub query_id_same : (name : Bytes) → NoUnion us name → option_map (λ r. r.id) (registered_of old.registered name)
+      ≡ option_map (λ r. r.id) (registered_of e.registered name)
   query_id_same name none =
-      ap (option_map (λ (r : Registered). r.id)) (registered_by_name e b us order w sessions name ∙ ap (option_map (registered_as e.places us sessions)) (engine_named e b us order w name none))
+      ap (option_map (λ (r : Registered). r.id))
+      (registered_by_name e b us order w sessions name
+      ∙ ap (option_map (registered_as e.places us sessions)) (engine_named e b us order w name none))
       ∙ by_found (registered_of e.registered name)
     where
-      by_found : (o : Option Registered) → option_map (λ (r : Registered). r.id) (option_map (registered_as e.places us sessions) (option_map (λ (r : Registered). r.id.at) o)) ≡ option_map (λ (r : Registered). r.id) o
+      by_found : (o : Option Registered)
+          → option_map (λ (r : Registered). r.id)
+          (option_map (registered_as e.places us sessions) (option_map (λ (r : Registered). r.id.at) o))
+          ≡ option_map (λ (r : Registered). r.id) o
       by_found None = refl
       by_found (Some r) = refl
 
-  pub called_listed : (name : Bytes) (k : ℕ) (f : Called us name k) → listed_of old.store.queries name ≡ Some (union_of e.places f.union.union)
-  called_listed name k f = sym (ap (listed_of old.store.queries) f.called) ∙ union_listed e b us order sessions affected w k f.union f.there
+  pub called_listed : (name : Bytes) (k : ℕ) (f : Called us name k) → listed_of old.store.queries name
+      ≡ Some (union_of e.places f.union.union)
+  called_listed name k f = sym (ap (listed_of old.store.queries) f.called)
+      ∙ union_listed e b us order sessions affected w k f.union f.there
 
   -- ---- by id
 
@@ -111,32 +137,41 @@ module _ (e : Kept) (b : IsEngine e) (us : List (Option Joined)) (order sessions
     engine_registered low = ap is_some (order_seat e b us order w id.at in_order low).found
 
     pub joined_there : QUERIES ≤ id.at → Joint us (id.at - QUERIES)
-    joined_there high = order_joint e b us order w (id.at - QUERIES) (ap (is_reader order) (add-sub_of_le high) ∙ in_order)
+    joined_there high = order_joint e b us order w (id.at - QUERIES)
+        (ap (is_reader order) (add-sub_of_le high) ∙ in_order)
 
     pub joined_some : QUERIES ≤ id.at → IsSomeAnd (joined_at us (id.at - QUERIES)) (λ j. ⊤)
     joined_some high = let j = joined_there high in subst (λ (o : Option Joined). IsSomeAnd o (λ j. ⊤)) (sym j.there) tt
 
-    pub engine_named_by : (name : Bytes) → id.at < QUERIES → IsSomeAnd (registered_at e.registered id) (λ r. name ≡ listed_name r.query)
+    pub engine_named_by : (name : Bytes) → id.at < QUERIES
+        → IsSomeAnd (registered_at e.registered id) (λ r. name ≡ listed_name r.query)
         → IsSomeAnd (registered_at old.registered id) (λ r. name ≡ listed_name r.query)
     engine_named_by name low h =
         let s = order_seat e b us order w id.at in_order low in
         registered_gives e b us order w sessions id (λ r. name ≡ listed_name r.query) in_order
-        (subst (λ (o : Option Registered). IsSomeAnd o (λ r. name ≡ listed_name r.query)) s.found h ∙ ap listed_name s.is ∙ sym (ap listed_name (listed_seat e b us id.at s)))
+        (subst (λ (o : Option Registered). IsSomeAnd o (λ r. name ≡ listed_name r.query)) s.found h
+        ∙ ap listed_name s.is ∙ sym (ap listed_name (listed_seat e b us id.at s)))
 
-    pub union_named_by : (high : QUERIES ≤ id.at) (j : Joined) → joined_at us (id.at - QUERIES) ≡ Some j → IsSomeAnd (registered_at old.registered id) (λ r. j.union.name ≡ listed_name r.query)
+    pub union_named_by : (high : QUERIES ≤ id.at) (j : Joined) → joined_at us (id.at - QUERIES) ≡ Some j
+        → IsSomeAnd (registered_at old.registered id) (λ r. j.union.name ≡ listed_name r.query)
     union_named_by high j found =
         registered_gives e b us order w sessions id (λ r. j.union.name ≡ listed_name r.query) in_order
-        (sym (ap listed_name (sym (ap (listed_at e.places us) (add-sub_of_le high)) ∙ listed_joint e.places us (id.at - QUERIES) (record { union = j; there = found }))))
+        (sym (ap listed_name (sym (ap (listed_at e.places us) (add-sub_of_le high))
+        ∙ listed_joint e.places us (id.at - QUERIES) (record { union = j; there = found }))))
 
-    pub sessions_watching : id.at < QUERIES → (n : ℕ) → n ≡ get_or sessions id.at 0 → IsSomeAnd (registered_at old.registered id) (λ r. n ≡ r.watchers)
+    pub sessions_watching : id.at < QUERIES → (n : ℕ) → n ≡ get_or sessions id.at 0
+        → IsSomeAnd (registered_at old.registered id) (λ r. n ≡ r.watchers)
     sessions_watching low n is =
         registered_gives e b us order w sessions id (λ r. n ≡ r.watchers) in_order
         (is ∙ sym (low_place id.at (λ i. get_or sessions i 0) (λ k. union_watchers (joined_at us k)) low))
 
-    pub union_watching : (high : QUERIES ≤ id.at) (j : Joined) → joined_at us (id.at - QUERIES) ≡ Some j → IsSomeAnd (registered_at old.registered id) (λ r. j.watchers ≡ r.watchers)
+    pub union_watching : (high : QUERIES ≤ id.at) (j : Joined) → joined_at us (id.at - QUERIES) ≡ Some j
+        → IsSomeAnd (registered_at old.registered id) (λ r. j.watchers ≡ r.watchers)
     union_watching high j found =
         registered_gives e b us order w sessions id (λ r. j.watchers ≡ r.watchers) in_order
-        (sym (sym (ap (sessions_at us sessions) (add-sub_of_le high)) ∙ high_place (id.at - QUERIES) (λ i. get_or sessions i 0) (λ k. union_watchers (joined_at us k)) ∙ ap union_watchers found))
+        (sym (sym (ap (sessions_at us sessions) (add-sub_of_le high))
+        ∙ high_place (id.at - QUERIES) (λ i. get_or sessions i 0) (λ k. union_watchers (joined_at us k))
+        ∙ ap union_watchers found))
 
   -- ---- laws
 
@@ -144,7 +179,8 @@ module _ (e : Kept) (b : IsEngine e) (us : List (Option Joined)) (order sessions
   queries_are = map_mapped (λ (r : Registered). r.query) (registered_as e.places us sessions) order
 
   pub ids_apart : AllPairs (λ r s. same_query r.id s.id ≡ false) old.registered
-  ids_apart = pairs_of (λ r s. same_query r.id s.id ≡ false) (registered_as e.places us sessions) order w.once (λ i j at_i at_j d. apart i j d)
+  ids_apart = pairs_of (λ r s. same_query r.id s.id ≡ false) (registered_as e.places us sessions) order w.once
+      (λ i j at_i at_j d. apart i j d)
     where
       apart : (i j : ℕ) → (i ≡ j → ⊥) → (i == j) ≡ false
       apart i j d = by_test (i == j) refl
@@ -154,13 +190,20 @@ module _ (e : Kept) (b : IsEngine e) (us : List (Option Joined)) (order sessions
           by_test false f = f
 
   pub names_apart : AllPairs (λ r s. bytes_eq (listed_name r.query) (listed_name s.query) ≡ false) old.registered
-  names_apart = pairs_of (λ r s. bytes_eq (listed_name r.query) (listed_name s.query) ≡ false) (registered_as e.places us sessions) order w.once differ
+  names_apart = pairs_of (λ r s. bytes_eq (listed_name r.query) (listed_name s.query) ≡ false)
+      (registered_as e.places us sessions) order w.once differ
     where
-      differ : (i j : ℕ) → is_reader order i ≡ true → is_reader order j ≡ true → (i ≡ j → ⊥) → bytes_eq (listed_name (listed_at e.places us i)) (listed_name (listed_at e.places us j)) ≡ false
-      differ i j at_i at_j d = by_test (bytes_eq (listed_name (listed_at e.places us i)) (listed_name (listed_at e.places us j))) refl
+      differ : (i j : ℕ) → is_reader order i ≡ true → is_reader order j ≡ true → (i ≡ j → ⊥)
+          → bytes_eq (listed_name (listed_at e.places us i)) (listed_name (listed_at e.places us j)) ≡ false
+      differ i j at_i at_j d = by_test
+          (bytes_eq (listed_name (listed_at e.places us i)) (listed_name (listed_at e.places us j))) refl
         where
-          by_test : (c : Bool) → bytes_eq (listed_name (listed_at e.places us i)) (listed_name (listed_at e.places us j)) ≡ c → bytes_eq (listed_name (listed_at e.places us i)) (listed_name (listed_at e.places us j)) ≡ false
-          by_test true f = absurd (d (w.named i j at_i at_j ((bytes_eq-decides (listed_name (listed_at e.places us i)) (listed_name (listed_at e.places us j))).0 f)))
+          by_test : (c : Bool) → bytes_eq (listed_name (listed_at e.places us i))
+              (listed_name (listed_at e.places us j)) ≡ c
+              → bytes_eq (listed_name (listed_at e.places us i)) (listed_name (listed_at e.places us j)) ≡ false
+          by_test true f = absurd
+              (d (w.named i j at_i at_j
+              ((bytes_eq-decides (listed_name (listed_at e.places us i)) (listed_name (listed_at e.places us j))).0 f)))
           by_test false f = f
 
   -- ---- the engine, lent
@@ -175,14 +218,22 @@ module _ (e : Kept) (b : IsEngine e) (us : List (Option Joined)) (order sessions
   }
     where
       by_found : (id : QueryId) → id.at < QUERIES → (o : Option Registered) → registered_at e.registered id ≡ o
-          → option_map (λ (r : Registered). r.query) (registered_at e.registered id) ≡ option_map (λ (r : Registered). r.query) (registered_at old.registered id)
+          → option_map (λ (r : Registered). r.query) (registered_at e.registered id)
+          ≡ option_map (λ (r : Registered). r.query) (registered_at old.registered id)
       by_found id low (Some r) f =
           let s = seat_of e b id.at r f in
-          ap (option_map (λ (r : Registered). r.query)) s.found ∙ ap (λ (q : Listed). Some q) (s.is ∙ sym (listed_seat e b us id.at s))
-          ∙ sym (ap (option_map (λ (r : Registered). r.query)) (registered_is e b us order w sessions id ∙ ap (λ c. cond c (Some (registered_as e.places us sessions id.at)) None) (seat_order e b us order w id.at s)))
-      by_found id low None f = ap (option_map (λ (r : Registered). r.query)) f ∙ sym (ap (option_map (λ (r : Registered). r.query)) (registered_is e b us order w sessions id ∙ none (is_reader order id.at) refl))
+          ap (option_map (λ (r : Registered). r.query)) s.found
+          ∙ ap (λ (q : Listed). Some q) (s.is ∙ sym (listed_seat e b us id.at s))
+          ∙ sym (ap (option_map (λ (r : Registered). r.query))
+          (registered_is e b us order w sessions id
+          ∙ ap (λ c. cond c (Some (registered_as e.places us sessions id.at)) None)
+          (seat_order e b us order w id.at s)))
+      by_found id low None f = ap (option_map (λ (r : Registered). r.query)) f
+          ∙ sym (ap (option_map (λ (r : Registered). r.query))
+          (registered_is e b us order w sessions id ∙ none (is_reader order id.at) refl))
         where
-          none : (c : Bool) → is_reader order id.at ≡ c → cond (is_reader order id.at) (Some (registered_as e.places us sessions id.at)) None ≡ None
+          none : (c : Bool) → is_reader order id.at ≡ c
+              → cond (is_reader order id.at) (Some (registered_as e.places us sessions id.at)) None ≡ None
           none true g = let s = order_seat e b us order w id.at g low in let there = s.found in absurd cc
           none false g = ap (λ c. cond c (Some (registered_as e.places us sessions id.at)) None) g
 
@@ -190,21 +241,28 @@ module _ (e : Kept) (b : IsEngine e) (us : List (Option Joined)) (order sessions
 
   pub union_shape : (name : Bytes) (k : ℕ) → Called us name k → TellsShape old.store name (Ok Union)
   union_shape name k f = record {
-    answer = answers_done (first_refusal ((is_none (listed_of old.store.queries name), NoQuery) ∷ [])) Union (λ shape. IsSomeAnd (listed_of old.store.queries name) (λ q. IsShapeOf q shape)) (OutOfMemoryWhere ⊥)
+    answer = answers_done (first_refusal ((is_none (listed_of old.store.queries name), NoQuery) ∷ [])) Union
+        (λ shape. IsSomeAnd (listed_of old.store.queries name) (λ q. IsShapeOf q shape)) (OutOfMemoryWhere ⊥)
         (ap (λ o. first_refusal ((is_none o, NoQuery) ∷ [])) (called_listed name k f))
         (subst (λ (o : Option Listed). IsSomeAnd o (λ q. IsShapeOf q Union)) (sym (called_listed name k f)) tt);
   }
 
-  pub query_shape : (name : Bytes) (result : Result Shape Refusal) → NoUnion us name → TellsShape e.store name result → TellsShape old.store name result
+  pub query_shape : (name : Bytes) (result : Result Shape Refusal) → NoUnion us name → TellsShape e.store name result
+      → TellsShape old.store name result
   query_shape name result none t = record {
-    answer = subst (λ (o : Option Listed). Answers (first_refusal ((is_none o, NoQuery) ∷ [])) result (λ shape. IsSomeAnd o (λ q. IsShapeOf q shape)) (OutOfMemoryWhere ⊥)) (sym (engine_listed e b us order w name none)) t.answer;
+    answer = subst (λ (o : Option Listed). Answers (first_refusal ((is_none o, NoQuery) ∷ [])) result
+        (λ shape. IsSomeAnd o (λ q. IsShapeOf q shape)) (OutOfMemoryWhere ⊥))
+        (sym (engine_listed e b us order w name none)) t.answer;
   }
 
   -- ---- explanations
 
-  pub union_explained : (name : Bytes) (k : ℕ) (f : Called us name k) (n : ℕ) → n ≡ length (map (λ l. l.query) (members_in e.places f.union.union)) → ExplainGives old.store name (Ok (Members n))
+  pub union_explained : (name : Bytes) (k : ℕ) (f : Called us name k) (n : ℕ) → n
+      ≡ length (map (λ l. l.query) (members_in e.places f.union.union)) → ExplainGives old.store name (Ok (Members n))
   union_explained name k f n is = record {
-    answer = answers_done (first_refusal ((is_none (listed_of old.store.queries name), NoQuery) ∷ [])) (Members n) (λ x. IsSomeAnd (listed_of old.store.queries name) (λ q. Explains q x)) (OutOfMemoryWhere (IsSomeAnd (listed_of old.store.queries name) TakesMemory))
+    answer = answers_done (first_refusal ((is_none (listed_of old.store.queries name), NoQuery) ∷ [])) (Members n)
+        (λ x. IsSomeAnd (listed_of old.store.queries name) (λ q. Explains q x))
+        (OutOfMemoryWhere (IsSomeAnd (listed_of old.store.queries name) TakesMemory))
         (ap (λ o. first_refusal ((is_none o, NoQuery) ∷ [])) (called_listed name k f))
         (subst (λ (o : Option Listed). IsSomeAnd o (λ q. Explains q (Members n))) (sym (called_listed name k f)) is);
   }
@@ -221,73 +279,99 @@ module _ (e : Kept) (b : IsEngine e) (us : List (Option Joined)) (order sessions
       some_there (Some x) P h = (x, h)
 
       is : listed_of (e.store).queries name ≡ option_map (λ (r : Registered). r.query) (registered_of e.registered name)
-      is = ap (λ qs. listed_of qs name) (sym b.queries) ∙ find_mapped (λ q. bytes_eq (listed_name q) name) (λ (r : Registered). r.query) e.registered
+      is = ap (λ qs. listed_of qs name) (sym b.queries)
+          ∙ find_mapped (λ q. bytes_eq (listed_name q) name) (λ (r : Registered). r.query) e.registered
 
       by_found : (o : Option Registered) → registered_of e.registered name ≡ o → (x : Query) × (q ≡ a_query x)
       by_found None f = let g = sym found ∙ is ∙ ap (option_map (λ (r : Registered). r.query)) f in absurd cc
       by_found (Some r) f =
-          let placed = found_all (λ r. AtPlace e r.id (λ l. r.query ≡ a_query l.query)) (λ r. bytes_eq (listed_name r.query) name) e.registered r b.placed f in
+          let placed = found_all (λ r. AtPlace e r.id (λ l. r.query ≡ a_query l.query))
+          (λ r. bytes_eq (listed_name r.query) name) e.registered r b.placed f in
           let p = some_there (query_at e.places r.id.at) (λ l. r.query ≡ a_query l.query) placed in
           (p.0.query, same (sym found ∙ is ∙ ap (option_map (λ (r : Registered). r.query)) f) ∙ p.1)
 
   module _ (name : Bytes) (none : NoUnion us name) where
-    explained_as : (o : Option Listed) → ((q : Listed) → o ≡ Some q → (x : Query) × (q ≡ a_query x)) → (lines : List ℕ) → IsSomeAnd o (λ q. kept.Explains q lines) → IsSomeAnd o (λ q. Explains q (Tree lines))
+    explained_as : (o : Option Listed) → ((q : Listed) → o ≡ Some q → (x : Query) × (q ≡ a_query x)) → (lines : List ℕ)
+        → IsSomeAnd o (λ q. kept.Explains q lines) → IsSomeAnd o (λ q. Explains q (Tree lines))
     explained_as None h lines x = x
     explained_as (Some q) h lines x = let is = h q refl in
-        subst (λ (q : Listed). Explains q (Tree lines)) (sym is.1) (subst (λ (q : Listed). kept.Explains q lines) is.1 x)
+        subst (λ (q : Listed). Explains q (Tree lines)) (sym is.1)
+        (subst (λ (q : Listed). kept.Explains q lines) is.1 x)
 
-    takes_as : (o : Option Listed) → ((q : Listed) → o ≡ Some q → (x : Query) × (q ≡ a_query x)) → IsSomeAnd o kept.HasTree → IsSomeAnd o TakesMemory
+    takes_as : (o : Option Listed) → ((q : Listed) → o ≡ Some q → (x : Query) × (q ≡ a_query x))
+        → IsSomeAnd o kept.HasTree → IsSomeAnd o TakesMemory
     takes_as None h x = x
     takes_as (Some q) h x = let is = h q refl in subst TakesMemory (sym is.1) (subst kept.HasTree is.1 x)
 
     given : (o : Option Listed) → ((q : Listed) → o ≡ Some q → (x : Query) × (q ≡ a_query x)) → (lines : List ℕ)
-        → Answers (first_refusal ((is_none o, NoQuery) ∷ [])) (Ok lines) (λ lines. IsSomeAnd o (λ q. kept.Explains q lines)) (OutOfMemoryWhere (IsSomeAnd o kept.HasTree))
-        → Answers (first_refusal ((is_none o, NoQuery) ∷ [])) (Ok (Tree lines)) (λ x. IsSomeAnd o (λ q. Explains q x)) (OutOfMemoryWhere (IsSomeAnd o TakesMemory))
+        → Answers (first_refusal ((is_none o, NoQuery) ∷ [])) (Ok lines)
+        (λ lines. IsSomeAnd o (λ q. kept.Explains q lines)) (OutOfMemoryWhere (IsSomeAnd o kept.HasTree))
+        → Answers (first_refusal ((is_none o, NoQuery) ∷ [])) (Ok (Tree lines)) (λ x. IsSomeAnd o (λ q. Explains q x))
+        (OutOfMemoryWhere (IsSomeAnd o TakesMemory))
     given None h lines x = x
     given (Some q) h lines x = explained_as (Some q) h lines x
 
-    pub lines_explained : (lines : List ℕ) → kept.ExplainGives e.store name (Ok lines) → ExplainGives old.store name (Ok (Tree lines))
+    pub lines_explained : (lines : List ℕ) → kept.ExplainGives e.store name (Ok lines)
+        → ExplainGives old.store name (Ok (Tree lines))
     lines_explained lines g = record {
-      answer = subst (λ (o : Option Listed). Answers (first_refusal ((is_none o, NoQuery) ∷ [])) (Ok (Tree lines)) (λ x. IsSomeAnd o (λ q. Explains q x)) (OutOfMemoryWhere (IsSomeAnd o TakesMemory))) (sym (engine_listed e b us order w name none))
+      answer = subst (λ (o : Option Listed). Answers (first_refusal ((is_none o, NoQuery) ∷ [])) (Ok (Tree lines))
+          (λ x. IsSomeAnd o (λ q. Explains q x)) (OutOfMemoryWhere (IsSomeAnd o TakesMemory)))
+          (sym (engine_listed e b us order w name none))
           (given (listed_of (e.store).queries name) (engine_has name) lines g.answer);
     }
 
     refused : (o : Option Listed) → ((q : Listed) → o ≡ Some q → (x : Query) × (q ≡ a_query x)) → (r : Refusal)
-        → Answers (first_refusal ((is_none o, NoQuery) ∷ [])) (Err r) (λ (lines : List ℕ). IsSomeAnd o (λ q. kept.Explains q lines)) (OutOfMemoryWhere (IsSomeAnd o kept.HasTree))
-        → Answers (first_refusal ((is_none o, NoQuery) ∷ [])) (Err r) (λ (x : Explained). IsSomeAnd o (λ q. Explains q x)) (OutOfMemoryWhere (IsSomeAnd o TakesMemory))
+        → Answers (first_refusal ((is_none o, NoQuery) ∷ [])) (Err r)
+        (λ (lines : List ℕ). IsSomeAnd o (λ q. kept.Explains q lines)) (OutOfMemoryWhere (IsSomeAnd o kept.HasTree))
+        → Answers (first_refusal ((is_none o, NoQuery) ∷ [])) (Err r)
+        (λ (x : Explained). IsSomeAnd o (λ q. Explains q x)) (OutOfMemoryWhere (IsSomeAnd o TakesMemory))
     refused None h r x = x
     refused (Some q) h NoMemory x = takes_as (Some q) h x
     refused (Some q) h _ x = x
 
     pub none_explained : (r : Refusal) → kept.ExplainGives e.store name (Err r) → ExplainGives old.store name (Err r)
     none_explained r g = record {
-      answer = subst (λ (o : Option Listed). Answers (first_refusal ((is_none o, NoQuery) ∷ [])) (Err r) (λ (x : Explained). IsSomeAnd o (λ q. Explains q x)) (OutOfMemoryWhere (IsSomeAnd o TakesMemory))) (sym (engine_listed e b us order w name none))
+      answer = subst (λ (o : Option Listed). Answers (first_refusal ((is_none o, NoQuery) ∷ [])) (Err r)
+          (λ (x : Explained). IsSomeAnd o (λ q. Explains q x)) (OutOfMemoryWhere (IsSomeAnd o TakesMemory)))
+          (sym (engine_listed e b us order w name none))
           (refused (listed_of (e.store).queries name) (engine_has name) r g.answer);
     }
 
   -- ---- answers, lent
 
-  pub shown_low : (id : CursorId) (answer : List ℕ) → id.query.at < QUERIES → IsShown old id answer → IsShown e id answer
-  shown_low id answer low h = subst (λ (o : Option Live). IsSomeAnd o (λ l. IsShowable (e.store).texts l answer)) (places_low e.places (map (lender_in e.places) us) id.query.at b.few low) h
+  pub shown_low : (id : CursorId) (answer : List ℕ) → id.query.at < QUERIES → IsShown old id answer
+      → IsShown e id answer
+  shown_low id answer low h = subst (λ (o : Option Live). IsSomeAnd o (λ l. IsShowable (e.store).texts l answer))
+      (places_low e.places (map (lender_in e.places) us) id.query.at b.few low) h
 
-  pub answer_low : (id : CursorId) (answer : List ℕ) (t : Tuple) → id.query.at < QUERIES → AnswerIs e id answer t → AnswerIs old id answer t
-  answer_low id answer t low h = subst (λ (o : Option Live). IsSomeAnd o (λ l. t ≡ values_of (e.store).texts l answer)) (sym (places_low e.places (map (lender_in e.places) us) id.query.at b.few low)) h
+  pub answer_low : (id : CursorId) (answer : List ℕ) (t : Tuple) → id.query.at < QUERIES → AnswerIs e id answer t
+      → AnswerIs old id answer t
+  answer_low id answer t low h = subst (λ (o : Option Live). IsSomeAnd o (λ l. t ≡ values_of (e.store).texts l answer))
+      (sym (places_low e.places (map (lender_in e.places) us) id.query.at b.few low)) h
 
   module _ (id : CursorId) (high : QUERIES ≤ id.query.at) where
     lender_at : (k : ℕ) → get_or (map (lender_in e.places) us) k None ≡ lender_in e.places (joined_at us k)
     lender_at k = by_order (cases_lt k (length us))
       where
-        by_order : (k < length us) ⊎ (length us ≤ k) → get_or (map (lender_in e.places) us) k None ≡ lender_in e.places (joined_at us k)
+        by_order : (k < length us) ⊎ (length us ≤ k) → get_or (map (lender_in e.places) us) k None
+            ≡ lender_in e.places (joined_at us k)
         by_order (inl low) = get_or-map (lender_in e.places) us k None None low
-        by_order (inr past) = get_or_past (map (lender_in e.places) us) k None (omega (arith, past, length-map us (lender_in e.places))) ∙ sym (ap (lender_in e.places) (get_or_past us k None past))
+        by_order (inr past) = get_or_past (map (lender_in e.places) us) k None
+            (omega (arith, past, length-map us (lender_in e.places)))
+            ∙ sym (ap (lender_in e.places) (get_or_past us k None past))
 
     lends_at : get_or old.places id.query.at None ≡ lender_in e.places (joined_at us (id.query.at - QUERIES))
-    lends_at = sym (ap (λ n. get_or old.places n None) (add-sub_of_le high)) ∙ places_high e.places (map (lender_in e.places) us) (id.query.at - QUERIES) b.few ∙ lender_at (id.query.at - QUERIES)
+    lends_at = sym (ap (λ n. get_or old.places n None) (add-sub_of_le high))
+        ∙ places_high e.places (map (lender_in e.places) us) (id.query.at - QUERIES) b.few
+        ∙ lender_at (id.query.at - QUERIES)
 
-    pub lender_there : (answer : List ℕ) → IsShown old id answer → IsSomeAnd (joined_at us (id.query.at - QUERIES)) (λ j. ⊤)
-    lender_there answer h = by_slot (joined_at us (id.query.at - QUERIES)) (subst (λ (o : Option Live). IsSomeAnd o (λ l. IsShowable (e.store).texts l answer)) lends_at h)
+    pub lender_there : (answer : List ℕ) → IsShown old id answer
+        → IsSomeAnd (joined_at us (id.query.at - QUERIES)) (λ j. ⊤)
+    lender_there answer h = by_slot (joined_at us (id.query.at - QUERIES))
+        (subst (λ (o : Option Live). IsSomeAnd o (λ l. IsShowable (e.store).texts l answer)) lends_at h)
       where
-        by_slot : (o : Option Joined) → IsSomeAnd (lender_in e.places o) (λ l. IsShowable (e.store).texts l answer) → IsSomeAnd o (λ j. ⊤)
+        by_slot : (o : Option Joined) → IsSomeAnd (lender_in e.places o) (λ l. IsShowable (e.store).texts l answer)
+            → IsSomeAnd o (λ j. ⊤)
         by_slot None h = absurd h
         by_slot (Some j) h = tt
 
@@ -296,20 +380,29 @@ module _ (e : Kept) (b : IsEngine e) (us : List (Option Joined)) (order sessions
       first_lends =
           let m = (w.united (id.query.at - QUERIES) j found).members in
           let f = first_there e.places j.union.members m.have m.several in
-          lends_at ∙ ap (lender_in e.places) found ∙ f.first ∙ sym f.there ∙ ap (λ (ks : List ℕ). query_at e.places (get_or ks 0 0)) (sym f.is)
+          lends_at ∙ ap (lender_in e.places) found ∙ f.first ∙ sym f.there
+          ∙ ap (λ (ks : List ℕ). query_at e.places (get_or ks 0 0)) (sym f.is)
 
-      pub shown_high : (answer : List ℕ) → IsShown old id answer → AtPlace e (id_at (get_or j.union.members 0 0)) (λ l. IsShowable (e.store).texts l answer)
-      shown_high answer h = subst (λ (o : Option Live). IsSomeAnd o (λ l. IsShowable (e.store).texts l answer)) first_lends h
+      pub shown_high : (answer : List ℕ) → IsShown old id answer
+          → AtPlace e (id_at (get_or j.union.members 0 0)) (λ l. IsShowable (e.store).texts l answer)
+      shown_high answer h = subst (λ (o : Option Live). IsSomeAnd o (λ l. IsShowable (e.store).texts l answer))
+          first_lends h
 
-      pub answer_high : (answer : List ℕ) (t : Tuple) → AtPlace e (id_at (get_or j.union.members 0 0)) (λ l. t ≡ values_of (e.store).texts l answer) → AnswerIs old id answer t
-      answer_high answer t h = subst (λ (o : Option Live). IsSomeAnd o (λ l. t ≡ values_of (e.store).texts l answer)) (sym first_lends) h
+      pub answer_high : (answer : List ℕ) (t : Tuple)
+          → AtPlace e (id_at (get_or j.union.members 0 0)) (λ l. t ≡ values_of (e.store).texts l answer)
+          → AnswerIs old id answer t
+      answer_high answer t h = subst (λ (o : Option Live). IsSomeAnd o (λ l. t ≡ values_of (e.store).texts l answer))
+          (sym first_lends) h
 
   -- ---- names of members
 
   pub no_member : (name : Bytes) (nth : ℕ) → NoUnion us name → HasMember old.store name nth → ⊥
-  no_member name nth none h = by_listed (listed_of (e.store).queries name) refl (subst (λ (o : Option Listed). IsSomeAnd o (λ q. nth < length (members_of q))) (engine_listed e b us order w name none) h)
+  no_member name nth none h = by_listed (listed_of (e.store).queries name) refl
+      (subst (λ (o : Option Listed). IsSomeAnd o (λ q. nth < length (members_of q)))
+      (engine_listed e b us order w name none) h)
     where
-      by_listed : (o : Option Listed) → listed_of (e.store).queries name ≡ o → IsSomeAnd o (λ q. nth < length (members_of q)) → ⊥
+      by_listed : (o : Option Listed) → listed_of (e.store).queries name ≡ o
+          → IsSomeAnd o (λ q. nth < length (members_of q)) → ⊥
       by_listed None f x = x
       by_listed (Some q) f x =
           let is = engine_has name q f in
@@ -318,37 +411,56 @@ module _ (e : Kept) (b : IsEngine e) (us : List (Option Joined)) (order sessions
   module _ (name : Bytes) (nth : ℕ) (k : ℕ) (f : Called us name k) where
     pub member_below : HasMember old.store name nth → nth < length f.union.union.members
     member_below h =
-        let low = subst (λ (o : Option Listed). IsSomeAnd o (λ q. nth < length (members_of q))) (called_listed name k f) h in
-        let same = count_members e.places f.union.union.members (w.united k f.union f.there).members.have.each in omega (arith, low, same)
+        let low = subst (λ (o : Option Listed). IsSomeAnd o (λ q. nth < length (members_of q))) (called_listed name k f)
+        h in
+        let same = count_members e.places f.union.union.members (w.united k f.union f.there).members.have.each in omega
+        (arith, low, same)
 
-    member_there : nth < length f.union.union.members → IsSomeAnd (query_at e.places (get_or f.union.union.members nth 0)) (λ l. ⊤)
-    member_there low = All-from_recursion (λ k. IsSomeAnd (query_at e.places k) (λ l. ⊤)) f.union.union.members (w.united k f.union f.there).members.have.each nth 0 low
+    member_there : nth < length f.union.union.members
+        → IsSomeAnd (query_at e.places (get_or f.union.union.members nth 0)) (λ l. ⊤)
+    member_there low = All-from_recursion (λ k. IsSomeAnd (query_at e.places k) (λ l. ⊤)) f.union.union.members
+        (w.united k f.union f.there).members.have.each nth 0 low
 
     pub member_seat : nth < length f.union.union.members → Seat e (get_or f.union.union.members nth 0)
     member_seat low = there (query_at e.places (get_or f.union.union.members nth 0)) refl (member_there low)
       where
-        there : (o : Option Live) → query_at e.places (get_or f.union.union.members nth 0) ≡ o → IsSomeAnd o (λ l. ⊤) → Seat e (get_or f.union.union.members nth 0)
+        there : (o : Option Live) → query_at e.places (get_or f.union.union.members nth 0) ≡ o → IsSomeAnd o (λ l. ⊤)
+            → Seat e (get_or f.union.union.members nth 0)
         there None g h = absurd h
         there (Some l) g h = seat_here e b (get_or f.union.union.members nth 0) l g
 
-    pub member_registered : nth < length f.union.union.members → IsRegistered e (id_at (get_or f.union.union.members nth 0))
+    pub member_registered : nth < length f.union.union.members
+        → IsRegistered e (id_at (get_or f.union.union.members nth 0))
     member_registered low = ap is_some (member_seat low).found
 
-    names_at : (gs : List (Option Live)) (ks : List ℕ) (nth : ℕ) (l : Live) → AllByRecursion (λ k. IsSomeAnd (query_at gs k) (λ l. ⊤)) ks → nth < length ks → query_at gs (get_or ks nth 0) ≡ Some l
+    names_at : (gs : List (Option Live)) (ks : List ℕ) (nth : ℕ) (l : Live)
+        → AllByRecursion (λ k. IsSomeAnd (query_at gs k) (λ l. ⊤)) ks → nth < length ks → query_at gs (get_or ks nth 0)
+        ≡ Some l
         → slice_get (map (λ m. m.name) (map (λ l. l.query) (queries_at gs ks))) nth ≡ Some l.query.name
     names_at gs [] nth l h low there = absurd (omega arith)
-    names_at gs (x ∷ ks) zero l h low there = ap (λ (o : Option Live). slice_get (map (λ (m : Query). m.name) (map (λ (l : Live). l.query) (option_to_list o ++ queries_at gs ks))) 0) there
-    names_at gs (x ∷ ks) (suc nth) l h low there = behind_one (query_at gs x) h.0 (names_at gs ks nth l h.1 (omega arith) there)
+    names_at gs (x ∷ ks) zero l h low there = ap
+        (λ (o : Option Live). slice_get
+        (map (λ (m : Query). m.name) (map (λ (l : Live). l.query) (option_to_list o ++ queries_at gs ks))) 0) there
+    names_at gs (x ∷ ks) (suc nth) l h low there = behind_one (query_at gs x) h.0
+        (names_at gs ks nth l h.1 (omega arith) there)
       where
-        behind_one : (o : Option Live) → IsSomeAnd o (λ l. ⊤) → slice_get (map (λ (m : Query). m.name) (map (λ (l : Live). l.query) (queries_at gs ks))) nth ≡ Some l.query.name
-            → slice_get (map (λ (m : Query). m.name) (map (λ (l : Live). l.query) (option_to_list o ++ queries_at gs ks))) (suc nth) ≡ Some l.query.name
+        behind_one : (o : Option Live) → IsSomeAnd o (λ l. ⊤)
+            → slice_get (map (λ (m : Query). m.name) (map (λ (l : Live). l.query) (queries_at gs ks))) nth
+            ≡ Some l.query.name
+            → slice_get (map (λ (m : Query). m.name)
+            (map (λ (l : Live). l.query) (option_to_list o ++ queries_at gs ks))) (suc nth) ≡ Some l.query.name
         behind_one None x more = absurd x
         behind_one (Some y) x more = more
 
-    pub member_named : (n : Bytes) → nth < length f.union.union.members → IsSomeAnd (registered_at e.registered (id_at (get_or f.union.union.members nth 0))) (λ r. n ≡ listed_name r.query)
+    pub member_named : (n : Bytes) → nth < length f.union.union.members
+        → IsSomeAnd (registered_at e.registered (id_at (get_or f.union.union.members nth 0)))
+        (λ r. n ≡ listed_name r.query)
         → IsSomeAnd (listed_of old.store.queries name) (λ q. slice_get (map (λ m. m.name) (members_of q)) nth ≡ Some n)
     member_named n low h =
         let s = member_seat low in
-        let called : n ≡ s.query.query.name = subst (λ (o : Option Registered). IsSomeAnd o (λ r. n ≡ listed_name r.query)) s.found h ∙ ap listed_name s.is in
-        subst (λ (o : Option Listed). IsSomeAnd o (λ q. slice_get (map (λ m. m.name) (members_of q)) nth ≡ Some n)) (sym (called_listed name k f))
-        (names_at e.places f.union.union.members nth s.query (w.united k f.union f.there).members.have.each low s.there ∙ ap (λ (x : Bytes). Some x) (sym called))
+        let called : n ≡ s.query.query.name = subst
+        (λ (o : Option Registered). IsSomeAnd o (λ r. n ≡ listed_name r.query)) s.found h ∙ ap listed_name s.is in
+        subst (λ (o : Option Listed). IsSomeAnd o (λ q. slice_get (map (λ m. m.name) (members_of q)) nth ≡ Some n))
+        (sym (called_listed name k f))
+        (names_at e.places f.union.union.members nth s.query (w.united k f.union f.there).members.have.each low s.there
+        ∙ ap (λ (x : Bytes). Some x) (sym called))

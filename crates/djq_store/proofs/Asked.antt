@@ -1,5 +1,7 @@
 -- What telling unions counts: as much as is asked of their members for what is told of these.
-use Rattle.std.specs.Prelude.{ℕ, zero, suc, List, [], ◌∷◌, ◌≡◌, ◌+◌, ◌-◌, ◌*◌, ◌<◌, ◌≤◌, ◌&&◌, ◌⊎◌, nat_lt, Bool, true, false, cond, Option, None, Some, is_some, filter, map, length, sum_by, unwrap_or, All, AllPairs, Contains}
+use Rattle.std.specs.Prelude.{ℕ, zero, suc, List, [], ◌∷◌, ◌≡◌, ◌+◌, ◌-◌, ◌*◌, ◌<◌, ◌≤◌, ◌&&◌, ◌⊎◌}
+use Rattle.std.specs.Prelude.{nat_lt, Bool, true, false, cond, Option, None, Some, is_some, filter}
+use Rattle.std.specs.Prelude.{map, length, sum_by, unwrap_or, All, AllPairs, Contains}
 use Rattle.std.specs.List.{list_any}
 use Rattle.std.proofs.Common.{refl, sym, ap, ap₂, ◌∙◌, subst, inl, inr, arith}
 use Rattle.std.proofs.lemmas.Bool.{false≢true, lt-ltb, ltb-true, cases_lt}
@@ -21,7 +23,8 @@ use Rattle.djq_engine.specs.Kept.{Kept, Registered, is_watched, told_at}
 use Rattle.djq_united.specs.Staying.{MembersStay}
 use Rattle.djq_united.specs.United.{IsUnited, union_of}
 use Rattle.djq_gains.specs.Gains.{members_at, count_in, told_in}
-use Rattle.djq_deltas.proofs.Lists.{nothing_there, first_or_later, first_there, later_there, kept_there, mapped_there, hold_each}
+use Rattle.djq_deltas.proofs.Lists.{nothing_there, first_or_later, first_there, later_there}
+use Rattle.djq_deltas.proofs.Lists.{kept_there, mapped_there, hold_each}
 use Rattle.djq_store.specs.declared.joined.Joined.{Joined}
 use Rattle.djq_store.specs.declared.settling.Turn.{Turn}
 use Rattle.djq_store.specs.declared.settling.Turn.TheVariants.{Came, Went, Lacked}
@@ -76,13 +79,16 @@ pub slots_few : (g : Option Joined → ℕ) (us : List (Option Joined)) (rs : Li
     → sum_by g us ≤ sum_by c rs
 slots_few g us rs c none among fewer =
     let slots = sum_slots g (weight g us) QUERIES us (λ k. high_place k (λ i. 0) (λ i. g (joined_at us i))) in
-    let kept = sum_kept (weight g us) (λ i. nat_lt 0 (weight g us i)) (places_from QUERIES us) (λ i k e. zero_of (weight g us i) e) in
-    let covered = sum_covered (weight g us) (filter (λ i. nat_lt 0 (weight g us i)) (places_from QUERIES us)) (map (λ (r : Registered). r.id.at) rs)
+    let kept = sum_kept (weight g us) (λ i. nat_lt 0 (weight g us i)) (places_from QUERIES us)
+    (λ i k e. zero_of (weight g us i) e) in
+    let covered = sum_covered (weight g us) (filter (λ i. nat_lt 0 (weight g us i)) (places_from QUERIES us))
+    (map (λ (r : Registered). r.id.at) rs)
     (AllPairs-filter (λ i j. i ≡ j → ⊥) (λ i. nat_lt 0 (weight g us i)) (places_from QUERIES us) (from_once QUERIES us))
     (λ i k. let was = kept_was (λ i. nat_lt 0 (weight g us i)) (places_from QUERIES us) i k in
     found i (behind_queries i (from_above QUERIES us i was.0)) (ltb-true 0 (weight g us i) was.1)) in
     let mapped = sum_mapped (weight g us) (λ (r : Registered). r.id.at) rs in
-    let below = sum_fewer (λ (r : Registered). weight g us r.id.at) c rs (hold_each (λ (r : Registered). weight g us r.id.at ≤ c r) rs
+    let below = sum_fewer (λ (r : Registered). weight g us r.id.at) c rs
+    (hold_each (λ (r : Registered). weight g us r.id.at ≤ c r) rs
     (λ r k. by_case r k (cases_place r.id.at))) in
     omega (arith, slots, kept, covered, mapped, below)
   where

@@ -1,5 +1,7 @@
 -- What `done` comes to in a store.
-use Rattle.std.specs.Prelude.{ℕ, zero, suc, List, [], ◌∷◌, ◌++◌, ◌≡◌, ◌==◌, ◌+◌, ◌≤◌, ◌&&◌, ◌||◌, ◌⊎◌, Bool, true, false, not, cond, Option, None, Some, is_some, is_none, find, filter, map, length, Result, Ok, Err, All, Contains, ⊤}
+use Rattle.std.specs.Prelude.{ℕ, zero, suc, List, [], ◌∷◌, ◌++◌, ◌≡◌, ◌==◌, ◌+◌, ◌≤◌, ◌&&◌, ◌||◌}
+use Rattle.std.specs.Prelude.{◌⊎◌, Bool, true, false, not, cond, Option, None, Some, is_some}
+use Rattle.std.specs.Prelude.{is_none, find, filter, map, length, Result, Ok, Err, All, Contains, ⊤}
 use Rattle.std.specs.List.{list_any}
 use Rattle.std.proofs.Common.{refl, sym, ap, ◌∙◌, subst, inl, inr, append-nil, append_assoc}
 use Rattle.std.proofs.lemmas.Bool.{false≢true}
@@ -22,7 +24,9 @@ use Rattle.djq_model.specs.Data.{counted_of, with_row}
 use Rattle.djq_machine.specs.State.{Store}
 use Rattle.djq_machine.specs.Stale.{reads, listed_reads}
 use Rattle.djq_machine.specs.Changes.{RowsChange, is_outdated}
-use Rattle.djq_machine.specs.Batch.{suit_refusal, SuitAll, is_there, with_held, with_all, count_came, has_come, store_behind, StopsAt, RefusesBatch, AddsBatch, rows_in, rows_tried, batch_outcome}
+use Rattle.djq_machine.specs.Batch.{suit_refusal, SuitAll, is_there, with_held, with_all}
+use Rattle.djq_machine.specs.Batch.{count_came, has_come, store_behind, StopsAt, RefusesBatch}
+use Rattle.djq_machine.specs.Batch.{AddsBatch, rows_in, rows_tried, batch_outcome}
 use Rattle.djq_machine.specs.Watch.{is_touched}
 use Rattle.djq_machine.proofs.Reading.{reads_atom}
 use Rattle.djq_rows.specs.Laws.{TextsStay}
@@ -85,7 +89,8 @@ same_bools false true f g = g refl
 same_bools false false f g = refl
 
 -- a query that a batch touches reads one of its relations of which a row comes
-touched_reads : (st : Store) (held : List HeldRow) (q : Query) → list_any (λ (a : Atom). has_come st held a.relation) q.atoms ≡ true
+touched_reads : (st : Store) (held : List HeldRow) (q : Query)
+    → list_any (λ (a : Atom). has_come st held a.relation) q.atoms ≡ true
     → list_any (λ n. has_come st held n && reads q n) (names_of held) ≡ true
 touched_reads st held q hit =
     let a = passing (λ (a : Atom). has_come st held a.relation) q.atoms hit in
@@ -93,7 +98,8 @@ touched_reads st held q hit =
     (come_among st held (a.one).relation a.passes)
     (and_true (has_come st held (a.one).relation) (reads q (a.one).relation) a.passes (reads_atom q a.one a.there))
 
-reads_touched : (st : Store) (held : List HeldRow) (q : Query) (n : Bytes) → has_come st held n ≡ true → reads q n ≡ true
+reads_touched : (st : Store) (held : List HeldRow) (q : Query) (n : Bytes) → has_come st held n ≡ true → reads q n
+    ≡ true
     → list_any (λ (a : Atom). has_come st held a.relation) q.atoms ≡ true
 reads_touched st held q n come read =
     let a = passing (λ (a : Atom). bytes_eq a.relation n) q.atoms read in
@@ -116,7 +122,8 @@ suits_there st held suit =
 
     by : (h : HeldRow) (o : Option Relation) → relation_of st.relations h.relation ≡ o
         → suit_refusal st h.relation h.row ≡ None → is_some (relation_of st.relations h.relation) ≡ true
-    by h None f e = absurd (some_none (sym (ap (λ (b : Bool). cond b (Some NoRelation) (first_of (tail_of h))) (ap is_none f)) ∙ e))
+    by h None f e = absurd
+        (some_none (sym (ap (λ (b : Bool). cond b (Some NoRelation) (first_of (tail_of h))) (ap is_none f)) ∙ e))
     by h (Some r) f e = ap is_some f
 
 names_come : (st : Store) (held : List HeldRow) (after : List Relation) → SuitAll st held
@@ -147,9 +154,11 @@ batch_known e e' held (Ok (suc n)) names suit h is =
     let st = e.store in
     let after : (e'.store).relations ≡ (with_all st held).relations =
     ap (λ (s : Store). s.relations) h.2 ∙ batch_after st held in
-    let come : names ≡ filter (has_come st held) (names_of held) = is ∙ names_come st held (e'.store).relations suit after in
+    let come : names ≡ filter (has_come st held) (names_of held) = is
+    ∙ names_come st held (e'.store).relations suit after in
     record {
-      outdater = λ q. sym (ap (find (listed_reads q)) come ∙ find_kept (has_come st held) (listed_reads q) (names_of held));
+      outdater = λ q. sym (ap (find (listed_reads q)) come
+          ∙ find_kept (has_come st held) (listed_reads q) (names_of held));
       spares = batch_spares st held;
       out = λ q hit. found_any (λ n. has_come st held n && reads q n) (names_of held) ∙ touched_reads st held q hit;
       hits = λ q. same_bools (is_touched (rows_in st held) q) (list_any (reads q) names)
@@ -209,7 +218,8 @@ held_grows law st h = by (is_there st h)
 all_grows : TextsStay → (st : Store) (held : List HeldRow) → Grown st (with_all st held)
 all_grows law st [] = ([], sym (append-nil st.texts))
 all_grows law st (h ∷ hs) =
-    grown_then st (with_held st h) (with_all (with_held st h) hs) (held_grows law st h) (all_grows law (with_held st h) hs)
+    grown_then st (with_held st h) (with_all (with_held st h) hs) (held_grows law st h)
+    (all_grows law (with_held st h) hs)
 
 behind_texts : (st : Store) (held : List HeldRow) → (store_behind st held).texts ≡ (with_all st held).texts
 behind_texts st held = by (count_came st held)
@@ -233,7 +243,8 @@ pub batch_grows : TextsStay → (old new : Store) (held : List HeldRow) (r : Res
 batch_grows law old new held (Ok n) h =
     let g = all_grows law old held in (g.0, ap (λ (st : Store). st.texts) h.2 ∙ behind_texts old held ∙ g.1)
 batch_grows law old new held (Err r) h =
-    grown_then old (with_all old h.front) new (all_grows law old h.front) (stops_grows law (with_all old h.front) new h.at r h.stops)
+    grown_then old (with_all old h.front) new (all_grows law old h.front)
+    (stops_grows law (with_all old h.front) new h.at r h.stops)
 
 -- ---- the store
 

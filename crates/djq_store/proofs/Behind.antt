@@ -1,5 +1,8 @@
 -- A store behind a command of rows: what its engine did, and how its unions were settled.
-use Rattle.std.specs.Prelude.{ℕ, List, [], ◌∷◌, ◌++◌, ◌≡◌, ◌+◌, ◌<◌, ◌≤◌, ◌⊎◌, ◌&&◌, ◌||◌, nat_lt, Bool, true, false, Option, None, Some, is_some, IsSomeAnd, option_map, find, filter, map, length, count_by, slice_get, vec_capacity, All, Contains, ⊤}
+use Rattle.std.specs.Prelude.{ℕ, List, [], ◌∷◌, ◌++◌, ◌≡◌, ◌+◌, ◌<◌, ◌≤◌, ◌⊎◌, ◌&&◌, ◌||◌, nat_lt}
+use Rattle.std.specs.Prelude.{Bool, true, false, Option, None, Some, is_some, IsSomeAnd, option_map}
+use Rattle.std.specs.Prelude.{find, filter, map, length, count_by, slice_get, vec_capacity, All}
+use Rattle.std.specs.Prelude.{Contains, ⊤}
 use Rattle.std.specs.List.{list_any, AllByRecursion}
 use Rattle.std.proofs.Common.{refl, sym, ap, ap₂, ◌∙◌, subst, inl, inr, arith}
 use Rattle.std.proofs.lemmas.Bool.{false≢true}
@@ -27,9 +30,11 @@ use Rattle.djq_store.specs.declared.settling.Turn.{Turn}
 use Rattle.djq_store.specs.declared.settling.Turn.TheVariants.{Came, Went, Lacked}
 use Rattle.djq_store.specs.Below.{IsEngine, StayingLaws}
 use Rattle.djq_store.specs.Places.{joined_at, first_member, listed_at, registered_as, sessions_at}
-use Rattle.djq_store.specs.Settling.{first_read, touched_in, outdated_union, TellsUnion, TellsWatched, SettlesLog, SettlesLogBy, Settles, SettlesAt}
+use Rattle.djq_store.specs.Settling.{first_read, touched_in, outdated_union, TellsUnion}
+use Rattle.djq_store.specs.Settling.{TellsWatched, SettlesLog, SettlesLogBy, Settles, SettlesAt}
 use Rattle.djq_store.specs.Whole.{IsListed, IsCounted, IsRoomy, IsWhole, IsShownByFirst, wants}
-use Rattle.djq_store.proofs.Alike.{SameUnion, SameUnions, listed_alike, sessions_alike, registered_alike, unions_alike, wants_alike, counted_kept}
+use Rattle.djq_store.proofs.Alike.{SameUnion, SameUnions, listed_alike, sessions_alike}
+use Rattle.djq_store.proofs.Alike.{registered_alike, unions_alike, wants_alike, counted_kept}
 use Rattle.djq_store.proofs.Members.{Grows, kept_shapes, grown_members, SameFirst, same_first, log_stays}
 use Rattle.djq_store.proofs.ReadBy.{the_query, all_queries, first_is, union_reads, any_there}
 use Rattle.djq_store.proofs.Settled.{settled_same, all_same, Turned, turned, Before, turned_back}
@@ -195,50 +200,54 @@ module _ (o : Option RowsChange) (relations : List Bytes) (turn : Turn) (e e' : 
 
     -- the lines of its log can be shown
 
-    module _ (j j' : Joined) (s : SameUnion j j') (united : IsUnited e.places j.union) (shown : IsShownByFirst e j) where
-      first_now : first_member e'.places j'.union ≡ first_member e'.places j.union
-      first_now = ap (λ (ms : List ℕ). first_of (queries_at e'.places ms)) s.members
+    module _ (j j' : Joined) (s : SameUnion j j') (united : IsUnited e.places j.union) (shown : IsShownByFirst e j)
+      where
+        first_now : first_member e'.places j'.union ≡ first_member e'.places j.union
+        first_now = ap (λ (ms : List ℕ). first_of (queries_at e'.places ms)) s.members
 
-      abbrev Shown : Log → Type 0
-      Shown log = log.lost ≡ false → IsSomeAnd (first_member e'.places j'.union)
-          (λ l. All (λ (n : Line). IsShowable (e'.store).texts l n.answer) log.lines)
+        abbrev Shown : Log → Type 0
+        Shown log = log.lost ≡ false → IsSomeAnd (first_member e'.places j'.union)
+            (λ l. All (λ (n : Line). IsShowable (e'.store).texts l n.answer) log.lines)
 
-      kept_shown : j'.log ≡ j.log → Shown j'.log
-      kept_shown same = subst Shown (sym same) (λ kept.
-          subst (λ (f : Option Live). IsSomeAnd f (λ l. All (λ (n : Line). IsShowable (e'.store).texts l n.answer) j.log.lines))
-          (sym first_now) (log_stays e e' grows b.laws.members b.laws.showable j united shown kept))
+        kept_shown : j'.log ≡ j.log → Shown j'.log
+        kept_shown same = subst Shown (sym same) (λ kept.
+            subst (λ (f : Option Live). IsSomeAnd f
+            (λ l. All (λ (n : Line). IsShowable (e'.store).texts l n.answer) j.log.lines))
+            (sym first_now) (log_stays e e' grows b.laws.members b.laws.showable j united shown kept))
 
-      told_shown : (came : Bool) → TellsUnion e' relations came j j'.log → Shown j'.log
-      told_shown came tells kept =
-          subst (λ (f : Option Live). IsSomeAnd f (λ l. All (λ (n : Line). IsShowable (e'.store).texts l n.answer) j'.log.lines))
-          (sym first_now)
-          (some_as (first_member e'.places j.union)
-          (TellUnion e' j.union.members (touched_in e'.places relations j.union.members) came j'.log.lines)
-          (λ l. All (λ (n : Line). IsShowable (e'.store).texts l n.answer) j'.log.lines) (λ l t. t.shown)
-          (subst (λ (f : Option Live). IsSomeAnd f
-          (TellUnion e' j.union.members (touched_in e'.places relations j.union.members) came j'.log.lines))
-          (first_get (queries_at e'.places j.union.members)) (tells kept)))
+        told_shown : (came : Bool) → TellsUnion e' relations came j j'.log → Shown j'.log
+        told_shown came tells kept =
+            subst (λ (f : Option Live). IsSomeAnd f
+            (λ l. All (λ (n : Line). IsShowable (e'.store).texts l n.answer) j'.log.lines))
+            (sym first_now)
+            (some_as (first_member e'.places j.union)
+            (TellUnion e' j.union.members (touched_in e'.places relations j.union.members) came j'.log.lines)
+            (λ l. All (λ (n : Line). IsShowable (e'.store).texts l n.answer) j'.log.lines) (λ l t. t.shown)
+            (subst (λ (f : Option Live). IsSomeAnd f
+            (TellUnion e' j.union.members (touched_in e'.places relations j.union.members) came j'.log.lines))
+            (first_get (queries_at e'.places j.union.members)) (tells kept)))
 
-      empty_shown : j'.log.lines ≡ [] → Shown j'.log
-      empty_shown none kept =
-          let f = same_first e e' grows b.laws.members j.union united in
-          subst (λ (f : Option Live). IsSomeAnd f (λ l. All (λ (n : Line). IsShowable (e'.store).texts l n.answer) j'.log.lines))
-          (sym (first_now ∙ f.now))
-          (subst (λ (ns : List Line). All (λ (n : Line). IsShowable (e'.store).texts f.new n.answer) ns) (sym none)
-          (All-nil (λ (n : Line). IsShowable (e'.store).texts f.new n.answer)))
+        empty_shown : j'.log.lines ≡ [] → Shown j'.log
+        empty_shown none kept =
+            let f = same_first e e' grows b.laws.members j.union united in
+            subst (λ (f : Option Live). IsSomeAnd f
+            (λ l. All (λ (n : Line). IsShowable (e'.store).texts l n.answer) j'.log.lines))
+            (sym (first_now ∙ f.now))
+            (subst (λ (ns : List Line). All (λ (n : Line). IsShowable (e'.store).texts f.new n.answer) ns) (sym none)
+            (All-nil (λ (n : Line). IsShowable (e'.store).texts f.new n.answer)))
 
-      watched_shown : (c came : Bool) → TellsWatched c e' relations came j j'.log → Shown j'.log
-      watched_shown true came t = told_shown came t
-      watched_shown false came t = kept_shown t
+        watched_shown : (c came : Bool) → TellsWatched c e' relations came j j'.log → Shown j'.log
+        watched_shown true came t = told_shown came t
+        watched_shown false came t = kept_shown t
 
-      turn_shown : (t : Turn) → SettlesLog e' relations t j j'.log → Shown j'.log
-      turn_shown Came t = watched_shown (nat_lt 0 j.watchers) true t
-      turn_shown Went t = watched_shown (nat_lt 0 j.watchers) false t
-      turn_shown Lacked t = empty_shown t.0
+        turn_shown : (t : Turn) → SettlesLog e' relations t j j'.log → Shown j'.log
+        turn_shown Came t = watched_shown (nat_lt 0 j.watchers) true t
+        turn_shown Went t = watched_shown (nat_lt 0 j.watchers) false t
+        turn_shown Lacked t = empty_shown t.0
 
-      log_shown : (f : Option Bytes) → SettlesLogBy f e' relations turn j j'.log → Shown j'.log
-      log_shown None t = kept_shown t
-      log_shown (Some r) t = turn_shown turn t
+        log_shown : (f : Option Bytes) → SettlesLogBy f e' relations turn j j'.log → Shown j'.log
+        log_shown None t = kept_shown t
+        log_shown (Some r) t = turn_shown turn t
 
     pub shown_behind : (k : ℕ) (j' : Joined) → joined_at us' k ≡ Some j' → IsShownByFirst e' j'
     shown_behind k j' there =

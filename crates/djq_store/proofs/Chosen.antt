@@ -1,6 +1,9 @@
 -- The queries that a new union is made of, by their names and in their places.
-use Rattle.std.proofs.Common.{ℕ, suc, List, [], ◌∷◌, ◌++◌, ◌≡◌, ◌<◌, ◌≤◌, ◌⊎◌, inl, inr, Bool, true, false, refl, sym, ap, ap₂, subst, ◌∙◌, length, arith}
-use Rattle.std.specs.Prelude.{◌&&◌, ◌||◌, not, nat_le, nat_lt, Option, None, Some, is_some, is_none, IsSome, IsSomeAnd, option_map, option_to_list, All, AllPairs, Contains, map, ⊤}
+use Rattle.std.proofs.Common.{ℕ, suc, List, [], ◌∷◌, ◌++◌, ◌≡◌, ◌<◌, ◌≤◌, ◌⊎◌, inl, inr, Bool, true}
+use Rattle.std.proofs.Common.{false, refl, sym, ap, ap₂, subst, ◌∙◌, length, arith}
+use Rattle.std.specs.Prelude.{◌&&◌, ◌||◌, not, nat_le, nat_lt, Option, None, Some, is_some, is_none}
+use Rattle.std.specs.Prelude.{IsSome, IsSomeAnd, option_map, option_to_list, All, AllPairs}
+use Rattle.std.specs.Prelude.{Contains, map, ⊤}
 use Rattle.std.specs.List.{list_any, AllByRecursion}
 use Rattle.std.proofs.lemmas.Bool.{ltb-false, leb-false, false≢true}
 use Rattle.std.proofs.lemmas.List.Elements.{All-cons}
@@ -14,7 +17,8 @@ use Rattle.djq_lines.specs.declared.answer.Refusal.TheVariants.{Taken, NoQuery, 
 use Rattle.djq_lines.specs.declared.limits.TheConstants.{MEMBERS, QUERIES}
 use Rattle.djq_machine.specs.Conditions.{first_of}
 use Rattle.djq_machine.specs.State.{Store}
-use Rattle.djq_machine.specs.Union.{AreUnder, is_union, same_type, same_types, stands_twice, types_differ, types_under, union_refusal}
+use Rattle.djq_machine.specs.Union.{AreUnder, is_union, same_type, same_types, stands_twice}
+use Rattle.djq_machine.specs.Union.{types_differ, types_under, union_refusal}
 use Rattle.djq_live.specs.Live.{Live}
 use Rattle.djq_live.specs.Member.{head_types, query_at, queries_at, HeadTypesAre}
 use Rattle.djq_deltas.proofs.Lists.{nothing_there, first_or_later}
@@ -52,7 +56,8 @@ nothing_of : {A : Type 0} (o : Option A) → is_some o ≡ false → o ≡ None
 nothing_of None h = refl
 nothing_of (Some x) h = absurd cc
 
-none_holds : (a c d f g : Bool) → first_of ((a, Taken) ∷ (c, NoQuery) ∷ (d, Member) ∷ (f, Limit) ∷ (g, Limit) ∷ []) ≡ None
+none_holds : (a c d f g : Bool) → first_of ((a, Taken) ∷ (c, NoQuery) ∷ (d, Member) ∷ (f, Limit) ∷ (g, Limit) ∷ [])
+    ≡ None
     → (a ≡ false) × (c ≡ false) × (d ≡ false) × (f ≡ false) × (g ≡ false)
 none_holds false false false false false h = (refl, refl, refl, refl, refl)
 none_holds false false false false true h = absurd cc
@@ -76,7 +81,8 @@ are_fit st name names h =
     let all = none_holds (is_some (listed_of st.queries name)) (list_any (λ n. is_none (listed_of st.queries n)) names)
     (stands_twice names || list_any (λ n. is_union (listed_of st.queries n)) names || types_differ st names)
     (nat_lt MEMBERS (length names)) (nat_le QUERIES (length st.queries)) h in
-    let misfit = none_or (stands_twice names || list_any (λ n. is_union (listed_of st.queries n)) names) (types_differ st names) all.2 in
+    let misfit = none_or (stands_twice names || list_any (λ n. is_union (listed_of st.queries n)) names)
+    (types_differ st names) all.2 in
     let twice = none_or (stands_twice names) (list_any (λ n. is_union (listed_of st.queries n)) names) misfit.0 in
     record {
       unknown = nothing_of (listed_of st.queries name) all.0;
@@ -105,7 +111,8 @@ all_types (c ∷ cs) (d ∷ ds) e = let first = both_true (same_type c d) (same_
 
 -- ---- the queries of names
 
-module _ (e : Kept) (b : IsEngine e) (law : HeadTypesAre) (us : List (Option Joined)) (order sessions affected : List ℕ) (w : IsListed e us order) where
+module _ (e : Kept) (b : IsEngine e) (law : HeadTypesAre) (us : List (Option Joined)) (order sessions affected : List ℕ)
+    (w : IsListed e us order) where
   abbrev st : Store
   st = (seen e us order sessions affected).store
 
@@ -135,7 +142,8 @@ module _ (e : Kept) (b : IsEngine e) (law : HeadTypesAre) (us : List (Option Joi
             ∙ ap (option_map (λ (r : Registered). r.query)) u.found ∙ ap (λ (q : Listed). Some q) u.is;
         called = sym (ap listed_name u.is) ∙ (bytes_eq-decides (listed_name u.registered.query) n).0
             (found_passes (λ (r : Registered). bytes_eq (listed_name r.query) n) e.registered u.registered u.found);
-        types = types_are e b us order sessions affected w n (known_of (listed_of st.queries n) known) apart law u.registered.id u.query
+        types = types_are e b us order sessions affected w n (known_of (listed_of st.queries n) known) apart law
+            u.registered.id u.query
             (sym (ap (option_map (λ (r : Registered). r.id)) u.found)) u.there;
       }
     where
@@ -149,7 +157,8 @@ module _ (e : Kept) (b : IsEngine e) (law : HeadTypesAre) (us : List (Option Joi
   are_chosen (n ∷ ns) [] known apart at = absurd cc
   are_chosen (n ∷ ns) (p ∷ ps) known apart at =
       let k = none_or (is_none (listed_of st.queries n)) (list_any (λ n. is_none (listed_of st.queries n)) ns) known in
-      let a = none_or (is_union (listed_of st.queries n)) (list_any (λ n. is_union (listed_of st.queries n)) ns) apart in
+      let a = none_or (is_union (listed_of st.queries n)) (list_any (λ n. is_union (listed_of st.queries n)) ns) apart
+      in
       (chosen n p k.0 a.0 (heads at), are_chosen ns ps k.1 a.1 (tails at))
     where
       heads : {A : Type 0} {x y : A} {xs ys : List A} → x ∷ xs ≡ y ∷ ys → x ≡ y
@@ -160,18 +169,22 @@ module _ (e : Kept) (b : IsEngine e) (law : HeadTypesAre) (us : List (Option Joi
 
   -- the engine knows them
   pub are_known : (ns : List Bytes) → list_any (λ n. is_none (listed_of st.queries n)) ns ≡ false
-      → list_any (λ n. is_union (listed_of st.queries n)) ns ≡ false → All (λ n. IsSome (registered_of e.registered n)) ns
+      → list_any (λ n. is_union (listed_of st.queries n)) ns ≡ false
+      → All (λ n. IsSome (registered_of e.registered n)) ns
   are_known [] known apart = λ k d low. absurd (omega (arith, low))
   are_known (n ∷ ns) known apart =
       let k = none_or (is_none (listed_of st.queries n)) (list_any (λ n. is_none (listed_of st.queries n)) ns) known in
-      let a = none_or (is_union (listed_of st.queries n)) (list_any (λ n. is_union (listed_of st.queries n)) ns) apart in
+      let a = none_or (is_union (listed_of st.queries n)) (list_any (λ n. is_union (listed_of st.queries n)) ns) apart
+      in
       let u = under e b us order sessions affected w n (known_of (listed_of st.queries n) k.0) a.0 in
       All-cons (λ n. IsSome (registered_of e.registered n)) n ns (ap is_some u.found) (are_known ns k.1 a.1)
 
-  front : (p : ℕ) (ps : List ℕ) (l : Live) → query_at e.places p ≡ Some l → queries_at e.places (p ∷ ps) ≡ l ∷ queries_at e.places ps
+  front : (p : ℕ) (ps : List ℕ) (l : Live) → query_at e.places p ≡ Some l → queries_at e.places (p ∷ ps)
+      ≡ l ∷ queries_at e.places ps
   front p ps l there = ap (λ (o : Option Live). option_to_list o ++ queries_at e.places ps) there
 
-  have : (ns : List Bytes) (ps : List ℕ) → AreChosen ns ps → AllByRecursion (λ k. IsSomeAnd (query_at e.places k) (λ l. ⊤)) ps
+  have : (ns : List Bytes) (ps : List ℕ) → AreChosen ns ps
+      → AllByRecursion (λ k. IsSomeAnd (query_at e.places k) (λ l. ⊤)) ps
   have [] [] h = tt
   have [] (p ∷ ps) h = absurd h
   have (n ∷ ns) [] h = absurd h
@@ -183,16 +196,19 @@ module _ (e : Kept) (b : IsEngine e) (law : HeadTypesAre) (us : List (Option Joi
   long (n ∷ ns) [] h = absurd h
   long (n ∷ ns) (p ∷ ps) h = ap (λ k. suc k) (long ns ps h.1)
 
-  pub are_under : (ns : List Bytes) (ps : List ℕ) → AreChosen ns ps → AreUnder st.queries ns (map (λ l. l.query) (queries_at e.places ps))
+  pub are_under : (ns : List Bytes) (ps : List ℕ) → AreChosen ns ps
+      → AreUnder st.queries ns (map (λ l. l.query) (queries_at e.places ps))
   are_under [] [] h = refl
   are_under [] (p ∷ ps) h = absurd h
   are_under (n ∷ ns) [] h = absurd h
   are_under (n ∷ ns) (p ∷ ps) h =
       ap₂ (λ (o : Option Listed) (os : List (Option Listed)). o ∷ os) h.0.listed (are_under ns ps h.1)
-      ∙ ap (λ (ls : List Live). map (λ q. Some (a_query q)) (map (λ l. l.query) ls)) (sym (front p ps h.0.query h.0.there))
+      ∙ ap (λ (ls : List Live). map (λ q. Some (a_query q)) (map (λ l. l.query) ls))
+      (sym (front p ps h.0.query h.0.there))
 
   -- names that differ are those of queries in different places
-  elsewhere : (n : Bytes) (p : ℕ) → Chosen n p → (ns : List Bytes) (ps : List ℕ) → AreChosen ns ps → list_any (λ m. bytes_eq m n) ns ≡ false → All (λ k. p ≡ k → ⊥) ps
+  elsewhere : (n : Bytes) (p : ℕ) → Chosen n p → (ns : List Bytes) (ps : List ℕ) → AreChosen ns ps
+      → list_any (λ m. bytes_eq m n) ns ≡ false → All (λ k. p ≡ k → ⊥) ps
   elsewhere n p here [] [] h different = λ k d low. absurd (omega (arith, low))
   elsewhere n p here [] (q ∷ ps) h different = absurd h
   elsewhere n p here (m ∷ ns) [] h different = absurd h
@@ -218,36 +234,49 @@ module _ (e : Kept) (b : IsEngine e) (law : HeadTypesAre) (us : List (Option Joi
       AllPairs-cons (λ j k. j ≡ k → ⊥) p ps (elsewhere n p h.0 ns ps h.1 both.0) (differ ns ps h.1 both.1)
 
   -- all have these types
-  typed : (cs : List ColumnType) (ns : List Bytes) (ps : List ℕ) → AreChosen ns ps → list_any (λ m. not (same_types cs (types_under st m))) ns ≡ false
+  typed : (cs : List ColumnType) (ns : List Bytes) (ps : List ℕ) → AreChosen ns ps
+      → list_any (λ m. not (same_types cs (types_under st m))) ns ≡ false
       → (l : Live) → Contains (queries_at e.places ps) l → head_types l ≡ cs
   typed cs [] [] h different l there = absurd (nothing_there l there)
   typed cs [] (p ∷ ps) h different l there = absurd h
   typed cs (n ∷ ns) [] h different l there = absurd h
   typed cs (n ∷ ns) (p ∷ ps) h different l there =
-      let both = none_or (not (same_types cs (types_under st n))) (list_any (λ m. not (same_types cs (types_under st m))) ns) different in
-      by_place both.0 (typed cs ns ps h.1 both.1 l) (first_or_later h.0.query (queries_at e.places ps) l (subst (λ (ls : List Live). Contains ls l) (front p ps h.0.query h.0.there) there))
+      let both = none_or (not (same_types cs (types_under st n)))
+      (list_any (λ m. not (same_types cs (types_under st m))) ns) different in
+      by_place both.0 (typed cs ns ps h.1 both.1 l)
+      (first_or_later h.0.query (queries_at e.places ps) l
+      (subst (λ (ls : List Live). Contains ls l) (front p ps h.0.query h.0.there) there))
     where
-      by_place : not (same_types cs (types_under st n)) ≡ false → (Contains (queries_at e.places ps) l → head_types l ≡ cs)
+      by_place : not (same_types cs (types_under st n)) ≡ false
+          → (Contains (queries_at e.places ps) l → head_types l ≡ cs)
           → (h.0.query ≡ l) ⊎ Contains (queries_at e.places ps) l → head_types l ≡ cs
-      by_place same rest (inl is) = ap head_types (sym is) ∙ h.0.types ∙ sym (all_types cs (types_under st n) (not_false (same_types cs (types_under st n)) same))
+      by_place same rest (inl is) = ap head_types (sym is) ∙ h.0.types
+          ∙ sym (all_types cs (types_under st n) (not_false (same_types cs (types_under st n)) same))
       by_place same rest (inr later) = rest later
 
-  alike : (ns : List Bytes) (ps : List ℕ) → AreChosen ns ps → types_differ st ns ≡ false → AreAlike (queries_at e.places ps)
+  alike : (ns : List Bytes) (ps : List ℕ) → AreChosen ns ps → types_differ st ns ≡ false
+      → AreAlike (queries_at e.places ps)
   alike [] [] h different = record { each = λ l m hl hm. absurd (nothing_there l hl) }
   alike [] (p ∷ ps) h different = absurd h
   alike (n ∷ ns) [] h different = absurd h
   alike (n ∷ ns) (p ∷ ps) h different = record { each = λ l m hl hm. of_first l hl ∙ sym (of_first m hm) }
     where
       of_first : (l : Live) → Contains (queries_at e.places (p ∷ ps)) l → head_types l ≡ types_under st n
-      of_first l there = by_place (first_or_later h.0.query (queries_at e.places ps) l (subst (λ (ls : List Live). Contains ls l) (front p ps h.0.query h.0.there) there))
+      of_first l there = by_place
+          (first_or_later h.0.query (queries_at e.places ps) l
+          (subst (λ (ls : List Live). Contains ls l) (front p ps h.0.query h.0.there) there))
         where
           by_place : (h.0.query ≡ l) ⊎ Contains (queries_at e.places ps) l → head_types l ≡ types_under st n
           by_place (inl is) = ap head_types (sym is) ∙ h.0.types
           by_place (inr later) = typed (types_under st n) ns ps h.1 different l later
 
-  pub are_members : (name : Bytes) (ns : List Bytes) (ps : List ℕ) → Fit st name ns → 2 ≤ length ns → AreChosen ns ps → AreMembers e.places ps
+  pub are_members : (name : Bytes) (ns : List Bytes) (ps : List ℕ) → Fit st name ns → 2 ≤ length ns → AreChosen ns ps
+      → AreMembers e.places ps
   are_members name ns ps fit two h = record {
-    have = record { few = let same = long ns ps h in let few = fit.few in omega (arith, same, few); each = have ns ps h };
+    have = record {
+      few = let same = long ns ps h in let few = fit.few in omega (arith, same, few);
+      each = have ns ps h;
+    };
     several = let same = long ns ps h in omega (arith, same, two);
     differ = differ ns ps h fit.once;
     alike = alike ns ps h fit.alike;

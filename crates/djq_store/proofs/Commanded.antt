@@ -1,5 +1,7 @@
 -- What a store tells behind a command of rows.
-use Rattle.std.specs.Prelude.{ℕ, zero, suc, List, [], ◌∷◌, ◌≡◌, ◌+◌, ◌<◌, ◌≤◌, ◌&&◌, ◌⊎◌, nat_lt, Bool, true, false, cond, Option, None, Some, is_some, IsSomeAnd, filter, map, length, sum_by, slice_get, All, Contains, ⊤}
+use Rattle.std.specs.Prelude.{ℕ, zero, suc, List, [], ◌∷◌, ◌≡◌, ◌+◌, ◌<◌, ◌≤◌, ◌&&◌, ◌⊎◌, nat_lt}
+use Rattle.std.specs.Prelude.{Bool, true, false, cond, Option, None, Some, is_some, IsSomeAnd}
+use Rattle.std.specs.Prelude.{filter, map, length, sum_by, slice_get, All, Contains, ⊤}
 use Rattle.std.specs.List.{list_any}
 use Rattle.std.proofs.Common.{refl, sym, ap, ap₂, ◌∙◌, subst, inl, inr, arith, get_or}
 use Rattle.std.proofs.lemmas.Bool.{false≢true, lt-ltb, ltb-true}
@@ -36,7 +38,9 @@ use Rattle.djq_store.specs.declared.settling.Turn.{Turn}
 use Rattle.djq_store.specs.declared.settling.Turn.TheVariants.{Came, Went, Lacked}
 use Rattle.djq_store.specs.Below.{IsEngine}
 use Rattle.djq_store.specs.Places.{joined_at, first_member, told_in, listed_at, registered_as, union_watchers, seen}
-use Rattle.djq_store.specs.Settling.{first_read, touched_in, is_settled, outdated_union, TellsUnion, SettlesLog, SettlesLogBy, Settles, settling_steps, telling_steps}
+use Rattle.djq_store.specs.Settling.{first_read, touched_in, is_settled, outdated_union, TellsUnion}
+use Rattle.djq_store.specs.Settling.{SettlesLog, SettlesLogBy, Settles, settling_steps}
+use Rattle.djq_store.specs.Settling.{telling_steps}
 use Rattle.djq_store.specs.Watching.{TellsChange, is_reached}
 use Rattle.djq_store.specs.Whole.{IsListed, IsCounted}
 use Rattle.djq_store.proofs.Accepted.{GoRows, told_place, union_delta, asked_few}
@@ -46,7 +50,8 @@ use Rattle.djq_store.proofs.Behind.{Behind, outdater_by, grows, member_there, un
 use Rattle.djq_store.proofs.Deltas.{Lists, logs_tell, asking, steps_at}
 use Rattle.djq_store.proofs.Found.{map_mapped}
 use Rattle.djq_store.proofs.Members.{SameFirst, same_first, log_tells}
-use Rattle.djq_store.proofs.Ordered.{Seat, Joint, order_seat, order_joint, joint_order, listed_seat, listed_joint, registered_has}
+use Rattle.djq_store.proofs.Ordered.{Seat, Joint, order_seat, order_joint, joint_order, listed_seat}
+use Rattle.djq_store.proofs.Ordered.{listed_joint, registered_has}
 use Rattle.djq_store.proofs.ReadBy.{the_query}
 use Rattle.djq_store.proofs.Seats.{Slot, cases_place, places_low, places_high}
 use Rattle.djq_store.proofs.Settled.{settled_same, Turned, turned}
@@ -125,7 +130,8 @@ module _ (o : Option RowsChange) (relations : List Bytes) (turn : Turn) (e e' : 
       subst (λ (r : Option Bytes). SettlesLogBy r e' relations turn j (now.after).log) miss (now.settles).log in
       ap (told_in (e'.store).texts e'.places) now.there
       ∙ ap₂ (λ (u : United) (l : Log). told_of (e'.store).texts (first_member e'.places u) l) union log
-      ∙ log_tells e e' (grows o relations turn e e' us us' b) b.laws.members b.laws.showable j united (w.shown k j there)
+      ∙ log_tells e e' (grows o relations turn e e' us us' b) b.laws.members b.laws.showable j united
+      (w.shown k j there)
       ∙ ap (told_in (e.store).texts e.places) (sym there)
 
   -- where memory was refused, one that is outdated tells of nothing
@@ -135,7 +141,8 @@ module _ (o : Option RowsChange) (relations : List Bytes) (turn : Turn) (e e' : 
       let reached : is_some (first_read e'.places relations j.union.members) ≡ true =
       ap is_some (first_outdates o relations turn e e' us us' b j.union united) ∙ hit in
       let log = by (first_read e'.places relations j.union.members) reached (now.settles).log in
-      told_now ∙ ap₂ (λ (c : Bool) (ns : List Line). cond c None (Some (map (change_of (e'.store).texts first.new) ns))) log.1 log.0
+      told_now ∙ ap₂ (λ (c : Bool) (ns : List Line). cond c None (Some (map (change_of (e'.store).texts first.new) ns)))
+      log.1 log.0
     where
       by : (r : Option Bytes) → is_some r ≡ true → SettlesLogBy r e' relations turn j (now.after).log
           → ((now.after).log.lines ≡ []) × ((now.after).log.lost ≡ false)
@@ -175,7 +182,8 @@ module _ (o : Option RowsChange) (relations : List Bytes) (turn : Turn) (e e' : 
       by None k = refl
       by (Some n) k = absurd (false≢true (sym k))
 
-  same_query : (x : Option RowsChange) (r s : Registered) → r.query ≡ s.query → is_reached x r ≡ false → is_reached x s ≡ false
+  same_query : (x : Option RowsChange) (r s : Registered) → r.query ≡ s.query → is_reached x r ≡ false → is_reached x s
+      ≡ false
   same_query None r s q k = refl
   same_query (Some change) r s q k = ap (is_outdated change) (sym q) ∙ k
 
@@ -197,7 +205,8 @@ module _ (o : Option RowsChange) (relations : List Bytes) (turn : Turn) (e e' : 
           (listed_seat e b.did.before us id.at s ∙ sym s.is) miss))
           ∙ sym (told_low e b.did.before us order sessions affected id.at low)
       by (inr s) there miss =
-          let joint = order_joint e b.did.before us order w s.slot (subst (λ (i : ℕ). is_reader order i ≡ true) s.is there) in
+          let joint = order_joint e b.did.before us order w s.slot
+          (subst (λ (i : ℕ). is_reader order i ≡ true) s.is there) in
           let none = out_of o (registered_as e.places us sessions id.at) miss in
           let out : outdater_by o (union_of e.places joint.union.union) ≡ None =
           ap (outdater_by o) (sym (ap (listed_at e.places us) s.is ∙ listed_joint e.places us s.slot joint)) ∙ none in

@@ -1,6 +1,9 @@
 -- One more session watches a query, or one less: who is counted, and what is seen.
-use Rattle.std.proofs.Common.{ℕ, zero, suc, List, [], ◌∷◌, ◌++◌, ◌+◌, ◌-◌, ◌≡◌, ◌≢◌, ◌<◌, ◌≤◌, ◌⊎◌, inl, inr, Bool, true, false, refl, sym, ap, ap₂, ◌∙◌, subst, length, get_or, set, arith, length-set}
-use Rattle.std.specs.Prelude.{◌==◌, ◌||◌, Option, None, Some, IsSome, IsSomeAnd, is_some, nat_lt, option_map, cond, count_by, find, map}
+use Rattle.std.proofs.Common.{ℕ, zero, suc, List, [], ◌∷◌, ◌++◌, ◌+◌, ◌-◌, ◌≡◌, ◌≢◌, ◌<◌, ◌≤◌, ◌⊎◌}
+use Rattle.std.proofs.Common.{inl, inr, Bool, true, false, refl, sym, ap, ap₂, ◌∙◌, subst, length}
+use Rattle.std.proofs.Common.{get_or, set, arith, length-set}
+use Rattle.std.specs.Prelude.{◌==◌, ◌||◌, Option, None, Some, IsSome, IsSomeAnd, is_some, nat_lt}
+use Rattle.std.specs.Prelude.{option_map, cond, count_by, find, map}
 use Rattle.std.proofs.lemmas.Bool.{cases_order, eqb-true, eq-eqb, false≢true}
 use Rattle.std.proofs.lemmas.List.{get_or-set_same, get_or-set_other, get_or_default}
 use Rattle.std.proofs.lemmas.List.Sums.{count_by-le-length}
@@ -22,12 +25,15 @@ use Rattle.djq_store.proofs.Seats.{low_place}
 
 -- ---- the registered queries, of which one has other watchers
 
-pub ids_with : (id : QueryId) (f : ℕ → ℕ) (rs : List Registered) → map (λ r. r.id.at) (with_watchers id f rs) ≡ map (λ r. r.id.at) rs
+pub ids_with : (id : QueryId) (f : ℕ → ℕ) (rs : List Registered) → map (λ r. r.id.at) (with_watchers id f rs)
+    ≡ map (λ r. r.id.at) rs
 ids_with id f [] = refl
 ids_with id f (r ∷ rs) = step (r.id.at == id.at) (ids_with id f rs)
   where
     step : (b : Bool) → map (λ r. r.id.at) (with_watchers id f rs) ≡ map (λ r. r.id.at) rs
-        → map (λ (r : Registered). r.id.at) (cond b (record r { watchers = f r.watchers } ∷ rs) (r ∷ with_watchers id f rs)) ≡ r.id.at ∷ map (λ r. r.id.at) rs
+        → map (λ (r : Registered). r.id.at)
+        (cond b (record r { watchers = f r.watchers } ∷ rs) (r ∷ with_watchers id f rs))
+        ≡ r.id.at ∷ map (λ r. r.id.at) rs
     step true e = refl
     step false e = ap (λ l. r.id.at ∷ l) e
 
@@ -35,7 +41,8 @@ pub length_with : (id : QueryId) (f : ℕ → ℕ) (rs : List Registered) → le
 length_with id f [] = refl
 length_with id f (r ∷ rs) = step (r.id.at == id.at) (length_with id f rs)
   where
-    step : (b : Bool) → length (with_watchers id f rs) ≡ length rs → length (cond b (record r { watchers = f r.watchers } ∷ rs) (r ∷ with_watchers id f rs)) ≡ suc (length rs)
+    step : (b : Bool) → length (with_watchers id f rs) ≡ length rs
+        → length (cond b (record r { watchers = f r.watchers } ∷ rs) (r ∷ with_watchers id f rs)) ≡ suc (length rs)
     step true e = refl
     step false e = ap suc e
 
@@ -43,23 +50,34 @@ length_with id f (r ∷ rs) = step (r.id.at == id.at) (length_with id f rs)
 abbrev pub changed : QueryId → (ℕ → ℕ) → Registered → Registered
 changed id f r = cond (r.id.at == id.at) (record r { watchers = f r.watchers }) r
 
-pub at_with : (id : QueryId) (f : ℕ → ℕ) (rs : List Registered) (other : QueryId) → registered_at (with_watchers id f rs) other ≡ option_map (changed id f) (registered_at rs other)
+pub at_with : (id : QueryId) (f : ℕ → ℕ) (rs : List Registered) (other : QueryId)
+    → registered_at (with_watchers id f rs) other ≡ option_map (changed id f) (registered_at rs other)
 at_with id f [] other = refl
 at_with id f (r ∷ rs) other = step (r.id.at == id.at) (r.id.at == other.at) refl refl (at_with id f rs other)
   where
-    unlike : (o : Option Registered) → registered_at rs other ≡ o → r.id.at ≡ id.at → (r.id.at == other.at) ≡ false → o ≡ option_map (changed id f) o
+    unlike : (o : Option Registered) → registered_at rs other ≡ o → r.id.at ≡ id.at → (r.id.at == other.at) ≡ false → o
+        ≡ option_map (changed id f) o
     unlike None e same d = refl
     unlike (Some x) e same d =
         let at : x.id.at ≡ other.at = eqb-true x.id.at other.at (found_passes (λ r. r.id.at == other.at) rs x e) in
-        let no : (x.id.at == id.at) ≡ false = apart x.id.at id.at (λ h. false≢true (sym d ∙ eq-eqb r.id.at other.at (same ∙ sym h ∙ at))) in
+        let no : (x.id.at == id.at)
+        ≡ false = apart x.id.at id.at (λ h. false≢true (sym d ∙ eq-eqb r.id.at other.at (same ∙ sym h ∙ at))) in
         ap (λ (b : Bool). Some (cond b (record x { watchers = f x.watchers }) x)) (sym no)
 
-    step : (b c : Bool) → (r.id.at == id.at) ≡ b → (r.id.at == other.at) ≡ c → registered_at (with_watchers id f rs) other ≡ option_map (changed id f) (registered_at rs other)
-        → registered_at (cond b (record r { watchers = f r.watchers } ∷ rs) (r ∷ with_watchers id f rs)) other ≡ option_map (changed id f) (cond c (Some r) (registered_at rs other))
-    step true true e g more = ap (λ (d : Bool). cond d (Some (record r { watchers = f r.watchers })) (registered_at rs other)) g ∙ ap (λ (d : Bool). Some (cond d (record r { watchers = f r.watchers }) r)) (sym e)
-    step true false e g more = ap (λ (d : Bool). cond d (Some (record r { watchers = f r.watchers })) (registered_at rs other)) g ∙ unlike (registered_at rs other) refl (eqb-true r.id.at id.at e) g
-    step false true e g more = ap (λ (d : Bool). cond d (Some r) (registered_at (with_watchers id f rs) other)) g ∙ ap (λ (d : Bool). Some (cond d (record r { watchers = f r.watchers }) r)) (sym e)
-    step false false e g more = ap (λ (d : Bool). cond d (Some r) (registered_at (with_watchers id f rs) other)) g ∙ more
+    step : (b c : Bool) → (r.id.at == id.at) ≡ b → (r.id.at == other.at) ≡ c
+        → registered_at (with_watchers id f rs) other ≡ option_map (changed id f) (registered_at rs other)
+        → registered_at (cond b (record r { watchers = f r.watchers } ∷ rs) (r ∷ with_watchers id f rs)) other
+        ≡ option_map (changed id f) (cond c (Some r) (registered_at rs other))
+    step true true e g more = ap
+        (λ (d : Bool). cond d (Some (record r { watchers = f r.watchers })) (registered_at rs other)) g
+        ∙ ap (λ (d : Bool). Some (cond d (record r { watchers = f r.watchers }) r)) (sym e)
+    step true false e g more = ap
+        (λ (d : Bool). cond d (Some (record r { watchers = f r.watchers })) (registered_at rs other)) g
+        ∙ unlike (registered_at rs other) refl (eqb-true r.id.at id.at e) g
+    step false true e g more = ap (λ (d : Bool). cond d (Some r) (registered_at (with_watchers id f rs) other)) g
+        ∙ ap (λ (d : Bool). Some (cond d (record r { watchers = f r.watchers }) r)) (sym e)
+    step false false e g more = ap (λ (d : Bool). cond d (Some r) (registered_at (with_watchers id f rs) other)) g
+        ∙ more
 
 -- what was registered, of what is found now
 pub record Was (id : QueryId) (f : ℕ → ℕ) (rs : List Registered) (r : Registered) : Type 0 where
@@ -68,7 +86,8 @@ pub record Was (id : QueryId) (f : ℕ → ℕ) (rs : List Registered) (r : Regi
   pub at : r.id.at ≡ old.id.at
   pub watchers : r.watchers ≡ (changed id f old).watchers
 
-pub was : (id : QueryId) (f : ℕ → ℕ) (rs : List Registered) (r : Registered) → registered_at (with_watchers id f rs) r.id ≡ Some r → Was id f rs r
+pub was : (id : QueryId) (f : ℕ → ℕ) (rs : List Registered) (r : Registered)
+    → registered_at (with_watchers id f rs) r.id ≡ Some r → Was id f rs r
 was id f rs r found = by_found (registered_at rs r.id) refl
   where
     same : {x y : Registered} → Some x ≡ Some y → x ≡ y
@@ -92,8 +111,10 @@ was id f rs r found = by_found (registered_at rs r.id) refl
 
 -- ---- a query
 
-module _ (e : Kept) (b : IsEngine e) (us : List (Option Joined)) (order sessions affected : List ℕ) (w : IsListed e us order) (v : IsCounted e us sessions)
-    (id : QueryId) (low : id.at < QUERIES) (there : is_reader order id.at ≡ true) (f : ℕ → ℕ) (n : ℕ) (is : n ≡ f (get_or sessions id.at 0)) (few : n ≤ SESSIONS)
+module _ (e : Kept) (b : IsEngine e) (us : List (Option Joined)) (order sessions affected : List ℕ)
+    (w : IsListed e us order) (v : IsCounted e us sessions)
+    (id : QueryId) (low : id.at < QUERIES) (there : is_reader order id.at ≡ true) (f : ℕ → ℕ) (n : ℕ)
+    (is : n ≡ f (get_or sessions id.at 0)) (few : n ≤ SESSIONS)
     (adds : (c : ℕ) → f (get_or sessions id.at 0 + c) ≡ f (get_or sessions id.at 0) + c) where
   abbrev pub watched : Kept
   watched = record e { registered = with_watchers id f e.registered }
@@ -115,10 +136,12 @@ module _ (e : Kept) (b : IsEngine e) (us : List (Option Joined)) (order sessions
   }
 
   sessions_here : sessions_at us (set sessions id.at n) id.at ≡ n
-  sessions_here = low_place id.at (λ i. get_or (set sessions id.at n) i 0) (λ k. union_watchers (joined_at us k)) low ∙ get_or-set_same sessions id.at n 0 below
+  sessions_here = low_place id.at (λ i. get_or (set sessions id.at n) i 0) (λ k. union_watchers (joined_at us k)) low
+      ∙ get_or-set_same sessions id.at n 0 below
 
   sessions_other : (at : ℕ) → at ≢ id.at → sessions_at us (set sessions id.at n) at ≡ sessions_at us sessions at
-  sessions_other at d = ap (λ m. cond (nat_lt at QUERIES) m (union_watchers (joined_at us (at - QUERIES)))) (get_or-set_other sessions id.at at n 0 d)
+  sessions_other at d = ap (λ m. cond (nat_lt at QUERIES) m (union_watchers (joined_at us (at - QUERIES))))
+      (get_or-set_other sessions id.at at n 0 d)
 
   either : (at : ℕ) → (at ≡ id.at) ⊎ (at ≢ id.at)
   either at = by_order (cases_order at id.at)
@@ -139,49 +162,68 @@ module _ (e : Kept) (b : IsEngine e) (us : List (Option Joined)) (order sessions
       few_at at (inl h) = let k = ap (sessions_at us (set sessions id.at n)) h ∙ sessions_here in omega (arith, few, k)
       few_at at (inr d) = let k = sessions_other at d in let m = v.few at in omega (arith, m, k)
 
-      by_test : (o : Registered) (c : Bool) → (o.id.at == id.at) ≡ c → o.watchers ≡ get_or sessions o.id.at 0 + count_by (wants o.id.at) us
-          → (cond c (record o { watchers = f o.watchers }) o).watchers ≡ get_or (set sessions id.at n) o.id.at 0 + count_by (wants o.id.at) us
+      by_test : (o : Registered) (c : Bool) → (o.id.at == id.at) ≡ c → o.watchers
+          ≡ get_or sessions o.id.at 0 + count_by (wants o.id.at) us
+          → (cond c (record o { watchers = f o.watchers }) o).watchers
+          ≡ get_or (set sessions id.at n) o.id.at 0 + count_by (wants o.id.at) us
       by_test o true g counted =
           let at : o.id.at ≡ id.at = eqb-true o.id.at id.at g in
-          ap f (counted ∙ ap (λ k. get_or sessions k 0 + count_by (wants o.id.at) us) at) ∙ adds (count_by (wants o.id.at) us)
-          ∙ ap (λ k. k + count_by (wants o.id.at) us) (sym is ∙ sym (ap (λ k. get_or (set sessions id.at n) k 0) at ∙ get_or-set_same sessions id.at n 0 below))
+          ap f (counted ∙ ap (λ k. get_or sessions k 0 + count_by (wants o.id.at) us) at)
+          ∙ adds (count_by (wants o.id.at) us)
+          ∙ ap (λ k. k + count_by (wants o.id.at) us)
+          (sym is ∙ sym (ap (λ k. get_or (set sessions id.at n) k 0) at ∙ get_or-set_same sessions id.at n 0 below))
       by_test o false g counted =
-          counted ∙ ap (λ k. k + count_by (wants o.id.at) us) (sym (get_or-set_other sessions id.at o.id.at n 0 (λ h. false≢true (sym g ∙ eq-eqb o.id.at id.at h))))
+          counted ∙ ap (λ k. k + count_by (wants o.id.at) us)
+          (sym (get_or-set_other sessions id.at o.id.at n 0 (λ h. false≢true (sym g ∙ eq-eqb o.id.at id.at h))))
 
-      by_id : (r : Registered) → Was id f e.registered r → r.watchers ≡ get_or (set sessions id.at n) r.id.at 0 + count_by (wants r.id.at) us
+      by_id : (r : Registered) → Was id f e.registered r → r.watchers
+          ≡ get_or (set sessions id.at n) r.id.at 0 + count_by (wants r.id.at) us
       by_id r o =
           o.watchers ∙ by_test o.old (o.old.id.at == id.at) refl (v.counted o.old o.found)
           ∙ sym (ap (λ k. get_or (set sessions id.at n) k 0 + count_by (wants k) us) o.at)
 
   registered_with : (xs : List ℕ) → AreOnce xs → is_reader xs id.at ≡ true
-      → map (registered_as e.places us (set sessions id.at n)) xs ≡ with_watchers id f (map (registered_as e.places us sessions) xs)
+      → map (registered_as e.places us (set sessions id.at n)) xs
+      ≡ with_watchers id f (map (registered_as e.places us sessions) xs)
   registered_with [] once h = absurd cc
   registered_with (x ∷ xs) once h = step (x == id.at) refl h (registered_with xs once.1)
     where
-      rest : x ≡ id.at → map (registered_as e.places us (set sessions id.at n)) xs ≡ map (registered_as e.places us sessions) xs
+      rest : x ≡ id.at → map (registered_as e.places us (set sessions id.at n)) xs
+          ≡ map (registered_as e.places us sessions) xs
       rest at = map_members (registered_as e.places us (set sessions id.at n)) (registered_as e.places us sessions) xs
-          (λ i among. ap (λ k. (let r : Registered = record (registered_as e.places us sessions i) { watchers = k } in r)) (sessions_other i (λ g. false≢true (sym once.0 ∙ ap (is_reader xs) (at ∙ sym g) ∙ among))))
+          (λ i among. ap (λ k. (let r : Registered = record (registered_as e.places us sessions i) { watchers = k } in
+          r)) (sessions_other i (λ g. false≢true (sym once.0 ∙ ap (is_reader xs) (at ∙ sym g) ∙ among))))
 
       step : (c : Bool) → (x == id.at) ≡ c → (c || is_reader xs id.at) ≡ true
-          → (is_reader xs id.at ≡ true → map (registered_as e.places us (set sessions id.at n)) xs ≡ with_watchers id f (map (registered_as e.places us sessions) xs))
-          → registered_as e.places us (set sessions id.at n) x ∷ map (registered_as e.places us (set sessions id.at n)) xs
-          ≡ cond c (record (registered_as e.places us sessions x) { watchers = f (sessions_at us sessions x) } ∷ map (registered_as e.places us sessions) xs)
+          → (is_reader xs id.at ≡ true → map (registered_as e.places us (set sessions id.at n)) xs
+          ≡ with_watchers id f (map (registered_as e.places us sessions) xs))
+          → registered_as e.places us (set sessions id.at n) x ∷ map (registered_as e.places us (set sessions id.at n))
+          xs
+          ≡ cond c (record (registered_as e.places us sessions x) { watchers = f (sessions_at us sessions x) } ∷ map
+          (registered_as e.places us sessions) xs)
           (registered_as e.places us sessions x ∷ with_watchers id f (map (registered_as e.places us sessions) xs))
       step true g h more =
           let at : x ≡ id.at = eqb-true x id.at g in
-          ap₂ (λ (k : ℕ) (l : List Registered). (let r : Registered = record (registered_as e.places us sessions x) { watchers = k } in r ∷ l))
+          ap₂ (λ (k : ℕ) (l : List Registered).
+          (let r : Registered = record (registered_as e.places us sessions x) { watchers = k } in r ∷ l))
           (ap (sessions_at us (set sessions id.at n)) at ∙ sessions_here ∙ is
-          ∙ sym (ap f (ap (sessions_at us sessions) at ∙ low_place id.at (λ i. get_or sessions i 0) (λ k. union_watchers (joined_at us k)) low))) (rest at)
+          ∙ sym (ap f (ap (sessions_at us sessions) at
+          ∙ low_place id.at (λ i. get_or sessions i 0) (λ k. union_watchers (joined_at us k)) low))) (rest at)
       step false g h more =
-          ap₂ (λ (k : ℕ) (l : List Registered). (let r : Registered = record (registered_as e.places us sessions x) { watchers = k } in r ∷ l))
+          ap₂ (λ (k : ℕ) (l : List Registered).
+          (let r : Registered = record (registered_as e.places us sessions x) { watchers = k } in r ∷ l))
           (sessions_other x (λ k. false≢true (sym g ∙ eq-eqb x id.at k))) (more h)
 
   pub query_seen : seen watched us order (set sessions id.at n) affected
-      ≡ record (seen e us order sessions affected) { registered = with_watchers id f (seen e us order sessions affected).registered }
-  query_seen = ap (λ (rs : List Registered). (let k : Kept = record (seen e us order sessions affected) { registered = rs } in k)) (registered_with order w.once there)
+      ≡ record (seen e us order sessions affected)
+      { registered = with_watchers id f (seen e us order sessions affected).registered }
+  query_seen = ap (λ (rs : List Registered).
+      (let k : Kept = record (seen e us order sessions affected) { registered = rs } in k))
+      (registered_with order w.once there)
 
 -- the engine counts fewer than may be
-module _ (e : Kept) (b : IsEngine e) (us : List (Option Joined)) (order sessions affected : List ℕ) (w : IsListed e us order) (v : IsCounted e us sessions)
+module _ (e : Kept) (b : IsEngine e) (us : List (Option Joined)) (order sessions affected : List ℕ)
+    (w : IsListed e us order) (v : IsCounted e us sessions)
     (id : QueryId) (low : id.at < QUERIES) (there : is_reader order id.at ≡ true) where
   watching : (s : Seat e id.at) → s.registered.watchers ≡ get_or sessions id.at 0 + count_by (wants id.at) us
   watching s =
@@ -196,7 +238,8 @@ module _ (e : Kept) (b : IsEngine e) (us : List (Option Joined)) (order sessions
       let here = low_place id.at (λ i. get_or sessions i 0) (λ k. union_watchers (joined_at us k)) low in
       let all = count_by-le-length (wants id.at) us in
       let within = w.within in
-      subst (λ (o : Option Registered). IsSomeAnd o (λ r. r.watchers < 4294967295)) (sym s.found) (omega (arith, is, one, here, all, within))
+      subst (λ (o : Option Registered). IsSomeAnd o (λ r. r.watchers < 4294967295)) (sym s.found)
+      (omega (arith, is, one, here, all, within))
 
   pub some_watch : 0 < sessions_at us sessions id.at → IsSomeAnd (registered_at e.registered id) (λ r. 0 < r.watchers)
   some_watch some =
@@ -206,7 +249,8 @@ module _ (e : Kept) (b : IsEngine e) (us : List (Option Joined)) (order sessions
       subst (λ (o : Option Registered). IsSomeAnd o (λ r. 0 < r.watchers)) (sym s.found) (omega (arith, is, some, here))
 
 -- what the code reads of a query that is watched once more, or once less
-module _ (e : Kept) (b : IsEngine e) (us : List (Option Joined)) (order sessions affected : List ℕ) (w : IsListed e us order) (v : IsCounted e us sessions) (id : QueryId) (low : id.at < QUERIES) (m : ℕ)
+module _ (e : Kept) (b : IsEngine e) (us : List (Option Joined)) (order sessions affected : List ℕ)
+    (w : IsListed e us order) (v : IsCounted e us sessions) (id : QueryId) (low : id.at < QUERIES) (m : ℕ)
     (is : m ≡ get_or sessions id.at m) where
   pub read_here : m ≡ get_or sessions id.at 0
   read_here = is ∙ get_or_default sessions id.at m 0 (omega (arith, low, v.long))

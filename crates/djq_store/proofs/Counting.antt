@@ -1,5 +1,8 @@
 -- What updates count: the queries among what is registered are the engine's.
-use Rattle.std.specs.Prelude.{ℕ, suc, List, [], ◌∷◌, ◌≡◌, ◌≢◌, ◌==◌, ◌+◌, ◌*◌, ◌<◌, ◌≤◌, ◌&&◌, ◌||◌, ◌⊎◌, Bool, true, false, cond, None, Some, IsSomeAnd, filter, map, length, sum_by, All, AllPairs, Contains, nat_lt, Option, slice_index_or}
+use Rattle.std.specs.Prelude.{ℕ, suc, List, [], ◌∷◌, ◌≡◌, ◌≢◌, ◌==◌, ◌+◌, ◌*◌, ◌<◌, ◌≤◌, ◌&&◌, ◌||◌}
+use Rattle.std.specs.Prelude.{◌⊎◌, Bool, true, false, cond, None, Some, IsSomeAnd, filter, map}
+use Rattle.std.specs.Prelude.{length, sum_by, All, AllPairs, Contains, nat_lt, Option}
+use Rattle.std.specs.Prelude.{slice_index_or}
 use Rattle.std.proofs.Common.{refl, sym, ap, ◌∙◌, subst, inl, inr, arith}
 use Rattle.std.proofs.lemmas.Bool.{eqb-true, eq-eqb, false≢true}
 use Rattle.std.proofs.lemmas.List.Elements.{All-contains, All-map}
@@ -19,7 +22,8 @@ use Rattle.djq_engine.specs.Kept.{Kept, Registered, AtPlace, same_query, registe
 use Rattle.djq_engine.specs.Places.{id_at}
 use Rattle.djq_engine.specs.Watching.{AreBounded, IsBoundedBy, CountsUpdates, CountsBatch, bounded_steps, update_steps}
 use Rattle.djq_engine.proofs.Listing.{reader_filter}
-use Rattle.djq_deltas.proofs.Lists.{nothing_there, first_or_later, first_there, later_there, kept_there, mapped_there, hold_each, pairs_head, pairs_tail}
+use Rattle.djq_deltas.proofs.Lists.{nothing_there, first_or_later, first_there, later_there}
+use Rattle.djq_deltas.proofs.Lists.{kept_there, mapped_there, hold_each, pairs_head, pairs_tail}
 use Rattle.djq_store.specs.declared.joined.Joined.{Joined}
 use Rattle.djq_store.specs.Below.{IsEngine}
 use Rattle.djq_store.specs.Places.{listed_at, registered_as}
@@ -85,7 +89,8 @@ module _ (e : Kept) (b : IsEngine e) (us : List (Option Joined)) (order : List �
   -- a query of the engine has its place there
   pub engine_listed : (r : Registered) → Contains e.registered r → listed_at e.places us r.id.at ≡ r.query
   engine_listed r c =
-      let placed = All-contains (λ (s : Registered). AtPlace e s.id (λ l. s.query ≡ a_query l.query)) e.registered r b.placed c in
+      let placed = All-contains (λ (s : Registered). AtPlace e s.id (λ l. s.query ≡ a_query l.query)) e.registered r
+      b.placed c in
       let t = some_there (query_at e.places r.id.at) (λ l. r.query ≡ a_query l.query) placed in
       let low : r.id.at < QUERIES = omega (arith, place_below e.places r.id.at t.0 t.1, b.few) in
       listed_low e.places us r.id.at t.0 low t.1 ∙ sym t.2
@@ -127,7 +132,8 @@ module _ (e : Kept) (b : IsEngine e) (us : List (Option Joined)) (order : List �
       ≡ sum_by here (map at (readers_of e.registered change)) =
       sum_same (λ (r : Registered). g r.query) (λ (r : Registered). here r.id.at) (readers_of e.registered change)
       (hold_each (λ (r : Registered). g r.query ≡ here r.id.at) (readers_of e.registered change)
-      (λ r c. ap g (sym (engine_listed r (kept_was (λ (s : Registered). is_outdated change s.query) e.registered r c).0))))
+      (λ r c. ap g (sym (engine_listed r
+      (kept_was (λ (s : Registered). is_outdated change s.query) e.registered r c).0))))
       ∙ sym (sum_mapped here at (readers_of e.registered change)) in
       let right : sum_by here (map at (readers_of all change))
       ≡ sum_by (λ (r : Registered). g r.query) (readers_of all change) =
@@ -178,7 +184,8 @@ module _ (e : Kept) (b : IsEngine e) (us : List (Option Joined)) (order : List �
         let low = h.counted n as_flat (bounded_seen change seen is relations n as_flat bounded) in
         let more = readers_count change (λ q. bounded_steps change times n (as_flat q) q) in
         subst (λ (rs : List Registered). now ≤ before
-        + sum_by (λ (r : Registered). bounded_steps change times n (as_flat r.query) r.query) (readers_of rs change)) (sym is)
+        + sum_by (λ (r : Registered). bounded_steps change times n (as_flat r.query) r.query) (readers_of rs change))
+        (sym is)
         (omega (arith, low, more));
   }
 
@@ -192,8 +199,10 @@ module _ (e : Kept) (b : IsEngine e) (us : List (Option Joined)) (order : List �
         let low = h.counted n (bounded_seen change seen is relations n (λ q. false) bound) in
         let more = readers_count change (λ q. times * update_steps change (n + length held) q) in
         subst (λ (c : RowsChange). now ≤ before
-        + sum_by (λ (r : Registered). times * update_steps c (n + length held) r.query) (readers_of seen.registered c)) (sym same)
+        + sum_by (λ (r : Registered). times * update_steps c (n + length held) r.query) (readers_of seen.registered c))
+        (sym same)
         (subst (λ (rs : List Registered). now ≤ before
-        + sum_by (λ (r : Registered). times * update_steps change (n + length held) r.query) (readers_of rs change)) (sym is)
+        + sum_by (λ (r : Registered). times * update_steps change (n + length held) r.query) (readers_of rs change))
+        (sym is)
         (omega (arith, low, more)));
   }

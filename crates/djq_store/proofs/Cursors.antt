@@ -1,5 +1,6 @@
 -- Cursors behind a change of rows, of queries and of unions.
-use Rattle.std.specs.Prelude.{ℕ, zero, suc, List, [], ◌∷◌, ◌≡◌, ◌==◌, ◌+◌, ◌<◌, ◌&&◌, ◌⊎◌, Option, None, Some, IsSomeAnd, option_map, find, map, is_some, slice_index_or}
+use Rattle.std.specs.Prelude.{ℕ, zero, suc, List, [], ◌∷◌, ◌≡◌, ◌==◌, ◌+◌, ◌<◌, ◌&&◌, ◌⊎◌, Option}
+use Rattle.std.specs.Prelude.{None, Some, IsSomeAnd, option_map, find, map, is_some, slice_index_or}
 use Rattle.std.proofs.Common.{refl, sym, ap, ap₂, ◌∙◌, subst, inl, inr, get_or}
 use Rattle.djq_model.specs.declared.query.Query.{Query}
 use Rattle.djq_model.specs.Data.{Bytes}
@@ -9,7 +10,8 @@ use Rattle.djq_machine.specs.State.{Position}
 use Rattle.djq_machine.specs.Stale.{outdated, outdater_of}
 use Rattle.djq_machine.specs.Changes.{RowsChange}
 use Rattle.djq_engine.specs.declared.cursor.CursorId.{CursorId}
-use Rattle.djq_engine.specs.Kept.{Kept, Held, Registered, same_id, held_at, registered_at, outdated_held, cursors_behind, Outdates}
+use Rattle.djq_engine.specs.Kept.{Kept, Held, Registered, same_id, held_at, registered_at}
+use Rattle.djq_engine.specs.Kept.{outdated_held, cursors_behind, Outdates}
 use Rattle.djq_engine.specs.Places.{id_at}
 use Rattle.djq_united.specs.declared.cursors.Progress.{Progress}
 use Rattle.djq_united.specs.declared.cursors.Progress.TheVariants.{Open, Stale}
@@ -23,7 +25,8 @@ use Rattle.djq_store.specs.Whole.{IsListed}
 use Rattle.djq_store.proofs.Behind.{Behind, outdater_by, first_outdates, untouched, queries_behind}
 use Rattle.djq_store.proofs.Found.{find_mapped}
 use Rattle.djq_store.proofs.Held.{held_low, held_high}
-use Rattle.djq_store.proofs.Ordered.{Seat, seat_of, seat_no_union, engine_listed, listed_is, named_joint, listed_joint, Joint}
+use Rattle.djq_store.proofs.Ordered.{Seat, seat_of, seat_no_union, engine_listed, listed_is}
+use Rattle.djq_store.proofs.Ordered.{named_joint, listed_joint, Joint}
 use Rattle.djq_store.proofs.Seats.{Slot, cases_place}
 use Rattle.djq_store.proofs.Settled.{Turned, turned, vacant_turned}
 
@@ -43,7 +46,8 @@ behind_is k (Some change) n id =
     find_mapped (λ (x : Held). same_id x.id id) (outdated_held (k.store).queries change.outdater n) k.cursors
 
 -- by what is registered under its query's name
-aged_by : (qs qs' : List Listed) (o : Option RowsChange) (n : ℕ) (x : Held) → listed_of qs x.query ≡ listed_of qs' x.query
+aged_by : (qs qs' : List Listed) (o : Option RowsChange) (n : ℕ) (x : Held) → listed_of qs x.query
+    ≡ listed_of qs' x.query
     → aged qs o n x ≡ aged qs' o n x
 aged_by qs qs' None n x e = refl
 aged_by qs qs' (Some change) n x e =
@@ -61,7 +65,8 @@ slot_mapped f (p ∷ slots) zero = refl
 slot_mapped f (p ∷ slots) (suc k) = slot_mapped f slots k
 
 module _ (o : Option RowsChange) (relations : List Bytes) (turn : Turn) (e e' : Kept) (us us' : List (Option Joined))
-    (b : Behind o relations turn e e' us us') (order : List ℕ) (w : IsListed e us order) (sessions affected affected' : List ℕ) where
+    (b : Behind o relations turn e e' us us') (order : List ℕ) (w : IsListed e us order)
+    (sessions affected affected' : List ℕ) where
   abbrev qs : List Listed
   qs = map (listed_at e.places us) order
 
@@ -115,10 +120,13 @@ module _ (o : Option RowsChange) (relations : List Bytes) (turn : Turn) (e e' : 
       by : (x : Option RowsChange) → outdater_by x (union_of e.places j.union) ≡ r
           → aged qs x n (record { id = id; query = j.union.name; position = p })
           ≡ record { id = id; query = j.union.name; position = outdated r n p }
-      by None f = ap (λ (s : Option Bytes). (let y : Held = record { id = id; query = j.union.name; position = outdated s n p } in y)) f
+      by None f = ap (λ (s : Option Bytes).
+          (let y : Held = record { id = id; query = j.union.name; position = outdated s n p } in y)) f
       by (Some change) f =
-          ap (λ (l : Option Listed). (let y : Held = record { id = id; query = j.union.name; position = outdated (from l) n p } in y)) listed
-          ∙ ap (λ (s : Option Bytes). (let y : Held = record { id = id; query = j.union.name; position = outdated s n p } in y)) f
+          ap (λ (l : Option Listed).
+          (let y : Held = record { id = id; query = j.union.name; position = outdated (from l) n p } in y)) listed
+          ∙ ap (λ (s : Option Bytes).
+          (let y : Held = record { id = id; query = j.union.name; position = outdated s n p } in y)) f
         where
           from : Option Listed → Option Bytes
           from None = None
@@ -126,7 +134,8 @@ module _ (o : Option RowsChange) (relations : List Bytes) (turn : Turn) (e e' : 
 
   slot_cursor : (k : ℕ) (j j' : Joined) → joined_at us k ≡ Some j → IsUnited e.places j.union → (r : Option Bytes)
       → outdater_by o (union_of e.places j.union) ≡ r → j'.union ≡ outdated_union r n j.union → (id : CursorId)
-      → held_of (e'.store).texts e'.places id (Some j') ≡ option_map (aged qs o n) (held_of (e.store).texts e.places id (Some j))
+      → held_of (e'.store).texts e'.places id (Some j')
+      ≡ option_map (aged qs o n) (held_of (e.store).texts e.places id (Some j))
   slot_cursor k j j' there united None out same id =
       ap (λ (u : United). option_map (held_as (e'.store).texts e'.places u id) (slot_at u.cursors id.cursor)) same
       ∙ by (slot_at j.union.cursors id.cursor) refl
@@ -154,7 +163,8 @@ module _ (o : Option RowsChange) (relations : List Bytes) (turn : Turn) (e e' : 
       stands (Open cursor ended) = refl
       stands (Stale s m) = refl
 
-      by : (x : Option Progress) → option_map (held_as (e'.store).texts e'.places (outdated_union (Some r) n j.union) id)
+      by : (x : Option Progress)
+          → option_map (held_as (e'.store).texts e'.places (outdated_union (Some r) n j.union) id)
           (option_map (outdated_progress r n) x)
           ≡ option_map (aged qs o n) (option_map (held_as (e.store).texts e.places j.union id) x)
       by None = refl
@@ -165,7 +175,8 @@ module _ (o : Option RowsChange) (relations : List Bytes) (turn : Turn) (e e' : 
 
   -- of all
 
-  pub cursor_behind : (id : CursorId) → held_at (cursors_in e' us') id ≡ option_map (aged qs o n) (held_at (cursors_in e us) id)
+  pub cursor_behind : (id : CursorId) → held_at (cursors_in e' us') id
+      ≡ option_map (aged qs o n) (held_at (cursors_in e us) id)
   cursor_behind id = by_case (cases_place id.query.at)
     where
       by_slot : (k : ℕ) (x : Option Joined) → joined_at us k ≡ x

@@ -1,5 +1,7 @@
 -- The deltas of queries and unions, made of those that the engine lists for the queries that are wanted.
-use Rattle.std.specs.Prelude.{ℕ, List, [], ◌∷◌, ◌==◌, ◌≡◌, ◌+◌, ◌*◌, ◌≤◌, ◌++◌, ◌⊎◌, Bool, true, false, cond, Option, None, Some, filter, map, length, sum_by, All, AllPairs, Contains, ⊤}
+use Rattle.std.specs.Prelude.{ℕ, List, [], ◌∷◌, ◌==◌, ◌≡◌, ◌+◌, ◌*◌, ◌≤◌, ◌++◌, ◌⊎◌, Bool, true}
+use Rattle.std.specs.Prelude.{false, cond, Option, None, Some, filter, map, length, sum_by, All}
+use Rattle.std.specs.Prelude.{AllPairs, Contains, ⊤}
 use Rattle.std.proofs.Common.{refl, sym, ap, ap₂, ◌∙◌, subst, inl, inr, arith}
 use Rattle.std.proofs.lemmas.Bool.{eq-eqb}
 use Rattle.std.proofs.lemmas.List.Elements.{All-nil, All-cons, All-head, All-tail, All-contains, All-map}
@@ -13,10 +15,12 @@ use Rattle.djq_model.specs.Listed.{Listed, a_query, a_union, members_of, Answers
 use Rattle.djq_machine.specs.Store.{atoms_of}
 use Rattle.djq_machine.specs.Changes.{RowsChange}
 use Rattle.djq_machine.specs.Delta.{Change, IsDelta}
-use Rattle.djq_machine.specs.Watch.{Part, Delta, is_touched, ArePartsOf, AreDeltas, changes_steps, parts_steps, listed_steps, delta_steps}
+use Rattle.djq_machine.specs.Watch.{Part, Delta, is_touched, ArePartsOf, AreDeltas, changes_steps}
+use Rattle.djq_machine.specs.Watch.{parts_steps, listed_steps, delta_steps}
 use Rattle.djq_engine.specs.Kept.{Kept, Registered, same_query, told_at}
 use Rattle.djq_engine.specs.Watching.{LogTells, LogsTell}
-use Rattle.djq_deltas.proofs.Lists.{nothing_there, first_or_later, first_there, later_there, pairs_head, pairs_tail, hold_each}
+use Rattle.djq_deltas.proofs.Lists.{nothing_there, first_or_later, first_there, later_there}
+use Rattle.djq_deltas.proofs.Lists.{pairs_head, pairs_tail, hold_each}
 use Rattle.djq_store.proofs.Summing.{sum_same, sum_covered, sum_kept, kept_was, sum_plus, all_of, sum_all_of, in_all_of}
 
 -- ---- what the engine lists, by place
@@ -115,7 +119,8 @@ module _ (before : List Relation) (change : RowsChange) (h : ℕ → Query) (k :
   all_by_place (r ∷ rs) (d ∷ ds) queries apart are =
       let Deltas = λ (e : Delta). IsDelta (AnswersOf before e.query) (AnswersOf change.after e.query) e.changes in
       more_by_place r rs d ds (All-head IsQuery r rs queries) (pairs_head Apart r rs apart)
-      (first_same d.query (map (λ (e : Delta). e.query) ds) r.query (map (λ (s : Registered). s.query) rs) are.of_queries)
+      (first_same d.query (map (λ (e : Delta). e.query) ds) r.query (map (λ (s : Registered). s.query) rs)
+      are.of_queries)
       (All-head Deltas d ds are.are_deltas)
       (all_by_place rs ds (All-tail IsQuery r rs queries) (pairs_tail Apart r rs apart) (record {
         of_queries = rest_same d.query (map (λ (e : Delta). e.query) ds) r.query
@@ -353,7 +358,8 @@ pub logs_tell : (before : List Relation) (change : RowsChange) (h : ℕ → Quer
     (members : ℕ → Option (List ℕ)) (places : List ℕ) (k : Kept)
     → (deltas : (m : ℕ) → Contains places m → IsDelta (IsAnswer before (h m)) (IsAnswer change.after (h m)) (f m))
     → (rs : List Registered) (ds : List Delta)
-    → AreFor before change h f members places (λ r cs. (told_at k r.id ≡ None) ⊎ (told_at k r.id ≡ Some cs)) deltas rs ds
+    → AreFor before change h f members places (λ r cs. (told_at k r.id ≡ None) ⊎ (told_at k r.id ≡ Some cs)) deltas rs
+    ds
     → LogsTell k rs ds
 logs_tell before change h f members places k deltas [] [] a = tt
 logs_tell before change h f members places k deltas (r ∷ rs) (d ∷ ds) a =

@@ -1,5 +1,8 @@
 -- A command of rows, as a store's engine did it and its unions followed: what it is to the store.
-use Rattle.std.specs.Prelude.{ℕ, zero, suc, List, [], ◌∷◌, ◌≡◌, ◌+◌, ◌-◌, ◌<◌, ◌≤◌, ◌&&◌, ◌⊎◌, nat_lt, Bool, true, false, cond, Option, None, Some, is_some, find, filter, map, length, count_by, slice_index_or, IsSomeAnd, vec_capacity, All, Contains, ⊤}
+use Rattle.std.specs.Prelude.{ℕ, zero, suc, List, [], ◌∷◌, ◌≡◌, ◌+◌, ◌-◌, ◌<◌, ◌≤◌, ◌&&◌, ◌⊎◌}
+use Rattle.std.specs.Prelude.{nat_lt, Bool, true, false, cond, Option, None, Some, is_some, find}
+use Rattle.std.specs.Prelude.{filter, map, length, count_by, slice_index_or, IsSomeAnd}
+use Rattle.std.specs.Prelude.{vec_capacity, All, Contains, ⊤}
 use Rattle.std.specs.List.{list_any}
 use Rattle.std.proofs.Common.{refl, sym, ap, ap₂, ◌∙◌, subst, inl, inr, arith}
 use Rattle.std.proofs.lemmas.Bool.{false≢true, lt-ltb, le-ltb}
@@ -35,7 +38,8 @@ use Rattle.djq_store.specs.Whole.{IsListed, IsCounted, IsRoomy, IsWhole, wants}
 use Rattle.djq_store.proofs.Accepted.{GoRows}
 use Rattle.djq_store.proofs.Affected.{affected_order, affected_queries}
 use Rattle.djq_store.proofs.Alike.{SameUnion, SameIn, SameUnions}
-use Rattle.djq_store.proofs.Behind.{Behind, Did, outdater_by, same, all_listed, all_counted, registered_behind, queries_behind}
+use Rattle.djq_store.proofs.Behind.{Behind, Did, outdater_by, same, all_listed, all_counted}
+use Rattle.djq_store.proofs.Behind.{registered_behind, queries_behind}
 use Rattle.djq_store.proofs.Counting.{mapped_was, seen_there, engine_ordered}
 use Rattle.djq_store.proofs.Members.{grown_members, kept_shapes}
 use Rattle.djq_store.proofs.Summing.{kept_was}
@@ -122,7 +126,8 @@ unsettled e n turn (Some j) = record {
 
 -- ---- what is seen of the parts behind it
 
-module _ (p p' : Parts) (e' : Kept) (engine : p'.engine ≡ e') (order : p'.order ≡ p.order) (sessions : p'.sessions ≡ p.sessions) where
+module _ (p p' : Parts) (e' : Kept) (engine : p'.engine ≡ e') (order : p'.order ≡ p.order)
+    (sessions : p'.sessions ≡ p.sessions) where
   seen_now : kept_in p' ≡ seen e' p'.unions.items p.order.items p.sessions.items p'.affected.items
   seen_now =
       ap (λ (x : Kept). seen x p'.unions.items p'.order.items p'.sessions.items p'.affected.items) engine
@@ -132,7 +137,8 @@ module _ (p p' : Parts) (e' : Kept) (engine : p'.engine ≡ e') (order : p'.orde
   comes : (o : Option RowsChange) (outcome : RowsOutcome) → tried outcome ≡ o → (relations : List Bytes) (turn : Turn)
       → Behind o relations turn p.engine e' p.unions.items p'.unions.items → IsWhole p
       → vec_capacity p.affected ≤ vec_capacity p'.affected → (before last : ℕ)
-      → TellsChange (kept_in p) outcome (seen e' p'.unions.items p.order.items p.sessions.items p'.affected.items) before last
+      → TellsChange (kept_in p) outcome (seen e' p'.unions.items p.order.items p.sessions.items p'.affected.items)
+      before last
       → Comes p p' e' outcome before last
   comes o outcome tries relations turn b w room before last tells = record {
     whole = record {
@@ -153,7 +159,8 @@ module _ (p p' : Parts) (e' : Kept) (engine : p'.engine ≡ e') (order : p'.orde
         (outdates_behind o relations turn p.engine e' p.unions.items p'.unions.items b p.order.items w.listed
         p.sessions.items p.affected.items p'.affected.items));
     registered = ap (λ (k : Kept). k.registered) seen_now
-        ∙ registered_behind o relations turn p.engine e' p.unions.items p'.unions.items b p.order.items w.listed p.sessions.items;
+        ∙ registered_behind o relations turn p.engine e' p.unions.items p'.unions.items b p.order.items w.listed
+        p.sessions.items;
     store = ap (λ (k : Kept). k.store) seen_now
         ∙ ap (λ (qs : List Listed). with_queries qs e'.store)
         (queries_behind o relations turn p.engine e' p.unions.items p'.unions.items b p.order.items w.listed);
@@ -186,15 +193,19 @@ comes_to (accepted change) p p' e' came relations before mid last w laws did tel
   where
     by : Behind (Some change) relations (turn_for came) p.engine e' p.unions.items p'.unions.items
         → AffectsAll relations (over p e') p'
-        → p'.affected.items ≡ filter (λ at. is_outdated change (listed_at p.engine.places p.unions.items at)) p.order.items
+        → p'.affected.items ≡ filter (λ at. is_outdated change (listed_at p.engine.places p.unions.items at))
+        p.order.items
     by b (inl items) =
         items
-        ∙ filter_same (is_affected (is_reached e'.affected) p'.unions.items) (is_affected (is_reached e'.affected) p.unions.items)
+        ∙ filter_same (is_affected (is_reached e'.affected) p'.unions.items)
+        (is_affected (is_reached e'.affected) p.unions.items)
         p.order.items (λ at k. affected_alike (is_reached e'.affected) p.unions.items p'.unions.items
         (same (Some change) relations (turn_for came) p.engine e' p.unions.items p'.unions.items b) at)
-        ∙ affected_order change relations (turn_for came) p.engine e' p.unions.items p'.unions.items b p.order.items w.listed tells.affected
+        ∙ affected_order change relations (turn_for came) p.engine e' p.unions.items p'.unions.items b p.order.items
+        w.listed tells.affected
     by b (inr h) =
-        h.1 ∙ affected_queries change relations (turn_for came) p.engine e' p.unions.items p'.unions.items b p.order.items
+        h.1 ∙ affected_queries change relations (turn_for came) p.engine e' p.unions.items p'.unions.items b
+        p.order.items
         w.listed tells.affected h.0
 comes_to (out_of_memory change) p p' e' came relations before mid last w laws did tells known follows counted =
     let us = p.unions.items in
@@ -209,7 +220,8 @@ comes_to (out_of_memory change) p p' e' came relations before mid last w laws di
     comes p p' e' follows.engine follows.order follows.sessions (Some change) (out_of_memory change) refl relations
     Lacked b w follows.room before last
     (tells_refused change relations p.engine e' us us' b p.order.items w.listed p.sessions.items p.affected.items
-    p'.affected.items w.counted before mid last tells known.spares known.out counted (ap (λ v. v.items) follows.affected))
+    p'.affected.items w.counted before mid last tells known.spares known.out counted
+    (ap (λ v. v.items) follows.affected))
 comes_to unchanged p p' e' came relations before mid last w laws did tells known follows counted =
     subst (λ (x : Parts). Comes p x e' unchanged before last) (sym follows)
     (let b : Behind None [] Lacked p.engine e' p.unions.items p.unions.items = record {
@@ -244,7 +256,8 @@ module _ (p : Parts) (b : IsEngine p.engine) (w : IsWhole p) (none : IsUnwatched
   unions_unwatched k j there =
       sym (high_place k (λ i. slice_index_or p.sessions.items i 0) (λ i. union_watchers (joined_at p.unions.items i))
       ∙ ap union_watchers there)
-      ∙ idle (QUERIES + k) (joint_order p.engine b p.unions.items p.order.items w.listed k (record { union = j; there = there }))
+      ∙ idle (QUERIES + k) (joint_order p.engine b p.unions.items p.order.items w.listed k
+      (record { union = j; there = there }))
 
   pub engine_unwatched : IsUnwatched p.engine
   engine_unwatched = hold_each (λ (r : Registered). is_watched r ≡ false) p.engine.registered
@@ -261,7 +274,8 @@ module _ (p : Parts) (b : IsEngine p.engine) (w : IsWhole p) (none : IsUnwatched
       low_at : (r : Registered) → Contains p.engine.registered r → r.id.at < QUERIES
       low_at r c =
           let t = some_there (query_at p.engine.places r.id.at) (λ l. r.query ≡ a_query l.query)
-          (All-contains (λ (s : Registered). AtPlace p.engine s.id (λ l. s.query ≡ a_query l.query)) p.engine.registered r
+          (All-contains (λ (s : Registered). AtPlace p.engine s.id (λ l. s.query ≡ a_query l.query)) p.engine.registered
+          r
           b.placed c) in
           omega (arith, place_below p.engine.places r.id.at t.0 t.1, b.few)
 
@@ -306,5 +320,6 @@ pub members_behind : (p : Parts) (e' : Kept) → IsWhole p → StayingLaws → (
     → (k : ℕ) (j : Joined) → joined_at p.unions.items k ≡ Some j → AreMembers e'.places j.union.members
 members_behind p e' w laws o did k j there =
     (laws.members p.engine.places e'.places j.union
-    (grown_members p.engine e' (record { shapes = kept_shapes (is_tried o) p.engine e' did.places; more = did.more; texts = did.texts })
+    (grown_members p.engine e'
+    (record { shapes = kept_shapes (is_tried o) p.engine e' did.places; more = did.more; texts = did.texts })
     j.union.members) (w.listed.united k j there).members).0

@@ -28,7 +28,9 @@ pub record NamedSeat (e : Kept) (name : Bytes) (at : ℕ) : Type 0 where
   pub seat : Seat e at
   pub called : seat.query.query.name ≡ name
 
-pub named_seat : (e : Kept) → IsEngine e → (us : List (Option Joined)) (order : List ℕ) → IsListed e us order → (name : Bytes) → NoUnion us name → (id : QueryId) → Some id ≡ option_map (λ (r : Registered). r.id) (registered_of e.registered name) → NamedSeat e name id.at
+pub named_seat : (e : Kept) → IsEngine e → (us : List (Option Joined)) (order : List ℕ) → IsListed e us order
+    → (name : Bytes) → NoUnion us name → (id : QueryId) → Some id
+    ≡ option_map (λ (r : Registered). r.id) (registered_of e.registered name) → NamedSeat e name id.at
 named_seat e b us order w name none id is = by_found (registered_of e.registered name) refl is
   where
     same : {x y : QueryId} → Some x ≡ Some y → x ≡ y
@@ -37,18 +39,29 @@ named_seat e b us order w name none id is = by_found (registered_of e.registered
     same_one : {x y : Registered} → Some x ≡ Some y → x ≡ y
     same_one h = cc
 
-    by_found : (o : Option Registered) → registered_of e.registered name ≡ o → Some id ≡ option_map (λ (r : Registered). r.id) o → NamedSeat e name id.at
+    by_found : (o : Option Registered) → registered_of e.registered name ≡ o → Some id
+        ≡ option_map (λ (r : Registered). r.id) o → NamedSeat e name id.at
     by_found None f h = absurd cc
     by_found (Some r) f h =
         let again = found_by_id e.registered r (λ (x : Registered). bytes_eq (listed_name x.query) name) b.apart f in
         let s = seat_of e b r.id.at r again in
-        let called : listed_name r.query ≡ name = (bytes_eq-decides (listed_name r.query) name).0 (found_passes (λ (x : Registered). bytes_eq (listed_name x.query) name) e.registered r f) in
-        subst (λ (i : QueryId). NamedSeat e name i.at) (sym (same h)) (record { seat = s; called = sym (ap listed_name s.is) ∙ ap (λ (x : Registered). listed_name x.query) (same_one (sym s.found ∙ again)) ∙ called })
+        let called : listed_name r.query
+        ≡ name = (bytes_eq-decides (listed_name r.query) name).0
+        (found_passes (λ (x : Registered). bytes_eq (listed_name x.query) name) e.registered r f) in
+        subst (λ (i : QueryId). NamedSeat e name i.at) (sym (same h))
+        (record {
+          seat = s;
+          called = sym (ap listed_name s.is)
+              ∙ ap (λ (x : Registered). listed_name x.query) (same_one (sym s.found ∙ again)) ∙ called;
+        })
 
-pub unknown_name : (e : Kept) → IsEngine e → (name : Bytes) → None ≡ option_map (λ (r : Registered). r.id) (registered_of e.registered name) → listed_of (e.store).queries name ≡ None
+pub unknown_name : (e : Kept) → IsEngine e → (name : Bytes) → None
+    ≡ option_map (λ (r : Registered). r.id) (registered_of e.registered name) → listed_of (e.store).queries name ≡ None
 unknown_name e b name is =
-    ap (λ qs. listed_of qs name) (sym b.queries) ∙ find_mapped (λ l. bytes_eq (listed_name l) name) (λ (r : Registered). r.query) e.registered
-    ∙ ap (option_map (λ (r : Registered). r.query)) (none_of (λ (r : Registered). r.id) (registered_of e.registered name) is)
+    ap (λ qs. listed_of qs name) (sym b.queries)
+    ∙ find_mapped (λ l. bytes_eq (listed_name l) name) (λ (r : Registered). r.query) e.registered
+    ∙ ap (option_map (λ (r : Registered). r.query))
+    (none_of (λ (r : Registered). r.id) (registered_of e.registered name) is)
 
 -- a union with a place as a member
 pub record MemberOf (us : List (Option Joined)) (at : ℕ) : Type 0 where
@@ -57,15 +70,19 @@ pub record MemberOf (us : List (Option Joined)) (at : ℕ) : Type 0 where
   pub there : joined_at us slot ≡ Some union
   pub among : is_reader union.union.members at ≡ true
 
-pub member_slot : (us vs : List (Option Joined)) (at : ℕ) → vs ≡ us → list_any (has_member at) vs ≡ true → MemberOf us at
-member_slot us vs at same h = let p = passing (has_member at) us (sym (ap (list_any (has_member at)) same) ∙ h) in by_slot p.slot (joined_at us p.slot) refl p.passes
+pub member_slot : (us vs : List (Option Joined)) (at : ℕ) → vs ≡ us → list_any (has_member at) vs ≡ true
+    → MemberOf us at
+member_slot us vs at same h = let p = passing (has_member at) us (sym (ap (list_any (has_member at)) same) ∙ h) in
+    by_slot p.slot (joined_at us p.slot) refl p.passes
   where
     by_slot : (i : ℕ) (o : Option Joined) → joined_at us i ≡ o → has_member at o ≡ true → MemberOf us at
     by_slot i None f h = absurd cc
     by_slot i (Some j) f h = record { slot = i; union = j; there = f; among = h }
 
-pub no_member_slot : (us vs : List (Option Joined)) (at : ℕ) → vs ≡ us → list_any (has_member at) vs ≡ false → (k : ℕ) (j : Joined) → joined_at us k ≡ Some j → is_reader j.union.members at ≡ false
-no_member_slot us vs at same h k j there = sym (ap (has_member at) there) ∙ none_passing (has_member at) us refl (sym (ap (list_any (has_member at)) same) ∙ h) k
+pub no_member_slot : (us vs : List (Option Joined)) (at : ℕ) → vs ≡ us → list_any (has_member at) vs ≡ false
+    → (k : ℕ) (j : Joined) → joined_at us k ≡ Some j → is_reader j.union.members at ≡ false
+no_member_slot us vs at same h k j there = sym (ap (has_member at) there)
+    ∙ none_passing (has_member at) us refl (sym (ap (list_any (has_member at)) same) ∙ h) k
 
 pub was_dropped : (result : Result ⊤ Refusal) → is_ok result ≡ true → result ≡ Ok tt
 was_dropped (Ok done) h = refl
@@ -80,7 +97,8 @@ was_refused (Ok done) h = absurd cc
 was_refused (Err x) h = record { refusal = x; is = refl }
 
 -- the union that is lent is the one in the slot
-pub same_joined : (us vs : List (Option Joined)) (k : ℕ) (j x : Joined) → joined_at us k ≡ Some j → joined_at vs k ≡ Some x → vs ≡ us → x ≡ j
+pub same_joined : (us vs : List (Option Joined)) (k : ℕ) (j x : Joined) → joined_at us k ≡ Some j → joined_at vs k
+    ≡ Some x → vs ≡ us → x ≡ j
 same_joined us vs k j x there lent same = same_some (sym lent ∙ ap (λ ws. joined_at ws k) same ∙ there)
   where
     same_some : {x y : Joined} → Some x ≡ Some y → x ≡ y

@@ -1,12 +1,14 @@
 -- What is found in lists: by tests on elements, and of lists of places by the place.
-use Rattle.std.proofs.Common.{ℕ, zero, suc, List, [], ◌∷◌, ◌≡◌, ◌<◌, Bool, true, false, refl, sym, ap, ◌∙◌, subst, length, get_or, arith}
+use Rattle.std.proofs.Common.{ℕ, zero, suc, List, [], ◌∷◌, ◌≡◌, ◌<◌, Bool, true, false, refl, sym}
+use Rattle.std.proofs.Common.{ap, ◌∙◌, subst, length, get_or, arith}
 use Rattle.std.specs.Prelude.{◌==◌, ◌||◌, ◌&&◌, Option, None, Some, is_some, option_map, cond, find, filter, map, All}
 use Rattle.std.proofs.lemmas.Bool.{eqb-true, false≢true}
 use Rattle.std.proofs.lemmas.List.Elements.{All-head, All-tail}
 use Rattle.djq_reach.specs.Places.{is_reader}
 use Rattle.djq_engine.proofs.Listing.{here, behind}
 
-pub find_mapped : {A B : Type 0} (p : B → Bool) (f : A → B) (xs : List A) → find p (map f xs) ≡ option_map f (find (λ x. p (f x)) xs)
+pub find_mapped : {A B : Type 0} (p : B → Bool) (f : A → B) (xs : List A) → find p (map f xs)
+    ≡ option_map f (find (λ x. p (f x)) xs)
 find_mapped p f [] = refl
 find_mapped p f (x ∷ xs) = step (p (f x)) (find_mapped p f xs)
   where
@@ -57,14 +59,17 @@ find_place p (x ∷ xs) i there passes alone =
 
 pub no_place : (p : ℕ → Bool) (xs : List ℕ) → ((j : ℕ) → is_reader xs j ≡ true → p j ≡ false) → find p xs ≡ None
 no_place p [] h = refl
-no_place p (x ∷ xs) h = ap (λ b. cond b (Some x) (find p xs)) (h x (here x xs)) ∙ no_place p xs (λ j e. h j (behind x xs j e))
+no_place p (x ∷ xs) h = ap (λ b. cond b (Some x) (find p xs)) (h x (here x xs))
+    ∙ no_place p xs (λ j e. h j (behind x xs j e))
 
 -- a test that only fails where another does finds the same among what the other keeps
-pub find_filtered : (p q : ℕ → Bool) (xs : List ℕ) → ((j : ℕ) → is_reader xs j ≡ true → q j ≡ false → p j ≡ false) → find p (filter q xs) ≡ find p xs
+pub find_filtered : (p q : ℕ → Bool) (xs : List ℕ) → ((j : ℕ) → is_reader xs j ≡ true → q j ≡ false → p j ≡ false)
+    → find p (filter q xs) ≡ find p xs
 find_filtered p q [] h = refl
 find_filtered p q (x ∷ xs) h = step (q x) refl (find_filtered p q xs (λ j e. h j (behind x xs j e)))
   where
-    step : (b : Bool) → q x ≡ b → find p (filter q xs) ≡ find p xs → find p (cond b (x ∷ filter q xs) (filter q xs)) ≡ cond (p x) (Some x) (find p xs)
+    step : (b : Bool) → q x ≡ b → find p (filter q xs) ≡ find p xs → find p (cond b (x ∷ filter q xs) (filter q xs))
+        ≡ cond (p x) (Some x) (find p xs)
     step true e more = ap (λ o. cond (p x) (Some x) o) more
     step false e more = more ∙ sym (ap (λ b. cond b (Some x) (find p xs)) (h x (here x xs) e))
 
@@ -73,7 +78,8 @@ pub found_at : {A : Type 0} (f : ℕ → A) (at : A → ℕ) → ((i : ℕ) → 
     → find (λ x. at x == i) (map f xs) ≡ cond (is_reader xs i) (Some (f i)) None
 found_at f at key [] i = refl
 found_at f at key (x ∷ xs) i =
-    ap (λ n. cond (n == i) (Some (f x)) (find (λ x. at x == i) (map f xs))) (key x) ∙ step (x == i) refl (found_at f at key xs i)
+    ap (λ n. cond (n == i) (Some (f x)) (find (λ x. at x == i) (map f xs))) (key x)
+    ∙ step (x == i) refl (found_at f at key xs i)
   where
     step : (b : Bool) → (x == i) ≡ b → find (λ x. at x == i) (map f xs) ≡ cond (is_reader xs i) (Some (f i)) None
         → cond b (Some (f x)) (find (λ x. at x == i) (map f xs)) ≡ cond (b || is_reader xs i) (Some (f i)) None
@@ -81,11 +87,13 @@ found_at f at key (x ∷ xs) i =
     step false e more = more
 
 -- a place is among those of others exactly where one of them is found by it
-pub reader_mapped : {A : Type 0} (at : A → ℕ) (xs : List A) (i : ℕ) → is_reader (map at xs) i ≡ is_some (find (λ x. at x == i) xs)
+pub reader_mapped : {A : Type 0} (at : A → ℕ) (xs : List A) (i : ℕ) → is_reader (map at xs) i
+    ≡ is_some (find (λ x. at x == i) xs)
 reader_mapped at [] i = refl
 reader_mapped at (x ∷ xs) i = step (at x == i) (reader_mapped at xs i)
   where
-    step : (b : Bool) → is_reader (map at xs) i ≡ is_some (find (λ x. at x == i) xs) → (b || is_reader (map at xs) i) ≡ is_some (cond b (Some x) (find (λ x. at x == i) xs))
+    step : (b : Bool) → is_reader (map at xs) i ≡ is_some (find (λ x. at x == i) xs) → (b || is_reader (map at xs) i)
+        ≡ is_some (cond b (Some x) (find (λ x. at x == i) xs))
     step true more = refl
     step false more = more
 
@@ -93,7 +101,8 @@ reader_mapped at (x ∷ xs) i = step (at x == i) (reader_mapped at xs i)
 pub map_all : {A B : Type 0} (f g : A → B) (xs : List A) → All (λ x. f x ≡ g x) xs → map f xs ≡ map g xs
 map_all f g [] h = refl
 map_all f g (x ∷ xs) h =
-    ap (λ y. y ∷ map f xs) (All-head (λ x. f x ≡ g x) x xs h) ∙ ap (λ l. g x ∷ l) (map_all f g xs (All-tail (λ x. f x ≡ g x) x xs h))
+    ap (λ y. y ∷ map f xs) (All-head (λ x. f x ≡ g x) x xs h)
+    ∙ ap (λ l. g x ∷ l) (map_all f g xs (All-tail (λ x. f x ≡ g x) x xs h))
 
 pub map_mapped : {A B C : Type 0} (g : B → C) (f : A → B) (xs : List A) → map g (map f xs) ≡ map (λ x. g (f x)) xs
 map_mapped g f [] = refl

@@ -1,5 +1,6 @@
 -- A store without relations, queries and unions.
-use Rattle.std.proofs.Common.{ℕ, zero, suc, List, [], ◌+◌, ◌-◌, ◌≡◌, ◌<◌, ◌≤◌, ◌⊎◌, inl, inr, true, false, refl, sym, ap, ◌∙◌, subst, length, get_or, arith}
+use Rattle.std.proofs.Common.{ℕ, zero, suc, List, [], ◌+◌, ◌-◌, ◌≡◌, ◌<◌, ◌≤◌, ◌⊎◌, inl, inr, true}
+use Rattle.std.proofs.Common.{false, refl, sym, ap, ◌∙◌, subst, length, get_or, arith}
 use Rattle.std.specs.Prelude.{Option, None, Some, is_some, map, replicate, vec_capacity}
 use Rattle.std.proofs.lemmas.Bool.{cases_lt}
 use Rattle.std.proofs.lemmas.List.{get_or-replicate, get_or_past, length-replicate}
@@ -64,7 +65,8 @@ module _ (e : Kept) (none : e.registered ≡ []) where
   }
 
 -- what a fresh store keeps is whole
-pub fresh_whole : (p : Parts) → p.engine.registered ≡ [] → p.unions.items ≡ [] → p.order.items ≡ [] → p.sessions.items ≡ unwatched QUERIES → QUERIES ≤ vec_capacity p.order
+pub fresh_whole : (p : Parts) → p.engine.registered ≡ [] → p.unions.items ≡ [] → p.order.items ≡ [] → p.sessions.items
+    ≡ unwatched QUERIES → QUERIES ≤ vec_capacity p.order
     → QUERIES ≤ vec_capacity p.affected → IsWhole p
 fresh_whole p none unions order sessions room affected = record {
   listed =

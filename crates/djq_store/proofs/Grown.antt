@@ -1,5 +1,8 @@
 -- Of which relations rows come in a batch: those that have more rows behind it.
-use Rattle.std.specs.Prelude.{ℕ, zero, suc, List, [], ◌∷◌, ◌++◌, ◌≡◌, ◌+◌, ◌<◌, ◌≤◌, ◌&&◌, ◌||◌, ◌⊎◌, nat_lt, Bool, true, false, not, cond, Option, None, Some, is_some, is_none, option_map, find, filter, map, length, Result, Ok, Err, All, Contains, ⊤}
+use Rattle.std.specs.Prelude.{ℕ, zero, suc, List, [], ◌∷◌, ◌++◌, ◌≡◌, ◌+◌, ◌<◌, ◌≤◌, ◌&&◌, ◌||◌}
+use Rattle.std.specs.Prelude.{◌⊎◌, nat_lt, Bool, true, false, not, cond, Option, None, Some}
+use Rattle.std.specs.Prelude.{is_some, is_none, option_map, find, filter, map, length, Result, Ok}
+use Rattle.std.specs.Prelude.{Err, All, Contains, ⊤}
 use Rattle.std.specs.List.{list_any}
 use Rattle.std.proofs.Common.{refl, sym, ap, ap₂, ◌∙◌, subst, inl, inr, arith}
 use Rattle.std.proofs.lemmas.Bool.{false≢true, lt-ltb, le-ltb}
@@ -9,7 +12,8 @@ use Rattle.djq_model.specs.declared.relation.Relation.{Relation}
 use Rattle.djq_model.specs.declared.relation.CountedRow.{CountedRow}
 use Rattle.djq_model.specs.declared.query.Query.{Query}
 use Rattle.djq_model.specs.declared.query.Atom.{Atom}
-use Rattle.djq_model.specs.Data.{Bytes, Tuple, bytes_eq, relation_of, tuples_of, counted_in, counted_of, rows_of, with_row, with_copies}
+use Rattle.djq_model.specs.Data.{Bytes, Tuple, bytes_eq, relation_of, tuples_of, counted_in}
+use Rattle.djq_model.specs.Data.{counted_of, rows_of, with_row, with_copies}
 use Rattle.djq_model.specs.Equality.{bytes_eq-decides}
 use Rattle.djq_model.specs.Known.{texts_in, all_learned}
 use Rattle.djq_model.specs.Listed.{Listed, a_query}
@@ -21,7 +25,8 @@ use Rattle.djq_machine.specs.State.{Store}
 use Rattle.djq_machine.specs.Store.{with_rows, copies_of, with_copies_of}
 use Rattle.djq_machine.specs.Stale.{reads, listed_reads}
 use Rattle.djq_machine.specs.Changes.{RowsChange, is_outdated}
-use Rattle.djq_machine.specs.Batch.{suit_refusal, SuitAll, is_there, with_held, with_all, has_come, rows_in, rows_tried, first_read}
+use Rattle.djq_machine.specs.Batch.{suit_refusal, SuitAll, is_there, with_held, with_all, has_come}
+use Rattle.djq_machine.specs.Batch.{rows_in, rows_tried, first_read}
 use Rattle.djq_machine.specs.Watch.{is_touched}
 use Rattle.djq_machine.proofs.Copies.{relation_here, relation_apart, rows_apart, copies_rows}
 use Rattle.djq_deltas.proofs.Lists.{nothing_there, first_or_later, first_there, later_there, mapped_there}
@@ -123,12 +128,14 @@ one_grows st h n there = by (is_there st h) refl (bytes_eq n h.relation) refl
         })).relations n)
         ≡ length (rows_of st.relations n) + cond (bytes_eq h.relation n && not b) 1 0
     by true e c f =
-        ap (λ (ts : List Tuple). length ts) (copies_rows st.relations h.relation h.row (copies_of st h.relation h.row + 1) n)
+        ap (λ (ts : List Tuple). length ts)
+        (copies_rows st.relations h.relation h.row (copies_of st h.relation h.row + 1) n)
         ∙ plus_zero (length (rows_of st.relations n))
         ∙ ap (λ (x : Bool). length (rows_of st.relations n) + cond x 1 0) (sym (and_false (bytes_eq h.relation n)))
     by false e true f =
         let same : n ≡ h.relation = (bytes_eq-decides n h.relation).0 f in
-        subst (λ (m : Bytes). length (rows_of (with_rows st.relations h.relation (with_row (counted_of st.relations h.relation) h.row)) m)
+        subst (λ (m : Bytes). length
+        (rows_of (with_rows st.relations h.relation (with_row (counted_of st.relations h.relation) h.row)) m)
         ≡ length (rows_of st.relations m) + cond (bytes_eq h.relation m && true) 1 0) (sym same)
         (ap (λ (cs : List CountedRow). length (tuples_of cs))
         (ap counted_in (relation_here st.relations h.relation (with_row (counted_of st.relations h.relation) h.row))

@@ -1,6 +1,10 @@
 -- Whether a tuple is an answer of a union, as its members tell it one after another.
-use Rattle.std.proofs.Common.{ℕ, zero, suc, List, [], ◌∷◌, ◌++◌, ◌+◌, ◌≡◌, ◌<◌, ◌≤◌, ◌⊎◌, inl, inr, Bool, true, false, refl, sym, ap, ◌∙◌, subst, length, get_or, take, arith}
-use Rattle.std.specs.Prelude.{◌==◌, Option, None, Some, IsSomeAnd, is_none, Result, Ok, Err, cond, map, not, option_map, option_to_list, slice_get, AllPairs, Contains, ⊤}
+use Rattle.std.proofs.Common.{ℕ, zero, suc, List, [], ◌∷◌, ◌++◌, ◌+◌, ◌≡◌, ◌<◌, ◌≤◌, ◌⊎◌, inl, inr}
+use Rattle.std.proofs.Common.{Bool, true, false, refl, sym, ap, ◌∙◌, subst, length, get_or, take}
+use Rattle.std.proofs.Common.{arith}
+use Rattle.std.specs.Prelude.{◌==◌, Option, None, Some, IsSomeAnd, is_none, Result, Ok, Err, cond}
+use Rattle.std.specs.Prelude.{map, not, option_map, option_to_list, slice_get, AllPairs, Contains}
+use Rattle.std.specs.Prelude.{⊤}
 use Rattle.std.proofs.lemmas.Bool.{cases_order}
 use Rattle.std.proofs.lemmas.List.Elements.{All-from_recursion}
 use Rattle.djq_model.specs.declared.relation.Relation.{Relation}
@@ -46,7 +50,8 @@ some_as (Some x) P Q f h = f x h
 -- what is told of a tuple, by what stands under a name
 abbrev Told : List Relation → Tuple → Result Bool Refusal → Option Listed → Type 0
 Told relations t result o = Answers (first_of ((is_none o, NoQuery)
-    ∷ (not (length t == length (listed_types relations o)), Arity) ∷ (not (fits (listed_types relations o) t), WrongType) ∷ [])) result
+    ∷ (not (length t == length (listed_types relations o)), Arity) ∷
+    (not (fits (listed_types relations o) t), WrongType) ∷ [])) result
     (λ yes. IsSomeAnd o (λ q. Tells (AnswersOf relations q t) yes)) (OutOfMemoryWhere ⊥)
 
 -- ---- one query, by its name
@@ -57,7 +62,8 @@ named_alone : (rs : List Registered) (r : Registered) (at : ℕ) → registered_
     → registered_of rs (listed_name r.query) ≡ Some r
 named_alone [] r at f apart = absurd cc
 named_alone (x ∷ xs) r at f apart =
-    step (x.id.at == at) f (λ g. named_alone xs r at g (λ a c d lt low. apart (suc a) (suc c) d (omega (arith, lt)) (omega (arith, low))))
+    step (x.id.at == at) f
+    (λ g. named_alone xs r at g (λ a c d lt low. apart (suc a) (suc c) d (omega (arith, lt)) (omega (arith, low))))
   where
     step : (c : Bool) → cond c (Some x) (registered_at xs (id_at at)) ≡ Some r
         → (registered_at xs (id_at at) ≡ Some r → registered_of xs (listed_name r.query) ≡ Some r)
@@ -65,9 +71,11 @@ named_alone (x ∷ xs) r at f apart =
     step true g more =
         let is : x ≡ r = same_some g in
         ap (λ c. cond c (Some x) (registered_of xs (listed_name r.query)))
-        ((bytes_eq-decides (listed_name x.query) (listed_name r.query)).1 (ap (λ (y : Registered). listed_name y.query) is)) ∙ g
+        ((bytes_eq-decides (listed_name x.query) (listed_name r.query)).1
+        (ap (λ (y : Registered). listed_name y.query) is)) ∙ g
     step false g more =
-        let other = found_all (λ s. bytes_eq (listed_name x.query) (listed_name s.query) ≡ false) (λ s. s.id.at == at) xs r
+        let other = found_all (λ s. bytes_eq (listed_name x.query) (listed_name s.query) ≡ false) (λ s. s.id.at == at)
+        xs r
         (λ k d low. apart 0 (suc k) d (omega arith) (omega (arith, low))) g in
         ap (λ c. cond c (Some x) (registered_of xs (listed_name r.query))) other ∙ more g
 
@@ -76,7 +84,8 @@ module _ (e : Kept) (b : IsEngine e) (at : ℕ) where
   seat_listed s =
       ap (λ (qs : List Listed). listed_of qs s.query.query.name) (sym b.queries)
       ∙ find_mapped (λ q. bytes_eq (listed_name q) s.query.query.name) (λ (r : Registered). r.query) e.registered
-      ∙ ap (λ (n : Bytes). option_map (λ (r : Registered). r.query) (registered_of e.registered n)) (sym (ap listed_name s.is))
+      ∙ ap (λ (n : Bytes). option_map (λ (r : Registered). r.query) (registered_of e.registered n))
+      (sym (ap listed_name s.is))
       ∙ ap (option_map (λ (r : Registered). r.query)) (named_alone e.registered s.registered at s.found b.named)
       ∙ ap (λ (q : Listed). Some q) s.is
 
@@ -86,7 +95,8 @@ module _ (e : Kept) (b : IsEngine e) (at : ℕ) where
     seat_listed_as =
         let s = seat_here e b at l there in
         let called : name ≡ s.query.query.name =
-        subst (λ (o : Option Registered). IsSomeAnd o (λ r. name ≡ listed_name r.query)) s.found h ∙ ap listed_name s.is in
+        subst (λ (o : Option Registered). IsSomeAnd o (λ r. name ≡ listed_name r.query)) s.found h
+        ∙ ap listed_name s.is in
         let is : s.query ≡ l = same_some (sym s.there ∙ there) in
         ap (listed_of (e.store).queries) called ∙ seat_listed s ∙ ap (λ (m : Live). Some (a_query m.query)) is
 
@@ -110,17 +120,20 @@ asked_more P n each here i low = by_order (cases_order i n)
 
 -- what asking the first of them counts
 
-pub atoms_part : (gs : List (Option Live)) (ks : List ℕ) (n : ℕ) → atoms_of (asked_in gs (take n ks)) ≤ atoms_of (asked_in gs ks)
+pub atoms_part : (gs : List (Option Live)) (ks : List ℕ) (n : ℕ)
+    → atoms_of (asked_in gs (take n ks)) ≤ atoms_of (asked_in gs ks)
 atoms_part gs ks zero = omega arith
 atoms_part gs [] (suc n) = omega arith
 atoms_part gs (k ∷ ks) (suc n) = by_place (query_at gs k) (atoms_part gs ks n)
   where
     by_place : (o : Option Live) → atoms_of (asked_in gs (take n ks)) ≤ atoms_of (asked_in gs ks)
-        → atoms_of (map (λ l. l.query) (option_to_list o ++ queries_at gs (take n ks))) ≤ atoms_of (map (λ l. l.query) (option_to_list o ++ queries_at gs ks))
+        → atoms_of (map (λ l. l.query) (option_to_list o ++ queries_at gs (take n ks))) ≤ atoms_of
+        (map (λ l. l.query) (option_to_list o ++ queries_at gs ks))
     by_place None more = more
     by_place (Some l) more = omega (arith, more)
 
-pub atoms_more : (gs : List (Option Live)) (ks : List ℕ) (n : ℕ) (l : Live) → n < length ks → query_at gs (get_or ks n 0) ≡ Some l
+pub atoms_more : (gs : List (Option Live)) (ks : List ℕ) (n : ℕ) (l : Live) → n < length ks
+    → query_at gs (get_or ks n 0) ≡ Some l
     → atoms_of (asked_in gs (take (suc n) ks)) ≡ atoms_of (asked_in gs (take n ks)) + length l.query.atoms
 atoms_more gs [] n l low there = absurd (omega (arith, low))
 atoms_more gs (k ∷ ks) zero l low there =
@@ -128,7 +141,8 @@ atoms_more gs (k ∷ ks) zero l low there =
     ap (λ (o : Option Live). atoms_of (map (λ l. l.query) (option_to_list o ++ []))) there ∙ one
 atoms_more gs (k ∷ ks) (suc n) l low there = by_place (query_at gs k) (atoms_more gs ks n l (omega (arith, low)) there)
   where
-    by_place : (o : Option Live) → atoms_of (asked_in gs (take (suc n) ks)) ≡ atoms_of (asked_in gs (take n ks)) + length l.query.atoms
+    by_place : (o : Option Live) → atoms_of (asked_in gs (take (suc n) ks))
+        ≡ atoms_of (asked_in gs (take n ks)) + length l.query.atoms
         → atoms_of (map (λ l. l.query) (option_to_list o ++ queries_at gs (take (suc n) ks)))
         ≡ atoms_of (map (λ l. l.query) (option_to_list o ++ queries_at gs (take n ks))) + length l.query.atoms
     by_place None more = more
@@ -159,9 +173,11 @@ none_has : (gs : List (Option Live)) (A : Query → Type 0) (ks : List ℕ)
     → ((i : ℕ) → i < length ks → IsSomeAnd (query_at gs (get_or ks i 0)) (λ l. A l.query → ⊥))
     → (q : Query) → Contains (asked_in gs ks) q → A q → ⊥
 none_has gs A [] h q c a = nothing_there q c
-none_has gs A (k ∷ ks) h q c a = by_place (query_at gs k) (h 0 (omega arith)) c (none_has gs A ks (λ i low. h (suc i) (omega (arith, low))) q)
+none_has gs A (k ∷ ks) h q c a = by_place (query_at gs k) (h 0 (omega arith)) c
+    (none_has gs A ks (λ i low. h (suc i) (omega (arith, low))) q)
   where
-    by_place : (o : Option Live) → IsSomeAnd o (λ l. A l.query → ⊥) → Contains (map (λ l. l.query) (option_to_list o ++ queries_at gs ks)) q
+    by_place : (o : Option Live) → IsSomeAnd o (λ l. A l.query → ⊥)
+        → Contains (map (λ l. l.query) (option_to_list o ++ queries_at gs ks)) q
         → (Contains (asked_in gs ks) q → A q → ⊥) → ⊥
     by_place None x c more = absurd x
     by_place (Some l) x c more = by (first_or_later l.query (asked_in gs ks) q c)
@@ -185,7 +201,8 @@ refused_as o o' r D D' L e h = subst (λ (p : Option Refusal). Answers p (Err r)
     by None h = h
     by (Some s) h = h
 
-module _ (e : Kept) (over : IsOver e) (law : HeadTypesAre) (ks : List ℕ) (m : AreMembers e.places ks) (name : Bytes) (t : Tuple) where
+module _ (e : Kept) (over : IsOver e) (law : HeadTypesAre) (ks : List ℕ) (m : AreMembers e.places ks) (name : Bytes)
+    (t : Tuple) where
   abbrev relations : List Relation
   relations = (e.store).relations
 
@@ -197,7 +214,8 @@ module _ (e : Kept) (over : IsOver e) (law : HeadTypesAre) (ks : List ℕ) (m : 
     among = got (queries_at e.places ks) n l (nth_is e.places ks n m.have.each low ∙ there)
 
     types_of : (i : ℕ) (x : Live) → query_at e.places i ≡ Some x → head_types x ≡ answer_types relations x.query
-    types_of i x at = law over.catalog x (over.live i x at).kept ∙ ap (λ (rs : List Relation). answer_types rs x.query) over.relations
+    types_of i x at = law over.catalog x (over.live i x at).kept
+        ∙ ap (λ (rs : List Relation). answer_types rs x.query) over.relations
 
     same_types : listed_types relations (Some union) ≡ answer_types relations l.query
     same_types =
@@ -209,48 +227,61 @@ module _ (e : Kept) (over : IsOver e) (law : HeadTypesAre) (ks : List ℕ) (m : 
 
     pub one_has : TellsOf relations (a_query l.query) t (Ok true) → TellsOf relations union t (Ok true)
     one_has h =
-        let d = done_of (misfit (answer_types relations l.query) t) true (λ yes. Tells (IsAnswer relations l.query t) yes) (OutOfMemoryWhere ⊥) h in
-        answers_done (misfit (listed_types relations (Some union)) t) true (λ yes. Tells (AnswersOf relations union t) yes) (OutOfMemoryWhere ⊥)
+        let d = done_of (misfit (answer_types relations l.query) t) true
+        (λ yes. Tells (IsAnswer relations l.query t) yes) (OutOfMemoryWhere ⊥) h in
+        answers_done (misfit (listed_types relations (Some union)) t) true
+        (λ yes. Tells (AnswersOf relations union t) yes) (OutOfMemoryWhere ⊥)
         (ap (λ ts. misfit ts t) same_types ∙ d.0)
-        (one_there (λ q. IsAnswer relations q t) (asked_in e.places ks) l.query (mapped_there (λ (x : Live). x.query) (queries_at e.places ks) l among) d.1)
+        (one_there (λ q. IsAnswer relations q t) (asked_in e.places ks) l.query
+        (mapped_there (λ (x : Live). x.query) (queries_at e.places ks) l among) d.1)
 
     pub one_refuses : (r : Refusal) → TellsOf relations (a_query l.query) t (Err r) → TellsOf relations union t (Err r)
     one_refuses r h =
         refused_as (misfit (answer_types relations l.query) t) (misfit (listed_types relations (Some union)) t) r
-        (λ yes. Tells (IsAnswer relations l.query t) yes) (λ yes. Tells (AnswersOf relations union t) yes) (OutOfMemoryWhere ⊥)
+        (λ yes. Tells (IsAnswer relations l.query t) yes) (λ yes. Tells (AnswersOf relations union t) yes)
+        (OutOfMemoryWhere ⊥)
         (sym (ap (λ ts. misfit ts t) same_types)) h
 
-  pub all_lack : ((i : ℕ) → i < length ks → IsSomeAnd (query_at e.places (get_or ks i 0)) (λ l. TellsOf relations (a_query l.query) t (Ok false)))
+  pub all_lack : ((i : ℕ) → i < length ks
+      → IsSomeAnd (query_at e.places (get_or ks i 0)) (λ l. TellsOf relations (a_query l.query) t (Ok false)))
       → TellsOf relations union t (Ok false)
   all_lack each =
       let low : 0 < length ks = omega (arith, m.several) in
-      let first = some_there (query_at e.places (get_or ks 0 0)) (λ l. TellsOf relations (a_query l.query) t (Ok false)) (each 0 low) in
-      answers_done (misfit (listed_types relations (Some union)) t) false (λ yes. Tells (AnswersOf relations union t) yes) (OutOfMemoryWhere ⊥)
+      let first = some_there (query_at e.places (get_or ks 0 0)) (λ l. TellsOf relations (a_query l.query) t (Ok false))
+      (each 0 low) in
+      answers_done (misfit (listed_types relations (Some union)) t) false
+      (λ yes. Tells (AnswersOf relations union t) yes) (OutOfMemoryWhere ⊥)
       (ap (λ ts. misfit ts t) (same_types 0 low first.0 first.1) ∙ (lacks first.0 first.2).0)
       (λ any. let one = some_one (λ q. IsAnswer relations q t) (asked_in e.places ks) any in
       none_has e.places (λ q. IsAnswer relations q t) ks
-      (λ i below. some_as (query_at e.places (get_or ks i 0)) (λ l. TellsOf relations (a_query l.query) t (Ok false)) (λ l. IsAnswer relations l.query t → ⊥)
+      (λ i below. some_as (query_at e.places (get_or ks i 0)) (λ l. TellsOf relations (a_query l.query) t (Ok false))
+      (λ l. IsAnswer relations l.query t → ⊥)
       (λ l h. (lacks l h).1) (each i below))
       one.0 one.1 one.2)
     where
       lacks : (l : Live) → TellsOf relations (a_query l.query) t (Ok false)
           → (misfit (answer_types relations l.query) t ≡ None) × (IsAnswer relations l.query t → ⊥)
-      lacks l h = done_of (misfit (answer_types relations l.query) t) false (λ yes. Tells (IsAnswer relations l.query t) yes) (OutOfMemoryWhere ⊥) h
+      lacks l h = done_of (misfit (answer_types relations l.query) t) false
+          (λ yes. Tells (IsAnswer relations l.query t) yes) (OutOfMemoryWhere ⊥) h
 
 -- ---- by name
 
-module _ (e : Kept) (b : IsEngine e) (us : List (Option Joined)) (order sessions affected : List ℕ) (w : IsListed e us order)
+module _ (e : Kept) (b : IsEngine e) (us : List (Option Joined)) (order sessions affected : List ℕ)
+    (w : IsListed e us order)
     (name : Bytes) (t : Tuple) (result : Result Bool Refusal) where
   abbrev old : Kept
   old = seen e us order sessions affected
 
-  pub union_tells : (k : ℕ) (f : Called us name k) → TellsOf (e.store).relations (union_of e.places f.union.union) t result
+  pub union_tells : (k : ℕ) (f : Called us name k)
+      → TellsOf (e.store).relations (union_of e.places f.union.union) t result
       → TellsWhether old.store name t result
   union_tells k f h = record {
-    answer = subst (Told (e.store).relations t result) (sym (called_listed e b us order sessions affected w name k f)) h;
+    answer = subst (Told (e.store).relations t result) (sym (called_listed e b us order sessions affected w name k f))
+        h;
   }
 
-  pub union_steps : (k : ℕ) (f : Called us name k) → has_steps (listed_of old.store.queries name) ≡ atoms_of (asked_in e.places f.union.union.members)
+  pub union_steps : (k : ℕ) (f : Called us name k) → has_steps (listed_of old.store.queries name)
+      ≡ atoms_of (asked_in e.places f.union.union.members)
   union_steps k f = ap has_steps (called_listed e b us order sessions affected w name k f)
 
   pub query_tells : NoUnion us name → TellsWhether e.store name t result → TellsWhether old.store name t result
@@ -258,5 +289,6 @@ module _ (e : Kept) (b : IsEngine e) (us : List (Option Joined)) (order sessions
     answer = subst (Told (e.store).relations t result) (sym (engine_listed e b us order w name none)) told.answer;
   }
 
-  pub query_steps : NoUnion us name → has_steps (listed_of old.store.queries name) ≡ has_steps (listed_of (e.store).queries name)
+  pub query_steps : NoUnion us name → has_steps (listed_of old.store.queries name)
+      ≡ has_steps (listed_of (e.store).queries name)
   query_steps none = ap has_steps (engine_listed e b us order w name none)

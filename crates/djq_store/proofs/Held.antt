@@ -1,5 +1,6 @@
 -- A cursor is found among all by the place of its query or union, and its slot.
-use Rattle.std.proofs.Common.{ℕ, zero, suc, List, [], ◌∷◌, ◌+◌, ◌≡◌, ◌<◌, ◌⊎◌, inl, inr, Bool, true, false, refl, sym, ap, ap₂, ◌∙◌, subst, arith}
+use Rattle.std.proofs.Common.{ℕ, zero, suc, List, [], ◌∷◌, ◌+◌, ◌≡◌, ◌<◌, ◌⊎◌, inl, inr, Bool, true}
+use Rattle.std.proofs.Common.{false, refl, sym, ap, ap₂, ◌∙◌, subst, arith}
 use Rattle.std.specs.Prelude.{◌==◌, ◌&&◌, Option, None, Some, IsSomeAnd, is_some, option_map, cond}
 use Rattle.std.specs.Option.{option_or}
 use Rattle.std.proofs.lemmas.Bool.{eq-eqb}
@@ -51,10 +52,12 @@ module _ (texts : List Bytes) (gs : List (Option Live)) where
   slots_passed u at k (None ∷ slots) id low = slots_passed u at (suc k) slots id (omega arith)
   slots_passed u at k (Some c ∷ slots) id low =
       ap (λ b. cond b (Some (held_as texts gs u (record { query = id_at at; cursor = k }) c))
-      (held_at (held_in texts gs u at (suc k) slots) id)) (and_false (at == id.query.at) (k == id.cursor) (apart k id.cursor (λ e. omega arith)))
+      (held_at (held_in texts gs u at (suc k) slots) id))
+      (and_false (at == id.query.at) (k == id.cursor) (apart k id.cursor (λ e. omega arith)))
       ∙ slots_passed u at (suc k) slots id (omega arith)
 
-  slots_here : (u : United) (at k j : ℕ) (slots : List (Option Progress)) (id : CursorId) → at ≡ id.query.at → k + j ≡ id.cursor
+  slots_here : (u : United) (at k j : ℕ) (slots : List (Option Progress)) (id : CursorId) → at ≡ id.query.at → k + j
+      ≡ id.cursor
       → held_at (held_in texts gs u at k slots) id ≡ option_map (held_as texts gs u id) (slot_at slots j)
   slots_here u at k zero [] id e f = refl
   slots_here u at k (suc j) [] id e f = refl
@@ -63,34 +66,44 @@ module _ (texts : List Bytes) (gs : List (Option Live)) where
   slots_here u at k zero (Some c ∷ slots) id e f =
       let k_is : k ≡ id.cursor = omega arith in
       ap (λ b. cond b (Some (held_as texts gs u (record { query = id_at at; cursor = k }) c))
-      (held_at (held_in texts gs u at (suc k) slots) id)) (both (at == id.query.at) (k == id.cursor) (eq-eqb at id.query.at e) (eq-eqb k id.cursor k_is))
+      (held_at (held_in texts gs u at (suc k) slots) id))
+      (both (at == id.query.at) (k == id.cursor) (eq-eqb at id.query.at e) (eq-eqb k id.cursor k_is))
       ∙ ap₂ (λ (a : ℕ) (s : ℕ). Some (held_as texts gs u (record { query = id_at a; cursor = s }) c)) e k_is
   slots_here u at k (suc j) (Some c ∷ slots) id e f =
       ap (λ b. cond b (Some (held_as texts gs u (record { query = id_at at; cursor = k }) c))
-      (held_at (held_in texts gs u at (suc k) slots) id)) (and_false (at == id.query.at) (k == id.cursor) (apart k id.cursor (λ s. omega arith)))
+      (held_at (held_in texts gs u at (suc k) slots) id))
+      (and_false (at == id.query.at) (k == id.cursor) (apart k id.cursor (λ s. omega arith)))
       ∙ slots_here u at (suc k) j slots id e (omega arith)
 
   -- all unions
 
-  unions_passed : (at : ℕ) (us : List (Option Joined)) (id : CursorId) → id.query.at < at → held_at (held_from texts gs at us) id ≡ None
+  unions_passed : (at : ℕ) (us : List (Option Joined)) (id : CursorId) → id.query.at < at
+      → held_at (held_from texts gs at us) id ≡ None
   unions_passed at [] id low = refl
   unions_passed at (None ∷ us) id low = unions_passed (suc at) us id (omega arith)
   unions_passed at (Some j ∷ us) id low =
-      find-append (λ h. same_id h.id id) (held_in texts gs j.union at zero j.union.cursors) (held_from texts gs (suc at) us)
-      ∙ ap₂ option_or (slots_other j.union at zero j.union.cursors id (λ e. omega arith)) (unions_passed (suc at) us id (omega arith))
+      find-append (λ h. same_id h.id id) (held_in texts gs j.union at zero j.union.cursors)
+      (held_from texts gs (suc at) us)
+      ∙ ap₂ option_or (slots_other j.union at zero j.union.cursors id (λ e. omega arith))
+      (unions_passed (suc at) us id (omega arith))
 
-  unions_here : (at i : ℕ) (us : List (Option Joined)) (id : CursorId) → at + i ≡ id.query.at → held_at (held_from texts gs at us) id ≡ held_of texts gs id (joined_at us i)
+  unions_here : (at i : ℕ) (us : List (Option Joined)) (id : CursorId) → at + i ≡ id.query.at
+      → held_at (held_from texts gs at us) id ≡ held_of texts gs id (joined_at us i)
   unions_here at zero [] id e = refl
   unions_here at (suc i) [] id e = refl
   unions_here at zero (None ∷ us) id e = unions_passed (suc at) us id (omega arith)
   unions_here at zero (Some j ∷ us) id e =
-      find-append (λ h. same_id h.id id) (held_in texts gs j.union at zero j.union.cursors) (held_from texts gs (suc at) us)
-      ∙ ap₂ option_or (slots_here j.union at zero id.cursor j.union.cursors id (omega arith) (omega arith)) (unions_passed (suc at) us id (omega arith))
+      find-append (λ h. same_id h.id id) (held_in texts gs j.union at zero j.union.cursors)
+      (held_from texts gs (suc at) us)
+      ∙ ap₂ option_or (slots_here j.union at zero id.cursor j.union.cursors id (omega arith) (omega arith))
+      (unions_passed (suc at) us id (omega arith))
       ∙ or_none (option_map (held_as texts gs j.union id) (slot_at j.union.cursors id.cursor))
   unions_here at (suc i) (None ∷ us) id e = unions_here (suc at) i us id (omega arith)
   unions_here at (suc i) (Some j ∷ us) id e =
-      find-append (λ h. same_id h.id id) (held_in texts gs j.union at zero j.union.cursors) (held_from texts gs (suc at) us)
-      ∙ ap₂ option_or (slots_other j.union at zero j.union.cursors id (λ s. omega arith)) (unions_here (suc at) i us id (omega arith))
+      find-append (λ h. same_id h.id id) (held_in texts gs j.union at zero j.union.cursors)
+      (held_from texts gs (suc at) us)
+      ∙ ap₂ option_or (slots_other j.union at zero j.union.cursors id (λ s. omega arith))
+      (unions_here (suc at) i us id (omega arith))
 
 module _ (e : Kept) (us : List (Option Joined)) (id : CursorId) where
   -- a cursor of a query is the engine's
@@ -114,4 +127,6 @@ module _ (e : Kept) (us : List (Option Joined)) (id : CursorId) where
       none : (o : Option Held) → held_at e.cursors id ≡ o → held_at e.cursors id ≡ None
       none None f = f
       none (Some h) f =
-          let low = (seat e b id.query.at (registered (λ r. h.query ≡ listed_name r.query) (registered_at e.registered id.query) (b.held id h f).1)).low in absurd (omega arith)
+          let low = (seat e b id.query.at
+          (registered (λ r. h.query ≡ listed_name r.query) (registered_at e.registered id.query)
+          (b.held id h f).1)).low in absurd (omega arith)

@@ -1,5 +1,6 @@
 -- A union of registered queries is registered: what it does to a store.
-use Rattle.std.proofs.Common.{ℕ, List, [], ◌∷◌, ◌++◌, ◌+◌, ◌≡◌, ◌<◌, ◌≤◌, sym, ap, subst, refl, false, ◌∙◌, length, arith}
+use Rattle.std.proofs.Common.{ℕ, List, [], ◌∷◌, ◌++◌, ◌+◌, ◌≡◌, ◌<◌, ◌≤◌, sym, ap, subst, refl}
+use Rattle.std.proofs.Common.{false, ◌∙◌, length, arith}
 use Rattle.std.proofs.lemmas.List.{length-map}
 use Rattle.std.specs.Prelude.{Option, None, Some, IsSomeAnd, Ok, map, ⊤}
 use Rattle.djq_model.specs.declared.query.Query.{Query}
@@ -23,10 +24,14 @@ use Rattle.djq_store.specs.Places.{seen, listed_at}
 use Rattle.djq_store.specs.Registering.{EnrolsUnion, EnrolsUnionTelling}
 use Rattle.djq_store.specs.Whole.{IsListed, IsCounted}
 use Rattle.djq_store.proofs.Chosen.{Fit, are_fit, are_chosen, are_members, are_under}
-use Rattle.djq_store.proofs.Unioned.{unioned_store, unioned_registered, unioned_fresh, unioned_counted, unioned_cursors, unioned_listed, unioned_tells}
+use Rattle.djq_store.proofs.Unioned.{unioned_store, unioned_registered, unioned_fresh}
+use Rattle.djq_store.proofs.Unioned.{unioned_counted, unioned_cursors, unioned_listed}
+use Rattle.djq_store.proofs.Unioned.{unioned_tells}
 
-module _ (e : Kept) (b : IsEngine e) (law : HeadTypesAre) (us : List (Option Joined)) (order sessions affected : List ℕ) (w : IsListed e us order)
-    (name : Bytes) (names : List Bytes) (two : 2 ≤ length names) (free : union_refusal (seen e us order sessions affected).store name names ≡ None) where
+module _ (e : Kept) (b : IsEngine e) (law : HeadTypesAre) (us : List (Option Joined)) (order sessions affected : List ℕ)
+    (w : IsListed e us order)
+    (name : Bytes) (names : List Bytes) (two : 2 ≤ length names)
+    (free : union_refusal (seen e us order sessions affected).store name names ≡ None) where
   abbrev old : Kept
   old = seen e us order sessions affected
 
@@ -38,15 +43,18 @@ module _ (e : Kept) (b : IsEngine e) (law : HeadTypesAre) (us : List (Option Joi
 
   module _ (ps : List ℕ) (at : ArePlacesOf e names ps) where
     pub joining_members : AreMembers e.places ps
-    joining_members = are_members e b law us order sessions affected w name names ps fit two (are_chosen e b law us order sessions affected w names ps fit.known fit.queries at)
+    joining_members = are_members e b law us order sessions affected w name names ps fit two
+        (are_chosen e b law us order sessions affected w names ps fit.known fit.queries at)
 
     abbrev qs : List Query
     qs = map (λ l. l.query) (queries_at e.places ps)
 
     under : AreUnder old.store.queries names qs
-    under = are_under e b law us order sessions affected w names ps (are_chosen e b law us order sessions affected w names ps fit.known fit.queries at)
+    under = are_under e b law us order sessions affected w names ps
+        (are_chosen e b law us order sessions affected w names ps fit.known fit.queries at)
 
-    module _ (us' : List (Option Joined)) (k : ℕ) (j : Joined) (f : Fills us us' k j) (is : j.union ≡ record { name = name; members = ps; cursors = [] }) (unwatched : j.watchers ≡ 0) where
+    module _ (us' : List (Option Joined)) (k : ℕ) (j : Joined) (f : Fills us us' k j)
+        (is : j.union ≡ record { name = name; members = ps; cursors = [] }) (unwatched : j.watchers ≡ 0) where
       abbrev order' : List ℕ
       order' = order ++ (QUERIES + k) ∷ []
 
@@ -56,11 +64,22 @@ module _ (e : Kept) (b : IsEngine e) (law : HeadTypesAre) (us : List (Option Joi
       union_is : union_of e.places j.union ≡ a_union name qs
       union_is = ap (union_of e.places) is
 
-      pub joining_registers : (most : ℕ) → most ≡ answer_steps (a_union name qs) → RegistersUnion old.store name names (Ok most) new.store
+      pub joining_registers : (most : ℕ) → most ≡ answer_steps (a_union name qs)
+          → RegistersUnion old.store name names (Ok most) new.store
       joining_registers most steps = record {
-        answer = subst (λ (o : Option Refusal). Answers o (Ok most) (λ most. (qs : List Query) × AreUnder old.store.queries names qs
-            × (most ≡ answer_steps (a_union name qs)) × (new.store ≡ record old.store { queries = old.store.queries ++ a_union name qs ∷ [] })) (OutOfMemoryWhere ⊤)) (sym free)
-            (qs, under, steps, unioned_store e b us us' order sessions affected w k j f ∙ ap (λ (q : Listed). (let s : Store = record old.store { queries = old.store.queries ++ q ∷ [] } in s)) union_is);
+        answer = subst (λ (o : Option Refusal). Answers o (Ok most)
+            (λ most. (qs : List Query) × AreUnder old.store.queries names qs
+            × (most ≡ answer_steps (a_union name qs))
+            × (new.store ≡ record old.store { queries = old.store.queries ++ a_union name qs ∷ [] }))
+            (OutOfMemoryWhere ⊤)) (sym free) (
+              qs,
+              under,
+              steps,
+              unioned_store e b us us' order sessions affected w k j f
+                  ∙ ap (λ (q : Listed).
+                  (let s : Store = record old.store { queries = old.store.queries ++ q ∷ [] } in s))
+                  union_is,
+            );
         stays = tt;
       }
 
@@ -71,7 +90,8 @@ module _ (e : Kept) (b : IsEngine e) (law : HeadTypesAre) (us : List (Option Joi
         under,
         unioned_fresh e b us us' order sessions affected w k j f unwatched,
         unioned_registered e b us us' order sessions affected w k j f unwatched
-            ∙ ap (λ (q : Listed). old.registered ++ (let s : Registered = record { id = id_at (QUERIES + k); query = q; watchers = 0 } in s) ∷ []) union_is,
+            ∙ ap (λ (q : Listed). old.registered ++
+            (let s : Registered = record { id = id_at (QUERIES + k); query = q; watchers = 0 } in s) ∷ []) union_is,
       )
 
       pub joining_cursors : SameCursors old.cursors new.cursors
@@ -90,6 +110,7 @@ module _ (e : Kept) (b : IsEngine e) (law : HeadTypesAre) (us : List (Option Joi
         pub joining_tells : (most : ℕ) → EnrolsUnionTelling old name (Ok most) new
         joining_tells most = (
           refl,
-          subst (λ (u : United). IsSomeAnd (registered_of new.registered u.name) (λ (r : Registered). TellsOf old r.id (Some []) new)) is
+          subst (λ (u : United). IsSomeAnd (registered_of new.registered u.name)
+              (λ (r : Registered). TellsOf old r.id (Some []) new)) is
               (unioned_tells e b us us' order sessions affected w k j f fits kept empty unknown joining_less),
         )

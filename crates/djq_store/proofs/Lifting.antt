@@ -1,5 +1,7 @@
 -- What commands of rows do to a store says nothing of the queries: it holds whatever is registered.
-use Rattle.std.specs.Prelude.{ℕ, zero, suc, List, [], ◌∷◌, ◌≡◌, ◌+◌, ◌++◌, ◌≤◌, ◌&&◌, ◌||◌, Bool, true, false, not, cond, Option, None, Some, length, Result, Ok, Err, OnErr, ⊤}
+use Rattle.std.specs.Prelude.{ℕ, zero, suc, List, [], ◌∷◌, ◌≡◌, ◌+◌, ◌++◌, ◌≤◌, ◌&&◌, ◌||◌, Bool}
+use Rattle.std.specs.Prelude.{true, false, not, cond, Option, None, Some, length, Result, Ok, Err}
+use Rattle.std.specs.Prelude.{OnErr, ⊤}
 use Rattle.std.proofs.Common.{refl, sym, ap, ap₂, ◌∙◌, subst}
 use Rattle.djq_model.specs.declared.relation.ColumnType.{ColumnType}
 use Rattle.djq_model.specs.Data.{Bytes, Tuple, bytes_eq, counted_of, rows_of, has_row, with_row}
@@ -15,9 +17,13 @@ use Rattle.djq_lines.specs.declared.answer.DeleteOutcome.TheVariants.{Last, Left
 use Rattle.djq_lines.specs.declared.held.HeldRow.{HeldRow}
 use Rattle.djq_machine.specs.State.{Store}
 use Rattle.djq_machine.specs.Conditions.{Answers, OutOfMemoryWhere}
-use Rattle.djq_machine.specs.Store.{with_rows, copies_of, with_copies_of, RefusedByTexts, MakesRelation, rel_refusal, AddsAs, AddsRow, add_refusal, DeletesAs, DeletesRow, delete_refusal}
+use Rattle.djq_machine.specs.Store.{with_rows, copies_of, with_copies_of, RefusedByTexts}
+use Rattle.djq_machine.specs.Store.{MakesRelation, rel_refusal, AddsAs, AddsRow, add_refusal}
+use Rattle.djq_machine.specs.Store.{DeletesAs, DeletesRow, delete_refusal}
 use Rattle.djq_machine.specs.Changes.{RowsChange, RowsOutcome, accepted, out_of_memory}
-use Rattle.djq_machine.specs.Batch.{SuitAll, is_there, with_held, with_all, count_came, has_come, store_behind, place_refusal, HavePlaces, StopsAt, RefusesBatch, AddsBatch, first_read, rows_in, rows_tried, batch_outcome}
+use Rattle.djq_machine.specs.Batch.{SuitAll, is_there, with_held, with_all, count_came, has_come}
+use Rattle.djq_machine.specs.Batch.{store_behind, place_refusal, HavePlaces, StopsAt, RefusesBatch}
+use Rattle.djq_machine.specs.Batch.{AddsBatch, first_read, rows_in, rows_tried, batch_outcome}
 
 -- a store with other queries registered
 abbrev pub with_queries : List Listed → Store → Store

@@ -1,5 +1,7 @@
 -- How a store tells what its logs tell.
-use Rattle.std.specs.Prelude.{ℕ, zero, suc, List, [], ◌∷◌, ◌≡◌, ◌+◌, ◌-◌, ◌<◌, ◌≤◌, Bool, true, false, cond, Option, None, Some, IsSomeAnd, option_map, length, map, slice_get, slice_index_or, All}
+use Rattle.std.specs.Prelude.{ℕ, zero, suc, List, [], ◌∷◌, ◌≡◌, ◌+◌, ◌-◌, ◌<◌, ◌≤◌, Bool, true}
+use Rattle.std.specs.Prelude.{false, cond, Option, None, Some, IsSomeAnd, option_map, length, map}
+use Rattle.std.specs.Prelude.{slice_get, slice_index_or, All}
 use Rattle.std.proofs.Common.{refl, sym, ap, ◌∙◌, subst, arith, get_or}
 use Rattle.std.proofs.lemmas.List.{length-map}
 use Rattle.std.proofs.lemmas.List.Elements.{All-head, All-tail}
@@ -23,7 +25,8 @@ use Rattle.djq_store.specs.Whole.{IsListed}
 use Rattle.djq_store.proofs.Commanded.{told_low, told_high}
 use Rattle.djq_store.proofs.Members.{First, first_there}
 
-module _ (e : Kept) (b : IsEngine e) (us : List (Option Joined)) (order sessions affected : List ℕ) (w : IsListed e us order)
+module _ (e : Kept) (b : IsEngine e) (us : List (Option Joined)) (order sessions affected : List ℕ)
+    (w : IsListed e us order)
     (id : QueryId) where
   abbrev now : Kept
   now = seen e us order sessions affected
@@ -33,7 +36,8 @@ module _ (e : Kept) (b : IsEngine e) (us : List (Option Joined)) (order sessions
 
   module _ (high : QUERIES ≤ id.at) (j : Joined) (found : joined_at us (id.at - QUERIES) ≡ Some j) where
     first : First e.places j.union.members
-    first = let u = w.united (id.at - QUERIES) j found in first_there e.places j.union.members u.members.have u.members.several
+    first = let u = w.united (id.at - QUERIES) j found in first_there e.places j.union.members u.members.have
+        u.members.several
 
     lent : first_member e.places j.union ≡ Some first.query
     lent = first.first
@@ -63,7 +67,8 @@ module _ (e : Kept) (b : IsEngine e) (us : List (Option Joined)) (order sessions
       kept_log false h = refl
 
       pub is_kept : j.log.lost ≡ false
-      is_kept = kept_log j.log.lost (subst (λ (o : Option (List Change)). IsSomeAnd o (λ cs. nth < length cs)) told_union within)
+      is_kept = kept_log j.log.lost
+          (subst (λ (o : Option (List Change)). IsSomeAnd o (λ cs. nth < length cs)) told_union within)
 
       told_all : told_at now id ≡ Some changes
       told_all = told_union ∙ ap (λ (lost : Bool). cond lost None (Some changes)) is_kept
@@ -100,14 +105,17 @@ module _ (e : Kept) (b : IsEngine e) (us : List (Option Joined)) (order sessions
         pub line_shown : AtPlace e (id_at (get_or j.union.members 0 0)) (λ l. IsShowable (e.store).texts l line.answer)
         line_shown =
             at_first (λ l. IsShowable (e.store).texts l line.answer)
-            (shows j.log.lines nth (subst (λ (o : Option Live). IsSomeAnd o (λ l. All (λ (n : Line). IsShowable (e.store).texts l n.answer) j.log.lines))
+            (shows j.log.lines nth
+            (subst (λ (o : Option Live). IsSomeAnd o
+            (λ l. All (λ (n : Line). IsShowable (e.store).texts l n.answer) j.log.lines))
             lent (w.shown (id.at - QUERIES) j found is_kept)) taken)
 
         pub line_told : (sign : Sign) (t : Tuple) → sign ≡ sign_of line.came
             → AtPlace e (id_at (get_or j.union.members 0 0)) (λ l. t ≡ values_of (e.store).texts l line.answer)
             → IsSomeAnd (told_at now id) (λ cs. IsSomeAnd (slice_get cs nth) (λ c. (sign ≡ c.sign) × (t ≡ c.answer)))
         line_told sign t is h =
-            subst (λ (o : Option (List Change)). IsSomeAnd o (λ cs. IsSomeAnd (slice_get cs nth) (λ c. (sign ≡ c.sign) × (t ≡ c.answer)))) (sym told_all)
+            subst (λ (o : Option (List Change)). IsSomeAnd o
+            (λ cs. IsSomeAnd (slice_get cs nth) (λ c. (sign ≡ c.sign) × (t ≡ c.answer)))) (sym told_all)
             (subst (λ (o : Option Change). IsSomeAnd o (λ c. (sign ≡ c.sign) × (t ≡ c.answer)))
             (sym (slice_get-map (change_of (e.store).texts first.query) j.log.lines nth
             ∙ ap (option_map (change_of (e.store).texts first.query)) taken))

@@ -1,5 +1,6 @@
 -- The members of a union, as the engine below changes: the first of them, and what they are together.
-use Rattle.std.proofs.Common.{ℕ, suc, List, [], ◌∷◌, ◌++◌, ◌≡◌, ◌≤◌, Bool, true, false, refl, sym, ap, ◌∙◌, subst, length, get_or, arith}
+use Rattle.std.proofs.Common.{ℕ, suc, List, [], ◌∷◌, ◌++◌, ◌≡◌, ◌≤◌, Bool, true, false, refl, sym}
+use Rattle.std.proofs.Common.{ap, ◌∙◌, subst, length, get_or, arith}
 use Rattle.std.specs.Prelude.{Option, None, Some, IsSomeAnd, cond, map, All, Contains, option_to_list, ⊤}
 use Rattle.std.specs.List.{AllByRecursion}
 use Rattle.std.proofs.lemmas.List.Elements.{All-head, All-tail}
@@ -31,13 +32,16 @@ some_there : {A : Type 0} (o : Option A) (P : A → Type 0) → IsSomeAnd o P �
 some_there None P h = absurd h
 some_there (Some x) P h = (x, refl, h)
 
-pub kept_shapes : (reached : _) (e e' : Kept) → KeepsPlaces reached e e' → (i : ℕ) (l : Live) → query_at e.places i ≡ Some l → IsSomeAnd (query_at e'.places i) (SameShape l)
-kept_shapes reached e e' k i l there = some_as (query_at e'.places i) (KeepsQuery reached l) (SameShape l) (λ m h. h.shape) (k i l there)
+pub kept_shapes : (reached : _) (e e' : Kept) → KeepsPlaces reached e e' → (i : ℕ) (l : Live) → query_at e.places i
+    ≡ Some l → IsSomeAnd (query_at e'.places i) (SameShape l)
+kept_shapes reached e e' k i l there = some_as (query_at e'.places i) (KeepsQuery reached l) (SameShape l)
+    (λ m h. h.shape) (k i l there)
 
 pub kept_members : (e e' : Kept) → KeepsTables e e' → (ks : List ℕ) → KeepMembers HasSameTables e.places e'.places ks
 kept_members e e' k ks = record {
   each = λ i l among there. some_as (query_at e'.places i) (KeepsQuery (λ q. false) l) (HasSameTables l)
-      (λ m h. let t = h.tables refl in record { query = t.query; numbered = t.numbered; reducts = t.reducts }) (k i l there);
+      (λ m h. let t = h.tables refl in record { query = t.query; numbered = t.numbered; reducts = t.reducts })
+      (k i l there);
 }
 
 -- the first member, in its place
@@ -106,25 +110,32 @@ module _ (e e' : Kept) (g : Grows e e') where
 
 module _ (showable : ShowableStays) (texts more : List Bytes) (l m : Live) (s : SameShape l m) where
   -- lines that can be shown can be shown on, and tell the same
-  pub line_stays : (u : List ℕ) → IsShowable texts l u → IsShowable (texts ++ more) m u × (values_of (texts ++ more) m u ≡ values_of texts l u)
+  pub line_stays : (u : List ℕ) → IsShowable texts l u → IsShowable (texts ++ more) m u
+      × (values_of (texts ++ more) m u ≡ values_of texts l u)
   line_stays u h = showable texts more l m u s.numbered s.tree h
 
-  pub lines_stay : (lines : List Line) → All (λ n. IsShowable texts l n.answer) lines → All (λ n. IsShowable (texts ++ more) m n.answer) lines
+  pub lines_stay : (lines : List Line) → All (λ n. IsShowable texts l n.answer) lines
+      → All (λ n. IsShowable (texts ++ more) m n.answer) lines
   lines_stay lines h k d low = (line_stays (get_or lines k d).answer (h k d low)).0
 
-  pub lines_tell : (lines : List Line) → All (λ n. IsShowable texts l n.answer) lines → map (change_of (texts ++ more) m) lines ≡ map (change_of texts l) lines
+  pub lines_tell : (lines : List Line) → All (λ n. IsShowable texts l n.answer) lines
+      → map (change_of (texts ++ more) m) lines ≡ map (change_of texts l) lines
   lines_tell [] h = refl
   lines_tell (n ∷ ns) h =
-      ap (λ t. record (change_of texts l n) { answer = t } ∷ map (change_of (texts ++ more) m) ns) ((line_stays n.answer (All-head (λ n. IsShowable texts l n.answer) n ns h)).1)
+      ap (λ t. record (change_of texts l n) { answer = t } ∷ map (change_of (texts ++ more) m) ns)
+      ((line_stays n.answer (All-head (λ n. IsShowable texts l n.answer) n ns h)).1)
       ∙ ap (λ cs. change_of texts l n ∷ cs) (lines_tell ns (All-tail (λ n. IsShowable texts l n.answer) n ns h))
 
-module _ (e e' : Kept) (g : Grows e e') (law : MembersStay) (showable : ShowableStays) (j : Joined) (w : IsUnited e.places j.union) (s : IsShownByFirst e j) where
+module _ (e e' : Kept) (g : Grows e e') (law : MembersStay) (showable : ShowableStays) (j : Joined)
+    (w : IsUnited e.places j.union) (s : IsShownByFirst e j) where
   -- what the log of a union tells is the same
   pub log_stays : IsShownByFirst e' j
   log_stays kept =
       let f = same_first e e' g law j.union w in
-      let h = subst (λ (o : Option Live). IsSomeAnd o (λ l. All (λ n. IsShowable (e.store).texts l n.answer) j.log.lines)) f.before (s kept) in
-      subst (λ (o : Option Live). IsSomeAnd o (λ l. All (λ n. IsShowable (e'.store).texts l n.answer) j.log.lines)) (sym f.now)
+      let h = subst (λ (o : Option Live). IsSomeAnd o
+      (λ l. All (λ n. IsShowable (e.store).texts l n.answer) j.log.lines)) f.before (s kept) in
+      subst (λ (o : Option Live). IsSomeAnd o (λ l. All (λ n. IsShowable (e'.store).texts l n.answer) j.log.lines))
+      (sym f.now)
       (subst (λ (texts : List Bytes). All (λ n. IsShowable texts f.new n.answer) j.log.lines) (sym g.texts)
       (lines_stay showable (e.store).texts g.more f.old f.new f.shape j.log.lines h))
 
@@ -137,13 +148,18 @@ module _ (e e' : Kept) (g : Grows e e') (law : MembersStay) (showable : Showable
       told_as : (texts : List Bytes) (o : Option Live) (l : Live) (c : Bool) → o ≡ Some l → j.log.lost ≡ c
           → told_of texts o j.log ≡ cond c None (Some (map (change_of texts l) j.log.lines))
       told_as texts o l c there lost =
-          ap (λ (o : Option Live). told_of texts o j.log) there ∙ ap (λ b. cond b None (Some (map (change_of texts l) j.log.lines))) lost
+          ap (λ (o : Option Live). told_of texts o j.log) there
+          ∙ ap (λ b. cond b None (Some (map (change_of texts l) j.log.lines))) lost
 
-      by_lost : (c : Bool) → j.log.lost ≡ c → told_in (e'.store).texts e'.places (Some j) ≡ told_in (e.store).texts e.places (Some j)
-      by_lost true lost = told_as (e'.store).texts (first_member e'.places j.union) f.new true f.now lost ∙ sym (told_as (e.store).texts (first_member e.places j.union) f.old true f.before lost)
+      by_lost : (c : Bool) → j.log.lost ≡ c → told_in (e'.store).texts e'.places (Some j)
+          ≡ told_in (e.store).texts e.places (Some j)
+      by_lost true lost = told_as (e'.store).texts (first_member e'.places j.union) f.new true f.now lost
+          ∙ sym (told_as (e.store).texts (first_member e.places j.union) f.old true f.before lost)
       by_lost false kept =
           told_as (e'.store).texts (first_member e'.places j.union) f.new false f.now kept
           ∙ ap (λ (texts : List Bytes). Some (map (change_of texts f.new) j.log.lines)) g.texts
-          ∙ ap (λ (cs : List Change). Some cs) (lines_tell showable (e.store).texts g.more f.old f.new f.shape j.log.lines
-          (subst (λ (o : Option Live). IsSomeAnd o (λ l. All (λ n. IsShowable (e.store).texts l n.answer) j.log.lines)) f.before (s kept)))
+          ∙ ap (λ (cs : List Change). Some cs)
+          (lines_tell showable (e.store).texts g.more f.old f.new f.shape j.log.lines
+          (subst (λ (o : Option Live). IsSomeAnd o (λ l. All (λ n. IsShowable (e.store).texts l n.answer) j.log.lines))
+          f.before (s kept)))
           ∙ sym (told_as (e.store).texts (first_member e.places j.union) f.old false f.before kept)

@@ -1,5 +1,7 @@
 -- Which of some relations queries and unions read, by the places of the queries.
-use Rattle.std.specs.Prelude.{ℕ, List, [], ◌∷◌, ◌++◌, ◌≡◌, ◌&&◌, ◌||◌, ◌⊎◌, Bool, true, false, cond, Option, None, Some, is_some, IsSomeAnd, option_to_list, find, filter, map, All, Contains, ⊤}
+use Rattle.std.specs.Prelude.{ℕ, List, [], ◌∷◌, ◌++◌, ◌≡◌, ◌&&◌, ◌||◌, ◌⊎◌, Bool, true, false, cond}
+use Rattle.std.specs.Prelude.{Option, None, Some, is_some, IsSomeAnd, option_to_list, find, filter}
+use Rattle.std.specs.Prelude.{map, All, Contains, ⊤}
 use Rattle.std.specs.List.{list_any, AllByRecursion}
 use Rattle.std.proofs.Common.{refl, sym, ap, ap₂, ◌∙◌, subst, inl, inr}
 use Rattle.djq_model.specs.declared.query.Query.{Query}

@@ -1,5 +1,6 @@
 -- A relation that is made changes nothing but that.
-use Rattle.std.specs.Prelude.{ℕ, List, [], ◌∷◌, ◌++◌, ◌≡◌, Option, None, Some, IsSomeAnd, false, map, Result, Ok, Err, OnErr, ⊤}
+use Rattle.std.specs.Prelude.{ℕ, List, [], ◌∷◌, ◌++◌, ◌≡◌, Option, None, Some, IsSomeAnd, false}
+use Rattle.std.specs.Prelude.{map, Result, Ok, Err, OnErr, ⊤}
 use Rattle.std.proofs.Common.{refl, sym, ap, ◌∙◌, subst, append-nil}
 use Rattle.djq_model.specs.declared.relation.ColumnType.{ColumnType}
 use Rattle.djq_model.specs.Data.{Bytes}
@@ -20,7 +21,8 @@ use Rattle.djq_store.proofs.Staying.{Rests, queries_over}
 
 same_tables : (e e' : Kept) → e'.places ≡ e.places → KeepsTables e e'
 same_tables e e' same i l there =
-    subst (λ (o : Option Live). IsSomeAnd o (KeepsQuery (λ q. false) l)) (sym (ap (λ (gs : List (Option Live)). place_at gs i) same ∙ there))
+    subst (λ (o : Option Live). IsSomeAnd o (KeepsQuery (λ q. false) l))
+    (sym (ap (λ (gs : List (Option Live)). place_at gs i) same ∙ there))
     (record {
       shape = record { query = refl; numbered = refl; tree = refl };
       tables = λ k. record { query = refl; numbered = refl; reducts = refl };
@@ -34,7 +36,8 @@ made_texts old new name types (Ok a) None h stays = ap (λ (st : Store). st.text
 made_texts old new name types (Ok a) (Some s) h stays = absurd h
 made_texts old new name types (Err s) o h stays = ap (λ (st : Store). st.texts) stays
 
-pub made_rests : (e e' : Kept) (name : Bytes) (types : List ColumnType) (r : Result ⊤ Refusal) → IsEngine e → IsEngine e'
+pub made_rests : (e e' : Kept) (name : Bytes) (types : List ColumnType) (r : Result ⊤ Refusal) → IsEngine e
+    → IsEngine e'
     → StayingLaws → MakesRelation e.store name types r e'.store → e'.places ≡ e.places → Rests e e'
 made_rests e e' name types r b b' laws h places = record {
   before = b;
@@ -52,4 +55,5 @@ pub store_makes : (p : Parts) (e' : Kept) (name : Bytes) (types : List ColumnTyp
 store_makes p e' name types r rests w h =
     subst (λ (qs : List Listed). MakesRelation (kept_in p).store name types r (with_queries qs e'.store))
     (sym (queries_over p.engine e' rests p.unions.items p.order.items p.sessions.items p.affected.items w.listed))
-    (makes_lifted (map (listed_at p.engine.places p.unions.items) p.order.items) (p.engine).store name types r e'.store h)
+    (makes_lifted (map (listed_at p.engine.places p.unions.items) p.order.items) (p.engine).store name types r e'.store
+    h)

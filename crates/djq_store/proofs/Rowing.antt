@@ -1,5 +1,7 @@
 -- What `add`, `del` and `done` of an engine say of its change, as a store needs to know it.
-use Rattle.std.specs.Prelude.{ℕ, zero, suc, List, [], ◌∷◌, ◌++◌, ◌≡◌, ◌+◌, ◌≤◌, ◌&&◌, ◌||◌, ◌⊎◌, Bool, true, false, cond, Option, None, Some, is_some, find, length, Result, Ok, Err, OnErr, ⊤}
+use Rattle.std.specs.Prelude.{ℕ, zero, suc, List, [], ◌∷◌, ◌++◌, ◌≡◌, ◌+◌, ◌≤◌, ◌&&◌, ◌||◌, ◌⊎◌}
+use Rattle.std.specs.Prelude.{Bool, true, false, cond, Option, None, Some, is_some, find, length}
+use Rattle.std.specs.Prelude.{Result, Ok, Err, OnErr, ⊤}
 use Rattle.std.specs.List.{list_any}
 use Rattle.std.proofs.Common.{refl, sym, ap, ◌∙◌, subst, inl, inr, append-nil}
 use Rattle.djq_model.specs.declared.query.Query.{Query}
@@ -75,10 +77,12 @@ Grown old new = (more : List Bytes) × (new.texts ≡ old.texts ++ more)
 grown_same : (old new : Store) → new.texts ≡ old.texts → Grown old new
 grown_same old new e = ([], e ∙ sym (append-nil old.texts))
 
-grown_learned : TextsStay → (old new : Store) (texts : List Bytes) → new.texts ≡ all_learned old.texts texts → Grown old new
+grown_learned : TextsStay → (old new : Store) (texts : List Bytes) → new.texts ≡ all_learned old.texts texts
+    → Grown old new
 grown_learned law old new texts e = let m = law old.texts texts in (m.0, e ∙ m.1)
 
-add_texts : TextsStay → (old new : Store) (name : Bytes) (row : Tuple) (r : Result AddOutcome Refusal) (o : Option Refusal)
+add_texts : TextsStay
+    → (old new : Store) (name : Bytes) (row : Tuple) (r : Result AddOutcome Refusal) (o : Option Refusal)
     → Answers o r (AddsAs old name row new)
     (λ s. (has_row (rows_of old.relations name) row ≡ false) × RefusedByTexts old (texts_in row) new s)
     → (is_some o ≡ true → new ≡ old) → Grown old new
@@ -89,7 +93,8 @@ add_texts law old new name row (Ok a) (Some s) h stays = absurd h
 add_texts law old new name row (Err Limit) None h stays = grown_learned law old new (h.1.0.first) (h.1.0.learned)
 add_texts law old new name row (Err NoMemory) None h stays = grown_learned law old new (h.1.0.first) (h.1.0.learned)
 add_texts law old new name row (Err s) None h stays = absurd h.1
-add_texts law old new name row (Err s) (Some t) h stays = grown_same old new (ap (λ (st : Store). st.texts) (stays refl))
+add_texts law old new name row (Err s) (Some t) h stays = grown_same old new
+    (ap (λ (st : Store). st.texts) (stays refl))
 
 pub add_grows : TextsStay → (old new : Store) (name : Bytes) (row : Tuple) (r : Result AddOutcome Refusal)
     → AddsRow old name row r new → Grown old new

@@ -22,9 +22,11 @@ use Rattle.djq_store.proofs.Moved.{cursor_of}
 
 -- its id, by the slot
 pub id_is : (id : CursorId) → QUERIES ≤ id.query.at → cursor_of (id.query.at - QUERIES) id.cursor ≡ id
-id_is id high = ap (λ (n : ℕ). (let c : CursorId = record { query = id_at n; cursor = id.cursor } in c)) (add-sub_of_le high)
+id_is id high = ap (λ (n : ℕ). (let c : CursorId = record { query = id_at n; cursor = id.cursor } in c))
+    (add-sub_of_le high)
 
-module _ (e : Kept) (b : IsEngine e) (us : List (Option Joined)) (order sessions affected : List ℕ) (w : IsListed e us order) (id : CursorId) where
+module _ (e : Kept) (b : IsEngine e) (us : List (Option Joined)) (order sessions affected : List ℕ)
+    (w : IsListed e us order) (id : CursorId) where
   -- of a query it is the engine's
   pub held_in_engine : id.query.at < QUERIES → IsHeld (seen e us order sessions affected) id → IsHeld e id
   held_in_engine low h = subst (λ (o : Option Held). IsSome o) (held_low e us id low) h
@@ -36,35 +38,49 @@ module _ (e : Kept) (b : IsEngine e) (us : List (Option Joined)) (order sessions
     stands : held_at (cursors_in e us) id ≡ held_of (e.store).texts e.places id (joined_at us (id.query.at - QUERIES))
     stands = held_high e us id b (id.query.at - QUERIES) (sym (add-sub_of_le high))
 
-    pub readable : IsHeld (seen e us order sessions affected) id → IsSomeAnd (joined_at us (id.query.at - QUERIES)) (IsReadable e.places id.cursor)
+    pub readable : IsHeld (seen e us order sessions affected) id
+        → IsSomeAnd (joined_at us (id.query.at - QUERIES)) (IsReadable e.places id.cursor)
     readable h = by_slot (joined_at us (id.query.at - QUERIES)) refl (subst (λ (o : Option Held). IsSome o) stands h)
       where
-        there : (j : Joined) (o : Option Progress) → IsSome (option_map (held_as (e.store).texts e.places j.union id) o) → IsSome o
+        there : (j : Joined) (o : Option Progress) → IsSome (option_map (held_as (e.store).texts e.places j.union id) o)
+            → IsSome o
         there j None h = absurd cc
         there j (Some p) h = refl
 
-        by_slot : (o : Option Joined) → joined_at us (id.query.at - QUERIES) ≡ o → IsSome (held_of (e.store).texts e.places id o) → IsSomeAnd o (IsReadable e.places id.cursor)
+        by_slot : (o : Option Joined) → joined_at us (id.query.at - QUERIES) ≡ o
+            → IsSome (held_of (e.store).texts e.places id o) → IsSomeAnd o (IsReadable e.places id.cursor)
         by_slot None f h = absurd cc
-        by_slot (Some j) f h = record { there = there j (slot_at j.union.cursors id.cursor) h; united = w.united (id.query.at - QUERIES) j f }
+        by_slot (Some j) f h = record
+            { there = there j (slot_at j.union.cursors id.cursor) h; united = w.united (id.query.at - QUERIES) j f }
 
-    pub closable : IsHeld (seen e us order sessions affected) id → IsSomeAnd (joined_at us (id.query.at - QUERIES)) (λ j. IsSome (slot_at j.union.cursors id.cursor))
+    pub closable : IsHeld (seen e us order sessions affected) id
+        → IsSomeAnd (joined_at us (id.query.at - QUERIES)) (λ j. IsSome (slot_at j.union.cursors id.cursor))
     closable h = some (joined_at us (id.query.at - QUERIES)) (readable h)
       where
-        some : (o : Option Joined) → IsSomeAnd o (IsReadable e.places id.cursor) → IsSomeAnd o (λ j. IsSome (slot_at j.union.cursors id.cursor))
+        some : (o : Option Joined) → IsSomeAnd o (IsReadable e.places id.cursor)
+            → IsSomeAnd o (λ j. IsSome (slot_at j.union.cursors id.cursor))
         some None h = h
         some (Some j) h = h.there
 
-    pub freshly : IsFresh (seen e us order sessions affected) id → IsSomeAnd (joined_at us (id.query.at - QUERIES)) (IsFreshly e.places id.cursor)
-    freshly h = by_slot (joined_at us (id.query.at - QUERIES)) refl (subst (λ (o : Option Held). IsSomeAnd o (λ x. IsOpenAt x.position)) stands h)
+    pub freshly : IsFresh (seen e us order sessions affected) id
+        → IsSomeAnd (joined_at us (id.query.at - QUERIES)) (IsFreshly e.places id.cursor)
+    freshly h = by_slot (joined_at us (id.query.at - QUERIES)) refl
+        (subst (λ (o : Option Held). IsSomeAnd o (λ x. IsOpenAt x.position)) stands h)
       where
-        open_there : (j : Joined) (p : Progress) → IsOpenAt (position_of (e.store).texts (members_in e.places j.union) p) → IsOpen p
+        open_there : (j : Joined) (p : Progress)
+            → IsOpenAt (position_of (e.store).texts (members_in e.places j.union) p) → IsOpen p
         open_there j (Open cursor ended) h = tt
         open_there j (Stale r n) h = h
 
-        there : (j : Joined) (o : Option Progress) → IsSomeAnd (option_map (held_as (e.store).texts e.places j.union id) o) (λ x. IsOpenAt x.position) → IsSomeAnd o IsOpen
+        there : (j : Joined) (o : Option Progress)
+            → IsSomeAnd (option_map (held_as (e.store).texts e.places j.union id) o) (λ x. IsOpenAt x.position)
+            → IsSomeAnd o IsOpen
         there j None h = h
         there j (Some p) h = open_there j p h
 
-        by_slot : (o : Option Joined) → joined_at us (id.query.at - QUERIES) ≡ o → IsSomeAnd (held_of (e.store).texts e.places id o) (λ x. IsOpenAt x.position) → IsSomeAnd o (IsFreshly e.places id.cursor)
+        by_slot : (o : Option Joined) → joined_at us (id.query.at - QUERIES) ≡ o
+            → IsSomeAnd (held_of (e.store).texts e.places id o) (λ x. IsOpenAt x.position)
+            → IsSomeAnd o (IsFreshly e.places id.cursor)
         by_slot None f h = h
-        by_slot (Some j) f h = record { fresh = there j (slot_at j.union.cursors id.cursor) h; united = w.united (id.query.at - QUERIES) j f }
+        by_slot (Some j) f h = record
+            { fresh = there j (slot_at j.union.cursors id.cursor) h; united = w.united (id.query.at - QUERIES) j f }

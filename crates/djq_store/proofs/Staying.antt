@@ -1,6 +1,9 @@
 -- A store stays whole and shows the same, as the engine below it changes nothing of what unions are made of.
-use Rattle.std.proofs.Common.{ℕ, zero, suc, List, [], ◌∷◌, ◌++◌, ◌+◌, ◌≡◌, ◌<◌, ◌⊎◌, inl, inr, Bool, true, false, refl, sym, ap, ap₂, ◌∙◌, subst, length, get_or, arith, append-nil}
-use Rattle.std.specs.Prelude.{Option, None, Some, IsSomeAnd, is_some, option_map, map, filter, All, count_by, find, ◌==◌}
+use Rattle.std.proofs.Common.{ℕ, zero, suc, List, [], ◌∷◌, ◌++◌, ◌+◌, ◌≡◌, ◌<◌, ◌⊎◌, inl, inr, Bool}
+use Rattle.std.proofs.Common.{true, false, refl, sym, ap, ap₂, ◌∙◌, subst, length, get_or, arith}
+use Rattle.std.proofs.Common.{append-nil}
+use Rattle.std.specs.Prelude.{Option, None, Some, IsSomeAnd, is_some, option_map, map, filter, All}
+use Rattle.std.specs.Prelude.{count_by, find, ◌==◌}
 use Rattle.djq_model.specs.Data.{Bytes}
 use Rattle.djq_model.specs.Listed.{Listed, a_query, listed_name}
 use Rattle.djq_lines.specs.declared.limits.TheConstants.{QUERIES}
@@ -10,7 +13,8 @@ use Rattle.djq_live.specs.Live.{Live, ShowableStays}
 use Rattle.djq_live.specs.Member.{query_at}
 use Rattle.djq_reach.specs.Places.{is_reader}
 use Rattle.djq_engine.specs.declared.cursor.CursorId.{CursorId}
-use Rattle.djq_engine.specs.Kept.{Kept, Held, Registered, SameCursors, SameTellings, SameShape, KeepsTables, MovesCursor, IsOver, held_at, same_id}
+use Rattle.djq_engine.specs.Kept.{Kept, Held, Registered, SameCursors, SameTellings, SameShape}
+use Rattle.djq_engine.specs.Kept.{KeepsTables, MovesCursor, IsOver, held_at, same_id}
 use Rattle.djq_engine.specs.Places.{id_at, query_in}
 use Rattle.djq_engine.proofs.Listing.{map_members}
 use Rattle.djq_united.specs.declared.cursors.Progress.{Progress}
@@ -19,7 +23,8 @@ use Rattle.djq_united.specs.United.{United, IsUnited, AreKept, members_in, posit
 use Rattle.djq_united.specs.Staying.{MembersStay, UnionsStay, AreUntouched}
 use Rattle.djq_store.specs.declared.joined.Joined.{Joined}
 use Rattle.djq_store.specs.Below.{IsEngine, StayingLaws}
-use Rattle.djq_store.specs.Places.{in_places, joined_at, listed_in, listed_at, registered_as, held_as, held_of, told_in, cursors_in, seen}
+use Rattle.djq_store.specs.Places.{in_places, joined_at, listed_in, listed_at, registered_as}
+use Rattle.djq_store.specs.Places.{held_as, held_of, told_in, cursors_in, seen}
 use Rattle.djq_store.specs.Whole.{IsListed, IsCounted}
 use Rattle.djq_store.proofs.Held.{held_low, held_high}
 use Rattle.djq_store.proofs.Members.{Grows, grown_members, kept_members, kept_shapes, union_stays, log_stays, log_tells}
@@ -27,16 +32,19 @@ use Rattle.djq_store.proofs.Ordered.{Seat, Joint, listed_low, listed_joint, list
 use Rattle.djq_store.proofs.Seats.{Slot, cases_place}
 
 -- functions that agree on each slot
-pub map_slots : {B : Type 0} (f g : Option Joined → B) (us : List (Option Joined)) → f None ≡ g None → ((k : ℕ) (j : Joined) → joined_at us k ≡ Some j → f (Some j) ≡ g (Some j)) → map f us ≡ map g us
+pub map_slots : {B : Type 0} (f g : Option Joined → B) (us : List (Option Joined)) → f None ≡ g None
+    → ((k : ℕ) (j : Joined) → joined_at us k ≡ Some j → f (Some j) ≡ g (Some j)) → map f us ≡ map g us
 map_slots f g [] none some = refl
 map_slots f g (None ∷ us) none some = ap₂ (λ b bs. b ∷ bs) none (map_slots f g us none (λ k j e. some (suc k) j e))
-map_slots f g (Some j ∷ us) none some = ap₂ (λ b bs. b ∷ bs) (some zero j refl) (map_slots f g us none (λ k j e. some (suc k) j e))
+map_slots f g (Some j ∷ us) none some = ap₂ (λ b bs. b ∷ bs) (some zero j refl)
+    (map_slots f g us none (λ k j e. some (suc k) j e))
 
 some_there : {A : Type 0} (o : Option A) (P : A → Type 0) → IsSomeAnd o P → (x : A) × (o ≡ Some x) × P x
 some_there None P h = absurd h
 some_there (Some x) P h = (x, refl, h)
 
-module _ (e e' : Kept) (b : IsEngine e) (g : Grows e e') (law : MembersStay) (us : List (Option Joined)) (order : List ℕ) (w : IsListed e us order) where
+module _ (e e' : Kept) (b : IsEngine e) (g : Grows e e') (law : MembersStay) (us : List (Option Joined))
+    (order : List ℕ) (w : IsListed e us order) where
   -- what is registered is the same
   pub listed_stays : (at : ℕ) → is_reader order at ≡ true → listed_at e'.places us at ≡ listed_at e.places us at
   listed_stays at there = by_case (cases_place at)
@@ -55,9 +63,12 @@ module _ (e e' : Kept) (b : IsEngine e) (g : Grows e e') (law : MembersStay) (us
   pub queries_stay : map (listed_at e'.places us) order ≡ map (listed_at e.places us) order
   queries_stay = map_members (listed_at e'.places us) (listed_at e.places us) order listed_stays
 
-  pub registered_stay : (sessions : List ℕ) → map (registered_as e'.places us sessions) order ≡ map (registered_as e.places us sessions) order
-  registered_stay sessions = map_members (registered_as e'.places us sessions) (registered_as e.places us sessions) order
-      (λ at there. ap (λ (q : Listed). record (registered_as e.places us sessions at) { query = q }) (listed_stays at there))
+  pub registered_stay : (sessions : List ℕ) → map (registered_as e'.places us sessions) order
+      ≡ map (registered_as e.places us sessions) order
+  registered_stay sessions = map_members (registered_as e'.places us sessions) (registered_as e.places us sessions)
+      order
+      (λ at there. ap (λ (q : Listed). record (registered_as e.places us sessions at) { query = q })
+      (listed_stays at there))
 
   module _ (showable : ShowableStays) where
     pub logs_stay : map (told_in (e'.store).texts e'.places) us ≡ map (told_in (e.store).texts e.places) us
@@ -65,22 +76,26 @@ module _ (e e' : Kept) (b : IsEngine e) (g : Grows e e') (law : MembersStay) (us
         (λ k j there. log_tells e e' g law showable j (w.united k j there) (w.shown k j there))
 
     -- the order stays one of all that is registered
-    pub order_stays : e'.registered ≡ e.registered → ((k : ℕ) (j : Joined) → joined_at us k ≡ Some j → IsUnited e'.places j.union) → IsListed e' us order
+    pub order_stays : e'.registered ≡ e.registered
+        → ((k : ℕ) (j : Joined) → joined_at us k ≡ Some j → IsUnited e'.places j.union) → IsListed e' us order
     order_stays same united = record {
       united = united;
       shown = λ k j there. log_stays e e' g law showable j (w.united k j there) (w.shown k j there);
       queries = w.queries ∙ sym (ap (map (λ (r : Registered). r.id.at)) same);
       unions = w.unions;
       once = w.once;
-      named = λ i k at_i at_k h. w.named i k at_i at_k (sym (ap listed_name (listed_stays i at_i)) ∙ h ∙ ap listed_name (listed_stays k at_k));
+      named = λ i k at_i at_k h. w.named i k at_i at_k
+          (sym (ap listed_name (listed_stays i at_i)) ∙ h ∙ ap listed_name (listed_stays k at_k));
       few = w.few;
       slots = w.slots ∙ ap (λ (rs : List Registered). length rs + count_by is_some us) (sym same);
       within = w.within;
     }
 
-pub counts_stay : (e e' : Kept) (us : List (Option Joined)) (sessions : List ℕ) → e'.registered ≡ e.registered → IsCounted e us sessions → IsCounted e' us sessions
+pub counts_stay : (e e' : Kept) (us : List (Option Joined)) (sessions : List ℕ) → e'.registered ≡ e.registered
+    → IsCounted e us sessions → IsCounted e' us sessions
 counts_stay e e' us sessions same w = record {
-  counted = λ r found. w.counted r (ap (λ (rs : List Registered). find (λ r'. r'.id.at == r.id.at) rs) (sym same) ∙ found);
+  counted = λ r found. w.counted r
+      (ap (λ (rs : List Registered). find (λ r'. r'.id.at == r.id.at) rs) (sym same) ∙ found);
   few = w.few;
   long = w.long;
 }
@@ -90,7 +105,8 @@ counts_stay e e' us sessions same w = record {
 pub kept_over : (e : Kept) (o : IsOver e) → AreKept o.catalog e.places
 kept_over e o = record { each = λ k l there. (o.live k l there).kept }
 
-module _ (e e' : Kept) (k : KeepsTables e e') (o : IsOver e) (o' : IsOver e') (more : List Bytes) (texts : (e'.store).texts ≡ (e.store).texts ++ more) (law : UnionsStay) (u : United) (w : IsUnited e.places u) where
+module _ (e e' : Kept) (k : KeepsTables e e') (o : IsOver e) (o' : IsOver e') (more : List Bytes)
+    (texts : (e'.store).texts ≡ (e.store).texts ++ more) (law : UnionsStay) (u : United) (w : IsUnited e.places u) where
   untouched : AreUntouched o.catalog o'.catalog e.places e'.places u.members
   untouched = record {
     before = kept_over e o;
@@ -103,10 +119,14 @@ module _ (e e' : Kept) (k : KeepsTables e e') (o : IsOver e) (o' : IsOver e') (m
   pub united_stays : IsUnited e'.places u
   united_stays = (law o.catalog o'.catalog e.places e'.places u untouched w).0
 
-  pub union_cursor_stays : (id : CursorId) → option_map (held_as (e'.store).texts e'.places u id) (slot_at u.cursors id.cursor) ≡ option_map (held_as (e.store).texts e.places u id) (slot_at u.cursors id.cursor)
+  pub union_cursor_stays : (id : CursorId)
+      → option_map (held_as (e'.store).texts e'.places u id) (slot_at u.cursors id.cursor)
+      ≡ option_map (held_as (e.store).texts e.places u id) (slot_at u.cursors id.cursor)
   union_cursor_stays id = by_slot (slot_at u.cursors id.cursor) refl
     where
-      by_slot : (o : Option Progress) → slot_at u.cursors id.cursor ≡ o → option_map (held_as (e'.store).texts e'.places u id) o ≡ option_map (held_as (e.store).texts e.places u id) o
+      by_slot : (o : Option Progress) → slot_at u.cursors id.cursor ≡ o
+          → option_map (held_as (e'.store).texts e'.places u id) o
+          ≡ option_map (held_as (e.store).texts e.places u id) o
       by_slot None f = refl
       by_slot (Some p) f = ap (λ pos. Some (record { id = id; query = u.name; position = pos }))
           (ap (λ (ts : List Bytes). position_of ts (members_in e'.places u) p) (sym o'.texts)
@@ -123,7 +143,8 @@ pub record Rests (e e' : Kept) : Type 0 where
   pub texts : (e'.store).texts ≡ (e.store).texts ++ more
 
 -- where the store is the same, its texts are
-pub rests_with : (e e' : Kept) → IsEngine e → IsEngine e' → StayingLaws → KeepsTables e e' → e'.store ≡ e.store → Rests e e'
+pub rests_with : (e e' : Kept) → IsEngine e → IsEngine e' → StayingLaws → KeepsTables e e' → e'.store ≡ e.store
+    → Rests e e'
 rests_with e e' b b' laws k same = record {
   before = b;
   after = b';
@@ -133,27 +154,34 @@ rests_with e e' b b' laws k same = record {
   texts = ap (λ (st : Store). st.texts) same ∙ sym (append-nil (e.store).texts);
 }
 
-module _ (e e' : Kept) (r : Rests e e') (us : List (Option Joined)) (order sessions affected : List ℕ) (w : IsListed e us order) where
+module _ (e e' : Kept) (r : Rests e e') (us : List (Option Joined)) (order sessions affected : List ℕ)
+    (w : IsListed e us order) where
   pub grows : Grows e e'
   grows = record { shapes = kept_shapes (λ q. false) e e' r.tables; more = r.more; texts = r.texts }
 
   -- it stays whole
   pub listed_over : e'.registered ≡ e.registered → IsListed e' us order
   listed_over same = order_stays e e' r.before grows r.laws.members us order w r.laws.showable same
-      (λ i j there. united_stays e e' r.tables r.before.over r.after.over r.more r.texts r.laws.unions j.union (w.united i j there))
+      (λ i j there. united_stays e e' r.tables r.before.over r.after.over r.more r.texts r.laws.unions j.union
+      (w.united i j there))
 
   -- a cursor that stands in the engine where it stood does so in the store
-  pub cursor_over : (id : CursorId) → held_at e'.cursors id ≡ held_at e.cursors id → held_at (cursors_in e' us) id ≡ held_at (cursors_in e us) id
+  pub cursor_over : (id : CursorId) → held_at e'.cursors id ≡ held_at e.cursors id → held_at (cursors_in e' us) id
+      ≡ held_at (cursors_in e us) id
   cursor_over id same = by_case (cases_place id.query.at)
     where
-      by_slot : (i : ℕ) (o : Option Joined) → joined_at us i ≡ o → held_of (e'.store).texts e'.places id o ≡ held_of (e.store).texts e.places id o
+      by_slot : (i : ℕ) (o : Option Joined) → joined_at us i ≡ o → held_of (e'.store).texts e'.places id o
+          ≡ held_of (e.store).texts e.places id o
       by_slot i None f = refl
-      by_slot i (Some j) f = union_cursor_stays e e' r.tables r.before.over r.after.over r.more r.texts r.laws.unions j.union (w.united i j f) id
+      by_slot i (Some j) f = union_cursor_stays e e' r.tables r.before.over r.after.over r.more r.texts r.laws.unions
+          j.union (w.united i j f) id
 
-      by_case : (id.query.at < QUERIES) ⊎ Slot id.query.at → held_at (cursors_in e' us) id ≡ held_at (cursors_in e us) id
+      by_case : (id.query.at < QUERIES) ⊎ Slot id.query.at → held_at (cursors_in e' us) id
+          ≡ held_at (cursors_in e us) id
       by_case (inl low) = held_low e' us id low ∙ same ∙ sym (held_low e us id low)
       by_case (inr s) =
-          held_high e' us id r.after s.slot s.is ∙ by_slot s.slot (joined_at us s.slot) refl ∙ sym (held_high e us id r.before s.slot s.is)
+          held_high e' us id r.after s.slot s.is ∙ by_slot s.slot (joined_at us s.slot) refl
+          ∙ sym (held_high e us id r.before s.slot s.is)
 
   pub cursors_over : SameCursors e.cursors e'.cursors → SameCursors (cursors_in e us) (cursors_in e' us)
   cursors_over same id = cursor_over id (same id)
@@ -164,10 +192,13 @@ module _ (e e' : Kept) (r : Rests e e') (us : List (Option Joined)) (order sessi
   pub queries_over : map (listed_at e'.places us) order ≡ map (listed_at e.places us) order
   queries_over = queries_stay e e' r.before grows r.laws.members us order w
 
-  pub store_over : e'.store ≡ e.store → (seen e' us order sessions affected).store ≡ (seen e us order sessions affected).store
-  store_over same = ap₂ (λ (st : Store) (qs : List Listed). (let s : Store = record st { queries = qs } in s)) same queries_over
+  pub store_over : e'.store ≡ e.store → (seen e' us order sessions affected).store
+      ≡ (seen e us order sessions affected).store
+  store_over same = ap₂ (λ (st : Store) (qs : List Listed). (let s : Store = record st { queries = qs } in s)) same
+      queries_over
 
-  pub tellings_over : SameTellings e e' → SameTellings (seen e us order sessions affected) (seen e' us order sessions affected)
+  pub tellings_over : SameTellings e e'
+      → SameTellings (seen e us order sessions affected) (seen e' us order sessions affected)
   tellings_over same = record {
     affected = refl;
     told = ap₂ in_places same.told (logs_stay e e' r.before grows r.laws.members us order w r.laws.showable);

@@ -1,5 +1,7 @@
 -- A change that was made, one for which memory was refused, and none: what a store makes known of it.
-use Rattle.std.specs.Prelude.{ℕ, List, [], ◌∷◌, ◌≡◌, ◌+◌, ◌*◌, ◌<◌, ◌≤◌, ◌&&◌, ◌⊎◌, nat_lt, Bool, true, false, cond, Option, None, Some, is_some, IsSomeAnd, filter, map, length, sum_by, slice_get, slice_index_or, All, Contains, ⊤}
+use Rattle.std.specs.Prelude.{ℕ, List, [], ◌∷◌, ◌≡◌, ◌+◌, ◌*◌, ◌<◌, ◌≤◌, ◌&&◌, ◌⊎◌, nat_lt, Bool}
+use Rattle.std.specs.Prelude.{true, false, cond, Option, None, Some, is_some, IsSomeAnd, filter}
+use Rattle.std.specs.Prelude.{map, length, sum_by, slice_get, slice_index_or, All, Contains, ⊤}
 use Rattle.std.specs.List.{list_any}
 use Rattle.std.proofs.Common.{refl, sym, ap, ap₂, ◌∙◌, subst, inl, inr, arith}
 use Rattle.std.proofs.lemmas.Bool.{false≢true, lt-ltb, ltb-true}
@@ -31,7 +33,9 @@ use Rattle.djq_store.specs.declared.joined.Joined.{Joined}
 use Rattle.djq_store.specs.declared.settling.Turn.{Turn}
 use Rattle.djq_store.specs.declared.settling.Turn.TheVariants.{Came, Went, Lacked}
 use Rattle.djq_store.specs.Places.{joined_at, told_in, listed_at, registered_as, sessions_at, union_watchers, seen}
-use Rattle.djq_store.specs.Settling.{first_read, touched_in, is_settled, TellsUnion, TellsWatched, SettlesLog, SettlesLogBy, settling_steps, telling_steps, asking_steps}
+use Rattle.djq_store.specs.Settling.{first_read, touched_in, is_settled, TellsUnion, TellsWatched}
+use Rattle.djq_store.specs.Settling.{SettlesLog, SettlesLogBy, settling_steps, telling_steps}
+use Rattle.djq_store.specs.Settling.{asking_steps}
 use Rattle.djq_store.specs.Watching.{TellsChange, is_reached}
 use Rattle.djq_store.specs.Whole.{IsListed, IsCounted}
 use Rattle.djq_store.proofs.Accepted.{GoRows, told_place, union_delta, asked_few}
@@ -42,10 +46,12 @@ use Rattle.djq_store.proofs.Commanded.{told_low, told_high, now, first, told_now
 use Rattle.djq_store.proofs.Counting.{mapped_was, seen_there}
 use Rattle.djq_store.proofs.Deltas.{Lists, logs_tell, asking, steps_at}
 use Rattle.djq_store.proofs.Found.{map_mapped}
-use Rattle.djq_store.proofs.Ordered.{Seat, Joint, order_seat, order_joint, joint_order, listed_seat, listed_joint, registered_has}
+use Rattle.djq_store.proofs.Ordered.{Seat, Joint, order_seat, order_joint, joint_order, listed_seat}
+use Rattle.djq_store.proofs.Ordered.{listed_joint, registered_has}
 use Rattle.djq_store.proofs.Seats.{Slot, cases_place, high_place}
 use Rattle.djq_store.proofs.Summing.{sum_mapped, kept_was}
-use Rattle.djq_store.proofs.Wanted.{rs, ers, places, f, q_at, members_at, members_in_slot, by_places, deltas, all_lists, low_of}
+use Rattle.djq_store.proofs.Wanted.{rs, ers, places, f, q_at, members_at, members_in_slot}
+use Rattle.djq_store.proofs.Wanted.{by_places, deltas, all_lists, low_of}
 
 -- how rows changed, where they did
 abbrev pub turn_for : Bool → Turn
@@ -81,9 +87,11 @@ settling_few : (came : Bool) (e' : Kept) (relations : List Bytes) (j : Joined) (
     → (nat_lt 0 j.watchers ≡ true → asking_steps e' relations j.union.members ≤ n)
     → settling_steps e' relations (turn_for came) (Some j) ≤ n
 settling_few true e' relations j n h =
-    cond_few (is_settled e' relations (Some j)) (nat_lt 0 j.watchers) (asking_steps e' relations j.union.members) n (λ a b. h b)
+    cond_few (is_settled e' relations (Some j)) (nat_lt 0 j.watchers) (asking_steps e' relations j.union.members) n
+    (λ a b. h b)
 settling_few false e' relations j n h =
-    cond_few (is_settled e' relations (Some j)) (nat_lt 0 j.watchers) (asking_steps e' relations j.union.members) n (λ a b. h b)
+    cond_few (is_settled e' relations (Some j)) (nat_lt 0 j.watchers) (asking_steps e' relations j.union.members) n
+    (λ a b. h b)
 
 settling_some : (came : Bool) (e' : Kept) (relations : List Bytes) (j : Joined)
     → 0 < settling_steps e' relations (turn_for came) (Some j)
@@ -173,7 +181,8 @@ module _ (change : RowsChange) (relations : List Bytes) (came : Bool) (e e' : Ke
       by same (told_place change relations (turn_for came) e e' us us' b order w sessions c eds t.listed spares out hits
       after came way t.logs at k)
     where
-      by : {x y : Option (List Change)} {cs : List Change} → x ≡ y → (y ≡ None) ⊎ (y ≡ Some cs) → (x ≡ None) ⊎ (x ≡ Some cs)
+      by : {x y : Option (List Change)} {cs : List Change} → x ≡ y → (y ≡ None) ⊎ (y ≡ Some cs)
+          → (x ≡ None) ⊎ (x ≡ Some cs)
       by s (inl h) = inl (s ∙ h)
       by s (inr h) = inr (s ∙ h)
 
@@ -194,7 +203,8 @@ module _ (change : RowsChange) (relations : List Bytes) (came : Bool) (e e' : Ke
       (TellUnion e' j.union.members (touched_in e'.places relations j.union.members) came log.lines))
       (first_get (queries_at e'.places j.union.members) ∙ at) (tells h) in (
         map (change_of (e'.store).texts l) log.lines,
-        union_delta change relations (turn_for came) e e' us us' b order w sessions c eds t.listed spares out hits after came
+        union_delta change relations (turn_for came) e e' us us' b order w sessions c eds t.listed spares out hits after
+            came
             way t.logs k j there some log.lines l tell,
         inr (says ∙ ap (λ (x : Bool). cond x None (Some (map (change_of (e'.store).texts l) log.lines))) h),
       )
@@ -207,7 +217,8 @@ module _ (change : RowsChange) (relations : List Bytes) (came : Bool) (e e' : Ke
       let x = now (Some change) relations (turn_for came) e e' us us' b order w k j there in
       let l = first (Some change) relations (turn_for came) e e' us us' b order w k j there in
       let reached : is_some (first_read e'.places relations j.union.members) ≡ true =
-      ap is_some (first_outdates (Some change) relations (turn_for came) e e' us us' b j.union (w.united k j there)) ∙ hit in
+      ap is_some (first_outdates (Some change) relations (turn_for came) e e' us us' b j.union (w.united k j there))
+      ∙ hit in
       union_by k j there some (x.after).log l.new
       (told_high e' b.did.after us' order sessions affected' k
       ∙ told_now (Some change) relations (turn_for came) e e' us us' b order w k j there)
@@ -217,8 +228,10 @@ module _ (change : RowsChange) (relations : List Bytes) (came : Bool) (e e' : Ke
       (x.after).log.lost refl
 
   list : Lists (e.store).relations change qs fs (members_at us) ps
-      (λ r cs. LogAt r.id.at cs) (deltas change relations (turn_for came) e e' us us' b order w sessions c eds t.listed spares out) all
-  list = all_lists change relations (turn_for came) e e' us us' b order w sessions c eds t.listed spares out LogAt tells_query tells_union
+      (λ r cs. LogAt r.id.at cs)
+      (deltas change relations (turn_for came) e e' us us' b order w sessions c eds t.listed spares out) all
+  list = all_lists change relations (turn_for came) e e' us us' b order w sessions c eds t.listed spares out LogAt
+      tells_query tells_union
 
   -- what unions count
 
@@ -230,8 +243,10 @@ module _ (change : RowsChange) (relations : List Bytes) (came : Bool) (e e' : Ke
       ≤ asking (e.store).relations change qs fs (members_at us) ps (members_in_slot x)
   settling_asks k None there = omega arith
   settling_asks k (Some j) there =
-      settling_few came e' relations j (asking (e.store).relations change qs fs (members_at us) ps (Some j.union.members))
-      (λ watched. asked_few change relations (turn_for came) e e' us us' b order w sessions c eds t.listed spares out hits
+      settling_few came e' relations j
+      (asking (e.store).relations change qs fs (members_at us) ps (Some j.union.members))
+      (λ watched. asked_few change relations (turn_for came) e e' us us' b order w sessions c eds t.listed spares out
+      hits
       after came way t.logs k j there (ltb-true 0 j.watchers watched))
 
   among : (k : ℕ) (x : Option Joined) → joined_at us k ≡ x → 0 < settling_steps e' relations (turn_for came) x
@@ -243,15 +258,18 @@ module _ (change : RowsChange) (relations : List Bytes) (came : Bool) (e e' : Ke
       let r = registered_as e.places us sessions (QUERIES + k) in
       let reached : is_outdated change r.query ≡ true =
       ap (is_outdated change) (listed_joint e.places us k joint)
-      ∙ sym (ap is_some (first_outdates (Some change) relations (turn_for came) e e' us us' b j.union (w.united k j there)))
+      ∙ sym (ap is_some (first_outdates (Some change) relations (turn_for came) e e' us us' b j.union
+      (w.united k j there)))
       ∙ hits_both.0 in
       let watched : is_watched r ≡ true =
       ap (λ n. nat_lt 0 n) (high_place k (λ i. slice_index_or sessions i 0) (λ i. union_watchers (joined_at us i))
       ∙ ap union_watchers there) ∙ hits_both.1 in (
         r,
         kept_there (λ (s : Registered). is_outdated change s.query && is_watched s)
-            (map (registered_as e.places us sessions) order) r (both (is_outdated change r.query) (is_watched r) reached watched)
-            (seen_there e b.did.before us order w sessions (QUERIES + k) (joint_order e b.did.before us order w k joint)),
+            (map (registered_as e.places us sessions) order) r
+            (both (is_outdated change r.query) (is_watched r) reached watched)
+            (seen_there e b.did.before us order w sessions (QUERIES + k)
+            (joint_order e b.did.before us order w k joint)),
         refl,
       )
 
@@ -281,7 +299,8 @@ module _ (change : RowsChange) (relations : List Bytes) (came : Bool) (e e' : Ke
         counted = omega (arith, engine_steps, first, steps, less, counted);
         affected = ap (map id_at) affects ∙ sym (ids_of_all e us sessions order change);
         logs = logs_tell (e.store).relations change qs fs (members_at us) ps new
-            (deltas change relations (turn_for came) e e' us us' b order w sessions c eds t.listed spares out) all list.list list.each;
+            (deltas change relations (turn_for came) e e' us us' b order w sessions c eds t.listed spares out) all
+            list.list list.each;
         discards = tt;
         stays = all_stay (Some change) relations (turn_for came) e e' us us' b order w sessions affected affected'
             (λ id h. t.stays id (some_as (registered_at e.registered id) (λ r. is_reached (Some change) r ≡ false)
@@ -305,10 +324,12 @@ module _ (change : RowsChange) (relations : List Bytes) (e e' : Kept) (us us' : 
       (places change relations Lacked e e' us us' b order w sessions c t.deltas t.listed spares out)
       (λ r cs. ⊤) (deltas change relations Lacked e e' us us' b order w sessions c t.deltas t.listed spares out)
       (rs change relations Lacked e e' us us' b order w sessions c t.deltas t.listed spares out)
-  refused_list = all_lists change relations Lacked e e' us us' b order w sessions c t.deltas t.listed spares out (λ at cs. ⊤)
+  refused_list = all_lists change relations Lacked e e' us us' b order w sessions c t.deltas t.listed spares out
+      (λ at cs. ⊤)
       (λ at k. tt)
       (λ k j there hit some.
-      let d = some_delta (Some change) relations Lacked e e' us us' b order w k j there (e.store).relations change.after in
+      let d = some_delta (Some change) relations Lacked e e' us us' b order w k j there (e.store).relations change.after
+      in
       (d.0, d.1, tt))
 
   discarded : (id : QueryId) → IsSomeAnd (registered_at (seen e us order sessions affected).registered id)
@@ -324,14 +345,17 @@ module _ (change : RowsChange) (relations : List Bytes) (e e' : Kept) (us us' : 
       by (inl low) there hit =
           let s = order_seat e b.did.before us order w id.at there low in
           told_low e' b.did.after us' order sessions affected' id.at low
-          ∙ t.discards id (subst (λ (x : Option Registered). IsSomeAnd x (λ r. is_outdated change r.query ≡ true)) (sym s.found)
+          ∙ t.discards id (subst (λ (x : Option Registered). IsSomeAnd x (λ r. is_outdated change r.query ≡ true))
+          (sym s.found)
           (ap (is_outdated change) (s.is ∙ sym (listed_seat e b.did.before us id.at s)) ∙ hit))
       by (inr s) there hit =
-          let joint = order_joint e b.did.before us order w s.slot (subst (λ (i : ℕ). is_reader order i ≡ true) s.is there) in
+          let joint = order_joint e b.did.before us order w s.slot
+          (subst (λ (i : ℕ). is_reader order i ≡ true) s.is there) in
           ap (λ (i : ℕ). told_at (seen e' us' order sessions affected') (id_at i)) s.is
           ∙ told_high e' b.did.after us' order sessions affected' s.slot
           ∙ told_nothing (Some change) relations Lacked e e' us us' b order w s.slot joint.union joint.there refl
-          (ap (is_outdated change) (sym (ap (listed_at e.places us) s.is ∙ listed_joint e.places us s.slot joint)) ∙ hit)
+          (ap (is_outdated change) (sym (ap (listed_at e.places us) s.is ∙ listed_joint e.places us s.slot joint))
+          ∙ hit)
 
   pub tells_refused : TellsChange (seen e us order sessions affected) (out_of_memory change)
       (seen e' us' order sessions affected') before last

@@ -1,6 +1,9 @@
 -- Whether what has a name is in use, and what dropping it gives.
-use Rattle.std.proofs.Common.{ℕ, zero, suc, List, [], ◌∷◌, ◌+◌, ◌≡◌, ◌<◌, ◌⊎◌, inl, inr, Bool, true, false, refl, sym, ap, ap₂, ◌∙◌, subst, get_or, set, arith}
-use Rattle.std.specs.Prelude.{◌==◌, ◌&&◌, ◌||◌, not, Option, None, Some, is_none, IsSomeAnd, AllPairs, IfSome, cond, count_by, filter, find, nat_lt, option_map, Ok, Err}
+use Rattle.std.proofs.Common.{ℕ, zero, suc, List, [], ◌∷◌, ◌+◌, ◌≡◌, ◌<◌, ◌⊎◌, inl, inr, Bool, true}
+use Rattle.std.proofs.Common.{false, refl, sym, ap, ap₂, ◌∙◌, subst, get_or, set, arith}
+use Rattle.std.specs.Prelude.{◌==◌, ◌&&◌, ◌||◌, not, Option, None, Some, is_none, IsSomeAnd}
+use Rattle.std.specs.Prelude.{AllPairs, IfSome, cond, count_by, filter, find, nat_lt, option_map}
+use Rattle.std.specs.Prelude.{Ok, Err}
 use Rattle.std.specs.List.{list_any}
 use Rattle.std.proofs.lemmas.Bool.{eq-eqb, eqb-true, ltb-true, false≢true}
 use Rattle.djq_model.specs.Data.{Bytes, bytes_eq, drop_first}
@@ -16,7 +19,9 @@ use Rattle.djq_live.specs.Live.{Live}
 use Rattle.djq_reach.specs.Places.{is_reader}
 use Rattle.djq_engine.specs.declared.cursor.CursorId.{CursorId}
 use Rattle.djq_engine.specs.declared.cursor.QueryId.{QueryId}
-use Rattle.djq_engine.specs.Kept.{Kept, Held, Registered, KeepsQuery, KeepsTables, Uses, DropGives, DropsPlace, TellsOf, same_query, held_at, registered_at, registered_of, is_watched, same_id}
+use Rattle.djq_engine.specs.Kept.{Kept, Held, Registered, KeepsQuery, KeepsTables, Uses, DropGives}
+use Rattle.djq_engine.specs.Kept.{DropsPlace, TellsOf, same_query, held_at, registered_at}
+use Rattle.djq_engine.specs.Kept.{registered_of, is_watched, same_id}
 use Rattle.djq_engine.specs.Places.{id_at, left}
 use Rattle.djq_engine.proofs.Listing.{reader_filter}
 use Rattle.djq_united.specs.declared.cursors.Progress.{Progress}
@@ -31,7 +36,9 @@ use Rattle.djq_store.proofs.Departed.{none_any}
 use Rattle.djq_store.proofs.Found.{found_passes, found_all}
 use Rattle.djq_store.proofs.Given.{held_seat}
 use Rattle.djq_store.proofs.Held.{held_low, held_high}
-use Rattle.djq_store.proofs.Ordered.{NoUnion, Seat, seat_order, order_seat, listed_seat, listed_is, engine_listed, engine_named, engine_queries, registered_by_name, named_here, place_named}
+use Rattle.djq_store.proofs.Ordered.{NoUnion, Seat, seat_order, order_seat, listed_seat, listed_is}
+use Rattle.djq_store.proofs.Ordered.{engine_listed, engine_named, engine_queries}
+use Rattle.djq_store.proofs.Ordered.{registered_by_name, named_here, place_named}
 use Rattle.djq_store.proofs.Seats.{Slot, cases_place, low_place}
 use Rattle.djq_store.proofs.Slots.{count_none}
 use Rattle.djq_store.proofs.Staying.{Rests, cursors_over, registered_over, store_over, tellings_over, rests_with}
@@ -48,18 +55,21 @@ any_one : {A : Type 0} (p : A → Bool) (xs : List A) → list_any p xs ≡ true
 any_one p [] e = absurd cc
 any_one p (x ∷ xs) e = step (p x) refl e (any_one p xs)
   where
-    step : (c : Bool) → p x ≡ c → (c || list_any p xs) ≡ true → (list_any p xs ≡ true → (y : _) × (p y ≡ true)) → (y : _) × (p y ≡ true)
+    step : (c : Bool) → p x ≡ c → (c || list_any p xs) ≡ true → (list_any p xs ≡ true → (y : _) × (p y ≡ true))
+        → (y : _) × (p y ≡ true)
     step true f e more = (x, f)
     step false f e more = more e
 
-any_none : {A : Type 0} (p q : A → Bool) (xs : List A) (x : A) → list_any p xs ≡ false → find q xs ≡ Some x → p x ≡ false
+any_none : {A : Type 0} (p q : A → Bool) (xs : List A) (x : A) → list_any p xs ≡ false → find q xs ≡ Some x → p x
+    ≡ false
 any_none p q [] x e f = absurd cc
 any_none p q (y ∷ xs) x e f = step (p y) refl e (q y) f (any_none p q xs x)
   where
     same : Some y ≡ Some x → y ≡ x
     same h = cc
 
-    step : (c : Bool) → p y ≡ c → (c || list_any p xs) ≡ false → (d : Bool) → cond d (Some y) (find q xs) ≡ Some x → (list_any p xs ≡ false → find q xs ≡ Some x → p x ≡ false) → p x ≡ false
+    step : (c : Bool) → p y ≡ c → (c || list_any p xs) ≡ false → (d : Bool) → cond d (Some y) (find q xs) ≡ Some x
+        → (list_any p xs ≡ false → find q xs ≡ Some x → p x ≡ false) → p x ≡ false
     step true g e d f more = absurd cc
     step false g e true f more = ap p (sym (same f)) ∙ g
     step false g e false f more = more e f
@@ -85,24 +95,44 @@ decided k name = by_cursor (list_any over k.cursors) refl
     same_ids : (a b : CursorId) → same_id a b ≡ true → a ≡ b
     same_ids a b e =
         let t = both_true (a.query.at == b.query.at) (a.cursor == b.cursor) e in
-        ap₂ (λ (n : ℕ) (c : ℕ). (let i : CursorId = record { query = id_at n; cursor = c } in i)) (eqb-true a.query.at b.query.at t.0) (eqb-true a.cursor b.cursor t.1)
+        ap₂ (λ (n : ℕ) (c : ℕ). (let i : CursorId = record { query = id_at n; cursor = c } in i))
+        (eqb-true a.query.at b.query.at t.0) (eqb-true a.cursor b.cursor t.1)
 
-    no_cursor : list_any (λ (h : Held). over_name name (held_at k.cursors h.id)) k.cursors ≡ false → (id : CursorId) (h : Held) → held_at k.cursors id ≡ Some h → h.query ≡ name → ⊥
+    no_cursor : list_any (λ (h : Held). over_name name (held_at k.cursors h.id)) k.cursors ≡ false
+        → (id : CursorId) (h : Held) → held_at k.cursors id ≡ Some h → h.query ≡ name → ⊥
     no_cursor none id h f called =
-        let no = any_none (λ (h : Held). over_name name (held_at k.cursors h.id)) (λ (h : Held). same_id h.id id) k.cursors h none f in
-        let is : held_at k.cursors h.id ≡ Some h = ap (held_at k.cursors) (same_ids h.id id (found_passes (λ (h : Held). same_id h.id id) k.cursors h f)) ∙ f in
+        let no = any_none (λ (h : Held). over_name name (held_at k.cursors h.id)) (λ (h : Held). same_id h.id id)
+        k.cursors h none f in
+        let is : held_at k.cursors h.id
+        ≡ Some h = ap (held_at k.cursors)
+        (same_ids h.id id (found_passes (λ (h : Held). same_id h.id id) k.cursors h f)) ∙ f in
         false≢true (sym no ∙ ap (over_name name) is ∙ (bytes_eq-decides h.query name).1 called)
 
-    watched : list_any (λ (h : Held). over_name name (held_at k.cursors h.id)) k.cursors ≡ false → (o : Option Registered) → registered_of k.registered name ≡ o → Decided k name
-    watched none None f = record { used = false; uses = (no_cursor none, subst (λ (o : Option Registered). IfSome o (λ r. is_watched r ≡ false)) (sym f) tt) }
+    watched : list_any (λ (h : Held). over_name name (held_at k.cursors h.id)) k.cursors ≡ false
+        → (o : Option Registered) → registered_of k.registered name ≡ o → Decided k name
+    watched none None f = record {
+      used = false;
+      uses =
+          (no_cursor none, subst (λ (o : Option Registered). IfSome o (λ r. is_watched r ≡ false)) (sym f) tt);
+    }
     watched none (Some r) f = by_test (is_watched r) refl
       where
         by_test : (c : Bool) → is_watched r ≡ c → Decided k name
-        by_test true g = record { used = true; uses = inr (subst (λ (o : Option Registered). IsSomeAnd o (λ r. is_watched r ≡ true)) (sym f) g) }
-        by_test false g = record { used = false; uses = (no_cursor none, subst (λ (o : Option Registered). IfSome o (λ r. is_watched r ≡ false)) (sym f) g) }
+        by_test true g = record {
+          used = true;
+          uses = inr
+              (subst (λ (o : Option Registered). IsSomeAnd o (λ r. is_watched r ≡ true)) (sym f) g);
+        }
+        by_test false g = record {
+          used = false;
+          uses =
+              (no_cursor none, subst (λ (o : Option Registered). IfSome o (λ r. is_watched r ≡ false)) (sym f) g);
+        }
 
-    by_cursor : (c : Bool) → list_any (λ (h : Held). over_name name (held_at k.cursors h.id)) k.cursors ≡ c → Decided k name
-    by_cursor true f = let x = any_one (λ (h : Held). over_name name (held_at k.cursors h.id)) k.cursors f in record { used = true; uses = found x.0 (held_at k.cursors x.0.id) refl x.1 }
+    by_cursor : (c : Bool) → list_any (λ (h : Held). over_name name (held_at k.cursors h.id)) k.cursors ≡ c
+        → Decided k name
+    by_cursor true f = let x = any_one (λ (h : Held). over_name name (held_at k.cursors h.id)) k.cursors f in record
+        { used = true; uses = found x.0 (held_at k.cursors x.0.id) refl x.1 }
     by_cursor false f = watched f (registered_of k.registered name) refl
 
 -- ---- a query of the engine
@@ -116,22 +146,30 @@ or_true true c e = refl
 or_true false c e = e
 
 -- what is found by a name is found by its id
-pub found_by_id : (rs : List Registered) (r : Registered) (p : Registered → Bool) → AllPairs (λ (x y : Registered). same_query x.id y.id ≡ false) rs → find p rs ≡ Some r → find (λ (x : Registered). same_query x.id r.id) rs ≡ Some r
+pub found_by_id : (rs : List Registered) (r : Registered) (p : Registered → Bool)
+    → AllPairs (λ (x y : Registered). same_query x.id y.id ≡ false) rs → find p rs ≡ Some r
+    → find (λ (x : Registered). same_query x.id r.id) rs ≡ Some r
 found_by_id [] r p apart e = absurd cc
-found_by_id (x ∷ rs) r p apart e = step (p x) e (found_by_id rs r p (λ i j d low within. apart (suc i) (suc j) d (omega arith) (omega arith)))
+found_by_id (x ∷ rs) r p apart e = step (p x) e
+    (found_by_id rs r p (λ i j d low within. apart (suc i) (suc j) d (omega arith) (omega arith)))
   where
     same : {x y : Registered} → Some x ≡ Some y → x ≡ y
     same h = cc
 
     differs : find p rs ≡ Some r → same_query x.id r.id ≡ false
-    differs f = found_all (λ (y : Registered). same_query x.id y.id ≡ false) p rs r (λ j d low. apart zero (suc j) d (omega arith) (omega arith)) f
+    differs f = found_all (λ (y : Registered). same_query x.id y.id ≡ false) p rs r
+        (λ j d low. apart zero (suc j) d (omega arith) (omega arith)) f
 
-    step : (c : Bool) → cond c (Some x) (find p rs) ≡ Some r → (find p rs ≡ Some r → find (λ (y : Registered). same_query y.id r.id) rs ≡ Some r)
+    step : (c : Bool) → cond c (Some x) (find p rs) ≡ Some r
+        → (find p rs ≡ Some r → find (λ (y : Registered). same_query y.id r.id) rs ≡ Some r)
         → cond (same_query x.id r.id) (Some x) (find (λ (y : Registered). same_query y.id r.id) rs) ≡ Some r
-    step true f more = ap (λ c. cond c (Some x) (find (λ (y : Registered). same_query y.id r.id) rs)) (ap (λ (y : Registered). x.id.at == y.id.at) (sym (same f)) ∙ eq-eqb x.id.at x.id.at refl) ∙ f
-    step false f more = ap (λ c. cond c (Some x) (find (λ (y : Registered). same_query y.id r.id) rs)) (differs f) ∙ more f
+    step true f more = ap (λ c. cond c (Some x) (find (λ (y : Registered). same_query y.id r.id) rs))
+        (ap (λ (y : Registered). x.id.at == y.id.at) (sym (same f)) ∙ eq-eqb x.id.at x.id.at refl) ∙ f
+    step false f more = ap (λ c. cond c (Some x) (find (λ (y : Registered). same_query y.id r.id) rs)) (differs f)
+        ∙ more f
 
-module _ (e : Kept) (b : IsEngine e) (us : List (Option Joined)) (order sessions affected : List ℕ) (w : IsListed e us order) (count : IsCounted e us sessions)
+module _ (e : Kept) (b : IsEngine e) (us : List (Option Joined)) (order sessions affected : List ℕ)
+    (w : IsListed e us order) (count : IsCounted e us sessions)
     (name : Bytes) (none : NoUnion us name) where
   abbrev old : Kept
   old = seen e us order sessions affected
@@ -143,8 +181,10 @@ module _ (e : Kept) (b : IsEngine e) (us : List (Option Joined)) (order sessions
   engine_no_member =
       ap (λ qs. is_member qs name) (sym (engine_queries e b us order w))
       ∙ none_any (listed_at e.places us) (λ q. list_any (is_called name) (members_of q)) (query_places order)
-      (λ at there. let t = both_true (is_reader order at) (nat_lt at QUERIES) (sym (reader_filter (λ i. nat_lt i QUERIES) order at) ∙ there) in
-      ap (λ q. list_any (is_called name) (members_of q)) (listed_seat e b us at (order_seat e b us order w at t.0 (ltb-true at QUERIES t.1))))
+      (λ at there. let t = both_true (is_reader order at) (nat_lt at QUERIES)
+      (sym (reader_filter (λ i. nat_lt i QUERIES) order at) ∙ there) in
+      ap (λ q. list_any (is_called name) (members_of q))
+      (listed_seat e b us at (order_seat e b us order w at t.0 (ltb-true at QUERIES t.1))))
 
   -- nothing has the name
   pub drop_unknown : listed_of (e.store).queries name ≡ None → DropGives old name (Err NoQuery) old
@@ -153,8 +193,11 @@ module _ (e : Kept) (b : IsEngine e) (us : List (Option Joined)) (order sessions
         used = d.used;
         is_used = d.uses;
         store = record {
-          answer = answers_refused (drop_refusal old.store d.used name) NoQuery (λ _. old.store ≡ record old.store { queries = drop_first (λ q. bytes_eq (listed_name q) name) old.store.queries }) (OutOfMemoryWhere ⊥)
-              (ap (λ o. first_refusal ((is_none o, NoQuery) ∷ (d.used || is_member old.store.queries name, InUse) ∷ [])) (same_listed ∙ unknown));
+          answer = answers_refused (drop_refusal old.store d.used name) NoQuery
+              (λ _. old.store ≡ record old.store
+              { queries = drop_first (λ q. bytes_eq (listed_name q) name) old.store.queries }) (OutOfMemoryWhere ⊥)
+              (ap (λ o. first_refusal ((is_none o, NoQuery) ∷ (d.used || is_member old.store.queries name, InUse) ∷ []))
+              (same_listed ∙ unknown));
           stays = refl;
         };
         cursors = λ id. refl;
@@ -167,21 +210,30 @@ module _ (e : Kept) (b : IsEngine e) (us : List (Option Joined)) (order sessions
     there = seat_order e b us order w at s
 
     named_at : registered_of old.registered name ≡ Some (registered_as e.places us sessions at)
-    named_at = registered_by_name e b us order w sessions name ∙ ap (option_map (registered_as e.places us sessions)) (named_here e b us order w name at there (ap listed_name (listed_seat e b us at s) ∙ called))
+    named_at = registered_by_name e b us order w sessions name
+        ∙ ap (option_map (registered_as e.places us sessions))
+        (named_here e b us order w name at there (ap listed_name (listed_seat e b us at s) ∙ called))
 
     known : listed_of old.store.queries name ≡ Some (listed_at e.places us at)
-    known = listed_is e b us order w name ∙ ap (option_map (listed_at e.places us)) (named_here e b us order w name at there (ap listed_name (listed_seat e b us at s) ∙ called))
+    known = listed_is e b us order w name
+        ∙ ap (option_map (listed_at e.places us))
+        (named_here e b us order w name at there (ap listed_name (listed_seat e b us at s) ∙ called))
 
     -- it is a member of a union
-    pub drop_member : (k : ℕ) (j : Joined) → joined_at us k ≡ Some j → is_reader j.union.members at ≡ true → DropGives old name (Err InUse) old
+    pub drop_member : (k : ℕ) (j : Joined) → joined_at us k ≡ Some j → is_reader j.union.members at ≡ true
+        → DropGives old name (Err InUse) old
     drop_member k j is among =
         let d = decided old name in record {
           used = d.used;
           is_used = d.uses;
           store = record {
-            answer = answers_refused (drop_refusal old.store d.used name) InUse (λ _. old.store ≡ record old.store { queries = drop_first (λ q. bytes_eq (listed_name q) name) old.store.queries }) (OutOfMemoryWhere ⊥)
+            answer = answers_refused (drop_refusal old.store d.used name) InUse
+                (λ _. old.store ≡ record old.store
+                { queries = drop_first (λ q. bytes_eq (listed_name q) name) old.store.queries }) (OutOfMemoryWhere ⊥)
                 (ap₂ (λ (o : Option Listed) (c : Bool). first_refusal ((is_none o, NoQuery) ∷ (c, InUse) ∷ [])) known
-                (or_true d.used (is_member old.store.queries name) (subst (λ (n : Bytes). is_member old.store.queries n ≡ true) called (seat_member e b us order w at s k j is among))));
+                (or_true d.used (is_member old.store.queries name)
+                (subst (λ (n : Bytes). is_member old.store.queries n ≡ true) called
+                (seat_member e b us order w at s k j is among))));
             stays = refl;
           };
           cursors = λ id. refl;
@@ -192,11 +244,13 @@ module _ (e : Kept) (b : IsEngine e) (us : List (Option Joined)) (order sessions
     -- no union needs it
     module _ (alone : (k : ℕ) (j : Joined) → joined_at us k ≡ Some j → is_reader j.union.members at ≡ false) where
       no_member : is_member old.store.queries name ≡ false
-      no_member = subst (λ (n : Bytes). is_member old.store.queries n ≡ false) called (seat_no_member e b us order w at s alone)
+      no_member = subst (λ (n : Bytes). is_member old.store.queries n ≡ false) called
+          (seat_no_member e b us order w at s alone)
 
       pub same_drop_refusal : (used : Bool) → drop_refusal old.store used name ≡ drop_refusal e.store used name
       same_drop_refusal used =
-          ap₂ (λ (o : Option Listed) (c : Bool). first_refusal ((is_none o, NoQuery) ∷ (used || c, InUse) ∷ [])) same_listed (no_member ∙ sym engine_no_member)
+          ap₂ (λ (o : Option Listed) (c : Bool). first_refusal ((is_none o, NoQuery) ∷ (used || c, InUse) ∷ []))
+          same_listed (no_member ∙ sym engine_no_member)
 
       unwanted : count_by (wants at) us ≡ 0
       unwanted = count_none (wants at) us (λ k low. by_slot k (joined_at us k) refl)
@@ -211,10 +265,13 @@ module _ (e : Kept) (b : IsEngine e) (us : List (Option Joined)) (order sessions
 
       in_engine : registered_of e.registered name ≡ Some s.registered
       in_engine =
-          let placed : place_named e.places us order name ≡ Some at = named_here e b us order w name at there (ap listed_name (listed_seat e b us at s) ∙ called) in
+          let placed : place_named e.places us order name
+          ≡ Some at = named_here e b us order w name at there (ap listed_name (listed_seat e b us at s) ∙ called) in
           by_found (registered_of e.registered name) refl (sym (engine_named e b us order w name none) ∙ placed)
         where
-          by_found : (o : Option Registered) → registered_of e.registered name ≡ o → option_map (λ (r : Registered). r.id.at) o ≡ Some at → registered_of e.registered name ≡ Some s.registered
+          by_found : (o : Option Registered) → registered_of e.registered name ≡ o
+              → option_map (λ (r : Registered). r.id.at) o ≡ Some at → registered_of e.registered name
+              ≡ Some s.registered
           by_found None f h = absurd cc
           by_found (Some r) f h =
               let at_is : r.id.at ≡ at = same h in
@@ -223,29 +280,35 @@ module _ (e : Kept) (b : IsEngine e) (us : List (Option Joined)) (order sessions
               same : {x y : ℕ} → Some x ≡ Some y → x ≡ y
               same h = cc
 
-              found_again : (r : Registered) → registered_of e.registered name ≡ Some r → registered_at e.registered r.id ≡ Some r
-              found_again r f = found_by_id e.registered r (λ (x : Registered). bytes_eq (listed_name x.query) name) b.apart f
+              found_again : (r : Registered) → registered_of e.registered name ≡ Some r
+                  → registered_at e.registered r.id ≡ Some r
+              found_again r f = found_by_id e.registered r (λ (x : Registered). bytes_eq (listed_name x.query) name)
+                  b.apart f
 
       watched_as : is_watched (registered_as e.places us sessions at) ≡ is_watched s.registered
       watched_as =
           let stored = low_place at (λ i. get_or sessions i 0) (λ k. union_watchers (joined_at us k)) s.low in
           let counted = count.counted s.registered (ap (registered_at e.registered) s.id ∙ s.found) in
           let same : s.registered.watchers ≡ get_or sessions at 0 + 0 =
-          counted ∙ ap (λ (i : QueryId). get_or sessions i.at 0 + count_by (wants i.at) us) s.id ∙ ap (λ n. get_or sessions at 0 + n) unwanted in
+          counted ∙ ap (λ (i : QueryId). get_or sessions i.at 0 + count_by (wants i.at) us) s.id
+          ∙ ap (λ n. get_or sessions at 0 + n) unwanted in
           ap (λ n. nat_lt 0 n) (stored ∙ omega (arith, same))
 
       -- it is in use where it is in the engine
       pub uses_over : (used : Bool) → Uses e name used → Uses old name used
       uses_over true (inl u) =
           let low = (held_seat e b u.0 u.1 u.2).low in inl (u.0, u.1, held_low e us u.0 low ∙ u.2, u.3)
-      uses_over true (inr u) = inr (subst (λ (o : Option Registered). IsSomeAnd o (λ r. is_watched r ≡ true)) (sym named_at)
+      uses_over true (inr u) = inr
+          (subst (λ (o : Option Registered). IsSomeAnd o (λ r. is_watched r ≡ true)) (sym named_at)
           (watched_as ∙ subst (λ (o : Option Registered). IsSomeAnd o (λ r. is_watched r ≡ true)) in_engine u))
       uses_over false u = (
         no_cursor,
-        subst (λ (o : Option Registered). IfSome o (λ r. is_watched r ≡ false)) (sym named_at) (watched_as ∙ subst (λ (o : Option Registered). IfSome o (λ r. is_watched r ≡ false)) in_engine u.1),
+        subst (λ (o : Option Registered). IfSome o (λ r. is_watched r ≡ false)) (sym named_at)
+            (watched_as ∙ subst (λ (o : Option Registered). IfSome o (λ r. is_watched r ≡ false)) in_engine u.1),
       )
         where
-          of_union : (id : CursorId) (h : Held) (k : ℕ) (o : Option Joined) → joined_at us k ≡ o → held_of (e.store).texts e.places id o ≡ Some h → h.query ≡ name → ⊥
+          of_union : (id : CursorId) (h : Held) (k : ℕ) (o : Option Joined) → joined_at us k ≡ o
+              → held_of (e.store).texts e.places id o ≡ Some h → h.query ≡ name → ⊥
           of_union id h k None f g called = absurd cc
           of_union id h k (Some j) f g called = by_slot (slot_at j.union.cursors id.cursor) g
             where
@@ -253,7 +316,8 @@ module _ (e : Kept) (b : IsEngine e) (us : List (Option Joined)) (order sessions
               by_slot None g = absurd cc
               by_slot (Some p) g =
                   let is : held_as (e.store).texts e.places j.union id p ≡ h = same g in
-                  false≢true (sym (none k j f) ∙ (bytes_eq-decides j.union.name name).1 (ap (λ (x : Held). x.query) is ∙ called))
+                  false≢true (sym (none k j f)
+                  ∙ (bytes_eq-decides j.union.name name).1 (ap (λ (x : Held). x.query) is ∙ called))
                 where
                   same : {x y : Held} → Some x ≡ Some y → x ≡ y
                   same h = cc
@@ -263,14 +327,22 @@ module _ (e : Kept) (b : IsEngine e) (us : List (Option Joined)) (order sessions
             where
               by_case : (id.query.at < QUERIES) ⊎ Slot id.query.at → ⊥
               by_case (inl low) = u.0 id h (sym (held_low e us id low) ∙ f) called
-              by_case (inr t) = of_union id h t.slot (joined_at us t.slot) refl (sym (held_high e us id b t.slot t.is) ∙ f) called
+              by_case (inr t) = of_union id h t.slot (joined_at us t.slot) refl
+                  (sym (held_high e us id b t.slot t.is) ∙ f) called
 
       -- it is dropped, or it isn't
-      pub drop_done : (e' : Kept) → IsEngine e' → DropGives e name (Ok tt) e' → DropsPlace e name (Ok tt) e' → Vacates e e' us name at
+      pub drop_done : (e' : Kept) → IsEngine e' → DropGives e name (Ok tt) e' → DropsPlace e name (Ok tt) e'
+          → Vacates e e' us name at
       drop_done e' b' g places =
-          let p = subst (λ (o : Option Registered). IsSomeAnd o (λ r. e'.places ≡ set e.places r.id.at None)) in_engine places in
-          let t = subst (λ (o : Option Registered). IsSomeAnd o (λ r. TellsOf e r.id None e' × (e'.affected ≡ filter (λ (id : QueryId). not (same_query id r.id)) e.affected))) in_engine g.tellings in
-          let d = done_of (drop_refusal e.store g.used name) tt (λ _. e'.store ≡ record e.store { queries = drop_first (λ q. bytes_eq (listed_name q) name) (e.store).queries }) (OutOfMemoryWhere ⊥) g.store.answer in
+          let p = subst (λ (o : Option Registered). IsSomeAnd o (λ r. e'.places ≡ set e.places r.id.at None)) in_engine
+          places in
+          let t = subst (λ (o : Option Registered). IsSomeAnd o
+          (λ r. TellsOf e r.id None e'
+          × (e'.affected ≡ filter (λ (id : QueryId). not (same_query id r.id)) e.affected))) in_engine g.tellings in
+          let d = done_of (drop_refusal e.store g.used name) tt
+          (λ _. e'.store ≡ record e.store
+          { queries = drop_first (λ q. bytes_eq (listed_name q) name) (e.store).queries }) (OutOfMemoryWhere ⊥)
+          g.store.answer in
           record {
             before = b;
             after = b';
@@ -278,21 +350,29 @@ module _ (e : Kept) (b : IsEngine e) (us : List (Option Joined)) (order sessions
             called = called;
             places = p ∙ ap (λ (i : QueryId). set e.places i.at None) s.id;
             registered = g.registered;
-            store = d.1 ∙ ap (λ (qs : List Listed). (let st : Store = record e.store { queries = qs } in st)) (sym (ap (λ (st : Store). st.queries) d.1));
+            store = d.1 ∙ ap (λ (qs : List Listed). (let st : Store = record e.store { queries = qs } in st))
+                (sym (ap (λ (st : Store). st.queries) d.1));
             cursors = g.cursors;
             tells = subst (λ (i : QueryId). TellsOf e i None e') s.id t.0;
             none = alone;
           }
 
-      pub drop_gives : (e' : Kept) → (v : Vacates e e' us name at) → DropGives e name (Ok tt) e' → DropGives old name (Ok tt) (seen e' us (left at order) sessions (left at affected))
+      pub drop_gives : (e' : Kept) → (v : Vacates e e' us name at) → DropGives e name (Ok tt) e'
+          → DropGives old name (Ok tt) (seen e' us (left at order) sessions (left at affected))
       drop_gives e' v g =
-          let d = done_of (drop_refusal e.store g.used name) tt (λ _. e'.store ≡ record e.store { queries = drop_first (λ q. bytes_eq (listed_name q) name) (e.store).queries }) (OutOfMemoryWhere ⊥) g.store.answer in
+          let d = done_of (drop_refusal e.store g.used name) tt
+          (λ _. e'.store ≡ record e.store
+          { queries = drop_first (λ q. bytes_eq (listed_name q) name) (e.store).queries }) (OutOfMemoryWhere ⊥)
+          g.store.answer in
           record {
             used = g.used;
             is_used = uses_over g.used g.is_used;
             store = record {
               answer = answers_done (drop_refusal old.store g.used name) tt
-                  (λ _. (seen e' us (left at order) sessions (left at affected)).store ≡ record old.store { queries = drop_first (λ q. bytes_eq (listed_name q) name) old.store.queries }) (OutOfMemoryWhere ⊥)
+                  (λ _. (seen e' us (left at order) sessions (left at affected)).store
+                  ≡ record old.store {
+                    queries = drop_first (λ q. bytes_eq (listed_name q) name) old.store.queries;
+                  }) (OutOfMemoryWhere ⊥)
                   (same_drop_refusal g.used ∙ d.0) (vacated_store e e' us order sessions affected w name at v);
               stays = tt;
             };
@@ -301,14 +381,18 @@ module _ (e : Kept) (b : IsEngine e) (us : List (Option Joined)) (order sessions
             tellings = vacated_tells e e' us order sessions affected w name at v;
           }
 
-      pub drop_refused : (e' : Kept) (x : Refusal) → (r : Rests e e') → DropGives e name (Err x) e' → DropGives old name (Err x) (seen e' us order sessions affected)
+      pub drop_refused : (e' : Kept) (x : Refusal) → (r : Rests e e') → DropGives e name (Err x) e'
+          → DropGives old name (Err x) (seen e' us order sessions affected)
       drop_refused e' x r g = record {
         used = g.used;
         is_used = uses_over g.used g.is_used;
         store = record {
           answer = refused_as (drop_refusal e.store g.used name) (drop_refusal old.store g.used name) x
-              (λ _. e'.store ≡ record e.store { queries = drop_first (λ q. bytes_eq (listed_name q) name) (e.store).queries })
-              (λ _. (seen e' us order sessions affected).store ≡ record old.store { queries = drop_first (λ q. bytes_eq (listed_name q) name) old.store.queries }) ⊥ ⊥
+              (λ _. e'.store ≡ record e.store
+              { queries = drop_first (λ q. bytes_eq (listed_name q) name) (e.store).queries })
+              (λ _. (seen e' us order sessions affected).store
+              ≡ record old.store { queries = drop_first (λ q. bytes_eq (listed_name q) name) old.store.queries }) ⊥
+              ⊥
               (same_drop_refusal g.used) (λ h. h) g.store.answer;
           stays = store_over e e' r us order sessions affected w g.store.stays;
         };
@@ -318,9 +402,15 @@ module _ (e : Kept) (b : IsEngine e) (us : List (Option Joined)) (order sessions
       }
 
 -- where nothing was dropped all stays
-pub drop_rests : (e e' : Kept) → IsEngine e → IsEngine e' → StayingLaws → (name : Bytes) (x : Refusal) → DropGives e name (Err x) e' → DropsPlace e name (Err x) e' → Rests e e'
+pub drop_rests : (e e' : Kept) → IsEngine e → IsEngine e' → StayingLaws → (name : Bytes) (x : Refusal)
+    → DropGives e name (Err x) e' → DropsPlace e name (Err x) e' → Rests e e'
 drop_rests e e' b b' laws name x g places = rests_with e e' b b' laws stay g.store.stays
   where
     stay : KeepsTables e e'
-    stay i l there = subst (λ (o : Option Live). IsSomeAnd o (KeepsQuery (λ q. false) l)) (sym (ap (λ (gs : List (Option Live)). get_or gs i None) places ∙ there))
-        (record { shape = record { query = refl; numbered = refl; tree = refl }; tables = λ h. record { query = refl; numbered = refl; reducts = refl } })
+    stay i l there = subst (λ (o : Option Live). IsSomeAnd o (KeepsQuery (λ q. false) l))
+        (sym (ap (λ (gs : List (Option Live)). get_or gs i None) places ∙ there))
+        (record {
+          shape = record { query = refl; numbered = refl; tree = refl };
+          tables = λ h. record
+              { query = refl; numbered = refl; reducts = refl };
+        })

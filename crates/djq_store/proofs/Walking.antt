@@ -1,7 +1,10 @@
 -- Steps of the loops over relations, over the affected, and over unions.
-use Rattle.std.specs.Prelude.{ℕ, zero, suc, List, [], ◌∷◌, ◌++◌, ◌≡◌, ◌==◌, ◌+◌, ◌-◌, ◌<◌, ◌≤◌, ◌||◌, ◌⊎◌, nat_lt, sum_by, Bool, true, false, cond, Option, None, Some, find, filter, map, length, slice_get, All, Contains}
+use Rattle.std.specs.Prelude.{ℕ, zero, suc, List, [], ◌∷◌, ◌++◌, ◌≡◌, ◌==◌, ◌+◌, ◌-◌, ◌<◌, ◌≤◌}
+use Rattle.std.specs.Prelude.{◌||◌, ◌⊎◌, nat_lt, sum_by, Bool, true, false, cond, Option, None}
+use Rattle.std.specs.Prelude.{Some, find, filter, map, length, slice_get, All, Contains}
 use Rattle.std.specs.List.{list_any}
-use Rattle.std.proofs.Common.{refl, sym, ap, ap₂, ◌∙◌, subst, arith, get_or, set, take, replicate, append-nil, length-set, inl, inr}
+use Rattle.std.proofs.Common.{refl, sym, ap, ap₂, ◌∙◌, subst, arith, get_or, set, take, replicate}
+use Rattle.std.proofs.Common.{append-nil, length-set, inl, inr}
 use Rattle.std.proofs.lemmas.Bool.{eqb-true, eq-eqb, false≢true, cases_order}
 use Rattle.std.proofs.lemmas.List.{take_more, map-append, get_or-set_same, get_or-set_other, get_or_default}
 use Rattle.std.proofs.lemmas.List.Sums.{sum_by_more}
@@ -101,11 +104,14 @@ affected_more f g us order items n at b low is same test so =
     ∙ ap (λ (c : Bool). filter (is_affected g us) (take n order) ++ cond c (at ∷ []) [])
     (sym (affected_same f g us at same) ∙ sym test))
   where
-    by : (c : Bool) → b ≡ c → cond b (filter (is_affected g us) (take n order) ++ at ∷ []) (filter (is_affected g us) (take n order))
+    by : (c : Bool) → b ≡ c
+        → cond b (filter (is_affected g us) (take n order) ++ at ∷ []) (filter (is_affected g us) (take n order))
         ≡ filter (is_affected g us) (take n order) ++ cond b (at ∷ []) []
-    by true e = ap (λ (d : Bool). cond d (filter (is_affected g us) (take n order) ++ at ∷ []) (filter (is_affected g us) (take n order))) e
+    by true e = ap (λ (d : Bool). cond d (filter (is_affected g us) (take n order) ++ at ∷ [])
+        (filter (is_affected g us) (take n order))) e
         ∙ sym (ap (λ (d : Bool). filter (is_affected g us) (take n order) ++ cond d (at ∷ []) []) e)
-    by false e = ap (λ (d : Bool). cond d (filter (is_affected g us) (take n order) ++ at ∷ []) (filter (is_affected g us) (take n order))) e
+    by false e = ap (λ (d : Bool). cond d (filter (is_affected g us) (take n order) ++ at ∷ [])
+        (filter (is_affected g us) (take n order))) e
         ∙ sym (append-nil (filter (is_affected g us) (take n order)))
         ∙ sym (ap (λ (d : Bool). filter (is_affected g us) (take n order) ++ cond d (at ∷ []) []) e)
 
@@ -144,7 +150,8 @@ pub filter_few : {A : Type 0} (p : A → Bool) (xs : List A) → length (filter 
 filter_few p [] = omega arith
 filter_few p (x ∷ xs) = by (p x) (filter_few p xs)
   where
-    by : (b : Bool) → length (filter p xs) ≤ length xs → length (cond b (x ∷ filter p xs) (filter p xs)) ≤ length (x ∷ xs)
+    by : (b : Bool) → length (filter p xs) ≤ length xs
+        → length (cond b (x ∷ filter p xs) (filter p xs)) ≤ length (x ∷ xs)
     by true k = omega (arith, k)
     by false k = omega (arith, k)
 
@@ -181,7 +188,8 @@ module _ (e : Kept) (relations : List Bytes) (n : ℕ) (turn : Turn) (old now : 
       by (inl same) =
           subst (λ (j : ℕ). SettlesAt e relations n turn (joined_at old j) (joined_at (set now k y) j)) (sym same)
           (subst (λ (o : Option Joined). SettlesAt e relations n turn o (joined_at (set now k y) k)) (sym was)
-          (subst (λ (o : Option Joined). SettlesAt e relations n turn x o) (sym (get_or-set_same now k y None low)) settles))
+          (subst (λ (o : Option Joined). SettlesAt e relations n turn x o) (sym (get_or-set_same now k y None low))
+          settles))
       by (inr (inl less)) =
           subst (λ (o : Option Joined). SettlesAt e relations n turn (joined_at old i) o)
           (sym (get_or-set_other now k i y None (λ (same : i ≡ k). omega (arith, same, less)))) (done i less)

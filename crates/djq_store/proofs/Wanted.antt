@@ -1,5 +1,8 @@
 -- What is told of queries and unions behind a change of rows, by what the engine tells of its queries.
-use Rattle.std.specs.Prelude.{ℕ, zero, suc, List, [], ◌∷◌, ◌≡◌, ◌↔◌, ◌==◌, ◌+◌, ◌-◌, ◌*◌, ◌<◌, ◌≤◌, ◌&&◌, ◌||◌, ◌⊎◌, nat_lt, Bool, true, false, cond, Option, None, Some, is_some, IsSomeAnd, filter, find, map, length, count_by, sum_by, slice_index_or, unwrap_or, All, AllPairs, Contains, ⊤}
+use Rattle.std.specs.Prelude.{ℕ, zero, suc, List, [], ◌∷◌, ◌≡◌, ◌↔◌, ◌==◌, ◌+◌, ◌-◌, ◌*◌, ◌<◌, ◌≤◌}
+use Rattle.std.specs.Prelude.{◌&&◌, ◌||◌, ◌⊎◌, nat_lt, Bool, true, false, cond, Option, None, Some}
+use Rattle.std.specs.Prelude.{is_some, IsSomeAnd, filter, find, map, length, count_by, sum_by}
+use Rattle.std.specs.Prelude.{slice_index_or, unwrap_or, All, AllPairs, Contains, ⊤}
 use Rattle.std.specs.List.{list_any}
 use Rattle.std.proofs.Common.{refl, sym, ap, ap₂, ◌∙◌, subst, inl, inr, arith, get_or}
 use Rattle.std.proofs.lemmas.Bool.{eqb-true, eq-eqb, false≢true, lt-ltb, ltb-true, le-ltb, cases_lt}
@@ -28,15 +31,19 @@ use Rattle.djq_engine.specs.Places.{id_at}
 use Rattle.djq_united.specs.United.{union_of}
 use Rattle.djq_deltas.specs.Growing.{SparesOthers}
 use Rattle.djq_deltas.proofs.Growing.{answers_rest}
-use Rattle.djq_deltas.proofs.Lists.{nothing_there, first_or_later, first_there, later_there, kept_there, mapped_there, hold_each, pairs_head, pairs_tail}
+use Rattle.djq_deltas.proofs.Lists.{nothing_there, first_or_later, first_there, later_there}
+use Rattle.djq_deltas.proofs.Lists.{kept_there, mapped_there, hold_each, pairs_head, pairs_tail}
 use Rattle.djq_store.specs.declared.joined.Joined.{Joined}
 use Rattle.djq_store.specs.declared.settling.Turn.{Turn}
 use Rattle.djq_store.specs.Places.{joined_at, listed_at, registered_as, sessions_at, union_watchers}
 use Rattle.djq_store.specs.Whole.{IsListed, IsCounted, wants}
 use Rattle.djq_store.proofs.Behind.{Behind, h, member_there, union_is, outdated_member}
-use Rattle.djq_store.proofs.Counting.{mapped_was, pairs_mapped, pairs_weaker, in_order, order_has, engine_listed, engine_ordered, seen_there}
-use Rattle.djq_store.proofs.Deltas.{changes_in, ByPlace, all_by_place, touched, asked, asked_of, asking, steps_at, IsListedAs, HasDelta, Lists, lists}
-use Rattle.djq_store.proofs.Ordered.{Seat, seat_here, listed_seat, listed_joint, order_seat, order_joint, joint_order, Joint}
+use Rattle.djq_store.proofs.Counting.{mapped_was, pairs_mapped, pairs_weaker, in_order, order_has}
+use Rattle.djq_store.proofs.Counting.{engine_listed, engine_ordered, seen_there}
+use Rattle.djq_store.proofs.Deltas.{changes_in, ByPlace, all_by_place, touched, asked, asked_of}
+use Rattle.djq_store.proofs.Deltas.{asking, steps_at, IsListedAs, HasDelta, Lists, lists}
+use Rattle.djq_store.proofs.Ordered.{Seat, seat_here, listed_seat, listed_joint, order_seat}
+use Rattle.djq_store.proofs.Ordered.{order_joint, joint_order, Joint}
 use Rattle.djq_store.proofs.ReadBy.{the_query, any_there}
 use Rattle.djq_store.proofs.Seats.{Slot, cases_place, low_place, high_place}
 use Rattle.djq_store.proofs.Slots.{slot_below, count_positive}
@@ -49,7 +56,8 @@ pub found_itself : (rs : List Registered) (r : Registered) → AllPairs (λ r s.
     → Contains rs r → registered_at rs r.id ≡ Some r
 found_itself [] r apart c = absurd (nothing_there r c)
 found_itself (s ∷ rs) r apart c =
-    by (first_or_later s rs r c) (λ k. found_itself rs r (pairs_tail (λ r s. same_query r.id s.id ≡ false) s rs apart) k)
+    by (first_or_later s rs r c)
+    (λ k. found_itself rs r (pairs_tail (λ r s. same_query r.id s.id ≡ false) s rs apart) k)
   where
     by : (s ≡ r) ⊎ Contains rs r → (Contains rs r → registered_at rs r.id ≡ Some r)
         → cond (s.id.at == r.id.at) (Some s) (registered_at rs r.id) ≡ Some r
@@ -132,7 +140,8 @@ members_at us at = cond (nat_lt at QUERIES) None (members_in_slot (joined_at us 
 module _ (change : RowsChange) (relations : List Bytes) (turn : Turn) (e e' : Kept) (us us' : List (Option Joined))
     (b : Behind (Some change) relations turn e e' us us') (order : List ℕ) (w : IsListed e us order)
     (sessions : List ℕ) (c : IsCounted e us sessions) (eds : List Delta)
-    (are : AreDeltas (e.store).relations change (map (λ (r : Registered). r.query) (affected_of e.registered change)) eds)
+    (are : AreDeltas (e.store).relations change (map (λ (r : Registered). r.query) (affected_of e.registered change))
+    eds)
     (spares : SparesOthers (e.store).relations change)
     (out : (q : Query) → is_touched change q ≡ true → is_outdated change (a_query q) ≡ true) where
   abbrev pub seen_as : ℕ → Registered
@@ -198,7 +207,8 @@ module _ (change : RowsChange) (relations : List Bytes) (turn : Turn) (e e' : Ke
       (deltas m k) same in
       let atoms : filter (λ (a : Atom). change.touches a.relation) (q_at m).atoms ≡ [] =
       none_kept (λ (a : Atom). change.touches a.relation) (q_at m).atoms none in
-      ap₂ (λ (cs : List Change) (atoms : List Atom). (length cs + length atoms) * (2 * length (q_at m).head + 1)) empty atoms
+      ap₂ (λ (cs : List Change) (atoms : List Atom). (length cs + length atoms) * (2 * length (q_at m).head + 1)) empty
+      atoms
       ∙ zero_times (2 * length (q_at m).head + 1)
     where
       zero_times : (n : ℕ) → (0 + 0) * n ≡ 0
@@ -242,14 +252,16 @@ module _ (change : RowsChange) (relations : List Bytes) (turn : Turn) (e e' : Ke
       let at = r.id.at in
       let low = low_of r k in
       let listed = engine_listed e b.did.before us order w sessions r k in
-      let there = seen_there e b.did.before us order w sessions at (engine_ordered e b.did.before us order w sessions r k) in (
+      let there = seen_there e b.did.before us order w sessions at
+      (engine_ordered e b.did.before us order w sessions r k) in (
         seen_as at,
         kept_there IsAffected (map seen_as order) (seen_as at)
             (both_true (is_outdated change (seen_as at).query) (is_watched (seen_as at))
             (ap (is_outdated change) listed ∙ outdated)
             (ap (λ n. nat_lt 0 n) (sessions_low at low) ∙ lt-ltb 0 (slice_index_or sessions at 0) some))
             there,
-        subst (λ (o : Option (List ℕ)). Contains (asked_of (e.store).relations change q_at f (members_at us) places o at) at)
+        subst (λ (o : Option (List ℕ)). Contains
+            (asked_of (e.store).relations change q_at f (members_at us) places o at) at)
             (sym (members_low at low)) (first_there at [] at refl),
       )
 
@@ -282,7 +294,8 @@ module _ (change : RowsChange) (relations : List Bytes) (turn : Turn) (e e' : Ke
                 (ap (is_outdated change) (listed_joint e.places us k joint) ∙ reached)
                 (ap (λ n. nat_lt 0 n) (sessions_high k ∙ ap union_watchers there) ∙ both.0))
                 (seen_there e b.did.before us order w sessions at (joint_order e b.did.before us order w k joint)),
-            subst (λ (o : Option (List ℕ)). Contains (asked_of (e.store).relations change q_at f (members_at us) places o at) m)
+            subst (λ (o : Option (List ℕ)). Contains
+                (asked_of (e.store).relations change q_at f (members_at us) places o at) m)
                 (sym (members_high k j there))
                 (kept_there (λ i. is_touched change (q_at i)) j.union.members m hit mine),
           )
@@ -369,13 +382,16 @@ module _ (change : RowsChange) (relations : List Bytes) (turn : Turn) (e e' : Ke
         let sum = seat_watchers at s in
         let among : Contains places at = listed_place at s out_here (omega (arith, sum, some)) in
         record {
-          is = subst (λ (o : Option (List ℕ)). IsListedAs (e.store).relations change q_at f (members_at us) places o (seen_as at))
+          is = subst (λ (o : Option (List ℕ)). IsListedAs (e.store).relations change q_at f (members_at us) places o
+              (seen_as at))
               (sym (members_low at low)) is;
           among = λ m k. subst (λ (i : ℕ). Contains places i)
-              (only at m (subst (λ (o : Option (List ℕ)). Contains (asked_of (e.store).relations change q_at f (members_at us) places o at) m)
+              (only at m (subst (λ (o : Option (List ℕ)). Contains
+              (asked_of (e.store).relations change q_at f (members_at us) places o at) m)
               (members_low at low) k)) among;
           changes = f at;
-          delta = subst (λ (q : Listed). IsDelta (AnswersOf (e.store).relations q) (AnswersOf change.after q) (f at)) (sym is)
+          delta = subst (λ (q : Listed). IsDelta (AnswersOf (e.store).relations q) (AnswersOf change.after q) (f at))
+              (sym is)
               (deltas at among);
           log = tells_query at among;
           same = λ none. refl;
@@ -400,11 +416,13 @@ module _ (change : RowsChange) (relations : List Bytes) (turn : Turn) (e e' : Ke
         (ap (λ n. nat_lt 0 n) (sym (sessions_high k ∙ ap union_watchers joint.there)) ∙ watched) in
         let t = tells_union k j joint.there (ap (is_outdated change) (sym named) ∙ outdated) some in
         record {
-          is = subst (λ (o : Option (List ℕ)). IsListedAs (e.store).relations change q_at f (members_at us) places o (seen_as at))
+          is = subst (λ (o : Option (List ℕ)). IsListedAs (e.store).relations change q_at f (members_at us) places o
+              (seen_as at))
               (sym (members_high k j joint.there))
               (j.union.name, named ∙ union_is (Some change) relations turn e e' us us' b j.union united);
           among = λ m c. member_listed k j joint.there some m
-              (subst (λ (o : Option (List ℕ)). Contains (asked_of (e.store).relations change q_at f (members_at us) places o at) m)
+              (subst (λ (o : Option (List ℕ)). Contains
+              (asked_of (e.store).relations change q_at f (members_at us) places o at) m)
               (members_high k j joint.there) c);
           changes = t.0;
           delta = subst (λ (q : Listed). IsDelta (AnswersOf (e.store).relations q) (AnswersOf change.after q) t.0)

@@ -1,5 +1,6 @@
 -- The relations of a batch that it changes.
-use Rattle.std.specs.Prelude.{ℕ, List, ◌≡◌, ◌<◌, ◌||◌, nat_lt, Bool, true, false, Option, None, Some, is_some, filter, map, length, slice_index_or}
+use Rattle.std.specs.Prelude.{ℕ, List, ◌≡◌, ◌<◌, ◌||◌, nat_lt, Bool, true, false, Option, None}
+use Rattle.std.specs.Prelude.{Some, is_some, filter, map, length, slice_index_or}
 use Rattle.std.specs.List.{list_any}
 use Rattle.djq_model.specs.declared.relation.Relation.{Relation}
 use Rattle.djq_model.specs.Data.{Bytes, rows_of}

@@ -1,5 +1,6 @@
 -- What the unions of a store, and the affected, are behind a change of rows.
-use Rattle.std.specs.Prelude.{ℕ, zero, suc, List, ◌≡◌, ◌≤◌, ◌⊎◌, false, Option, None, Some, Result, Ok, Err, filter, length, map, sum_by, vec_capacity, ⊤}
+use Rattle.std.specs.Prelude.{ℕ, zero, suc, List, ◌≡◌, ◌≤◌, ◌⊎◌, false, Option, None, Some, Result}
+use Rattle.std.specs.Prelude.{Ok, Err, filter, length, map, sum_by, vec_capacity, ⊤}
 use Rattle.std.specs.List.{list_any}
 use Rattle.djq_model.specs.Data.{Bytes}
 use Rattle.djq_lines.specs.declared.answer.AddOutcome.{AddOutcome}

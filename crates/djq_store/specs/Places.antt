@@ -1,5 +1,6 @@
 -- Queries and unions in their places, and what contracts see of them.
-use Rattle.std.specs.Prelude.{ℕ, zero, suc, List, [], ◌∷◌, ◌++◌, ◌+◌, ◌-◌, nat_lt, Option, None, Some, option_map, if◌then◌else◌, length, map, slice_index_or}
+use Rattle.std.specs.Prelude.{ℕ, zero, suc, List, [], ◌∷◌, ◌++◌, ◌+◌, ◌-◌, nat_lt, Option, None}
+use Rattle.std.specs.Prelude.{Some, option_map, if◌then◌else◌, length, map, slice_index_or}
 use Rattle.djq_model.specs.Data.{Bytes}
 use Rattle.djq_model.specs.Listed.{Listed}
 use Rattle.djq_lines.specs.declared.limits.TheConstants.{QUERIES}
@@ -101,7 +102,8 @@ lender_in gs (Some j) = first_member gs j.union
 abbrev pub cursors_in : Kept → List (Option Joined) → List Held
 cursors_in e us = e.cursors ++ held_from (e.store).texts e.places QUERIES us
 
--- what contracts see, of an engine, unions in slots, the order, the sessions that watch each query, and the affected places
+-- what contracts see, of an engine, unions in slots, the order, the sessions that watch each query, and the affected
+-- places
 abbrev pub seen : Kept → List (Option Joined) → List ℕ → List ℕ → List ℕ → Kept
 seen e us order sessions affected = record {
   store = record e.store { queries = map (listed_at e.places us) order };

@@ -1,5 +1,7 @@
 -- What holds of what a store keeps, between any two calls.
-use Rattle.std.specs.Prelude.{ℕ, List, ◌≡◌, ◌+◌, ◌≤◌, ◌&&◌, nat_lt, Bool, true, false, Option, None, Some, is_some, IsSomeAnd, All, count_by, filter, length, map, slice_index_or, vec_capacity}
+use Rattle.std.specs.Prelude.{ℕ, List, ◌≡◌, ◌+◌, ◌≤◌, ◌&&◌, nat_lt, Bool, true, false, Option, None}
+use Rattle.std.specs.Prelude.{Some, is_some, IsSomeAnd, All, count_by, filter, length, map}
+use Rattle.std.specs.Prelude.{slice_index_or, vec_capacity}
 use Rattle.djq_model.specs.Listed.{listed_name}
 use Rattle.djq_lines.specs.declared.limits.TheConstants.{QUERIES, SESSIONS}
 use Rattle.djq_live.specs.Live.{IsShowable}

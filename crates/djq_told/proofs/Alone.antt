@@ -7,7 +7,9 @@ use Rattle.djq_model.specs.Data.{Bytes, bytes_eq}
 use Rattle.djq_lines.specs.Reply.{line, cells_text}
 use Rattle.djq_mirror.specs.declared.mode.Mode.{Mode}
 use Rattle.djq_mirror.specs.Inputs.{lines_text, HasNoLf, FollowsAll, Stops}
-use Rattle.djq_mirror.specs.Mirror.{Held, at_first, Act, keep, clear, put, take_out, turn_of, may_act, may_turn, allows, has_text, IsInOrder, Acted, Turned, IsLine, Follows}
+use Rattle.djq_mirror.specs.Mirror.{Held, at_first, Act, keep, clear, put, take_out, turn_of}
+use Rattle.djq_mirror.specs.Mirror.{may_act, may_turn, allows, has_text, IsInOrder, Acted, Turned}
+use Rattle.djq_mirror.specs.Mirror.{IsLine, Follows}
 use Rattle.djq_mirror.specs.Reading.{News, news_of}
 use Rattle.djq_mirror.specs.Replies.{Reply}
 use Rattle.djq_mirror.proofs.Telling.{reply_told}
@@ -58,7 +60,8 @@ may_alike a b (Some turn) h = by turn.1
     by (put t) = ap not (h.texts t)
     by (take_out t) = h.texts t
 
-turned_alike : (a b a' b' : Held) (t : Option (Mode × Act)) → IsAlike a b → Turned a t a' → Turned b t b' → IsAlike a' b'
+turned_alike : (a b a' b' : Held) (t : Option (Mode × Act)) → IsAlike a b → Turned a t a' → Turned b t b'
+    → IsAlike a' b'
 turned_alike a b a' b' None h one two = absurd one
 turned_alike a b a' b' (Some turn) h one two = record { mode = two.0 ∙ sym one.0; texts = by turn.1 one.1 two.1 }
   where
@@ -74,7 +77,8 @@ none_in_order : IsInOrder []
 unfolding IsStrictlySortedBy
 none_in_order = tt
 
-turned_in_order : (old new : Held) (t : Option (Mode × Act)) → Turned old t new → IsInOrder old.texts → IsInOrder new.texts
+turned_in_order : (old new : Held) (t : Option (Mode × Act)) → Turned old t new → IsInOrder old.texts
+    → IsInOrder new.texts
 turned_in_order old new None h order = absurd h
 turned_in_order old new (Some turn) h order = by turn.1 h.1
   where
@@ -89,12 +93,14 @@ one_turn : (name l : Bytes) (mode mode' : Mode) (r r' : Reply) → mode' ≡ mod
     → turn_of name mode' r' ≡ turn_of name mode r
 one_turn name l mode mode' r r' same one two =
     let news : news_of r' ≡ news_of r = some_same (sym (reply_told l r' two.reply) ∙ reply_told l r one.reply) in
-    ap (λ m. turn_of name m r') same ∙ turn_told name mode r' (news_of r) news ∙ sym (turn_told name mode r (news_of r) refl)
+    ap (λ m. turn_of name m r') same ∙ turn_told name mode r' (news_of r) news
+    ∙ sym (turn_told name mode r (news_of r) refl)
   where
     some_same : {v w : News} → Some v ≡ Some w → v ≡ w
     some_same e = cc
 
-line_alike : (name l : Bytes) (a b a' b' : Held) → IsAlike a b → Follows name a l a' → Follows name b l b' → IsAlike a' b'
+line_alike : (name l : Bytes) (a b a' b' : Held) → IsAlike a b → Follows name a l a' → Follows name b l b'
+    → IsAlike a' b'
 line_alike name l a b a' b' h one two =
     let turn = one_turn name l a.mode b.mode one.reply two.reply h.mode one.is_line two.is_line in
     turned_alike a b a' b' (turn_of name a.mode one.reply) h one.turned
@@ -110,13 +116,15 @@ in_order_behind : (name : Bytes) (old : Held) (ls : List Bytes) (new : Held) →
     → IsInOrder old.texts → IsInOrder new.texts
 in_order_behind name old [] new h order = subst (λ (k : Held). IsInOrder k.texts) (sym h) order
 in_order_behind name old (l ∷ ls) new h order =
-    let f = h.2 in in_order_behind name h.0 ls new h.3 (turned_in_order old h.0 (turn_of name old.mode f.reply) f.turned order)
+    let f = h.2 in in_order_behind name h.0 ls new h.3
+    (turned_in_order old h.0 (turn_of name old.mode f.reply) f.turned order)
 
 alike_behind : (name : Bytes) (a b : Held) → IsAlike a b → (ls ms : List Bytes) (a' b' : Held)
     → lines_text ls ≡ lines_text ms → FollowsAll name a ls a' → FollowsAll name b ms b' → IsAlike a' b'
 alike_behind name a b h [] [] a' b' e one two =
     subst (λ (k : Held). IsAlike k b') (sym one) (subst (λ (k : Held). IsAlike a k) (sym two) h)
-alike_behind name a b h [] (m ∷ ms) a' b' e one two = absurd (no_line m (lines_text ms) (e ∙ line_then m (lines_text ms)))
+alike_behind name a b h [] (m ∷ ms) a' b' e one two = absurd
+    (no_line m (lines_text ms) (e ∙ line_then m (lines_text ms)))
 alike_behind name a b h (l ∷ ls) [] a' b' e one two =
     absurd (no_line l (lines_text ls) (sym e ∙ line_then l (lines_text ls)))
 alike_behind name a b h (l ∷ ls) (m ∷ ms) a' b' e one two =
@@ -136,7 +144,8 @@ stops_nowhere name a b h [] (m ∷ ms) a' b' bad behind e one two own stops =
     no_line m (lines_text ms ++ (bad ++ behind))
     (e ∙ append_assoc (line m) (lines_text ms) (bad ++ behind) ∙ line_then m (lines_text ms ++ (bad ++ behind)))
 stops_nowhere name a b h (l ∷ ls) [] a' b' bad [] e one two own stops =
-    lf_behind l (lines_text ls) (subst (λ (bs : Bytes). HasNoLf bs) (sym (sym (line_then l (lines_text ls)) ∙ e ∙ none bad)) own)
+    lf_behind l (lines_text ls)
+    (subst (λ (bs : Bytes). HasNoLf bs) (sym (sym (line_then l (lines_text ls)) ∙ e ∙ none bad)) own)
   where
     none : (bs : Bytes) → bs ++ [] ≡ bs
     none [] = refl
@@ -147,7 +156,8 @@ stops_nowhere name a b h (l ∷ ls) [] a' b' bad (x ∷ behind) e one two own st
     let f = one.2 in
     let here : IsLine bad f.reply = subst (λ (k : Bytes). IsLine k f.reply) cut.0 f.is_line in
     let still : IsAlike a b' = subst (λ (k : Held). IsAlike a k) (sym two) h in
-    let turn : turn_of name b'.mode f.reply ≡ turn_of name a.mode f.reply = ap (λ m. turn_of name m f.reply) still.mode in
+    let turn : turn_of name b'.mode f.reply
+    ≡ turn_of name a.mode f.reply = ap (λ m. turn_of name m f.reply) still.mode in
     let allowed : allows name b' f.reply ≡ true =
     ap (may_turn b'.texts) turn ∙ may_alike a b' (turn_of name a.mode f.reply) still ∙ f.allowed in
     both_ways (allows name b' f.reply) allowed (stops.1 f.reply here)
@@ -156,7 +166,8 @@ stops_nowhere name a b h (l ∷ ls) (m ∷ ms) a' b' bad behind e one two own st
     (sym (line_then l (lines_text ls)) ∙ e ∙ append_assoc (line m) (lines_text ms) (bad ++ behind)
     ∙ line_then m (lines_text ms ++ (bad ++ behind))) in
     let second : Follows name b l two.0 = subst (λ (k : Bytes). Follows name b k two.0) (sym cut.0) two.2 in
-    stops_nowhere name one.0 two.0 (line_alike name l a b one.0 two.0 h one.2 second) ls ms a' b' bad behind cut.1 one.3 two.3
+    stops_nowhere name one.0 two.0 (line_alike name l a b one.0 two.0 h one.2 second) ls ms a' b' bad behind cut.1 one.3
+    two.3
     own stops
 
 alike_first : IsAlike at_first at_first
@@ -165,10 +176,12 @@ alike_first = record { mode = refl; texts = λ u. refl }
 pub held_alone : HeldAlone
 held_alone name input held h = (
   λ n r.
-      stops_nowhere name at_first at_first alike_first h.lines r.lines held r.held r.bad r.behind (sym h.is ∙ r.is) h.follows
+      stops_nowhere name at_first at_first alike_first h.lines r.lines held r.held r.bad r.behind (sym h.is ∙ r.is)
+      h.follows
       r.follows r.line_of_its_own r.stops,
   λ other k.
-      let same = alike_behind name at_first at_first alike_first h.lines k.lines held other (sym h.is ∙ k.is) h.follows k.follows in (
+      let same = alike_behind name at_first at_first alike_first h.lines k.lines held other (sym h.is ∙ k.is) h.follows
+      k.follows in (
         same.mode,
         λ q relations shows. record {
           order = in_order_behind name at_first k.lines other k.follows none_in_order;

@@ -118,7 +118,8 @@ of_heard : (name : Bytes) (ws : List Bytes) (n : ℕ) (d : Delta) → bytes_eq (
 of_heard name ws n d e = by (list_any (λ w. bytes_eq w (listed_name d.query)) ws)
   where
     by : (b : Bool)
-        → filter (is_told_of name) (cond b (delta_replies (listed_name d.query) (record { number = n; changes = d.changes })) []) ≡ []
+        → filter (is_told_of name)
+        (cond b (delta_replies (listed_name d.query) (record { number = n; changes = d.changes })) []) ≡ []
     by true = of_delta name (listed_name d.query) false e d.changes n
     by false = refl
 
@@ -162,8 +163,10 @@ of_one ws n (k ∷ ds) d apart c watched =
     by (inl e) more =
         let others = of_others name ws n ds
         (All-weaker (λ b. listed_name k.query ≢ listed_name b.query) (λ b. bytes_eq (listed_name b.query) name ≡ false)
-        (λ b ne. other_name_not (listed_name b.query) name (λ same. ne (ap (λ (x : Delta). listed_name x.query) e ∙ sym same))) ds above) in
-        ap₂ (λ (xs ys : List Reply). xs ++ ys) (ap (λ (x : Delta). filter (is_told_of name) (heard ws n x)) e ∙ first) others
+        (λ b ne. other_name_not (listed_name b.query) name
+        (λ same. ne (ap (λ (x : Delta). listed_name x.query) e ∙ sym same))) ds above) in
+        ap₂ (λ (xs ys : List Reply). xs ++ ys) (ap (λ (x : Delta). filter (is_told_of name) (heard ws n x)) e ∙ first)
+        others
         ∙ append-nil whole
     by (inr l) more =
         let ne = All-contains (λ b. listed_name k.query ≢ listed_name b.query) ds d above l in
@@ -237,8 +240,10 @@ module _ (old : State) (change : RowsChange) (ds : List Delta)
       (hold_each (λ (d : Delta). bytes_eq (listed_name d.query) (listed_name q) ≡ false) ds (λ d c.
       let there = from_filter (λ p. is_outdated change p && list_any (is_watching (listed_name p)) old.sessions)
       old.store.queries d.query
-      (subst (λ (qs : List Listed). Contains qs d.query) deltas.of_queries (mapped_there (λ (k : Delta). k.query) ds d c)) in
-      let is = both_first (is_outdated change d.query) (list_any (is_watching (listed_name d.query)) old.sessions) there.1 in
+      (subst (λ (qs : List Listed). Contains qs d.query) deltas.of_queries
+      (mapped_there (λ (k : Delta). k.query) ds d c)) in
+      let is = both_first (is_outdated change d.query) (list_any (is_watching (listed_name d.query)) old.sessions)
+      there.1 in
       other_name_not (listed_name d.query) (listed_name q) (λ same.
       let one = apart_same old.store.queries d.query q apart there.0
       (found_there (λ (p : Listed). bytes_eq (listed_name p) (listed_name q)) old.store.queries q registered) same in

@@ -1,5 +1,7 @@
 -- What the cursors of one session have, along steps in which it opens and reads none.
-use Rattle.std.specs.Prelude.{ℕ, List, [], ◌∷◌, ◌==◌, ◌≡◌, ◌<◌, ◌≤◌, ◌++◌, ◌⊎◌, Bool, true, false, not, cond, length, filter, find, Option, None, Some, MatchOption, option_map, map, All}
+use Rattle.std.specs.Prelude.{ℕ, List, [], ◌∷◌, ◌==◌, ◌≡◌, ◌<◌, ◌≤◌, ◌++◌, ◌⊎◌, Bool, true, false}
+use Rattle.std.specs.Prelude.{not, cond, length, filter, find, Option, None, Some, MatchOption}
+use Rattle.std.specs.Prelude.{option_map, map, All}
 use Rattle.std.proofs.Common.{refl, sym, ap, ◌∙◌, subst, inl, inr, arith}
 use Rattle.std.proofs.lemmas.Bool.{eqb-true, eq-eqb}
 use Rattle.std.proofs.lemmas.List.{length-map}
@@ -13,14 +15,16 @@ use Rattle.djq_lines.specs.declared.command.Command.TheVariants.{Add, Done, Open
 use Rattle.djq_lines.specs.declared.held.HeldRow.{HeldRow}
 use Rattle.djq_lines.specs.Grammar.{Reading, says as says_command, reading_of}
 use Rattle.djq_lines.specs.Reply.{end_memory}
-use Rattle.djq_machine.specs.State.{Store, State, Session, Cursor, Position, open_at, stale, fresh, session_of, with_session, ended_by}
+use Rattle.djq_machine.specs.State.{Store, State, Session, Cursor, Position, open_at, stale, fresh}
+use Rattle.djq_machine.specs.State.{session_of, with_session, ended_by}
 use Rattle.djq_machine.specs.Stale.{outdated, outdater_of, outdated_cursor}
 use Rattle.djq_machine.specs.Changes.{RowsChange, RowsOutcome, tried, changed}
 use Rattle.djq_machine.specs.Watch.{Telling, ChangeStep}
 use Rattle.djq_machine.specs.Effect.{Effect, nothing, EndsWith, queue, queue_all}
 use Rattle.djq_machine.specs.Command.{with_watch, without_watch, with_batch, without_batch}
 use Rattle.djq_machine.specs.LineStep.{LineOutcome, long, blank, slow, no_room, run, ReadStep, FrontStep, behind_line}
-use Rattle.djq_machine.specs.Step.{Event, opened, fed, stepped, took, ended, closed, FedStep, TookStep, EndedStep, Acts, with_relations, Step}
+use Rattle.djq_machine.specs.Step.{Event, opened, fed, stepped, took, ended, closed, FedStep}
+use Rattle.djq_machine.specs.Step.{TookStep, EndedStep, Acts, with_relations, Step}
 use Rattle.djq_laws.specs.Form.{
   form_of,
   Form,
@@ -92,7 +96,8 @@ find_kept p keep both (x ∷ xs) = by (p x) (keep x) refl refl (find_kept p keep
     by false true e f h = ap (λ (r : Bool). cond r (Some x) (find p (filter keep xs))) e ∙ h
     by false false e f h = h
 
-find_front : (p : Session → Bool) (xs : List Session) (y x : Session) → find p xs ≡ Some x → find p (xs ++ y ∷ []) ≡ Some x
+find_front : (p : Session → Bool) (xs : List Session) (y x : Session) → find p xs ≡ Some x → find p (xs ++ y ∷ [])
+    ≡ Some x
 find_front p [] y x h = absurd cc
 find_front p (z ∷ zs) y x h = by (p z) h (λ k. find_front p zs y x k)
   where
@@ -149,7 +154,8 @@ module _ (s : ℕ) (name : Bytes) (P : List Tuple → Bool → Type 0) where
   outdated_has (Some relation) n (open_at given finished) h = tt
   outdated_has (Some relation) n (stale r m) h = tt
 
-  has_changed : (old : State) (o : Option RowsChange) (store : Store) → Has s name P old → Has s name P (changed old o store)
+  has_changed : (old : State) (o : Option RowsChange) (store : Store) → Has s name P old
+      → Has s name P (changed old o store)
   has_changed old None store h = record { session = h.session; is = h.is; few = h.few }
   has_changed old (Some change) store h =
       let qs = old.store.queries in
@@ -179,7 +185,8 @@ module _ (s : ℕ) (name : Bytes) (P : List Tuple → Bool → Type 0) where
   IsCalm (turning (moves_cursor c)) = ⊥
   IsCalm f = Unit {0}
 
-  has_turned : (old : State) (t : ℕ) (x : Session) (turn : Turn) (new : State) → ((t == s) ≡ true → IsCalm (turning turn))
+  has_turned : (old : State) (t : ℕ) (x : Session) (turn : Turn) (new : State)
+      → ((t == s) ≡ true → IsCalm (turning turn))
       → Turned old t x turn new → Has s name P old → Has s name P new
   has_turned old t x (opens_cursor c q) new calm h k =
       has_with old new t _ (λ y. refl) (λ e y l. absurd (calm e)) h.2 k
@@ -207,7 +214,8 @@ module _ (s : ℕ) (name : Bytes) (P : List Tuple → Bool → Type 0) where
       → Does f old t x e new → Has s name P old → Has s name P new
   has_form asking old t x e new calm h k = has_replied t old new h.1 k
   has_form storing old t x e new calm h k =
-      has_replied t (record old { store = h.1.store }) new h.1.replied (record { session = k.session; is = k.is; few = k.few })
+      has_replied t (record old { store = h.1.store }) new h.1.replied
+      (record { session = k.session; is = k.is; few = k.few })
   has_form (turning turn) old t x e new calm h k = has_turn old t x turn new calm h.1 k
   has_form (changing c) old t x e new calm h k =
       let d = rows_do old t c e new h in
@@ -248,8 +256,10 @@ module _ (s : ℕ) (name : Bytes) (P : List Tuple → Bool → Type 0) where
           (λ same. calm_form x.batch l c (subst (λ (w : Reading). ReadsCalm w) is (calm same)))
           (command_does old t x l c e new is d) k
 
-  pub has_line : (old : State) (t : ℕ) (rest : Bytes) → Has s name P old → Has s name P (with_session old t (behind_line rest))
-  has_line old t rest h = has_kept old (with_session old t (behind_line rest)) t (behind_line rest) (λ x. refl) (λ x. refl) refl h
+  pub has_line : (old : State) (t : ℕ) (rest : Bytes) → Has s name P old
+      → Has s name P (with_session old t (behind_line rest))
+  has_line old t rest h = has_kept old (with_session old t (behind_line rest)) t (behind_line rest) (λ x. refl)
+      (λ x. refl) refl h
 
   -- an event, where no line of the session opens a cursor or reads one
   abbrev pub EventCalm : Event → Type 0
@@ -272,7 +282,8 @@ module _ (s : ℕ) (name : Bytes) (P : List Tuple → Bool → Type 0) where
 
   has_fed : (old : State) (t : ℕ) (bytes : Bytes) (e : Effect) (mid : State) (c : Option EndCause)
       → MatchOption c
-      (((e ≡ nothing) × (mid ≡ with_session old t (λ y. record y { held = y.held ++ bytes }))) ⊎ EndsWith end_memory Memory old t e mid)
+      (((e ≡ nothing) × (mid ≡ with_session old t (λ y. record y { held = y.held ++ bytes }))) ⊎ EndsWith end_memory
+      Memory old t e mid)
       (λ _. (e ≡ nothing) × (mid ≡ old))
       → Has s name P old → Has s name P mid
   has_fed old t bytes e mid None (inl h) k =
@@ -290,7 +301,8 @@ module _ (s : ℕ) (name : Bytes) (P : List Tuple → Bool → Type 0) where
       → Has s name P old → Has s name P mid
   has_acts old (opened t) e mid calm h k = by h.2
     where
-      by : ((length old.sessions < SESSIONS) × (mid ≡ record old { sessions = old.sessions ++ fresh t ∷ [] })) ⊎ (mid ≡ old)
+      by : ((length old.sessions < SESSIONS) × (mid ≡ record old { sessions = old.sessions ++ fresh t ∷ [] })) ⊎
+          (mid ≡ old)
           → Has s name P mid
       by (inr same) = has_same old mid same k
       by (inl more) =
@@ -334,7 +346,8 @@ module _ (s : ℕ) (name : Bytes) (P : List Tuple → Bool → Type 0) where
       (has_kept st (queue st q) q.0 (λ x. record x { pending = x.pending ++ q.1 }) (λ x. refl) (λ x. refl) refl h)
 
   -- what a step leaves, as its rows are moved and its bytes queued
-  pub has_behind : (old : State) (event : Event) (e : Effect) (new : State) (h : Step old event e new) → Has s name P h.mid
+  pub has_behind : (old : State) (event : Event) (e : Effect) (new : State) (h : Step old event e new)
+      → Has s name P h.mid
       → Has s name P new
   has_behind old event e new h k =
       subst (λ (st : State). Has s name P st) (sym h.queued)

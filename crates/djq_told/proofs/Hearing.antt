@@ -1,6 +1,8 @@
 -- What a change of rows tells one session that goes on: the deltas of the queries that it watches,
 -- in order, and then the reply where the change was its own.
-use Rattle.std.specs.Prelude.{ℕ, List, [], ◌∷◌, ◌==◌, ◌≡◌, ◌<◌, ◌⊎◌, ◌++◌, Bool, true, false, cond, Option, None, Some, MatchOption, option_map, find, map, All, AllPairs, Contains}
+use Rattle.std.specs.Prelude.{ℕ, List, [], ◌∷◌, ◌==◌, ◌≡◌, ◌<◌, ◌⊎◌, ◌++◌, Bool, true, false, cond}
+use Rattle.std.specs.Prelude.{Option, None, Some, MatchOption, option_map, find, map, All, AllPairs}
+use Rattle.std.specs.Prelude.{Contains}
 use Rattle.std.specs.List.{list_any, flat_map}
 use Rattle.std.proofs.Common.{refl, sym, ap, ap₂, ◌∙◌, subst, inl, inr, arith, append_assoc, append-nil}
 use Rattle.std.proofs.lemmas.Bool.{eqb-true, eq-eqb, ne_eqb}
@@ -19,7 +21,8 @@ use Rattle.djq_machine.specs.Stale.{outdated_cursor}
 use Rattle.djq_machine.specs.Changes.{RowsChange, RowsOutcome, is_accepted, tried, changed}
 use Rattle.djq_machine.specs.Run.{Walk, to_session}
 use Rattle.djq_machine.specs.Call.{IsOpen, cause_of, cause_in}
-use Rattle.djq_machine.specs.Watch.{Delta, Telling, says_more, ends_more, watching, watcher_of, TellsWatcher, TellsSession, TellsDelta, RepliesLast, ChangeStep}
+use Rattle.djq_machine.specs.Watch.{Delta, Telling, says_more, ends_more, watching, watcher_of}
+use Rattle.djq_machine.specs.Watch.{TellsWatcher, TellsSession, TellsDelta, RepliesLast, ChangeStep}
 use Rattle.djq_deltas.proofs.Lists.{nothing_there, first_or_later, mapped_there, pairs_head, pairs_tail}
 use Rattle.djq_laws.specs.Moved.{EndsByRun}
 use Rattle.djq_laws.proofs.Finding.{some_and}
@@ -35,7 +38,8 @@ pub text_append : (rs ts : List Reply) → replies_text (rs ++ ts) ≡ replies_t
 text_append rs ts = flat_map-append reply_text rs ts
 
 pub delta_text : (name : Bytes) (changes : List Change) (n : ℕ)
-    → text_of (delta_lines name changes n) ≡ replies_text (delta_replies name (record { number = n; changes = changes }))
+    → text_of (delta_lines name changes n)
+    ≡ replies_text (delta_replies name (record { number = n; changes = changes }))
 delta_text name [] n = refl
 delta_text name (c ∷ changes) n =
     ap (λ bytes. reply_text (changes_answer c.sign name c.answer) ++ bytes) (delta_text name changes n)
@@ -44,7 +48,8 @@ pub to_append : (s : ℕ) (qs ps : List (ℕ × Bytes)) → to_session s (qs ++ 
 to_append s qs ps = flat_map-append (λ (q : ℕ × Bytes). cond (q.0 == s) q.1 []) qs ps
 
 -- a part more, for the session or for another one
-pub part_own : (s : ℕ) (qs : List (ℕ × Bytes)) (text : Bytes) → to_session s (qs ++ (s, text) ∷ []) ≡ to_session s qs ++ text
+pub part_own : (s : ℕ) (qs : List (ℕ × Bytes)) (text : Bytes) → to_session s (qs ++ (s, text) ∷ [])
+    ≡ to_session s qs ++ text
 part_own s qs text =
     to_append s qs ((s, text) ∷ [])
     ∙ ap (λ (b : Bool). to_session s qs ++ (cond b text [] ++ [])) (eq-eqb s s refl)
@@ -65,7 +70,8 @@ changed_ids p f keeps [] = refl
 changed_ids p f keeps (x ∷ xs) = by (p x) (changed_ids p f keeps xs)
   where
     by : (b : Bool) → map (λ (y : Session). y.id) (change_first p f xs) ≡ map (λ (y : Session). y.id) xs
-        → map (λ (y : Session). y.id) (cond b (f x ∷ xs) (x ∷ change_first p f xs)) ≡ map (λ (y : Session). y.id) (x ∷ xs)
+        → map (λ (y : Session). y.id) (cond b (f x ∷ xs) (x ∷ change_first p f xs))
+        ≡ map (λ (y : Session). y.id) (x ∷ xs)
     by true h = ap (λ i. i ∷ map (λ (y : Session). y.id) xs) (keeps x)
     by false h = ap (λ is. x.id ∷ is) h
 
@@ -99,7 +105,8 @@ module _ (s : ℕ) (ws : List Bytes) where
       → IsOver (ends_more s text cause m).state s
   ended_now m x text cause is none =
       let e : cause_of (with_session m.state s (ended_by cause)) s ≡ Some cause =
-      ap cause_in (session_changed m.state s (ended_by cause) (λ y. refl)) ∙ ap (λ o. cause_in (option_map (ended_by cause) o)) is in
+      ap cause_in (session_changed m.state s (ended_by cause) (λ y. refl))
+      ∙ ap (λ o. cause_in (option_map (ended_by cause) o)) is in
       absurd (cc (e, none))
 
   -- another session is told
@@ -135,7 +142,8 @@ module _ (s : ℕ) (ws : List Bytes) where
       subst (λ (l : Telling). Heard l rs) (sym h.4) (other_ends m t _ Memory rs e k)
 
   -- it is told itself
-  over_says : (m : Telling) (t : ℕ) (text : Bytes) → IsOpen m.state t → IsOver m.state s → IsOver (says_more t text m).state s
+  over_says : (m : Telling) (t : ℕ) (text : Bytes) → IsOpen m.state t → IsOver m.state s
+      → IsOver (says_more t text m).state s
   over_says m t text there over = over
 
   over_ends : (m : Telling) (t : ℕ) (text : Bytes) (cause : EndCause) → EndsByRun cause → IsOpen m.state t
@@ -159,7 +167,8 @@ module _ (s : ℕ) (ws : List Bytes) where
             ∙ sym (text_append rs more);
       }))
   own_watcher d n pending m new rs h (inr (inr k)) =
-      inl (subst (λ (l : Telling). IsOver l.state s) (sym k.4) (ended_now m h.session (text_of (change_lines (listed_name d.query) k.1) ++ end_memory) Memory h.is))
+      inl (subst (λ (l : Telling). IsOver l.state s) (sym k.4)
+      (ended_now m h.session (text_of (change_lines (listed_name d.query) k.1) ++ end_memory) Memory h.is))
 
   own_told : (d : Delta) (n : ℕ) (m new : Telling) (rs : List Reply) → TellsSession d n m s new → Heard m rs
       → Heard new (rs ++ heard ws n d)
@@ -182,14 +191,18 @@ module _ (s : ℕ) (ws : List Bytes) where
           (ap (λ (vs : List Bytes). list_any (λ w. bytes_eq w (listed_name d.query)) vs) k.watches ∙ e)
 
       by : (b : Bool) → list_any (λ w. bytes_eq w (listed_name d.query)) ws ≡ b
-          → Heard new (rs ++ cond b (delta_replies (listed_name d.query) (record { number = n; changes = d.changes })) [])
+          → Heard new (rs ++ cond b (delta_replies (listed_name d.query) (record { number = n; changes = d.changes }))
+          [])
       by true e =
           own_watcher d n now.pending m new rs k
-          (subst (λ (o : Option Session). MatchOption o (new ≡ m) (λ x. TellsWatcher d n s x.pending m new)) (is_watched true e) h)
+          (subst (λ (o : Option Session). MatchOption o (new ≡ m) (λ x. TellsWatcher d n s x.pending m new))
+          (is_watched true e) h)
       by false e =
           let same : new ≡ m =
-          subst (λ (o : Option Session). MatchOption o (new ≡ m) (λ x. TellsWatcher d n s x.pending m new)) (is_watched false e) h in
-          inr (subst (λ (l : Telling). Hears l (rs ++ [])) (sym same) (subst (λ (ts : List Reply). Hears m ts) (sym (append-nil rs)) k))
+          subst (λ (o : Option Session). MatchOption o (new ≡ m) (λ x. TellsWatcher d n s x.pending m new))
+          (is_watched false e) h in
+          inr (subst (λ (l : Telling). Hears l (rs ++ [])) (sym same)
+          (subst (λ (ts : List Reply). Hears m ts) (sym (append-nil rs)) k))
 
   -- ---- all sessions, each once
 
@@ -198,7 +211,8 @@ module _ (s : ℕ) (ws : List Bytes) where
   others_told d n m [] new rs apart w h = subst (λ (l : Telling). Heard l rs) (sym w) h
   others_told d n m (t ∷ xs) new rs apart w h =
       others_told d n w.0 xs new rs (All-tail (λ t. (t == s) ≡ false) t xs apart) w.2
-      (other_told d n m t w.0 rs (watcher_of m (listed_name d.query) t) (All-head (λ t. (t == s) ≡ false) t xs apart) w.1 h)
+      (other_told d n m t w.0 rs (watcher_of m (listed_name d.query) t) (All-head (λ t. (t == s) ≡ false) t xs apart)
+      w.1 h)
 
   each_told : (d : Delta) (n : ℕ) (m : Telling) (xs : List ℕ) (new : Telling) (rs : List Reply)
       → AllPairs (λ i j. i < j) xs → Contains xs s → Walk (TellsSession d n) m xs new → Heard m rs
@@ -215,12 +229,14 @@ module _ (s : ℕ) (ws : List Bytes) where
           → Heard new (rs ++ heard ws n d)
       by (inl same) more =
           others_told d n w.0 xs new (rs ++ heard ws n d)
-          (All-weaker (λ j. t < j) (λ j. (j == s) ≡ false) (λ j lt. ne_eqb j s (λ e. omega (arith, e, lt, same))) xs above) w.2
+          (All-weaker (λ j. t < j) (λ j. (j == s) ≡ false) (λ j lt. ne_eqb j s (λ e. omega (arith, e, lt, same))) xs
+          above) w.2
           (own_told d n m w.0 rs (subst (λ i. TellsSession d n m i w.0) same w.1) h)
       by (inr later) more =
           let lt = All-contains (λ j. t < j) xs s above later in
           more later
-          (other_told d n m t w.0 rs (watcher_of m (listed_name d.query) t) (ne_eqb t s (λ e. omega (arith, e, lt))) w.1 h)
+          (other_told d n m t w.0 rs (watcher_of m (listed_name d.query) t) (ne_eqb t s (λ e. omega (arith, e, lt))) w.1
+          h)
 
   ids_say : (ids : List ℕ) (m : Telling) (t : ℕ) (text : Bytes) → IsOpen m.state t → ids_of m.state ≡ ids
       → ids_of (says_more t text m).state ≡ ids
@@ -235,9 +251,11 @@ module _ (s : ℕ) (ws : List Bytes) where
   listed_there m x is =
       let same : x.id ≡ s = eqb-true x.id s (found_passes (λ (y : Session). y.id == s) m.state.sessions x is) in
       subst (λ (i : ℕ). Contains (ids_of m.state) i) same
-      (mapped_there (λ (y : Session). y.id) m.state.sessions x (found_there (λ (y : Session). y.id == s) m.state.sessions x is))
+      (mapped_there (λ (y : Session). y.id) m.state.sessions x
+      (found_there (λ (y : Session). y.id == s) m.state.sessions x is))
 
-  delta_told : (n : ℕ) (m : Telling) (d : Delta) (new : Telling) (rs : List Reply) → AllPairs (λ i j. i < j) (ids_of m.state)
+  delta_told : (n : ℕ) (m : Telling) (d : Delta) (new : Telling) (rs : List Reply)
+      → AllPairs (λ i j. i < j) (ids_of m.state)
       → TellsDelta n m d new → Heard m rs → Heard new (rs ++ heard ws n d)
   delta_told n m d new rs rising h (inl over) =
       inl (delta_keeps (λ (l : Telling). IsOver l.state s) over_says over_ends n m d new h over)
@@ -251,21 +269,25 @@ module _ (s : ℕ) (ws : List Bytes) where
       subst (λ (ts : List Reply). Heard new ts) (sym (append-nil rs)) (subst (λ (l : Telling). Heard l rs) (sym w) h)
   deltas_told n m (d ∷ ds) new rs rising w h =
       let ids : ids_of (w.0).state ≡ ids_of m.state =
-      delta_keeps (λ (l : Telling). ids_of l.state ≡ ids_of m.state) (ids_say (ids_of m.state)) (ids_end (ids_of m.state))
+      delta_keeps (λ (l : Telling). ids_of l.state ≡ ids_of m.state) (ids_say (ids_of m.state))
+      (ids_end (ids_of m.state))
       n m d w.0 w.1 refl in
       subst (λ (ts : List Reply). Heard new ts) (append_assoc rs (heard ws n d) (all_heard ws n ds))
-      (deltas_told n w.0 ds new (rs ++ heard ws n d) (subst (λ (is : List ℕ). AllPairs (λ i j. i < j) is) (sym ids) rising) w.2
+      (deltas_told n w.0 ds new (rs ++ heard ws n d)
+      (subst (λ (is : List ℕ). AllPairs (λ i j. i < j) is) (sym ids) rising) w.2
       (delta_told n m d w.0 rs rising w.1 h))
 
   -- ---- the reply
 
-  own_reply : (reply : Bytes) (r : Reply) → reply ≡ reply_text r → (m new : Telling) (rs : List Reply) (c : Option EndCause)
+  own_reply : (reply : Bytes) (r : Reply) → reply ≡ reply_text r
+      → (m new : Telling) (rs : List Reply) (c : Option EndCause)
       → (x : Session) → session_of m.state s ≡ Some x → x.cause ≡ c
       → MatchOption c ((new ≡ says_more s reply m)
       ⊎ ((list_any (λ part. part.0 == s) m.queued ≡ true) × (new ≡ ends_more s end_memory Memory m))) (λ c. new ≡ m)
       → Heard m rs → Heard new (rs ++ r ∷ [])
   own_reply reply r text m new rs (Some c) x is cause h k =
-      inl (λ none. let e : cause_of new.state s ≡ Some c = ap (λ (l : Telling). cause_of l.state s) h ∙ ap cause_in is ∙ cause in absurd (cc (e, none)))
+      inl (λ none. let e : cause_of new.state s ≡ Some c = ap (λ (l : Telling). cause_of l.state s) h ∙ ap cause_in is
+      ∙ cause in absurd (cc (e, none)))
   own_reply reply r text m new rs None x is cause (inr h) k =
       inl (subst (λ (l : Telling). IsOver l.state s) (sym h.1) (ended_now m x end_memory Memory is))
   own_reply reply r text m new rs None x is cause (inl h) (inl over) =
@@ -284,7 +306,8 @@ module _ (s : ℕ) (ws : List Bytes) where
       → MatchOption c ((new ≡ says_more t reply m)
       ⊎ ((list_any (λ part. part.0 == t) m.queued ≡ true) × (new ≡ ends_more t end_memory Memory m))) (λ c. new ≡ m)
       → Heard m rs → Heard new rs
-  other_reply reply t e m new rs None (inl h) k = subst (λ (l : Telling). Heard l rs) (sym h) (other_says m t reply rs e k)
+  other_reply reply t e m new rs None (inl h) k = subst (λ (l : Telling). Heard l rs) (sym h)
+      (other_says m t reply rs e k)
   other_reply reply t e m new rs None (inr h) k =
       subst (λ (l : Telling). Heard l rs) (sym h.1) (other_ends m t end_memory Memory rs e k)
   other_reply reply t e m new rs (Some c) h k = subst (λ (l : Telling). Heard l rs) (sym h) k
@@ -297,9 +320,13 @@ module _ (s : ℕ) (ws : List Bytes) where
   reply_told reply r text t m new rs h k = by (t == s) refl
     where
       f : (x : Session) × (session_of m.state t ≡ Some x) × MatchOption x.cause
-          ((new ≡ says_more t reply m) ⊎ ((list_any (λ part. part.0 == t) m.queued ≡ true) × (new ≡ ends_more t end_memory Memory m))) (λ c. new ≡ m)
+          ((new ≡ says_more t reply m) ⊎
+          ((list_any (λ part. part.0 == t) m.queued ≡ true) × (new ≡ ends_more t end_memory Memory m)))
+          (λ c. new ≡ m)
       f = some_and (session_of m.state t) (λ x. MatchOption x.cause
-          ((new ≡ says_more t reply m) ⊎ ((list_any (λ part. part.0 == t) m.queued ≡ true) × (new ≡ ends_more t end_memory Memory m))) (λ c. new ≡ m)) h
+          ((new ≡ says_more t reply m) ⊎
+          ((list_any (λ part. part.0 == t) m.queued ≡ true) × (new ≡ ends_more t end_memory Memory m)))
+          (λ c. new ≡ m)) h
 
       by : (b : Bool) → (t == s) ≡ b → Heard new (rs ++ cond b (r ∷ []) [])
       by false e =
@@ -309,7 +336,9 @@ module _ (s : ℕ) (ws : List Bytes) where
           let same = eqb-true t s e in
           own_reply reply r text m new rs (f.0).cause f.0 (subst (λ i. session_of m.state i ≡ Some f.0) same f.1) refl
           (subst (λ i. MatchOption (f.0).cause
-          ((new ≡ says_more i reply m) ⊎ ((list_any (λ part. part.0 == i) m.queued ≡ true) × (new ≡ ends_more i end_memory Memory m))) (λ c. new ≡ m)) same f.2) k
+          ((new ≡ says_more i reply m) ⊎
+          ((list_any (λ part. part.0 == i) m.queued ≡ true) × (new ≡ ends_more i end_memory Memory m)))
+          (λ c. new ≡ m)) same f.2) k
 
 -- ---- the change
 
@@ -327,10 +356,12 @@ module _ (s : ℕ) (x : Session) (old : State) (is : session_of old s ≡ Some x
   begun : (outcome : RowsOutcome) (store : Store) → Hears s x.watches (beginning old outcome store) []
   begun outcome store = by (tried outcome) refl
     where
-      by : (o : Option RowsChange) → tried outcome ≡ o → Hears s x.watches (record { state = changed old o store; queued = [] }) []
+      by : (o : Option RowsChange) → tried outcome ≡ o
+          → Hears s x.watches (record { state = changed old o store; queued = [] }) []
       by None e = record { session = x; is = is; watches = refl; told = refl }
       by (Some change) e =
-          let f = λ (y : Session). record y { cursors = map (outdated_cursor old.store.queries change.outdater store.seq) y.cursors } in
+          let f = λ (y : Session). record y
+          { cursors = map (outdated_cursor old.store.queries change.outdater store.seq) y.cursors } in
           record {
             session = f x;
             is = find_mapped (λ (y : Session). y.id == s) f (λ y. refl) old.sessions ∙ ap (λ o. option_map f o) is;
@@ -341,15 +372,18 @@ module _ (s : ℕ) (x : Session) (old : State) (is : session_of old s ≡ Some x
   begun_ids : (o : Option RowsChange) (store : Store) → ids_of (changed old o store) ≡ ids_of old
   begun_ids None store = refl
   begun_ids (Some change) store =
-      mapped_ids (λ (y : Session). record y { cursors = map (outdated_cursor old.store.queries change.outdater store.seq) y.cursors })
+      mapped_ids (λ (y : Session). record y
+      { cursors = map (outdated_cursor old.store.queries change.outdater store.seq) y.cursors })
       (λ y. refl) old.sessions
 
   -- What the change tells the session, where it goes on behind it.
-  pub change_heard : (t : ℕ) (outcome : RowsOutcome) (store : Store) (reply : Bytes) (r : Reply) (e : Effect) (new : State)
+  pub change_heard : (t : ℕ) (outcome : RowsOutcome) (store : Store) (reply : Bytes) (r : Reply) (e : Effect)
+      (new : State)
       → AllPairs (λ i j. i < j) (ids_of old) → reply ≡ reply_text r
       → (h : ChangeStep old t outcome store reply e new) → cause_of new s ≡ None
       → to_session s e.queued
-      ≡ replies_text (all_heard x.watches store.seq (cond (is_accepted outcome) h.deltas []) ++ own_replies s x.watches (t == s) r)
+      ≡ replies_text (all_heard x.watches store.seq (cond (is_accepted outcome) h.deltas []) ++ own_replies s x.watches
+      (t == s) r)
   change_heard t outcome store reply r e new rising text h running = by last
     where
       ds : List Delta
@@ -368,6 +402,7 @@ module _ (s : ℕ) (x : Session) (old : State) (is : session_of old s ≡ Some x
       last = reply_told s x.watches reply r text t h.told h.last (all_heard x.watches store.seq ds) h.replies told
 
       by : Heard s x.watches h.last (all_heard x.watches store.seq ds ++ own_replies s x.watches (t == s) r)
-          → to_session s e.queued ≡ replies_text (all_heard x.watches store.seq ds ++ own_replies s x.watches (t == s) r)
+          → to_session s e.queued
+          ≡ replies_text (all_heard x.watches store.seq ds ++ own_replies s x.watches (t == s) r)
       by (inl over) = absurd (over (ap (λ (st : State). cause_of st s) (sym h.state) ∙ running))
       by (inr k) = ap (λ qs. to_session s qs) h.queued ∙ k.told

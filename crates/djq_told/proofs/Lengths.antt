@@ -1,5 +1,7 @@
 -- A line is no shorter than the variables of the query that it says.
-use Rattle.std.specs.Prelude.{ℕ, List, [], ◌∷◌, ◌++◌, ◌==◌, ◌&&◌, ◌||◌, ◌≡◌, ◌≤◌, ◌+◌, ◌-◌, Bool, true, false, cond, not, nat_le, length, take, slice_index, Option, None, Some}
+use Rattle.std.specs.Prelude.{ℕ, List, [], ◌∷◌, ◌++◌, ◌==◌, ◌&&◌, ◌||◌, ◌≡◌, ◌≤◌, ◌+◌, ◌-◌, Bool}
+use Rattle.std.specs.Prelude.{true, false, cond, not, nat_le, length, take, slice_index, Option}
+use Rattle.std.specs.Prelude.{None, Some}
 use Rattle.std.specs.List.{AllZip}
 use Rattle.std.proofs.Common.{refl, sym, ap, ◌∙◌, arith}
 use Rattle.std.proofs.lemmas.Bool.{leb-false, leb-true}
@@ -15,7 +17,8 @@ use Rattle.djq_lines.specs.declared.command.Command.TheVariants.{Query as Regist
 use Rattle.djq_lines.specs.declared.limits.TheConstants.{LINE_BYTES}
 use Rattle.djq_lines.specs.Grammar.{Item, atom, comparison, past_item}
 use Rattle.djq_lines.specs.Line.{too_long, a_line, before_lf, behind_lf, without_cr, line_or_dry, is_long, front_of}
-use Rattle.djq_proto.specs.Saying.{Says, SaysAtom, SaysItem, SaysItems, SaysName, SaysTerm, list_tokens, more_tokens, atoms_among}
+use Rattle.djq_proto.specs.Saying.{Says, SaysAtom, SaysItem, SaysItems, SaysName, SaysTerm}
+use Rattle.djq_proto.specs.Saying.{list_tokens, more_tokens, atoms_among}
 use Rattle.djq_told.proofs.Weighing.{total, total_append}
 
 -- ---- what variables take: their bytes, and one before each
@@ -90,7 +93,8 @@ atom_less a ts s =
     omega (arith, whole, terms, within)
 
 item_less : (n : ℕ) (i : Item) (items : List Item) (ts : List Token) (rest : ℕ) → SaysItem n i ts
-    → total atom_weight (atoms_among items) ≤ rest → total atom_weight (atoms_among (i ∷ items)) ≤ total bytes_of ts + rest
+    → total atom_weight (atoms_among items) ≤ rest
+    → total atom_weight (atoms_among (i ∷ items)) ≤ total bytes_of ts + rest
 item_less n (atom a) items ts rest s h = let one = atom_less a ts s in omega (arith, one, h)
 item_less n (comparison c) items ts rest s h = omega (arith, h)
 
@@ -105,7 +109,8 @@ items_less n (i ∷ j ∷ js) ts (front, back, first, later, parts) =
     let both = total_append bytes_of front (comma ∷ back) in
     omega (arith, one, whole, both)
 
-pub query_less : (q : Query) (ts : List Token) (l : Bytes) → Says (Register q) ts → IsSpelling ts l → query_weight q ≤ length l
+pub query_less : (q : Query) (ts : List Token) (l : Bytes) → Says (Register q) ts → IsSpelling ts l
+    → query_weight q ≤ length l
 query_less q ts l (us, (heads, body, name, head, (items, said, atoms, comparisons, some), parts), whole) spelled =
     let all = spelled_less ts l spelled in
     let one = ap (λ (vs : List Token). total bytes_of vs) whole in
@@ -146,7 +151,8 @@ without_cr_less bs e = by (slice_index bs (length bs - 1) == 13) refl
         let no : true ≡ false = sym ends ∙ ap (λ i. slice_index bs i == 13) (sym at) ∙ k in
         absurd (cc no)
 
-    by : (b : Bool) → (slice_index bs (length bs - 1) == 13) ≡ b → length (cond b (take (length bs - 1) bs) bs) ≤ LINE_BYTES
+    by : (b : Bool) → (slice_index bs (length bs - 1) == 13) ≡ b
+        → length (cond b (take (length bs - 1) bs) bs) ≤ LINE_BYTES
     by true k = let less = length-take-le (length bs - 1) bs (omega arith) in omega (arith, less, few)
     by false k = whole k (nat_le (LINE_BYTES + 1) (length bs)) refl
 

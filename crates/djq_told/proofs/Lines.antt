@@ -123,12 +123,14 @@ join : (xs ys : Bytes) → HasNoLf xs → HasNoLf ys → HasNoLf (xs ++ ys)
 join xs ys h k = All-append (λ b. b ≢ 10) xs ys h k
 
 name_byte : (c : ℕ) → (is_lower c || is_digit c || c == 95) ≡ true → c ≢ 10
-name_byte c e same = let no : (is_lower 10 || is_digit 10 || 10 == 95) ≡ true = subst (λ i. (is_lower i || is_digit i || i == 95) ≡ true) same e in absurd cc
+name_byte c e same = let no : (is_lower 10 || is_digit 10 || 10 == 95)
+    ≡ true = subst (λ i. (is_lower i || is_digit i || i == 95) ≡ true) same e in absurd cc
 
 name_bytes : (bs : Bytes) → list_all (λ c. is_lower c || is_digit c || c == 95) bs ≡ true → HasNoLf bs
 name_bytes [] e = All-nil (λ b. b ≢ 10)
 name_bytes (b ∷ bs) e =
-    let both = and_parts (is_lower b || is_digit b || b == 95) (list_all (λ c. is_lower c || is_digit c || c == 95) bs) e in
+    let both = and_parts (is_lower b || is_digit b || b == 95) (list_all (λ c. is_lower c || is_digit c || c == 95) bs)
+    e in
     All-cons (λ c. c ≢ 10) b bs (name_byte b both.0) (name_bytes bs both.1)
 
 name_plain : (n : Bytes) → is_name n ≡ true → HasNoLf n × (length n ≤ 32)
@@ -147,7 +149,11 @@ shifted [] = All-nil (λ b. b ≢ 10)
 shifted (d ∷ ds) = All-cons (λ b. b ≢ 10) (48 + d) (map (λ e. 48 + e) ds) (λ e. absurd (omega (arith, e))) (shifted ds)
 
 number_plain : (n : ℕ) → IsNumber n → HasNoLf (decimal n) × (length (decimal n) ≤ 20)
-number_plain zero h = (subst HasNoLf (sym (decimal_digit 0 (omega arith))) (plain_bytes (48 ∷ []) refl), length-decimal-le 20 0 (omega arith) (omega arith) (omega arith))
+number_plain zero h = (
+  subst HasNoLf (sym (decimal_digit 0 (omega arith))) (plain_bytes (48 ∷ []) refl),
+  length-decimal-le 20 0
+      (omega arith) (omega arith) (omega arith),
+)
 number_plain (suc n) h = (
   subst HasNoLf (sym (decimal-digits_of (suc n) (omega arith) h)) (shifted (digits_of 10 (suc n))),
   length-decimal-le 20 (suc n) (omega arith) (omega (arith, h)) h,
@@ -205,13 +211,15 @@ cells_plain (v ∷ t) e =
     let few = one.1 in
     let most = rest.1 in
     let long = length-append (value_text v) (cells_text t) in (
-      join (32 ∷ []) (value_text v ++ cells_text t) (plain_bytes (32 ∷ []) refl) (join (value_text v) (cells_text t) one.0 rest.0),
+      join (32 ∷ []) (value_text v ++ cells_text t) (plain_bytes (32 ∷ []) refl)
+          (join (value_text v) (cells_text t) one.0 rest.0),
       omega (arith, few, most, long),
     )
 
 -- ---- the forms
 
-fixed : (r : Reply) (l : Bytes) → line l ≡ reply_text r → list_all (λ b. not (b == 10)) l ≡ true → length l ≤ REPLY_LINE_BYTES
+fixed : (r : Reply) (l : Bytes) → line l ≡ reply_text r → list_all (λ b. not (b == 10)) l ≡ true
+    → length l ≤ REPLY_LINE_BYTES
     → (k : Bytes) × IsTheLine r k
 fixed r l e clean few = (l, record { text = e; whole = plain_bytes l clean; short = few })
 
@@ -229,7 +237,8 @@ behind xs ys m n h k =
 space : Part (codes " ") 1
 space = (plain_bytes (codes " ") refl, omega arith)
 
-the_line : (r : Reply) (l : Bytes) (n : ℕ) → line l ≡ reply_text r → Part l n → n ≤ REPLY_LINE_BYTES → (k : Bytes) × IsTheLine r k
+the_line : (r : Reply) (l : Bytes) (n : ℕ) → line l ≡ reply_text r → Part l n → n ≤ REPLY_LINE_BYTES → (k : Bytes)
+    × IsTheLine r k
 the_line r l n e h few =
     let most = h.1 in (l, record { text = e; whole = h.0; short = omega (arith, most, few) })
 
@@ -237,15 +246,18 @@ the_line r l n e h few =
 words_number : (r : Reply) (words : Bytes) (n : ℕ) → line (words ++ decimal n) ≡ reply_text r → HasNoLf words
     → length words ≤ 100 → IsNumber n → (k : Bytes) × IsTheLine r k
 words_number r words n e clean few h =
-    the_line r (words ++ decimal n) 120 e (behind words (decimal n) 100 20 (clean, few) (number_plain n h)) (omega arith)
+    the_line r (words ++ decimal n) 120 e (behind words (decimal n) 100 20 (clean, few) (number_plain n h))
+    (omega arith)
 
 -- words and two numbers
-words_numbers : (r : Reply) (words : Bytes) (n m : ℕ) → line (words ++ decimal n ++ codes " " ++ decimal m) ≡ reply_text r
+words_numbers : (r : Reply) (words : Bytes) (n m : ℕ) → line (words ++ decimal n ++ codes " " ++ decimal m)
+    ≡ reply_text r
     → HasNoLf words → length words ≤ 100 → IsNumber n → IsNumber m → (k : Bytes) × IsTheLine r k
 words_numbers r words n m e clean few h g =
     the_line r (words ++ decimal n ++ codes " " ++ decimal m) 141 e
     (behind (words ++ decimal n ++ codes " ") (decimal m) 121 20
-    (behind (words ++ decimal n) (codes " ") 120 1 (behind words (decimal n) 100 20 (clean, few) (number_plain n h)) space)
+    (behind (words ++ decimal n) (codes " ") 120 1 (behind words (decimal n) 100 20 (clean, few) (number_plain n h))
+    space)
     (number_plain m g)) (omega arith)
 
 change_plain : (s : Sign) → HasNoLf (sign_text s) × (length (sign_text s) ≤ 2)
@@ -291,14 +303,16 @@ printed_are_lines opened p few = fixed opened (codes "ok open") refl refl (omega
 printed_are_lines (added n m) p few =
     words_numbers (added n m) (codes "ok added ") n m refl (plain_bytes (codes "ok added ") refl) (omega arith) p.0 p.1
 printed_are_lines (removed n m) p few =
-    words_numbers (removed n m) (codes "ok removed ") n m refl (plain_bytes (codes "ok removed ") refl) (omega arith) p.0 p.1
+    words_numbers (removed n m) (codes "ok removed ") n m refl (plain_bytes (codes "ok removed ") refl) (omega arith)
+    p.0 p.1
 printed_are_lines (absent n) p few =
     words_number (absent n) (codes "ok absent ") n refl (plain_bytes (codes "ok absent ") refl) (omega arith) p
 printed_are_lines batch_opened p few = fixed batch_opened (codes "ok batch") refl refl (omega arith)
 printed_are_lines (row_held n) p few =
     words_number (row_held n) (codes "ok held ") n refl (plain_bytes (codes "ok held ") refl) (omega arith) p
 printed_are_lines (batch_done n rows) p few =
-    words_numbers (batch_done n rows) (codes "ok done ") n rows refl (plain_bytes (codes "ok done ") refl) (omega arith) p.0 p.1
+    words_numbers (batch_done n rows) (codes "ok done ") n rows refl (plain_bytes (codes "ok done ") refl) (omega arith)
+    p.0 p.1
 printed_are_lines (registered n) p few =
     words_number (registered n) (codes "ok query ") n refl (plain_bytes (codes "ok query ") refl) (omega arith) p
 printed_are_lines (cyclic edges) p few =
@@ -329,7 +343,8 @@ printed_are_lines (stale c r n) p few =
     (behind (codes "stale ") c 6 32 (plain_bytes (codes "stale ") refl, omega arith) (name_plain c p.0)) space)
     (name_plain r p.1)) space in
     let most = words.1 in
-    words_number (stale c r n) (codes "stale " ++ c ++ codes " " ++ r ++ codes " ") n refl words.0 (omega (arith, most)) p.2
+    words_number (stale c r n) (codes "stale " ++ c ++ codes " " ++ r ++ codes " ") n refl words.0 (omega (arith, most))
+    p.2
 printed_are_lines (united n) p few =
     words_number (united n) (codes "ok union ") n refl (plain_bytes (codes "ok union ") refl) (omega arith) p
 printed_are_lines (member n) p few =
@@ -357,14 +372,18 @@ printed_are_lines (counted q n) p few =
 printed_are_lines (explained j node label out) p few = absurd few
 printed_are_lines (refused Syntax) p few = fixed (refused Syntax) (codes "err 1 syntax") refl refl (omega arith)
 printed_are_lines (refused Taken) p few = fixed (refused Taken) (codes "err 2 taken") refl refl (omega arith)
-printed_are_lines (refused NoRelation) p few = fixed (refused NoRelation) (codes "err 3 no relation") refl refl (omega arith)
+printed_are_lines (refused NoRelation) p few = fixed (refused NoRelation) (codes "err 3 no relation") refl refl
+    (omega arith)
 printed_are_lines (refused NoQuery) p few = fixed (refused NoQuery) (codes "err 4 no query") refl refl (omega arith)
 printed_are_lines (refused NoCursor) p few = fixed (refused NoCursor) (codes "err 5 no cursor") refl refl (omega arith)
 printed_are_lines (refused Arity) p few = fixed (refused Arity) (codes "err 6 arity") refl refl (omega arith)
 printed_are_lines (refused WrongType) p few = fixed (refused WrongType) (codes "err 7 type") refl refl (omega arith)
-printed_are_lines (refused HeadUnbound) p few = fixed (refused HeadUnbound) (codes "err 8 head unbound") refl refl (omega arith)
-printed_are_lines (refused HeadRepeated) p few = fixed (refused HeadRepeated) (codes "err 9 head repeated") refl refl (omega arith)
-printed_are_lines (refused VariableType) p few = fixed (refused VariableType) (codes "err 10 variable type") refl refl (omega arith)
+printed_are_lines (refused HeadUnbound) p few = fixed (refused HeadUnbound) (codes "err 8 head unbound") refl refl
+    (omega arith)
+printed_are_lines (refused HeadRepeated) p few = fixed (refused HeadRepeated) (codes "err 9 head repeated") refl refl
+    (omega arith)
+printed_are_lines (refused VariableType) p few = fixed (refused VariableType) (codes "err 10 variable type") refl refl
+    (omega arith)
 printed_are_lines (refused Limit) p few = fixed (refused Limit) (codes "err 11 limit") refl refl (omega arith)
 printed_are_lines (refused NoMemory) p few = fixed (refused NoMemory) (codes "err 12 memory") refl refl (omega arith)
 printed_are_lines (refused InUse) p few = fixed (refused InUse) (codes "err 14 in use") refl refl (omega arith)

@@ -66,7 +66,8 @@ row_loads : (old : Loading) (held : List HeldRow) (l name : Bytes) (row : Tuple)
     → HoldsLoaded old held l name row r new → IsName name × IsSayableRow row → All IsSayableHeld held
     → IsSayableLoading old → IsSayableLoading new
 row_loads old held l name row (Ok u) new h said all k =
-    same_loading (record old { batch = Some (held ++ record { line = l; relation = name; row = row } ∷ []) }) new h (record {
+    same_loading (record old { batch = Some (held ++ record { line = l; relation = name; row = row } ∷ []) }) new h
+    (record {
       store = k.store;
       batch = All-push IsSayableHeld held (record { line = l; relation = name; row = row }) all
           (record { relation = said.0; row = said.1 });
@@ -77,7 +78,8 @@ command_loads : (st : Store) (batch : Option (List HeldRow)) (l : Bytes) (c : Co
     → CommandLoads (record { store = st; batch = batch }) l c how new → IsSayableCommand c
     → IsSayableLoading (record { store = st; batch = batch }) → IsSayableLoading new
 command_loads st None l Batch how new (inl h) said k =
-    same_loading (record { store = st; batch = Some [] }) new h.1 (record { store = k.store; batch = All-nil IsSayableHeld })
+    same_loading (record { store = st; batch = Some [] }) new h.1
+    (record { store = k.store; batch = All-nil IsSayableHeld })
 command_loads st None l Batch how new (inr h) said k = same_loading (record { store = st; batch = None }) new h.1 k
 command_loads st None l c how new h said k = unbatched new (store_loads st c how new.store h.0 said k.store) h.1
 command_loads st (Some held) l (Add name row) how new h said k =
@@ -96,7 +98,8 @@ reading_loads old l (says_command c) how new is (inl h) k =
     command_loads old.store old.batch l c how new h (read_sayable l c is) k
 reading_loads old l (says_command c) how new is (inr h) k = same_loading old new h.3 k
 
-load_sayable : (old : Loading) (l : Bytes) (how : Loaded) (new : Loading) → LoadStep old l how new → IsSayableLoading old
+load_sayable : (old : Loading) (l : Bytes) (how : Loaded) (new : Loading) → LoadStep old l how new
+    → IsSayableLoading old
     → IsSayableLoading new
 load_sayable old l how new h k =
     let acted = reading_loads old l (reading_of l) how h.mid refl h.loads k in

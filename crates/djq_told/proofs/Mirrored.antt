@@ -1,6 +1,9 @@
 -- What a session is sent that watches a query and reads it through one cursor at a time, a mirror of
 -- the query takes, step by step.
-use Rattle.std.specs.Prelude.{ℕ, List, [], ◌∷◌, ◌++◌, ◌==◌, ◌≡◌, ◌≤◌, ◌&&◌, Bool, true, false, not, cond, length, filter, find, Option, None, Some, is_some, is_none, IsSomeAnd, MatchOption, option_map, nat_le, map, Result, Ok, Err, codes, All, Contains, ⊤}
+use Rattle.std.specs.Prelude.{ℕ, List, [], ◌∷◌, ◌++◌, ◌==◌, ◌≡◌, ◌≤◌, ◌&&◌, Bool, true, false, not}
+use Rattle.std.specs.Prelude.{cond, length, filter, find, Option, None, Some, is_some, is_none}
+use Rattle.std.specs.Prelude.{IsSomeAnd, MatchOption, option_map, nat_le, map, Result, Ok, Err}
+use Rattle.std.specs.Prelude.{codes, All, Contains, ⊤}
 use Rattle.std.proofs.Common.{refl, sym, ap, ap₂, ◌∙◌, subst, inl, inr, arith, append-nil}
 use Rattle.std.proofs.lemmas.Bool.{eqb-true, eq-eqb, and_parts}
 use Rattle.std.proofs.lemmas.List.Elements.{All-nil, All-cons, All-head, All-append, All-contains, All-weaker}
@@ -19,9 +22,11 @@ use Rattle.djq_lines.specs.declared.command.Command.TheVariants.{Open, Next, Exp
 use Rattle.djq_lines.specs.Grammar.{Reading, outside, past_limit, says as says_command, reading_of}
 use Rattle.djq_lines.specs.Reply.{ok_reply, refusal_line, text_of, listing_lines}
 use Rattle.djq_mirror.specs.declared.mode.Mode.TheVariants.{Idle, Listing, Live}
-use Rattle.djq_mirror.specs.Replies.{Reply, opened as cursor_opened, answer, more as more_line, last as last_line, stale as gone_stale, refused, reply_text}
+use Rattle.djq_mirror.specs.Replies.{Reply, opened as cursor_opened, answer, more as more_line}
+use Rattle.djq_mirror.specs.Replies.{last as last_line, stale as gone_stale, refused, reply_text}
 use Rattle.djq_mirror.specs.Mirror.{Held, at_first, keep, turn_of}
-use Rattle.djq_machine.specs.State.{State, Session, Cursor, Position, open_at, stale, session_of, with_session, cursor_of, with_position, ended_by}
+use Rattle.djq_machine.specs.State.{State, Session, Cursor, Position, open_at, stale, session_of}
+use Rattle.djq_machine.specs.State.{with_session, cursor_of, with_position, ended_by}
 use Rattle.djq_machine.specs.Effect.{Effect, says, RefusedStep}
 use Rattle.djq_machine.specs.Watch.{is_watching}
 use Rattle.djq_machine.specs.Gives.{Gives, PositionGives, CursorsGive}
@@ -42,17 +47,25 @@ use Rattle.djq_laws.proofs.Giving.{step_gives}
 use Rattle.djq_laws.proofs.Queueing.{gaining, session_changed, stepped_cause, stepped as stepped_session}
 use Rattle.djq_laws.proofs.Sounding.{step_sound}
 use Rattle.djq_laws.proofs.Touching.{said}
-use Rattle.djq_told.specs.Sayable.{IsName, IsSayableRow, IsSayableListed, IsSayablePosition, IsSayableCursor, IsSayableSession, IsSayableState}
+use Rattle.djq_told.specs.Sayable.{IsName, IsSayableRow, IsSayableListed, IsSayablePosition}
+use Rattle.djq_told.specs.Sayable.{IsSayableCursor, IsSayableSession, IsSayableState}
 use Rattle.djq_told.specs.Told.{replies_text, is_told_of}
-use Rattle.djq_told.specs.Mirrored.{Passes, Shows, MayBeSaid, MayBeRead, ReadsOnly, ReadsAlong, IsMirrored, WatchersAreMirrored}
-use Rattle.djq_told.proofs.Having.{OpenHas, CursorHas, HasFew, Has, ReadsCalm, EventCalm, has_line, has_behind, has_step}
+use Rattle.djq_told.specs.Mirrored.{Passes, Shows, MayBeSaid, MayBeRead, ReadsOnly, ReadsAlong}
+use Rattle.djq_told.specs.Mirrored.{IsMirrored, WatchersAreMirrored}
+use Rattle.djq_told.proofs.Having.{OpenHas, CursorHas, HasFew, Has, ReadsCalm, EventCalm, has_line}
+use Rattle.djq_told.proofs.Having.{has_behind, has_step}
 use Rattle.djq_told.proofs.Hearing.{text_append}
-use Rattle.djq_told.proofs.Mirroring.{passes_then, stays, passes_told, idle_with, delta_idles, shows_same, delta_shown, not_before, Behind, answers_shown, answers_idle, opened_shown, stale_idles, more_stays, last_stays, last_lives, shows_with}
+use Rattle.djq_told.proofs.Mirroring.{passes_then, stays, passes_told, idle_with, delta_idles}
+use Rattle.djq_told.proofs.Mirroring.{shows_same, delta_shown, not_before, Behind, answers_shown}
+use Rattle.djq_told.proofs.Mirroring.{answers_idle, opened_shown, stale_idles, more_stays}
+use Rattle.djq_told.proofs.Mirroring.{last_stays, last_lives, shows_with}
 use Rattle.djq_told.proofs.Printed.{IsFine, one_fine, number_small, answers_fine}
-use Rattle.djq_told.proofs.Replying.{ExplainsNone, IsHarmless, harmless_form, last_reply, last_fine, behind_fine, listing_text, talks}
+use Rattle.djq_told.proofs.Replying.{ExplainsNone, IsHarmless, harmless_form, last_reply, last_fine}
+use Rattle.djq_told.proofs.Replying.{behind_fine, listing_text, talks}
 use Rattle.djq_told.proofs.Sayable.{step_sayable}
 use Rattle.djq_told.proofs.Storing.{answer_sayable}
-use Rattle.djq_told.proofs.Telling.{ExplainsNothing, StepTold, tells_none, tells_delta, reading_talks, event_talks, step_says}
+use Rattle.djq_told.proofs.Telling.{ExplainsNothing, StepTold, tells_none, tells_delta}
+use Rattle.djq_told.proofs.Telling.{reading_talks, event_talks, step_says}
 
 -- ---- what a mirror holds, against the session's cursor
 
@@ -90,7 +103,8 @@ has_any s name P st h = record {
   is = h.is;
   few = (
     h.few.0,
-    All-weaker (CursorHas name P) (CursorHas name Any) (λ k c. (c.0, open_any P k.position c.1)) (h.session).cursors h.few.1,
+    All-weaker (CursorHas name P) (CursorHas name Any) (λ k c. (c.0, open_any P k.position c.1)) (h.session).cursors
+        h.few.1,
   );
 }
 
@@ -115,7 +129,8 @@ module _ (q : Listed) (s : ℕ) (old new : State) (held : Held) (rs : List Reply
       by (is_listing given e shows h) = is_listing given e shows (steps (HasGiven given) h)
       by (is_live e shows h) =
           is_live e
-          (shows_same held (AnswersOf old.store.relations q) (AnswersOf new.store.relations q) same.there same.back shows)
+          (shows_same held (AnswersOf old.store.relations q) (AnswersOf new.store.relations q) same.there same.back
+          shows)
           (steps Finished h)
   calm_goes (tells_delta delta is tells seq counts) (is_idle e h) = record {
     behind = idle_with held;
@@ -156,9 +171,11 @@ none_open (k ∷ ks) c e h =
     absurd (cc (found, e))
 
 -- the one cursor at another place
-one_moved : (name : Bytes) (P Q : List Tuple → Bool → Type 0) (ks : List Cursor) (c : Bytes) (k : Cursor) (given : List Tuple)
+one_moved : (name : Bytes) (P Q : List Tuple → Bool → Type 0) (ks : List Cursor) (c : Bytes) (k : Cursor)
+    (given : List Tuple)
     (end : Bool) → length ks ≤ 1 → cursor_of ks c ≡ Some k → All (CursorHas name P) ks → Q given end
-    → (length (with_position ks c (open_at given end)) ≤ 1) × All (CursorHas name Q) (with_position ks c (open_at given end))
+    → (length (with_position ks c (open_at given end)) ≤ 1)
+    × All (CursorHas name Q) (with_position ks c (open_at given end))
 one_moved name P Q [] c k given end few found h at = absurd cc
 one_moved name P Q (z ∷ []) c k given end few found h at = by (bytes_eq z.name c) refl found
   where
@@ -196,11 +213,13 @@ module _ (q : Listed) (s : ℕ) (old : State) (event : Event) (e : Effect) (new 
       by (is_listing given k shows h) = is_listing given k shows (steps (HasGiven given) h)
       by (is_live k shows h) =
           is_live k
-          (shows_same held (AnswersOf old.store.relations q) (AnswersOf new.store.relations q) same.there same.back shows)
+          (shows_same held (AnswersOf old.store.relations q) (AnswersOf new.store.relations q) same.there same.back
+          shows)
           (steps Finished h)
 
   -- what a line leaves that only takes it
-  from_taken : step.mid ≡ taken → (P : List Tuple → Bool → Type 0) → Has s (listed_name q) P old → Has s (listed_name q) P new
+  from_taken : step.mid ≡ taken → (P : List Tuple → Bool → Type 0) → Has s (listed_name q) P old
+      → Has s (listed_name q) P new
   from_taken after P h =
       has_behind s (listed_name q) P old event e new step
       (subst (λ (st : State). Has s (listed_name q) P st) (sym after) (has_line s (listed_name q) P old s rest h))
@@ -225,24 +244,31 @@ module _ (q : Listed) (s : ℕ) (old : State) (event : Event) (e : Effect) (new 
     where
       by : (r : Result ⊤ Refusal) → h.result ≡ r → Says
       by (Err r) k =
-          let text : e ≡ says s (refusal_line r) = h.effect ∙ ap (λ (z : Result ⊤ Refusal). says s (ok_reply (codes "ok open") z)) k in
-          let state : OpensTo taken s c p step.mid (Err r) = subst (λ (z : Result ⊤ Refusal). OpensTo taken s c p step.mid z) k h.state in
+          let text : e ≡ says s (refusal_line r) = h.effect
+          ∙ ap (λ (z : Result ⊤ Refusal). says s (ok_reply (codes "ok open") z)) k in
+          let state : OpensTo taken s c p step.mid (Err r) = subst
+          (λ (z : Result ⊤ Refusal). OpensTo taken s c p step.mid z) k h.state in
           let g = refused_goes r (text, state) in (refused r ∷ [], g.0, g.1, one_fine (refused r) (tt, tt))
       by (Ok u) k =
-          let text : e ≡ says s (reply_text cursor_opened) = h.effect ∙ ap (λ (z : Result ⊤ Refusal). says s (ok_reply (codes "ok open") z)) k in
-          let state : OpensTo taken s c p step.mid (Ok u) = subst (λ (z : Result ⊤ Refusal). OpensTo taken s c p step.mid z) k h.state in
-          let answered = subst (λ (z : Result ⊤ Refusal). Answers (open_refusal taken.store x.cursors c p) z (λ _. ⊤) (OutOfMemoryWhere ⊤)) k h.answer in
+          let text : e ≡ says s (reply_text cursor_opened) = h.effect
+          ∙ ap (λ (z : Result ⊤ Refusal). says s (ok_reply (codes "ok open") z)) k in
+          let state : OpensTo taken s c p step.mid (Ok u) = subst
+          (λ (z : Result ⊤ Refusal). OpensTo taken s c p step.mid z) k h.state in
+          let answered = subst (λ (z : Result ⊤ Refusal). Answers (open_refusal taken.store x.cursors c p) z (λ _. ⊤)
+          (OutOfMemoryWhere ⊤)) k h.answer in
           let none = none_holds (open_refusal taken.store x.cursors c p) u (λ _. ⊤) (OutOfMemoryWhere ⊤) answered in
           let last = first_of ((nat_le CURSORS (length x.cursors), Limit) ∷ []) in
           let absent = none_found (cursor_of x.cursors c)
-          (none_first (is_some (cursor_of x.cursors c)) Taken (cond (is_none (listed_of taken.store.queries p)) (Some NoQuery) last) none) in
+          (none_first (is_some (cursor_of x.cursors c)) Taken
+          (cond (is_none (listed_of taken.store.queries p)) (Some NoQuery) last) none) in
           let empty = none_open x.cursors c absent names in
           let more : Cursor = record { name = c; query = p; position = open_at [] false } in
           let has : Has s (listed_name q) (HasGiven []) step.mid = record {
             session = with_cursor c p (behind_line rest x);
             is = ap (λ st. session_of st s) state ∙ session_changed taken s (with_cursor c p) (λ y. refl)
                 ∙ ap (λ o. option_map (with_cursor c p) o) taken_is;
-            few = subst (λ (ks : List Cursor). (length (ks ++ more ∷ []) ≤ 1) × All (CursorHas (listed_name q) (HasGiven [])) (ks ++ more ∷ []))
+            few = subst (λ (ks : List Cursor). (length (ks ++ more ∷ []) ≤ 1)
+                × All (CursorHas (listed_name q) (HasGiven [])) (ks ++ more ∷ []))
                 (sym empty) (
                   omega arith,
                   All-cons (CursorHas (listed_name q) (HasGiven [])) more [] (over, (refl, refl))
@@ -255,7 +281,8 @@ module _ (q : Listed) (s : ℕ) (old : State) (event : Event) (e : Effect) (new 
             record {
               behind = k2.behind;
               passes = k2.passes;
-              mirrors = is_listing [] k2.is k2.shows (has_behind s (listed_name q) (HasGiven []) old event e new step has);
+              mirrors = is_listing [] k2.is k2.shows
+                  (has_behind s (listed_name q) (HasGiven []) old event e new step has);
             },
             one_fine cursor_opened (tt, tt),
           )
@@ -280,7 +307,8 @@ module _ (q : Listed) (s : ℕ) (old : State) (event : Event) (e : Effect) (new 
       any_of (is_live k shows h) = has_any s (listed_name q) Finished old h
 
   -- the cursor is read
-  module _ (c : Bytes) (k : Cursor) (count : ℕ) (given : List Tuple) (finished : Bool) (found : cursor_of x.cursors c ≡ Some k)
+  module _ (c : Bytes) (k : Cursor) (count : ℕ) (given : List Tuple) (finished : Bool)
+      (found : cursor_of x.cursors c ≡ Some k)
       (stands : k.position ≡ open_at given finished) (h : NextStep taken s c q given count e step.mid) where
     moved : (P Q : List Tuple → Bool → Type 0) → Has s (listed_name q) P old → Q (given ++ h.told) h.end
         → Has s (listed_name q) Q new
@@ -290,7 +318,8 @@ module _ (q : Listed) (s : ℕ) (old : State) (event : Event) (e : Effect) (new 
         let f = λ (y : Session). record y { cursors = with_position y.cursors c (open_at (given ++ h.told) h.end) } in
         has_behind s (listed_name q) Q old event e new step (record {
           session = f (behind_line rest x);
-          is = ap (λ st. session_of st s) h.state ∙ session_changed taken s f (λ y. refl) ∙ ap (λ o. option_map f o) taken_is;
+          is = ap (λ st. session_of st s) h.state ∙ session_changed taken s f (λ y. refl)
+              ∙ ap (λ o. option_map f o) taken_is;
           few = one_moved (listed_name q) P Q x.cursors c k (given ++ h.told) h.end few.0 found few.1 at;
         })
 
@@ -303,11 +332,16 @@ module _ (q : Listed) (s : ℕ) (old : State) (event : Event) (e : Effect) (new 
 
     gave : k.query ≡ listed_name q → Gives (AnswersOf old.store.relations q) given finished
     gave over =
-        let session = all_found (λ (y : Session). All (λ (z : Cursor). PositionGives old.store.relations (listed_of old.store.queries z.query) z.position) y.cursors)
+        let session = all_found
+        (λ (y : Session). All
+        (λ (z : Cursor). PositionGives old.store.relations (listed_of old.store.queries z.query) z.position)
+        y.cursors)
         (λ (y : Session). y.id == s) old.sessions x gives is in
-        let cursor = all_found (λ (z : Cursor). PositionGives old.store.relations (listed_of old.store.queries z.query) z.position)
+        let cursor = all_found
+        (λ (z : Cursor). PositionGives old.store.relations (listed_of old.store.queries z.query) z.position)
         (λ (z : Cursor). bytes_eq z.name c) x.cursors k session found in
-        let q_is : listed_of old.store.queries k.query ≡ Some q = ap (λ n. listed_of old.store.queries n) over ∙ registered in
+        let q_is : listed_of old.store.queries k.query ≡ Some q = ap (λ n. listed_of old.store.queries n) over
+        ∙ registered in
         subst (λ (z : Position). PositionGives old.store.relations (Some q) z) stands
         (subst (λ (o : Option Listed). PositionGives old.store.relations o k.position) q_is cursor)
 
@@ -335,8 +369,10 @@ module _ (q : Listed) (s : ℕ) (old : State) (event : Event) (e : Effect) (new 
         told = map (λ t. answer t) h.told
 
         idle_then : held.mode ≡ Idle → (end : Bool) → Passes name held (told ++ last_reply end ∷ []) held
-        idle_then mode true = passes_then name held held held told (last_line ∷ []) (answers_idle name held h.told mode) (last_stays name held (inl mode))
-        idle_then mode false = passes_then name held held held told (more_line ∷ []) (answers_idle name held h.told mode) (more_stays name held (inl mode))
+        idle_then mode true = passes_then name held held held told (last_line ∷ []) (answers_idle name held h.told mode)
+            (last_stays name held (inl mode))
+        idle_then mode false = passes_then name held held held told (more_line ∷ [])
+            (answers_idle name held h.told mode) (more_stays name held (inl mode))
 
         by : Mirrors q s old held → (end : Bool) → h.end ≡ end → Goes q s new held (told ++ last_reply h.end ∷ [])
         by (is_idle mode l) end is_end = record {
@@ -347,22 +383,29 @@ module _ (q : Listed) (s : ℕ) (old : State) (event : Event) (e : Effect) (new 
         by (is_listing shown mode shows l) end is_end =
             let has = held_by (HasGiven shown) l in
             let g = gave over in
-            let shows' : Shows held (Contains given) = subst (λ (ts : List Tuple). Shows held (Contains ts)) (sym has.0) shows in
-            let k2 = answers_shown name held given h.told mode (all_good given g.answers) (all_good h.told h.tells.answers) h.tells.different shows' in
+            let shows' : Shows held (Contains given) = subst (λ (ts : List Tuple). Shows held (Contains ts)) (sym has.0)
+            shows in
+            let k2 = answers_shown name held given h.told mode (all_good given g.answers)
+            (all_good h.told h.tells.answers) h.tells.different shows' in
             subst (λ (z : Bool). Goes q s new held (told ++ last_reply z ∷ [])) (sym is_end) (last end is_end k2)
           where
-            last : (end : Bool) → h.end ≡ end → Behind name held told Listing (Contains (given ++ h.told)) → Goes q s new held (told ++ last_reply end ∷ [])
+            last : (end : Bool) → h.end ≡ end → Behind name held told Listing (Contains (given ++ h.told))
+                → Goes q s new held (told ++ last_reply end ∷ [])
             last false e2 k2 = record {
               behind = k2.behind;
-              passes = passes_then name held k2.behind k2.behind told (more_line ∷ []) k2.passes (more_stays name k2.behind (inr k2.is));
-              mirrors = is_listing (given ++ h.told) k2.is k2.shows (moved (HasGiven shown) (HasGiven (given ++ h.told)) l (refl, e2));
+              passes = passes_then name held k2.behind k2.behind told (more_line ∷ []) k2.passes
+                  (more_stays name k2.behind (inr k2.is));
+              mirrors = is_listing (given ++ h.told) k2.is k2.shows
+                  (moved (HasGiven shown) (HasGiven (given ++ h.told)) l (refl, e2));
             }
             last true e2 k2 =
                 let next : Held = record { mode = Live; texts = (k2.behind).texts } in
                 let g = gave over in
-                let all : All (AnswersOf old.store.relations q) (given ++ h.told) = All-append (AnswersOf old.store.relations q) given h.told g.answers h.tells.answers in record {
+                let all : All (AnswersOf old.store.relations q) (given ++ h.told) = All-append
+                (AnswersOf old.store.relations q) given h.told g.answers h.tells.answers in record {
                   behind = next;
-                  passes = passes_then name held k2.behind next told (last_line ∷ []) k2.passes (last_lives name k2.behind k2.is);
+                  passes = passes_then name held k2.behind next told (last_line ∷ []) k2.passes
+                      (last_lives name k2.behind k2.is);
                   mirrors = is_live refl
                       (shows_with k2.behind Live (AnswersOf new.store.relations q)
                       (shows_same k2.behind (Contains (given ++ h.told)) (AnswersOf new.store.relations q)
@@ -376,22 +419,27 @@ module _ (q : Listed) (s : ℕ) (old : State) (event : Event) (e : Effect) (new 
             let complete = (g.listing done).complete in
             nothing_more h.told refl complete end is_end
           where
-            nothing_more : (ts : List Tuple) → h.told ≡ ts → ((t : Tuple) → AnswersOf old.store.relations q t → Contains given t) → (end : Bool) → h.end ≡ end
+            nothing_more : (ts : List Tuple) → h.told ≡ ts
+                → ((t : Tuple) → AnswersOf old.store.relations q t → Contains given t) → (end : Bool) → h.end ≡ end
                 → Goes q s new held (told ++ last_reply h.end ∷ [])
             nothing_more (t ∷ ts) some complete end e2 =
-                let there = All-head (AnswersOf old.store.relations q) t ts (subst (λ (us : List Tuple). All (AnswersOf old.store.relations q) us) some h.tells.answers) in
-                absurd (not_before given t ts (subst (λ (us : List Tuple). AreDifferent (given ++ us)) some h.tells.different) (complete t there))
+                let there = All-head (AnswersOf old.store.relations q) t ts
+                (subst (λ (us : List Tuple). All (AnswersOf old.store.relations q) us) some h.tells.answers) in
+                absurd (not_before given t ts
+                (subst (λ (us : List Tuple). AreDifferent (given ++ us)) some h.tells.different) (complete t there))
             nothing_more [] none complete false e2 =
                 let left = h.tells.some_left e2 in
                 absurd (left.1.1 (subst (λ (us : List Tuple). Contains (given ++ us) left.0) (sym none)
                 (subst (λ (us : List Tuple). Contains us left.0) (sym (append-nil given)) (complete left.0 left.1.0))))
             nothing_more [] none complete true e2 =
-                subst (λ (us : List Tuple). Goes q s new held (map (λ t. answer t) us ++ last_reply h.end ∷ [])) (sym none)
+                subst (λ (us : List Tuple). Goes q s new held (map (λ t. answer t) us ++ last_reply h.end ∷ []))
+                (sym none)
                 (subst (λ (z : Bool). Goes q s new held (last_reply z ∷ [])) (sym e2) (record {
                   behind = held;
                   passes = last_stays name held (inr mode);
                   mirrors = is_live mode
-                      (shows_same held (AnswersOf old.store.relations q) (AnswersOf new.store.relations q) same.there same.back shows)
+                      (shows_same held (AnswersOf old.store.relations q) (AnswersOf new.store.relations q) same.there
+                      same.back shows)
                       (moved Finished Finished l e2);
                 }))
 
@@ -406,12 +454,16 @@ find_gone : (s t : ℕ) → t ≡ s → (xs : List Session)
 find_gone s t same [] = refl
 find_gone s t same (x ∷ xs) = by (x.id == t) refl (find_gone s t same xs)
   where
-    by : (b : Bool) → (x.id == t) ≡ b → find (λ (y : Session). y.id == s) (filter (λ (y : Session). not (y.id == t)) xs) ≡ None
-        → find (λ (y : Session). y.id == s) (cond (not b) (x ∷ filter (λ (y : Session). not (y.id == t)) xs) (filter (λ (y : Session). not (y.id == t)) xs)) ≡ None
+    by : (b : Bool) → (x.id == t) ≡ b → find (λ (y : Session). y.id == s) (filter (λ (y : Session). not (y.id == t)) xs)
+        ≡ None
+        → find (λ (y : Session). y.id == s)
+        (cond (not b) (x ∷ filter (λ (y : Session). not (y.id == t)) xs)
+        (filter (λ (y : Session). not (y.id == t)) xs)) ≡ None
     by true e h = h
     by false e h =
         let no : (x.id == s) ≡ false = ap (λ i. x.id == i) (sym same) ∙ e in
-        ap (λ (b : Bool). cond b (Some x) (find (λ (y : Session). y.id == s) (filter (λ (y : Session). not (y.id == t)) xs))) no ∙ h
+        ap (λ (b : Bool). cond b (Some x)
+        (find (λ (y : Session). y.id == s) (filter (λ (y : Session). not (y.id == t)) xs))) no ∙ h
 
 calm_command : (s : ℕ) (name : Bytes) (P : List Tuple → Bool → Type 0) (c : Command) → talks c ≡ false
     → ReadsCalm s name P (says_command c)
@@ -444,7 +496,8 @@ calm_event s name P (ended t) e apart = tt
 calm_event s name P (closed t bytes) e apart = apart t bytes refl
 
 calm_explains : (s : ℕ) (event : Event) → event_talks s event ≡ false → ExplainsNothing s event
-calm_explains s (stepped t (run l)) e = λ same. of (reading_of l) (second_false (t == s) (reading_talks (reading_of l)) e same)
+calm_explains s (stepped t (run l)) e = λ same. of (reading_of l)
+    (second_false (t == s) (reading_talks (reading_of l)) e same)
   where
     of_command : (c : Command) → talks c ≡ false → ExplainsNone (says_command c)
     of_command (Explain q) k = absurd cc
@@ -456,13 +509,16 @@ calm_explains s (stepped t (run l)) e = λ same. of (reading_of l) (second_false
     of (past_limit c) k = tt
 calm_explains s event e = tt
 
-module _ (q : Listed) (s : ℕ) (old : State) (event : Event) (e : Effect) (new : State) (held : Held) (sound : IsSoundState old)
+module _ (q : Listed) (s : ℕ) (old : State) (event : Event) (e : Effect) (new : State) (held : Held)
+    (sound : IsSoundState old)
     (sayable : IsSayableState old) (gives : CursorsGive old) (step : Step old event e new) (before : IsWatcher q s old)
     (behind : IsWatcher q s new) (m : Mirrors q s old held) where
-  fine_in : (st : State) → IsSayableState st → IsWatcher q s st → (t : Tuple) → AnswersOf st.store.relations q t → IsSayableRow t
+  fine_in : (st : State) → IsSayableState st → IsWatcher q s st → (t : Tuple) → AnswersOf st.store.relations q t
+      → IsSayableRow t
   fine_in st fine w t a =
       answer_sayable st.store.relations fine.store.relations q
-      (all_found IsSayableListed (λ (p : Listed). bytes_eq (listed_name p) (listed_name q)) st.store.queries q fine.store.queries
+      (all_found IsSayableListed (λ (p : Listed). bytes_eq (listed_name p) (listed_name q)) st.store.queries q
+      fine.store.queries
       w.registered) t a
 
   g : (y : Session) × (session_of new s ≡ Some y) × ((y.cause ≡ None) × (is_watching (listed_name q) y ≡ true))
@@ -473,7 +529,8 @@ module _ (q : Listed) (s : ℕ) (old : State) (event : Event) (e : Effect) (new 
 
   open_mid : session_of (step.mid) s ≡ None → ⊥
   open_mid none =
-      let now = stepped_session old event e new step s ∙ ap (λ o. option_map (gaining (to_session s e.queued)) o) none in
+      let now = stepped_session old event e new step s
+      ∙ ap (λ o. option_map (gaining (to_session s e.queued)) o) none in
       let both : Some g.0 ≡ None = sym g.1 ∙ now in
       absurd (cc both)
 
@@ -498,8 +555,10 @@ module _ (q : Listed) (s : ℕ) (old : State) (event : Event) (e : Effect) (new 
         k.replies,
         k.text,
         calm_goes q s old new held k.replies (event_changes q old event)
-            (λ P h. has_step s (listed_name q) P old event e new (calm_event s (listed_name q) P event calm apart) step h)
-            (fine_in old sayable before) (fine_in new (step_sayable old event e new step sayable) behind) (k.harmless calm) k.told m,
+            (λ P h. has_step s (listed_name q) P old event e new (calm_event s (listed_name q) P event calm apart) step
+            h)
+            (fine_in old sayable before) (fine_in new (step_sayable old event e new step sayable) behind)
+            (k.harmless calm) k.told m,
         k.fine (record { sound = sound; fine = sayable; no_tree = calm_explains s event calm }),
       )
 
@@ -523,7 +582,8 @@ module _ (q : Listed) (s : ℕ) (old : State) (e : Effect) (new : State) (held :
   module _ (l : Bytes) (step : Step old (stepped s (run l)) e new) (x : Session) (is : session_of old s ≡ Some x)
       (rest : Bytes) (same : SameAnswers old.store.relations new.store.relations q) where
     good : (t : Tuple) → AnswersOf old.store.relations q t → IsSayableRow t
-    good t a = fine_in q s old (stepped s (run l)) e new held sound sayable gives step before behind m old sayable before t a
+    good t a = fine_in q s old (stepped s (run l)) e new held sound sayable gives step before behind m old sayable
+        before t a
 
     runs : cause_of (step.mid) s ≡ None
     runs = running q s old (stepped s (run l)) e new held sound sayable gives step before behind m
@@ -533,7 +593,8 @@ module _ (q : Listed) (s : ℕ) (old : State) (e : Effect) (new : State) (held :
 
     refuses : (r : Refusal) → RefusedStep now s r e (step.mid) → Says'
     refuses r h =
-        let k = refused_goes q s old (stepped s (run l)) e new held step x rest is before.registered same good gives runs m r h in
+        let k = refused_goes q s old (stepped s (run l)) e new held step x rest is before.registered same good gives
+        runs m r h in
         (refused r ∷ [], k.0, k.1, one_fine (refused r) (tt, tt))
 
     over_name : (c : Bytes) (k : Cursor) → cursor_of x.cursors c ≡ Some k → k.query ≡ listed_name q
@@ -556,17 +617,21 @@ module _ (q : Listed) (s : ℕ) (old : State) (e : Effect) (new : State) (held :
         let session = all_found IsSayableSession (λ (y : Session). y.id == s) old.sessions x sayable.sessions is in
         let cursor = all_found IsSayableCursor (λ (z : Cursor). bytes_eq z.name c) x.cursors k session.cursors found in
         let named = subst IsSayablePosition stands cursor.position in
-        let called = (bytes_eq-decides k.name c).0 (found_passes (λ (z : Cursor). bytes_eq z.name c) x.cursors k found) in
-        stale_goes q s old (stepped s (run l)) e new held step x rest is before.registered same good gives runs m c relation n
+        let called = (bytes_eq-decides k.name c).0 (found_passes (λ (z : Cursor). bytes_eq z.name c) x.cursors k found)
+        in
+        stale_goes q s old (stepped s (run l)) e new held step x rest is before.registered same good gives runs m c
+        relation n
         ((subst IsName called cursor.name, named.0, number_small n named.1), tt) h.0 h.1
     next_at c k count (open_at given finished) found stands (inl h) =
-        read_goes q s old (stepped s (run l)) e new held step x rest is before.registered same good gives runs m c k count given
+        read_goes q s old (stepped s (run l)) e new held step x rest is before.registered same good gives runs m c k
+        count given
         finished found stands h (over_name c k found)
         (λ ts a. answers_fine old.store.relations sayable.store.relations q
         (all_found IsSayableListed (λ (p : Listed). bytes_eq (listed_name p) (listed_name q)) old.store.queries q
         sayable.store.queries before.registered) ts a)
     next_at c k count (open_at given finished) found stands (inr h) =
-        let there = taken_is q s old (stepped s (run l)) e new held step x rest is before.registered same good gives runs m in
+        let there = taken_is q s old (stepped s (run l)) e new held step x rest is before.registered same good gives
+        runs m in
         let over : cause_of (step.mid) s ≡ Some Memory =
         ap (λ st. cause_of st s) h.state ∙ ap cause_in (session_changed now s (ended_by Memory) (λ y. refl))
         ∙ ap (λ o. cause_in (option_map (ended_by Memory) o)) there in
@@ -579,7 +644,8 @@ module _ (q : Listed) (s : ℕ) (old : State) (e : Effect) (new : State) (held :
         → Says'
     next_goes c count None found h = refuses NoCursor h
     next_goes c count (Some k) found h =
-        let f = some_and (listed_of old.store.queries k.query) (λ p. NextStepAt now s c p count k.position e (step.mid)) h in
+        let f = some_and (listed_of old.store.queries k.query) (λ p. NextStepAt now s c p count k.position e (step.mid))
+        h in
         let registered : listed_of old.store.queries k.query ≡ Some q =
         ap (λ n. listed_of old.store.queries n) (over_name c k found) ∙ before.registered in
         let one = no_query f.0 q (listed_of old.store.queries k.query) f.1 registered in
@@ -617,14 +683,16 @@ module _ (q : Listed) (s : ℕ) (old : State) (e : Effect) (new : State) (held :
       same : SameAnswers old.store.relations new.store.relations q
       same =
           quiet_same l step
-          (ap (λ (r : Reading). is_some (line_outdater old.store (batch_of old s) r q)) read ∙ talk_changes (batch_of old s) c k)
+          (ap (λ (r : Reading). is_some (line_outdater old.store (batch_of old s) r q)) read
+          ∙ talk_changes (batch_of old s) c k)
 
       by : Reads (with_session old s (behind_line rest)) s (behind_line rest x) l (says_command c) e (step.mid) → Says'
       by (turned_down why because d) = refuses l step x is rest same why d
       by (carried_out d says h) =
           let one : c ≡ d = cc in
           command_talks l step x is rest same c k may
-          (subst (λ (w : Command). CommandStep (with_session old s (behind_line rest)) s (behind_line rest x) l w e (step.mid))
+          (subst (λ (w : Command). CommandStep (with_session old s (behind_line rest)) s (behind_line rest x) l w e
+          (step.mid))
           (sym one) h)
 
   run_goes : (l : Bytes) (step : Step old (stepped s (run l)) e new) → reading_talks (reading_of l) ≡ true
@@ -680,13 +748,15 @@ mirrors_along q s old sound fine gives (d ∷ done) new walk reads held m =
     let mid = walk.0 in
     let one = step_goes q s old d.effect mid held sound fine gives h.before h.behind m d.event h.step reads.0 in
     let more = mirrors_along q s mid (step_sound old d.event d.effect mid h.step sound)
-    (step_sayable old d.event d.effect mid h.step fine) (step_gives old d.event d.effect mid h.step gives) done new walk.2 reads.1
+    (step_sayable old d.event d.effect mid h.step fine) (step_gives old d.event d.effect mid h.step gives) done new
+    walk.2 reads.1
     one.2.behind one.2.mirrors in record {
       replies = one.0 ++ more.replies;
       whole = ap₂ (λ (xs ys : Bytes). xs ++ ys) one.1 more.whole ∙ sym (text_append one.0 more.replies);
       goes = record {
         behind = more.goes.behind;
-        passes = passes_then (listed_name q) held one.2.behind more.goes.behind one.0 more.replies one.2.passes more.goes.passes;
+        passes = passes_then (listed_name q) held one.2.behind more.goes.behind one.0 more.replies one.2.passes
+            more.goes.passes;
         mirrors = more.goes.mirrors;
       };
       fine = All-append IsFine one.0 more.replies one.3 more.fine;

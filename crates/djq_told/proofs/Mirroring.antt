@@ -1,7 +1,10 @@
 -- What replies make of what a mirror holds.
-use Rattle.std.specs.Prelude.{ℕ, List, [], ◌∷◌, ◌++◌, ◌≡◌, ◌⊎◌, ◌&&◌, ◌||◌, Bool, true, false, not, cond, filter, Some, map, All, Contains}
+use Rattle.std.specs.Prelude.{ℕ, List, [], ◌∷◌, ◌++◌, ◌≡◌, ◌⊎◌, ◌&&◌, ◌||◌, Bool, true, false, not}
+use Rattle.std.specs.Prelude.{cond, filter, Some, map, All, Contains}
 use Rattle.std.proofs.Common.{refl, sym, ap, ap₂, ◌∙◌, subst, inl, inr, append-nil, append_assoc}
-use Rattle.std.proofs.lemmas.List.Elements.{All-nil, All-cons, All-head, All-tail, All-append, All-contains, Contains-append_left, Contains-append_right}
+use Rattle.std.proofs.lemmas.List.Elements.{All-nil, All-cons, All-head, All-tail, All-append}
+use Rattle.std.proofs.lemmas.List.Elements.{All-contains, Contains-append_left}
+use Rattle.std.proofs.lemmas.List.Elements.{Contains-append_right}
 use Rattle.djq_model.specs.declared.value.Value.{Value}
 use Rattle.djq_model.specs.Data.{Bytes, Tuple, bytes_eq, tuple_eq}
 use Rattle.djq_model.specs.Answer.{AreDifferent}
@@ -15,16 +18,20 @@ use Rattle.djq_lines.specs.declared.answer.Sign.{Sign}
 use Rattle.djq_lines.specs.declared.answer.Sign.TheVariants.{Came, Went}
 use Rattle.djq_mirror.specs.declared.mode.Mode.{Mode}
 use Rattle.djq_mirror.specs.declared.mode.Mode.TheVariants.{Idle, Listing, Live}
-use Rattle.djq_mirror.specs.Replies.{Reply, opened, answer, more as more_line, last as last_line, stale, changed, counted}
-use Rattle.djq_mirror.specs.Mirror.{Held, Act, keep, put, take_out, turn_of, turn_of_change, turn_of_count, may_turn, has_text, IsInOrder, Turned}
+use Rattle.djq_mirror.specs.Replies.{Reply, opened, answer, more as more_line, last as last_line}
+use Rattle.djq_mirror.specs.Replies.{stale, changed, counted}
+use Rattle.djq_mirror.specs.Mirror.{Held, Act, keep, put, take_out, turn_of, turn_of_change}
+use Rattle.djq_mirror.specs.Mirror.{turn_of_count, may_turn, has_text, IsInOrder, Turned}
 use Rattle.djq_machine.specs.Delta.{Change, HasChanged, IsDelta}
 use Rattle.djq_deltas.specs.Decided.{Decided}
-use Rattle.djq_deltas.proofs.Lists.{nothing_there, first_or_later, first_there, later_there, mapped_there, pairs_head, pairs_tail}
+use Rattle.djq_deltas.proofs.Lists.{nothing_there, first_or_later, first_there, later_there}
+use Rattle.djq_deltas.proofs.Lists.{mapped_there, pairs_head, pairs_tail}
 use Rattle.djq_told.specs.Sayable.{IsSayableValue, IsSayableRow}
 use Rattle.djq_told.specs.Told.{is_told_of, delta_replies}
 use Rattle.djq_told.specs.Mirrored.{Passes, Shows}
 use Rattle.djq_told.proofs.Replying.{IsHarmless}
-use Rattle.djq_told.proofs.Sorting.{put_in, taken_out, has_put, has_out, sorted_put, sorted_out, put_is, out_is, nothing_sorted}
+use Rattle.djq_told.proofs.Sorting.{put_in, taken_out, has_put, has_out, sorted_put, sorted_out}
+use Rattle.djq_told.proofs.Sorting.{put_is, out_is, nothing_sorted}
 
 -- ---- one reply after the other
 
@@ -38,7 +45,8 @@ abbrev Does : Bytes → Held → Reply → Mode → Act → Type 0
 Does name old r mode act = turn_of name old.mode r ≡ Some (mode, act)
 
 -- a reply whose turn keeps all
-pub stays : (name : Bytes) (held : Held) (r : Reply) → turn_of name held.mode r ≡ Some (held.mode, keep) → Passes name held (r ∷ []) held
+pub stays : (name : Bytes) (held : Held) (r : Reply) → turn_of name held.mode r ≡ Some (held.mode, keep)
+    → Passes name held (r ∷ []) held
 stays name held r e =
     (held, ap (may_turn held.texts) e, subst (λ o. Turned held o held) (sym e) (refl, refl), refl)
 
@@ -114,14 +122,16 @@ false_where false h = refl
 pub put_shown : (held : Held) (mode : Mode) (P Q : Tuple → Type 0) (t : Tuple) → Shows held P
     → ((u : Tuple) → P u → IsSayableRow u) → IsSayableRow t → (P t → ⊥)
     → ((u : Tuple) → Q u → (u ≡ t) ⊎ P u) → ((u : Tuple) → (u ≡ t) ⊎ P u → Q u)
-    → (has_text held.texts (cells_text t) ≡ false) × Shows (record { mode = mode; texts = put_in (cells_text t) held.texts }) Q
+    → (has_text held.texts (cells_text t) ≡ false)
+    × Shows (record { mode = mode; texts = put_in (cells_text t) held.texts }) Q
 put_shown held mode P Q t h fine good absent from to = (
   false_where (has_text held.texts (cells_text t)) (λ e.
       let k = h.texts (cells_text t) e in
       absent (subst P (same_cells k.0 t (fine k.0 k.1) good k.2) k.1)),
   record {
     order = sorted_put (cells_text t) held.texts h.order;
-    texts = λ u e. by u (or_split (bytes_eq u (cells_text t)) (has_text held.texts u) (sym (has_put (cells_text t) held.texts u) ∙ e));
+    texts = λ u e. by u (or_split (bytes_eq u (cells_text t)) (has_text held.texts u)
+        (sym (has_put (cells_text t) held.texts u) ∙ e));
     tuples = λ u q. has_put (cells_text t) held.texts (cells_text u) ∙ at u (from u q);
   },
 )
@@ -131,7 +141,8 @@ put_shown held mode P Q t h fine good absent from to = (
     by u (inl e) = (t, to t (inl refl), sym ((bytes_eq-decides u (cells_text t)).0 e))
     by u (inr e) = let k = h.texts u e in (k.0, to k.0 (inr k.1), k.2)
 
-    at : (u : Tuple) → (u ≡ t) ⊎ P u → (bytes_eq (cells_text u) (cells_text t) || has_text held.texts (cells_text u)) ≡ true
+    at : (u : Tuple) → (u ≡ t) ⊎ P u → (bytes_eq (cells_text u) (cells_text t) || has_text held.texts (cells_text u))
+        ≡ true
     at u (inl e) =
         or_left (bytes_eq (cells_text u) (cells_text t)) (has_text held.texts (cells_text u))
         ((bytes_eq-decides (cells_text u) (cells_text t)).1 (ap cells_text e))
@@ -142,13 +153,15 @@ put_shown held mode P Q t h fine good absent from to = (
 pub out_shown : (held : Held) (mode : Mode) (P Q : Tuple → Type 0) (t : Tuple) → Shows held P
     → ((u : Tuple) → P u → IsSayableRow u) → P t
     → ((u : Tuple) → Q u → P u × (u ≡ t → ⊥)) → ((u : Tuple) → P u → (u ≡ t → ⊥) → Q u)
-    → (has_text held.texts (cells_text t) ≡ true) × Shows (record { mode = mode; texts = taken_out (cells_text t) held.texts }) Q
+    → (has_text held.texts (cells_text t) ≡ true)
+    × Shows (record { mode = mode; texts = taken_out (cells_text t) held.texts }) Q
 out_shown held mode P Q t h fine there from to = (
   h.tuples t there,
   record {
     order = sorted_out (cells_text t) held.texts h.order;
     texts = λ u e.
-        let both = and_split (bytes_eq u (cells_text t)) (has_text held.texts u) (sym (has_out (cells_text t) held.texts u) ∙ e) in
+        let both = and_split (bytes_eq u (cells_text t)) (has_text held.texts u)
+        (sym (has_out (cells_text t) held.texts u) ∙ e) in
         let k = h.texts u both.1 in
         (k.0, to k.0 k.1 (λ same. differs u k.0 k.2 both.0 same), k.2);
     tuples = λ u q.
@@ -163,7 +176,8 @@ out_shown held mode P Q t h fine there from to = (
   where
     differs : (u : Bytes) (v : Tuple) → cells_text v ≡ u → bytes_eq u (cells_text t) ≡ false → v ≡ t → ⊥
     differs u v text e same =
-        let is : bytes_eq u (cells_text t) ≡ true = (bytes_eq-decides u (cells_text t)).1 (sym text ∙ ap cells_text same) in
+        let is : bytes_eq u (cells_text t)
+        ≡ true = (bytes_eq-decides u (cells_text t)).1 (sym text ∙ ap cells_text same) in
         absurd (cc (is, e))
 
 -- ---- the deltas of the query
@@ -174,9 +188,12 @@ told_itself name = same_bytes name
 -- where it isn't live, it is idle behind a delta
 change_turns : (name : Bytes) (mode : Mode) (s : Sign) (t : Tuple)
     → turn_of name mode (changed s name t) ≡ Some (turn_of_change mode s (cells_text t))
-change_turns name Idle s t = ap (λ (b : Bool). Some (cond b (turn_of_change Idle s (cells_text t)) (Idle, keep))) (told_itself name)
-change_turns name Listing s t = ap (λ (b : Bool). Some (cond b (turn_of_change Listing s (cells_text t)) (Listing, keep))) (told_itself name)
-change_turns name Live s t = ap (λ (b : Bool). Some (cond b (turn_of_change Live s (cells_text t)) (Live, keep))) (told_itself name)
+change_turns name Idle s t = ap (λ (b : Bool). Some (cond b (turn_of_change Idle s (cells_text t)) (Idle, keep)))
+    (told_itself name)
+change_turns name Listing s t = ap
+    (λ (b : Bool). Some (cond b (turn_of_change Listing s (cells_text t)) (Listing, keep))) (told_itself name)
+change_turns name Live s t = ap (λ (b : Bool). Some (cond b (turn_of_change Live s (cells_text t)) (Live, keep)))
+    (told_itself name)
 
 count_turns : (name : Bytes) (mode : Mode) (n : ℕ) → turn_of name mode (counted name n) ≡ Some (turn_of_count mode)
 count_turns name Idle n = ap (λ (b : Bool). Some (cond b (turn_of_count Idle) (Idle, keep))) (told_itself name)
@@ -199,7 +216,8 @@ not_live held idle = by held.mode refl
     by Listing e = inr e
     by Live e = absurd (idle e)
 
-pub delta_idles : (name : Bytes) (held : Held) (changes : List Change) (n : ℕ) → (held.mode ≡ Idle) ⊎ (held.mode ≡ Listing)
+pub delta_idles : (name : Bytes) (held : Held) (changes : List Change) (n : ℕ)
+    → (held.mode ≡ Idle) ⊎ (held.mode ≡ Listing)
     → Passes name held (delta_replies name (record { number = n; changes = changes })) (idle_with held)
 delta_idles name held [] n o = idle_turn name held (counted name n) (count_turns name held.mode n ∙ by o)
   where
@@ -285,7 +303,8 @@ module _ (Before After : Tuple → Type 0)
   awaited_good cs h t (inr c) = good t (went_there cs t h c).0
 
   -- which changes are later
-  later_not : (cs : List Change) (c : Change) (s : Sign) (t : Tuple) → AreDifferent (map (λ (k : Change). k.answer) (c ∷ cs))
+  later_not : (cs : List Change) (c : Change) (s : Sign) (t : Tuple)
+      → AreDifferent (map (λ (k : Change). k.answer) (c ∷ cs))
       → Contains cs (record { sign = s; answer = t }) → t ≡ c.answer → ⊥
   later_not cs c s t apart there e =
       All-contains (λ (u : Tuple). c.answer ≡ u → ⊥) (map (λ (k : Change). k.answer) cs) t
@@ -307,7 +326,11 @@ module _ (Before After : Tuple → Type 0)
 
       by : (b : Bool) → tuple_eq u t ≡ b → (u ≡ t) ⊎ Awaits After (coming t ∷ cs) u
       by true e = inl ((tuple_eq-decides u t).0 e)
-      by false e = inr (inl (k.0, not_first (λ same. let yes : tuple_eq u t ≡ true = (tuple_eq-decides u t).1 same in absurd (cc (yes, e)))))
+      by false e = inr (inl (
+        k.0,
+        not_first (λ same. let yes : tuple_eq u t
+            ≡ true = (tuple_eq-decides u t).1 same in absurd (cc (yes, e))),
+      ))
 
   came_to : (cs : List Change) (t : Tuple) → AllChange (coming t ∷ cs)
       → AreDifferent (map (λ (k : Change). k.answer) (coming t ∷ cs)) → (u : Tuple)
@@ -364,7 +387,8 @@ module _ (Before After : Tuple → Type 0)
       → LiveBehind name held (delta_replies name (record { number = n; changes = cs })) (Awaits After [])
   delta_lives name held [] n mode h apart shows = record {
     behind = held;
-    passes = stays name held (counted name n) (count_turns name held.mode n ∙ ap (λ (m : Mode). Some (turn_of_count m)) mode
+    passes = stays name held (counted name n)
+        (count_turns name held.mode n ∙ ap (λ (m : Mode). Some (turn_of_count m)) mode
         ∙ ap (λ (m : Mode). Some (m, keep)) (sym mode));
     mode = mode;
     shows = shows;
@@ -392,7 +416,8 @@ module _ (Before After : Tuple → Type 0)
       }
 
       by : (s : Sign) → c.sign ≡ s
-          → ((next : Held) → next.mode ≡ Live → Shows next (Awaits After cs) → LiveBehind name next rest (Awaits After []))
+          → ((next : Held) → next.mode ≡ Live → Shows next (Awaits After cs)
+          → LiveBehind name next rest (Awaits After []))
           → LiveBehind name held (changed c.sign name t ∷ rest) (Awaits After [])
       by Came e more =
           let is : c ≡ (coming t) = ap (λ (x : Sign). record { sign = x; answer = t }) e in
@@ -402,8 +427,10 @@ module _ (Before After : Tuple → Type 0)
           (subst (λ (x : Change). Shows held (Awaits After (x ∷ cs))) is shows)
           (λ u a. awaited_good (coming t ∷ cs) all u a) (fine t first.0)
           (λ a. came_absent cs t all a) (λ u a. came_from cs t u a) (λ u a. came_to cs t all apart u a) in
-          goes (changed Came name t) (ap (λ (x : Sign). changed x name t) e) (live_with (put_in (cells_text t) held.texts))
-          (came_passes name held t mode both.0 both.1.order) (more (live_with (put_in (cells_text t) held.texts)) refl both.1)
+          goes (changed Came name t) (ap (λ (x : Sign). changed x name t) e)
+          (live_with (put_in (cells_text t) held.texts))
+          (came_passes name held t mode both.0 both.1.order)
+          (more (live_with (put_in (cells_text t) held.texts)) refl both.1)
       by Went e more =
           let is : c ≡ (going t) = ap (λ (x : Sign). record { sign = x; answer = t }) e in
           let all : AllChange (going t ∷ cs) = subst (λ (x : Change). AllChange (x ∷ cs)) is h in
@@ -412,11 +439,14 @@ module _ (Before After : Tuple → Type 0)
           (λ u a. awaited_good (going t ∷ cs) all u a)
           (inr (first_there (going t) cs (going t) refl))
           (λ u a. went_from cs t all apart u a) (λ u a ne. went_to cs t u a ne) in
-          goes (changed Went name t) (ap (λ (x : Sign). changed x name t) e) (live_with (taken_out (cells_text t) held.texts))
-          (went_passes name held t mode both.0 both.1.order) (more (live_with (taken_out (cells_text t) held.texts)) refl both.1)
+          goes (changed Went name t) (ap (λ (x : Sign). changed x name t) e)
+          (live_with (taken_out (cells_text t) held.texts))
+          (went_passes name held t mode both.0 both.1.order)
+          (more (live_with (taken_out (cells_text t) held.texts)) refl both.1)
 
 -- other tuples that are the same
-pub shows_same : (held : Held) (P Q : Tuple → Type 0) → ((t : Tuple) → P t → Q t) → ((t : Tuple) → Q t → P t) → Shows held P
+pub shows_same : (held : Held) (P Q : Tuple → Type 0) → ((t : Tuple) → P t → Q t) → ((t : Tuple) → Q t → P t)
+    → Shows held P
     → Shows held Q
 shows_same held P Q there back h = record {
   order = h.order;
@@ -425,8 +455,10 @@ shows_same held P Q there back h = record {
 }
 
 -- A live mirror takes a delta, and shows the answers behind it.
-module _ (Before After : Tuple → Type 0) (before : (t : Tuple) → Decided (Before t)) (after : (t : Tuple) → Decided (After t))
-    (good : (t : Tuple) → Before t → IsSayableRow t) (fine : (t : Tuple) → After t → IsSayableRow t) (changes : List Change)
+module _ (Before After : Tuple → Type 0) (before : (t : Tuple) → Decided (Before t))
+    (after : (t : Tuple) → Decided (After t))
+    (good : (t : Tuple) → Before t → IsSayableRow t) (fine : (t : Tuple) → After t → IsSayableRow t)
+    (changes : List Change)
     (delta : IsDelta Before After changes) where
   waits_to : (t : Tuple) → Before t → Awaits After changes t
   waits_to t b = by (after t)
@@ -486,7 +518,8 @@ last_contains xs t u (inr k) = Contains-append_left xs (t ∷ []) u k
 pub not_before : (xs : List Tuple) (t : Tuple) (ys : List Tuple) → AreDifferent (xs ++ t ∷ ys) → Contains xs t → ⊥
 not_before [] t ys apart c = nothing_there t c
 not_before (x ∷ xs) t ys apart c =
-    by (first_or_later x xs t c) (λ k. not_before xs t ys (pairs_tail (λ (u v : Tuple). u ≡ v → ⊥) x (xs ++ t ∷ ys) apart) k)
+    by (first_or_later x xs t c)
+    (λ k. not_before xs t ys (pairs_tail (λ (u v : Tuple). u ≡ v → ⊥) x (xs ++ t ∷ ys) apart) k)
   where
     by : (x ≡ t) ⊎ Contains xs t → (Contains xs t → ⊥) → ⊥
     by (inl e) more =
@@ -502,7 +535,8 @@ pub record Behind (name : Bytes) (held : Held) (rs : List Reply) (mode : Mode) (
   pub is : behind.mode ≡ mode
   pub shows : Shows behind These
 
-answer_passes : (name : Bytes) (held : Held) (t : Tuple) → held.mode ≡ Listing → has_text held.texts (cells_text t) ≡ false
+answer_passes : (name : Bytes) (held : Held) (t : Tuple) → held.mode ≡ Listing → has_text held.texts (cells_text t)
+    ≡ false
     → IsInOrder (put_in (cells_text t) held.texts)
     → Passes name held (answer t ∷ []) (record { mode = Listing; texts = put_in (cells_text t) held.texts })
 answer_passes name held t mode none order =
@@ -548,7 +582,8 @@ pub answers_idle : (name : Bytes) (held : Held) (told : List Tuple) → held.mod
 answers_idle name held [] mode = refl
 answers_idle name held (t ∷ told) mode =
     passes_then name held held held (answer t ∷ []) (map (λ u. answer u) told)
-    (stays name held (answer t) (ap (λ (m : Mode). turn_of name m (answer t)) mode ∙ ap (λ (m : Mode). Some (m, keep)) (sym mode)))
+    (stays name held (answer t)
+    (ap (λ (m : Mode). turn_of name m (answer t)) mode ∙ ap (λ (m : Mode). Some (m, keep)) (sym mode)))
     (answers_idle name held told mode)
 
 -- the cursor opens, and the mirror begins anew
@@ -576,17 +611,23 @@ stale_idles name held c relation n = idle_turn name held (stale c relation n) (b
     by Live = refl
 
 -- the last line of a listing
-pub more_stays : (name : Bytes) (held : Held) → (held.mode ≡ Idle) ⊎ (held.mode ≡ Listing) → Passes name held (more_line ∷ []) held
+pub more_stays : (name : Bytes) (held : Held) → (held.mode ≡ Idle) ⊎ (held.mode ≡ Listing)
+    → Passes name held (more_line ∷ []) held
 more_stays name held (inl e) =
-    stays name held more_line (ap (λ (m : Mode). turn_of name m more_line) e ∙ ap (λ (m : Mode). Some (m, keep)) (sym e))
+    stays name held more_line
+    (ap (λ (m : Mode). turn_of name m more_line) e ∙ ap (λ (m : Mode). Some (m, keep)) (sym e))
 more_stays name held (inr e) =
-    stays name held more_line (ap (λ (m : Mode). turn_of name m more_line) e ∙ ap (λ (m : Mode). Some (m, keep)) (sym e))
+    stays name held more_line
+    (ap (λ (m : Mode). turn_of name m more_line) e ∙ ap (λ (m : Mode). Some (m, keep)) (sym e))
 
-pub last_stays : (name : Bytes) (held : Held) → (held.mode ≡ Idle) ⊎ (held.mode ≡ Live) → Passes name held (last_line ∷ []) held
+pub last_stays : (name : Bytes) (held : Held) → (held.mode ≡ Idle) ⊎ (held.mode ≡ Live)
+    → Passes name held (last_line ∷ []) held
 last_stays name held (inl e) =
-    stays name held last_line (ap (λ (m : Mode). turn_of name m last_line) e ∙ ap (λ (m : Mode). Some (m, keep)) (sym e))
+    stays name held last_line
+    (ap (λ (m : Mode). turn_of name m last_line) e ∙ ap (λ (m : Mode). Some (m, keep)) (sym e))
 last_stays name held (inr e) =
-    stays name held last_line (ap (λ (m : Mode). turn_of name m last_line) e ∙ ap (λ (m : Mode). Some (m, keep)) (sym e))
+    stays name held last_line
+    (ap (λ (m : Mode). turn_of name m last_line) e ∙ ap (λ (m : Mode). Some (m, keep)) (sym e))
 
 pub last_lives : (name : Bytes) (held : Held) → held.mode ≡ Listing
     → Passes name held (last_line ∷ []) (record { mode = Live; texts = held.texts })
@@ -595,5 +636,6 @@ last_lives name held e =
     let turn : turn_of name held.mode last_line ≡ Some (Live, keep) = ap (λ (m : Mode). turn_of name m last_line) e in
     (next, ap (may_turn held.texts) turn, subst (λ o. Turned held o next) (sym turn) (refl, refl), refl)
 
-pub shows_with : (held : Held) (mode : Mode) (P : Tuple → Type 0) → Shows held P → Shows (record { mode = mode; texts = held.texts }) P
+pub shows_with : (held : Held) (mode : Mode) (P : Tuple → Type 0) → Shows held P
+    → Shows (record { mode = mode; texts = held.texts }) P
 shows_with held mode P h = record { order = h.order; texts = h.texts; tuples = h.tuples }

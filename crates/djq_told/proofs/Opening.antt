@@ -43,7 +43,8 @@ not_below : (st : State) (s : ℕ) → All (λ x. x.id < s) st.sessions → IsOp
 not_below st s below there =
     let f = some_of (session_of st s) there in
     let less : (f.0).id < s =
-    All-contains (λ (x : Session). x.id < s) st.sessions f.0 below (found_there (λ (x : Session). x.id == s) st.sessions f.0 f.1) in
+    All-contains (λ (x : Session). x.id < s) st.sessions f.0 below
+    (found_there (λ (x : Session). x.id == s) st.sessions f.0 f.1) in
     let same : (f.0).id ≡ s = eqb-true (f.0).id s (found_passes (λ (x : Session). x.id == s) st.sessions f.0 f.1) in
     absurd (omega (arith, less, same))
 
@@ -56,7 +57,8 @@ opens_below : (old : State) (s : ℕ) (event : Event) (e : Effect) (new : State)
 opens_below old s event e new is h =
     (subst (λ (v : Event). Step old v e new) is h).acts.1
 
-opens_quiet : (old : State) (s t : ℕ) (event : Event) (e : Effect) (new : State) → event ≡ opened s → Step old event e new
+opens_quiet : (old : State) (s t : ℕ) (event : Event) (e : Effect) (new : State) → event ≡ opened s
+    → Step old event e new
     → to_session t e.queued ≡ []
 opens_quiet old s t event e new is h =
     ap (λ (d : Effect). to_session t d.queued) (subst (λ (v : Event). Step old v e new) is h).acts.0
@@ -93,7 +95,8 @@ opens_other s old (opened t) e new h there = by (t == s) refl
     by : (b : Bool) → (t == s) ≡ b → b ≡ false
     by false k = refl
     by true k =
-        absurd (not_below old s (subst (λ (i : ℕ). All (λ (x : Session). x.id < i) old.sessions) (eqb-true t s k) h.acts.1) there)
+        absurd (not_below old s
+        (subst (λ (i : ℕ). All (λ (x : Session). x.id < i) old.sessions) (eqb-true t s k) h.acts.1) there)
 opens_other s old (fed t bytes) e new h there = tt
 opens_other s old (stepped t outcome) e new h there = tt
 opens_other s old (took t bytes) e new h there = tt
@@ -147,12 +150,14 @@ once_rising start h s earlier mid comes opening is rest rising = record {
   before =
       (over_is_silent s start (start_sound start h) (none_open start s h.none) earlier mid comes
       (all_apart s earlier (All-weaker (λ i. All (λ j. i < j) (s ∷ all_opened rest)) (λ i. (i == s) ≡ false)
-      (λ i above. apart_below s i (All-head (λ j. i < j) s (all_opened rest) above)) (all_opened earlier) ids.above))).silent;
+      (λ i above. apart_below s i (All-head (λ j. i < j) s (all_opened rest) above)) (all_opened earlier)
+      ids.above))).silent;
   none = λ done later same at d new more is_later now step ends w.
       all_above s more (behind (λ j. s < j) (opened_by d.event) (all_opened more)
       (behind (λ j. s < j) (all_opened done) (all_opened (d ∷ more))
       (subst (λ (ids : List ℕ). All (λ j. s < j) ids)
-      (ap (λ (ds : List Did). all_opened ds) (same ∙ ap (λ (ds : List Did). done ++ ds) is_later) ∙ opened_append done (d ∷ more))
+      (ap (λ (ds : List Did). all_opened ds) (same ∙ ap (λ (ds : List Did). done ++ ds) is_later)
+      ∙ opened_append done (d ∷ more))
       (All-head (λ i. All (λ j. i < j) (all_opened rest)) s [] (rises (s ∷ []) (all_opened rest) ids.rising).above))));
 }
   where
@@ -173,7 +178,8 @@ once_spared s start earlier mid comes opening is first opens rest spares = recor
   none = λ done later same at d new more is_later now step ends w.
       let kept : All (λ (c : Did). Spares c.event s) (d ∷ more) =
       behind (λ (c : Did). Spares c.event s) done (d ∷ more)
-      (subst (λ (ds : List Did). All (λ (c : Did). Spares c.event s) ds) (same ∙ ap (λ (ds : List Did). done ++ ds) is_later)
+      (subst (λ (ds : List Did). All (λ (c : Did). Spares c.event s) ds)
+      (same ∙ ap (λ (ds : List Did). done ++ ds) is_later)
       (All-tail (λ (c : Did). Spares c.event s) opening rest
       (behind (λ (c : Did). Spares c.event s) earlier (opening ∷ rest) spares))) in
       opens_none s now more new w (All-tail (λ (c : Did). Spares c.event s) d more kept)
@@ -181,7 +187,8 @@ once_spared s start earlier mid comes opening is first opens rest spares = recor
       (ends_open s at d.event d.effect now step ends));
 }
 
-is_alone : (start : State) → IsStart start → (q : Listed) (s : ℕ) (whole : List Did) (at new : State) → OpensOnceOnly s whole
+is_alone : (start : State) → IsStart start → (q : Listed) (s : ℕ) (whole : List Did) (at new : State)
+    → OpensOnceOnly s whole
     → (r : ReadsSinceOpened q s start whole at new) → IsAlone s r.earlier ((r.fore ++ r.done) ++ r.later)
 is_alone start h q s whole at new (inl rising) r =
     once_rising start h s r.earlier r.mid r.comes r.opening r.is_opened ((r.fore ++ r.done) ++ r.later)
@@ -195,7 +202,8 @@ opened_are_read_back start h said q s whole at new once r =
     sessions_are_read_back start h said q s whole at new (record {
       earlier = r.earlier ++ r.opening ∷ [];
       first = r.first;
-      comes = walk_then (λ (o : State) (d : Did) (n : State). Step o d.event d.effect n) start r.earlier r.mid (r.opening ∷ [])
+      comes = walk_then (λ (o : State) (d : Did) (n : State). Step o d.event d.effect n) start r.earlier r.mid
+          (r.opening ∷ [])
           r.first r.comes (r.first, r.opens, refl);
       unsaid = out_append s r.earlier (r.opening ∷ [])
           ∙ ap₂ (λ (a b : Bytes). a ++ b) alone.before

@@ -69,7 +69,8 @@ answer_fine rs h (a_union name qs) k t a =
     let o = some_one (λ (q : Query). IsAnswer rs q t) qs a in
     query_answer_fine rs h o.0 (All-contains (λ (q : Query). IsSayableListed (a_query q)) qs o.0 k.1 o.1) t o.2
 
-pub answers_fine : (rs : List Relation) → All IsSayableRelation rs → (q : Listed) → IsSayableListed q → (ts : List Tuple)
+pub answers_fine : (rs : List Relation) → All IsSayableRelation rs → (q : Listed) → IsSayableListed q
+    → (ts : List Tuple)
     → All (AnswersOf rs q) ts → All IsFine (map (λ t. answer t) ts)
 answers_fine rs h q k [] a = All-nil IsFine
 answers_fine rs h q k (t ∷ ts) a =
@@ -82,7 +83,8 @@ name_fine : (q : Listed) → IsSayableListed q → IsPrinted (counted (listed_na
 name_fine (a_query q) k = (k.0.name, omega arith)
 name_fine (a_union name qs) k = (k.0, omega arith)
 
-pub delta_fine : (before after : List Relation) → All IsSayableRelation before → All IsSayableRelation after → (q : Listed)
+pub delta_fine : (before after : List Relation) → All IsSayableRelation before → All IsSayableRelation after
+    → (q : Listed)
     → IsSayableListed q → (n : ℕ) → IsNumber n → (changes : List Change)
     → All (λ c. HasChanged (AnswersOf before q) (AnswersOf after q) c.sign c.answer) changes
     → All IsFine (delta_replies (listed_name q) (record { number = n; changes = changes }))
@@ -91,7 +93,8 @@ delta_fine before after b a q k n small [] h =
 delta_fine before after b a q k n small (c ∷ changes) h =
     let Has = λ (d : Change). HasChanged (AnswersOf before q) (AnswersOf after q) d.sign d.answer in
     let one = by c.sign (All-head Has c changes h) in
-    All-cons IsFine (changed c.sign (listed_name q) c.answer) (delta_replies (listed_name q) (record { number = n; changes = changes }))
+    All-cons IsFine (changed c.sign (listed_name q) c.answer)
+    (delta_replies (listed_name q) (record { number = n; changes = changes }))
     (((name_fine q k).0, one.0), one.1)
     (delta_fine before after b a q k n small changes (All-tail Has c changes h))
   where
@@ -114,7 +117,8 @@ added_copies old name row copies new h =
 pub left_copies : (old : Store) → IsSoundStore old → (name : Bytes) (row : Tuple) (copies : ℕ) (new : Store)
     → DeletesRow old name row (Ok (Left copies)) new → IsNumber copies
 left_copies old sound name row copies new h =
-    let d = done_of (delete_refusal old name row) (Left copies) (DeletesAs old name row new) (OutOfMemoryWhere ⊥) h.answer in
+    let d = done_of (delete_refusal old name row) (Left copies) (DeletesAs old name row new) (OutOfMemoryWhere ⊥)
+    h.answer in
     let k = copies_hold IsCopyCount (counted_of old.relations name) row
     (counted_sound old.relations name (relation_of old.relations name) refl sound.rows) d.0 in
     let most = k.1 in

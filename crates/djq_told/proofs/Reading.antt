@@ -143,7 +143,8 @@ value_said : (v : Value) (t : Token) → SaysValue v t → HaveUtf8 (t ∷ []) �
 value_said (Int i) t s h small = (small, tt)
 value_said (Text x) t s h small = (small, (subst (λ (u : Token). HaveUtf8 (u ∷ [])) s h).0)
 
-row_said : (vs : Tuple) (us : List Token) → AllZip SaysValue vs us → HaveUtf8 us → list_all is_small_value vs ≡ true → IsSayableRow vs
+row_said : (vs : Tuple) (us : List Token) → AllZip SaysValue vs us → HaveUtf8 us → list_all is_small_value vs ≡ true
+    → IsSayableRow vs
 row_said [] us z h small = All-nil IsSayableValue
 row_said (v ∷ vs) [] z h small = absurd z
 row_said (v ∷ vs) (u ∷ us) z h small =
@@ -160,7 +161,8 @@ term_said (Variable x) t s h small = s.0
 term_said Hole t s h small = tt
 term_said (Constant v) t s h small = value_said v t s h small
 
-terms_said : (xs : List Term) (us : List Token) → AllZip SaysTerm xs us → HaveUtf8 us → list_all is_small_term xs ≡ true → All IsSayableTerm xs
+terms_said : (xs : List Term) (us : List Token) → AllZip SaysTerm xs us → HaveUtf8 us → list_all is_small_term xs ≡ true
+    → All IsSayableTerm xs
 terms_said [] us z h small = All-nil IsSayableTerm
 terms_said (x ∷ xs) [] z h small = absurd z
 terms_said (x ∷ xs) (u ∷ us) z h small =
@@ -174,7 +176,8 @@ atom_said a ts s h small =
     let k = subst HaveUtf8 s.3 h in
     record { relation = s.1; terms = terms_said a.terms s.0 s.2 (list_utf8 s.0 k.1) small }
 
-comparison_said : (c : Comparison) (ts : List Token) → SaysComparison c ts → HaveUtf8 ts → is_small_value c.constant ≡ true → IsSayableComparison c
+comparison_said : (c : Comparison) (ts : List Token) → SaysComparison c ts → HaveUtf8 ts → is_small_value c.constant
+    ≡ true → IsSayableComparison c
 comparison_said c ts s h small =
     let k = subst HaveUtf8 s.3 h in
     record { variable = s.1; constant = value_said c.constant s.0 s.2 (k.1.1.0, tt) small }
@@ -193,31 +196,42 @@ item_front n (atom a) items ts s h small more =
     let both = and_parts (is_small_atom a && list_all is_small_atom (atoms_among items))
     (list_all (λ (c : Comparison). is_small_value c.constant) (comparisons_among items)) small in
     let first = and_parts (is_small_atom a) (list_all is_small_atom (atoms_among items)) both.0 in
-    let rest = more (ap (λ (b : Bool). b && list_all (λ (c : Comparison). is_small_value c.constant) (comparisons_among items)) first.1 ∙ both.1) in
+    let rest = more (ap (λ (b : Bool). b && list_all (λ (c : Comparison). is_small_value c.constant)
+    (comparisons_among items)) first.1 ∙ both.1) in
     (All-cons IsSayableAtom a (atoms_among items) (atom_said a ts s h first.0) rest.0, rest.1)
 item_front n (comparison c) items ts s h small more =
     let both = and_parts (list_all is_small_atom (atoms_among items))
-    (is_small_value c.constant && list_all (λ (d : Comparison). is_small_value d.constant) (comparisons_among items)) small in
-    let first = and_parts (is_small_value c.constant) (list_all (λ (d : Comparison). is_small_value d.constant) (comparisons_among items)) both.1 in
-    let rest = more (ap (λ (b : Bool). b && list_all (λ (d : Comparison). is_small_value d.constant) (comparisons_among items)) both.0 ∙ first.1) in
+    (is_small_value c.constant && list_all (λ (d : Comparison). is_small_value d.constant) (comparisons_among items))
+    small in
+    let first = and_parts (is_small_value c.constant)
+    (list_all (λ (d : Comparison). is_small_value d.constant) (comparisons_among items)) both.1 in
+    let rest = more (ap (λ (b : Bool). b && list_all (λ (d : Comparison). is_small_value d.constant)
+    (comparisons_among items)) both.0 ∙ first.1) in
     (rest.0, All-cons IsSayableComparison c (comparisons_among items) (comparison_said c ts s.0 h first.0) rest.1)
 
-items_said : (n : ℕ) (items : List Item) (ts : List Token) → SaysItems n items ts → HaveUtf8 ts → are_small items ≡ true → ItemsSaid items
+items_said : (n : ℕ) (items : List Item) (ts : List Token) → SaysItems n items ts → HaveUtf8 ts → are_small items ≡ true
+    → ItemsSaid items
 items_said n [] ts s h small = absurd s
-items_said n (i ∷ []) ts s h small = item_front n i [] ts s h small (λ _. (All-nil IsSayableAtom, All-nil IsSayableComparison))
+items_said n (i ∷ []) ts s h small = item_front n i [] ts s h small
+    (λ _. (All-nil IsSayableAtom, All-nil IsSayableComparison))
 items_said n (i ∷ j ∷ js) ts (front, back, first, later, parts) h small =
     let k = subst HaveUtf8 parts h in
     item_front n i (j ∷ js) front first (front_utf8 front (comma ∷ back) k) small
     (λ less. items_said (past_item n i) (j ∷ js) back later (back_utf8 front (comma ∷ back) k).1 less)
 
-query_said : (q : Query) (ts : List Token) → Says (Register q) ts → HaveUtf8 ts → is_in_range (Register q) ≡ true → IsSayableQuery q
+query_said : (q : Query) (ts : List Token) → Says (Register q) ts → HaveUtf8 ts → is_in_range (Register q) ≡ true
+    → IsSayableQuery q
 query_said q ts (us, (heads, body, name, head, (items, said, atoms, comparisons, some), parts), whole) h small =
     let k = (subst HaveUtf8 whole h).1 in
     let l = (subst HaveUtf8 parts k).1 in
     let m = (back_utf8 (list_tokens heads) (arrow ∷ body) l).1 in
     let are : are_small items ≡ true =
-    subst (λ (ms : List Atom). (list_all is_small_atom ms && list_all (λ (c : Comparison). is_small_value c.constant) (comparisons_among items)) ≡ true) atoms
-    (subst (λ (cs : List Comparison). (list_all is_small_atom q.atoms && list_all (λ (c : Comparison). is_small_value c.constant) cs) ≡ true) comparisons small) in
+    subst (λ (ms : List Atom).
+    (list_all is_small_atom ms && list_all (λ (c : Comparison). is_small_value c.constant)
+    (comparisons_among items)) ≡ true) atoms
+    (subst (λ (cs : List Comparison).
+    (list_all is_small_atom q.atoms && list_all (λ (c : Comparison). is_small_value c.constant) cs) ≡ true)
+    comparisons small) in
     let both = items_said 0 items body said m are in record {
       name = name;
       head = names_said q.head heads head;
@@ -248,11 +262,13 @@ said_sayable Abandon ts s h small = tt
 said_sayable Quit ts s h small = tt
 said_sayable Stop ts s h small = tt
 
-pub reading_says : (o : Option Command) (c : Command) → reading_in o ≡ says_command c → (o ≡ Some c) × (is_in_range c ≡ true)
+pub reading_says : (o : Option Command) (c : Command) → reading_in o ≡ says_command c → (o ≡ Some c)
+    × (is_in_range c ≡ true)
 reading_says None c e = absurd cc
 reading_says (Some d) c e = by (is_in_range d) refl e
   where
-    by : (b : Bool) → is_in_range d ≡ b → cond b (says_command d) (past_limit d) ≡ says_command c → (Some d ≡ Some c) × (is_in_range c ≡ true)
+    by : (b : Bool) → is_in_range d ≡ b → cond b (says_command d) (past_limit d) ≡ says_command c → (Some d ≡ Some c)
+        × (is_in_range c ≡ true)
     by false k f = absurd cc
     by true k f =
         let same : d ≡ c = cc in
@@ -269,7 +285,8 @@ abbrev pub IsShortCommand : Command → Type 0
 IsShortCommand (Register q) = query_weight q ≤ LINE_BYTES
 IsShortCommand c = Unit {0}
 
-said_short : (c : Command) (ts : List Token) (l : Bytes) → Says c ts → IsSpelling ts l → length l ≤ LINE_BYTES → IsShortCommand c
+said_short : (c : Command) (ts : List Token) (l : Bytes) → Says c ts → IsSpelling ts l → length l ≤ LINE_BYTES
+    → IsShortCommand c
 said_short (Register q) ts l s spelled few = let less = query_less q ts l s spelled in omega (arith, less, few)
 said_short c ts l s spelled few = tt
 

@@ -228,9 +228,12 @@ harmless_form (answer t) e name mode k = absurd cc
 harmless_form more e name mode k = absurd cc
 harmless_form last e name mode k = absurd cc
 harmless_form (gone_stale c relation n) e name mode k = absurd cc
-harmless_form (changed s q t) e name Idle k = told_apart name Idle (changed s q t) (turn_of_change Idle s (cells_text t)) k
-harmless_form (changed s q t) e name Listing k = told_apart name Listing (changed s q t) (turn_of_change Listing s (cells_text t)) k
-harmless_form (changed s q t) e name Live k = told_apart name Live (changed s q t) (turn_of_change Live s (cells_text t)) k
+harmless_form (changed s q t) e name Idle k = told_apart name Idle (changed s q t)
+    (turn_of_change Idle s (cells_text t)) k
+harmless_form (changed s q t) e name Listing k = told_apart name Listing (changed s q t)
+    (turn_of_change Listing s (cells_text t)) k
+harmless_form (changed s q t) e name Live k = told_apart name Live (changed s q t)
+    (turn_of_change Live s (cells_text t)) k
 harmless_form (counted q n) e name Idle k = told_apart name Idle (counted q n) (turn_of_count Idle) k
 harmless_form (counted q n) e name Listing k = told_apart name Listing (counted q n) (turn_of_count Listing) k
 harmless_form (counted q n) e name Live k = told_apart name Live (counted q n) (turn_of_count Live) k
@@ -292,14 +295,16 @@ held_small : (old : Store) (held : List HeldRow) (name : Bytes) (row : Tuple) (r
     → Answers (hold_refusal old held name row) r (λ _. ⊤) (OutOfMemoryWhere ⊤) → (a : ⊤) → r ≡ Ok a
     → IsNumber (length held + 1)
 held_small old held name row r answered a e =
-    let k = subst (λ (z : Result ⊤ Refusal). Answers (hold_refusal old held name row) z (λ _. ⊤) (OutOfMemoryWhere ⊤)) e answered in
+    let k = subst (λ (z : Result ⊤ Refusal). Answers (hold_refusal old held name row) z (λ _. ⊤) (OutOfMemoryWhere ⊤)) e
+    answered in
     let none = none_holds (hold_refusal old held name row) a (λ _. ⊤) (OutOfMemoryWhere ⊤) k in
     let fails = all_fail (row_refusals old name row ++ (nat_le HELD (length held), Limit) ∷ []) none in
     let below = leb-false HELD (length held) fails.1.1.1.0 in
     omega (arith, below)
 
 -- edges by the names of their variables
-pub listed_joined : (names : List Bytes) (xs : List ℕ) → listed names xs ≡ flat_map (λ y. 44 ∷ y) (map (name_at names) xs)
+pub listed_joined : (names : List Bytes) (xs : List ℕ) → listed names xs
+    ≡ flat_map (λ y. 44 ∷ y) (map (name_at names) xs)
 listed_joined names [] = refl
 listed_joined names (x ∷ xs) = ap (λ bytes. codes "," ++ (name_at names x ++ bytes)) (listed_joined names xs)
 
@@ -365,7 +370,8 @@ one_line s text queued talk f e = record {
 pub memory_form : {U : Type 0} → OfForm end_memory false U
 memory_form = of_form _ (is_ended Memory) refl (λ name. refl) (λ u. (tt, tt))
 
-several_lines : {U : Type 0} (s : ℕ) (rs : List Reply) (queued : List (ℕ × Bytes)) → All IsPlain rs → (U → All IsFine rs)
+several_lines : {U : Type 0} (s : ℕ) (rs : List Reply) (queued : List (ℕ × Bytes)) → All IsPlain rs
+    → (U → All IsFine rs)
     → queued ≡ (s, replies_text rs) ∷ [] → Replies s queued true U
 several_lines s rs queued plain fine e = record {
   replies = rs;
@@ -413,7 +419,8 @@ last_plain false = λ name. refl
 
 pub text_append_of : (xs ys : List Bytes) → text_of (xs ++ ys) ≡ text_of xs ++ text_of ys
 text_append_of [] ys = refl
-text_append_of (x ∷ xs) ys = ap (λ bytes. x ++ bytes) (text_append_of xs ys) ∙ sym (append_assoc x (text_of xs) (text_of ys))
+text_append_of (x ∷ xs) ys = ap (λ bytes. x ++ bytes) (text_append_of xs ys)
+    ∙ sym (append_assoc x (text_of xs) (text_of ys))
 
 pub behind_answers : (ts : List Tuple) (r : Reply) → text_of (map answer_line ts) ++ reply_text r
     ≡ replies_text (map (λ t. answer t) ts ++ r ∷ [])
@@ -433,7 +440,8 @@ pub behind_fine : (ts : List Tuple) (r : Reply) → All IsFine (map (λ t. answe
 behind_fine ts r h f = All-append IsFine (map (λ t. answer t) ts) (r ∷ []) h (All-cons IsFine r [] f (All-nil IsFine))
 
 behind_plain : (ts : List Tuple) (r : Reply) → IsPlain r → All IsPlain (map (λ t. answer t) ts ++ r ∷ [])
-behind_plain ts r p = All-append IsPlain (map (λ t. answer t) ts) (r ∷ []) (answers_plain ts) (All-cons IsPlain r [] p (All-nil IsPlain))
+behind_plain ts r p = All-append IsPlain (map (λ t. answer t) ts) (r ∷ []) (answers_plain ts)
+    (All-cons IsPlain r [] p (All-nil IsPlain))
 
 -- the lines that explain a tree
 abbrev explained_node : List Bytes → TreeNode → Node
@@ -452,7 +460,8 @@ label_is variables (x ∷ xs) = ap (λ bytes. name_at variables x ++ bytes) (lis
 
 abbrev node_reply : List Bytes → List Bytes → Tree → ℕ → Reply
 node_reply atoms variables t j =
-    explained j (explained_node atoms (node_at t.nodes j)) (map (name_at variables) (label_at t.labels j)) (is_out t.out j)
+    explained j (explained_node atoms (node_at t.nodes j)) (map (name_at variables) (label_at t.labels j))
+    (is_out t.out j)
 
 node_line : (atoms variables : List Bytes) (t : Tree) (j : ℕ)
     → line_text atoms variables t j ≡ reply_text (node_reply atoms variables t j)
@@ -463,12 +472,15 @@ node_line atoms variables t j =
 nodes_are : (atoms variables : List Bytes) (t : Tree) (js : List ℕ)
     → map (line_text atoms variables t) js ≡ map reply_text (map (node_reply atoms variables t) js)
 nodes_are atoms variables t [] = refl
-nodes_are atoms variables t (j ∷ js) = ap₂ (λ (x : Bytes) xs. x ∷ xs) (node_line atoms variables t j) (nodes_are atoms variables t js)
+nodes_are atoms variables t (j ∷ js) = ap₂ (λ (x : Bytes) xs. x ∷ xs) (node_line atoms variables t j)
+    (nodes_are atoms variables t js)
 
-nodes_plain : (atoms variables : List Bytes) (t : Tree) (js : List ℕ) → All IsPlain (map (node_reply atoms variables t) js)
+nodes_plain : (atoms variables : List Bytes) (t : Tree) (js : List ℕ)
+    → All IsPlain (map (node_reply atoms variables t) js)
 nodes_plain atoms variables t [] = All-nil IsPlain
 nodes_plain atoms variables t (j ∷ js) =
-    All-cons IsPlain (node_reply atoms variables t j) (map (node_reply atoms variables t) js) (λ name. refl) (nodes_plain atoms variables t js)
+    All-cons IsPlain (node_reply atoms variables t j) (map (node_reply atoms variables t) js) (λ name. refl)
+    (nodes_plain atoms variables t js)
 
 map_append : (xs ys : List Reply) → map reply_text (xs ++ ys) ≡ map reply_text xs ++ map reply_text ys
 map_append [] ys = refl
@@ -484,7 +496,8 @@ record FirstOf (rs : List Reply) (told : List Bytes) : Type 0 where
   are : told ≡ map reply_text some
   plain : All IsPlain some
 
-first_of : (rs : List Reply) (told rest : List Bytes) → All IsPlain rs → map reply_text rs ≡ told ++ rest → FirstOf rs told
+first_of : (rs : List Reply) (told rest : List Bytes) → All IsPlain rs → map reply_text rs ≡ told ++ rest
+    → FirstOf rs told
 first_of rs [] rest plain e = record { some = []; are = refl; plain = All-nil IsPlain }
 first_of [] (t ∷ told) rest plain e = absurd cc
 first_of (r ∷ rs) (t ∷ told) rest plain e =
@@ -527,7 +540,8 @@ explain_replies : {U : Type 0} (old : State) (s : ℕ) (o : Option Listed) (e : 
     → MatchOption o (RefusedStep old s NoQuery e new) (λ q. ExplainStepOf old s q e new) → Replies s e.queued true U
 explain_replies old s None e new none h =
     any_talk s e.queued true
-    (one_line s _ e.queued _ (of_form _ (refused NoQuery) refl (λ name. refl) (λ u. (tt, tt))) (ap (λ (x : Effect). x.queued) h.0))
+    (one_line s _ e.queued _ (of_form _ (refused NoQuery) refl (λ name. refl) (λ u. (tt, tt)))
+    (ap (λ (x : Effect). x.queued) h.0))
 explain_replies old s (Some (a_query q)) e new none h =
     let atoms = map (λ a. a.relation) q.atoms in
     let names = variable_names q in
@@ -573,12 +587,14 @@ pub record Fits (s t : ℕ) (old : Store) (y : Session) (r : Reading) (e : Effec
 abbrev pub Own : ℕ → ℕ → Store → Session → Reading → Effect → Store → Type 0
 Own s t old y r e new = Fits s t old y r e new × ((t == s) ≡ true)
 
-most_small : (old : Store) (q : Query) (r : Result QueryOutcome Refusal) (new : Store) → RegistersQuery old q r new → (most : ℕ)
+most_small : (old : Store) (q : Query) (r : Result QueryOutcome Refusal) (new : Store) → RegistersQuery old q r new
+    → (most : ℕ)
     → r ≡ Ok (Registered most) → IsNumber most
 most_small old q r new h most e =
     let k = subst (λ (z : Result QueryOutcome Refusal). RegistersQuery old q z new) e h in
     let few = query_few old q most new k in
-    let is = (done_of (query_refusal old q) (Registered most) (RegistersAs old q new) (RefusedLate old q new) k.answer).1 in
+    let is = (done_of (query_refusal old q) (Registered most) (RegistersAs old q new) (RefusedLate old q new)
+    k.answer).1 in
     omega (arith, few, is)
 
 module _ (s : ℕ) (old : State) (t : ℕ) (x : Session) (c : Bytes) (count : ℕ) (e : Effect) (new : State) where
@@ -589,14 +605,16 @@ module _ (s : ℕ) (old : State) (t : ℕ) (x : Session) (c : Bytes) (count : �
       → All (AnswersOf old.store.relations q) ts → All IsFine (map (λ a. answer a) ts)
   told_fine k q over u ts a =
       answers_fine old.store.relations u.0.before.relations q
-      (all_found IsSayableListed (λ (l : Listed). bytes_eq (listed_name l) k.query) old.store.queries q u.0.before.queries over)
+      (all_found IsSayableListed (λ (l : Listed). bytes_eq (listed_name l) k.query) old.store.queries q
+      u.0.before.queries over)
       ts a
 
   next_at : (k : Cursor) → cursor_of x.cursors c ≡ Some k → (q : Listed) → listed_of old.store.queries k.query ≡ Some q
       → (p : Position) → k.position ≡ p → NextStepAt old t c q count p e new → Replies t e.queued true Reads
   next_at k found q over (stale relation n) at h =
       one_line t _ e.queued _ (of_form _ (gone_stale c relation n) refl (λ name. refl) (λ u.
-      let cursor = all_found IsSayableCursor (λ (z : Cursor). bytes_eq z.name c) x.cursors k u.0.session.cursors found in
+      let cursor = all_found IsSayableCursor (λ (z : Cursor). bytes_eq z.name c) x.cursors k u.0.session.cursors found
+      in
       let named = subst IsSayablePosition at cursor.position in
       ((u.0.said.0, named.0, number_small n named.1), tt))) (ap (λ (y : Effect). y.queued) h.0)
   next_at k found q over (open_at given finished) at (inl h) =
@@ -608,7 +626,8 @@ module _ (s : ℕ) (old : State) (t : ℕ) (x : Session) (c : Bytes) (count : �
       several_lines t (map (λ a. answer a) h.told ++ is_ended Memory ∷ []) e.queued
       (behind_plain h.told (is_ended Memory) (λ name. refl))
       (λ u. behind_fine h.told (is_ended Memory) (told_fine k q over u h.told h.answers) (tt, tt))
-      (ap (λ (y : Effect). y.queued) h.effect ∙ ap (λ (bytes : Bytes). (t, bytes) ∷ []) (behind_answers h.told (is_ended Memory)))
+      (ap (λ (y : Effect). y.queued) h.effect
+      ∙ ap (λ (bytes : Bytes). (t, bytes) ∷ []) (behind_answers h.told (is_ended Memory)))
 
   next_replies : (o : Option Cursor) → cursor_of x.cursors c ≡ o
       → MatchOption o (RefusedStep old t NoCursor e new)
@@ -616,7 +635,8 @@ module _ (s : ℕ) (old : State) (t : ℕ) (x : Session) (c : Bytes) (count : �
       → Replies t e.queued true Reads
   next_replies None found h =
       any_talk t e.queued true
-      (one_line t _ e.queued _ (of_form _ (refused NoCursor) refl (λ name. refl) (λ u. (tt, tt))) (ap (λ (y : Effect). y.queued) h.0))
+      (one_line t _ e.queued _ (of_form _ (refused NoCursor) refl (λ name. refl) (λ u. (tt, tt)))
+      (ap (λ (y : Effect). y.queued) h.0))
   next_replies (Some k) found h =
       let f = some_and (listed_of old.store.queries k.query) (λ q. NextStepAt old t c q count k.position e new) h in
       next_at k found f.0 f.1 k.position refl f.2
@@ -624,7 +644,8 @@ module _ (s : ℕ) (old : State) (t : ℕ) (x : Session) (c : Bytes) (count : �
 close_replies : {U : Type 0} (old : State) (s : ℕ) (c : Bytes) (o : Option Cursor) (e : Effect) (new : State)
     → MatchOption o (RefusedStep old s NoCursor e new) (λ k. CloseStep old s c e new) → Replies s e.queued false U
 close_replies old s c None e new h =
-    one_line s _ e.queued _ (of_form _ (refused NoCursor) refl (λ name. refl) (λ u. (tt, tt))) (ap (λ (x : Effect). x.queued) h.0)
+    one_line s _ e.queued _ (of_form _ (refused NoCursor) refl (λ name. refl) (λ u. (tt, tt)))
+    (ap (λ (x : Effect). x.queued) h.0)
 close_replies old s c (Some k) e new h =
     one_line s _ e.queued _ (of_form _ done refl (λ name. refl) (λ u. (tt, tt))) (ap (λ (x : Effect). x.queued) h.0)
 
@@ -644,10 +665,12 @@ connex_fine : (old : Store) (q : Query) (r : Result QueryOutcome Refusal) (new :
 connex_fine old q r new h said few rest e =
     let k = subst (λ (z : Result QueryOutcome Refusal). RegistersQuery old q z new) e h in
     let d = done_of (query_refusal old q) (NotConnex rest) (RegistersAs old q new) (RefusedLate old q new) k.answer in
-    let s = rest_short q said few (head_of q ∷ edges_of q) d.0.0 d.0.1.rest (connex_below q) (connex_light q) rest d.0.2 in
+    let s = rest_short q said few (head_of q ∷ edges_of q) d.0.0 d.0.1.rest (connex_below q) (connex_light q) rest d.0.2
+    in
     (s.printed, s.short)
 
-register_replies : (s : ℕ) (old : State) (t : ℕ) (x : Session) (q : Query) (e : Effect) (new : State) → QueryStep old t q e new
+register_replies : (s : ℕ) (old : State) (t : ℕ) (x : Session) (q : Query) (e : Effect) (new : State)
+    → QueryStep old t q e new
     → Replies t e.queued false (Own s t old.store x (says_command (Register q)) e new.store)
 register_replies s old t x q e new h =
     one_line t _ e.queued _ (query_form h.result
@@ -669,7 +692,8 @@ pub held_replies : {U : Type 0} (old : State) (t : ℕ) (batch : Option (List He
     → Replies t e.queued false U
 held_replies old t None l name row e new some h = absurd cc
 held_replies old t (Some held) l name row e new some h =
-    one_line t _ e.queued _ (held_form h.result (length held + 1) (held_small old.store held name row h.result h.answer))
+    one_line t _ e.queued _
+    (held_form h.result (length held + 1) (held_small old.store held name row h.result h.answer))
     (ap (λ (y : Effect). y.queued) h.effect)
 
 -- whether its replies are of a listing, or end as one
@@ -683,7 +707,8 @@ pub command_replies : (s : ℕ) (old : State) (t : ℕ) (x : Session) (l : Bytes
     → IsRowless x.batch c
     → CommandStep old t x l c e new → Replies t e.queued (talks c) (Own s t old.store x (says_command c) e new.store)
 command_replies s old t x l (Rel name types) e new rowless h =
-    one_line t _ e.queued _ (ok_form (codes "ok") done refl (λ name. refl) (tt, tt) h.result) (ap (λ (y : Effect). y.queued) h.effect)
+    one_line t _ e.queued _ (ok_form (codes "ok") done refl (λ name. refl) (tt, tt) h.result)
+    (ap (λ (y : Effect). y.queued) h.effect)
 command_replies s old t x l (Add name row) e new rowless h = held_replies old t x.batch l name row e new rowless h
 command_replies s old t x l (Del name row) e new rowless h = absurd rowless
 command_replies s old t x l (Register q) e new rowless (inl h) = register_replies s old t x q e new h
@@ -694,7 +719,8 @@ command_replies s old t x l (Union name members) e new rowless h =
     (λ most k u. union_small old.store name members h.result h.store h.done u.0.before most k))
     (ap (λ (y : Effect). y.queued) h.effect)
 command_replies s old t x l (Drop q) e new rowless h =
-    one_line t _ e.queued _ (ok_form (codes "ok") done refl (λ name. refl) (tt, tt) h.result) (ap (λ (y : Effect). y.queued) h.effect)
+    one_line t _ e.queued _ (ok_form (codes "ok") done refl (λ name. refl) (tt, tt) h.result)
+    (ap (λ (y : Effect). y.queued) h.effect)
 command_replies s old t x l (Open c q) e new rowless h =
     one_line t _ e.queued _ (ok_form (codes "ok open") cursor_opened refl (λ name. refl) (tt, tt) h.result)
     (ap (λ (y : Effect). y.queued) h.effect)
@@ -707,7 +733,8 @@ command_replies s old t x l (Watch q) e new rowless h =
     one_line t _ e.queued _ (watch_form h.result old.store.seq (λ u. number_small old.store.seq u.0.before.seq))
     (ap (λ (y : Effect). y.queued) h.effect)
 command_replies s old t x l (Unwatch q) e new rowless h =
-    one_line t _ e.queued _ (ok_form (codes "ok") done refl (λ name. refl) (tt, tt) h.result) (ap (λ (y : Effect). y.queued) h.effect)
+    one_line t _ e.queued _ (ok_form (codes "ok") done refl (λ name. refl) (tt, tt) h.result)
+    (ap (λ (y : Effect). y.queued) h.effect)
 command_replies s old t x l (Explain q) e new rowless h =
     explain_replies old t (listed_of old.store.queries q) e new (λ u. u.0.no_tree u.1) h
 command_replies s old t x l (AskShape q) e new rowless h =
@@ -723,10 +750,12 @@ command_replies s old t x l Quit e new rowless h =
 command_replies s old t x l Stop e new rowless h =
     one_line t _ e.queued _ (of_form _ bye refl (λ name. refl) (λ u. (tt, tt))) (ap (λ (y : Effect). y.queued) h.0)
 
-pub refused_replies : {U : Type 0} (old : State) (s : ℕ) (r : Refusal) (e : Effect) (new : State) → RefusedStep old s r e new
+pub refused_replies : {U : Type 0} (old : State) (s : ℕ) (r : Refusal) (e : Effect) (new : State)
+    → RefusedStep old s r e new
     → Replies s e.queued false U
 refused_replies old s r e new h =
-    one_line s _ e.queued _ (of_form _ (refused r) refl (λ name. refl) (λ u. (tt, tt))) (ap (λ (y : Effect). y.queued) h.0)
+    one_line s _ e.queued _ (of_form _ (refused r) refl (λ name. refl) (λ u. (tt, tt)))
+    (ap (λ (y : Effect). y.queued) h.0)
 
 -- ---- what of it a session is told
 

@@ -1,5 +1,7 @@
 -- A rest is printed, and takes no more bytes than the line that says its query.
-use Rattle.std.specs.Prelude.{ℕ, zero, suc, List, [], ◌∷◌, ◌++◌, ◌==◌, ◌&&◌, ◌||◌, ◌≡◌, ◌≢◌, ◌<◌, ◌≤◌, ◌+◌, ◌⊎◌, Bool, true, false, cond, nat_lt, length, map, codes, None, Some, All, Contains, get_or}
+use Rattle.std.specs.Prelude.{ℕ, zero, suc, List, [], ◌∷◌, ◌++◌, ◌==◌, ◌&&◌, ◌||◌, ◌≡◌, ◌≢◌, ◌<◌}
+use Rattle.std.specs.Prelude.{◌≤◌, ◌+◌, ◌⊎◌, Bool, true, false, cond, nat_lt, length, map, codes}
+use Rattle.std.specs.Prelude.{None, Some, All, Contains, get_or}
 use Rattle.std.specs.List.{list_all, flat_map, fold}
 use Rattle.std.proofs.Common.{refl, sym, ap, ◌∙◌, subst, inl, inr, arith, append_assoc, append-nil}
 use Rattle.std.proofs.lemmas.Bool.{ltb-true}
@@ -43,7 +45,8 @@ place x (k ∷ ks) = cond (is_named x k) 0 (suc (place x ks))
 
 place_is : (x : Bytes) (ks : List Label) → place x ks ≡ number_of ks x
 place_is x ks =
-    is_position_or_len (place x) (is_named x) refl (λ k more. ap (λ n. cond (is_named x k) 0 n) (one_more (place x more))) ks
+    is_position_or_len (place x) (is_named x) refl
+    (λ k more. ap (λ n. cond (is_named x k) 0 n) (one_more (place x more))) ks
   where
     one_more : (n : ℕ) → suc n ≡ 1 + n
     one_more n = omega arith
@@ -117,7 +120,8 @@ atoms_more ks (a ∷ atoms) =
 variable_weight : (x : Bytes) (ks more : List Label) (known : Bool) → is_known ks x ≡ known
     → number_weight (names_of (cond known ks (ks ++ Some x ∷ []) ++ more)) (number_of ks x) ≤ 1 + length x
 variable_weight x ks more true e =
-    let same = ap length (sym (ap (λ n. name_at (names_of (ks ++ more)) n) (place_is x ks)) ∙ named_known x ks more e) in
+    let same = ap length (sym (ap (λ n. name_at (names_of (ks ++ more)) n) (place_is x ks)) ∙ named_known x ks more e)
+    in
     omega (arith, same)
 variable_weight x ks more false e =
     let is : (ks ++ Some x ∷ []) ++ more ≡ ks ++ Some x ∷ more = append_assoc ks (Some x ∷ []) more in
@@ -223,7 +227,8 @@ edge_printed : (vs : List Label) → All IsPrintedLabel vs → (e : List ℕ) �
 edge_printed vs h [] some lt = absurd (some refl)
 edge_printed vs h (x ∷ e) some lt = label_printed vs h (x ∷ e) lt
 
-edges_printed : (vs : List Label) → All IsPrintedLabel vs → (es : List (List ℕ)) → All (λ e. (e ≢ []) × All (λ x. x < length vs) e) es
+edges_printed : (vs : List Label) → All IsPrintedLabel vs → (es : List (List ℕ))
+    → All (λ e. (e ≢ []) × All (λ x. x < length vs) e) es
     → list_all is_edge (map (map (name_at (names_of vs))) es) ≡ true
 edges_printed vs h [] all = refl
 edges_printed vs h (e ∷ es) all =
@@ -256,7 +261,8 @@ rest_weight names [] all = omega arith
 rest_weight names (e ∷ es) all =
     let one = edge_weight names e (All-head (λ e. e ≢ []) e es all) in
     let rest = rest_weight names es (All-tail (λ e. e ≢ []) e es all) in
-    let long = length-append (joined (map (name_at names) e)) (flat_map (λ e. 32 ∷ joined e) (map (map (name_at names)) es)) in
+    let long = length-append (joined (map (name_at names) e))
+    (flat_map (λ e. 32 ∷ joined e) (map (map (name_at names)) es)) in
     omega (arith, one, rest, long)
 
 -- ---- rests have an edge, and no empty one
@@ -323,7 +329,8 @@ pub rest_short : (q : Query) → IsSayableQuery q → query_weight q ≤ LINE_BY
 rest_short q said few E R h below light rest named = record {
   printed = subst (λ (ns : List Bytes). is_rest (map (map (name_at ns)) rest.edges) ≡ true) (sym named.names)
       (some_printed rest.edges refl);
-  short = subst (λ (ns : List Bytes). length (flat_map (λ e. 32 ∷ joined e) (map (map (name_at ns)) rest.edges)) ≤ LINE_BYTES)
+  short = subst (λ (ns : List Bytes). length (flat_map (λ e. 32 ∷ joined e) (map (map (name_at ns)) rest.edges)) ≤
+      LINE_BYTES)
       (sym named.names) (omega (arith, weight, distinct, less, light, few));
 }
   where
@@ -341,9 +348,11 @@ rest_short q said few E R h below light rest named = record {
     weight : length (flat_map (λ e. 32 ∷ joined e) (map (map (name_at (variable_names q))) rest.edges))
         ≤ total (total (number_weight (variable_names q))) rest.edges
     weight = rest_weight (variable_names q) rest.edges
-        (All-weaker (λ e. (e ≢ []) × All (λ x. x < length (variables_of q.atoms)) e) (λ e. e ≢ []) (λ e k. k.0) rest.edges each)
+        (All-weaker (λ e. (e ≢ []) × All (λ x. x < length (variables_of q.atoms)) e) (λ e. e ≢ []) (λ e k. k.0)
+        rest.edges each)
 
-    distinct : total (total (number_weight (variable_names q))) rest.edges ≤ total (total (number_weight (variable_names q))) R
+    distinct : total (total (number_weight (variable_names q))) rest.edges ≤ total
+        (total (number_weight (variable_names q))) R
     distinct = weighs_less (total (number_weight (variable_names q))) rest.edges R
         (λ i j d lt within same. before_self (get_or rest.edges j d)
         (subst (λ (f : List ℕ). is_before f (get_or rest.edges j d) ≡ true) same (named.order i j d lt within)))
@@ -361,7 +370,8 @@ rest_short q said few E R h below light rest named = record {
         absurd (nothing_there e.0 (subst (λ (es : List (List ℕ)). Contains es e.0) is ((named.edges e.0).1 e.1)))
     some_printed (e ∷ es) is =
         edges_printed (variables_of q.atoms) labels (e ∷ es)
-        (subst (λ (fs : List (List ℕ)). All (λ e. (e ≢ []) × All (λ x. x < length (variables_of q.atoms)) e) fs) is each)
+        (subst (λ (fs : List (List ℕ)). All (λ e. (e ≢ []) × All (λ x. x < length (variables_of q.atoms)) e) fs) is
+        each)
 
 pub cyclic_light : (q : Query) → total (total (number_weight (variable_names q))) (edges_of q) ≤ query_weight q
 cyclic_light q =
@@ -369,7 +379,8 @@ cyclic_light q =
     (sym (append-nil (variables_of q.atoms))) in
     omega (arith, one)
 
-pub connex_light : (q : Query) → total (total (number_weight (variable_names q))) (head_of q ∷ edges_of q) ≤ query_weight q
+pub connex_light : (q : Query)
+    → total (total (number_weight (variable_names q))) (head_of q ∷ edges_of q) ≤ query_weight q
 connex_light q =
     let one = edges_less (length (variables_of q.atoms)) [] q.atoms [] (variables_of q.atoms)
     (sym (append-nil (variables_of q.atoms))) in

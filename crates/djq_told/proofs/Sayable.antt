@@ -242,7 +242,8 @@ IsNamed (Some r) = IsName r
 abbrev Names : RowsChange → Type 0
 Names change = (qs : List Listed) (q : Bytes) → IsNamed (outdater_of qs change.outdater q)
 
-relation_named : (name : Bytes) → IsName name → (qs : List Listed) (q : Bytes) → IsNamed (outdater_of qs (by_relation name) q)
+relation_named : (name : Bytes) → IsName name → (qs : List Listed) (q : Bytes)
+    → IsNamed (outdater_of qs (by_relation name) q)
 relation_named name named qs q = by (listed_of qs q) refl
   where
     read : (b : Bool) → IsNamed (cond b (Some name) None)
@@ -257,7 +258,8 @@ abbrev NamesTried : Option RowsChange → Type 0
 NamesTried None = Unit {0}
 NamesTried (Some change) = Names change
 
-add_named : (change : RowsChange) → Names change → (r : Result AddOutcome Refusal) → NamesTried (tried (add_outcome change r))
+add_named : (change : RowsChange) → Names change → (r : Result AddOutcome Refusal)
+    → NamesTried (tried (add_outcome change r))
 add_named change n (Ok First) = n
 add_named change n (Ok (More copies)) = tt
 add_named change n (Err NoMemory) = n
@@ -356,7 +358,8 @@ turned_kept : (old : State) (s : ℕ) (x : Session) (t : Turn) (new : State) →
     → IsSayableTurn t → Turned old s x t new → IsSayableState old → IsSayableState new
 turned_kept old s x (opens_cursor c q) new found said h k =
     session_kept old new s (with_cursor c q) h.2 (λ y g. record {
-      cursors = All-push IsSayableCursor y.cursors (record { name = c; query = q; position = open_at [] false }) g.cursors
+      cursors = All-push IsSayableCursor y.cursors (record { name = c; query = q; position = open_at [] false })
+          g.cursors
           (record { name = said.0; query = said.1; position = All-nil IsSayableRow });
       watches = g.watches;
       batch = g.batch;
@@ -364,7 +367,8 @@ turned_kept old s x (opens_cursor c q) new found said h k =
 turned_kept old s x (moves_cursor c) new found said h k =
     let position = open_at (h.given ++ h.told) h.end in
     let session = all_found IsSayableSession (λ (y : Session). y.id == s) old.sessions x k.sessions found in
-    let cursor = all_found IsSayableCursor (λ (z : Cursor). bytes_eq z.name c) x.cursors h.cursor session.cursors h.is in
+    let cursor = all_found IsSayableCursor (λ (z : Cursor). bytes_eq z.name c) x.cursors h.cursor session.cursors h.is
+    in
     let given : All IsSayableRow h.given = subst IsSayablePosition h.stands cursor.position in
     let query = all_found IsSayableListed (λ (p : Listed). bytes_eq (listed_name p) (h.cursor).query) old.store.queries
     h.query k.store.queries h.over in
@@ -520,7 +524,8 @@ read_kept old s x l e new found h k = by (line_reads old s x l (reading_of l) e 
 without_line_kept : (old : State) (s : ℕ) (rest : Bytes) → IsSayableState old
     → IsSayableState (with_session old s (behind_line rest))
 without_line_kept old s rest k =
-    others_stay old (with_session old s (behind_line rest)) s (behind_line rest) (λ x. refl) (λ x. refl) (λ x. refl) refl k
+    others_stay old (with_session old s (behind_line rest)) s (behind_line rest) (λ x. refl) (λ x. refl) (λ x. refl)
+    refl k
 
 pub front_kept : (old : State) (s : ℕ) (x : Session) (outcome : LineOutcome) (e : Effect) (new : State)
     → session_of old s ≡ Some x → FrontStep old s x outcome e new → IsSayableState old → IsSayableState new
@@ -593,7 +598,8 @@ queued_kept : (st : State) (qs : List (ℕ × Bytes)) → IsSayableState st → 
 queued_kept st [] k = k
 queued_kept st (q ∷ qs) k =
     queued_kept (queue st q) qs
-    (others_stay st (queue st q) q.0 (λ x. record x { pending = x.pending ++ q.1 }) (λ x. refl) (λ x. refl) (λ x. refl) refl k)
+    (others_stay st (queue st q) q.0 (λ x. record x { pending = x.pending ++ q.1 }) (λ x. refl) (λ x. refl) (λ x. refl)
+    refl k)
 
 pub step_sayable : (old : State) (event : Event) (e : Effect) (new : State) → Step old event e new → IsSayableState old
     → IsSayableState new

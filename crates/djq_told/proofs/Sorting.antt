@@ -33,7 +33,8 @@ or_twice false b = refl
 equal_same : (t x : Bytes) → slice_cmp nat_cmp t x ≡ Equal → t ≡ x
 equal_same t x e = (bytes_eq-decides t x).0 (sym (is_eq-slice_cmp t x) ∙ ap is_eq e)
 
-pub has_put : (t : Bytes) (texts : List Bytes) (u : Bytes) → has_text (put_in t texts) u ≡ (bytes_eq u t || has_text texts u)
+pub has_put : (t : Bytes) (texts : List Bytes) (u : Bytes) → has_text (put_in t texts) u
+    ≡ (bytes_eq u t || has_text texts u)
 has_put t [] u = refl
 has_put t (x ∷ texts) u = by (slice_cmp nat_cmp t x) refl (has_put t texts u)
   where
@@ -62,11 +63,13 @@ has_out t (x ∷ texts) u = by (bytes_eq x t) (bytes_eq u t) (bytes_eq u x) refl
         → has_text (cond (not a) (x ∷ taken_out t texts) (taken_out t texts)) u ≡ (not b && (c || has_text texts u))
     by true true c e f g h = h
     by true false true e f g h =
-        let no : bytes_eq u t ≡ true = (bytes_eq-decides u t).1 ((bytes_eq-decides u x).0 g ∙ (bytes_eq-decides x t).0 e) in
+        let no : bytes_eq u t
+        ≡ true = (bytes_eq-decides u t).1 ((bytes_eq-decides u x).0 g ∙ (bytes_eq-decides x t).0 e) in
         absurd (cc (no, f))
     by true false false e f g h = h
     by false true true e f g h =
-        let no : bytes_eq x t ≡ true = (bytes_eq-decides x t).1 (sym ((bytes_eq-decides u x).0 g) ∙ (bytes_eq-decides u t).0 f) in
+        let no : bytes_eq x t
+        ≡ true = (bytes_eq-decides x t).1 (sym ((bytes_eq-decides u x).0 g) ∙ (bytes_eq-decides u t).0 f) in
         absurd (cc (no, e))
     by false true false e f g h = ap (λ (b : Bool). b || has_text (taken_out t texts) u) g ∙ h
     by false false c e f g h =
@@ -74,7 +77,8 @@ has_out t (x ∷ texts) u = by (bytes_eq x t) (bytes_eq u t) (bytes_eq u x) refl
 
 -- ---- the order
 
-above_put : (P : Bytes → Type 0) (t : Bytes) (texts : List Bytes) → AllByRecursion P texts → P t → AllByRecursion P (put_in t texts)
+above_put : (P : Bytes → Type 0) (t : Bytes) (texts : List Bytes) → AllByRecursion P texts → P t
+    → AllByRecursion P (put_in t texts)
 above_put P t [] h p = (p, tt)
 above_put P t (x ∷ texts) h p = by (slice_cmp nat_cmp t x) (above_put P t texts h.1 p)
   where
@@ -85,7 +89,8 @@ above_put P t (x ∷ texts) h p = by (slice_cmp nat_cmp t x) (above_put P t text
     by Greater k = (h.0, k)
 
 all_above : (t x : Bytes) → slice_cmp nat_cmp t x ≡ Less → (texts : List Bytes)
-    → AllByRecursion (λ y. slice_cmp nat_cmp x y ≡ Less) texts → AllByRecursion (λ y. slice_cmp nat_cmp t y ≡ Less) texts
+    → AllByRecursion (λ y. slice_cmp nat_cmp x y ≡ Less) texts
+    → AllByRecursion (λ y. slice_cmp nat_cmp t y ≡ Less) texts
 all_above t x lt [] h = tt
 all_above t x lt (y ∷ texts) h = (nat_list_cmp_total.trans t x y lt h.0, all_above t x lt texts h.1)
 
@@ -113,11 +118,14 @@ turned_eq a b = by (bytes_eq a b) (bytes_eq b a) refl refl
     by true true e f = refl
     by false false e f = refl
     by true false e f =
-        let yes : bytes_eq b a ≡ true = (bytes_eq-decides b a).1 (sym ((bytes_eq-decides a b).0 e)) in absurd (cc (yes, f))
+        let yes : bytes_eq b a
+        ≡ true = (bytes_eq-decides b a).1 (sym ((bytes_eq-decides a b).0 e)) in absurd (cc (yes, f))
     by false true e f =
-        let yes : bytes_eq a b ≡ true = (bytes_eq-decides a b).1 (sym ((bytes_eq-decides b a).0 f)) in absurd (cc (yes, e))
+        let yes : bytes_eq a b
+        ≡ true = (bytes_eq-decides a b).1 (sym ((bytes_eq-decides b a).0 f)) in absurd (cc (yes, e))
 
-pub put_is : (t : Bytes) (texts : List Bytes) (u : Bytes) → has_text (put_in t texts) u ≡ (bytes_eq t u || has_text texts u)
+pub put_is : (t : Bytes) (texts : List Bytes) (u : Bytes) → has_text (put_in t texts) u
+    ≡ (bytes_eq t u || has_text texts u)
 put_is t texts u = has_put t texts u ∙ ap (λ (b : Bool). b || has_text texts u) (turned_eq u t)
 
 pub out_is : (t : Bytes) (texts : List Bytes) (u : Bytes)

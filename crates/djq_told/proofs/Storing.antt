@@ -301,7 +301,8 @@ pub del_sayable : (old : Store) (name : Bytes) (row : Tuple) (r : Result DeleteO
     → DeletesRow old name row r new → IsSayableStore old → IsSayableStore new
 del_sayable old name row (Ok Last) new h s =
     let d = done_of (delete_refusal old name row) Last (DeletesAs old name row new) (OutOfMemoryWhere ⊥) h.answer in
-    let none = none_holds (delete_refusal old name row) Last (DeletesAs old name row new) (OutOfMemoryWhere ⊥) h.answer in
+    let none = none_holds (delete_refusal old name row) Last (DeletesAs old name row new) (OutOfMemoryWhere ⊥) h.answer
+    in
     let fails = all_fail (delete_conditions old name row) none in
     let below = leb-false LAST_SEQ old.seq
     (second_fails (copies_of old name row == 1) (nat_le LAST_SEQ old.seq) (eq-eqb (copies_of old name row) 1 d.1)
@@ -583,7 +584,8 @@ drop_sayable old used name (Err r) new h s = subst IsSayableStore (sym h.stays) 
 drop_sayable old used name (Ok u) new h s =
     let less = drop_first (λ (q : Listed). bytes_eq (listed_name q) name) old.queries in
     subst IsSayableStore
-    (sym (done_of (drop_refusal old used name) u (λ _. new ≡ record old { queries = less }) (OutOfMemoryWhere ⊥) h.answer))
+    (sym (done_of (drop_refusal old used name) u (λ _. new ≡ record old { queries = less }) (OutOfMemoryWhere ⊥)
+    h.answer))
     (record {
       relations = s.relations;
       queries = all_dropped IsSayableListed (λ (q : Listed). bytes_eq (listed_name q) name) old.queries s.queries;
@@ -591,7 +593,8 @@ drop_sayable old used name (Ok u) new h s =
     })
 
 -- rows in another order
-moved_sayable : (rs moved : List Relation) → SameRelations rs moved → All IsSayableRelation rs → All IsSayableRelation moved
+moved_sayable : (rs moved : List Relation) → SameRelations rs moved → All IsSayableRelation rs
+    → All IsSayableRelation moved
 moved_sayable [] [] h s = s
 moved_sayable (r ∷ rs) (m ∷ ms) h s =
     let k = All-head IsSayableRelation r rs s in

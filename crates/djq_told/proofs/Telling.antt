@@ -35,7 +35,8 @@ use Rattle.std.specs.Prelude.{
 use Rattle.std.specs.List.{list_any, flat_map}
 use Rattle.std.proofs.Common.{refl, sym, ap, ap₂, ◌∙◌, subst, inl, inr, arith, append-nil}
 use Rattle.std.proofs.lemmas.Bool.{eqb-true, eq-eqb, ne_eqb}
-use Rattle.std.proofs.lemmas.List.Elements.{All-nil, All-cons, All-head, All-tail, All-append, All-filter, All-weaker, filter-append}
+use Rattle.std.proofs.lemmas.List.Elements.{All-nil, All-cons, All-head, All-tail, All-append}
+use Rattle.std.proofs.lemmas.List.Elements.{All-filter, All-weaker, filter-append}
 use Rattle.djq_model.specs.declared.relation.Relation.{Relation}
 use Rattle.djq_model.specs.Data.{Bytes, Tuple, bytes_eq}
 use Rattle.djq_model.specs.Answer.{IsListing}
@@ -46,7 +47,9 @@ use Rattle.djq_lines.specs.declared.answer.DeleteOutcome.{DeleteOutcome}
 use Rattle.djq_lines.specs.declared.answer.Refusal.{Refusal}
 use Rattle.djq_lines.specs.declared.answer.EndCause.{EndCause}
 use Rattle.djq_lines.specs.declared.answer.EndCause.TheVariants.{Input, Memory}
-use Rattle.djq_lines.specs.declared.answer.EndLine.TheVariants.{Long as long_line, Slow as slow_line, Memory as memory_line}
+use Rattle.djq_lines.specs.declared.answer.EndLine.TheVariants.{Long as long_line}
+use Rattle.djq_lines.specs.declared.answer.EndLine.TheVariants.{Slow as slow_line}
+use Rattle.djq_lines.specs.declared.answer.EndLine.TheVariants.{Memory as memory_line}
 use Rattle.djq_lines.specs.declared.answer.Sign.{Sign}
 use Rattle.djq_lines.specs.declared.answer.Sign.TheVariants.{Came, Went}
 use Rattle.djq_lines.specs.declared.held.HeldRow.{HeldRow}
@@ -59,11 +62,13 @@ use Rattle.djq_machine.specs.State.{Store, State, Session, session_of, with_sess
 use Rattle.djq_machine.specs.Store.{AddsRow, DeletesRow}
 use Rattle.djq_machine.specs.Effect.{Effect, nothing, says, EndsWith}
 use Rattle.djq_machine.specs.Delta.{Change, HasChanged, IsDelta}
-use Rattle.djq_machine.specs.Changes.{RowsOutcome, accepted, out_of_memory, unchanged, is_accepted, is_outdated, row_in, row_out, add_outcome, delete_outcome}
+use Rattle.djq_machine.specs.Changes.{RowsOutcome, accepted, out_of_memory, unchanged, is_accepted}
+use Rattle.djq_machine.specs.Changes.{is_outdated, row_in, row_out, add_outcome, delete_outcome}
 use Rattle.djq_machine.specs.Batch.{AddsBatch, batch_outcome}
 use Rattle.djq_machine.specs.Command.{without_batch, AddStep, HoldStep, DoneStep, CommandStep}
 use Rattle.djq_machine.specs.LineStep.{LineOutcome, long, blank, slow, no_room, run, ReadStep, FrontStep, behind_line}
-use Rattle.djq_machine.specs.Step.{Event, opened, fed, stepped, took, ended, closed, FedStep, TookStep, EndedStep, Acts, with_relations, Step}
+use Rattle.djq_machine.specs.Step.{Event, opened, fed, stepped, took, ended, closed, FedStep}
+use Rattle.djq_machine.specs.Step.{TookStep, EndedStep, Acts, with_relations, Step}
 use Rattle.djq_machine.specs.Run.{Did, to_session, out}
 use Rattle.djq_machine.specs.Call.{cause_of, cause_in}
 use Rattle.djq_machine.specs.Watch.{is_watching, Delta, ChangeStep}
@@ -196,7 +201,8 @@ pub record Plain (s : ℕ) (queued : List (ℕ × Bytes)) (talk : Bool) (U : Typ
   pub harmless : talk ≡ false → All IsHarmless replies
   pub fine : U → All IsFine replies
 
-pub quiet_to : {U : Type 0} (s : ℕ) (queued : List (ℕ × Bytes)) (talk : Bool) → IsQuiet s queued talk U → Plain s queued talk U
+pub quiet_to : {U : Type 0} (s : ℕ) (queued : List (ℕ × Bytes)) (talk : Bool) → IsQuiet s queued talk U
+    → Plain s queued talk U
 quiet_to s queued talk (inl e) = record {
   replies = [];
   text = ap (λ qs. to_session s qs) e;
@@ -224,7 +230,8 @@ quiet_to {U = U} s queued talk (inr (t, k, r, is)) = by (t == s) refl is
     }
 
 -- under what implies it
-tamed : (q : Listed) (s : ℕ) (old new : Store) (queued : List (ℕ × Bytes)) (changes talk : Bool) (U V : Type 0) → (V → U)
+tamed : (q : Listed) (s : ℕ) (old new : Store) (queued : List (ℕ × Bytes)) (changes talk : Bool) (U V : Type 0)
+    → (V → U)
     → StepSays q s old new queued changes talk U → StepSays q s old new queued changes talk V
 tamed q s old new queued changes talk U V f k = record {
   replies = k.replies;
@@ -240,7 +247,8 @@ quiet_told : (q : Listed) (s : ℕ) (old new : Store) (queued : List (ℕ × Byt
     → StepTold q old new changes rs
 quiet_told q s old new queued changes rs (is_quiet same seq) stays e = tells_none e same seq
 quiet_told q s old new queued changes rs (is_told delta seq counts) (inl none) e = absurd (cc (none, counts))
-quiet_told q s old new queued changes rs (is_told delta seq counts) (inr unmoved) e = absurd (omega (arith, seq, unmoved))
+quiet_told q s old new queued changes rs (is_told delta seq counts) (inr unmoved) e = absurd
+    (omega (arith, seq, unmoved))
 
 quiet_says : {U : Type 0} (q : Listed) (s : ℕ) (old new : Store) (queued : List (ℕ × Bytes)) (changes talk : Bool)
     → IsQuiet s queued talk U → StepTells q s old new queued changes → (changes ≡ false) ⊎ (new.seq ≡ old.seq)
@@ -259,9 +267,11 @@ quiet_says q s old new queued changes talk quiet tells stays =
 
 delta_harmless : (name : Bytes) (changes : List Change) (n : ℕ)
     → All IsHarmless (delta_replies name (record { number = n; changes = changes }))
-delta_harmless name [] n = All-cons IsHarmless (counted name n) [] (harmless_form (counted name n) refl) (All-nil IsHarmless)
+delta_harmless name [] n = All-cons IsHarmless (counted name n) [] (harmless_form (counted name n) refl)
+    (All-nil IsHarmless)
 delta_harmless name (c ∷ changes) n =
-    All-cons IsHarmless (changes_answer c.sign name c.answer) (delta_replies name (record { number = n; changes = changes }))
+    All-cons IsHarmless (changes_answer c.sign name c.answer)
+    (delta_replies name (record { number = n; changes = changes }))
     (harmless_form (changes_answer c.sign name c.answer) refl) (delta_harmless name changes n)
 
 heard_harmless : (ws : List Bytes) (n : ℕ) (ds : List Delta) → All IsHarmless (all_heard ws n ds)
@@ -276,9 +286,11 @@ heard_harmless ws n (d ∷ ds) =
     by false = All-nil IsHarmless
 
 -- the deltas of a change are printed, where what changes and what it leaves can be said
-heard_fine : (before after : List Relation) → All IsSayableRelation before → All IsSayableRelation after → (ws : List Bytes)
+heard_fine : (before after : List Relation) → All IsSayableRelation before → All IsSayableRelation after
+    → (ws : List Bytes)
     (n : ℕ) → IsNumber n → (ds : List Delta) → All (λ d. IsSayableListed d.query) ds
-    → All (λ d. IsDelta (AnswersOf before d.query) (AnswersOf after d.query) d.changes) ds → All IsFine (all_heard ws n ds)
+    → All (λ d. IsDelta (AnswersOf before d.query) (AnswersOf after d.query) d.changes) ds
+    → All IsFine (all_heard ws n ds)
 heard_fine before after b a ws n small [] said are = All-nil IsFine
 heard_fine before after b a ws n small (d ∷ ds) said are =
     All-append IsFine (heard ws n d) (all_heard ws n ds) (by (list_any (λ w. bytes_eq w (listed_name d.query)) ws))
@@ -292,19 +304,23 @@ heard_fine before after b a ws n small (d ∷ ds) said are =
         (All-head (λ k. IsDelta (AnswersOf before k.query) (AnswersOf after k.query) k.changes) d ds are).changed
     by false = All-nil IsFine
 
-all_heard_fine : (old : State) (t : ℕ) (outcome : RowsOutcome) (store : Store) (reply : Bytes) (e : Effect) (mid : State)
+all_heard_fine : (old : State) (t : ℕ) (outcome : RowsOutcome) (store : Store) (reply : Bytes) (e : Effect)
+    (mid : State)
     → (c : RowCommand) → RowsMade c old.store outcome store
-    → (h : ChangeStep old t outcome store reply e mid) → IsSayableStore old.store → IsSayableStore store → (ws : List Bytes)
+    → (h : ChangeStep old t outcome store reply e mid) → IsSayableStore old.store → IsSayableStore store
+    → (ws : List Bytes)
     → All IsFine (all_heard ws store.seq (cond (is_accepted outcome) h.deltas []))
 all_heard_fine old t unchanged store reply e mid c made h before behind ws = All-nil IsFine
 all_heard_fine old t (out_of_memory change) store reply e mid c made h before behind ws = All-nil IsFine
 all_heard_fine old t (accepted change) store reply e mid c made h before behind ws =
     let after = subst (λ (rs : List Relation). All IsSayableRelation rs) (ap (λ (st : Store). st.relations) made.store)
     behind.relations in
-    heard_fine old.store.relations change.after before.relations after ws store.seq (number_small store.seq behind.seq) h.deltas
+    heard_fine old.store.relations change.after before.relations after ws store.seq (number_small store.seq behind.seq)
+    h.deltas
     (all_unmapped IsSayableListed (λ (d : Delta). d.query) h.deltas
     (subst (λ (qs : List Listed). All IsSayableListed qs) (sym h.listed.of_queries)
-    (All-filter (λ (p : Listed). is_outdated change p && list_any (is_watching (listed_name p)) old.sessions) IsSayableListed
+    (All-filter (λ (p : Listed). is_outdated change p && list_any (is_watching (listed_name p)) old.sessions)
+    IsSayableListed
     old.store.queries before.queries)))
     h.listed.are_deltas
 
@@ -314,7 +330,8 @@ own_fine false r h = All-nil IsFine
 
 -- what came of a command of rows that another session or this one said
 module _ (q : Listed) (s : ℕ) (old : State) (x : Session) (is : session_of old s ≡ Some x)
-    (names : AreApart (map listed_name old.store.queries)) (rising : AreRising old) (registered : listed_of old.store.queries (listed_name q) ≡ Some q)
+    (names : AreApart (map listed_name old.store.queries)) (rising : AreRising old)
+    (registered : listed_of old.store.queries (listed_name q) ≡ Some q)
     (watching : is_watching (listed_name q) x ≡ true) where
   apart : AllPairs (λ a b. listed_name a ≢ listed_name b) old.store.queries
   apart = pairs_unmapped (λ (a b : Bytes). a ≢ b) listed_name old.store.queries names
@@ -328,30 +345,39 @@ module _ (q : Listed) (s : ℕ) (old : State) (x : Session) (is : session_of old
   own_harmless false r h = All-nil IsHarmless
 
   -- the replies, and which of them tell of the query
-  pub change_says : (t : ℕ) (y : Session) (r : Reading) (outcome : RowsOutcome) (store : Store) (reply : Bytes) (e : Effect)
-      (mid : State) (f : OfForm reply false (Fits s t old.store y r e mid.store)) → mid.store ≡ store → (new : Store) → (c : RowCommand) → RowsMade c old.store outcome store
+  pub change_says : (t : ℕ) (y : Session) (r : Reading) (outcome : RowsOutcome) (store : Store) (reply : Bytes)
+      (e : Effect)
+      (mid : State) (f : OfForm reply false (Fits s t old.store y r e mid.store)) → mid.store ≡ store → (new : Store)
+      → (c : RowCommand) → RowsMade c old.store outcome store
       → SameAnswers store.relations new.relations q → new.seq ≡ store.seq
       → ChangeStep old t outcome store reply e mid → cause_of mid s ≡ None
       → StepTells q s old.store new e.queued (is_some (outdater_by old.store c q))
       → (talk : Bool)
-      → StepSays q s old.store new e.queued (is_some (outdater_by old.store c q)) talk (Fits s t old.store y r e mid.store)
+      → StepSays q s old.store new e.queued (is_some (outdater_by old.store c q)) talk
+      (Fits s t old.store y r e mid.store)
   change_says t y r outcome store reply e mid f left new c made same seq h running tells talk =
       record {
-        replies = all_heard x.watches store.seq (cond (is_accepted outcome) h.deltas []) ++ own_replies s x.watches (t == s) f.reply;
+        replies = all_heard x.watches store.seq (cond (is_accepted outcome) h.deltas []) ++ own_replies s x.watches
+            (t == s) f.reply;
         text = change_heard s x old is t outcome store reply f.reply e mid rising f.is h running;
         harmless = λ k. All-append IsHarmless (all_heard x.watches store.seq (cond (is_accepted outcome) h.deltas []))
             (own_replies s x.watches (t == s) f.reply)
-            (heard_harmless x.watches store.seq (cond (is_accepted outcome) h.deltas [])) (own_harmless (t == s) f.reply (f.harmless refl));
+            (heard_harmless x.watches store.seq (cond (is_accepted outcome) h.deltas []))
+            (own_harmless (t == s) f.reply (f.harmless refl));
         fine = λ u. All-append IsFine (all_heard x.watches store.seq (cond (is_accepted outcome) h.deltas []))
             (own_replies s x.watches (t == s) f.reply)
-            (all_heard_fine old t outcome store reply e mid c made h u.before (subst IsSayableStore left u.behind) x.watches)
+            (all_heard_fine old t outcome store reply e mid c made h u.before (subst IsSayableStore left u.behind)
+            x.watches)
             (own_fine (t == s) f.reply (f.fine u));
         told = subst (λ (rs : List Reply). StepTold q old.store new (is_some (outdater_by old.store c q)) rs)
             (sym (filter-append (is_told_of (listed_name q))
-            (all_heard x.watches store.seq (cond (is_accepted outcome) h.deltas [])) (own_replies s x.watches (t == s) f.reply)
-            ∙ ap (λ rs. filter (is_told_of (listed_name q)) (all_heard x.watches store.seq (cond (is_accepted outcome) h.deltas [])) ++ rs)
+            (all_heard x.watches store.seq (cond (is_accepted outcome) h.deltas []))
+            (own_replies s x.watches (t == s) f.reply)
+            ∙ ap (λ rs. filter (is_told_of (listed_name q))
+            (all_heard x.watches store.seq (cond (is_accepted outcome) h.deltas [])) ++ rs)
             (own_none (t == s) f.reply f.plain)
-            ∙ append-nil (filter (is_told_of (listed_name q)) (all_heard x.watches store.seq (cond (is_accepted outcome) h.deltas [])))))
+            ∙ append-nil (filter (is_told_of (listed_name q))
+            (all_heard x.watches store.seq (cond (is_accepted outcome) h.deltas [])))))
             (by outcome h made tells);
       }
     where
@@ -376,21 +402,25 @@ module _ (q : Listed) (s : ℕ) (old : State) (x : Session) (is : session_of old
           more : new.seq ≡ old.store.seq + 1
           more = seq ∙ ap (λ (st : Store). st.seq) m.store
 
-          outdates : (o : Option Bytes) → change.outdater q ≡ o → StepTells q s old.store new e.queued (is_some (change.outdater q))
+          outdates : (o : Option Bytes) → change.outdater q ≡ o
+              → StepTells q s old.store new e.queued (is_some (change.outdater q))
               → StepTold q old.store new (is_some (change.outdater q))
               (filter (is_told_of (listed_name q)) (all_heard x.watches store.seq k.deltas))
           outdates None nothing_of (is_quiet answers so) =
               tells_none
               (told_none old change k.deltas apart k.listed q x.watches store.seq registered (ap is_some nothing_of))
               answers (inr (more, ap is_some nothing_of))
-          outdates None nothing_of (is_told delta so counts) = let none : is_some (change.outdater q) ≡ false = ap is_some nothing_of in absurd (cc (none, counts))
+          outdates None nothing_of (is_told delta so counts) = let none : is_some (change.outdater q)
+              ≡ false = ap is_some nothing_of in absurd (cc (none, counts))
           outdates (Some relation) does tells =
               let one =
               told_one old change k.deltas apart k.listed q s x store.seq is registered (ap is_some does) watching in
               tells_delta one.0
               (same_delta old.store.relations change.after new.relations q one.0
-              (subst (λ (rs : List Relation). SameAnswers rs new.relations q) (ap (λ (st : Store). st.relations) m.store) same) one.1)
-              (one.2 ∙ ap (λ n. delta_replies (listed_name q) (record { number = n; changes = one.0 })) (sym seq)) more (ap is_some does)
+              (subst (λ (rs : List Relation). SameAnswers rs new.relations q)
+              (ap (λ (st : Store). st.relations) m.store) same) one.1)
+              (one.2 ∙ ap (λ n. delta_replies (listed_name q) (record { number = n; changes = one.0 })) (sym seq)) more
+              (ap is_some does)
 
 -- a session stays, but for a change of one that leaves what it watches
 pub changed_session : (old : State) (t : ℕ) (f : Session → Session) → ((y : Session) → (f y).id ≡ y.id)
@@ -426,7 +456,8 @@ added_form old name row r store h small =
     add_form r store.seq small (λ copies k u. added_copies old name row copies store
     (subst (λ (z : Result AddOutcome Refusal). AddsRow old name row z store) k h))
 
-pub deleted_form : {U : Type 0} (old : Store) (name : Bytes) (row : Tuple) (r : Result DeleteOutcome Refusal) (store : Store)
+pub deleted_form : {U : Type 0} (old : Store) (name : Bytes) (row : Tuple) (r : Result DeleteOutcome Refusal)
+    (store : Store)
     → DeletesRow old name row r store → (U → IsSoundStore old) → (U → IsNumber store.seq)
     → OfForm (delete_reply r store.seq) false U
 deleted_form old name row r store h sound small =
@@ -444,13 +475,17 @@ pub seq_small : (store : Store) (mid : State) → mid.store ≡ store → IsSaya
 seq_small store mid left said = number_small store.seq (subst (λ (st : Store). st.seq ≤ LAST_SEQ) left said.seq)
 
 module _ (q : Listed) (s : ℕ) (old : State) (x : Session) (is : session_of old s ≡ Some x)
-    (names : AreApart (map listed_name old.store.queries)) (rising : AreRising old) (registered : listed_of old.store.queries (listed_name q) ≡ Some q)
-    (watching : is_watching (listed_name q) x ≡ true) (t : ℕ) (y : Session) (l : Bytes) (e : Effect) (mid : State) (new : Store)
-    (same : SameAnswers mid.store.relations new.relations q) (seq : new.seq ≡ mid.store.seq) (running : cause_of mid s ≡ None) where
+    (names : AreApart (map listed_name old.store.queries)) (rising : AreRising old)
+    (registered : listed_of old.store.queries (listed_name q) ≡ Some q)
+    (watching : is_watching (listed_name q) x ≡ true) (t : ℕ) (y : Session) (l : Bytes) (e : Effect) (mid : State)
+    (new : Store)
+    (same : SameAnswers mid.store.relations new.relations q) (seq : new.seq ≡ mid.store.seq)
+    (running : cause_of mid s ≡ None) where
   -- what the session is told, by which relation's change outdates the query
   abbrev Speaks : Option Bytes → Reading → Type 0
   Speaks o r = StepTells q s old.store new e.queued (is_some o)
-      → StepSays q s old.store new e.queued (is_some o) ((t == s) && reading_talks r) (Fits s t old.store y r e mid.store)
+      → StepSays q s old.store new e.queued (is_some o) ((t == s) && reading_talks r)
+      (Fits s t old.store y r e mid.store)
 
   add_says : (name : Bytes) (row : Tuple) (batch : Option (List HeldRow))
       → MatchOption batch (AddStep old t name row e mid) (λ held. HoldStep old t held l name row e mid)
@@ -492,7 +527,8 @@ module _ (q : Listed) (s : ℕ) (old : State) (x : Session) (is : session_of old
       let left = change_store old t _ h.store _ e mid h.change in
       change_says q s old x is names rising registered watching t y (says_command (Del name row))
       (delete_outcome (row_out old.store.relations name row) h.result) h.store _ e mid
-      (deleted_form old.store name row h.result h.store h.done (λ u. u.sound) (λ u. seq_small h.store mid left u.behind))
+      (deleted_form old.store name row h.result h.store h.done (λ u. u.sound)
+      (λ u. seq_small h.store mid left u.behind))
       left new (row_goes name row) (deleted old.store name row h.result h.store h.done)
       (subst (λ (st : Store). SameAnswers st.relations new.relations q) left same)
       (seq ∙ ap (λ (st : Store). st.seq) left) h.change running tells ((t == s) && false)
@@ -505,11 +541,14 @@ module _ (q : Listed) (s : ℕ) (old : State) (x : Session) (is : session_of old
   read_says r h tells = by (line_reads old t y l r e mid h)
     where
       by : Reads old t y l r e mid
-          → StepSays q s old.store new e.queued (is_some (line_outdater old.store y.batch r q)) ((t == s) && reading_talks r)
+          → StepSays q s old.store new e.queued (is_some (line_outdater old.store y.batch r q))
+          ((t == s) && reading_talks r)
           (Fits s t old.store y r e mid.store)
       by (turned_down why because d) =
-          quiet_says q s old.store new e.queued (is_some (line_outdater old.store y.batch r q)) ((t == s) && reading_talks r)
-          (inr (t, reading_talks r, any_talk t e.queued (reading_talks r) (refused_replies old t why e mid d), refl)) tells
+          quiet_says q s old.store new e.queued (is_some (line_outdater old.store y.batch r q))
+          ((t == s) && reading_talks r)
+          (inr (t, reading_talks r, any_talk t e.queued (reading_talks r) (refused_replies old t why e mid d), refl))
+          tells
           (inr (seq ∙ ap (λ (st : State). st.store.seq) d.1))
       by (carried_out c says d) =
           subst (λ (w : Reading). Speaks (line_outdater old.store y.batch w q) w) (sym says) (command_says c d) tells
@@ -519,18 +558,22 @@ module _ (q : Listed) (s : ℕ) (old : State) (x : Session) (is : session_of old
 -- a session's last line
 pub ends_quiet : {U : Type 0} (s t : ℕ) (text : Bytes) (cause : EndCause) (old : State) (e : Effect) (mid : State)
     → OfForm text false (U × ((t == s) ≡ true)) → EndsWith text cause old t e mid → IsQuiet s e.queued false U
-ends_quiet s t text cause old e mid f h = quietly s t e.queued (one_line t text e.queued false f (ap (λ (y : Effect). y.queued) h.0))
+ends_quiet s t text cause old e mid f h = quietly s t e.queued
+    (one_line t text e.queued false f (ap (λ (y : Effect). y.queued) h.0))
 
 pub nothing_quiet : {U : Type 0} (s : ℕ) (e : Effect) → e ≡ nothing → IsQuiet s e.queued false U
 nothing_quiet s e h = inl (ap (λ (y : Effect). y.queued) h)
 
-pub fed_quiet : {U : Type 0} (s : ℕ) (old : State) (t : ℕ) (bytes : Bytes) (e : Effect) (mid : State) (c : Option EndCause)
+pub fed_quiet : {U : Type 0} (s : ℕ) (old : State) (t : ℕ) (bytes : Bytes) (e : Effect) (mid : State)
+    (c : Option EndCause)
     → MatchOption c
-    (((e ≡ nothing) × (mid ≡ with_session old t (λ y. record y { held = y.held ++ bytes }))) ⊎ EndsWith end_memory Memory old t e mid)
+    (((e ≡ nothing) × (mid ≡ with_session old t (λ y. record y { held = y.held ++ bytes }))) ⊎ EndsWith end_memory
+    Memory old t e mid)
     (λ _. (e ≡ nothing) × (mid ≡ old))
     → IsQuiet s e.queued false U
 fed_quiet s old t bytes e mid None (inl h) = nothing_quiet s e h.0
-fed_quiet s old t bytes e mid None (inr h) = ends_quiet s t end_memory Memory old e mid (of_form end_memory (is_ended memory_line) refl (λ name. refl) (λ u. (tt, tt))) h
+fed_quiet s old t bytes e mid None (inr h) = ends_quiet s t end_memory Memory old e mid
+    (of_form end_memory (is_ended memory_line) refl (λ name. refl) (λ u. (tt, tt))) h
 fed_quiet s old t bytes e mid (Some c) h = nothing_quiet s e h.0
 
 -- what is said where bytes are held
@@ -542,10 +585,13 @@ cut_quiet : {U : Type 0} (s t : ℕ) (held : Bytes) (e : Effect) → e ≡ cut_o
 unfolding cut_of
 cut_quiet s t [] e h = nothing_quiet s e h
 cut_quiet s t (b ∷ bs) e h =
-    quietly s t e.queued (one_line t input_cut e.queued false (of_form input_cut cut refl (λ name. refl) (λ u. (tt, tt))) (ap (λ (y : Effect). y.queued) h))
+    quietly s t e.queued (one_line t input_cut e.queued false
+    (of_form input_cut cut refl (λ name. refl) (λ u. (tt, tt))) (ap (λ (y : Effect). y.queued) h))
 
-input_quiet : {U : Type 0} (s : ℕ) (old : State) (t : ℕ) (held : Bytes) (e : Effect) (mid : State) (P : Type 0) (c : Option EndCause)
-    → MatchOption c (P × (e ≡ cut_of t held) × (mid ≡ with_session old t (ended_by Input))) (λ _. (e ≡ nothing) × (mid ≡ old))
+input_quiet : {U : Type 0} (s : ℕ) (old : State) (t : ℕ) (held : Bytes) (e : Effect) (mid : State) (P : Type 0)
+    (c : Option EndCause)
+    → MatchOption c (P × (e ≡ cut_of t held) × (mid ≡ with_session old t (ended_by Input)))
+    (λ _. (e ≡ nothing) × (mid ≡ old))
     → IsQuiet s e.queued false U
 input_quiet s old t held e mid P None h = cut_quiet s t held e h.1
 input_quiet s old t held e mid P (Some c) h = nothing_quiet s e h.0
@@ -585,7 +631,8 @@ pub tame_fits : (s t : ℕ) (old : State) (z : Session) (l : Bytes) (e : Effect)
     → Fits s t old.store (behind_line h.2.rest z) (reading_of l) e mid.store
 tame_fits s t old z l e mid found h k =
     let said = all_found IsSayableSession (λ (y : Session). y.id == t) old.sessions z k.fine.sessions found in
-    let kept = all_found (IsSoundSession old.store) (λ (y : Session). y.id == t) old.sessions z k.sound.sessions found in record {
+    let kept = all_found (IsSoundSession old.store) (λ (y : Session). y.id == t) old.sessions z k.sound.sessions found
+    in record {
       sound = k.sound.store;
       before = k.fine.store;
       session = record { cursors = said.cursors; watches = said.watches; batch = said.batch };
@@ -598,22 +645,27 @@ tame_fits s t old z l e mid found h k =
 module _ (q : Listed) (s : ℕ) (old : State) (x : Session) (is : session_of old s ≡ Some x) (sound : IsSoundState old)
     (registered : listed_of old.store.queries (listed_name q) ≡ Some q)
     (watching : is_watching (listed_name q) x ≡ true) where
-  front_says : (t : ℕ) (z : Session) → session_of old t ≡ Some z → (outcome : LineOutcome) (e : Effect) (mid : State) (new : Store)
+  front_says : (t : ℕ) (z : Session) → session_of old t ≡ Some z
+      → (outcome : LineOutcome) (e : Effect) (mid : State) (new : Store)
       → SameAnswers mid.store.relations new.relations q → new.seq ≡ mid.store.seq → cause_of mid s ≡ None
       → FrontStep old t z outcome e mid → StepTells q s old.store new e.queued (event_changes q old (stepped t outcome))
-      → StepSays q s old.store new e.queued (event_changes q old (stepped t outcome)) (event_talks s (stepped t outcome))
+      → StepSays q s old.store new e.queued (event_changes q old (stepped t outcome))
+      (event_talks s (stepped t outcome))
       (Tame s old (stepped t outcome) e)
   front_says t z found long e mid new same seq running h tells =
       quiet_says q s old.store new e.queued false false
-      (ends_quiet s t end_long _ old e mid (of_form end_long (is_ended long_line) refl (λ name. refl) (λ u. (tt, tt))) h.1) tells (inl refl)
+      (ends_quiet s t end_long _ old e mid (of_form end_long (is_ended long_line) refl (λ name. refl) (λ u. (tt, tt)))
+      h.1) tells (inl refl)
   front_says t z found (blank l) e mid new same seq running h tells =
       quiet_says q s old.store new e.queued false false (nothing_quiet s e h.1.then.0) tells (inl refl)
   front_says t z found (slow l) e mid new same seq running h tells =
       quiet_says q s old.store new e.queued false false
-      (ends_quiet s t end_slow _ _ e mid (of_form end_slow (is_ended slow_line) refl (λ name. refl) (λ u. (tt, tt))) h.2.then) tells (inl refl)
+      (ends_quiet s t end_slow _ _ e mid (of_form end_slow (is_ended slow_line) refl (λ name. refl) (λ u. (tt, tt)))
+      h.2.then) tells (inl refl)
   front_says t z found (no_room l) e mid new same seq running h tells =
       quiet_says q s old.store new e.queued false false
-      (ends_quiet s t end_memory _ _ e mid (of_form end_memory (is_ended memory_line) refl (λ name. refl) (λ u. (tt, tt))) h.2.then) tells (inl refl)
+      (ends_quiet s t end_memory _ _ e mid
+      (of_form end_memory (is_ended memory_line) refl (λ name. refl) (λ u. (tt, tt))) h.2.then) tells (inl refl)
   front_says t z found (run l) e mid new same seq running h tells =
       let rest = h.2.rest in
       let taken = with_session old t (behind_line rest) in
@@ -622,9 +674,11 @@ module _ (q : Listed) (s : ℕ) (old : State) (x : Session) (is : session_of old
       tamed q s old.store new e.queued (event_changes q old (stepped t (run l))) (event_talks s (stepped t (run l)))
       (Fits s t old.store (behind_line rest z) (reading_of l) e mid.store) (Tame s old (stepped t (run l)) e)
       (tame_fits s t old z l e mid found h)
-      (subst (λ (o : Option Session). StepSays q s old.store new e.queued (outdates o) (event_talks s (stepped t (run l)))
+      (subst (λ (o : Option Session). StepSays q s old.store new e.queued (outdates o)
+      (event_talks s (stepped t (run l)))
       (Fits s t old.store (behind_line rest z) (reading_of l) e mid.store)) (sym found)
-      (read_says q s taken y.0 y.1 sound.store.queries (changed_rising old t (behind_line rest) (λ k. refl) sound.rising)
+      (read_says q s taken y.0 y.1 sound.store.queries
+      (changed_rising old t (behind_line rest) (λ k. refl) sound.rising)
       registered (ap (λ (ws : List Bytes). list_any (λ w. bytes_eq w (listed_name q)) ws) y.2 ∙ watching)
       t (behind_line rest z) l e mid new same seq running (reading_of l) h.2.then
       (subst (λ (o : Option Session). StepTells q s old.store new e.queued (outdates o)) found tells)))
@@ -654,13 +708,16 @@ pub step_says : (q : Listed) (s : ℕ) (old : State) (event : Event) (e : Effect
     → Step old event e new → IsWatcher q s old → IsWatcher q s new
     → StepSays q s old.store new.store e.queued (event_changes q old event) (event_talks s event) (Tame s old event e)
 step_says q s old event e new sound h before behind =
-    let f = some_and (session_of old s) (λ x. (x.cause ≡ None) × (is_watching (listed_name q) x ≡ true)) before.watches in
-    let g = some_and (session_of new s) (λ x. (x.cause ≡ None) × (is_watching (listed_name q) x ≡ true)) behind.watches in
+    let f = some_and (session_of old s) (λ x. (x.cause ≡ None) × (is_watching (listed_name q) x ≡ true)) before.watches
+    in
+    let g = some_and (session_of new s) (λ x. (x.cause ≡ None) × (is_watching (listed_name q) x ≡ true)) behind.watches
+    in
     let running : cause_of h.mid s ≡ None = sym (stepped_cause old event e new h s) ∙ ap cause_in g.1 ∙ g.2.0 in
     let now : new.store ≡ record (h.mid).store { relations = h.relations } =
     ap (λ (st : State). st.store) h.queued ∙ queued_store (with_relations h.mid h.relations) e.queued in
     let same : SameAnswers (h.mid).store.relations new.store.relations q =
-    subst (λ (rs : List Relation). SameAnswers (h.mid).store.relations rs q) (sym (ap (λ (st : Store). st.relations) now))
+    subst (λ (rs : List Relation). SameAnswers (h.mid).store.relations rs q)
+    (sym (ap (λ (st : Store). st.relations) now))
     (reordered_same (h.mid).store.relations h.relations q h.reordered) in
     acts_say q s old f.0 f.1 sound before.registered f.2.1 event e h.mid new.store same
     (ap (λ (st : Store). st.seq) now) running h.acts (step_tells q s old event e new h before behind)
@@ -693,7 +750,8 @@ number_none q old event new (inr h) = step (not (new.store.seq == old.store.seq)
 number_one : (q : Listed) (old : State) (event : Event) (new : State) → new.store.seq ≡ old.store.seq + 1
     → event_changes q old event ≡ true → number_by q old event new ≡ new.store.seq ∷ []
 number_one q old event new e k =
-    let apart : (new.store.seq == old.store.seq) ≡ false = ne_eqb new.store.seq old.store.seq (λ same. omega (arith, e, same)) in
+    let apart : (new.store.seq == old.store.seq)
+    ≡ false = ne_eqb new.store.seq old.store.seq (λ same. omega (arith, e, same)) in
     rw (apart, k) refl
 
 -- what is told along a run, but for the order of the numbers
@@ -715,8 +773,10 @@ tells_more q s old d done new walk rs text (tells_none none same seq) h = record
   replies = rs ++ h.replies;
   whole = out_more s d done rs h.replies text h.whole;
   told = h.told;
-  exactly = filter-append (is_told_of (listed_name q)) rs h.replies ∙ ap₂ (λ (xs ys : List Reply). xs ++ ys) none h.exactly;
-  numbers = h.numbers ∙ ap (λ ns. ns ++ numbers_along q s walk.0 done new walk.2) (sym (number_none q old d.event walk.0 seq));
+  exactly = filter-append (is_told_of (listed_name q)) rs h.replies
+      ∙ ap₂ (λ (xs ys : List Reply). xs ++ ys) none h.exactly;
+  numbers = h.numbers ∙ ap (λ ns. ns ++ numbers_along q s walk.0 done new walk.2)
+      (sym (number_none q old d.event walk.0 seq));
   adds_up = λ ts l. h.adds_up ts (listing_stays old.store walk.0.store q ts same l);
 }
 tells_more q s old d done new walk rs text (tells_delta delta is tells seq counts) h =
@@ -725,10 +785,12 @@ tells_more q s old d done new walk rs text (tells_delta delta is tells seq count
       replies = rs ++ h.replies;
       whole = out_more s d done rs h.replies text h.whole;
       told = first ∷ h.told;
-      exactly = filter-append (is_told_of (listed_name q)) rs h.replies ∙ ap₂ (λ (xs ys : List Reply). xs ++ ys) tells h.exactly;
+      exactly = filter-append (is_told_of (listed_name q)) rs h.replies
+          ∙ ap₂ (λ (xs ys : List Reply). xs ++ ys) tells h.exactly;
       numbers = ap (λ ns. mid.store.seq ∷ ns) h.numbers
           ∙ ap (λ ns. ns ++ numbers_along q s mid done new walk.2) (sym (number_one q old d.event mid seq counts));
-      adds_up = λ ts l. h.adds_up (added_up ts delta) (deltas_add_up old.store.relations mid.store.relations q ts delta l is);
+      adds_up = λ ts l. h.adds_up (added_up ts delta)
+          (deltas_add_up old.store.relations mid.store.relations q ts delta l is);
     }
 
 tells_along : (q : Listed) (s : ℕ) (old : State) → IsSoundState old → (done : List Did) (new : State)

@@ -1,5 +1,6 @@
 -- The texts that a line of UTF-8 spells are of UTF-8.
-use Rattle.std.specs.Prelude.{ℕ, zero, suc, List, [], ◌∷◌, ◌++◌, ◌==◌, ◌≡◌, ◌<◌, ◌≤◌, ◌+◌, ◌/◌, ◌%◌, ◌||◌, ◌⊎◌, Bool, true, false, cond, length, IsUtf8}
+use Rattle.std.specs.Prelude.{ℕ, zero, suc, List, [], ◌∷◌, ◌++◌, ◌==◌, ◌≡◌, ◌<◌, ◌≤◌, ◌+◌, ◌/◌, ◌%◌}
+use Rattle.std.specs.Prelude.{◌||◌, ◌⊎◌, Bool, true, false, cond, length, IsUtf8}
 use Rattle.std.specs.List.{flat_map}
 use Rattle.std.specs.Str.{is_utf8, encode_utf8_all, all_scalars, IsCharBoundary}
 use Rattle.std.proofs.Common.{refl, sym, ap, ◌∙◌, subst, inl, inr, arith, append_assoc}
@@ -9,12 +10,17 @@ use Rattle.std.proofs.Math.Seq.{take-append_seam, drop-append_seam, get_or-appen
 use Rattle.std.proofs.lemmas.Bool.{eqb-true, cases_Bool, ltb-true, ltb-false, and_parts}
 use Rattle.std.proofs.lemmas.List.{length-append}
 use Rattle.std.proofs.lemmas.List.Elements.{All-head, All-tail}
-use Rattle.std.proofs.lemmas.Str.{IsUtf8-nil, IsUtf8-append, IsUtf8-encode, IsUtf8-take, IsUtf8-drop, IsUtf8-past_char, is_utf8-from_IsUtf8, IsCharBoundary-before_ascii, encode_ascii, IsUtf8-from_ascii, length-encode, len_utf8_bounds}
+use Rattle.std.proofs.lemmas.Str.{IsUtf8-nil, IsUtf8-append, IsUtf8-encode, IsUtf8-take}
+use Rattle.std.proofs.lemmas.Str.{IsUtf8-drop, IsUtf8-past_char, is_utf8-from_IsUtf8}
+use Rattle.std.proofs.lemmas.Str.{IsCharBoundary-before_ascii, encode_ascii, IsUtf8-from_ascii}
+use Rattle.std.proofs.lemmas.Str.{length-encode, len_utf8_bounds}
 use Rattle.std.proofs.lemmas.Str.Ascii.{IsAscii-nil, IsAscii-cons}
 use Rattle.djq_model.specs.Data.{Bytes}
 use Rattle.djq_model.specs.declared.query.Operator.{Operator}
-use Rattle.djq_model.specs.declared.query.Operator.TheVariants.{Less, LessOrEqual, Greater, GreaterOrEqual, Equal, NotEqual}
-use Rattle.djq_value.specs.Token.{Token, word, text, open_paren, close_paren, comma, arrow, operator, stray, ends_word, may_end}
+use Rattle.djq_model.specs.declared.query.Operator.TheVariants.{Less, LessOrEqual, Greater}
+use Rattle.djq_model.specs.declared.query.Operator.TheVariants.{GreaterOrEqual, Equal, NotEqual}
+use Rattle.djq_value.specs.Token.{Token, word, text, open_paren, close_paren, comma, arrow}
+use Rattle.djq_value.specs.Token.{operator, stray, ends_word, may_end}
 use Rattle.djq_value.specs.Spelling.{IsSpaces, IsSpelling, IsToken, MayFollow, sign_of, text_of}
 use Rattle.djq_value.specs.ValueText.{escaped}
 
@@ -78,8 +84,10 @@ escapes b = by (b == 34) (b == 92) (b == 10) refl refl refl
   where
     by : (k l m : Bool) → (b == 34) ≡ k → (b == 92) ≡ l → (b == 10) ≡ m → Escapes b
     by true l m e f g = let is = eqb-true b 34 e in behind_backslash (omega (arith, is)) 34 (omega arith) (rw e refl)
-    by false true m e f g = let is = eqb-true b 92 f in behind_backslash (omega (arith, is)) 92 (omega arith) (rw (e, f) refl)
-    by false false true e f g = let is = eqb-true b 10 g in behind_backslash (omega (arith, is)) 110 (omega arith) (rw (e, f, g) refl)
+    by false true m e f g = let is = eqb-true b 92 f in behind_backslash (omega (arith, is)) 92 (omega arith)
+        (rw (e, f) refl)
+    by false false true e f g = let is = eqb-true b 10 g in behind_backslash (omega (arith, is)) 110 (omega arith)
+        (rw (e, f, g) refl)
     by false false false e f g = as_is (rw (e, f, g) refl)
 
 first_same : (x y : ℕ) (xs ys : Bytes) → x ∷ xs ≡ y ∷ ys → (x ≡ y) × (xs ≡ ys)
@@ -142,11 +150,13 @@ front_escaped : (b : ℕ) (t : Bytes) → Escapes b → IsUtf8 (flat_map escaped
 front_escaped b t (behind_backslash lt x small k) u more =
     low_front b t lt (more t (omega arith) (behind_ascii x (flat_map escaped t) small
     (behind_ascii 92 (x ∷ flat_map escaped t) (omega arith) (subst IsUtf8 (ap (λ bs. bs ++ flat_map escaped t) k) u))))
-front_escaped b t (as_is k) u more = split (subst IsUtf8 (ap (λ bs. bs ++ flat_map escaped t) k) u) (cases_Bool (ltb b 128))
+front_escaped b t (as_is k) u more = split (subst IsUtf8 (ap (λ bs. bs ++ flat_map escaped t) k) u)
+    (cases_Bool (ltb b 128))
   where
     split : IsUtf8 (b ∷ flat_map escaped t) → (ltb b 128 ≡ true) ⊎ (ltb b 128 ≡ false) → IsUtf8 (b ∷ t)
     split v (inl small) =
-        let lt = ltb-true b 128 small in low_front b t lt (more t (omega arith) (behind_ascii b (flat_map escaped t) lt v))
+        let lt = ltb-true b 128 small in low_front b t lt
+        (more t (omega arith) (behind_ascii b (flat_map escaped t) lt v))
     split v (inr large) = high_front b t (ltb-false b 128 large) k v.0 v.1.0 v.1.1 more
 
 unescaped : (n : ℕ) (t : Bytes) → length t ≤ n → IsUtf8 (flat_map escaped t) → IsUtf8 t

@@ -23,7 +23,9 @@ use Rattle.std.proofs.lemmas.Grind.{flat_map-append}
 use Rattle.std.proofs.lemmas.List.Elements.{All-nil, All-cons, All-append}
 use Rattle.djq_model.specs.Data.{Bytes, Tuple}
 use Rattle.djq_model.specs.Listed.{Listed, listed_name}
-use Rattle.djq_lines.specs.declared.answer.EndLine.TheVariants.{Long as long_line, Slow as slow_line, Memory as memory_line}
+use Rattle.djq_lines.specs.declared.answer.EndLine.TheVariants.{Long as long_line}
+use Rattle.djq_lines.specs.declared.answer.EndLine.TheVariants.{Slow as slow_line}
+use Rattle.djq_lines.specs.declared.answer.EndLine.TheVariants.{Memory as memory_line}
 use Rattle.djq_lines.specs.declared.command.Command.{Command}
 use Rattle.djq_lines.specs.declared.held.HeldRow.{HeldRow}
 use Rattle.djq_lines.specs.declared.command.Command.TheVariants.{Add, Del, Done, Open, Next, Explain}
@@ -38,7 +40,8 @@ use Rattle.djq_machine.specs.Watch.{Delta, ChangeStep}
 use Rattle.djq_machine.specs.LineStep.{LineOutcome, long, blank, slow, no_room, run, ReadStep, FrontStep, behind_line}
 use Rattle.djq_machine.specs.Batch.{batch_outcome}
 use Rattle.djq_machine.specs.Command.{without_batch, AddStep, HoldStep, DoneStep, CommandStep}
-use Rattle.djq_machine.specs.Step.{Event, opened, fed, stepped, took, ended, closed, FedStep, TookStep, EndedStep, Acts, Step}
+use Rattle.djq_machine.specs.Step.{Event, opened, fed, stepped, took, ended, closed, FedStep}
+use Rattle.djq_machine.specs.Step.{TookStep, EndedStep, Acts, Step}
 use Rattle.djq_machine.specs.Gives.{CursorsGive}
 use Rattle.djq_machine.specs.Run.{Did, Run, to_session, out}
 use Rattle.djq_machine.specs.Call.{cause_of, cause_in}
@@ -53,7 +56,9 @@ use Rattle.djq_laws.proofs.Queueing.{stepped_cause}
 use Rattle.djq_laws.proofs.Sounding.{step_sound, states_are_sound}
 use Rattle.djq_told.specs.Sayable.{IsSayableStore, IsSayableState}
 use Rattle.djq_told.specs.Told.{replies_text}
-use Rattle.djq_told.specs.Mirrored.{Passes, IsMirrored, Reads, ReadersAreReadBack, AsksNoListing, SaysNoListing, WaitsAlong, ReadersAreMirrored, StartsAreMirrored, EndsNow, EndsAreMirrored}
+use Rattle.djq_told.specs.Mirrored.{Passes, IsMirrored, Reads, ReadersAreReadBack, AsksNoListing}
+use Rattle.djq_told.specs.Mirrored.{SaysNoListing, WaitsAlong, ReadersAreMirrored}
+use Rattle.djq_told.specs.Mirrored.{StartsAreMirrored, EndsNow, EndsAreMirrored}
 use Rattle.djq_told.proofs.Hearing.{all_heard, own_replies, text_append, change_heard}
 use Rattle.djq_told.proofs.Holding.{mirrored_are_held}
 use Rattle.djq_told.proofs.Mirrored.{IsWell, watchers_are_well}
@@ -105,8 +110,10 @@ nothing_heard ws e n ds = ap (λ (vs : List Bytes). all_heard vs n ds) e ∙ by 
     by (k ∷ ks) = by ks
 
 -- one that watches nothing
-module _ (s : ℕ) (old : State) (x : Session) (is : session_of old s ≡ Some x) (rising : AreRising old) (none : x.watches ≡ []) where
-  change_plain : (t : ℕ) (outcome : RowsOutcome) (store : Store) (reply : Bytes) (e : Effect) (mid : State) (U : Type 0) (f : OfForm reply false U)
+module _ (s : ℕ) (old : State) (x : Session) (is : session_of old s ≡ Some x) (rising : AreRising old)
+    (none : x.watches ≡ []) where
+  change_plain : (t : ℕ) (outcome : RowsOutcome) (store : Store) (reply : Bytes) (e : Effect) (mid : State) (U : Type 0)
+      (f : OfForm reply false U)
       → ChangeStep old t outcome store reply e mid → cause_of mid s ≡ None → (talk : Bool) → Plain s e.queued talk U
   change_plain t outcome store reply e mid U f h running talk = record {
     replies = own_replies s x.watches (t == s) f.reply;
@@ -126,7 +133,8 @@ module _ (s : ℕ) (old : State) (x : Session) (is : session_of old s ≡ Some x
       harmless_own true = All-cons IsHarmless f.reply [] (f.harmless refl) (All-nil IsHarmless)
       harmless_own false = All-nil IsHarmless
 
-module _ (s : ℕ) (old : State) (x : Session) (is : session_of old s ≡ Some x) (rising : AreRising old) (none : x.watches ≡ [])
+module _ (s : ℕ) (old : State) (x : Session) (is : session_of old s ≡ Some x) (rising : AreRising old)
+    (none : x.watches ≡ [])
     (t : ℕ) (y : Session) (l : Bytes) (e : Effect) (mid : State) (running : cause_of mid s ≡ None) where
   -- what is queued, where this is read
   abbrev PlainOf : Reading → Type 0
@@ -142,7 +150,8 @@ module _ (s : ℕ) (old : State) (x : Session) (is : session_of old s ≡ Some x
       (added_form old.store name row h.result h.store h.done (λ u. seq_small h.store mid left u.behind))
       h.change running ((t == s) && false)
   add_plain name row (Some held) h =
-      quiet_to s e.queued ((t == s) && false) (inr (t, false, held_replies old t (Some held) l name row e mid refl h, refl))
+      quiet_to s e.queued ((t == s) && false)
+      (inr (t, false, held_replies old t (Some held) l name row e mid refl h, refl))
 
   done_plain : (batch : Option (List HeldRow)) → y.batch ≡ batch
       → MatchOption batch ⊥ (λ held. DoneStep old t held e mid)
@@ -162,9 +171,11 @@ module _ (s : ℕ) (old : State) (x : Session) (is : session_of old s ≡ Some x
   command_plain Done h = done_plain y.batch refl h
   command_plain (Del name row) h =
       let left = change_store old t _ h.store _ e mid h.change in
-      change_plain s old x is rising none t (delete_outcome (row_out old.store.relations name row) h.result) h.store _ e mid
+      change_plain s old x is rising none t (delete_outcome (row_out old.store.relations name row) h.result) h.store _ e
+      mid
       (Fits s t old.store y (says_command (Del name row)) e mid.store)
-      (deleted_form old.store name row h.result h.store h.done (λ u. u.sound) (λ u. seq_small h.store mid left u.behind))
+      (deleted_form old.store name row h.result h.store h.done (λ u. u.sound)
+      (λ u. seq_small h.store mid left u.behind))
       h.change running ((t == s) && false)
   command_plain c h =
       quiet_to s e.queued ((t == s) && talks c) (inr (t, talks c, command_replies s old t y l c e mid tt h, refl))
@@ -188,22 +199,29 @@ tamed_plain s queued talk U V f k = record {
   fine = λ v. k.fine (f v);
 }
 
-module _ (s : ℕ) (old : State) (x : Session) (is : session_of old s ≡ Some x) (rising : AreRising old) (none : x.watches ≡ []) where
+module _ (s : ℕ) (old : State) (x : Session) (is : session_of old s ≡ Some x) (rising : AreRising old)
+    (none : x.watches ≡ []) where
   front_plain : (t : ℕ) (z : Session) → session_of old t ≡ Some z → (outcome : LineOutcome) (e : Effect) (mid : State)
       → cause_of mid s ≡ None → FrontStep old t z outcome e mid
       → Plain s e.queued (event_talks s (stepped t outcome)) (Tame s old (stepped t outcome) e)
   front_plain t z found long e mid running h =
-      quiet_to s e.queued false (ends_quiet s t end_long _ old e mid (of_form end_long (is_ended long_line) refl (λ name. refl) (λ u. (tt, tt))) h.1)
+      quiet_to s e.queued false
+      (ends_quiet s t end_long _ old e mid
+      (of_form end_long (is_ended long_line) refl (λ name. refl) (λ u. (tt, tt))) h.1)
   front_plain t z found (blank l) e mid running h = quiet_to s e.queued false (nothing_quiet s e h.1.then.0)
   front_plain t z found (slow l) e mid running h =
-      quiet_to s e.queued false (ends_quiet s t end_slow _ _ e mid (of_form end_slow (is_ended slow_line) refl (λ name. refl) (λ u. (tt, tt))) h.2.then)
+      quiet_to s e.queued false
+      (ends_quiet s t end_slow _ _ e mid (of_form end_slow (is_ended slow_line) refl (λ name. refl) (λ u. (tt, tt)))
+      h.2.then)
   front_plain t z found (no_room l) e mid running h =
       quiet_to s e.queued false
-      (ends_quiet s t end_memory _ _ e mid (of_form end_memory (is_ended memory_line) refl (λ name. refl) (λ u. (tt, tt))) h.2.then)
+      (ends_quiet s t end_memory _ _ e mid
+      (of_form end_memory (is_ended memory_line) refl (λ name. refl) (λ u. (tt, tt))) h.2.then)
   front_plain t z found (run l) e mid running h =
       let rest = h.2.rest in
       let y = changed_session old t (behind_line rest) (λ k. refl) (λ k. refl) s x is in
-      tamed_plain s e.queued (event_talks s (stepped t (run l))) (Fits s t old.store (behind_line rest z) (reading_of l) e mid.store)
+      tamed_plain s e.queued (event_talks s (stepped t (run l)))
+      (Fits s t old.store (behind_line rest z) (reading_of l) e mid.store)
       (Tame s old (stepped t (run l)) e) (tame_fits s t old z l e mid found h)
       (read_plain s (with_session old t (behind_line rest)) y.0 y.1
       (changed_rising old t (behind_line rest) (λ k. refl) rising) (y.2 ∙ none) t (behind_line rest z) l e mid running
@@ -269,7 +287,8 @@ explains_none s (stepped t (run l)) h = λ same. of (reading_of l) (h same)
 explains_none s event h = tt
 
 -- what is held stays, where nothing is told of the query
-plain_passes : (name : Bytes) (held : Held) (rs : List Reply) → All IsPlain rs → All IsHarmless rs → Passes name held rs held
+plain_passes : (name : Bytes) (held : Held) (rs : List Reply) → All IsPlain rs → All IsHarmless rs
+    → Passes name held rs held
 plain_passes name held rs plain harmless =
     passes_told name held held rs harmless
     (subst (λ (ts : List Reply). Passes name held ts held) (sym (none_of name rs plain)) refl)
@@ -284,7 +303,8 @@ record Waited (s : ℕ) (done : List Did) (new : State) : Type 0 where
   fine : IsSayableState new
   gives : CursorsGive new
 
-waited : (s : ℕ) (old : State) → IsSoundState old → IsSayableState old → CursorsGive old → (done : List Did) (new : State)
+waited : (s : ℕ) (old : State) → IsSoundState old → IsSayableState old → CursorsGive old
+    → (done : List Did) (new : State)
     → WaitsAlong s old done new → Waited s done new
 waited s old sound fine gives [] new walk = record {
   replies = [];
@@ -304,12 +324,14 @@ waited s old sound fine gives (d ∷ done) new walk =
     sym (stepped_cause old d.event d.effect walk.0 h.step s) ∙ ap cause_in g.1 ∙ g.2 in
     let one = acts_plain s old f.0 f.1 sound.rising f.2.1 d.event d.effect (h.step.mid) running h.step.acts in
     let more = waited s walk.0 (step_sound old d.event d.effect walk.0 h.step sound)
-    (step_sayable old d.event d.effect walk.0 h.step fine) (step_gives old d.event d.effect walk.0 h.step gives) done new walk.2 in
+    (step_sayable old d.event d.effect walk.0 h.step fine) (step_gives old d.event d.effect walk.0 h.step gives) done
+    new walk.2 in
     record {
       replies = one.replies ++ more.replies;
       whole = ap₂ (λ (xs ys : Bytes). xs ++ ys) one.text more.whole ∙ sym (text_append one.replies more.replies);
       plain = All-append IsPlain one.replies more.replies one.plain more.plain;
-      harmless = All-append IsHarmless one.replies more.replies (one.harmless (no_talk_event s d.event h.says)) more.harmless;
+      harmless = All-append IsHarmless one.replies more.replies (one.harmless (no_talk_event s d.event h.says))
+          more.harmless;
       printed = All-append IsFine one.replies more.replies
           (one.fine (record { sound = sound; fine = fine; no_tree = explains_none s d.event h.says })) more.printed;
       sound = more.sound;
@@ -329,7 +351,8 @@ readers_are_well q s first sound fine gives fore old done new h =
     let m = k.mirrored in record {
       mirrored = record {
         replies = w.replies ++ m.replies;
-        whole = out_append s fore done ∙ ap₂ (λ (xs ys : Bytes). xs ++ ys) w.whole m.whole ∙ sym (text_append w.replies m.replies);
+        whole = out_append s fore done ∙ ap₂ (λ (xs ys : Bytes). xs ++ ys) w.whole m.whole
+            ∙ sym (text_append w.replies m.replies);
         held = m.held;
         passes = passes_then (listed_name q) at_first at_first m.held w.replies m.replies
             (plain_passes (listed_name q) at_first w.replies w.plain w.harmless) m.passes;
@@ -346,7 +369,8 @@ starts_are_well : (start : State) → IsStart start → IsSayableStore start.sto
     (earlier : List Did) (first : State) → Run start earlier first → (fore : List Did) (old : State)
     (done : List Did) (new : State) → Reads q s first fore old done new → IsWell q s (fore ++ done) new
 starts_are_well start h said q s earlier first walk fore old done new reads =
-    readers_are_well q s first (states_are_sound start h earlier first walk) (states_are_sayable start h said earlier first walk)
+    readers_are_well q s first (states_are_sound start h earlier first walk)
+    (states_are_sayable start h said earlier first walk)
     (runs_give start earlier first walk (nothing_given start h)) fore old done new reads
 
 pub starts_are_mirrored : StartsAreMirrored
@@ -355,7 +379,8 @@ starts_are_mirrored start h said q s earlier first walk fore old done new reads 
 
 -- ---- as it ends
 
-end_quiet : {U : Type 0} (s : ℕ) (old : State) (event : Event) (e : Effect) (mid : State) → EndsNow s event → Acts old event e mid
+end_quiet : {U : Type 0} (s : ℕ) (old : State) (event : Event) (e : Effect) (mid : State) → EndsNow s event
+    → Acts old event e mid
     → IsQuiet s e.queued false U
 end_quiet s old (ended t) e mid now h =
     let f = some_and (session_of old t) (λ z. EndedStep old t z e mid) h in ended_quiet s old t f.0 e mid f.2

@@ -1,5 +1,7 @@
 -- What is left of a hypergraph weighs no more than what it was made of.
-use Rattle.std.specs.Prelude.{ℕ, zero, suc, List, [], ◌∷◌, ◌++◌, ◌==◌, ◌≡◌, ◌<◌, ◌≤◌, ◌+◌, ◌⊎◌, ◌||◌, Bool, true, false, cond, not, length, filter, slice_set, remove, AllPairs, Contains, All}
+use Rattle.std.specs.Prelude.{ℕ, zero, suc, List, [], ◌∷◌, ◌++◌, ◌==◌, ◌≡◌, ◌<◌, ◌≤◌, ◌+◌, ◌⊎◌}
+use Rattle.std.specs.Prelude.{◌||◌, Bool, true, false, cond, not, length, filter, slice_set, remove}
+use Rattle.std.specs.Prelude.{AllPairs, Contains, All}
 use Rattle.std.proofs.Common.{refl, sym, ap, ◌∙◌, subst, inl, inr, arith}
 use Rattle.std.proofs.lemmas.Bool.{eqb-true}
 use Rattle.std.proofs.lemmas.List.Elements.{All-nil, All-cons, All-head, All-tail, All-weaker, All-filter}
@@ -8,7 +10,8 @@ use Rattle.djq_hyper.specs.Hypergraph.{member, difference, edge_at, numbers_belo
 use Rattle.djq_hyper.specs.declared.step.Step.{Step}
 use Rattle.djq_hyper.specs.declared.step.Step.TheVariants.{Vertex, Edge}
 use Rattle.djq_hyper.specs.Gyo.{reduced, Leads}
-use Rattle.djq_deltas.proofs.Lists.{nothing_there, first_or_later, first_there, later_there, pairs_head, pairs_tail, pairs_join}
+use Rattle.djq_deltas.proofs.Lists.{nothing_there, first_or_later, first_there, later_there}
+use Rattle.djq_deltas.proofs.Lists.{pairs_head, pairs_tail, pairs_join}
 
 -- ---- totals
 
@@ -77,7 +80,8 @@ filter_less : {A : Type 0} (w : A → ℕ) (p : A → Bool) (xs : List A) → to
 filter_less w p [] = omega arith
 filter_less w p (x ∷ xs) = by (p x) (filter_less w p xs)
   where
-    by : (b : Bool) → total w (filter p xs) ≤ total w xs → total w (cond b (x ∷ filter p xs) (filter p xs)) ≤ w x + total w xs
+    by : (b : Bool) → total w (filter p xs) ≤ total w xs
+        → total w (cond b (x ∷ filter p xs) (filter p xs)) ≤ w x + total w xs
     by true h = omega (arith, h)
     by false h = omega (arith, h)
 
@@ -113,7 +117,8 @@ leads_less v E (Edge i j ∷ S) R h =
 set_holds : (P : List ℕ → Type 0) (E : List (List ℕ)) (i : ℕ) (e : List ℕ) → All P E → P e → All P (slice_set E i e)
 set_holds P [] i e h k = h
 set_holds P (x ∷ E) zero e h k = All-cons P e E k (All-tail P x E h)
-set_holds P (x ∷ E) (suc i) e h k = All-cons P x (slice_set E i e) (All-head P x E h) (set_holds P E i e (All-tail P x E h) k)
+set_holds P (x ∷ E) (suc i) e h k = All-cons P x (slice_set E i e) (All-head P x E h)
+    (set_holds P E i e (All-tail P x E h) k)
 
 remove_holds : (P : List ℕ → Type 0) (E : List (List ℕ)) (i : ℕ) → All P E → All P (remove E i)
 remove_holds P [] zero h = h
@@ -163,7 +168,8 @@ member_there : (x : ℕ) (xs : List ℕ) → member x xs ≡ true → Contains x
 member_there x [] e = absurd cc
 member_there x (y ∷ xs) e = by (x == y) refl e (λ k. member_there x xs k)
   where
-    by : (b : Bool) → (x == y) ≡ b → (b || member x xs) ≡ true → (member x xs ≡ true → Contains xs x) → Contains (y ∷ xs) x
+    by : (b : Bool) → (x == y) ≡ b → (b || member x xs) ≡ true → (member x xs ≡ true → Contains xs x)
+        → Contains (y ∷ xs) x
     by true k f more = first_there y xs x (sym (eqb-true x y k))
     by false k f more = later_there y xs x (more f)
 

@@ -62,8 +62,10 @@ same_read_back q s done whole at same h = record {
 reads_run : (q : Listed) (s : ℕ) (first : State) (fore : List Did) (old : State) (done : List Did) (at : State)
     → Reads q s first fore old done at → Run first fore old × Run old done at
 reads_run q s first fore old done at h = (
-  walk_as (WaitsStep s) (λ (o : State) (d : Did) (n : State). Step o d.event d.effect n) (λ o d n k. k.step) first fore old h.waits,
-  walk_as (WatchesStep q s) (λ (o : State) (d : Did) (n : State). Step o d.event d.effect n) (λ o d n k. k.step) old done at h.walk,
+  walk_as (WaitsStep s) (λ (o : State) (d : Did) (n : State). Step o d.event d.effect n) (λ o d n k. k.step) first fore
+      old h.waits,
+  walk_as (WatchesStep q s) (λ (o : State) (d : Did) (n : State). Step o d.event d.effect n) (λ o d n k. k.step) old
+      done at h.walk,
 )
 
 pub sessions_are_read_back : SessionsAreReadBack
@@ -97,4 +99,5 @@ sessions_are_read_back start h said q s whole at new r = by r.later r.leaves r.i
         (ap (λ (ds : List Did). out s ds) is ∙ first_out (d ∷ later)
         ∙ ap (λ (bytes : Bytes). out s done ++ (to_session s d.effect.queued ++ bytes)) behind.silent
         ∙ sym (out_append s done (d ∷ [])))
-        ((readers_are_read_back start h said q s r.earlier r.first r.comes r.fore r.old r.done at r.reads).1 d mid leaves.1 leaves.2)
+        ((readers_are_read_back start h said q s r.earlier r.first r.comes r.fore r.old r.done at r.reads).1 d mid
+        leaves.1 leaves.2)

@@ -6,7 +6,8 @@ use Rattle.djq_lines.specs.declared.limits.TheConstants.{HEAD_VARIABLES, LINE_BY
 use Rattle.djq_lines.specs.Reply.{line}
 use Rattle.djq_mirror.specs.declared.mode.TheConstants.{REPLY_LINE_BYTES}
 use Rattle.djq_mirror.specs.Inputs.{HasNoLf}
-use Rattle.djq_mirror.specs.Replies.{Reply, answer, changed, cyclic, not_connex, explained, joined, reply_text, IsPrinted}
+use Rattle.djq_mirror.specs.Replies.{Reply, answer, changed, cyclic, not_connex, explained, joined}
+use Rattle.djq_mirror.specs.Replies.{reply_text, IsPrinted}
 
 -- An answer has no more values than a head has variables, and the edges of a rest take no more bytes
 -- than a line may have. Of the lines that explain a tree nothing is said.

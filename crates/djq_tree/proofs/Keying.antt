@@ -1,5 +1,6 @@
 -- Group keys by the node's role.
-use Rattle.std.proofs.Common.{◌≡◌, ℕ, ◌-◌, ◌<◌, Bool, true, List, length, get_or, subst, Option, Some, None, IfSome, refl, ap, sym, ◌∙◌, arith, inl, inr}
+use Rattle.std.proofs.Common.{◌≡◌, ℕ, ◌-◌, ◌<◌, Bool, true, List, length, get_or, subst, Option}
+use Rattle.std.proofs.Common.{Some, None, IfSome, refl, ap, sym, ◌∙◌, arith, inl, inr}
 use Rattle.std.specs.Prelude.{◌==◌}
 use Rattle.std.proofs.Math.Bool.{or-true}
 use Rattle.std.proofs.lemmas.Bool.{cases_lt, cases_Bool, cases_eq, eq-eqb, ne_eqb, eqb-true, false≢true}
@@ -15,10 +16,12 @@ use Rattle.djq_tree.proofs.Finding.{lowest_is}
 use Rattle.djq_tree.proofs.Climbing.{parent_above, rising_of, no_parent}
 
 -- a node with this child is its parent
-pub parent_of_child : (t : Tree) (k j : ℕ) → IsTree t → has_child (node_at t.nodes k) j ≡ true → k < length t.nodes → parent t.nodes j ≡ Some k
+pub parent_of_child : (t : Tree) (k j : ℕ) → IsTree t → has_child (node_at t.nodes k) j ≡ true → k < length t.nodes
+    → parent t.nodes j ≡ Some k
 parent_of_child t k j s child within =
     lowest_is (λ i. has_child (node_at t.nodes i) j) 0 (length t.nodes) k (omega arith) (omega arith) child
-    (λ i from below. elim (cases_Bool (has_child (node_at t.nodes i) j)) [ inl same ↦ absurd (let e = s.one_parent j i k same child in omega arith) | inr other ↦ other ])
+    (λ i from below. elim (cases_Bool (has_child (node_at t.nodes i) j))
+    [ inl same ↦ absurd (let e = s.one_parent j i k same child in omega arith) | inr other ↦ other ])
 
 -- a node with a child is a node
 pub child_within : (nodes : List Node) (k j : ℕ) → has_child (node_at nodes k) j ≡ true → k < length nodes
@@ -37,7 +40,8 @@ guard_child nodes k g d e = rw (e, eq-eqb g g refl) refl
 pub side_child : (nodes : List Node) (k g d : ℕ) → node_at nodes k ≡ Meet g d → has_child (node_at nodes k) d ≡ true
 side_child nodes k g d e = rw (e, eq-eqb d d refl) (or-true (g == d))
 
-key_child : (t : Tree) (k j : ℕ) (n : Node) → IsTree t → node_at t.nodes k ≡ n → has_child (node_at t.nodes k) j ≡ true → key_of t j ≡ key_under t.labels j k n
+key_child : (t : Tree) (k j : ℕ) (n : Node) → IsTree t → node_at t.nodes k ≡ n → has_child (node_at t.nodes k) j ≡ true
+    → key_of t j ≡ key_under t.labels j k n
 key_child t k j n s e h = rw (parent_of_child t k j s h (child_within t.nodes k j h), e) refl
 
 -- the child of a trim is keyed by the trim's label
@@ -50,7 +54,8 @@ key_of_guard t k g d s e = key_child t k g (Meet g d) s e (guard_child t.nodes k
 
 -- a side is keyed by its own label
 pub key_of_side : (t : Tree) (k g d : ℕ) → IsTree t → node_at t.nodes k ≡ Meet g d → key_of t d ≡ label_at t.labels d
-key_of_side t k g d s e = key_child t k d (Meet g d) s e (side_child t.nodes k g d e) ∙ rw (ne_eqb g d (s.meet k g d e).apart) refl
+key_of_side t k g d s e = key_child t k d (Meet g d) s e (side_child t.nodes k g d e)
+    ∙ rw (ne_eqb g d (s.meet k g d e).apart) refl
 
 -- the root is keyed by its own label, which is empty
 pub key_of_root : (t : Tree) → IsTree t → key_of t (length t.nodes - 1) ≡ label_at t.labels (length t.nodes - 1)
@@ -59,18 +64,23 @@ key_of_root t s = rw (no_parent t.nodes (length t.nodes - 1) (rising_of t s) (om
 subset_same : (l : List ℕ) → subset l l ≡ true
 subset_same l = subset_from l l (λ x. omega arith)
 
-within_under : (t : Tree) (j k : ℕ) (n : Node) → IsTree t → node_at t.nodes k ≡ n → has_child n j ≡ true → subset (key_under t.labels j k n) (label_at t.labels j) ≡ true
+within_under : (t : Tree) (j k : ℕ) (n : Node) → IsTree t → node_at t.nodes k ≡ n → has_child n j ≡ true
+    → subset (key_under t.labels j k n) (label_at t.labels j) ≡ true
 within_under t j k (Leaf a) s e h = absurd cc
-within_under t j k (Trim c) s e h = ap (λ (i : ℕ). subset (label_at t.labels k) (label_at t.labels i)) (sym (eqb-true c j h)) ∙ (s.trim k c e).within
+within_under t j k (Trim c) s e h = ap (λ (i : ℕ). subset (label_at t.labels k) (label_at t.labels i))
+    (sym (eqb-true c j h)) ∙ (s.trim k c e).within
 within_under t j k (Meet g d) s e h =
     elim (cases_eq g j) [
-      | inl same ↦ rw (eq-eqb g j same) (ap (λ (i : ℕ). subset (label_at t.labels d) (label_at t.labels i)) (sym same) ∙ (s.meet k g d e).side)
+      | inl same ↦ rw (eq-eqb g j same)
+          (ap (λ (i : ℕ). subset (label_at t.labels d) (label_at t.labels i)) (sym same) ∙ (s.meet k g d e).side)
       | inr apart ↦ rw (ne_eqb g j apart) (subset_same (label_at t.labels j))
     ]
 
-within_by : (t : Tree) (j : ℕ) (o : Option ℕ) → IsTree t → parent t.nodes j ≡ o → subset (key_by t j o) (label_at t.labels j) ≡ true
+within_by : (t : Tree) (j : ℕ) (o : Option ℕ) → IsTree t → parent t.nodes j ≡ o
+    → subset (key_by t j o) (label_at t.labels j) ≡ true
 within_by t j None s e = subset_same (label_at t.labels j)
-within_by t j (Some k) s e = within_under t j k (node_at t.nodes k) s refl (parent_above t.nodes j k (rising_of t s) e).2
+within_by t j (Some k) s e = within_under t j k (node_at t.nodes k) s refl
+    (parent_above t.nodes j k (rising_of t s) e).2
 
 -- a key lies within the node's label
 pub key_within : (t : Tree) (j : ℕ) (l : List ℕ) → IsTree t → l ≡ key_of t j → subset l (label_at t.labels j) ≡ true
@@ -80,24 +90,31 @@ key_within t j l s e = ap (λ (k : List ℕ). subset k (label_at t.labels j)) e 
 pub parent_within : (t : Tree) (j k : ℕ) → IsTree t → parent t.nodes j ≡ Some k → (j < k) × (k < length t.nodes)
 parent_within t j k s e = let u = parent_above t.nodes j k (rising_of t s) e in (u.0, u.1)
 
-pub side_within : (t : Tree) (k g d : ℕ) → IsTree t → k < length t.nodes → Meet g d ≡ node_at t.nodes k → d < length t.nodes
+pub side_within : (t : Tree) (k g d : ℕ) → IsTree t → k < length t.nodes → Meet g d ≡ node_at t.nodes k
+    → d < length t.nodes
 side_within t k g d s within e = let i = (s.meet k g d (sym e)).side_lower in omega arith
 
-pub parent_read : (t : Tree) (j : ℕ) (o : Option ℕ) → IsTree t → o ≡ parent t.nodes j → IfSome o (λ k. (j < k) × (k < length t.nodes))
+pub parent_read : (t : Tree) (j : ℕ) (o : Option ℕ) → IsTree t → o ≡ parent t.nodes j
+    → IfSome o (λ k. (j < k) × (k < length t.nodes))
 parent_read t j None s e = tt
 parent_read t j (Some k) s e = parent_within t j k s (sym e)
 
-pub key_read_trim : (t : Tree) (j k c : ℕ) (o : Option ℕ) (n : Node) (l : List ℕ) → o ≡ parent t.nodes j → o ≡ Some k → n ≡ node_at t.nodes k → n ≡ Trim c → l ≡ label_at t.labels k → l ≡ key_of t j
+pub key_read_trim : (t : Tree) (j k c : ℕ) (o : Option ℕ) (n : Node) (l : List ℕ) → o ≡ parent t.nodes j → o ≡ Some k
+    → n ≡ node_at t.nodes k → n ≡ Trim c → l ≡ label_at t.labels k → l ≡ key_of t j
 key_read_trim t j k c o n l up some at is own = rw (sym up ∙ some, sym at ∙ is) own
 
-pub key_read_guard : (t : Tree) (j k g d : ℕ) (o : Option ℕ) (n : Node) (l : List ℕ) → o ≡ parent t.nodes j → o ≡ Some k → n ≡ node_at t.nodes k → n ≡ Meet g d → g ≡ j → l ≡ label_at t.labels d → l ≡ key_of t j
+pub key_read_guard : (t : Tree) (j k g d : ℕ) (o : Option ℕ) (n : Node) (l : List ℕ) → o ≡ parent t.nodes j → o ≡ Some k
+    → n ≡ node_at t.nodes k → n ≡ Meet g d → g ≡ j → l ≡ label_at t.labels d → l ≡ key_of t j
 key_read_guard t j k g d o n l up some at is same own = rw (sym up ∙ some, sym at ∙ is, eq-eqb g j same) own
 
 pub key_read_own : (t : Tree) (j : ℕ) (l : List ℕ) → l ≡ label_at t.labels j → subset l (label_at t.labels j) ≡ true
 key_read_own t j l own = ap (λ (k : List ℕ). subset k (label_at t.labels j)) own ∙ subset_same (label_at t.labels j)
 
 -- a node that has j as a child is its parent
-pub told_parent : (u t : Tree) (j k : ℕ) (n : Node) (b : Bool) → u ≡ t → IsTree u → k < length u.nodes → n ≡ get_or u.nodes k n → b ≡ has_child n j → b ≡ true → parent t.nodes j ≡ Some k
+pub told_parent : (u t : Tree) (j k : ℕ) (n : Node) (b : Bool) → u ≡ t → IsTree u → k < length u.nodes → n
+    ≡ get_or u.nodes k n → b ≡ has_child n j → b ≡ true → parent t.nodes j ≡ Some k
 told_parent u t j k n b same s within is tells has =
     subst (λ (v : Tree). parent v.nodes j ≡ Some k) same
-    (parent_of_child u k j s (ap (λ (m : Node). has_child m j) (sym (is ∙ get_or_default u.nodes k n (Leaf 0) within)) ∙ sym tells ∙ has) within)
+    (parent_of_child u k j s
+    (ap (λ (m : Node). has_child m j) (sym (is ∙ get_or_default u.nodes k n (Leaf 0) within)) ∙ sym tells ∙ has)
+    within)

@@ -1,5 +1,7 @@
 -- Where a path enters `out`.
-use Rattle.std.proofs.Common.{◌≡◌, ℕ, zero, suc, ◌+◌, ◌-◌, ◌<◌, ◌≤◌, Bool, true, false, cond, List, [], ◌∷◌, length, Option, Some, None, is_some, find, refl, ap, subst, sym, ◌∙◌, ◌⊎◌, arith, inl, inr}
+use Rattle.std.proofs.Common.{◌≡◌, ℕ, zero, suc, ◌+◌, ◌-◌, ◌<◌, ◌≤◌, Bool, true, false, cond, List}
+use Rattle.std.proofs.Common.{[], ◌∷◌, length, Option, Some, None, is_some, find, refl, ap, subst}
+use Rattle.std.proofs.Common.{sym, ◌∙◌, ◌⊎◌, arith, inl, inr}
 use Rattle.std.specs.Prelude.{nat_le, slice_index_or}
 use Rattle.std.proofs.lemmas.List.{get_or_read}
 use Rattle.std.proofs.lemmas.Bool.{cases_Bool, cases_eq, le-leb, lt-leb, leb-true}
@@ -10,7 +12,8 @@ use Rattle.djq_tree.specs.Tree.{Tree, IsTree, parent, climb, climb_on, path_of, 
 use Rattle.djq_tree.proofs.Climbing.{parent_above, rising_of, frontier_here}
 
 first_or : (k j : ℕ) (l : List ℕ) → 0 < has k (j ∷ l) → (k ≡ j) ⊎ (0 < has k l)
-first_or k j l h = elim (cases_eq k j) [ inl e ↦ inl e | inr apart ↦ inr (let o = has_other k j l apart in omega arith) ]
+first_or k j l h = elim (cases_eq k j)
+    [ inl e ↦ inl e | inr apart ↦ inr (let o = has_other k j l apart in omega arith) ]
 
 some_of : (o : Option ℕ) → is_some o ≡ true → (p : ℕ) × (o ≡ Some p)
 some_of None h = absurd cc
@@ -39,9 +42,11 @@ record OutFrom (t : Tree) (j k : ℕ) : Type 0 where
 out_here : (t : Tree) (j k : ℕ) → is_out t.out j ≡ true → k ≡ j → OutFrom t j k
 out_here t j k here e = record { out = ap (λ (i : ℕ). is_out t.out i) e ∙ here; high = omega arith }
 
-out_climb : (t : Tree) → IsTree t → (up : ℕ → List ℕ) (j k : ℕ) (o : Option ℕ) → parent t.nodes j ≡ o → is_out t.out j ≡ true
+out_climb : (t : Tree) → IsTree t → (up : ℕ → List ℕ) (j k : ℕ) (o : Option ℕ) → parent t.nodes j ≡ o → is_out t.out j
+    ≡ true
     → ((p : ℕ) → o ≡ Some p → 0 < has k (up p) → OutFrom t p k) → 0 < has k (climb_on up j o) → OutFrom t j k
-out_climb t s up j k None e here r h = elim (first_or k j [] h) [ inl same ↦ out_here t j k here same | inr none ↦ absurd (omega arith) ]
+out_climb t s up j k None e here r h = elim (first_or k j [] h)
+    [ inl same ↦ out_here t j k here same | inr none ↦ absurd (omega arith) ]
 out_climb t s up j k (Some p) e here r h =
     elim (first_or k j (up p) h) [
       | inl same ↦ out_here t j k here same
@@ -52,31 +57,38 @@ out_climb t s up j k (Some p) e here r h =
     ]
 
 -- from a node in `out` on, the whole path is in `out`
-out_on : (t : Tree) → IsTree t → (n j : ℕ) → is_out t.out j ≡ true → (k : ℕ) → 0 < has k (climb t.nodes n j) → OutFrom t j k
-out_on t s zero j here k h = elim (first_or k j [] h) [ inl same ↦ out_here t j k here same | inr none ↦ absurd (omega arith) ]
-out_on t s (suc n) j here k h = out_climb t s (climb t.nodes n) j k (parent t.nodes j) refl here (λ p e m. out_on t s n p (out_up t j p s here e) k m) h
+out_on : (t : Tree) → IsTree t → (n j : ℕ) → is_out t.out j ≡ true → (k : ℕ) → 0 < has k (climb t.nodes n j)
+    → OutFrom t j k
+out_on t s zero j here k h = elim (first_or k j [] h)
+    [ inl same ↦ out_here t j k here same | inr none ↦ absurd (omega arith) ]
+out_on t s (suc n) j here k h = out_climb t s (climb t.nodes n) j k (parent t.nodes j) refl here
+    (λ p e m. out_on t s n p (out_up t j p s here e) k m) h
 
 -- where the path from j enters `out` at f, the node k is on the right side of f
 record Split (t : Tree) (j f k : ℕ) : Type 0 where
   high : j ≤ f
   side : is_out t.out k ≡ nat_le f k
 
-split_out : (t : Tree) → IsTree t → (n j f k : ℕ) → is_out t.out j ≡ true → f ≡ j → 0 < has k (climb t.nodes n j) → Split t j f k
+split_out : (t : Tree) → IsTree t → (n j f k : ℕ) → is_out t.out j ≡ true → f ≡ j → 0 < has k (climb t.nodes n j)
+    → Split t j f k
 split_out t s n j f k here e h =
     let o = out_on t s n j here k h in
     let up = o.high in
     record { high = omega arith; side = o.out ∙ sym (le-leb f k (omega arith)) }
 
 split_below : (t : Tree) (j f k : ℕ) → is_out t.out j ≡ false → j < f → k ≡ j → Split t j f k
-split_below t j f k off low e = record { high = omega arith; side = ap (λ (i : ℕ). is_out t.out i) e ∙ off ∙ sym (lt-leb f k (omega arith)) }
+split_below t j f k off low e = record
+    { high = omega arith; side = ap (λ (i : ℕ). is_out t.out i) e ∙ off ∙ sym (lt-leb f k (omega arith)) }
 
 none_found : (b : Bool) (j f : ℕ) → b ≡ false → cond b (Some j) None ≡ Some f → ⊥
 none_found true j f x y = absurd cc
 none_found false j f x y = absurd cc
 
 -- at a node that isn't in `out` the path goes on at its parent
-split_climb : (t : Tree) → IsTree t → (up : ℕ → List ℕ) (j f k : ℕ) (o : Option ℕ) → parent t.nodes j ≡ o → is_out t.out j ≡ false
-    → ((p m : ℕ) → o ≡ Some p → find (λ i. is_out t.out i) (up p) ≡ Some f → 0 < has m (up p) → Split t p f m) → ((p : ℕ) → 0 < has p (up p))
+split_climb : (t : Tree) → IsTree t → (up : ℕ → List ℕ) (j f k : ℕ) (o : Option ℕ) → parent t.nodes j ≡ o
+    → is_out t.out j ≡ false
+    → ((p m : ℕ) → o ≡ Some p → find (λ i. is_out t.out i) (up p) ≡ Some f → 0 < has m (up p) → Split t p f m)
+    → ((p : ℕ) → 0 < has p (up p))
     → find (λ i. is_out t.out i) (climb_on up j o) ≡ Some f → 0 < has k (climb_on up j o) → Split t j f k
 split_climb t s up j f k None e off r first found h = absurd (none_found (is_out t.out j) j f off found)
 split_climb t s up j f k (Some p) e off r first found h =
@@ -90,7 +102,8 @@ split_climb t s up j f k (Some p) e off r first found h =
       | inr behind ↦ let q = r p k refl later behind in record { high = omega arith; side = q.side }
     ]
   where
-    goes_on : (b : Bool) → b ≡ false → cond b (Some j) (find (λ i. is_out t.out i) (up p)) ≡ Some f → find (λ i. is_out t.out i) (up p) ≡ Some f
+    goes_on : (b : Bool) → b ≡ false → cond b (Some j) (find (λ i. is_out t.out i) (up p)) ≡ Some f
+        → find (λ i. is_out t.out i) (up p) ≡ Some f
     goes_on true x y = absurd cc
     goes_on false x y = y
 
@@ -109,7 +122,8 @@ climb_first nodes (suc n) j = first_on (climb nodes n) j (parent nodes j)
     first_on up j None = omega (arith, has_here j j [] refl)
     first_on up j (Some p) = omega (arith, has_here j j (up p) refl)
 
-climb_out : (t : Tree) (n j f : ℕ) → is_out t.out j ≡ true → find (λ i. is_out t.out i) (climb t.nodes n j) ≡ Some f → f ≡ j
+climb_out : (t : Tree) (n j f : ℕ) → is_out t.out j ≡ true → find (λ i. is_out t.out i) (climb t.nodes n j) ≡ Some f → f
+    ≡ j
 climb_out t zero j f here h = found_first (λ i. is_out t.out i) j f [] here h
 climb_out t (suc n) j f here h = on (climb t.nodes n) (parent t.nodes j) h
   where
@@ -117,7 +131,8 @@ climb_out t (suc n) j f here h = on (climb t.nodes n) (parent t.nodes j) h
     on up None k = found_first (λ i. is_out t.out i) j f [] here k
     on up (Some p) k = found_first (λ i. is_out t.out i) j f (up p) here k
 
-split_on : (t : Tree) → IsTree t → (n j f k : ℕ) → find (λ i. is_out t.out i) (climb t.nodes n j) ≡ Some f → 0 < has k (climb t.nodes n j) → Split t j f k
+split_on : (t : Tree) → IsTree t → (n j f k : ℕ) → find (λ i. is_out t.out i) (climb t.nodes n j) ≡ Some f
+    → 0 < has k (climb t.nodes n j) → Split t j f k
 split_on t s zero j f k found h =
     elim (cases_Bool (is_out t.out j)) [
       | inl here ↦ split_out t s zero j f k here (climb_out t zero j f here found) h
@@ -126,15 +141,18 @@ split_on t s zero j f k found h =
 split_on t s (suc n) j f k found h =
     elim (cases_Bool (is_out t.out j)) [
       | inl here ↦ split_out t s (suc n) j f k here (climb_out t (suc n) j f here found) h
-      | inr off ↦ split_climb t s (climb t.nodes n) j f k (parent t.nodes j) refl off (λ p m e a b. split_on t s n p f m a b) (λ p. climb_first t.nodes n p) found h
+      | inr off ↦ split_climb t s (climb t.nodes n) j f k (parent t.nodes j) refl off
+          (λ p m e a b. split_on t s n p f m a b) (λ p. climb_first t.nodes n p) found h
     ]
 
 -- the first node in `out` splits the path
 pub frontier_splits : (t : Tree) (j f : ℕ) → IsTree t → IsFrontier t j f → SplitsPath t j f
-frontier_splits t j f s h k on = (split_on t s (length t.nodes) j f k h (from_true (member k (path_of t.nodes j)) on)).side
+frontier_splits t j f s h k on =
+    (split_on t s (length t.nodes) j f k h (from_true (member k (path_of t.nodes j)) on)).side
 
 -- the same for the node at which the walk stops
-pub walk_splits : (u t : Tree) (j f : ℕ) (b : Bool) → u ≡ t → IsTree u → f < length t.nodes → b ≡ slice_index_or u.out f b → b ≡ true
+pub walk_splits : (u t : Tree) (j f : ℕ) (b : Bool) → u ≡ t → IsTree u → f < length t.nodes → b
+    ≡ slice_index_or u.out f b → b ≡ true
     → find (λ k. is_out t.out k) (path_of t.nodes j) ≡ find (λ k. is_out t.out k) (path_of t.nodes f) → SplitsPath t j f
 walk_splits u t j f b same s within read out up =
     let tree = subst IsTree same s in

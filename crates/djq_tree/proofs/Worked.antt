@@ -11,13 +11,15 @@ text atoms variables H F n m =
     explain_of atoms variables (tree_of (length H) F (grow F n (start H)) (grow [] m (grow F n (start H))))
 
 -- a triangle with an atom that covers it
-covered : text (codes "r" ∷ codes "s" ∷ codes "t" ∷ codes "u" ∷ []) (codes "x" ∷ codes "y" ∷ codes "z" ∷ []) ((0 ∷ 1 ∷ []) ∷ (1 ∷ 2 ∷ []) ∷ (0 ∷ 2 ∷ []) ∷ (0 ∷ 1 ∷ 2 ∷ []) ∷ []) (0 ∷ 1 ∷ 2 ∷ []) 0 5
+covered : text (codes "r" ∷ codes "s" ∷ codes "t" ∷ codes "u" ∷ []) (codes "x" ∷ codes "y" ∷ codes "z" ∷ [])
+    ((0 ∷ 1 ∷ []) ∷ (1 ∷ 2 ∷ []) ∷ (0 ∷ 2 ∷ []) ∷ (0 ∷ 1 ∷ 2 ∷ []) ∷ []) (0 ∷ 1 ∷ 2 ∷ []) 0 5
     ≡ codes "n 0 leaf r x,y out\nn 1 leaf s y,z out\nn 2 leaf t x,z out\nn 3 leaf u x,y,z out\nn 4 meet 3 0 x,y,z out\nn 5 meet 4 1 x,y,z out\nn 6 trim 5 x,z out\nn 7 meet 2 6 x,z out\nn 8 trim 7 - out\n"
 unfolding grow digits
 covered = refl
 
 -- an atom within another
-contained : text (codes "r" ∷ codes "s" ∷ []) (codes "x" ∷ codes "y" ∷ []) ((0 ∷ 1 ∷ []) ∷ (1 ∷ []) ∷ []) (0 ∷ 1 ∷ []) 0 3
+contained : text (codes "r" ∷ codes "s" ∷ []) (codes "x" ∷ codes "y" ∷ []) ((0 ∷ 1 ∷ []) ∷ (1 ∷ []) ∷ []) (0 ∷ 1 ∷ []) 0
+    3
     ≡ codes "n 0 leaf r x,y out\nn 1 leaf s y out\nn 2 trim 0 y out\nn 3 meet 1 2 y out\nn 4 trim 3 - out\n"
 unfolding grow digits
 contained = refl
@@ -47,7 +49,8 @@ unfolding grow digits
 turned = refl
 
 -- holes, which are variables that are named alike
-holes : text (codes "r" ∷ codes "s" ∷ []) (codes "_" ∷ codes "y" ∷ codes "_" ∷ []) ((0 ∷ 1 ∷ []) ∷ (1 ∷ 2 ∷ []) ∷ []) (1 ∷ []) 2 2
+holes : text (codes "r" ∷ codes "s" ∷ []) (codes "_" ∷ codes "y" ∷ codes "_" ∷ []) ((0 ∷ 1 ∷ []) ∷ (1 ∷ 2 ∷ []) ∷ [])
+    (1 ∷ []) 2 2
     ≡ codes "n 0 leaf r _,y\nn 1 leaf s y,_\nn 2 trim 0 y out\nn 3 trim 1 y out\nn 4 meet 2 3 y out\nn 5 trim 4 - out\n"
 unfolding grow digits
 holes = refl

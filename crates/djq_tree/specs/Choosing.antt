@@ -1,6 +1,7 @@
 -- The planner's choice rule, on the labels of the current nodes in the order of their numbers. A place is a
 -- position in that list, so the lowest place is that of the node with the lowest number.
-use Rattle.std.specs.Prelude.{ℕ, Bool, not, ◌==◌, ◌&&◌, nat_lt, List, length, filter, Option, Some, None, is_some, unwrap_or}
+use Rattle.std.specs.Prelude.{ℕ, Bool, not, ◌==◌, ◌&&◌, nat_lt, List, length, filter, Option, Some}
+use Rattle.std.specs.Prelude.{None, is_some, unwrap_or}
 use Rattle.djq_hyper.specs.Hypergraph.{subset, difference, degree}
 use Rattle.djq_tree.specs.Labels.{label_at}
 use Rattle.djq_tree.specs.Lowest.{lowest_from}

@@ -1,6 +1,7 @@
 -- How the planner grows the tree of a query, step by step: the atoms are the leaves, and each later node is
 -- the step that the choice rule names for the nodes that are current before it.
-use Rattle.std.specs.Prelude.{◌≡◌, ℕ, zero, suc, ◌<◌, Bool, true, false, min, max, ◌==◌, ◌&&◌, ◌||◌, nat_le, List, [], ◌∷◌, ◌++◌, length, remove, slice_index}
+use Rattle.std.specs.Prelude.{◌≡◌, ℕ, zero, suc, ◌<◌, Bool, true, false, min, max, ◌==◌, ◌&&◌, ◌||◌}
+use Rattle.std.specs.Prelude.{nat_le, List, [], ◌∷◌, ◌++◌, length, remove, slice_index}
 use Rattle.std.specs.List.{list_all}
 pub use Rattle.djq_hyper.specs.Hypergraph.{numbers_below}
 use Rattle.djq_hyper.specs.Hypergraph.{member, subset, difference}

@@ -1,6 +1,8 @@
 -- Generalised join trees: Idris, Ugarte and Vansummeren (2017). Nodes are numbered from 0, and a node's
 -- children have lower numbers.
-use Rattle.std.specs.Prelude.{◌≡◌, ◌≢◌, ℕ, zero, suc, ◌+◌, ◌-◌, ◌<◌, ◌≤◌, Bool, true, false, ◌==◌, ◌||◌, nat_le, List, [], ◌∷◌, length, take, slice_index_or, find, Option, Some, None, is_some}
+use Rattle.std.specs.Prelude.{◌≡◌, ◌≢◌, ℕ, zero, suc, ◌+◌, ◌-◌, ◌<◌, ◌≤◌, Bool, true, false, ◌==◌}
+use Rattle.std.specs.Prelude.{◌||◌, nat_le, List, [], ◌∷◌, length, take, slice_index_or, find}
+use Rattle.std.specs.Prelude.{Option, Some, None, is_some}
 use Rattle.std.specs.Option.{ForSome}
 use Rattle.djq_hyper.specs.Hypergraph.{member, subset}
 use Rattle.djq_hyper.specs.Variables.{IsVariableSet, AreVariableSets}
@@ -67,7 +69,8 @@ pub record IsTop (nodes : List Node) (labels : List (List ℕ)) (x j : ℕ) : Ty
 -- the labels of the nodes in `out` have the variables of F, and no others
 pub record ShowsHead (F : List ℕ) (t : Tree) : Type 0 where
   pub within : (j : ℕ) → is_out t.out j ≡ true → subset (label_at t.labels j) F ≡ true
-  pub covered : (x : ℕ) → member x F ≡ true → (j : ℕ) × (is_out t.out j ≡ true) × (member x (label_at t.labels j) ≡ true)
+  pub covered : (x : ℕ) → member x F ≡ true → (j : ℕ) × (is_out t.out j ≡ true)
+      × (member x (label_at t.labels j) ≡ true)
 
 -- what holds of every tree
 pub record IsTree (t : Tree) : Type 0 where

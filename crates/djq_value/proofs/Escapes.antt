@@ -1,5 +1,7 @@
 -- How many bytes a text has with its escapes.
-use Rattle.std.proofs.Common.{◌≡◌, ◌+◌, ◌∷◌, ◌++◌, [], ℕ, List, length, cond, true, false, Bool, eqb, refl, ap, ◌∙◌, arith, length-append, count_by, ◌||◌, suc, ◌<◌, get_or, take, sym}
+use Rattle.std.proofs.Common.{◌≡◌, ◌+◌, ◌∷◌, ◌++◌, [], ℕ, List, length, cond, true, false, Bool}
+use Rattle.std.proofs.Common.{eqb, refl, ap, ◌∙◌, arith, length-append, count_by, ◌||◌, suc, ◌<◌}
+use Rattle.std.proofs.Common.{get_or, take, sym}
 use Rattle.std.proofs.lemmas.Bool.{ne_eqb}
 use Rattle.std.proofs.lemmas.List.{take_more}
 use Rattle.std.specs.List.{flat_map}
@@ -11,7 +13,9 @@ use Rattle.djq_value.proofs.Putting.{texts_more}
 length-escaped : (b : ℕ) → length (escaped b) ≡ cond (is_escaped b) 2 1
 length-escaped b = quote_first (eqb b 34) (eqb b 92) (eqb b 10)
   where
-    quote_first : (p q r : Bool) → length (cond p (92 ∷ 34 ∷ []) (cond q (92 ∷ 92 ∷ []) (cond r (92 ∷ 110 ∷ []) (b ∷ [])))) ≡ cond (p || q || r) 2 1
+    quote_first : (p q r : Bool)
+        → length (cond p (92 ∷ 34 ∷ []) (cond q (92 ∷ 92 ∷ []) (cond r (92 ∷ 110 ∷ []) (b ∷ []))))
+        ≡ cond (p || q || r) 2 1
     quote_first true q r = refl
     quote_first false true r = refl
     quote_first false false true = refl
@@ -25,16 +29,21 @@ pub length-flat_map-escaped : (t : List ℕ) → length (flat_map escaped t) ≡
 length-flat_map-escaped [] = refl
 length-flat_map-escaped (b ∷ bs) =
     length-append (escaped b) (flat_map escaped bs)
-    ∙ counted (is_escaped b) (length (escaped b)) (length (flat_map escaped bs)) (length bs) (count_by is_escaped bs) (count_by is_escaped (b ∷ bs)) (length-escaped b) (length-flat_map-escaped bs) (sum_by-cons (λ x. cond (is_escaped x) 1 0) b bs)
+    ∙ counted (is_escaped b) (length (escaped b)) (length (flat_map escaped bs)) (length bs) (count_by is_escaped bs)
+    (count_by is_escaped (b ∷ bs)) (length-escaped b) (length-flat_map-escaped bs)
+    (sum_by-cons (λ x. cond (is_escaped x) 1 0) b bs)
 
-plain_more : (p : Bool) (b : ℕ) (k m : ℕ) (here rest text : List ℕ) → m ≡ cond p 1 0 + k → m ≡ 0 → (p ≡ false → here ≡ b ∷ []) → (k ≡ 0 → rest ≡ text) → here ++ rest ≡ b ∷ text
+plain_more : (p : Bool) (b : ℕ) (k m : ℕ) (here rest text : List ℕ) → m ≡ cond p 1 0 + k → m ≡ 0
+    → (p ≡ false → here ≡ b ∷ []) → (k ≡ 0 → rest ≡ text) → here ++ rest ≡ b ∷ text
 plain_more true b k m here rest text e z h r = absurd (omega (arith, e, z))
-plain_more false b k m here rest text e z h r = ap (λ (xs : List ℕ). xs ++ rest) (h refl) ∙ ap (λ (xs : List ℕ). b ∷ xs) (r (omega (arith, e, z)))
+plain_more false b k m here rest text e z h r = ap (λ (xs : List ℕ). xs ++ rest) (h refl)
+    ∙ ap (λ (xs : List ℕ). b ∷ xs) (r (omega (arith, e, z)))
 
 pub plain_byte : (b : ℕ) → is_escaped b ≡ false → escaped b ≡ b ∷ []
 plain_byte b = none_of (eqb b 34) (eqb b 92) (eqb b 10)
   where
-    none_of : (p q r : Bool) → (p || q || r) ≡ false → cond p (92 ∷ 34 ∷ []) (cond q (92 ∷ 92 ∷ []) (cond r (92 ∷ 110 ∷ []) (b ∷ []))) ≡ b ∷ []
+    none_of : (p q r : Bool) → (p || q || r) ≡ false
+        → cond p (92 ∷ 34 ∷ []) (cond q (92 ∷ 92 ∷ []) (cond r (92 ∷ 110 ∷ []) (b ∷ []))) ≡ b ∷ []
     none_of true q r e = absurd (cc)
     none_of false true r e = absurd (cc)
     none_of false false true e = absurd (cc)
@@ -44,11 +53,13 @@ plain_byte b = none_of (eqb b 34) (eqb b 92) (eqb b 10)
 pub plain_text : (t : List ℕ) → count_by is_escaped t ≡ 0 → flat_map escaped t ≡ t
 plain_text [] z = refl
 plain_text (b ∷ bs) z =
-    plain_more (is_escaped b) b (count_by is_escaped bs) (count_by is_escaped (b ∷ bs)) (escaped b) (flat_map escaped bs) bs
+    plain_more (is_escaped b) b (count_by is_escaped bs) (count_by is_escaped (b ∷ bs)) (escaped b)
+    (flat_map escaped bs) bs
     (sum_by-cons (λ x. cond (is_escaped x) 1 0) b bs) z (plain_byte b) (plain_text bs)
 
 -- one more byte that needs no escape
-pub plain_longer : (t : List ℕ) (k b : ℕ) → k < length t → get_or t k 0 ≡ b → flat_map escaped (take k t) ≡ take k t → is_escaped b ≡ false
+pub plain_longer : (t : List ℕ) (k b : ℕ) → k < length t → get_or t k 0 ≡ b → flat_map escaped (take k t) ≡ take k t
+    → is_escaped b ≡ false
     → flat_map escaped (take (k + 1) t) ≡ take (k + 1) t
 plain_longer t k b h e so z =
     texts_more escaped t k 0 h
@@ -58,4 +69,9 @@ plain_longer t k b h e so z =
 
 -- no byte above the backslash needs an escape
 pub plain_above : (b : ℕ) → 92 < b → is_escaped b ≡ false
-plain_above b h = rw (ne_eqb b 34 (λ e. omega (arith, h, e)), ne_eqb b 92 (λ e. omega (arith, h, e)), ne_eqb b 10 (λ e. omega (arith, h, e))) refl
+plain_above b h = rw (
+  ne_eqb b 34 (λ e. omega (arith, h, e)),
+  ne_eqb b 92 (λ e. omega (arith, h, e)),
+  ne_eqb b 10
+      (λ e. omega (arith, h, e)),
+) refl

@@ -1,5 +1,8 @@
 -- How a text is scanned, byte by byte.
-use Rattle.std.proofs.Common.{◌≡◌, ℕ, ◌+◌, ◌<◌, ◌≤◌, ◌||◌, Bool, true, false, [], ◌∷◌, ◌++◌, length, Option, Some, None, refl, sym, ap, ◌∙◌, arith, append_assoc, length-append, subst, eqb, drop, take, get_or, drop-cons, add-one, length-take, count_by}
+use Rattle.std.proofs.Common.{◌≡◌, ℕ, ◌+◌, ◌<◌, ◌≤◌, ◌||◌, Bool, true, false, [], ◌∷◌, ◌++◌, length}
+use Rattle.std.proofs.Common.{Option, Some, None, refl, sym, ap, ◌∙◌, arith, append_assoc}
+use Rattle.std.proofs.Common.{length-append, subst, eqb, drop, take, get_or, drop-cons, add-one}
+use Rattle.std.proofs.Common.{length-take, count_by}
 use Rattle.std.specs.Prelude.{is_some}
 use Rattle.std.specs.List.{flat_map}
 use Rattle.std.proofs.Math.Seq.{take-append_seam}
@@ -24,19 +27,23 @@ put_front-nothing None = refl
 put_front-nothing (Some r) = refl
 
 -- one more byte
-put_front-more : (read : Bytes) (b : ℕ) (o : Option (Bytes × Bytes)) → put_front read (in_text (Some b) o) ≡ put_front (read ++ b ∷ []) o
+put_front-more : (read : Bytes) (b : ℕ) (o : Option (Bytes × Bytes)) → put_front read (in_text (Some b) o)
+    ≡ put_front (read ++ b ∷ []) o
 put_front-more read b None = refl
 put_front-more read b (Some r) = ap (λ xs. Some (xs, r.1)) (sym (append_assoc read (b ∷ []) r.0))
 
 pub put_front-byte : (whole : Option (Bytes × Bytes)) (read rest behind : Bytes) (escape : Bool) (b c : ℕ)
-    → whole ≡ put_front read (text_in escape rest) → rest ≡ b ∷ behind → text_in escape (b ∷ behind) ≡ in_text (Some c) (text_in false behind)
+    → whole ≡ put_front read (text_in escape rest) → rest ≡ b ∷ behind → text_in escape (b ∷ behind)
+    ≡ in_text (Some c) (text_in false behind)
     → whole ≡ put_front (read ++ c ∷ []) (text_in false behind)
-put_front-byte whole read rest behind escape b c e r s = e ∙ ap (λ xs. put_front read (text_in escape xs)) r ∙ ap (put_front read) s ∙ put_front-more read c (text_in false behind)
+put_front-byte whole read rest behind escape b c e r s = e ∙ ap (λ xs. put_front read (text_in escape xs)) r
+    ∙ ap (put_front read) s ∙ put_front-more read c (text_in false behind)
 
 pub has_read-none : (bytes : Bytes) → HasRead bytes 0 false bytes
 has_read-none bytes = record { read = []; split = put_front-nothing (text_in false bytes); counted = refl }
 
-pub has_read-byte : (bytes rest behind : Bytes) (count : ℕ) (escape : Bool) (b c : ℕ) → HasRead bytes count escape rest → rest ≡ b ∷ behind
+pub has_read-byte : (bytes rest behind : Bytes) (count : ℕ) (escape : Bool) (b c : ℕ) → HasRead bytes count escape rest
+    → rest ≡ b ∷ behind
     → text_in escape (b ∷ behind) ≡ in_text (Some c) (text_in false behind) → HasRead bytes (count + 1) false behind
 has_read-byte bytes rest behind count escape b c h r s = record {
   read = h.read ++ c ∷ [];
@@ -44,7 +51,8 @@ has_read-byte bytes rest behind count escape b c h r s = record {
   counted = omega (arith, h.counted, length-append h.read (c ∷ []));
 }
 
-pub has_read-backslash : (bytes rest behind : Bytes) (count : ℕ) (escape : Bool) (b : ℕ) → HasRead bytes count escape rest → rest ≡ b ∷ behind
+pub has_read-backslash : (bytes rest behind : Bytes) (count : ℕ) (escape : Bool) (b : ℕ)
+    → HasRead bytes count escape rest → rest ≡ b ∷ behind
     → text_in escape (b ∷ behind) ≡ text_in true behind → HasRead bytes count true behind
 has_read-backslash bytes rest behind count escape b h r s = record {
   read = h.read;
@@ -52,7 +60,8 @@ has_read-backslash bytes rest behind count escape b h r s = record {
   counted = h.counted;
 }
 
-pub has_read_as : (bytes rest : Bytes) (count n : ℕ) (escape e : Bool) → n ≡ count → e ≡ escape → HasRead bytes count escape rest → HasRead bytes n e rest
+pub has_read_as : (bytes rest : Bytes) (count n : ℕ) (escape e : Bool) → n ≡ count → e ≡ escape
+    → HasRead bytes count escape rest → HasRead bytes n e rest
 has_read_as bytes rest count n escape e same was h = record {
   read = h.read;
   split = h.split ∙ ap (λ x. put_front h.read (text_in x rest)) (sym was);
@@ -60,18 +69,21 @@ has_read_as bytes rest count n escape e same was h = record {
 }
 
 -- where so many bytes stand for themselves
-pub has_read-front : (bytes : Bytes) (n : ℕ) → n ≤ length bytes → text_in false bytes ≡ put_front (take n bytes) (text_in false (drop n bytes)) → HasRead bytes n false (drop n bytes)
+pub has_read-front : (bytes : Bytes) (n : ℕ) → n ≤ length bytes → text_in false bytes
+    ≡ put_front (take n bytes) (text_in false (drop n bytes)) → HasRead bytes n false (drop n bytes)
 has_read-front bytes n h e = record { read = take n bytes; split = e; counted = omega (arith, length-take n bytes, h) }
 
 -- a byte that stands for itself
-pub plain_step : (b : ℕ) (rest : Bytes) → is_escaped b ≡ false → text_in false (b ∷ rest) ≡ in_text (Some b) (text_in false rest)
+pub plain_step : (b : ℕ) (rest : Bytes) → is_escaped b ≡ false → text_in false (b ∷ rest)
+    ≡ in_text (Some b) (text_in false rest)
 plain_step b rest h =
     let feed = or_parts (eqb b 34 || eqb b 92) (eqb b 10) h in
     let back = or_parts (eqb b 34) (eqb b 92) feed.0 in
     cond-false _ _ _ back.0 ∙ cond-false _ _ _ back.1 ∙ cond-false _ _ _ feed.1
 
 pub plain_more : (bytes : Bytes) (n : ℕ) → n < length bytes → is_escaped (get_or bytes n 0) ≡ false
-    → text_in false bytes ≡ put_front (take n bytes) (text_in false (drop n bytes)) → text_in false bytes ≡ put_front (take (n + 1) bytes) (text_in false (drop (n + 1) bytes))
+    → text_in false bytes ≡ put_front (take n bytes) (text_in false (drop n bytes)) → text_in false bytes
+    ≡ put_front (take (n + 1) bytes) (text_in false (drop (n + 1) bytes))
 plain_more bytes n h plain e =
     let b = get_or bytes n 0 in
     let rest = drop (n + 1) bytes in
@@ -86,8 +98,19 @@ has_text bs end n h = (ap is_some h.0, h.1)
 pub plain_piece : (bs : Bytes) (end n : ℕ) → EndsAt bs end n → end ≡ n + 1 → take n bs ≡ text_at bs
 plain_piece bs end n h e =
     let t = text_at bs in
-    let spelled : bs ≡ flat_map escaped t ++ 34 ∷ drop end bs = subst (IsSpelledText false bs) h.0 (text_spelled false bs) in
+    let spelled : bs ≡ flat_map escaped t ++ 34 ∷ drop end bs = subst (IsSpelledText false bs) h.0
+    (text_spelled false bs) in
     let none : count_by is_escaped t ≡ 0 =
-    omega (arith, e, h.1, h.2, length-flat_map-escaped t, length-drop end bs, ap length spelled, length-append (flat_map escaped t) (34 ∷ drop end bs)) in
+    omega (
+      arith,
+      e,
+      h.1,
+      h.2,
+      length-flat_map-escaped t,
+      length-drop end bs,
+      ap length spelled,
+      length-append
+          (flat_map escaped t) (34 ∷ drop end bs),
+    ) in
     let whole : bs ≡ t ++ 34 ∷ drop end bs = spelled ∙ ap (λ xs. xs ++ 34 ∷ drop end bs) (plain_text t none) in
     ap (λ m. take m bs) (sym h.1) ∙ ap (take (length t)) whole ∙ take-append_seam t (34 ∷ drop end bs)

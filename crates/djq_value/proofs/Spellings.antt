@@ -1,12 +1,19 @@
 -- The tokens of a line are those that it spells.
-use Rattle.std.proofs.Common.{◌≡◌, ℕ, zero, suc, ◌≤◌, Bool, true, false, cond, not, ◌||◌, List, [], ◌∷◌, ◌++◌, append_assoc, length, Option, Some, None, refl, sym, ap, ap₂, subst, ◌∙◌, arith, eqb, All, ◌↔◌, inl, inr}
+use Rattle.std.proofs.Common.{◌≡◌, ℕ, zero, suc, ◌≤◌, Bool, true, false, cond, not, ◌||◌, List, []}
+use Rattle.std.proofs.Common.{◌∷◌, ◌++◌, append_assoc, length, Option, Some, None, refl, sym, ap}
+use Rattle.std.proofs.Common.{ap₂, subst, ◌∙◌, arith, eqb, All, ◌↔◌, inl, inr}
 use Rattle.std.proofs.lemmas.List.{append-nil}
 use Rattle.std.proofs.lemmas.List.Elements.{All-nil, All-cons, All-head, All-tail}
 use Rattle.std.proofs.lemmas.List.Sums.{take_while-cons}
-use Rattle.std.proofs.lemmas.Bool.{cond-true, cond-false, cond_both, cases_Bool, eqb-true, eq-eqb, ne_eqb, eqb-false, or_parts, or_from}
+use Rattle.std.proofs.lemmas.Bool.{cond-true, cond-false, cond_both, cases_Bool, eqb-true, eq-eqb}
+use Rattle.std.proofs.lemmas.Bool.{ne_eqb, eqb-false, or_parts, or_from}
 use Rattle.djq_model.specs.Data.{Bytes}
-use Rattle.djq_model.specs.declared.query.Operator.TheVariants.{Less, LessOrEqual, Greater, GreaterOrEqual, Equal, NotEqual}
-use Rattle.djq_value.specs.Token.{Token, word, text, open_paren, close_paren, comma, arrow, operator, stray, ends_word, may_end, behind_spaces, behind_word, word_front, less_front, greater_front, not_front, text_front, text_in, token_front, token_at, and_then, tokens_within, tokens}
+use Rattle.djq_model.specs.declared.query.Operator.TheVariants.{Less, LessOrEqual, Greater}
+use Rattle.djq_model.specs.declared.query.Operator.TheVariants.{GreaterOrEqual, Equal, NotEqual}
+use Rattle.djq_value.specs.Token.{Token, word, text, open_paren, close_paren, comma, arrow}
+use Rattle.djq_value.specs.Token.{operator, stray, ends_word, may_end, behind_spaces, behind_word}
+use Rattle.djq_value.specs.Token.{word_front, less_front, greater_front, not_front, text_front}
+use Rattle.djq_value.specs.Token.{text_in, token_front, token_at, and_then, tokens_within, tokens}
 use Rattle.djq_value.specs.Spelling.{HasNoStray, IsSpaces, IsToken, BeginsOtherwise, MayFollow, IsSpelling, text_of}
 use Rattle.djq_value.specs.ValueText.{escaped}
 use Rattle.std.specs.Prelude.{unwrap_or}
@@ -25,7 +32,8 @@ front_go c cs e = take_while-cons (λ b. not (ends_word b)) c cs ∙ cond-true _
 spaces_passed : (front bs : Bytes) → IsSpaces front → behind_spaces (front ++ bs) ≡ behind_spaces bs
 spaces_passed [] bs h = refl
 spaces_passed (b ∷ front) bs h =
-    cond-true _ _ _ (eq-eqb b 32 (All-head (λ x. x ≡ 32) b front h)) ∙ spaces_passed front bs (All-tail (λ x. x ≡ 32) b front h)
+    cond-true _ _ _ (eq-eqb b 32 (All-head (λ x. x ≡ 32) b front h))
+    ∙ spaces_passed front bs (All-tail (λ x. x ≡ 32) b front h)
 
 front_all : (w behind : Bytes) → All (λ b. ends_word b ≡ false) w → may_end behind ≡ true → word_front (w ++ behind) ≡ w
 front_all [] [] h f = refl
@@ -34,7 +42,8 @@ front_all (b ∷ w) behind h f =
     front_go b (w ++ behind) (All-head (λ x. ends_word x ≡ false) b w h)
     ∙ ap (λ xs. b ∷ xs) (front_all w behind (All-tail (λ x. ends_word x ≡ false) b w h) f)
 
-behind_all : (w behind : Bytes) → All (λ b. ends_word b ≡ false) w → may_end behind ≡ true → behind_word (w ++ behind) ≡ behind
+behind_all : (w behind : Bytes) → All (λ b. ends_word b ≡ false) w → may_end behind ≡ true → behind_word (w ++ behind)
+    ≡ behind
 behind_all [] [] h f = refl
 behind_all [] (b ∷ bs) h f = cond-true _ _ _ f
 behind_all (b ∷ w) behind h f =
@@ -54,16 +63,29 @@ pub record IsInner (b : ℕ) : Type 0 where
 
 pub inner : (b : ℕ) → ends_word b ≡ false → IsInner b
 inner b e =
-    let at_greater = or_parts (eqb b 32 || eqb b 33 || eqb b 40 || eqb b 41 || eqb b 44 || eqb b 60 || eqb b 61) (eqb b 62) e in
-    let at_equals = or_parts (eqb b 32 || eqb b 33 || eqb b 40 || eqb b 41 || eqb b 44 || eqb b 60) (eqb b 61) at_greater.0 in
+    let at_greater = or_parts (eqb b 32 || eqb b 33 || eqb b 40 || eqb b 41 || eqb b 44 || eqb b 60 || eqb b 61)
+    (eqb b 62) e in
+    let at_equals = or_parts (eqb b 32 || eqb b 33 || eqb b 40 || eqb b 41 || eqb b 44 || eqb b 60) (eqb b 61)
+    at_greater.0 in
     let at_angle = or_parts (eqb b 32 || eqb b 33 || eqb b 40 || eqb b 41 || eqb b 44) (eqb b 60) at_equals.0 in
     let at_comma = or_parts (eqb b 32 || eqb b 33 || eqb b 40 || eqb b 41) (eqb b 44) at_angle.0 in
     let at_close = or_parts (eqb b 32 || eqb b 33 || eqb b 40) (eqb b 41) at_comma.0 in
     let at_open = or_parts (eqb b 32 || eqb b 33) (eqb b 40) at_close.0 in
     let at_bang = or_parts (eqb b 32) (eqb b 33) at_open.0 in
-    record { space = at_bang.0; bang = at_bang.1; open_sign = at_open.1; close_sign = at_close.1; comma_sign = at_comma.1; angle = at_angle.1; equals = at_equals.1; greater = at_greater.1 }
+    record {
+      space = at_bang.0;
+      bang = at_bang.1;
+      open_sign = at_open.1;
+      close_sign = at_close.1;
+      comma_sign =
+          at_comma.1;
+      angle = at_angle.1;
+      equals = at_equals.1;
+      greater = at_greater.1;
+    }
 
-text_read_front : (t behind : Bytes) → may_end behind ≡ true → text_front (text_in false ((flat_map escaped t ++ 34 ∷ []) ++ behind)) ≡ (text t, behind)
+text_read_front : (t behind : Bytes) → may_end behind ≡ true
+    → text_front (text_in false ((flat_map escaped t ++ 34 ∷ []) ++ behind)) ≡ (text t, behind)
 text_read_front t behind f =
     ap (λ xs. text_front (text_in false xs)) (append_assoc (flat_map escaped t) (34 ∷ []) behind)
     ∙ ap text_front (text_read t behind) ∙ cond-true _ _ _ f
@@ -72,13 +94,15 @@ text_read_front t behind f =
 less_read : (bs : Bytes) → BeginsOtherwise 45 bs → BeginsOtherwise 61 bs → less_front bs ≡ (operator Less, bs)
 less_read [] h k = refl
 less_read (b ∷ bs) h k =
-    cond-false _ _ _ (ne_eqb b 45 (λ e. h (ap (λ x. Some x) e))) ∙ cond-false _ _ _ (ne_eqb b 61 (λ e. k (ap (λ x. Some x) e)))
+    cond-false _ _ _ (ne_eqb b 45 (λ e. h (ap (λ x. Some x) e)))
+    ∙ cond-false _ _ _ (ne_eqb b 61 (λ e. k (ap (λ x. Some x) e)))
 
 greater_read : (bs : Bytes) → BeginsOtherwise 61 bs → greater_front bs ≡ (operator Greater, bs)
 greater_read [] h = refl
 greater_read (b ∷ bs) h = cond-false _ _ _ (ne_eqb b 61 (λ e. h (ap (λ x. Some x) e)))
 
-pub token_read : (t : Token) (behind : Bytes) → IsToken t → MayFollow t behind → token_front (text_of t ++ behind) ≡ Some (t, behind)
+pub token_read : (t : Token) (behind : Bytes) → IsToken t → MayFollow t behind → token_front (text_of t ++ behind)
+    ≡ Some (t, behind)
 token_read open_paren behind h f = refl
 token_read close_paren behind h f = refl
 token_read comma behind h f = refl
@@ -96,7 +120,8 @@ token_read (word (b ∷ w)) behind h f =
     let here = inner b (All-head (λ x. ends_word x ≡ false) b w h.1) in
     let more = All-tail (λ x. ends_word x ≡ false) b w h.1 in
     ap (λ p. Some p)
-    (cond-false _ _ _ here.open_sign ∙ cond-false _ _ _ here.close_sign ∙ cond-false _ _ _ here.comma_sign ∙ cond-false _ _ _ here.angle
+    (cond-false _ _ _ here.open_sign ∙ cond-false _ _ _ here.close_sign ∙ cond-false _ _ _ here.comma_sign
+    ∙ cond-false _ _ _ here.angle
     ∙ cond-false _ _ _ here.equals ∙ cond-false _ _ _ here.greater ∙ cond-false _ _ _ here.bang
     ∙ cond-false _ _ _ (ne_eqb b 34 h.2)
     ∙ ap₂ (λ (xs ys : Bytes). (word (b ∷ xs), ys)) (front_all w behind more f) (behind_all w behind more f))
@@ -118,12 +143,14 @@ no_space (word []) behind h = absurd (omega (arith, h.0))
 no_space (word (b ∷ w)) behind h = cond-false _ _ _ (inner b (All-head (λ x. ends_word x ≡ false) b w h.1)).space
 
 pub spelled_read : (ts : List Token) (line : Bytes) → IsSpelling ts line → tokens line ≡ ts
-spelled_read [] line s = tokens-none line (ap token_front (ap behind_spaces (sym (append-nil line)) ∙ spaces_passed line [] s))
+spelled_read [] line s = tokens-none line
+    (ap token_front (ap behind_spaces (sym (append-nil line)) ∙ spaces_passed line [] s))
 spelled_read (t ∷ ts) line s =
     let front = s.0 in
     let behind = s.1 in
     tokens-some line t behind
-    (ap token_at s.3 ∙ ap token_front (spaces_passed front (text_of t ++ behind) s.2 ∙ no_space t behind s.4) ∙ token_read t behind s.4 s.5)
+    (ap token_at s.3 ∙ ap token_front (spaces_passed front (text_of t ++ behind) s.2 ∙ no_space t behind s.4)
+    ∙ token_read t behind s.4 s.5)
     ∙ ap (λ more. t ∷ more) (spelled_read ts behind s.6)
 
 -- From tokens that are read to tokens that are spelled.
@@ -132,8 +159,14 @@ pub cut_spaces : (bs : Bytes) → (front : Bytes) × IsSpaces front × (bs ≡ f
 cut_spaces [] = ([], All-nil (λ x. x ≡ 32), refl)
 cut_spaces (b ∷ bs) = cut (eqb b 32) refl (cut_spaces bs)
   where
-    cut : (t : Bool) → t ≡ eqb b 32 → ((front : Bytes) × IsSpaces front × (bs ≡ front ++ behind_spaces bs)) → (front : Bytes) × IsSpaces front × (b ∷ bs ≡ front ++ cond t (behind_spaces bs) (b ∷ bs))
-    cut true e more = (b ∷ more.0, All-cons (λ x. x ≡ 32) b more.0 (eqb-true b 32 (sym e)) more.1, ap (λ xs. b ∷ xs) more.2)
+    cut : (t : Bool) → t ≡ eqb b 32 → ((front : Bytes) × IsSpaces front × (bs ≡ front ++ behind_spaces bs))
+        → (front : Bytes) × IsSpaces front × (b ∷ bs ≡ front ++ cond t (behind_spaces bs) (b ∷ bs))
+    cut true e more = (
+      b ∷ more.0,
+      All-cons (λ x. x ≡ 32) b more.0 (eqb-true b 32 (sym e)) more.1,
+      ap (λ xs. b ∷ xs)
+          more.2,
+    )
     cut false e more = ([], All-nil (λ x. x ≡ 32), refl)
 
 -- bytes that begin with no space
@@ -143,7 +176,8 @@ HasNoSpaceFirst (b ∷ bs) = eqb b 32 ≡ false
 
 pub no_space_first : (bs : Bytes) → HasNoSpaceFirst (behind_spaces bs)
 no_space_first [] = tt
-no_space_first (b ∷ bs) = cond_both (eqb b 32) (behind_spaces bs) (b ∷ bs) HasNoSpaceFirst (λ e. no_space_first bs) (λ e. e)
+no_space_first (b ∷ bs) = cond_both (eqb b 32) (behind_spaces bs) (b ∷ bs) HasNoSpaceFirst (λ e. no_space_first bs)
+    (λ e. e)
 
 -- a token in front of bytes, and what is behind it
 abbrev pub IsCut : Bytes → Token → Bytes → Type 0
@@ -161,23 +195,29 @@ word_cut : (cs : Bytes) → cs ≡ word_front cs ++ behind_word cs
 word_cut [] = refl
 word_cut (c ∷ cs) = elim (cases_Bool (ends_word c)) [
   | inl ends ↦ sym (ap₂ (λ (xs ys : Bytes). xs ++ ys) (front_stop c cs ends) (cond-true _ _ _ ends))
-  | inr more ↦ ap (λ xs. c ∷ xs) (word_cut cs) ∙ sym (ap₂ (λ (xs ys : Bytes). xs ++ ys) (front_go c cs more) (cond-false _ _ _ more))
+  | inr more ↦ ap (λ xs. c ∷ xs) (word_cut cs)
+      ∙ sym (ap₂ (λ (xs ys : Bytes). xs ++ ys) (front_go c cs more) (cond-false _ _ _ more))
 ]
 
 word_all : (cs : Bytes) → All (λ b. ends_word b ≡ false) (word_front cs)
 word_all [] = All-nil (λ b. ends_word b ≡ false)
 word_all (c ∷ cs) = elim (cases_Bool (ends_word c)) [
-  | inl ends ↦ subst (λ (xs : Bytes). All (λ b. ends_word b ≡ false) xs) (sym (front_stop c cs ends)) (All-nil (λ b. ends_word b ≡ false))
-  | inr more ↦ subst (λ (xs : Bytes). All (λ b. ends_word b ≡ false) xs) (sym (front_go c cs more)) (All-cons (λ b. ends_word b ≡ false) c (word_front cs) more (word_all cs))
+  | inl ends ↦ subst (λ (xs : Bytes). All (λ b. ends_word b ≡ false) xs) (sym (front_stop c cs ends))
+      (All-nil (λ b. ends_word b ≡ false))
+  | inr more ↦ subst (λ (xs : Bytes). All (λ b. ends_word b ≡ false) xs) (sym (front_go c cs more))
+      (All-cons (λ b. ends_word b ≡ false) c (word_front cs) more (word_all cs))
 ]
 
 word_end : (cs : Bytes) → may_end (behind_word cs) ≡ true
 word_end [] = refl
-word_end (c ∷ cs) = cond_both (ends_word c) (c ∷ cs) (behind_word cs) (λ xs. may_end xs ≡ true) (λ e. e) (λ e. word_end cs)
+word_end (c ∷ cs) = cond_both (ends_word c) (c ∷ cs) (behind_word cs) (λ xs. may_end xs ≡ true) (λ e. e)
+    (λ e. word_end cs)
 
-inner_first : (b : ℕ) → eqb b 32 ≡ false → eqb b 33 ≡ false → eqb b 40 ≡ false → eqb b 41 ≡ false → eqb b 44 ≡ false → eqb b 60 ≡ false → eqb b 61 ≡ false
+inner_first : (b : ℕ) → eqb b 32 ≡ false → eqb b 33 ≡ false → eqb b 40 ≡ false → eqb b 41 ≡ false → eqb b 44 ≡ false
+    → eqb b 60 ≡ false → eqb b 61 ≡ false
     → eqb b 62 ≡ false → ends_word b ≡ false
-inner_first b e f g h i j k l = or_from _ _ (or_from _ _ (or_from _ _ (or_from _ _ (or_from _ _ (or_from _ _ (or_from _ _ e f) g) h) i) j) k) l
+inner_first b e f g h i j k l = or_from _ _
+    (or_from _ _ (or_from _ _ (or_from _ _ (or_from _ _ (or_from _ _ (or_from _ _ e f) g) h) i) j) k) l
 
 -- bytes that begin with another one
 begins_otherwise : (b c : ℕ) (bs : Bytes) → eqb c b ≡ false → BeginsOtherwise b (c ∷ bs)
@@ -205,15 +245,21 @@ not_first b (c ∷ cs) e =
     (λ is _. (ap₂ (λ (x y : ℕ). x ∷ y ∷ cs) e (eqb-true c 61 is), tt, tt))
     (λ no real. absurd real)
 
-text_first : (b : ℕ) (cs : Bytes) (o : Option (Bytes × Bytes)) → b ≡ 34 → IsSpelledText false cs o → IsFirstToken (b ∷ cs) (text_front o)
+text_first : (b : ℕ) (cs : Bytes) (o : Option (Bytes × Bytes)) → b ≡ 34 → IsSpelledText false cs o
+    → IsFirstToken (b ∷ cs) (text_front o)
 text_first b cs None e h = λ real. absurd real
 text_first b cs (Some r) e h =
     cond_both (may_end r.1) (text r.0, r.1) (stray, r.1) (IsFirstToken (b ∷ cs))
-    (λ ends _. (ap₂ (λ (x : ℕ) (xs : Bytes). x ∷ xs) e (h ∙ sym (append_assoc (flat_map escaped r.0) (34 ∷ []) r.1)), tt, ends))
+    (λ ends _. (
+      ap₂ (λ (x : ℕ) (xs : Bytes). x ∷ xs) e (h ∙ sym (append_assoc (flat_map escaped r.0) (34 ∷ []) r.1)),
+      tt,
+      ends,
+    ))
     (λ no real. absurd real)
 
 first_token : (b : ℕ) (cs : Bytes) → eqb b 32 ≡ false → IsFirstToken (b ∷ cs) (
-    cond (eqb b 40) (open_paren, cs) (cond (eqb b 41) (close_paren, cs) (cond (eqb b 44) (comma, cs) (cond (eqb b 60) (less_front cs)
+    cond (eqb b 40) (open_paren, cs)
+    (cond (eqb b 41) (close_paren, cs) (cond (eqb b 44) (comma, cs) (cond (eqb b 60) (less_front cs)
     (cond (eqb b 61) (operator Equal, cs) (cond (eqb b 62) (greater_front cs) (cond (eqb b 33) (not_front cs)
     (cond (eqb b 34) (text_front (text_in false cs)) (word (b ∷ word_front cs), behind_word cs)))))))))
 first_token b cs not_space =
@@ -225,11 +271,13 @@ first_token b cs not_space =
     cond_both (eqb b 61) _ _ P (λ is _. (ap (λ x. x ∷ cs) (eqb-true b 61 is), tt, tt)) (λ no_equals.
     cond_both (eqb b 62) _ _ P (λ is. greater_first b cs (eqb-true b 62 is)) (λ no_greater.
     cond_both (eqb b 33) _ _ P (λ is. not_first b cs (eqb-true b 33 is)) (λ no_bang.
-    cond_both (eqb b 34) _ _ P (λ is. text_first b cs (text_in false cs) (eqb-true b 34 is) (text_spelled false cs)) (λ no_quote _. (
+    cond_both (eqb b 34) _ _ P (λ is. text_first b cs (text_in false cs) (eqb-true b 34 is) (text_spelled false cs))
+    (λ no_quote _. (
       ap (λ xs. b ∷ xs) (word_cut cs),
       (
         omega arith,
-        All-cons (λ x. ends_word x ≡ false) b (word_front cs) (inner_first b not_space no_bang no_open no_close no_comma no_angle no_equals no_greater) (word_all cs),
+        All-cons (λ x. ends_word x ≡ false) b (word_front cs)
+            (inner_first b not_space no_bang no_open no_close no_comma no_angle no_equals no_greater) (word_all cs),
         eqb-false b 34 no_quote,
       ),
       word_end cs,
@@ -254,8 +302,10 @@ no_stray_first comma ts h = (tt, h)
 no_stray_first arrow ts h = (tt, h)
 no_stray_first (operator o) ts h = (tt, h)
 
-spell_step : (bs : Bytes) (n : ℕ) (o : Option (Token × Bytes)) → IsFirst (behind_spaces bs) o → IsShorter (suc n) o → HasNoStray (and_then (tokens_within n) o)
-    → ((cs : Bytes) → length cs ≤ n → HasNoStray (tokens_within n cs) → IsSpelling (tokens_within n cs) cs) → IsSpelling (and_then (tokens_within n) o) bs
+spell_step : (bs : Bytes) (n : ℕ) (o : Option (Token × Bytes)) → IsFirst (behind_spaces bs) o → IsShorter (suc n) o
+    → HasNoStray (and_then (tokens_within n) o)
+    → ((cs : Bytes) → length cs ≤ n → HasNoStray (tokens_within n cs) → IsSpelling (tokens_within n cs) cs)
+    → IsSpelling (and_then (tokens_within n) o) bs
 spell_step bs n None first s real more =
     let cut = cut_spaces bs in
     let all : bs ≡ cut.0 = cut.2 ∙ ap (λ xs. cut.0 ++ xs) first ∙ append-nil cut.0 in
@@ -270,16 +320,19 @@ shorter_more : (o : Option (Token × Bytes)) (m n : ℕ) → m ≤ n → IsShort
 shorter_more None m n h s = tt
 shorter_more (Some t) m n h s = omega (arith, s)
 
-read_spelled : (n : ℕ) (bs : Bytes) → length bs ≤ n → HasNoStray (tokens_within n bs) → IsSpelling (tokens_within n bs) bs
+read_spelled : (n : ℕ) (bs : Bytes) → length bs ≤ n → HasNoStray (tokens_within n bs)
+    → IsSpelling (tokens_within n bs) bs
 read_spelled zero [] h real = All-nil (λ x. x ≡ 32)
 read_spelled zero (b ∷ bs) h real = absurd (omega (arith, h))
 read_spelled (suc n) bs h real =
-    spell_step bs n (token_at bs) (front_first (behind_spaces bs) (no_space_first bs)) (shorter_more (token_at bs) (length bs) (suc n) h (token_shorter bs)) real (λ cs k r. read_spelled n cs k r)
+    spell_step bs n (token_at bs) (front_first (behind_spaces bs) (no_space_first bs))
+    (shorter_more (token_at bs) (length bs) (suc n) h (token_shorter bs)) real (λ cs k r. read_spelled n cs k r)
 
 pub tokens_spelled : (line : Bytes) (ts : List Token) → tokens line ≡ ts → HasNoStray ts → IsSpelling ts line
 unfolding tokens
 tokens_spelled line ts e real =
-    subst (λ (us : List Token). IsSpelling us line) e (read_spelled (length line) line (omega arith) (subst HasNoStray (sym e) real))
+    subst (λ (us : List Token). IsSpelling us line) e
+    (read_spelled (length line) line (omega arith) (subst HasNoStray (sym e) real))
 
 spelled_real : (ts : List Token) (line : Bytes) → IsSpelling ts line → HasNoStray ts
 spelled_real [] line s = tt
@@ -293,4 +346,5 @@ spelled_real (arrow ∷ ts) line s = spelled_real ts s.1 s.6
 spelled_real (operator o ∷ ts) line s = spelled_real ts s.1 s.6
 
 pub tokens_are_spelled : (line : Bytes) (ts : List Token) → ((tokens line ≡ ts) × HasNoStray ts) ↔ IsSpelling ts line
-tokens_are_spelled line ts = (λ h. tokens_spelled line ts h.0 h.1, λ s. (spelled_read ts line s, spelled_real ts line s))
+tokens_are_spelled line ts =
+    (λ h. tokens_spelled line ts h.0 h.1, λ s. (spelled_read ts line s, spelled_real ts line s))

@@ -1,5 +1,6 @@
 -- How texts are written behind one another.
-use Rattle.std.proofs.Common.{ℕ, ◌+◌, ◌≡◌, ◌≤◌, ◌++◌, refl, length, take, drop, sym, ap, ◌∙◌, append_assoc, arith, length-append}
+use Rattle.std.proofs.Common.{ℕ, ◌+◌, ◌≡◌, ◌≤◌, ◌++◌, refl, length, take, drop, sym, ap, ◌∙◌}
+use Rattle.std.proofs.Common.{append_assoc, arith, length-append}
 use Rattle.std.proofs.Math.Seq.{take-add}
 use Rattle.std.proofs.lemmas.List.{length-take-le, take_at, take-take}
 use Rattle.djq_model.specs.Data.{Bytes}
@@ -15,7 +16,8 @@ written_more old mid new at middle end text more p h = record {
 }
 
 -- what is before a text stays, where a part of it was written
-pub stays_before : (old mid new : Bytes) (at middle : ℕ) (text : Bytes) → at ≤ length old → Written old mid at text middle
+pub stays_before : (old mid new : Bytes) (at middle : ℕ) (text : Bytes) → at ≤ length old
+    → Written old mid at text middle
     → take middle new ≡ take middle mid → take at new ≡ take at old
 stays_before old mid new at middle text fits p h =
     sym (take-take at middle new (omega (arith, p.ends)))
@@ -23,8 +25,10 @@ stays_before old mid new at middle text fits p h =
     ∙ take_at (take at old) text at (length-take-le at old fits)
 
 -- digits that are written in front of their end
-pub written_digits : (old new digits behind : Bytes) (start at end : ℕ) → start + length digits ≡ end → end ≡ at + length digits
-    → end ≤ length new → drop start new ≡ digits ++ behind → take start new ≡ take start old → Written old new at digits end
+pub written_digits : (old new digits behind : Bytes) (start at end : ℕ) → start + length digits ≡ end → end
+    ≡ at + length digits
+    → end ≤ length new → drop start new ≡ digits ++ behind → take start new ≡ take start old
+    → Written old new at digits end
 written_digits old new digits behind start at end s e within d t =
     let same : start ≡ at = omega (arith, s, e) in
     record {

@@ -1,5 +1,7 @@
 -- What a word may be: a name, an integer; and which literals are within their limit.
-use Rattle.std.specs.Prelude.{ℕ, ℤ, pos, negsuc, List, [], ◌∷◌, ◌==◌, ◌+◌, ◌-◌, ◌*◌, ◌&&◌, ◌||◌, Bool, true, false, not, nat_le, Option, None, Some, if◌then◌else◌, option_map, length}
+use Rattle.std.specs.Prelude.{ℕ, ℤ, pos, negsuc, List, [], ◌∷◌, ◌==◌, ◌+◌, ◌-◌, ◌*◌, ◌&&◌, ◌||◌}
+use Rattle.std.specs.Prelude.{Bool, true, false, not, nat_le, Option, None, Some, if◌then◌else◌}
+use Rattle.std.specs.Prelude.{option_map, length}
 use Rattle.std.specs.List.{list_all, list_any}
 use Rattle.djq_model.specs.declared.value.Value.{Value}
 use Rattle.djq_model.specs.declared.value.Value.TheVariants.{Int, Text}

@@ -1,5 +1,6 @@
 -- Reading one literal in front of bytes, and its laws.
-use Rattle.std.specs.Prelude.{◌≡◌, ℕ, ℤ, ◌<◌, ◌≤◌, ◌++◌, true, false, Option, None, Some, option_map, Result, Ok, Err, length, drop}
+use Rattle.std.specs.Prelude.{◌≡◌, ℕ, ℤ, ◌<◌, ◌≤◌, ◌++◌, true, false, Option, None, Some}
+use Rattle.std.specs.Prelude.{option_map, Result, Ok, Err, length, drop}
 use Rattle.djq_model.specs.Data.{Bytes}
 use Rattle.djq_model.specs.declared.value.TheConstants.{TEXT_BYTES}
 use Rattle.djq_model.specs.declared.value.Value.{Value}
@@ -26,16 +27,20 @@ IsFirst bytes at = (at ≤ length bytes) × (drop at bytes ≡ behind_spaces byt
 -- What reading a literal answers, by the literal in front of the bytes. Out of memory comes only for a text within its
 -- limit.
 abbrev pub ReadsValue : Bytes → Result (Value × ℕ) ValueRefusal → Type 0
-ReadsValue bytes (Ok p) = (literal_at bytes ≡ Some (p.0, drop p.1 bytes)) × (is_small_value p.0 ≡ true) × (p.1 ≤ length bytes)
+ReadsValue bytes (Ok p) = (literal_at bytes ≡ Some (p.0, drop p.1 bytes)) × (is_small_value p.0 ≡ true)
+    × (p.1 ≤ length bytes)
 ReadsValue bytes (Err (Syntax at)) = (literal_at bytes ≡ None) × IsFirst bytes at
-ReadsValue bytes (Err (IntRange at)) = (i : ℤ) × (behind : Bytes) × (literal_at bytes ≡ Some (Int i, behind)) × (is_small i ≡ false) × IsFirst bytes at
-ReadsValue bytes (Err (TextLong at)) = (t : Bytes) × (behind : Bytes) × (literal_at bytes ≡ Some (Text t, behind)) × (TEXT_BYTES < length t) × IsFirst bytes at
+ReadsValue bytes (Err (IntRange at)) = (i : ℤ) × (behind : Bytes) × (literal_at bytes ≡ Some (Int i, behind))
+    × (is_small i ≡ false) × IsFirst bytes at
+ReadsValue bytes (Err (TextLong at)) = (t : Bytes) × (behind : Bytes) × (literal_at bytes ≡ Some (Text t, behind))
+    × (TEXT_BYTES < length t) × IsFirst bytes at
 ReadsValue bytes (Err NoMem) = (t : Bytes) × (behind : Bytes) × (literal_at bytes ≡ Some (Text t, behind))
     × (length t ≤ TEXT_BYTES)
 
 -- What is printed is read back, in front of what may follow a literal.
 abbrev pub IsReadBack : Type 0
-IsReadBack = (v : Value) (behind : Bytes) → is_small_value v ≡ true → may_end behind ≡ true → literal_at (value_text v ++ behind) ≡ Some (v, behind)
+IsReadBack = (v : Value) (behind : Bytes) → is_small_value v ≡ true → may_end behind ≡ true
+    → literal_at (value_text v ++ behind) ≡ Some (v, behind)
 
 -- the bytes that are a literal: a text has one spelling, an integer may have leading zeros
 abbrev pub IsLiteral : Value → Bytes → Type 0
@@ -45,4 +50,5 @@ IsLiteral (Text t) w = w ≡ value_text (Text t)
 -- What is read is spelled, behind spaces and in front of what may follow a literal.
 abbrev pub IsSpelledBack : Type 0
 IsSpelledBack = (bytes : Bytes) (v : Value) (behind : Bytes) → literal_at bytes ≡ Some (v, behind)
-    → (front : Bytes) × (w : Bytes) × IsSpaces front × (bytes ≡ front ++ (w ++ behind)) × IsLiteral v w × (may_end behind ≡ true)
+    → (front : Bytes) × (w : Bytes) × IsSpaces front × (bytes ≡ front ++ (w ++ behind)) × IsLiteral v w
+    × (may_end behind ≡ true)

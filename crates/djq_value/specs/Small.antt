@@ -9,7 +9,8 @@ use Rattle.djq_value.specs.Token.{Token, may_end, word}
 abbrev pub AreDigitsAt : Bytes → Option (ℕ × ℕ) → Type 0
 AreDigitsAt bs None = Unit {0}
 AreDigitsAt bs (Some r) =
-    (r.1 ≤ length bs) × (natural_of (take r.1 bs) ≡ Some r.0) × (r.0 < 1000000000000000000) × (may_end (drop r.1 bs) ≡ true)
+    (r.1 ≤ length bs) × (natural_of (take r.1 bs) ≡ Some r.0) × (r.0 < 1000000000000000000)
+    × (may_end (drop r.1 bs) ≡ true)
 
 -- An integer in front, up to where a word may end, and how many bytes it has.
 abbrev pub IsSmallAt : Bytes → Option (ℤ × ℕ) → Type 0

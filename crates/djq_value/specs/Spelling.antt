@@ -1,9 +1,12 @@
 -- How bytes spell tokens.
-use Rattle.std.specs.Prelude.{ℕ, ◌≡◌, ◌≢◌, ◌↔◌, ◌<◌, List, [], ◌∷◌, ◌++◌, true, false, Some, All, codes, length, slice_index, slice_get}
+use Rattle.std.specs.Prelude.{ℕ, ◌≡◌, ◌≢◌, ◌↔◌, ◌<◌, List, [], ◌∷◌, ◌++◌, true, false, Some, All}
+use Rattle.std.specs.Prelude.{codes, length, slice_index, slice_get}
 use Rattle.djq_model.specs.declared.query.Operator.{Operator}
-use Rattle.djq_model.specs.declared.query.Operator.TheVariants.{Less, LessOrEqual, Greater, GreaterOrEqual, Equal, NotEqual}
+use Rattle.djq_model.specs.declared.query.Operator.TheVariants.{Less, LessOrEqual, Greater}
+use Rattle.djq_model.specs.declared.query.Operator.TheVariants.{GreaterOrEqual, Equal, NotEqual}
 use Rattle.djq_model.specs.Data.{Bytes}
-use Rattle.djq_value.specs.Token.{Token, word, text, open_paren, close_paren, comma, arrow, operator, stray, ends_word, may_end, tokens}
+use Rattle.djq_value.specs.Token.{Token, word, text, open_paren, close_paren, comma, arrow}
+use Rattle.djq_value.specs.Token.{operator, stray, ends_word, may_end, tokens}
 use Rattle.djq_value.specs.ValueText.{quoted}
 
 -- spaces, or nothing
@@ -57,7 +60,8 @@ MayFollow _ bs = Unit {0}
 -- The tokens one after the other, with any number of spaces in front of, between and behind them.
 abbrev pub IsSpelling : List Token → Bytes → Type 0
 IsSpelling [] line = IsSpaces line
-IsSpelling (t ∷ ts) line = (front : Bytes) × (behind : Bytes) × IsSpaces front × (line ≡ front ++ (text_of t ++ behind)) × IsToken t × MayFollow t behind × IsSpelling ts behind
+IsSpelling (t ∷ ts) line = (front : Bytes) × (behind : Bytes) × IsSpaces front × (line ≡ front ++ (text_of t ++ behind))
+    × IsToken t × MayFollow t behind × IsSpelling ts behind
 
 -- Each of them is a token.
 abbrev pub HasNoStray : List Token → Type 0

@@ -1,7 +1,9 @@
 -- The tokens of a line: words, texts, signs, and spaces between them.
-use Rattle.std.specs.Prelude.{ℕ, zero, suc, List, [], ◌∷◌, ◌==◌, ◌||◌, Bool, true, false, not, Option, None, Some, if◌then◌else◌, length, take_while}
+use Rattle.std.specs.Prelude.{ℕ, zero, suc, List, [], ◌∷◌, ◌==◌, ◌||◌, Bool, true, false, not}
+use Rattle.std.specs.Prelude.{Option, None, Some, if◌then◌else◌, length, take_while}
 use Rattle.djq_model.specs.declared.query.Operator.{Operator}
-use Rattle.djq_model.specs.declared.query.Operator.TheVariants.{Less, LessOrEqual, Greater, GreaterOrEqual, Equal, NotEqual}
+use Rattle.djq_model.specs.declared.query.Operator.TheVariants.{Less, LessOrEqual, Greater}
+use Rattle.djq_model.specs.declared.query.Operator.TheVariants.{GreaterOrEqual, Equal, NotEqual}
 use Rattle.djq_model.specs.Data.{Bytes}
 
 pub data Token : Type 0 where
@@ -14,7 +16,8 @@ pub data Token : Type 0 where
   comma : Token
   arrow : Token
   operator : Operator → Token
-  -- no token: a `!` that begins no `!=`, a text that doesn't end, that has an escape of no meaning, or that a word or another text touches
+  -- no token: a `!` that begins no `!=`, a text that doesn't end, that has an escape of no meaning, or that a word or
+  -- another text touches
   stray : Token
 
 -- spaces and signs end a word

@@ -12,7 +12,8 @@ is_escaped b = b == 34 || b == 92 || b == 10
 
 -- a byte as it is printed in a text
 abbrev pub escaped : ℕ → Bytes
-escaped b = if b == 34 then codes "\\\"" else (if b == 92 then codes "\\\\" else (if b == 10 then codes "\\n" else b ∷ []))
+escaped b = if b == 34 then codes "\\\"" else
+    (if b == 92 then codes "\\\\" else (if b == 10 then codes "\\n" else b ∷ []))
 
 -- a text in quotes
 abbrev pub quoted : Bytes → Bytes

@@ -1,11 +1,14 @@
 -- What words ask for, from what a parse of them found.
-use Rattle.std.specs.Prelude.{ℕ, zero, suc, List, [], ◌≡◌, ◌≢◌, ◌<◌, ◌^◌, true, Option, None, Some, IsSomeAnd, option_map, Ok, Err, codes, length, get_or, slice_index, decimal}
+use Rattle.std.specs.Prelude.{ℕ, zero, suc, List, [], ◌≡◌, ◌≢◌, ◌<◌, ◌^◌, true, Option, None, Some}
+use Rattle.std.specs.Prelude.{IsSomeAnd, option_map, Ok, Err, codes, length, get_or, slice_index}
+use Rattle.std.specs.Prelude.{decimal}
 use Rattle.std.proofs.Common.{refl, sym, ap, ◌∙◌, ap₂, subst, inl, inr, arith}
 use Rattle.std.specs.Str.Parse.{ParsesUnsigned, IsNumeral, digits_value, without_leading_plus}
 use Rattle.std.proofs.lemmas.Fmt.{decimal_is_IsNumeral, decimal_digit, first_decimal}
 use Rattle.std.proofs.lemmas.Str.Parse.{without_leading_plus_none}
 use Rattle.std.specs.declared.num.ParseIntError.{ParseIntError}
-use Rattle.clap.specs.Words.{Text, Row, is_simple, is_simple_and_free, fault_of, kind_of, subcommand_of, HasKind, IsAmong, Kinds, first_of}
+use Rattle.clap.specs.Words.{Text, Row, is_simple, is_simple_and_free, fault_of, kind_of}
+use Rattle.clap.specs.Words.{subcommand_of, HasKind, IsAmong, Kinds, first_of}
 use Rattle.clap.specs.declared.error.Error.{Error}
 use Rattle.clap.specs.declared.error.ErrorKind.TheVariants.{OutOfMemory}
 use Rattle.clap.proofs.OnLiterals.{clap_on_literals}
@@ -13,7 +16,8 @@ use Rattle.djq_value.specs.Literal.{is_name}
 use Rattle.djq_words.specs.declared.commands.Asked.{Asked}
 use Rattle.djq_words.specs.declared.commands.Asked.TheVariants.{Run, Serve, Replay, Gen, Mirror}
 use Rattle.djq_words.specs.Commands.{djq_app}
-use Rattle.djq_words.specs.Asks.{Spells, ReadsAs, TurnsAre, IsGiven, IsRead, IsAsked, AskedBy, ServeAsked, GenAsked, MirrorAsked, Answers}
+use Rattle.djq_words.specs.Asks.{Spells, ReadsAs, TurnsAre, IsGiven, IsRead, IsAsked, AskedBy}
+use Rattle.djq_words.specs.Asks.{ServeAsked, GenAsked, MirrorAsked, Answers}
 
 pub simple : is_simple djq_app ≡ true
 unfolding clap_on_literals
@@ -32,12 +36,16 @@ outside None a h k = k
 outside (Some c) a h k = h a k
 
 -- `clap` took the words
-pub taken : (words : List Text) (found : Option (Text × List Row)) (asked : Option Asked) → fault_of djq_app words ≡ [] → found ≡ subcommand_of djq_app words → AskedBy found asked → Answers words asked
-taken words found (Some a) none same h = (none, subst (λ (o : Option (Text × List Row)). IsSomeAnd o (λ c. IsAsked c a)) same (inside found a h))
-taken words found None none same h = λ a asks. outside found a h (subst (λ (o : Option (Text × List Row)). IsSomeAnd o (λ c. IsAsked c a)) (sym same) asks.1)
+pub taken : (words : List Text) (found : Option (Text × List Row)) (asked : Option Asked) → fault_of djq_app words ≡ []
+    → found ≡ subcommand_of djq_app words → AskedBy found asked → Answers words asked
+taken words found (Some a) none same h =
+    (none, subst (λ (o : Option (Text × List Row)). IsSomeAnd o (λ c. IsAsked c a)) same (inside found a h))
+taken words found None none same h = λ a asks. outside found a h
+    (subst (λ (o : Option (Text × List Row)). IsSomeAnd o (λ c. IsAsked c a)) (sym same) asks.1)
 
 -- it refused them, and not for want of memory
-pub refused : (words : List Text) (e : Error) → HasKind (fault_of djq_app words) e → kind_of e ≢ OutOfMemory → Answers words None
+pub refused : (words : List Text) (e : Error) → HasKind (fault_of djq_app words) e → kind_of e ≢ OutOfMemory
+    → Answers words None
 refused words e (inl out) other = λ a asks. absurd (other out)
 refused words e (inr among) other = λ a asks. absurd (subst (λ (ks : Kinds). IsAmong (kind_of e) ks) asks.0 among)
 
@@ -69,7 +77,9 @@ mirror_not_gen : codes "mirror" ≡ codes "gen" → ⊥
 mirror_not_gen e = let n = ap length e in absurd (omega (arith, n))
 
 -- what `serve` was given asks for nothing
-pub none_asked : (rows : List Row) → ((addr : Text) (n : ℕ) → first_of (codes "ADDR") rows ≡ Some addr → TurnsAre (first_of (codes "turns") rows) n → ⊥) → ServeAsked rows None
+pub none_asked : (rows : List Row)
+    → ((addr : Text) (n : ℕ) → first_of (codes "ADDR") rows ≡ Some addr → TurnsAre (first_of (codes "turns") rows) n
+    → ⊥) → ServeAsked rows None
 none_asked rows h Run asks = serve_not_run asks
 none_asked rows h (Serve addr n log) asks = h addr.now n asks.1 asks.2
 none_asked rows h (Replay log) asks = serve_not_replay asks.0
@@ -157,7 +167,8 @@ not_spelled text m h other n spells =
     absurd (other (spells.1 ∙ ap (λ k. decimal k) same))
 
 -- another name asks for nothing
-pub other_asked : (name : Text) (rows : List Row) → name ≢ codes "run" → name ≢ codes "serve" → name ≢ codes "replay" → name ≢ codes "gen" → name ≢ codes "mirror" → AskedBy (Some (name, rows)) None
+pub other_asked : (name : Text) (rows : List Row) → name ≢ codes "run" → name ≢ codes "serve" → name ≢ codes "replay"
+    → name ≢ codes "gen" → name ≢ codes "mirror" → AskedBy (Some (name, rows)) None
 other_asked name rows run serve replay generate mirror Run asks = absurd (run asks)
 other_asked name rows run serve replay generate mirror (Serve addr n log) asks = absurd (serve asks.0)
 other_asked name rows run serve replay generate mirror (Replay log) asks = absurd (replay asks.0)
@@ -166,7 +177,8 @@ other_asked name rows run serve replay generate mirror (Mirror query) asks = abs
 
 -- what a parse found, by its name and its rows
 pub found_is : {A : Type 0} (f : A → Text) (g : A → List Row) (x : Option A) (name : Text) (rows : List Row)
-    → Some name ≡ option_map f x → Some rows ≡ option_map (λ (p : Text × List Row). p.1) (option_map {U = Text × List Row} (λ b. (f b, g b)) x)
+    → Some name ≡ option_map f x → Some rows
+    ≡ option_map (λ (p : Text × List Row). p.1) (option_map {U = Text × List Row} (λ b. (f b, g b)) x)
     → option_map {U = Text × List Row} (λ b. (f b, g b)) x ≡ Some (name, rows)
 found_is f g None name rows n r = absurd cc
 found_is f g (Some b) name rows n r = ap₂ (λ a c. Some (a, c)) (sym (in_some n)) (sym (in_some r))
@@ -174,8 +186,10 @@ found_is f g (Some b) name rows n r = ap₂ (λ a c. Some (a, c)) (sym (in_some 
     in_some : {A : Type 0} {x y : A} → Some x ≡ Some y → x ≡ y
     in_some e = cc
 
-pub asked_as : (o : Option (Text × List Row)) (c : Text × List Row) (asked : Option Asked) → o ≡ Some c → AskedBy (Some c) asked → AskedBy o asked
+pub asked_as : (o : Option (Text × List Row)) (c : Text × List Row) (asked : Option Asked) → o ≡ Some c
+    → AskedBy (Some c) asked → AskedBy o asked
 asked_as o c asked e h = subst (λ (k : Option (Text × List Row)). AskedBy k asked) (sym e) h
 
-pub named : {name other : Text} {o : Option (Text × List Row)} (rows : List Row) → o ≡ Some (name, rows) → name ≡ other → o ≡ Some (other, rows)
+pub named : {name other : Text} {o : Option (Text × List Row)} (rows : List Row) → o ≡ Some (name, rows) → name ≡ other
+    → o ≡ Some (other, rows)
 named rows e same = e ∙ ap (λ (n : Text). Some (n, rows)) same

@@ -59,5 +59,6 @@ bare_app = let a = new_app (codes "djq") in
 
 -- the program with its commands
 abbrev pub djq_app : App
-djq_app = with_subcommand (with_subcommand (with_subcommand (with_subcommand (with_subcommand bare_app (new_app (codes "run")).top)
+djq_app = with_subcommand
+    (with_subcommand (with_subcommand (with_subcommand (with_subcommand bare_app (new_app (codes "run")).top)
     serve_app.top) replay_app.top) gen_app.top) mirror_app.top

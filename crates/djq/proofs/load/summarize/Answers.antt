@@ -16,6 +16,7 @@ returns-in_err-totals-clause-memory g c =
     where_err c.from_residual.result (
       new,
       inl (subst
-          (λ (st : State). RunsOut c.args.n c.args.seed st (counts before.listing before.update before.rows) new (counts now.listing now.update now.rows))
+          (λ (st : State). RunsOut c.args.n c.args.seed st (counts before.listing before.update before.rows) new
+          (counts now.listing now.update now.rows))
           c.in-Ok.ensures.state c.in_err-totals.ensures.memory),
     )

@@ -24,7 +24,8 @@ lines-init g c = record {
   );
   fresh = c.requires.fresh ∙ sym (ap (λ (st : State). record opening { store = st.store }) c.requires.fresh);
   faults = refl;
-  same = told_none (g.D.Disk.told c.args.disk.now) (λ (o n : History). n ≡ o) (λ (o : History). refl {A = History} {a = o});
+  same = told_none (g.D.Disk.told c.args.disk.now) (λ (o n : History). n ≡ o)
+      (λ (o : History). refl {A = History} {a = o});
   unlisted = refl;
 }
 
@@ -44,9 +45,11 @@ lines-preserved g c =
         found ++ line ∷ [],
         walk_more (λ (old : Loading) (l : Bytes) (new : Loading). LoadStep old l Ran new) (loading opening.store) found
             (loading_in c.lines.machine) line (loading_in c.load.new.self) begun.1 c.in-Ran.ensures.loads,
-        read_line found c.in-Got.n c.lines.journal c.next_line.new.self c.next_line.new.buf _ _ begun.2 (c.in-Got.ensures.told found),
+        read_line found c.in-Got.n c.lines.journal c.next_line.new.self c.next_line.new.buf _ _ begun.2
+            (c.in-Got.ensures.told found),
       );
-      fresh = c.in-Ran.ensures.rest ∙ ap (λ (st : State). record st { store = c.load.new.self.state.store }) c.lines.invariant.fresh;
+      fresh = c.in-Ran.ensures.rest
+          ∙ ap (λ (st : State). record st { store = c.load.new.self.state.store }) c.lines.invariant.fresh;
       faults = c.in-Got.ensures.faults ∙ c.lines.invariant.faults;
       same = same_both _ _ _ _ c.lines.invariant.same (c.in-Got.ensures.told found);
       unlisted = c.in-Ran.ensures.listing ∙ c.lines.invariant.unlisted;
@@ -58,7 +61,8 @@ returns-in-Refused g c =
     let found = begun.0 in
     let told = g.D.Disk.told c.next_line.new.disk in
     let still = read_still found c.lines.journal _ _ _ begun.2 (c.in-Got.ensures.told found) in
-    let behind = read_line found c.in-Got.n c.lines.journal c.next_line.new.self c.next_line.new.buf _ _ begun.2 (c.in-Got.ensures.told found) in
+    let behind = read_line found c.in-Got.n c.lines.journal c.next_line.new.self c.next_line.new.buf _ _ begun.2
+    (c.in-Got.ensures.told found) in
     record {
       caused = (
         c.in-Got.ensures.faults ∙ c.lines.invariant.faults,
@@ -94,8 +98,10 @@ returns-in-End g c =
       found = found;
       loads = begun.1;
       fresh = c.lines.invariant.fresh;
-      idle = subst (λ (k : ℕ). IfSome (g.D.Disk.told c.next_line.new.disk) (λ h. IsIdle found k h.file)) (sym c.in-End.ensures.place)
-          (read_end found c.lines.journal c.next_line.new.self c.next_line.new.buf _ _ begun.2 (c.in-End.ensures.told found));
+      idle = subst (λ (k : ℕ). IfSome (g.D.Disk.told c.next_line.new.disk) (λ h. IsIdle found k h.file))
+          (sym c.in-End.ensures.place)
+          (read_end found c.lines.journal c.next_line.new.self c.next_line.new.buf _ _ begun.2
+          (c.in-End.ensures.told found));
       same = same_both _ _ _ _ c.lines.invariant.same (c.in-End.ensures.told found);
       faults = c.in-End.ensures.faults ∙ c.lines.invariant.faults;
       unlisted = c.lines.invariant.unlisted;
@@ -105,11 +111,18 @@ pub returns-in-BadLog : goal.returns-in-BadLog
 returns-in-BadLog g c =
     let begun = c.lines.invariant.loading in
     let found = begun.0 in
-    let bad = read_bad found c.in-BadLog.at c.lines.journal c.next_line.new.self c.next_line.new.buf _ _ begun.2 (c.in-BadLog.ensures.told found) in
+    let bad = read_bad found c.in-BadLog.at c.lines.journal c.next_line.new.self c.next_line.new.buf _ _ begun.2
+    (c.in-BadLog.ensures.told found) in
     record {
       caused = (
         c.in-BadLog.ensures.faults ∙ c.lines.invariant.faults,
-        inr (record { found = found; end = loading_in c.lines.machine; loads = begun.1; stands = bad.0; bad = inl bad.1 }),
+        inr (record {
+          found = found;
+          end = loading_in c.lines.machine;
+          loads = begun.1;
+          stands = bad.0;
+          bad = inl bad.1;
+        }),
       );
       same = same_both _ _ _ _ c.lines.invariant.same (c.in-BadLog.ensures.told found);
       unlisted = c.lines.invariant.unlisted;
@@ -117,7 +130,8 @@ returns-in-BadLog g c =
 
 pub returns-in-Failed : goal.returns-in-Failed
 returns-in-Failed g c = record {
-  caused = subst (λ (k : ℕ). Counted k (g.D.Disk.faults c.next_line.new.disk)) c.lines.invariant.faults c.in-Failed.ensures.faults;
+  caused = subst (λ (k : ℕ). Counted k (g.D.Disk.faults c.next_line.new.disk)) c.lines.invariant.faults
+      c.in-Failed.ensures.faults;
   same = same_both _ _ _ _ c.lines.invariant.same (c.in-Failed.ensures.told c.lines.invariant.loading.0);
   unlisted = c.lines.invariant.unlisted;
 }

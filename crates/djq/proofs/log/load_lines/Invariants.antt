@@ -13,7 +13,8 @@ abbrev pub invariant-lines : goal.invariant-lines
 invariant-lines g l =
     let told = g.D.Disk.told in
     record {
-      loading : (found : List Bytes) × Loads (loading opening.store) found (loading_in l.machine) × IfSome (told l.disk) (λ h. IsAt found l.journal h.file);
+      loading : (found : List Bytes) × Loads (loading opening.store) found (loading_in l.machine)
+          × IfSome (told l.disk) (λ h. IsAt found l.journal h.file);
       fresh : l.machine.state ≡ record opening { store = l.machine.state.store };
       faults : g.D.Disk.faults l.disk ≡ g.D.Disk.faults l.fn.disk;
       same : WhereTold (told l.fn.disk) (told l.disk) (λ o n. n ≡ o);

@@ -61,7 +61,8 @@ returns-in-Ready g c =
       answer = c.serve_logged-served.result;
       ends = (served.logs).ends;
       faults = faults_from c.serve_logged-served.result _ _ _ heard.faults served.faults;
-      logs = logs_kept c.args.path begun.0 begun.1 c.serve_logged-served.result _ c.in-Ok-open_log.log c.serve_logged-served.new.log
+      logs = logs_kept c.args.path begun.0 begun.1 c.serve_logged-served.result _ c.in-Ok-open_log.log
+          c.serve_logged-served.new.log
           first then last begun.3 (served.logs).kept served.disk served.nowhere;
       silent = (served.logs).silent;
       is = c.ended_status.ensures;

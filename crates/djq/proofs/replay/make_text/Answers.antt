@@ -14,7 +14,8 @@ returns-in-Ok g c =
     let now = c.serve_schedule.new.steps in
     let counted = counts before.listing before.update before.rows in
     let counted' = counts now.listing now.update now.rows in
-    let log = log_seen c.args.path (disk_seen (told c.args.disk.now) (faults c.args.disk.now)) (disk_seen (told c.serve_schedule.new.disk) (faults c.serve_schedule.new.disk)) in
+    let log = log_seen c.args.path (disk_seen (told c.args.disk.now) (faults c.args.disk.now))
+    (disk_seen (told c.serve_schedule.new.disk) (faults c.serve_schedule.new.disk)) in
     subst
     (λ (r : Result (List Coming) ℕ). MatchResult c.serve_schedule.result
     (λ made. ComesTo log r c.args.bytes.now counted counted' made.0.items made.1)

@@ -1,4 +1,5 @@
-use Rattle.std.proofs.Common.{ℕ, List, ◌≡◌, ◌++◌, ◌∙◌, refl, sym, ap, subst, length, take, length-append, length-take, arith, rules}
+use Rattle.std.proofs.Common.{ℕ, List, ◌≡◌, ◌++◌, ◌∙◌, refl, sym, ap, subst, length, take}
+use Rattle.std.proofs.Common.{length-append, length-take, arith, rules}
 use Rattle.djq_io.specs.Faults.{Counted}
 use Rattle.djq.specs.Replay.{Gave}
 use Rattle.djq.proofs.Gathering.{gave_none, gave_more, gave_same}
@@ -25,7 +26,8 @@ pub returns-in-Failed : goal.returns-in-Failed
 returns-in-Failed g c = record {
   bytes = c.loop.bytes.items;
   gave = gave_same _ _ _ _ c.loop.invariant.gave c.in-Failed.ensures.reads;
-  stops = subst (λ (count : ℕ). Counted count (g.S.Source.faults c.read.new.self)) c.loop.invariant.no_fault c.in-Failed.ensures.faults;
+  stops = subst (λ (count : ℕ). Counted count (g.S.Source.faults c.read.new.self)) c.loop.invariant.no_fault
+      c.in-Failed.ensures.faults;
 }
 
 pub loop-preserved : goal.loop-preserved
@@ -34,8 +36,18 @@ loop-preserved g c =
     let piece = take c.in-Got.count c.read.new.buf in
     let is : c.extend_from_slice.new.self.items ≡ c.loop.bytes.items ++ piece = search rules in
     record {
-      gave = subst (λ (bytes : List ℕ). Gave (g.S.Source.told c.args.source.now) (g.S.Source.told c.read.new.self) bytes) (sym is) (gave_more _ _ _ _ _ c.loop.invariant.gave reads.2);
+      gave = subst (λ (bytes : List ℕ). Gave (g.S.Source.told c.args.source.now) (g.S.Source.told c.read.new.self)
+          bytes) (sym is) (gave_more _ _ _ _ _ c.loop.invariant.gave reads.2);
       no_fault = c.in-Got.ensures.faults ∙ c.loop.invariant.no_fault;
-      some = omega (arith, c.loop.invariant.some, ap (λ (bytes : List ℕ). length bytes) is, length-append c.loop.bytes.items piece, length-take c.in-Got.count c.read.new.buf, reads.0, reads.1);
+      some = omega (
+        arith,
+        c.loop.invariant.some,
+        ap (λ (bytes : List ℕ). length bytes) is,
+        length-append
+            c.loop.bytes.items piece,
+        length-take c.in-Got.count c.read.new.buf,
+        reads.0,
+        reads.1,
+      );
       room = c.read.auto.buf ∙ c.loop.invariant.room;
     }

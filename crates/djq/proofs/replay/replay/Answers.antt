@@ -5,6 +5,8 @@ use Rattle.djq.proofs.replay.replay.Goals as goal
 pub returns-in-Ok : goal.returns-in-Ok
 returns-in-Ok g c = inl (record {
   bytes = c.deref.result.now;
-  reads = subst (λ (bytes : List ℕ). ReadsWhole (g.S.Source.told c.args.source.now) (g.S.Source.told c.read_whole.new.source) (g.S.Source.faults c.args.source.now) (g.S.Source.faults c.read_whole.new.source) bytes) (sym c.deref.ensures.value) c.in-Ok.ensures;
+  reads = subst (λ (bytes : List ℕ). ReadsWhole (g.S.Source.told c.args.source.now)
+      (g.S.Source.told c.read_whole.new.source) (g.S.Source.faults c.args.source.now)
+      (g.S.Source.faults c.read_whole.new.source) bytes) (sym c.deref.ensures.value) c.in-Ok.ensures;
   writes = c.replay_schedule.ensures;
 })

@@ -44,9 +44,15 @@ returns g c =
     let begun = c.in-Ok-open_log.ensures in
     let served = c.serve_logged-served.ensures in
     let then = disk_seen (told c.open_log.new.disk) (faults c.open_log.new.disk) in
-    let begins = begins_still c.args.path first then last begun.0 begun.1 counted c.open_log.new.machine.state loaded begun.2 in
-    let kept = logs_kept c.args.path begun.0 begun.1 c.serve_logged-served.result _ c.in-Ok-open_log.log c.serve_logged-served.new.log first
+    let begins = begins_still c.args.path first then last begun.0 begun.1 counted c.open_log.new.machine.state loaded
+    begun.2 in
+    let kept = logs_kept c.args.path begun.0 begun.1 c.serve_logged-served.result _ c.in-Ok-open_log.log
+    c.serve_logged-served.new.log first
     then last begun.3 (served.logs).kept served.disk served.nowhere in
-    schedule_served c.tell_sent.result (λ made. made.0.items) (λ made. made.1) log begun.0 begun.1 c.args.bytes.now c.args.hub c.of-hub.result c.serve_logged-served.new.hub
-    c.serve_logged-served.result _ counted loaded counted' c.open_log.new.machine.state c.serve_logged-served.new.machine.state c.ended_status.result begins c.requires c.of-hub.ensures
-    (ap (λ (n : ℕ). n + 1) c.count_lines-most.ensures.counted) (record { ends = (served.logs).ends; logs = kept; silent = (served.logs).silent }) served.faults c.ended_status.ensures c.tell_sent.ensures
+    schedule_served c.tell_sent.result (λ made. made.0.items) (λ made. made.1) log begun.0 begun.1 c.args.bytes.now
+    c.args.hub c.of-hub.result c.serve_logged-served.new.hub
+    c.serve_logged-served.result _ counted loaded counted' c.open_log.new.machine.state
+    c.serve_logged-served.new.machine.state c.ended_status.result begins c.requires c.of-hub.ensures
+    (ap (λ (n : ℕ). n + 1) c.count_lines-most.ensures.counted)
+    (record { ends = (served.logs).ends; logs = kept; silent = (served.logs).silent }) served.faults
+    c.ended_status.ensures c.tell_sent.ensures

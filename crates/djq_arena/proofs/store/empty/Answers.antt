@@ -6,6 +6,8 @@ use Rattle.djq_arena.proofs.store.empty.Goals as goal
 
 pub returns : goal.returns
 returns c =
-    let s = empty_store _ 16 c.new.ensures.items c.new-2.ensures.items c.new-3.ensures.items c.in_ok-heads.ensures (omega arith)
-    (ap₂ (λ (f l : Option ℕ). record { first = f; last = l }) c.none.ensures c.none-2.ensures) c.none-3.ensures refl refl in
+    let s = empty_store _ 16 c.new.ensures.items c.new-2.ensures.items c.new-3.ensures.items c.in_ok-heads.ensures
+    (omega arith)
+    (ap₂ (λ (f l : Option ℕ). record { first = f; last = l }) c.none.ensures c.none-2.ensures) c.none-3.ensures refl
+    refl in
     (sound _ [] [] s, ap (λ (ls : List Pair). length ls) c.new.ensures.items, refl, c.new.ensures.items, empty_is _ s)

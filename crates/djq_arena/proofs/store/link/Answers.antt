@@ -23,5 +23,6 @@ returns c = record {
         len = refl;
         spare = refl;
       })
-      c.class_in-class.ensures.within (c.class_in-class.ensures.class ∙ ap (class (length c.args.store.now.heads.items)) (sym c.requires.here));
+      c.class_in-class.ensures.within
+      (c.class_in-class.ensures.class ∙ ap (class (length c.args.store.now.heads.items)) (sym c.requires.here));
 }

@@ -5,14 +5,22 @@ use Rattle.djq_arena.proofs.Growing.{none_listed, listed_more}
 use Rattle.djq_arena.proofs.store.list_all.Goals as goal
 
 pub loop-slot-init : goal.loop-slot-init
-loop-slot-init c = record { listed = none_listed c.args.width c.args.cells.now c.args.bucket.now c.args.heads.now c.requires.empty; slots = refl; buckets = refl }
+loop-slot-init c = record {
+  listed = none_listed c.args.width c.args.cells.now c.args.bucket.now c.args.heads.now c.requires.empty;
+  slots =
+      refl;
+  buckets = refl;
+}
 
 pub cells_among-requires : goal.cells_among-requires
-cells_among-requires c = omega (arith, row_fits c.loop-slot.slot (length c.args.bucket.now) c.args.width c.loop-slot-test.true, c.requires.long)
+cells_among-requires c = omega
+    (arith, row_fits c.loop-slot.slot (length c.args.bucket.now) c.args.width c.loop-slot-test.true, c.requires.long)
 
 pub loop-slot-preserved : goal.loop-slot-preserved
 loop-slot-preserved c = record {
-  listed = rw (c.link_among.ensures, c.to.ensures) (listed_more c.args.width c.args.cells.now c.loop-slot.bucket c.loop-slot.heads c.loop-slot.slot c.class_of-class.result c.loop-slot.invariant.listed
+  listed = rw (c.link_among.ensures, c.to.ensures)
+      (listed_more c.args.width c.args.cells.now c.loop-slot.bucket c.loop-slot.heads c.loop-slot.slot
+      c.class_of-class.result c.loop-slot.invariant.listed
       (omega (arith, c.loop-slot-test.true, c.loop-slot.invariant.slots)) c.class_of-class.ensures.within
       (c.class_of-class.ensures.class ∙ ap (λ (u : List ℕ). class (length c.loop-slot.heads) u) c.cells_among.ensures));
   slots = length-set c.loop-slot.bucket c.loop-slot.slot c.link_among.result ∙ c.loop-slot.invariant.slots;

@@ -7,4 +7,5 @@ pub pair_of-requires : goal.pair_of-requires
 pair_of-requires c = row_within c.args.store.now c.args.slot c.requires.sound c.requires.held
 
 pub returns : goal.returns
-returns c = λ xs r ys is at. c.get.ensures ∙ ap (λ (p : Pair). p.next) c.pair_of.ensures ∙ row_next c.args.store.now c.args.slot xs r ys c.requires.sound is at
+returns c = λ xs r ys is at. c.get.ensures ∙ ap (λ (p : Pair). p.next) c.pair_of.ensures
+    ∙ row_next c.args.store.now c.args.slot xs r ys c.requires.sound is at

@@ -5,4 +5,14 @@ use Rattle.djq_arena.proofs.store.overwrite.Goals as goal
 
 pub returns-in-len2 : goal.returns-in-len2
 returns-in-len2 c =
-    same_lists _ _ (search (rules, places)) (λ k d h. grind (arith, places, get_or-set_same, get_or-set_other, length-set, cases_eq k c.args.from, cases_eq k (c.args.from + 1)))
+    same_lists _ _ (search (rules, places))
+    (λ k d h. grind (
+      arith,
+      places,
+      get_or-set_same,
+      get_or-set_other,
+      length-set,
+      cases_eq k c.args.from,
+      cases_eq
+          k (c.args.from + 1),
+    ))

@@ -11,7 +11,9 @@ returns-in-Err-clause-refused c = same_account c.args.store.now c.put.new.store 
 
 pub returns-in-Ok-clause-reused : goal.returns-in-Ok-clause-reused
 returns-in-Ok-clause-reused c = λ some.
-    c.in-Ok.ensures.reused (λ none. some (omega (arith, none, c.requires.tidy, row_count c.args.store.now c.requires.sound)))
+    c.in-Ok.ensures.reused
+    (λ none. some (omega (arith, none, c.requires.tidy, row_count c.args.store.now c.requires.sound)))
 
 pub returns-in-Err-clause-full : goal.returns-in-Err-clause-full
-returns-in-Err-clause-full c = omega (arith, c.in-Err.ensures.full, c.requires.tidy, row_count c.args.store.now c.requires.sound)
+returns-in-Err-clause-full c = omega
+    (arith, c.in-Err.ensures.full, c.requires.tidy, row_count c.args.store.now c.requires.sound)

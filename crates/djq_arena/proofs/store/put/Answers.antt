@@ -12,11 +12,24 @@ put_fresh-requires-clause-full c =
 pub returns-in-Some-clause-put : goal.returns-in-Some-clause-put
 returns-in-Some-clause-put c =
     puts c.args.store.now c.args.store.now c.reuse.new.store c.link.new.store c.in-Some.slot c.args.cells.now
-    (stays c.args.store.now c.args.store.now c.requires.sound (record { width = refl; cells = refl; order = refl; live = refl; bucket = refl; heads = refl; free = refl; len = refl; spare = refl }))
+    (stays c.args.store.now c.args.store.now c.requires.sound
+    (record {
+      width = refl;
+      cells = refl;
+      order = refl;
+      live = refl;
+      bucket = refl;
+      heads = refl;
+      free = refl;
+      len =
+          refl;
+      spare = refl;
+    }))
     c.reuse.ensures.prepared c.link.ensures.linked
 
 pub returns-in-Some-clause-reused : goal.returns-in-Some-clause-reused
-returns-in-Some-clause-reused c = λ some. newest_free c.args.store.now c.in-Some.slot c.requires.sound (sym c.in-Some.ensures)
+returns-in-Some-clause-reused c = λ some. newest_free c.args.store.now c.in-Some.slot c.requires.sound
+    (sym c.in-Some.ensures)
 
 pub returns-in-None-clause-reused : goal.returns-in-None-clause-reused
 returns-in-None-clause-reused c =
@@ -24,4 +37,5 @@ returns-in-None-clause-reused c =
     IfOk-weaker c.put_fresh.result _ _ (λ slot is some. absurd (some spare)) c.put_fresh.ensures.put
 
 pub returns-in-None-clause-full : goal.returns-in-None-clause-full
-returns-in-None-clause-full c = on_err c.put_fresh.result _ (none_free c.args.store.now c.requires.sound (sym c.in-None.ensures))
+returns-in-None-clause-full c = on_err c.put_fresh.result _
+    (none_free c.args.store.now c.requires.sound (sym c.in-None.ensures))

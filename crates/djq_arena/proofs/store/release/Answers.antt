@@ -11,5 +11,16 @@ to-store-requires c = omega (arith, c.requires.loose.within, c.requires.sound.st
 pub returns : goal.returns
 returns c = record {
   released = releases c.args.store.now _ c.args.slot c.requires.sound c.requires.loose
-      (record { width = refl; cells = refl; order = c.follow.ensures; live = refl; bucket = refl; heads = refl; free = c.to-store.ensures; len = refl; spare = refl });
+      (record {
+        width = refl;
+        cells = refl;
+        order = c.follow.ensures;
+        live = refl;
+        bucket = refl;
+        heads = refl;
+        free =
+            c.to-store.ensures;
+        len = refl;
+        spare = refl;
+      });
 }

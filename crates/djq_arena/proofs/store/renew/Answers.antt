@@ -11,27 +11,34 @@ pub pair_of-neighbours-requires : goal.pair_of-neighbours-requires
 pair_of-neighbours-requires c = held_within c.args.store.now c.args.slot c.requires.sound c.requires.held
 
 pub leave-requires-clause-prev : goal.leave-requires-clause-prev
-leave-requires-clause-prev c = subst (λ (p : Pair). IsWithin (length c.args.store.now.order.items) p.prev) (sym c.pair_of-neighbours.ensures) (held_prev c.args.store.now c.args.slot c.requires.sound c.requires.held)
+leave-requires-clause-prev c = subst (λ (p : Pair). IsWithin (length c.args.store.now.order.items) p.prev)
+    (sym c.pair_of-neighbours.ensures) (held_prev c.args.store.now c.args.slot c.requires.sound c.requires.held)
 
 pub leave-requires-clause-next : goal.leave-requires-clause-next
-leave-requires-clause-next c = subst (λ (p : Pair). IsWithin (length c.args.store.now.order.items) p.next) (sym c.pair_of-neighbours.ensures) (held_next c.args.store.now c.args.slot c.requires.sound c.requires.held)
+leave-requires-clause-next c = subst (λ (p : Pair). IsWithin (length c.args.store.now.order.items) p.next)
+    (sym c.pair_of-neighbours.ensures) (held_next c.args.store.now c.args.slot c.requires.sound c.requires.held)
 
 pub enter-requires-clause-last : goal.enter-requires-clause-last
-enter-requires-clause-last c = rw (c.leave.ensures.links, c.leave.ensures.ends, c.pair_of-neighbours.ensures) (renewed_last c.args.store.now c.args.slot c.requires.sound c.requires.held)
+enter-requires-clause-last c = rw (c.leave.ensures.links, c.leave.ensures.ends, c.pair_of-neighbours.ensures)
+    (renewed_last c.args.store.now c.args.slot c.requires.sound c.requires.held)
 
 pub enter-requires-clause-slot : goal.enter-requires-clause-slot
-enter-requires-clause-slot c = rw (c.leave.ensures.links, length-left) (held_within c.args.store.now c.args.slot c.requires.sound c.requires.held)
+enter-requires-clause-slot c = rw (c.leave.ensures.links, length-left)
+    (held_within c.args.store.now c.args.slot c.requires.sound c.requires.held)
 
 pub enter-requires-clause-number : goal.enter-requires-clause-number
-enter-requires-clause-number c = omega (arith, held_within c.args.store.now c.args.slot c.requires.sound c.requires.held, c.requires.sound.store.numbers)
+enter-requires-clause-number c = omega
+    (arith, held_within c.args.store.now c.args.slot c.requires.sound c.requires.held, c.requires.sound.store.numbers)
 
 pub grown-store-requires : goal.grown-store-requires
-grown-store-requires c = omega (arith, held_within c.args.store.now c.args.slot c.requires.sound c.requires.held, c.requires.sound.store.numbers)
+grown-store-requires c = omega
+    (arith, held_within c.args.store.now c.args.slot c.requires.sound c.requires.held, c.requires.sound.store.numbers)
 
 pub returns : goal.returns
 returns c =
     let ends = c.leave.ensures.ends ∙ ap (λ (p : Pair). shrunk p c.args.store.now.live) c.pair_of-neighbours.ensures in
-    let without = c.leave.ensures.links ∙ ap (λ (p : Pair). left p c.args.store.now.order.items) c.pair_of-neighbours.ensures in
+    let without = c.leave.ensures.links
+    ∙ ap (λ (p : Pair). left p c.args.store.now.order.items) c.pair_of-neighbours.ensures in
     record {
       renewed = renews c.args.store.now _ c.args.slot c.requires.sound c.requires.held
           (record {

@@ -7,10 +7,12 @@ pub pair_of-requires : goal.pair_of-requires
 pair_of-requires c = newest_free c.args.store.now c.args.slot c.requires.sound c.requires.newest
 
 pub overflow_mul-slot : goal.overflow_mul-slot
-overflow_mul-slot c = let fits = newest_fits c.args.store.now c.args.slot c.args.cells.now c.requires.sound c.requires.newest c.requires.wide in grind (arith, fits)
+overflow_mul-slot c = let fits = newest_fits c.args.store.now c.args.slot c.args.cells.now c.requires.sound
+    c.requires.newest c.requires.wide in grind (arith, fits)
 
 pub overwrite-requires : goal.overwrite-requires
-overwrite-requires c = newest_fits c.args.store.now c.args.slot c.args.cells.now c.requires.sound c.requires.newest c.requires.wide
+overwrite-requires c = newest_fits c.args.store.now c.args.slot c.args.cells.now c.requires.sound c.requires.newest
+    c.requires.wide
 
 pub returns : goal.returns
 returns c = record {

@@ -9,16 +9,19 @@ pub class_at-class-requires-clause-slot : goal.class_at-class-requires-clause-sl
 class_at-class-requires-clause-slot c = held_within c.args.store.now c.args.slot c.requires.sound c.requires.held
 
 pub unlist-requires-clause-stands : goal.unlist-requires-clause-stands
-unlist-requires-clause-stands c = held_in_bucket c.args.store.now c.args.slot c.class_at-class.result c.requires.sound c.requires.held c.class_at-class.ensures.within c.class_at-class.ensures.class
+unlist-requires-clause-stands c = held_in_bucket c.args.store.now c.args.slot c.class_at-class.result c.requires.sound
+    c.requires.held c.class_at-class.ensures.within c.class_at-class.ensures.class
 
 pub pair_of-neighbours-requires : goal.pair_of-neighbours-requires
 pair_of-neighbours-requires c = held_within c.args.store.now c.args.slot c.requires.sound c.requires.held
 
 pub leave-requires-clause-prev : goal.leave-requires-clause-prev
-leave-requires-clause-prev c = subst (λ (p : Pair). IsWithin (length c.args.store.now.order.items) p.prev) (sym c.pair_of-neighbours.ensures) (held_prev c.args.store.now c.args.slot c.requires.sound c.requires.held)
+leave-requires-clause-prev c = subst (λ (p : Pair). IsWithin (length c.args.store.now.order.items) p.prev)
+    (sym c.pair_of-neighbours.ensures) (held_prev c.args.store.now c.args.slot c.requires.sound c.requires.held)
 
 pub leave-requires-clause-next : goal.leave-requires-clause-next
-leave-requires-clause-next c = subst (λ (p : Pair). IsWithin (length c.args.store.now.order.items) p.next) (sym c.pair_of-neighbours.ensures) (held_next c.args.store.now c.args.slot c.requires.sound c.requires.held)
+leave-requires-clause-next c = subst (λ (p : Pair). IsWithin (length c.args.store.now.order.items) p.next)
+    (sym c.pair_of-neighbours.ensures) (held_next c.args.store.now c.args.slot c.requires.sound c.requires.held)
 
 pub returns : goal.returns
 returns c = record {
@@ -26,7 +29,8 @@ returns c = record {
       (record {
         width = refl;
         cells = refl;
-        order = c.leave.ensures.links ∙ ap (λ (p : Pair). left p c.args.store.now.order.items) c.pair_of-neighbours.ensures;
+        order = c.leave.ensures.links
+            ∙ ap (λ (p : Pair). left p c.args.store.now.order.items) c.pair_of-neighbours.ensures;
         live = c.leave.ensures.ends ∙ ap (λ (p : Pair). shrunk p c.args.store.now.live) c.pair_of-neighbours.ensures;
         bucket = c.unlist.ensures.unlisted;
         free = refl;

@@ -4,11 +4,13 @@ use Rattle.djq_arena.proofs.Following.{stands_within, behind_within}
 use Rattle.djq_arena.proofs.store.unlist.Goals as goal
 
 pub link_of-after-requires : goal.link_of-after-requires
-link_of-after-requires c = stands_within c.args.bucket.now.items (link_at c.args.heads.now.items c.args.class) c.args.slot c.requires.stands
+link_of-after-requires c = stands_within c.args.bucket.now.items (link_at c.args.heads.now.items c.args.class)
+    c.args.slot c.requires.stands
 
 pub index_mut-requires-in-Some : goal.index_mut-requires-in-Some
 index_mut-requires-in-Some c =
-    let within = behind_within c.args.bucket.now.items _ c.args.slot c.before-2.result c.in-Some.prev c.before-2.ensures (sym c.in-Some.ensures) in
+    let within = behind_within c.args.bucket.now.items _ c.args.slot c.before-2.result c.in-Some.prev c.before-2.ensures
+    (sym c.in-Some.ensures) in
     omega (arith, within, c.args.bucket.now.ok.0)
 
 pub returns-in-None : goal.returns-in-None
@@ -16,7 +18,8 @@ returns-in-None c = record {
   unlisted = record {
     before = None;
     behind = subst (λ (h : Option ℕ). IsBehind c.args.bucket.now.items h c.args.slot None) c.link_of.ensures
-        (subst (λ (o : Option ℕ). IsBehind c.args.bucket.now.items c.link_of.result c.args.slot o) (sym c.in-None.ensures) c.before-2.ensures);
+        (subst (λ (o : Option ℕ). IsBehind c.args.bucket.now.items c.link_of.result c.args.slot o)
+        (sym c.in-None.ensures) c.before-2.ensures);
     links_are = refl;
     heads_are = ap (λ (o : Option ℕ). slice_set c.args.heads.now.items c.args.class o) c.link_of-after.ensures;
   };
@@ -26,8 +29,10 @@ pub returns-in-Some : goal.returns-in-Some
 returns-in-Some c = record {
   unlisted = record {
     before = Some c.in-Some.prev;
-    behind = subst (λ (h : Option ℕ). IsBehind c.args.bucket.now.items h c.args.slot (Some c.in-Some.prev)) c.link_of.ensures
-        (subst (λ (o : Option ℕ). IsBehind c.args.bucket.now.items c.link_of.result c.args.slot o) (sym c.in-Some.ensures) c.before-2.ensures);
+    behind = subst (λ (h : Option ℕ). IsBehind c.args.bucket.now.items h c.args.slot (Some c.in-Some.prev))
+        c.link_of.ensures
+        (subst (λ (o : Option ℕ). IsBehind c.args.bucket.now.items c.link_of.result c.args.slot o)
+        (sym c.in-Some.ensures) c.before-2.ensures);
     links_are = ap (λ (o : Option ℕ). slice_set c.args.bucket.now.items c.in-Some.prev o) c.link_of-after.ensures;
     heads_are = refl;
   };

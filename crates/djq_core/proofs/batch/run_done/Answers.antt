@@ -10,17 +10,20 @@ use Rattle.djq_core.proofs.batch.run_done.Goals as goal
 
 pub done-result-requires-clause-suit : goal.done-result-requires-clause-suit
 done-result-requires-clause-suit g c =
-    let suits = subst (BatchSuits (c.args.engine.now).store) (sym c.take_batch.ensures.rows ∙ c.in-Some.is) c.requires.suits in
+    let suits = subst (BatchSuits (c.args.engine.now).store) (sym c.take_batch.ensures.rows ∙ c.in-Some.is)
+    c.requires.suits in
     subst (λ (rows : List HeldRow). SuitAll (c.args.engine.now).store rows) (sym c.as_slice.ensures) suits.1
 
 pub done-result-requires-clause-few : goal.done-result-requires-clause-few
 done-result-requires-clause-few g c =
-    let suits = subst (BatchSuits (c.args.engine.now).store) (sym c.take_batch.ensures.rows ∙ c.in-Some.is) c.requires.suits in
+    let suits = subst (BatchSuits (c.args.engine.now).store) (sym c.take_batch.ensures.rows ∙ c.in-Some.is)
+    c.requires.suits in
     subst (λ (rows : List HeldRow). length rows ≤ HELD) (sym c.as_slice.ensures) suits.0
 
 pub returns-clause-adds : goal.returns-clause-adds
 returns-clause-adds g c =
-    let sliced : AddsAll c.args.engine.now c.as_slice.result.now (Done c.done-result.result c.as_slice.result.now) c.done-result.new.self c.args.steps.now.listing c.done-result.new.steps.listing
+    let sliced : AddsAll c.args.engine.now c.as_slice.result.now (Done c.done-result.result c.as_slice.result.now)
+    c.done-result.new.self c.args.steps.now.listing c.done-result.new.steps.listing
     = record {
       result = c.done-result.result;
       is = refl;
@@ -33,6 +36,9 @@ returns-clause-adds g c =
         tells = c.done-result.ensures.tells;
       };
     } in
-    let rows : rows_held c.args.session.now.batch ≡ c.in-Some.held = ap rows_held (sym c.take_batch.ensures.rows ∙ c.in-Some.is) in
-    subst (λ (held : List HeldRow). AddsAll c.args.engine.now held (Done c.done-result.result c.in-Some.held) c.done-result.new.self c.args.steps.now.listing c.done-result.new.steps.listing) (sym rows)
-    (subst (λ (held : List HeldRow). AddsAll c.args.engine.now held (Done c.done-result.result held) c.done-result.new.self c.args.steps.now.listing c.done-result.new.steps.listing) c.as_slice.ensures sliced)
+    let rows : rows_held c.args.session.now.batch
+    ≡ c.in-Some.held = ap rows_held (sym c.take_batch.ensures.rows ∙ c.in-Some.is) in
+    subst (λ (held : List HeldRow). AddsAll c.args.engine.now held (Done c.done-result.result c.in-Some.held)
+    c.done-result.new.self c.args.steps.now.listing c.done-result.new.steps.listing) (sym rows)
+    (subst (λ (held : List HeldRow). AddsAll c.args.engine.now held (Done c.done-result.result held)
+    c.done-result.new.self c.args.steps.now.listing c.done-result.new.steps.listing) c.as_slice.ensures sliced)

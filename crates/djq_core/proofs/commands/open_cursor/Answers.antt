@@ -8,12 +8,16 @@ use Rattle.djq_core.proofs.commands.open_cursor.Goals as goal
 pub returns-then-is_some-2 : goal.returns-then-is_some-2
 returns-then-is_some-2 c =
     let fresh : is_some (named c.args.session.now.cursors c.args.name.now) ≡ false
-    = cursor_named (named c.args.session.now.cursors c.args.name.now) ∙ ap (λ (o : Option CursorId). is_some o) (sym c.cursor.ensures) ∙ sym c.if-is_some.ensures in
-    opens_limit c.args.engine.now c.args.session.now c.args.name.now c.args.query.now c.query_id.result fresh c.laws.ensures.queries c.query_id.ensures (sym c.if-is_some-2.ensures)
+    = cursor_named (named c.args.session.now.cursors c.args.name.now)
+    ∙ ap (λ (o : Option CursorId). is_some o) (sym c.cursor.ensures) ∙ sym c.if-is_some.ensures in
+    opens_limit c.args.engine.now c.args.session.now c.args.name.now c.args.query.now c.query_id.result fresh
+    c.laws.ensures.queries c.query_id.ensures (sym c.if-is_some-2.ensures)
     (subst (λ (n : ℕ). CURSORS ≤ n) c.cursors.ensures c.if-cursors-ge-CURSORS.true)
 
 pub returns-else-is_some-2 : goal.returns-else-is_some-2
 returns-else-is_some-2 c =
     let fresh : is_some (named c.args.session.now.cursors c.args.name.now) ≡ false
-    = cursor_named (named c.args.session.now.cursors c.args.name.now) ∙ ap (λ (o : Option CursorId). is_some o) (sym c.cursor.ensures) ∙ sym c.if-is_some.ensures in
-    opens_none c.args.engine.now c.args.session.now c.args.name.now c.args.query.now c.query_id.result fresh c.laws.ensures.queries c.query_id.ensures (sym c.if-is_some-2.ensures)
+    = cursor_named (named c.args.session.now.cursors c.args.name.now)
+    ∙ ap (λ (o : Option CursorId). is_some o) (sym c.cursor.ensures) ∙ sym c.if-is_some.ensures in
+    opens_none c.args.engine.now c.args.session.now c.args.name.now c.args.query.now c.query_id.result fresh
+    c.laws.ensures.queries c.query_id.ensures (sym c.if-is_some-2.ensures)

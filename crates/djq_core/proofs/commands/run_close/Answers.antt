@@ -9,7 +9,8 @@ use Rattle.djq_core.proofs.commands.run_close.Goals as goal
 pub close-requires : goal.close-requires
 close-requires c =
     let f = named_some (named c.args.session.now.cursors c.args.name.now) c.in-Some.id (sym c.in-Some.ensures) in
-    subst (λ (id : CursorId). IsHeld c.args.engine.now id) f.2 (is_held c.args.engine.now c.args.session.now.cursors c.args.name.now f.0 c.requires.own.cursors_held f.1)
+    subst (λ (id : CursorId). IsHeld c.args.engine.now id) f.2
+    (is_held c.args.engine.now c.args.session.now.cursors c.args.name.now f.0 c.requires.own.cursors_held f.1)
 
 pub returns-in-None : goal.returns-in-None
 returns-in-None c =
@@ -19,5 +20,7 @@ returns-in-None c =
 pub returns-in-Some : goal.returns-in-Some
 returns-in-Some c =
     let f = named_some (named c.args.session.now.cursors c.args.name.now) c.in-Some.id (sym c.in-Some.ensures) in
-    does_close c.args.engine.now c.close.new.self c.args.session.now c.drop_cursor.new.self c.answer_done.new.self c.args.name.now f.0 c.requires f.1
-    (subst (λ (id : CursorId). ClosesCursor c.args.engine.now id c.close.new.self) (sym f.2) c.close.ensures) c.drop_cursor.ensures c.answer_done.ensures
+    does_close c.args.engine.now c.close.new.self c.args.session.now c.drop_cursor.new.self c.answer_done.new.self
+    c.args.name.now f.0 c.requires f.1
+    (subst (λ (id : CursorId). ClosesCursor c.args.engine.now id c.close.new.self) (sym f.2) c.close.ensures)
+    c.drop_cursor.ensures c.answer_done.ensures

@@ -6,7 +6,9 @@ use Rattle.djq_core.proofs.commands.run_drop.Goals as goal
 
 pub returns : goal.returns
 returns c =
-    subst (λ (kept : Bool). ExecutesKeeping (Drop c.args.query.now) kept false c.args.engine.now c.args.session.now c.drop_query-outcome.new.self c.answer_done.new.self 0 0)
+    subst (λ (kept : Bool). ExecutesKeeping (Drop c.args.query.now) kept false c.args.engine.now c.args.session.now
+    c.drop_query-outcome.new.self c.answer_done.new.self 0 0)
     (sym (c.is_ok.ensures.value ∙ ok_done c.drop_query-outcome.result))
-    (does_drop c.args.engine.now c.drop_query-outcome.new.self c.args.session.now c.answer_done.new.self c.args.query.now c.drop_query-outcome.result
+    (does_drop c.args.engine.now c.drop_query-outcome.new.self c.args.session.now c.answer_done.new.self
+    c.args.query.now c.drop_query-outcome.result
     c.drop_query-outcome.ensures c.answer_done.ensures)

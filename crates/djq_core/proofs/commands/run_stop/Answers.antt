@@ -5,4 +5,5 @@ use Rattle.djq_core.proofs.GivingUp.{ends}
 use Rattle.djq_core.proofs.commands.run_stop.Goals as goal
 
 pub returns : goal.returns
-returns c = ends _ _ c.args.engine.now c.give_up.new.engine c.args.session.now c.give_up.new.session c.end_bye.new.self (Some bye) Stop c.give_up.ensures.gives_up c.end_bye.ensures (λ st s x. (refl, refl))
+returns c = ends _ _ c.args.engine.now c.give_up.new.engine c.args.session.now c.give_up.new.session c.end_bye.new.self
+    (Some bye) Stop c.give_up.ensures.gives_up c.end_bye.ensures (λ st s x. (refl, refl))

@@ -10,13 +10,17 @@ use Rattle.djq_core.proofs.ending.end_input.Goals as goal
 pub returns-then-is_empty-clause-performs : goal.returns-then-is_empty-clause-performs
 returns-then-is_empty-clause-performs c =
     let held = c.held.ensures ∙ ap (λ (d : Talk). d.held) c.give_up.ensures.gives_up.session in
-    let none = cut_none c.args.session.now.held (subst (λ (bs : Bytes). eqb (length bs) 0 ≡ true) held (sym c.if-is_empty.ensures)) in
+    let none = cut_none c.args.session.now.held
+    (subst (λ (bs : Bytes). eqb (length bs) 0 ≡ true) held (sym c.if-is_empty.ensures)) in
     ends _ _ c.args.engine.now c.give_up.new.engine c.args.session.now c.give_up.new.session c.end.new.self None Input
-    c.give_up.ensures.gives_up (quiet_end c.give_up.new.session c.end.new.self Input c.end.ensures) (λ st s x. (ap (λ o. to_one s o 0) (sym none), refl))
+    c.give_up.ensures.gives_up (quiet_end c.give_up.new.session c.end.new.self Input c.end.ensures)
+    (λ st s x. (ap (λ o. to_one s o 0) (sym none), refl))
 
 pub returns-else-is_empty-clause-performs : goal.returns-else-is_empty-clause-performs
 returns-else-is_empty-clause-performs c =
     let held = c.held.ensures ∙ ap (λ (d : Talk). d.held) c.give_up.ensures.gives_up.session in
-    let cut = cut_some c.args.session.now.held (subst (λ (bs : Bytes). eqb (length bs) 0 ≡ false) held (sym c.if-is_empty.ensures)) in
-    ends _ _ c.args.engine.now c.give_up.new.engine c.args.session.now c.give_up.new.session c.end_cut.new.self (Some input_cut) Input
+    let cut = cut_some c.args.session.now.held
+    (subst (λ (bs : Bytes). eqb (length bs) 0 ≡ false) held (sym c.if-is_empty.ensures)) in
+    ends _ _ c.args.engine.now c.give_up.new.engine c.args.session.now c.give_up.new.session c.end_cut.new.self
+    (Some input_cut) Input
     c.give_up.ensures.gives_up c.end_cut.ensures (λ st s x. (ap (λ o. to_one s o 0) (sym cut), refl))

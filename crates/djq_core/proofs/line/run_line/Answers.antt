@@ -17,7 +17,8 @@ use Rattle.djq_core.proofs.Saying.{reads_as, refused_alone, short_to_add, short_
 use Rattle.djq_core.proofs.line.run_line.Goals as goal
 
 pub new-requires : goal.new-requires
-new-requires g c = short_to_add (take c.args.end c.held.result.now) c.in-Add.name.now c.read_row.new.row.items c.in-Add.ensures
+new-requires g c = short_to_add (take c.args.end c.held.result.now) c.in-Add.name.now c.read_row.new.row.items
+    c.in-Add.ensures
 
 pub returns-in-Add : goal.returns-in-Add
 returns-in-Add g c =
@@ -26,16 +27,24 @@ returns-in-Add g c =
     let name = c.in-Add.name.now in
     let row = c.read_row.new.row.items in
     let said = subst (λ (bs : Bytes). Reads (take c.args.end bs) (Ok (Add name row))) c.held.ensures c.in-Add.ensures in
-    let named = subst (λ (n : Bytes). Adds c.args.engine.now n c.as_slice.result.now c.run_add-outcome.result c.run_add-outcome.new.engine c.args.steps.now.listing c.run_add-outcome.new.steps.listing) c.new.ensures c.run_add-outcome.ensures in
-    let adds = subst (λ (values : Tuple). Adds c.args.engine.now name values c.run_add-outcome.result c.run_add-outcome.new.engine c.args.steps.now.listing c.run_add-outcome.new.steps.listing) c.as_slice.ensures.value named in
-    line_leaves (Telling c.run_add-outcome.result) c.args.engine.now old c.take_line.new.self line (drop c.args.rest old.held) (Add name row) c.run_add-outcome.new.engine c.take_line.new.self c.args.steps.now.listing c.run_add-outcome.new.steps.listing
+    let named = subst (λ (n : Bytes). Adds c.args.engine.now n c.as_slice.result.now c.run_add-outcome.result
+    c.run_add-outcome.new.engine c.args.steps.now.listing c.run_add-outcome.new.steps.listing) c.new.ensures
+    c.run_add-outcome.ensures in
+    let adds = subst (λ (values : Tuple). Adds c.args.engine.now name values c.run_add-outcome.result
+    c.run_add-outcome.new.engine c.args.steps.now.listing c.run_add-outcome.new.steps.listing)
+    c.as_slice.ensures.value named in
+    line_leaves (Telling c.run_add-outcome.result) c.args.engine.now old c.take_line.new.self line
+    (drop c.args.rest old.held) (Add name row) c.run_add-outcome.new.engine c.take_line.new.self
+    c.args.steps.now.listing c.run_add-outcome.new.steps.listing
     c.requires.front c.take_line.ensures c.requires.said c.requires.few c.requires.ready.running c.requires.ready.room
     (reads_as line (Add name row) said) (λ h. absurd h)
-    (tells_alone c.run_add-outcome.result c.args.engine.now c.take_line.new.self c.run_add-outcome.new.engine c.args.steps.now.listing c.run_add-outcome.new.steps.listing (Add name row)
+    (tells_alone c.run_add-outcome.result c.args.engine.now c.take_line.new.self c.run_add-outcome.new.engine
+    c.args.steps.now.listing c.run_add-outcome.new.steps.listing (Add name row)
     (ap (λ (d : Talk). d.batch) c.take_line.ensures ∙ c.requires.alone) adds)
 
 pub new-requires-in-Del : goal.new-requires-in-Del
-new-requires-in-Del g c = short_to_delete (take c.args.end c.held.result.now) c.in-Del.name.now c.read_row.new.row.items c.in-Del.ensures
+new-requires-in-Del g c = short_to_delete (take c.args.end c.held.result.now) c.in-Del.name.now c.read_row.new.row.items
+    c.in-Del.ensures
 
 pub returns-in-Del : goal.returns-in-Del
 returns-in-Del g c =
@@ -44,24 +53,38 @@ returns-in-Del g c =
     let name = c.in-Del.name.now in
     let row = c.read_row.new.row.items in
     let said = subst (λ (bs : Bytes). Reads (take c.args.end bs) (Ok (Del name row))) c.held.ensures c.in-Del.ensures in
-    let named = subst (λ (n : Bytes). Deletes c.args.engine.now n c.as_slice-in-Del.result.now c.run_del-outcome.result c.run_del-outcome.new.engine c.args.steps.now.listing c.run_del-outcome.new.steps.listing) c.new-in-Del.ensures c.run_del-outcome.ensures in
-    let deletes = subst (λ (values : Tuple). Deletes c.args.engine.now name values c.run_del-outcome.result c.run_del-outcome.new.engine c.args.steps.now.listing c.run_del-outcome.new.steps.listing) c.as_slice-in-Del.ensures.value named in
-    line_leaves (Telling c.run_del-outcome.result) c.args.engine.now old c.take_line-in-Del.new.self line (drop c.args.rest old.held) (Del name row) c.run_del-outcome.new.engine c.take_line-in-Del.new.self c.args.steps.now.listing c.run_del-outcome.new.steps.listing
-    c.requires.front c.take_line-in-Del.ensures c.requires.said c.requires.few c.requires.ready.running c.requires.ready.room
+    let named = subst (λ (n : Bytes). Deletes c.args.engine.now n c.as_slice-in-Del.result.now c.run_del-outcome.result
+    c.run_del-outcome.new.engine c.args.steps.now.listing c.run_del-outcome.new.steps.listing) c.new-in-Del.ensures
+    c.run_del-outcome.ensures in
+    let deletes = subst (λ (values : Tuple). Deletes c.args.engine.now name values c.run_del-outcome.result
+    c.run_del-outcome.new.engine c.args.steps.now.listing c.run_del-outcome.new.steps.listing)
+    c.as_slice-in-Del.ensures.value named in
+    line_leaves (Telling c.run_del-outcome.result) c.args.engine.now old c.take_line-in-Del.new.self line
+    (drop c.args.rest old.held) (Del name row) c.run_del-outcome.new.engine c.take_line-in-Del.new.self
+    c.args.steps.now.listing c.run_del-outcome.new.steps.listing
+    c.requires.front c.take_line-in-Del.ensures c.requires.said c.requires.few c.requires.ready.running
+    c.requires.ready.room
     (reads_as line (Del name row) said) (λ h. absurd h)
-    (tells_alone c.run_del-outcome.result c.args.engine.now c.take_line-in-Del.new.self c.run_del-outcome.new.engine c.args.steps.now.listing c.run_del-outcome.new.steps.listing (Del name row)
+    (tells_alone c.run_del-outcome.result c.args.engine.now c.take_line-in-Del.new.self c.run_del-outcome.new.engine
+    c.args.steps.now.listing c.run_del-outcome.new.steps.listing (Del name row)
     (ap (λ (d : Talk). d.batch) c.take_line-in-Del.ensures ∙ c.requires.alone) deletes)
 
 pub returns-in-Refused : goal.returns-in-Refused
 returns-in-Refused g c =
     let old = c.args.session.now in
     let line = take c.args.end old.held in
-    let said = subst (λ (bs : Bytes). Reads (take c.args.end bs) (Err c.in-Refused.refusal)) c.held.ensures c.in-Refused.ensures.1 in
-    let reply = subst (λ (r : Refusal). Replies c.take_line-in-Refused.new.self c.refuse.new.self (refusal_line r)) c.refusal_of.ensures c.refuse.ensures in
-    runs false false c.args.engine.now old c.take_line-in-Refused.new.self line (drop c.args.rest old.held) c.args.engine.now c.refuse.new.self c.args.steps.now.listing c.args.steps.now.listing
+    let said = subst (λ (bs : Bytes). Reads (take c.args.end bs) (Err c.in-Refused.refusal)) c.held.ensures
+    c.in-Refused.ensures.1 in
+    let reply = subst (λ (r : Refusal). Replies c.take_line-in-Refused.new.self c.refuse.new.self (refusal_line r))
+    c.refusal_of.ensures c.refuse.ensures in
+    runs false false c.args.engine.now old c.take_line-in-Refused.new.self line (drop c.args.rest old.held)
+    c.args.engine.now c.refuse.new.self c.args.steps.now.listing c.args.steps.now.listing
     c.requires.front c.take_line-in-Refused.ensures c.requires.said c.requires.few
-    (reads_refused c.args.engine.now c.take_line-in-Refused.new.self c.refuse.new.self line (refused_as c.in-Refused.refusal) c.args.steps.now.listing
-    (refused_alone c.take_line-in-Refused.new.self.batch line c.in-Refused.refusal (ap (λ (d : Talk). d.batch) c.take_line-in-Refused.ensures ∙ c.requires.alone) said) reply)
+    (reads_refused c.args.engine.now c.take_line-in-Refused.new.self c.refuse.new.self line
+    (refused_as c.in-Refused.refusal) c.args.steps.now.listing
+    (refused_alone c.take_line-in-Refused.new.self.batch line c.in-Refused.refusal
+    (ap (λ (d : Talk). d.batch) c.take_line-in-Refused.ensures ∙ c.requires.alone) said) reply)
 
 pub run_other-requires-clause-other : goal.run_other-requires-clause-other
-run_other-requires-clause-other g c = subst (λ (bs : Bytes). begins_row (tokens (take c.args.end bs)) ≡ false) c.held.ensures c.in-Other.ensures.0
+run_other-requires-clause-other g c = subst (λ (bs : Bytes). begins_row (tokens (take c.args.end bs)) ≡ false)
+    c.held.ensures c.in-Other.ensures.0

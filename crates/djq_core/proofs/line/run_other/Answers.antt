@@ -20,36 +20,51 @@ obey-requires-clause-runnable g c = runnable (take c.args.end c.held.result.now)
 pub obey-requires-clause-other : goal.obey-requires-clause-other
 obey-requires-clause-other g c =
     other (take c.args.end c.args.session.now.held) c.in-Ok.command
-    (subst (λ (bs : Bytes). Reads (take c.args.end bs) (Ok c.in-Ok.command)) c.held.ensures c.in-Ok.ensures) c.requires.other
+    (subst (λ (bs : Bytes). Reads (take c.args.end bs) (Ok c.in-Ok.command)) c.held.ensures c.in-Ok.ensures)
+    c.requires.other
 
 pub returns-else-is_for_batch : goal.returns-else-is_for_batch
 returns-else-is_for_batch g c =
     let old = c.args.session.now in
     let line = take c.args.end old.held in
     let said = subst (λ (bs : Bytes). Reads (take c.args.end bs) (Ok c.in-Ok.command)) c.held.ensures c.in-Ok.ensures in
-    line_leaves c.obey.result c.args.engine.now old c.take_line.new.self line (drop c.args.rest old.held) c.in-Ok.command c.obey.new.engine c.obey.new.session c.args.steps.now.listing c.obey.new.steps.listing
+    line_leaves c.obey.result c.args.engine.now old c.take_line.new.self line (drop c.args.rest old.held)
+    c.in-Ok.command c.obey.new.engine c.obey.new.session c.args.steps.now.listing c.obey.new.steps.listing
     c.requires.front c.take_line.ensures c.requires.said c.requires.few c.requires.ready.running c.requires.ready.room
     (reads_as line c.in-Ok.command said)
-    (λ h. (other line c.in-Ok.command said c.requires.other, ap (λ (o : Option (List HeldRow)). is_misplaced o c.in-Ok.command) c.requires.alone ∙ (sym c.is_for_batch.ensures ∙ c.if-is_for_batch.false))) c.obey.ensures
+    (λ h. (
+      other line c.in-Ok.command said c.requires.other,
+      ap
+          (λ (o : Option (List HeldRow)). is_misplaced o c.in-Ok.command) c.requires.alone
+          ∙ (sym c.is_for_batch.ensures ∙ c.if-is_for_batch.false),
+    )) c.obey.ensures
 
 pub returns-in-Err : goal.returns-in-Err
 returns-in-Err g c =
     let old = c.args.session.now in
     let line = take c.args.end old.held in
-    let said = subst (λ (bs : Bytes). Reads (take c.args.end bs) (Err c.in-Err.refusal)) c.held.ensures c.in-Err.ensures in
-    let reply = subst (λ (r : Refusal). Replies c.take_line.new.self c.refuse-in-Err.new.self (refusal_line r)) c.refusal_of.ensures c.refuse-in-Err.ensures in
-    runs false false c.args.engine.now old c.take_line.new.self line (drop c.args.rest old.held) c.args.engine.now c.refuse-in-Err.new.self c.args.steps.now.listing c.args.steps.now.listing
+    let said = subst (λ (bs : Bytes). Reads (take c.args.end bs) (Err c.in-Err.refusal)) c.held.ensures c.in-Err.ensures
+    in
+    let reply = subst (λ (r : Refusal). Replies c.take_line.new.self c.refuse-in-Err.new.self (refusal_line r))
+    c.refusal_of.ensures c.refuse-in-Err.ensures in
+    runs false false c.args.engine.now old c.take_line.new.self line (drop c.args.rest old.held) c.args.engine.now
+    c.refuse-in-Err.new.self c.args.steps.now.listing c.args.steps.now.listing
     c.requires.front c.take_line.ensures c.requires.said c.requires.few
-    (reads_refused c.args.engine.now c.take_line.new.self c.refuse-in-Err.new.self line (refused_as c.in-Err.refusal) c.args.steps.now.listing
-    (refused_alone c.take_line.new.self.batch line c.in-Err.refusal (ap (λ (d : Talk). d.batch) c.take_line.ensures ∙ c.requires.alone) said) reply)
+    (reads_refused c.args.engine.now c.take_line.new.self c.refuse-in-Err.new.self line (refused_as c.in-Err.refusal)
+    c.args.steps.now.listing
+    (refused_alone c.take_line.new.self.batch line c.in-Err.refusal
+    (ap (λ (d : Talk). d.batch) c.take_line.ensures ∙ c.requires.alone) said) reply)
 
 pub returns-then-is_for_batch : goal.returns-then-is_for_batch
 returns-then-is_for_batch g c =
     let old = c.args.session.now in
     let line = take c.args.end old.held in
     let said = subst (λ (bs : Bytes). Reads (take c.args.end bs) (Ok c.in-Ok.command)) c.held.ensures c.in-Ok.ensures in
-    runs false false c.args.engine.now old c.take_line.new.self line (drop c.args.rest old.held) c.args.engine.now c.refuse.new.self c.args.steps.now.listing c.args.steps.now.listing
+    runs false false c.args.engine.now old c.take_line.new.self line (drop c.args.rest old.held) c.args.engine.now
+    c.refuse.new.self c.args.steps.now.listing c.args.steps.now.listing
     c.requires.front c.take_line.ensures c.requires.said c.requires.few
     (reads_refused c.args.engine.now c.take_line.new.self c.refuse.new.self line Misplaced c.args.steps.now.listing
     (misplaced_said c.take_line.new.self.batch line c.in-Ok.command said
-    (ap (λ (o : Option (List HeldRow)). is_misplaced o c.in-Ok.command) (ap (λ (d : Talk). d.batch) c.take_line.ensures ∙ c.requires.alone) ∙ (sym c.is_for_batch.ensures ∙ c.if-is_for_batch.true))) c.refuse.ensures)
+    (ap (λ (o : Option (List HeldRow)). is_misplaced o c.in-Ok.command)
+    (ap (λ (d : Talk). d.batch) c.take_line.ensures ∙ c.requires.alone)
+    ∙ (sym c.is_for_batch.ensures ∙ c.if-is_for_batch.true))) c.refuse.ensures)

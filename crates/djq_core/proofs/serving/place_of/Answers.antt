@@ -2,4 +2,5 @@ use Rattle.djq_core.proofs.Places.{not_missed}
 use Rattle.djq_core.proofs.serving.place_of.Goals as goal
 
 pub unreachable-requires : goal.unreachable-requires
-unreachable-requires c = not_missed c.args.ids.now c.args.id c.in-Err.field-0 c.requires.rising c.requires.there c.in-Err.ensures.position
+unreachable-requires c = not_missed c.args.ids.now c.args.id c.in-Err.field-0 c.requires.rising c.requires.there
+    c.in-Err.ensures.position

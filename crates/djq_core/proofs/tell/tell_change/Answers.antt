@@ -15,41 +15,69 @@ use Rattle.djq_core.proofs.tell.tell_change.Goals as goal
 pub answer_last-requires : goal.answer_last-requires
 answer_last-requires c =
     let accepted = is_accepted c.args.outcome.now in
-    let spread : Spread accepted c.args.engine.now c.args.sessions.now.items c.if-is_accepted.engine c.if-is_accepted.sessions.items
+    let spread : Spread accepted c.args.engine.now c.args.sessions.now.items c.if-is_accepted.engine
+    c.if-is_accepted.sessions.items
     = elim c.if-is_accepted.branch [
       | then-is_accepted w ↦
-          subst (λ (k : Kept). Spread accepted c.args.engine.now c.args.sessions.now.items k c.if-is_accepted.sessions.items) (sym w.engine-is)
-          (subst (λ (ys : List OpenSession). Spread accepted c.args.engine.now c.args.sessions.now.items w.tell_affected.new.engine ys) (sym (ap (λ v. v.items) w.sessions-is))
-          (spread_all accepted c.args.engine.now c.args.sessions.now.items w.tell_affected.new.engine w.tell_affected.new.sessions.items (sym c.is_accepted.ensures ∙ w.if-is_accepted.true) w.tell_affected.ensures.tells))
+          subst (λ (k : Kept). Spread accepted c.args.engine.now c.args.sessions.now.items k
+          c.if-is_accepted.sessions.items) (sym w.engine-is)
+          (subst (λ (ys : List OpenSession). Spread accepted c.args.engine.now c.args.sessions.now.items
+          w.tell_affected.new.engine ys) (sym (ap (λ v. v.items) w.sessions-is))
+          (spread_all accepted c.args.engine.now c.args.sessions.now.items w.tell_affected.new.engine
+          w.tell_affected.new.sessions.items (sym c.is_accepted.ensures ∙ w.if-is_accepted.true)
+          w.tell_affected.ensures.tells))
       | else-is_accepted w ↦
-          subst (λ (k : Kept). Spread accepted c.args.engine.now c.args.sessions.now.items k c.if-is_accepted.sessions.items) (sym w.engine-is)
-          (subst (λ (ys : List OpenSession). Spread accepted c.args.engine.now c.args.sessions.now.items c.args.engine.now ys) (sym (ap (λ v. v.items) w.sessions-is))
-          (spread_none accepted c.args.engine.now c.args.sessions.now.items (sym c.is_accepted.ensures ∙ w.if-is_accepted.false) c.requires.sound))
+          subst (λ (k : Kept). Spread accepted c.args.engine.now c.args.sessions.now.items k
+          c.if-is_accepted.sessions.items) (sym w.engine-is)
+          (subst (λ (ys : List OpenSession). Spread accepted c.args.engine.now c.args.sessions.now.items
+          c.args.engine.now ys) (sym (ap (λ v. v.items) w.sessions-is))
+          (spread_none accepted c.args.engine.now c.args.sessions.now.items
+          (sym c.is_accepted.ensures ∙ w.if-is_accepted.false) c.requires.sound))
     ] in
-    let x = at_slice c.args.sessions.now.items c.args.at (λ x. REPLY_BYTES + LAST_LINE_BYTES ≤ (x.session).room) c.requires.room in
-    let l = place_still c.args.sessions.now.items c.if-is_accepted.sessions.items c.args.at x.0 spread.goes_on.ids x.1 in
-    owned_at c.if-is_accepted.engine c.if-is_accepted.sessions.items c.args.at c.index_mut.result.now spread.goes_on.sound l c.index_mut.ensures.value
+    let x = at_slice c.args.sessions.now.items c.args.at (λ x. REPLY_BYTES + LAST_LINE_BYTES ≤ (x.session).room)
+    c.requires.room in
+    let l = place_still c.args.sessions.now.items c.if-is_accepted.sessions.items c.args.at x.0 spread.goes_on.ids x.1
+    in
+    owned_at c.if-is_accepted.engine c.if-is_accepted.sessions.items c.args.at c.index_mut.result.now
+    spread.goes_on.sound l c.index_mut.ensures.value
 
 pub returns-clause-tells : goal.returns-clause-tells
 returns-clause-tells c =
     let accepted = is_accepted c.args.outcome.now in
-    let spread : Spread accepted c.args.engine.now c.args.sessions.now.items c.if-is_accepted.engine c.if-is_accepted.sessions.items
+    let spread : Spread accepted c.args.engine.now c.args.sessions.now.items c.if-is_accepted.engine
+    c.if-is_accepted.sessions.items
     = elim c.if-is_accepted.branch [
       | then-is_accepted w ↦
-          subst (λ (k : Kept). Spread accepted c.args.engine.now c.args.sessions.now.items k c.if-is_accepted.sessions.items) (sym w.engine-is)
-          (subst (λ (ys : List OpenSession). Spread accepted c.args.engine.now c.args.sessions.now.items w.tell_affected.new.engine ys) (sym (ap (λ v. v.items) w.sessions-is))
-          (spread_all accepted c.args.engine.now c.args.sessions.now.items w.tell_affected.new.engine w.tell_affected.new.sessions.items (sym c.is_accepted.ensures ∙ w.if-is_accepted.true) w.tell_affected.ensures.tells))
+          subst (λ (k : Kept). Spread accepted c.args.engine.now c.args.sessions.now.items k
+          c.if-is_accepted.sessions.items) (sym w.engine-is)
+          (subst (λ (ys : List OpenSession). Spread accepted c.args.engine.now c.args.sessions.now.items
+          w.tell_affected.new.engine ys) (sym (ap (λ v. v.items) w.sessions-is))
+          (spread_all accepted c.args.engine.now c.args.sessions.now.items w.tell_affected.new.engine
+          w.tell_affected.new.sessions.items (sym c.is_accepted.ensures ∙ w.if-is_accepted.true)
+          w.tell_affected.ensures.tells))
       | else-is_accepted w ↦
-          subst (λ (k : Kept). Spread accepted c.args.engine.now c.args.sessions.now.items k c.if-is_accepted.sessions.items) (sym w.engine-is)
-          (subst (λ (ys : List OpenSession). Spread accepted c.args.engine.now c.args.sessions.now.items c.args.engine.now ys) (sym (ap (λ v. v.items) w.sessions-is))
-          (spread_none accepted c.args.engine.now c.args.sessions.now.items (sym c.is_accepted.ensures ∙ w.if-is_accepted.false) c.requires.sound))
+          subst (λ (k : Kept). Spread accepted c.args.engine.now c.args.sessions.now.items k
+          c.if-is_accepted.sessions.items) (sym w.engine-is)
+          (subst (λ (ys : List OpenSession). Spread accepted c.args.engine.now c.args.sessions.now.items
+          c.args.engine.now ys) (sym (ap (λ v. v.items) w.sessions-is))
+          (spread_none accepted c.args.engine.now c.args.sessions.now.items
+          (sym c.is_accepted.ensures ∙ w.if-is_accepted.false) c.requires.sound))
     ] in
-    let x = at_slice c.args.sessions.now.items c.args.at (λ x. REPLY_BYTES + LAST_LINE_BYTES ≤ (x.session).room) c.requires.room in
-    let l = place_still c.args.sessions.now.items c.if-is_accepted.sessions.items c.args.at x.0 spread.goes_on.ids x.1 in
+    let x = at_slice c.args.sessions.now.items c.args.at (λ x. REPLY_BYTES + LAST_LINE_BYTES ≤ (x.session).room)
+    c.requires.room in
+    let l = place_still c.args.sessions.now.items c.if-is_accepted.sessions.items c.args.at x.0 spread.goes_on.ids x.1
+    in
     let seq = ap (λ (st : Store). st.seq) spread.goes_on.kept.store in
-    subst (λ (o : Option OpenSession). IsSomeAnd o (λ y. TellsAll accepted (reply_of c.args.outcome.now c.args.engine.now.store.seq) c.args.engine.now y.id c.args.sessions.now.items c.answer_last.new.engine
-    (set c.if-is_accepted.sessions.items c.args.at (record c.index_mut.result.now { session = c.answer_last.new.session })))) (sym x.1)
-    (told_and_answered accepted (reply_of c.args.outcome.now c.args.engine.now.store.seq) c.args.engine.now c.if-is_accepted.engine c.answer_last.new.engine c.args.sessions.now.items c.if-is_accepted.sessions.items
+    subst (λ (o : Option OpenSession). IsSomeAnd o
+    (λ y. TellsAll accepted (reply_of c.args.outcome.now c.args.engine.now.store.seq) c.args.engine.now y.id
+    c.args.sessions.now.items c.answer_last.new.engine
+    (set c.if-is_accepted.sessions.items c.args.at
+    (record c.index_mut.result.now { session = c.answer_last.new.session })))) (sym x.1)
+    (told_and_answered accepted (reply_of c.args.outcome.now c.args.engine.now.store.seq) c.args.engine.now
+    c.if-is_accepted.engine c.answer_last.new.engine c.args.sessions.now.items c.if-is_accepted.sessions.items
     c.args.at x.0 c.index_mut.result.now c.answer_last.new.session spread x.1 x.2 l c.index_mut.ensures.value
-    (subst (λ (n : ℕ). Performs (λ st s x e st'. AnswersLast (nat_le (REPLY_BYTES + LAST_LINE_BYTES) (c.index_mut.result.now).session.room) (reply_of c.args.outcome.now n) st s x e st') false
-    c.if-is_accepted.engine (c.index_mut.result.now).session c.answer_last.new.engine c.answer_last.new.session 0 0) seq c.answer_last.ensures))
+    (subst (λ (n : ℕ). Performs
+    (λ st s x e st'. AnswersLast (nat_le (REPLY_BYTES + LAST_LINE_BYTES) (c.index_mut.result.now).session.room)
+    (reply_of c.args.outcome.now n) st s x e st') false
+    c.if-is_accepted.engine (c.index_mut.result.now).session c.answer_last.new.engine c.answer_last.new.session 0 0) seq
+    c.answer_last.ensures))

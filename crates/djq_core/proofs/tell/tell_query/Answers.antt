@@ -7,7 +7,8 @@ use Rattle.djq_core.specs.declared.open.OpenSession.{OpenSession}
 use Rattle.djq_core.specs.Sound.{watchers_in, is_among_watches}
 use Rattle.djq_core.specs.Performs.{Performs}
 use Rattle.djq_core.specs.Telling.{HearsDelta, Prints, TellsQuery}
-use Rattle.djq_core.proofs.Spreading.{TellsSoFar, telling_starts, told_one, untold_one, length_still, owned_at, runs_at, same_place, next_place}
+use Rattle.djq_core.proofs.Spreading.{TellsSoFar, telling_starts, told_one, untold_one}
+use Rattle.djq_core.proofs.Spreading.{length_still, owned_at, runs_at, same_place, next_place}
 use Rattle.djq_core.proofs.Affecting.{query_told, query_untold, watchers_of, name_of}
 use Rattle.djq_core.proofs.tell.tell_query.Goals.{in-Some, in_default}
 use Rattle.djq_core.proofs.tell.tell_query.Goals as goal
@@ -15,33 +16,48 @@ use Rattle.djq_core.proofs.tell.tell_query.Goals as goal
 pub returns-then-watchers-eq0-clause-tells : goal.returns-then-watchers-eq0-clause-tells
 returns-then-watchers-eq0-clause-tells c = λ r e.
     query_untold c.args.engine.now c.args.id (listed_name r.query) c.args.sessions.now.items c.requires.sound
-    (sym (watchers_of c.args.engine.now c.args.sessions.now.items c.args.id r c.watchers.result c.requires.sound e c.watchers.ensures) ∙ c.if-watchers-eq0.true)
+    (sym (watchers_of c.args.engine.now c.args.sessions.now.items c.args.id r c.watchers.result c.requires.sound e
+    c.watchers.ensures) ∙ c.if-watchers-eq0.true)
 
 pub loop-at-init : goal.loop-at-init
-loop-at-init c = (telling_starts c.query_name-query.result c.print_delta-whole.result c.print_delta-whole.new.text.items c.args.engine.now c.args.sessions.now.items c.requires.sound, refl)
+loop-at-init c = (
+  telling_starts c.query_name-query.result c.print_delta-whole.result c.print_delta-whole.new.text.items
+      c.args.engine.now c.args.sessions.now.items c.requires.sound,
+  refl,
+)
 
 pub index-requires : goal.index-requires
 index-requires c =
-    let n = length_still _ _ _ c.args.engine.now c.args.sessions.now.items c.loop-at.at c.loop-at.engine c.loop-at.sessions.items c.loop-at.invariant.0 in
+    let n = length_still _ _ _ c.args.engine.now c.args.sessions.now.items c.loop-at.at c.loop-at.engine
+    c.loop-at.sessions.items c.loop-at.invariant.0 in
     omega (arith, c.loop-at-test.true, c.len-at-end.ensures, n)
 
 pub index_mut-requires : goal.index_mut-requires
 index_mut-requires c =
-    let n = length_still _ _ _ c.args.engine.now c.args.sessions.now.items c.loop-at.at c.loop-at.engine c.loop-at.sessions.items c.loop-at.invariant.0 in
+    let n = length_still _ _ _ c.args.engine.now c.args.sessions.now.items c.loop-at.at c.loop-at.engine
+    c.loop-at.sessions.items c.loop-at.invariant.0 in
     omega (arith, c.loop-at-test.true, c.len-at-end.ensures, n)
 
 pub tell_watcher-requires-clause-own : goal.tell_watcher-requires-clause-own
 tell_watcher-requires-clause-own c =
-    let n = length_still _ _ _ c.args.engine.now c.args.sessions.now.items c.loop-at.at c.loop-at.engine c.loop-at.sessions.items c.loop-at.invariant.0 in
-    owned_at c.loop-at.engine c.loop-at.sessions.items c.loop-at.at c.index_mut.result.now c.loop-at.invariant.0.goes_on.sound (omega (arith, c.loop-at-test.true, c.len-at-end.ensures, n)) c.index_mut.ensures.value
+    let n = length_still _ _ _ c.args.engine.now c.args.sessions.now.items c.loop-at.at c.loop-at.engine
+    c.loop-at.sessions.items c.loop-at.invariant.0 in
+    owned_at c.loop-at.engine c.loop-at.sessions.items c.loop-at.at c.index_mut.result.now
+    c.loop-at.invariant.0.goes_on.sound (omega (arith, c.loop-at-test.true, c.len-at-end.ensures, n))
+    c.index_mut.ensures.value
 
 pub tell_watcher-requires-clause-running : goal.tell_watcher-requires-clause-running
 tell_watcher-requires-clause-running c =
-    let n = length_still _ _ _ c.args.engine.now c.args.sessions.now.items c.loop-at.at c.loop-at.engine c.loop-at.sessions.items c.loop-at.invariant.0 in
-    let l : c.loop-at.at < length c.loop-at.sessions.items = omega (arith, c.loop-at-test.true, c.len-at-end.ensures, n) in
-    let same = same_place c.loop-at.sessions.items c.loop-at.at c.index.result.now c.index_mut.result.now l c.index.ensures c.index_mut.ensures.value in
-    runs_at c.loop-at.engine c.loop-at.sessions.items c.loop-at.at c.index_mut.result.now c.query_name-query.result c.loop-at.invariant.0.goes_on.sound l c.index_mut.ensures.value
-    (ap (λ (e : OpenSession). is_among_watches (e.session).watches c.query_name-query.result) same ∙ sym c.watch_near.ensures.watched ∙ ap (λ (o : Option ℕ). is_some o) c.in-Some.is)
+    let n = length_still _ _ _ c.args.engine.now c.args.sessions.now.items c.loop-at.at c.loop-at.engine
+    c.loop-at.sessions.items c.loop-at.invariant.0 in
+    let l : c.loop-at.at < length c.loop-at.sessions.items = omega (arith, c.loop-at-test.true, c.len-at-end.ensures, n)
+    in
+    let same = same_place c.loop-at.sessions.items c.loop-at.at c.index.result.now c.index_mut.result.now l
+    c.index.ensures c.index_mut.ensures.value in
+    runs_at c.loop-at.engine c.loop-at.sessions.items c.loop-at.at c.index_mut.result.now c.query_name-query.result
+    c.loop-at.invariant.0.goes_on.sound l c.index_mut.ensures.value
+    (ap (λ (e : OpenSession). is_among_watches (e.session).watches c.query_name-query.result) same
+    ∙ sym c.watch_near.ensures.watched ∙ ap (λ (o : Option ℕ). is_some o) c.in-Some.is)
 
 pub loop-at-preserved : goal.loop-at-preserved
 loop-at-preserved c =
@@ -50,23 +66,37 @@ loop-at-preserved c =
     let text = c.print_delta-whole.new.text.items in
     let old = c.args.engine.now in
     let xs = c.args.sessions.now.items in
-    let n = length_still q whole text old xs c.loop-at.at c.loop-at.engine c.loop-at.sessions.items c.loop-at.invariant.0 in
-    let l : c.loop-at.at < length c.loop-at.sessions.items = omega (arith, c.loop-at-test.true, c.len-at-end.ensures, n) in (
-      subst (λ (at : ℕ). TellsSoFar q whole text old xs at c.match-watch_near.engine c.match-watch_near.sessions.items) (next_place c.loop-at.at)
+    let n = length_still q whole text old xs c.loop-at.at c.loop-at.engine c.loop-at.sessions.items
+    c.loop-at.invariant.0 in
+    let l : c.loop-at.at < length c.loop-at.sessions.items = omega (arith, c.loop-at-test.true, c.len-at-end.ensures, n)
+    in (
+      subst (λ (at : ℕ). TellsSoFar q whole text old xs at c.match-watch_near.engine c.match-watch_near.sessions.items)
+          (next_place c.loop-at.at)
           (elim c.match-watch_near.branch [
             | in-Some w ↦
-                subst (λ (k : Kept). TellsSoFar q whole text old xs (suc c.loop-at.at) k c.match-watch_near.sessions.items) (sym w.engine-is)
-                (subst (λ (ys : List OpenSession). TellsSoFar q whole text old xs (suc c.loop-at.at) w.tell_watcher.new.engine ys) (sym (ap (λ v. v.items) w.sessions-is))
-                (told_one q whole text old xs c.loop-at.at c.loop-at.engine w.tell_watcher.new.engine c.loop-at.sessions.items w.index_mut.result.now w.tell_watcher.new.session
+                subst (λ (k : Kept). TellsSoFar q whole text old xs (suc c.loop-at.at) k
+                c.match-watch_near.sessions.items) (sym w.engine-is)
+                (subst (λ (ys : List OpenSession). TellsSoFar q whole text old xs (suc c.loop-at.at)
+                w.tell_watcher.new.engine ys) (sym (ap (λ v. v.items) w.sessions-is))
+                (told_one q whole text old xs c.loop-at.at c.loop-at.engine w.tell_watcher.new.engine
+                c.loop-at.sessions.items w.index_mut.result.now w.tell_watcher.new.session
                 c.loop-at.invariant.0 l w.index_mut.ensures.value
-                (ap (λ (e : OpenSession). is_among_watches (e.session).watches q) (same_place c.loop-at.sessions.items c.loop-at.at c.index.result.now w.index_mut.result.now l c.index.ensures w.index_mut.ensures.value)
+                (ap (λ (e : OpenSession). is_among_watches (e.session).watches q)
+                (same_place c.loop-at.sessions.items c.loop-at.at c.index.result.now w.index_mut.result.now l
+                c.index.ensures w.index_mut.ensures.value)
                 ∙ sym c.watch_near.ensures.watched ∙ ap (λ (o : Option ℕ). is_some o) w.in-Some.is)
-                (subst (λ (bs : Bytes). Performs (λ st s x e st'. HearsDelta whole bs st s x e st') false c.loop-at.engine (w.index_mut.result.now).session w.tell_watcher.new.engine w.tell_watcher.new.session 0 0) w.as_slice.ensures w.tell_watcher.ensures.performs)
+                (subst (λ (bs : Bytes). Performs (λ st s x e st'. HearsDelta whole bs st s x e st') false
+                c.loop-at.engine (w.index_mut.result.now).session w.tell_watcher.new.engine
+                w.tell_watcher.new.session 0 0) w.as_slice.ensures w.tell_watcher.ensures.performs)
                 w.tell_watcher.ensures.kept w.tell_watcher.ensures.watches))
             | in_default w ↦
-                subst (λ (k : Kept). TellsSoFar q whole text old xs (suc c.loop-at.at) k c.match-watch_near.sessions.items) (sym w.engine-is)
-                (subst (λ (ys : List OpenSession). TellsSoFar q whole text old xs (suc c.loop-at.at) c.loop-at.engine ys) (sym (ap (λ v. v.items) w.sessions-is))
-                (untold_one q whole text old xs c.loop-at.at c.loop-at.engine c.loop-at.sessions.items c.index.result.now c.loop-at.invariant.0 l c.index.ensures (sym c.watch_near.ensures.watched ∙ ap (λ (o : Option ℕ). is_some o) w.in_default.is)))
+                subst (λ (k : Kept). TellsSoFar q whole text old xs (suc c.loop-at.at) k
+                c.match-watch_near.sessions.items) (sym w.engine-is)
+                (subst (λ (ys : List OpenSession). TellsSoFar q whole text old xs (suc c.loop-at.at) c.loop-at.engine
+                ys) (sym (ap (λ v. v.items) w.sessions-is))
+                (untold_one q whole text old xs c.loop-at.at c.loop-at.engine c.loop-at.sessions.items
+                c.index.result.now c.loop-at.invariant.0 l c.index.ensures
+                (sym c.watch_near.ensures.watched ∙ ap (λ (o : Option ℕ). is_some o) w.in_default.is)))
           ]),
       elim c.match-watch_near.branch [
         | in-Some w ↦ ap (λ v. v.cap) w.sessions-is ∙ c.loop-at.invariant.1
@@ -77,10 +107,16 @@ loop-at-preserved c =
 pub returns-clause-tells : goal.returns-clause-tells
 returns-clause-tells c = λ r e.
     let named = name_of c.args.engine.now c.args.id r c.query_name-query.result e c.query_name-query.ensures in
-    let n = length_still _ _ _ c.args.engine.now c.args.sessions.now.items c.loop-at.at c.loop-at.engine c.loop-at.sessions.items c.loop-at.invariant.0 in
-    subst (λ (p : Bytes). TellsQuery c.args.engine.now c.args.id p c.args.sessions.now.items c.loop-at.engine c.loop-at.sessions.items) named
-    (query_told c.args.engine.now c.loop-at.engine c.args.id c.query_name-query.result c.args.sessions.now.items c.loop-at.sessions.items c.print_delta-whole.result c.print_delta-whole.new.text.items c.loop-at.at
-    (subst (λ (bs : Bytes). Prints c.args.engine.now c.args.id c.query_name-query.result c.print_delta-whole.result bs c.print_delta-whole.new.text.items) c.clear.ensures.items c.print_delta-whole.ensures)
+    let n = length_still _ _ _ c.args.engine.now c.args.sessions.now.items c.loop-at.at c.loop-at.engine
+    c.loop-at.sessions.items c.loop-at.invariant.0 in
+    subst (λ (p : Bytes). TellsQuery c.args.engine.now c.args.id p c.args.sessions.now.items c.loop-at.engine
+    c.loop-at.sessions.items) named
+    (query_told c.args.engine.now c.loop-at.engine c.args.id c.query_name-query.result c.args.sessions.now.items
+    c.loop-at.sessions.items c.print_delta-whole.result c.print_delta-whole.new.text.items c.loop-at.at
+    (subst (λ (bs : Bytes). Prints c.args.engine.now c.args.id c.query_name-query.result c.print_delta-whole.result bs
+    c.print_delta-whole.new.text.items) c.clear.ensures.items c.print_delta-whole.ensures)
     c.loop-at.invariant.0 (omega (arith, c.loop-at-test.false, c.len-at-end.ensures, n))
-    (λ none. c.if-watchers-eq0.false (watchers_of c.args.engine.now c.args.sessions.now.items c.args.id r c.watchers.result c.requires.sound e c.watchers.ensures
+    (λ none. c.if-watchers-eq0.false
+    (watchers_of c.args.engine.now c.args.sessions.now.items c.args.id r c.watchers.result c.requires.sound e
+    c.watchers.ensures
     ∙ ap (λ (p : Bytes). watchers_in c.args.sessions.now.items p) (sym named) ∙ none)))

@@ -2,5 +2,6 @@ use Rattle.djq_core.proofs.Rewatching.{does_unwatch}
 use Rattle.djq_core.proofs.watch.run_unwatch.Goals as goal
 
 pub returns : goal.returns
-returns c = does_unwatch c.args.engine.now c.cease_watch-outcome.new.engine c.args.session.now c.cease_watch-outcome.new.session c.answer_done.new.self
+returns c = does_unwatch c.args.engine.now c.cease_watch-outcome.new.engine c.args.session.now
+    c.cease_watch-outcome.new.session c.answer_done.new.self
     c.args.query.now c.cease_watch-outcome.result c.requires.running c.cease_watch-outcome.ensures c.answer_done.ensures

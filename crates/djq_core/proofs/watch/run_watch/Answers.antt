@@ -5,6 +5,8 @@ use Rattle.djq_core.proofs.Rewatching.{does_watch}
 use Rattle.djq_core.proofs.watch.run_watch.Goals as goal
 
 pub returns : goal.returns
-returns c = does_watch c.args.engine.now c.begin_watch-outcome.new.engine c.args.session.now c.begin_watch-outcome.new.session c.answer_watched.new.self
+returns c = does_watch c.args.engine.now c.begin_watch-outcome.new.engine c.args.session.now
+    c.begin_watch-outcome.new.session c.answer_watched.new.self
     c.args.query.now c.begin_watch-outcome.result c.requires.running c.begin_watch-outcome.ensures
-    (subst (λ (n : ℕ). Replies c.begin_watch-outcome.new.session c.answer_watched.new.self (watch_reply c.begin_watch-outcome.result n)) c.seq.ensures c.answer_watched.ensures)
+    (subst (λ (n : ℕ). Replies c.begin_watch-outcome.new.session c.answer_watched.new.self
+    (watch_reply c.begin_watch-outcome.result n)) c.seq.ensures c.answer_watched.ensures)

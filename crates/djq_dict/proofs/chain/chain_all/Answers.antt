@@ -5,6 +5,7 @@ use Rattle.djq_dict.proofs.chain.chain_all.Goals as goal
 
 pub loop-number-init : goal.loop-number-init
 loop-number-init c = record {
-  chained = chained-none (hashes_of c.args.links.now) (nexts_of c.args.links.now) c.args.heads.now (λ b. zeros (length c.args.heads.now) c.args.heads.now b c.requires.none);
+  chained = chained-none (hashes_of c.args.links.now) (nexts_of c.args.links.now) c.args.heads.now
+      (λ b. zeros (length c.args.heads.now) c.args.heads.now b c.requires.none);
   hashes = refl;
 }

@@ -19,7 +19,8 @@ returns-then-link-hash c = λ buckets n linked first.
     let w = rw (← c.rest.view_is) at (c.loop-rest.invariant.walked buckets n linked first) in
     let within = c.loop-rest.invariant.within in
     let low : past - 1 < length links = omega (arith, c.rest.view_is) in
-    let hash = hash-at links (past - 1) c.index-links-number.result low ∙ ap (λ (k : Link). k.hash) (sym c.index-links-number.is) ∙ c.if-link-hash.true in
+    let hash = hash-at links (past - 1) c.index-links-number.result low
+    ∙ ap (λ (k : Link). k.hash) (sym c.index-links-number.is) ∙ c.if-link-hash.true in
     rest-found buckets (hashes_of links) c.args.hash n past (omega arith) hash w
 
 pub loop-rest-smaller : goal.loop-rest-smaller
@@ -28,7 +29,8 @@ loop-rest-smaller c =
     let past : ℕ = c.rest.inside.past in
     let within = c.loop-rest.invariant.within in
     let low : past - 1 < length links = omega (arith, c.rest.view_is) in
-    let next = next-at links (past - 1) c.index-links-number.result low ∙ ap (λ (k : Link). k.next) (sym c.index-links-number.is) in
+    let next = next-at links (past - 1) c.index-links-number.result low
+    ∙ ap (λ (k : Link). k.next) (sym c.index-links-number.is) in
     let many = length-map links (λ (k : Link). k.next) in
     let fall = c.requires.falling (past - 1) (omega (arith, many)) in
     omega (arith, next, fall, c.rest.view_is)
@@ -39,8 +41,10 @@ loop-rest-preserved c =
     let past : ℕ = c.rest.inside.past in
     let within = c.loop-rest.invariant.within in
     let low : past - 1 < length links = omega (arith, c.rest.view_is) in
-    let next = next-at links (past - 1) c.index-links-number.result low ∙ ap (λ (k : Link). k.next) (sym c.index-links-number.is) in
-    let hash = hash-at links (past - 1) c.index-links-number.result low ∙ ap (λ (k : Link). k.hash) (sym c.index-links-number.is) in
+    let next = next-at links (past - 1) c.index-links-number.result low
+    ∙ ap (λ (k : Link). k.next) (sym c.index-links-number.is) in
+    let hash = hash-at links (past - 1) c.index-links-number.result low
+    ∙ ap (λ (k : Link). k.hash) (sym c.index-links-number.is) in
     let many = length-map links (λ (k : Link). k.next) in
     let hashes = length-map links (λ (k : Link). k.hash) in
     let fall = c.requires.falling (past - 1) (omega (arith, many)) in
@@ -48,7 +52,8 @@ loop-rest-preserved c =
       within = omega (arith, next, fall);
       walked = λ buckets n linked first.
           let w = rw (← c.rest.view_is) at (c.loop-rest.invariant.walked buckets n linked first) in
-          rw next at (rest-next buckets (hashes_of links) (nexts_of links) c.args.hash n past linked (omega arith) (omega (arith, hashes)) (λ e. c.if-link-hash.false (sym hash ∙ e)) w);
+          rw next at (rest-next buckets (hashes_of links) (nexts_of links) c.args.hash n past linked (omega arith)
+          (omega (arith, hashes)) (λ e. c.if-link-hash.false (sym hash ∙ e)) w);
     }
 
 pub returns : goal.returns

@@ -6,7 +6,9 @@ use Rattle.djq_dict.proofs.chain.follow.Given as goal
 abbrev pub invariant-loop-rest : goal.invariant-loop-rest
 invariant-loop-rest l = record {
   within : l.rest ≤ length l.links;
-  walked : (buckets n : ℕ) → IsLinked buckets (hashes_of l.links) (nexts_of l.links) → IsFirst buckets (hashes_of l.links) (bucket_of buckets l.hash) n l.fn.from → IsRest buckets (hashes_of l.links) l.hash n l.rest;
+  walked : (buckets n : ℕ) → IsLinked buckets (hashes_of l.links) (nexts_of l.links)
+      → IsFirst buckets (hashes_of l.links) (bucket_of buckets l.hash) n l.fn.from
+      → IsRest buckets (hashes_of l.links) l.hash n l.rest;
 }
 
 abbrev pub decreases-loop-rest : goal.decreases-loop-rest

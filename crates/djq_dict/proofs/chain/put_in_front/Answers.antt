@@ -15,8 +15,10 @@ returns-clause-chained c =
     links-put links heads c.args.number c.index-links-number-2.result bucket c.index-heads-bucket.result c.at.result
     c.requires.within c.bucket_of-bucket.ensures.within
     (c.bucket_of-bucket.ensures.value ∙ ap (λ (h : ℕ). bucket_of (length heads) h) (sym hash))
-    (c.index-heads-bucket.is ∙ get_or_default_zero heads bucket c.index-heads-bucket.result c.bucket_of-bucket.ensures.within)
+    (c.index-heads-bucket.is
+    ∙ get_or_default_zero heads bucket c.index-heads-bucket.result c.bucket_of-bucket.ensures.within)
     (omega (arith, c.at.ensures)) c.requires.chained
 
 pub returns-clause-hashes : goal.returns-clause-hashes
-returns-clause-hashes c = map-set_same (λ (k : Link). k.hash) c.args.links.now c.args.number _ c.index-links-number-2.result refl
+returns-clause-hashes c = map-set_same (λ (k : Link). k.hash) c.args.links.now c.args.number _
+    c.index-links-number-2.result refl

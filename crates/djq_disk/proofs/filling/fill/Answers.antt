@@ -18,14 +18,19 @@ loop-done-preserved g c =
     let after = put_mid done (length buf - done) buf got in
     let within = c.loop-done.invariant.within in
     let fits = c.in-Got.ensures.fits.1 in
-    let is : take (done + length got) after ≡ take done buf ++ got = take-put_mid done (length buf - done) buf got (done + length got) (omega arith) within in
+    let is : take (done + length got) after
+    ≡ take done buf ++ got = take-put_mid done (length buf - done) buf got (done + length got) (omega arith) within
+    in
     record {
       within = filled_within done n buf got after within fits is;
       fits = omega (arith, c.in-Got.ensures.fits.2);
       told = told_both _ _ _
           (λ o m. (take done buf ≡ take done (drop at o.file.bytes)) × (m ≡ o)) (Reads (Got n) (at + done) got)
           (λ o k. (take (done + n) after ≡ take (done + n) (drop at o.file.bytes)) × (k ≡ o))
-          (λ o m k so_far reads. (filled_more at done n o.file.bytes buf got after within fits is so_far.0 (rw so_far.1 at reads.0.1), reads.1 ∙ so_far.1))
+          (λ o m k so_far reads. (
+            filled_more at done n o.file.bytes buf got after within fits is so_far.0 (rw so_far.1 at reads.0.1),
+            reads.1 ∙ so_far.1,
+          ))
           c.loop-done.invariant.told c.in-Got.ensures.told;
       faults = c.in-Got.ensures.faults ∙ c.loop-done.invariant.faults;
     }

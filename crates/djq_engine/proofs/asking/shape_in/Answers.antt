@@ -7,16 +7,34 @@ use Rattle.djq_engine.proofs.asking.shape_in.Goals as goal
 
 pub returns-in_default : goal.returns-in_default
 returns-in_default c =
-    shape_none c.args.parts.now.catalog c.args.parts.now.queries.items c.args.parts.now.order c.args.parts.now.readers.items c.args.parts.now.seq c.requires c.args.query.now []
+    shape_none c.args.parts.now.catalog c.args.parts.now.queries.items c.args.parts.now.order
+    c.args.parts.now.readers.items c.args.parts.now.seq c.requires c.args.query.now []
     (c.in_default.ensures ∙ ap (position (is_query c.args.query.now)) c.as_slice.ensures.value)
 
 pub shape-requires : goal.shape-requires
 shape-requires c =
-    query_kept c.args.parts.now.catalog c.args.parts.now.queries.items c.args.parts.now.order c.args.parts.now.readers.items c.args.parts.now.seq c.requires c.args.query.now [] c.in-Some.at (first_query c.args.parts.now.queries.items c.args.query.now c.in-Some.at (c.in-Some.ensures ∙ ap (position (is_query c.args.query.now)) c.as_slice.ensures.value)) c.in-Some-index.live (named_read c.args.parts.now.queries.items c.args.query.now c.in-Some.at (first_query c.args.parts.now.queries.items c.args.query.now c.in-Some.at (c.in-Some.ensures ∙ ap (position (is_query c.args.query.now)) c.as_slice.ensures.value)) c.index.result.now c.in-Some-index.live c.index.ensures c.in-Some-index.is)
+    query_kept c.args.parts.now.catalog c.args.parts.now.queries.items c.args.parts.now.order
+    c.args.parts.now.readers.items c.args.parts.now.seq c.requires c.args.query.now [] c.in-Some.at
+    (first_query c.args.parts.now.queries.items c.args.query.now c.in-Some.at
+    (c.in-Some.ensures ∙ ap (position (is_query c.args.query.now)) c.as_slice.ensures.value)) c.in-Some-index.live
+    (named_read c.args.parts.now.queries.items c.args.query.now c.in-Some.at
+    (first_query c.args.parts.now.queries.items c.args.query.now c.in-Some.at
+    (c.in-Some.ensures ∙ ap (position (is_query c.args.query.now)) c.as_slice.ensures.value)) c.index.result.now
+    c.in-Some-index.live c.index.ensures c.in-Some-index.is)
 
 pub unreachable-requires : goal.unreachable-requires
-unreachable-requires c = named_there c.args.parts.now.queries.items c.args.query.now c.in-Some.at (first_query c.args.parts.now.queries.items c.args.query.now c.in-Some.at (c.in-Some.ensures ∙ ap (position (is_query c.args.query.now)) c.as_slice.ensures.value)) c.index.result.now c.index.ensures c.in-None.is
+unreachable-requires c = named_there c.args.parts.now.queries.items c.args.query.now c.in-Some.at
+    (first_query c.args.parts.now.queries.items c.args.query.now c.in-Some.at
+    (c.in-Some.ensures ∙ ap (position (is_query c.args.query.now)) c.as_slice.ensures.value)) c.index.result.now
+    c.index.ensures c.in-None.is
 
 pub returns : goal.returns
 returns c =
-    shape_done c.args.parts.now.catalog c.args.parts.now.queries.items c.args.parts.now.order c.args.parts.now.readers.items c.args.parts.now.seq c.requires c.args.query.now [] c.in-Some.at (first_query c.args.parts.now.queries.items c.args.query.now c.in-Some.at (c.in-Some.ensures ∙ ap (position (is_query c.args.query.now)) c.as_slice.ensures.value)) c.in-Some-index.live (named_read c.args.parts.now.queries.items c.args.query.now c.in-Some.at (first_query c.args.parts.now.queries.items c.args.query.now c.in-Some.at (c.in-Some.ensures ∙ ap (position (is_query c.args.query.now)) c.as_slice.ensures.value)) c.index.result.now c.in-Some-index.live c.index.ensures c.in-Some-index.is) c.shape.result c.shape.ensures
+    shape_done c.args.parts.now.catalog c.args.parts.now.queries.items c.args.parts.now.order
+    c.args.parts.now.readers.items c.args.parts.now.seq c.requires c.args.query.now [] c.in-Some.at
+    (first_query c.args.parts.now.queries.items c.args.query.now c.in-Some.at
+    (c.in-Some.ensures ∙ ap (position (is_query c.args.query.now)) c.as_slice.ensures.value)) c.in-Some-index.live
+    (named_read c.args.parts.now.queries.items c.args.query.now c.in-Some.at
+    (first_query c.args.parts.now.queries.items c.args.query.now c.in-Some.at
+    (c.in-Some.ensures ∙ ap (position (is_query c.args.query.now)) c.as_slice.ensures.value)) c.index.result.now
+    c.in-Some-index.live c.index.ensures c.in-Some-index.is) c.shape.result c.shape.ensures

@@ -22,14 +22,21 @@ use Rattle.djq_engine.specs.declared.parts.Parts.{Parts}
 use Rattle.djq_engine.specs.Places.{queries_in}
 use Rattle.djq_engine.specs.Putting.{IsStoreOf, PutsAll, RefusesAll, WentInAll}
 use Rattle.djq_engine.specs.Whole.{kept_in, IsWhole}
-use Rattle.djq_engine.proofs.Accepted.{Settles, taken_whole, taken_registered, taken_places, taken_cursors, taken_adds, taken_tended, taken_tells}
+use Rattle.djq_engine.proofs.Accepted.{Settles, taken_whole, taken_registered, taken_places}
+use Rattle.djq_engine.proofs.Accepted.{taken_cursors, taken_adds, taken_tended, taken_tells}
 use Rattle.djq_engine.proofs.Chained.{same_none}
 use Rattle.djq_engine.proofs.Fronting.{ages_first}
 use Rattle.djq_engine.proofs.GivenUp.{sound_readers}
 use Rattle.djq_engine.proofs.Placed.{keeps_equal}
 use Rattle.djq_engine.proofs.Put.{refused_kind}
-use Rattle.djq_engine.proofs.Rested.{rests_whole, rests_tended, rests_cursors, rests_tells, no_groups, none_adds, refuses_batch}
-use Rattle.djq_engine.proofs.Settled.{start_here, begun, leads_here, came_within, came_here, came_tested, came_found, came_seq, filled_mid, came_takes, came_readers, unwatched_reached, lacks_rows, lacks_groups, lacks_readers, lacks_logged, lacks_found, lacks_whole, lacks_tended, lacks_cursors, lacks_registered, lacks_places, lacks_refuses, lacks_tells, lacks_last, lacks_counts}
+use Rattle.djq_engine.proofs.Rested.{rests_whole, rests_tended, rests_cursors, rests_tells}
+use Rattle.djq_engine.proofs.Rested.{no_groups, none_adds, refuses_batch}
+use Rattle.djq_engine.proofs.Settled.{start_here, begun, leads_here, came_within, came_here}
+use Rattle.djq_engine.proofs.Settled.{came_tested, came_found, came_seq, filled_mid, came_takes}
+use Rattle.djq_engine.proofs.Settled.{came_readers, unwatched_reached, lacks_rows, lacks_groups}
+use Rattle.djq_engine.proofs.Settled.{lacks_readers, lacks_logged, lacks_found, lacks_whole}
+use Rattle.djq_engine.proofs.Settled.{lacks_tended, lacks_cursors, lacks_registered, lacks_places}
+use Rattle.djq_engine.proofs.Settled.{lacks_refuses, lacks_tells, lacks_last, lacks_counts}
 use Rattle.djq_engine.proofs.Storing.{same_rows}
 use Rattle.djq_engine.proofs.TakenBack.{catalog_counted}
 use Rattle.djq_engine.proofs.Worked.{came_few, counts_all, rows_each}
@@ -40,18 +47,22 @@ agrees : (p : Parts) → IsStoreOf p.catalog p.seq (kept_in p).store
 agrees p = record { relations = refl; texts = refl; seq = refl }
 
 -- deltas exist
-have : DeltasExist → HeadsAreBound → (p : Parts) → IsWhole p → (rs : List Relation) → (i : ℕ) (l : Live) → place_at p.queries.items i ≡ Some l
+have : DeltasExist → HeadsAreBound → (p : Parts) → IsWhole p → (rs : List Relation) → (i : ℕ) (l : Live)
+    → place_at p.queries.items i ≡ Some l
     → (changes : List Change) × IsDelta (IsAnswer (p.catalog).relations l.query) (IsAnswer rs l.query) changes
-have exist bound p s rs i l there = exist (p.catalog).relations rs (a_query l.query) (bound p.catalog l (s.live i l there).kept)
+have exist bound p s rs i l there = exist (p.catalog).relations rs (a_query l.query)
+    (bound p.catalog l (s.live i l there).kept)
 
-as_limit : (st : Store) (held : List HeldRow) (texts : List Bytes) (r : Refusal) → RefusesAll st held texts r → (r ≡ NoMemory → ⊥) → RefusesAll st held texts Limit
+as_limit : (st : Store) (held : List HeldRow) (texts : List Bytes) (r : Refusal) → RefusesAll st held texts r
+    → (r ≡ NoMemory → ⊥) → RefusesAll st held texts Limit
 as_limit st held texts r x d = by (refused_kind st held texts r x)
   where
     by : (r ≡ Limit) ⊎ (r ≡ NoMemory) → RefusesAll st held texts Limit
     by (inl e) = subst (λ (y : Refusal). RefusesAll st held texts y) e x
     by (inr e) = absurd (d e)
 
-as_slice : (st : Store) (held : List HeldRow) (c : Catalog) (n : ℕ) (groups came : List Group) → came ≡ groups → PutsAll st held c n groups → PutsAll st held c n came
+as_slice : (st : Store) (held : List HeldRow) (c : Catalog) (n : ℕ) (groups came : List Group) → came ≡ groups
+    → PutsAll st held c n groups → PutsAll st held c n came
 as_slice st held c n groups came e p = subst (λ (gs : List Group). PutsAll st held c n gs) (sym e) p
 
 pub give_up-requires-clause-readers : goal.give_up-requires-clause-readers
@@ -61,7 +72,8 @@ give_up-requires-clause-readers g c =
     let d = c.put_all-put.new.catalog in
     let learned = c.put_all-put.ensures.learned in
     let mid : Parts = record old { catalog = d } in
-    let k = lacks_rows old c.requires.whole held d c.live_stays.ensures c.laws-2.ensures c.in-Err.ensures.stays learned.0 learned.1 in
+    let k = lacks_rows old c.requires.whole held d c.live_stays.ensures c.laws-2.ensures c.in-Err.ensures.stays
+    learned.0 learned.1 in
     lacks_readers old mid c.requires.whole c.requires.tended held [] k
 
 pub give_up-requires-clause-logged : goal.give_up-requires-clause-logged
@@ -71,7 +83,8 @@ give_up-requires-clause-logged g c =
     let d = c.put_all-put.new.catalog in
     let learned = c.put_all-put.ensures.learned in
     let mid : Parts = record old { catalog = d } in
-    let k = lacks_rows old c.requires.whole held d c.live_stays.ensures c.laws-2.ensures c.in-Err.ensures.stays learned.0 learned.1 in
+    let k = lacks_rows old c.requires.whole held d c.live_stays.ensures c.laws-2.ensures c.in-Err.ensures.stays
+    learned.0 learned.1 in
     lacks_logged old mid c.requires.whole c.requires.tended held [] k
 
 pub returns-in-NoMemory-clause-whole : goal.returns-in-NoMemory-clause-whole
@@ -81,7 +94,8 @@ returns-in-NoMemory-clause-whole g c =
     let d = c.put_all-put.new.catalog in
     let learned = c.put_all-put.ensures.learned in
     let mid : Parts = record old { catalog = d } in
-    let k = lacks_rows old c.requires.whole held d c.live_stays.ensures c.laws-2.ensures c.in-Err.ensures.stays learned.0 learned.1 in
+    let k = lacks_rows old c.requires.whole held d c.live_stays.ensures c.laws-2.ensures c.in-Err.ensures.stays
+    learned.0 learned.1 in
     lacks_whole old mid c.requires.whole c.requires.tended held [] k c.give_up.new.parts c.give_up.ensures
 
 pub returns-in-NoMemory-clause-tended : goal.returns-in-NoMemory-clause-tended
@@ -91,8 +105,10 @@ returns-in-NoMemory-clause-tended g c =
     let d = c.put_all-put.new.catalog in
     let learned = c.put_all-put.ensures.learned in
     let mid : Parts = record old { catalog = d } in
-    let k = lacks_rows old c.requires.whole held d c.live_stays.ensures c.laws-2.ensures c.in-Err.ensures.stays learned.0 learned.1 in
-    lacks_tended old mid c.requires.whole c.requires.tended held [] k c.give_up.new.parts c.give_up.ensures c.showable_stays.ensures
+    let k = lacks_rows old c.requires.whole held d c.live_stays.ensures c.laws-2.ensures c.in-Err.ensures.stays
+    learned.0 learned.1 in
+    lacks_tended old mid c.requires.whole c.requires.tended held [] k c.give_up.new.parts c.give_up.ensures
+    c.showable_stays.ensures
 
 pub returns-in-NoMemory-clause-adds : goal.returns-in-NoMemory-clause-adds
 returns-in-NoMemory-clause-adds g c =
@@ -101,9 +117,11 @@ returns-in-NoMemory-clause-adds g c =
     let d = c.put_all-put.new.catalog in
     let learned = c.put_all-put.ensures.learned in
     let mid : Parts = record old { catalog = d } in
-    let k = lacks_rows old c.requires.whole held d c.live_stays.ensures c.laws-2.ensures c.in-Err.ensures.stays learned.0 learned.1 in
+    let k = lacks_rows old c.requires.whole held d c.live_stays.ensures c.laws-2.ensures c.in-Err.ensures.stays
+    learned.0 learned.1 in
     lacks_refuses old mid c.requires.whole c.requires.tended held [] k c.give_up.new.parts c.give_up.ensures
-    (subst (λ (r : Refusal). RefusesAll (kept_in old).store held d.texts r) c.in-NoMemory.is (c.in-Err.ensures.refused (kept_in old).store (agrees old)))
+    (subst (λ (r : Refusal). RefusesAll (kept_in old).store held d.texts r) c.in-NoMemory.is
+    (c.in-Err.ensures.refused (kept_in old).store (agrees old)))
 
 pub returns-in-NoMemory-clause-outdates : goal.returns-in-NoMemory-clause-outdates
 returns-in-NoMemory-clause-outdates g c =
@@ -112,7 +130,8 @@ returns-in-NoMemory-clause-outdates g c =
     let d = c.put_all-put.new.catalog in
     let learned = c.put_all-put.ensures.learned in
     let mid : Parts = record old { catalog = d } in
-    let k = lacks_rows old c.requires.whole held d c.live_stays.ensures c.laws-2.ensures c.in-Err.ensures.stays learned.0 learned.1 in
+    let k = lacks_rows old c.requires.whole held d c.live_stays.ensures c.laws-2.ensures c.in-Err.ensures.stays
+    learned.0 learned.1 in
     lacks_cursors old mid c.requires.whole c.requires.tended held [] k c.give_up.new.parts c.give_up.ensures
 
 pub returns-in-NoMemory-clause-watches : goal.returns-in-NoMemory-clause-watches
@@ -122,7 +141,8 @@ returns-in-NoMemory-clause-watches g c =
     let d = c.put_all-put.new.catalog in
     let learned = c.put_all-put.ensures.learned in
     let mid : Parts = record old { catalog = d } in
-    let k = lacks_rows old c.requires.whole held d c.live_stays.ensures c.laws-2.ensures c.in-Err.ensures.stays learned.0 learned.1 in
+    let k = lacks_rows old c.requires.whole held d c.live_stays.ensures c.laws-2.ensures c.in-Err.ensures.stays
+    learned.0 learned.1 in
     lacks_registered old mid c.requires.whole c.requires.tended held [] k c.give_up.new.parts c.give_up.ensures
 
 pub returns-in-NoMemory-clause-tells : goal.returns-in-NoMemory-clause-tells
@@ -132,9 +152,12 @@ returns-in-NoMemory-clause-tells g c =
     let d = c.put_all-put.new.catalog in
     let learned = c.put_all-put.ensures.learned in
     let mid : Parts = record old { catalog = d } in
-    let k = lacks_rows old c.requires.whole held d c.live_stays.ensures c.laws-2.ensures c.in-Err.ensures.stays learned.0 learned.1 in
-    lacks_tells old mid c.requires.whole c.requires.tended held [] k c.give_up.new.parts c.give_up.ensures c.showable_stays.ensures
-    (have c.deltas_exist.ensures c.heads_are_bound.ensures old c.requires.whole (with_all (kept_in old).store held).relations)
+    let k = lacks_rows old c.requires.whole held d c.live_stays.ensures c.laws-2.ensures c.in-Err.ensures.stays
+    learned.0 learned.1 in
+    lacks_tells old mid c.requires.whole c.requires.tended held [] k c.give_up.new.parts c.give_up.ensures
+    c.showable_stays.ensures
+    (have c.deltas_exist.ensures c.heads_are_bound.ensures old c.requires.whole
+    (with_all (kept_in old).store held).relations)
     c.args.steps.now.listing c.args.steps.now.listing (λ f h. omega arith)
 
 pub returns-in_default : goal.returns-in_default
@@ -147,15 +170,29 @@ returns-in_default g c =
     let long = ap (λ (rs : List Relation). length rs) c.in-Err.ensures.stays in
     let names = (λ (r : ℕ). ap (λ (rs : List Relation). (relation_at rs r).name) c.in-Err.ensures.stays) in
     record {
-      whole = rests_whole old c.requires.whole c.requires.tended d same long names c.live_stays.ensures c.showable_stays.ensures;
-      tended = rests_tended old c.requires.whole c.requires.tended d same long names c.live_stays.ensures c.showable_stays.ensures;
+      whole = rests_whole old c.requires.whole c.requires.tended d same long names c.live_stays.ensures
+          c.showable_stays.ensures;
+      tended = rests_tended old c.requires.whole c.requires.tended d same long names c.live_stays.ensures
+          c.showable_stays.ensures;
       adds = refuses_batch (kept_in old).store held d.texts Limit
-          (as_limit (kept_in old).store held d.texts c.in-Err.refusal (c.in-Err.ensures.refused (kept_in old).store (agrees old)) c.in_default.not-NoMemory)
-          (record { relations = d.relations; texts = d.texts; queries = queries_in old.queries.items old.order; seq = old.seq })
-          (ap (λ (rs : List Relation). (let x : Store = record { relations = rs; texts = d.texts; queries = queries_in old.queries.items old.order; seq = old.seq } in x)) c.in-Err.ensures.stays);
-      outdates = rests_cursors old c.requires.whole c.requires.tended d same long names c.live_stays.ensures c.showable_stays.ensures;
+          (as_limit (kept_in old).store held d.texts c.in-Err.refusal
+          (c.in-Err.ensures.refused (kept_in old).store (agrees old)) c.in_default.not-NoMemory)
+          (record {
+            relations = d.relations;
+            texts = d.texts;
+            queries = queries_in old.queries.items old.order;
+            seq =
+                old.seq;
+          })
+          (ap (λ (rs : List Relation).
+          (let x : Store = record
+          { relations = rs; texts = d.texts; queries = queries_in old.queries.items old.order; seq = old.seq } in
+          x)) c.in-Err.ensures.stays);
+      outdates = rests_cursors old c.requires.whole c.requires.tended d same long names c.live_stays.ensures
+          c.showable_stays.ensures;
       watches = refl;
-      tells = rests_tells old c.requires.whole c.requires.tended d same long names c.live_stays.ensures c.showable_stays.ensures c.args.steps.now.listing c.args.steps.now.listing (omega arith);
+      tells = rests_tells old c.requires.whole c.requires.tended d same long names c.live_stays.ensures
+          c.showable_stays.ensures c.args.steps.now.listing c.args.steps.now.listing (omega arith);
       unlisted = λ none. refl;
       updates = record { counted = λ n few. omega arith };
       places = keeps_equal _ old.queries.items old.queries.items refl;
@@ -170,7 +207,8 @@ returns-then-count-eq0-clause-whole g c =
     let p = c.in-Ok.ensures.put (kept_in old).store (agrees old) in
     let groups = c.in-Ok.came.groups.items in
     let none = no_groups (kept_in old).store held d c.in-Ok.came.count groups p (omega (arith, c.if-count-eq0.true)) in
-    let same = same_none old.catalog d c.laws.ensures c.laws-2.ensures c.cells_stay.ensures learned.0 learned.1 p.grouped.long p.grouped.names p.grouped.types groups none p.grouped in
+    let same = same_none old.catalog d c.laws.ensures c.laws-2.ensures c.cells_stay.ensures learned.0 learned.1
+    p.grouped.long p.grouped.names p.grouped.types groups none p.grouped in
     let long = p.grouped.long in
     let names = p.grouped.names in
     rests_whole old c.requires.whole c.requires.tended d same long names c.live_stays.ensures c.showable_stays.ensures
@@ -184,7 +222,8 @@ returns-then-count-eq0-clause-tended g c =
     let p = c.in-Ok.ensures.put (kept_in old).store (agrees old) in
     let groups = c.in-Ok.came.groups.items in
     let none = no_groups (kept_in old).store held d c.in-Ok.came.count groups p (omega (arith, c.if-count-eq0.true)) in
-    let same = same_none old.catalog d c.laws.ensures c.laws-2.ensures c.cells_stay.ensures learned.0 learned.1 p.grouped.long p.grouped.names p.grouped.types groups none p.grouped in
+    let same = same_none old.catalog d c.laws.ensures c.laws-2.ensures c.cells_stay.ensures learned.0 learned.1
+    p.grouped.long p.grouped.names p.grouped.types groups none p.grouped in
     let long = p.grouped.long in
     let names = p.grouped.names in
     rests_tended old c.requires.whole c.requires.tended d same long names c.live_stays.ensures c.showable_stays.ensures
@@ -196,7 +235,8 @@ returns-then-count-eq0-clause-adds g c =
     let d = c.put_all-put.new.catalog in
     let learned = c.put_all-put.ensures.learned in
     let p = c.in-Ok.ensures.put (kept_in old).store (agrees old) in
-    none_adds (kept_in old).store held d c.in-Ok.came.count c.in-Ok.came.groups.items p (omega (arith, c.if-count-eq0.true))
+    none_adds (kept_in old).store held d c.in-Ok.came.count c.in-Ok.came.groups.items p
+    (omega (arith, c.if-count-eq0.true))
 
 pub returns-then-count-eq0-clause-outdates : goal.returns-then-count-eq0-clause-outdates
 returns-then-count-eq0-clause-outdates g c =
@@ -207,7 +247,8 @@ returns-then-count-eq0-clause-outdates g c =
     let p = c.in-Ok.ensures.put (kept_in old).store (agrees old) in
     let groups = c.in-Ok.came.groups.items in
     let none = no_groups (kept_in old).store held d c.in-Ok.came.count groups p (omega (arith, c.if-count-eq0.true)) in
-    let same = same_none old.catalog d c.laws.ensures c.laws-2.ensures c.cells_stay.ensures learned.0 learned.1 p.grouped.long p.grouped.names p.grouped.types groups none p.grouped in
+    let same = same_none old.catalog d c.laws.ensures c.laws-2.ensures c.cells_stay.ensures learned.0 learned.1
+    p.grouped.long p.grouped.names p.grouped.types groups none p.grouped in
     let long = p.grouped.long in
     let names = p.grouped.names in
     rests_cursors old c.requires.whole c.requires.tended d same long names c.live_stays.ensures c.showable_stays.ensures
@@ -221,10 +262,12 @@ returns-then-count-eq0-clause-tells g c =
     let p = c.in-Ok.ensures.put (kept_in old).store (agrees old) in
     let groups = c.in-Ok.came.groups.items in
     let none = no_groups (kept_in old).store held d c.in-Ok.came.count groups p (omega (arith, c.if-count-eq0.true)) in
-    let same = same_none old.catalog d c.laws.ensures c.laws-2.ensures c.cells_stay.ensures learned.0 learned.1 p.grouped.long p.grouped.names p.grouped.types groups none p.grouped in
+    let same = same_none old.catalog d c.laws.ensures c.laws-2.ensures c.cells_stay.ensures learned.0 learned.1
+    p.grouped.long p.grouped.names p.grouped.types groups none p.grouped in
     let long = p.grouped.long in
     let names = p.grouped.names in
-    rests_tells old c.requires.whole c.requires.tended d same long names c.live_stays.ensures c.showable_stays.ensures c.args.steps.now.listing c.args.steps.now.listing (omega arith)
+    rests_tells old c.requires.whole c.requires.tended d same long names c.live_stays.ensures c.showable_stays.ensures
+    c.args.steps.now.listing c.args.steps.now.listing (omega arith)
 
 pub take_groups-requires-clause-once : goal.take_groups-requires-clause-once
 take_groups-requires-clause-once g c =
@@ -239,7 +282,8 @@ take_groups-requires-clause-differ g c =
     let learned = c.put_all-put.ensures.learned in
     let groups = c.as_slice-came.result.now in
     let count = c.in-Ok.came.count in
-    let p = as_slice (kept_in old).store held d count c.in-Ok.came.groups.items groups c.as_slice-came.ensures.value (c.in-Ok.ensures.put (kept_in old).store (agrees old)) in
+    let p = as_slice (kept_in old).store held d count c.in-Ok.came.groups.items groups c.as_slice-came.ensures.value
+    (c.in-Ok.ensures.put (kept_in old).store (agrees old)) in
     p.grouped.differ
 
 pub take_groups-requires-clause-can : goal.take_groups-requires-clause-can
@@ -250,8 +294,14 @@ take_groups-requires-clause-can g c =
     let learned = c.put_all-put.ensures.learned in
     let groups = c.as_slice-came.result.now in
     let count = c.in-Ok.came.count in
-    let p = as_slice (kept_in old).store held d count c.in-Ok.came.groups.items groups c.as_slice-came.ensures.value (c.in-Ok.ensures.put (kept_in old).store (agrees old)) in
-    (start_here old c.requires.whole held d groups count c.cells_stay.ensures c.laws.ensures c.laws-2.ensures c.requires.suit p learned.0 learned.1, leads_here old c.requires.whole held d groups count c.cells_stay.ensures c.laws.ensures c.laws-2.ensures c.requires.suit p learned.0 learned.1 c.live_stays.ensures (λ e. omega (arith, e, c.if-count-eq0.false)))
+    let p = as_slice (kept_in old).store held d count c.in-Ok.came.groups.items groups c.as_slice-came.ensures.value
+    (c.in-Ok.ensures.put (kept_in old).store (agrees old)) in (
+      start_here old c.requires.whole held d groups count c.cells_stay.ensures c.laws.ensures c.laws-2.ensures
+          c.requires.suit p learned.0 learned.1,
+      leads_here old c.requires.whole held d groups count c.cells_stay.ensures
+          c.laws.ensures c.laws-2.ensures c.requires.suit p learned.0 learned.1 c.live_stays.ensures
+          (λ e. omega (arith, e, c.if-count-eq0.false)),
+    )
 
 pub take_back-requires : goal.take_back-requires
 take_back-requires g c =
@@ -261,7 +311,8 @@ take_back-requires g c =
     let learned = c.put_all-put.ensures.learned in
     let groups = c.as_slice-came.result.now in
     let count = c.in-Ok.came.count in
-    let p = as_slice (kept_in old).store held d count c.in-Ok.came.groups.items groups c.as_slice-came.ensures.value (c.in-Ok.ensures.put (kept_in old).store (agrees old)) in
+    let p = as_slice (kept_in old).store held d count c.in-Ok.came.groups.items groups c.as_slice-came.ensures.value
+    (c.in-Ok.ensures.put (kept_in old).store (agrees old)) in
     let w : WentInAll (kept_in old).store held c.take_groups.new.parts.catalog.relations = record {
       suits = c.requires.suit;
       counted = catalog_counted old.catalog c.laws.ensures;
@@ -277,7 +328,8 @@ give_up-requires-in-Err-take_groups-clause-readers g c =
     let learned = c.put_all-put.ensures.learned in
     let groups = c.as_slice-came.result.now in
     let count = c.in-Ok.came.count in
-    let p = as_slice (kept_in old).store held d count c.in-Ok.came.groups.items groups c.as_slice-came.ensures.value (c.in-Ok.ensures.put (kept_in old).store (agrees old)) in
+    let p = as_slice (kept_in old).store held d count c.in-Ok.came.groups.items groups c.as_slice-came.ensures.value
+    (c.in-Ok.ensures.put (kept_in old).store (agrees old)) in
     let w : WentInAll (kept_in old).store held c.take_groups.new.parts.catalog.relations = record {
       suits = c.requires.suit;
       counted = catalog_counted old.catalog c.laws.ensures;
@@ -286,11 +338,17 @@ give_up-requires-in-Err-take_groups-clause-readers g c =
     let after = c.take_back.new.catalog in
     let mid : Parts = record c.take_groups.new.parts { catalog = after } in
     let places = reached old.readers.items groups in
-    let start = start_here old c.requires.whole held d groups count c.cells_stay.ensures c.laws.ensures c.laws-2.ensures c.requires.suit p learned.0 learned.1 in
+    let start = start_here old c.requires.whole held d groups count c.cells_stay.ensures c.laws.ensures c.laws-2.ensures
+    c.requires.suit p learned.0 learned.1 in
     let same = c.take_back.ensures.texts ∙ ap (λ (x : Catalog). x.texts) c.take_groups.ensures.catalog in
-    let k = lacks_groups old c.requires.whole held start d groups count (begun old c.requires.whole held d groups count c.cells_stay.ensures c.laws.ensures c.laws-2.ensures c.requires.suit p learned.0 learned.1 (λ e. omega (arith, e, c.if-count-eq0.false)))
-    c.take_groups.new.parts c.in-Err-take_groups.ensures.given c.take_groups.ensures.rest (leads_here old c.requires.whole held d groups count c.cells_stay.ensures c.laws.ensures c.laws-2.ensures c.requires.suit p learned.0 learned.1 c.live_stays.ensures (λ e. omega (arith, e, c.if-count-eq0.false)))
-    c.live_stays.ensures after c.laws-in-Err-take_groups.ensures (c.take_back.ensures.back (kept_in old).store w) same learned.0 learned.1 in
+    let k = lacks_groups old c.requires.whole held start d groups count
+    (begun old c.requires.whole held d groups count c.cells_stay.ensures c.laws.ensures c.laws-2.ensures
+    c.requires.suit p learned.0 learned.1 (λ e. omega (arith, e, c.if-count-eq0.false)))
+    c.take_groups.new.parts c.in-Err-take_groups.ensures.given c.take_groups.ensures.rest
+    (leads_here old c.requires.whole held d groups count c.cells_stay.ensures c.laws.ensures c.laws-2.ensures
+    c.requires.suit p learned.0 learned.1 c.live_stays.ensures (λ e. omega (arith, e, c.if-count-eq0.false)))
+    c.live_stays.ensures after c.laws-in-Err-take_groups.ensures (c.take_back.ensures.back (kept_in old).store w) same
+    learned.0 learned.1 in
     lacks_readers old mid c.requires.whole c.requires.tended held places k
 
 pub give_up-requires-in-Err-take_groups-clause-logged : goal.give_up-requires-in-Err-take_groups-clause-logged
@@ -301,7 +359,8 @@ give_up-requires-in-Err-take_groups-clause-logged g c =
     let learned = c.put_all-put.ensures.learned in
     let groups = c.as_slice-came.result.now in
     let count = c.in-Ok.came.count in
-    let p = as_slice (kept_in old).store held d count c.in-Ok.came.groups.items groups c.as_slice-came.ensures.value (c.in-Ok.ensures.put (kept_in old).store (agrees old)) in
+    let p = as_slice (kept_in old).store held d count c.in-Ok.came.groups.items groups c.as_slice-came.ensures.value
+    (c.in-Ok.ensures.put (kept_in old).store (agrees old)) in
     let w : WentInAll (kept_in old).store held c.take_groups.new.parts.catalog.relations = record {
       suits = c.requires.suit;
       counted = catalog_counted old.catalog c.laws.ensures;
@@ -310,11 +369,17 @@ give_up-requires-in-Err-take_groups-clause-logged g c =
     let after = c.take_back.new.catalog in
     let mid : Parts = record c.take_groups.new.parts { catalog = after } in
     let places = reached old.readers.items groups in
-    let start = start_here old c.requires.whole held d groups count c.cells_stay.ensures c.laws.ensures c.laws-2.ensures c.requires.suit p learned.0 learned.1 in
+    let start = start_here old c.requires.whole held d groups count c.cells_stay.ensures c.laws.ensures c.laws-2.ensures
+    c.requires.suit p learned.0 learned.1 in
     let same = c.take_back.ensures.texts ∙ ap (λ (x : Catalog). x.texts) c.take_groups.ensures.catalog in
-    let k = lacks_groups old c.requires.whole held start d groups count (begun old c.requires.whole held d groups count c.cells_stay.ensures c.laws.ensures c.laws-2.ensures c.requires.suit p learned.0 learned.1 (λ e. omega (arith, e, c.if-count-eq0.false)))
-    c.take_groups.new.parts c.in-Err-take_groups.ensures.given c.take_groups.ensures.rest (leads_here old c.requires.whole held d groups count c.cells_stay.ensures c.laws.ensures c.laws-2.ensures c.requires.suit p learned.0 learned.1 c.live_stays.ensures (λ e. omega (arith, e, c.if-count-eq0.false)))
-    c.live_stays.ensures after c.laws-in-Err-take_groups.ensures (c.take_back.ensures.back (kept_in old).store w) same learned.0 learned.1 in
+    let k = lacks_groups old c.requires.whole held start d groups count
+    (begun old c.requires.whole held d groups count c.cells_stay.ensures c.laws.ensures c.laws-2.ensures
+    c.requires.suit p learned.0 learned.1 (λ e. omega (arith, e, c.if-count-eq0.false)))
+    c.take_groups.new.parts c.in-Err-take_groups.ensures.given c.take_groups.ensures.rest
+    (leads_here old c.requires.whole held d groups count c.cells_stay.ensures c.laws.ensures c.laws-2.ensures
+    c.requires.suit p learned.0 learned.1 c.live_stays.ensures (λ e. omega (arith, e, c.if-count-eq0.false)))
+    c.live_stays.ensures after c.laws-in-Err-take_groups.ensures (c.take_back.ensures.back (kept_in old).store w) same
+    learned.0 learned.1 in
     lacks_logged old mid c.requires.whole c.requires.tended held places k
 
 pub give_up-requires-in-Err-take_groups-clause-found : goal.give_up-requires-in-Err-take_groups-clause-found
@@ -325,7 +390,8 @@ give_up-requires-in-Err-take_groups-clause-found g c =
     let learned = c.put_all-put.ensures.learned in
     let groups = c.as_slice-came.result.now in
     let count = c.in-Ok.came.count in
-    let p = as_slice (kept_in old).store held d count c.in-Ok.came.groups.items groups c.as_slice-came.ensures.value (c.in-Ok.ensures.put (kept_in old).store (agrees old)) in
+    let p = as_slice (kept_in old).store held d count c.in-Ok.came.groups.items groups c.as_slice-came.ensures.value
+    (c.in-Ok.ensures.put (kept_in old).store (agrees old)) in
     let w : WentInAll (kept_in old).store held c.take_groups.new.parts.catalog.relations = record {
       suits = c.requires.suit;
       counted = catalog_counted old.catalog c.laws.ensures;
@@ -334,11 +400,17 @@ give_up-requires-in-Err-take_groups-clause-found g c =
     let after = c.take_back.new.catalog in
     let mid : Parts = record c.take_groups.new.parts { catalog = after } in
     let places = reached old.readers.items groups in
-    let start = start_here old c.requires.whole held d groups count c.cells_stay.ensures c.laws.ensures c.laws-2.ensures c.requires.suit p learned.0 learned.1 in
+    let start = start_here old c.requires.whole held d groups count c.cells_stay.ensures c.laws.ensures c.laws-2.ensures
+    c.requires.suit p learned.0 learned.1 in
     let same = c.take_back.ensures.texts ∙ ap (λ (x : Catalog). x.texts) c.take_groups.ensures.catalog in
-    let k = lacks_groups old c.requires.whole held start d groups count (begun old c.requires.whole held d groups count c.cells_stay.ensures c.laws.ensures c.laws-2.ensures c.requires.suit p learned.0 learned.1 (λ e. omega (arith, e, c.if-count-eq0.false)))
-    c.take_groups.new.parts c.in-Err-take_groups.ensures.given c.take_groups.ensures.rest (leads_here old c.requires.whole held d groups count c.cells_stay.ensures c.laws.ensures c.laws-2.ensures c.requires.suit p learned.0 learned.1 c.live_stays.ensures (λ e. omega (arith, e, c.if-count-eq0.false)))
-    c.live_stays.ensures after c.laws-in-Err-take_groups.ensures (c.take_back.ensures.back (kept_in old).store w) same learned.0 learned.1 in
+    let k = lacks_groups old c.requires.whole held start d groups count
+    (begun old c.requires.whole held d groups count c.cells_stay.ensures c.laws.ensures c.laws-2.ensures
+    c.requires.suit p learned.0 learned.1 (λ e. omega (arith, e, c.if-count-eq0.false)))
+    c.take_groups.new.parts c.in-Err-take_groups.ensures.given c.take_groups.ensures.rest
+    (leads_here old c.requires.whole held d groups count c.cells_stay.ensures c.laws.ensures c.laws-2.ensures
+    c.requires.suit p learned.0 learned.1 c.live_stays.ensures (λ e. omega (arith, e, c.if-count-eq0.false)))
+    c.live_stays.ensures after c.laws-in-Err-take_groups.ensures (c.take_back.ensures.back (kept_in old).store w) same
+    learned.0 learned.1 in
     lacks_found old mid c.requires.whole c.requires.tended held places k c.requires.suit
 
 pub returns-in-Err-take_groups-clause-whole : goal.returns-in-Err-take_groups-clause-whole
@@ -349,7 +421,8 @@ returns-in-Err-take_groups-clause-whole g c =
     let learned = c.put_all-put.ensures.learned in
     let groups = c.as_slice-came.result.now in
     let count = c.in-Ok.came.count in
-    let p = as_slice (kept_in old).store held d count c.in-Ok.came.groups.items groups c.as_slice-came.ensures.value (c.in-Ok.ensures.put (kept_in old).store (agrees old)) in
+    let p = as_slice (kept_in old).store held d count c.in-Ok.came.groups.items groups c.as_slice-came.ensures.value
+    (c.in-Ok.ensures.put (kept_in old).store (agrees old)) in
     let w : WentInAll (kept_in old).store held c.take_groups.new.parts.catalog.relations = record {
       suits = c.requires.suit;
       counted = catalog_counted old.catalog c.laws.ensures;
@@ -358,12 +431,19 @@ returns-in-Err-take_groups-clause-whole g c =
     let after = c.take_back.new.catalog in
     let mid : Parts = record c.take_groups.new.parts { catalog = after } in
     let places = reached old.readers.items groups in
-    let start = start_here old c.requires.whole held d groups count c.cells_stay.ensures c.laws.ensures c.laws-2.ensures c.requires.suit p learned.0 learned.1 in
+    let start = start_here old c.requires.whole held d groups count c.cells_stay.ensures c.laws.ensures c.laws-2.ensures
+    c.requires.suit p learned.0 learned.1 in
     let same = c.take_back.ensures.texts ∙ ap (λ (x : Catalog). x.texts) c.take_groups.ensures.catalog in
-    let k = lacks_groups old c.requires.whole held start d groups count (begun old c.requires.whole held d groups count c.cells_stay.ensures c.laws.ensures c.laws-2.ensures c.requires.suit p learned.0 learned.1 (λ e. omega (arith, e, c.if-count-eq0.false)))
-    c.take_groups.new.parts c.in-Err-take_groups.ensures.given c.take_groups.ensures.rest (leads_here old c.requires.whole held d groups count c.cells_stay.ensures c.laws.ensures c.laws-2.ensures c.requires.suit p learned.0 learned.1 c.live_stays.ensures (λ e. omega (arith, e, c.if-count-eq0.false)))
-    c.live_stays.ensures after c.laws-in-Err-take_groups.ensures (c.take_back.ensures.back (kept_in old).store w) same learned.0 learned.1 in
-    lacks_whole old mid c.requires.whole c.requires.tended held places k c.give_up-in-Err-take_groups.new.parts c.give_up-in-Err-take_groups.ensures
+    let k = lacks_groups old c.requires.whole held start d groups count
+    (begun old c.requires.whole held d groups count c.cells_stay.ensures c.laws.ensures c.laws-2.ensures
+    c.requires.suit p learned.0 learned.1 (λ e. omega (arith, e, c.if-count-eq0.false)))
+    c.take_groups.new.parts c.in-Err-take_groups.ensures.given c.take_groups.ensures.rest
+    (leads_here old c.requires.whole held d groups count c.cells_stay.ensures c.laws.ensures c.laws-2.ensures
+    c.requires.suit p learned.0 learned.1 c.live_stays.ensures (λ e. omega (arith, e, c.if-count-eq0.false)))
+    c.live_stays.ensures after c.laws-in-Err-take_groups.ensures (c.take_back.ensures.back (kept_in old).store w) same
+    learned.0 learned.1 in
+    lacks_whole old mid c.requires.whole c.requires.tended held places k c.give_up-in-Err-take_groups.new.parts
+    c.give_up-in-Err-take_groups.ensures
 
 pub returns-in-Err-take_groups-clause-tended : goal.returns-in-Err-take_groups-clause-tended
 returns-in-Err-take_groups-clause-tended g c =
@@ -373,7 +453,8 @@ returns-in-Err-take_groups-clause-tended g c =
     let learned = c.put_all-put.ensures.learned in
     let groups = c.as_slice-came.result.now in
     let count = c.in-Ok.came.count in
-    let p = as_slice (kept_in old).store held d count c.in-Ok.came.groups.items groups c.as_slice-came.ensures.value (c.in-Ok.ensures.put (kept_in old).store (agrees old)) in
+    let p = as_slice (kept_in old).store held d count c.in-Ok.came.groups.items groups c.as_slice-came.ensures.value
+    (c.in-Ok.ensures.put (kept_in old).store (agrees old)) in
     let w : WentInAll (kept_in old).store held c.take_groups.new.parts.catalog.relations = record {
       suits = c.requires.suit;
       counted = catalog_counted old.catalog c.laws.ensures;
@@ -382,12 +463,19 @@ returns-in-Err-take_groups-clause-tended g c =
     let after = c.take_back.new.catalog in
     let mid : Parts = record c.take_groups.new.parts { catalog = after } in
     let places = reached old.readers.items groups in
-    let start = start_here old c.requires.whole held d groups count c.cells_stay.ensures c.laws.ensures c.laws-2.ensures c.requires.suit p learned.0 learned.1 in
+    let start = start_here old c.requires.whole held d groups count c.cells_stay.ensures c.laws.ensures c.laws-2.ensures
+    c.requires.suit p learned.0 learned.1 in
     let same = c.take_back.ensures.texts ∙ ap (λ (x : Catalog). x.texts) c.take_groups.ensures.catalog in
-    let k = lacks_groups old c.requires.whole held start d groups count (begun old c.requires.whole held d groups count c.cells_stay.ensures c.laws.ensures c.laws-2.ensures c.requires.suit p learned.0 learned.1 (λ e. omega (arith, e, c.if-count-eq0.false)))
-    c.take_groups.new.parts c.in-Err-take_groups.ensures.given c.take_groups.ensures.rest (leads_here old c.requires.whole held d groups count c.cells_stay.ensures c.laws.ensures c.laws-2.ensures c.requires.suit p learned.0 learned.1 c.live_stays.ensures (λ e. omega (arith, e, c.if-count-eq0.false)))
-    c.live_stays.ensures after c.laws-in-Err-take_groups.ensures (c.take_back.ensures.back (kept_in old).store w) same learned.0 learned.1 in
-    lacks_tended old mid c.requires.whole c.requires.tended held places k c.give_up-in-Err-take_groups.new.parts c.give_up-in-Err-take_groups.ensures c.showable_stays.ensures
+    let k = lacks_groups old c.requires.whole held start d groups count
+    (begun old c.requires.whole held d groups count c.cells_stay.ensures c.laws.ensures c.laws-2.ensures
+    c.requires.suit p learned.0 learned.1 (λ e. omega (arith, e, c.if-count-eq0.false)))
+    c.take_groups.new.parts c.in-Err-take_groups.ensures.given c.take_groups.ensures.rest
+    (leads_here old c.requires.whole held d groups count c.cells_stay.ensures c.laws.ensures c.laws-2.ensures
+    c.requires.suit p learned.0 learned.1 c.live_stays.ensures (λ e. omega (arith, e, c.if-count-eq0.false)))
+    c.live_stays.ensures after c.laws-in-Err-take_groups.ensures (c.take_back.ensures.back (kept_in old).store w) same
+    learned.0 learned.1 in
+    lacks_tended old mid c.requires.whole c.requires.tended held places k c.give_up-in-Err-take_groups.new.parts
+    c.give_up-in-Err-take_groups.ensures c.showable_stays.ensures
 
 pub returns-in-Err-take_groups-clause-adds : goal.returns-in-Err-take_groups-clause-adds
 returns-in-Err-take_groups-clause-adds g c =
@@ -397,7 +485,8 @@ returns-in-Err-take_groups-clause-adds g c =
     let learned = c.put_all-put.ensures.learned in
     let groups = c.as_slice-came.result.now in
     let count = c.in-Ok.came.count in
-    let p = as_slice (kept_in old).store held d count c.in-Ok.came.groups.items groups c.as_slice-came.ensures.value (c.in-Ok.ensures.put (kept_in old).store (agrees old)) in
+    let p = as_slice (kept_in old).store held d count c.in-Ok.came.groups.items groups c.as_slice-came.ensures.value
+    (c.in-Ok.ensures.put (kept_in old).store (agrees old)) in
     let w : WentInAll (kept_in old).store held c.take_groups.new.parts.catalog.relations = record {
       suits = c.requires.suit;
       counted = catalog_counted old.catalog c.laws.ensures;
@@ -406,13 +495,21 @@ returns-in-Err-take_groups-clause-adds g c =
     let after = c.take_back.new.catalog in
     let mid : Parts = record c.take_groups.new.parts { catalog = after } in
     let places = reached old.readers.items groups in
-    let start = start_here old c.requires.whole held d groups count c.cells_stay.ensures c.laws.ensures c.laws-2.ensures c.requires.suit p learned.0 learned.1 in
+    let start = start_here old c.requires.whole held d groups count c.cells_stay.ensures c.laws.ensures c.laws-2.ensures
+    c.requires.suit p learned.0 learned.1 in
     let same = c.take_back.ensures.texts ∙ ap (λ (x : Catalog). x.texts) c.take_groups.ensures.catalog in
-    let k = lacks_groups old c.requires.whole held start d groups count (begun old c.requires.whole held d groups count c.cells_stay.ensures c.laws.ensures c.laws-2.ensures c.requires.suit p learned.0 learned.1 (λ e. omega (arith, e, c.if-count-eq0.false)))
-    c.take_groups.new.parts c.in-Err-take_groups.ensures.given c.take_groups.ensures.rest (leads_here old c.requires.whole held d groups count c.cells_stay.ensures c.laws.ensures c.laws-2.ensures c.requires.suit p learned.0 learned.1 c.live_stays.ensures (λ e. omega (arith, e, c.if-count-eq0.false)))
-    c.live_stays.ensures after c.laws-in-Err-take_groups.ensures (c.take_back.ensures.back (kept_in old).store w) same learned.0 learned.1 in
-    lacks_refuses old mid c.requires.whole c.requires.tended held places k c.give_up-in-Err-take_groups.new.parts c.give_up-in-Err-take_groups.ensures
-    (lacks_last (kept_in old).store held d count groups p (λ e. omega (arith, e, c.if-count-eq0.false)) after.texts same)
+    let k = lacks_groups old c.requires.whole held start d groups count
+    (begun old c.requires.whole held d groups count c.cells_stay.ensures c.laws.ensures c.laws-2.ensures
+    c.requires.suit p learned.0 learned.1 (λ e. omega (arith, e, c.if-count-eq0.false)))
+    c.take_groups.new.parts c.in-Err-take_groups.ensures.given c.take_groups.ensures.rest
+    (leads_here old c.requires.whole held d groups count c.cells_stay.ensures c.laws.ensures c.laws-2.ensures
+    c.requires.suit p learned.0 learned.1 c.live_stays.ensures (λ e. omega (arith, e, c.if-count-eq0.false)))
+    c.live_stays.ensures after c.laws-in-Err-take_groups.ensures (c.take_back.ensures.back (kept_in old).store w) same
+    learned.0 learned.1 in
+    lacks_refuses old mid c.requires.whole c.requires.tended held places k c.give_up-in-Err-take_groups.new.parts
+    c.give_up-in-Err-take_groups.ensures
+    (lacks_last (kept_in old).store held d count groups p (λ e. omega (arith, e, c.if-count-eq0.false)) after.texts
+    same)
 
 pub returns-in-Err-take_groups-clause-outdates : goal.returns-in-Err-take_groups-clause-outdates
 returns-in-Err-take_groups-clause-outdates g c =
@@ -422,7 +519,8 @@ returns-in-Err-take_groups-clause-outdates g c =
     let learned = c.put_all-put.ensures.learned in
     let groups = c.as_slice-came.result.now in
     let count = c.in-Ok.came.count in
-    let p = as_slice (kept_in old).store held d count c.in-Ok.came.groups.items groups c.as_slice-came.ensures.value (c.in-Ok.ensures.put (kept_in old).store (agrees old)) in
+    let p = as_slice (kept_in old).store held d count c.in-Ok.came.groups.items groups c.as_slice-came.ensures.value
+    (c.in-Ok.ensures.put (kept_in old).store (agrees old)) in
     let w : WentInAll (kept_in old).store held c.take_groups.new.parts.catalog.relations = record {
       suits = c.requires.suit;
       counted = catalog_counted old.catalog c.laws.ensures;
@@ -431,12 +529,19 @@ returns-in-Err-take_groups-clause-outdates g c =
     let after = c.take_back.new.catalog in
     let mid : Parts = record c.take_groups.new.parts { catalog = after } in
     let places = reached old.readers.items groups in
-    let start = start_here old c.requires.whole held d groups count c.cells_stay.ensures c.laws.ensures c.laws-2.ensures c.requires.suit p learned.0 learned.1 in
+    let start = start_here old c.requires.whole held d groups count c.cells_stay.ensures c.laws.ensures c.laws-2.ensures
+    c.requires.suit p learned.0 learned.1 in
     let same = c.take_back.ensures.texts ∙ ap (λ (x : Catalog). x.texts) c.take_groups.ensures.catalog in
-    let k = lacks_groups old c.requires.whole held start d groups count (begun old c.requires.whole held d groups count c.cells_stay.ensures c.laws.ensures c.laws-2.ensures c.requires.suit p learned.0 learned.1 (λ e. omega (arith, e, c.if-count-eq0.false)))
-    c.take_groups.new.parts c.in-Err-take_groups.ensures.given c.take_groups.ensures.rest (leads_here old c.requires.whole held d groups count c.cells_stay.ensures c.laws.ensures c.laws-2.ensures c.requires.suit p learned.0 learned.1 c.live_stays.ensures (λ e. omega (arith, e, c.if-count-eq0.false)))
-    c.live_stays.ensures after c.laws-in-Err-take_groups.ensures (c.take_back.ensures.back (kept_in old).store w) same learned.0 learned.1 in
-    lacks_cursors old mid c.requires.whole c.requires.tended held places k c.give_up-in-Err-take_groups.new.parts c.give_up-in-Err-take_groups.ensures
+    let k = lacks_groups old c.requires.whole held start d groups count
+    (begun old c.requires.whole held d groups count c.cells_stay.ensures c.laws.ensures c.laws-2.ensures
+    c.requires.suit p learned.0 learned.1 (λ e. omega (arith, e, c.if-count-eq0.false)))
+    c.take_groups.new.parts c.in-Err-take_groups.ensures.given c.take_groups.ensures.rest
+    (leads_here old c.requires.whole held d groups count c.cells_stay.ensures c.laws.ensures c.laws-2.ensures
+    c.requires.suit p learned.0 learned.1 c.live_stays.ensures (λ e. omega (arith, e, c.if-count-eq0.false)))
+    c.live_stays.ensures after c.laws-in-Err-take_groups.ensures (c.take_back.ensures.back (kept_in old).store w) same
+    learned.0 learned.1 in
+    lacks_cursors old mid c.requires.whole c.requires.tended held places k c.give_up-in-Err-take_groups.new.parts
+    c.give_up-in-Err-take_groups.ensures
 
 pub returns-in-Err-take_groups-clause-watches : goal.returns-in-Err-take_groups-clause-watches
 returns-in-Err-take_groups-clause-watches g c =
@@ -446,7 +551,8 @@ returns-in-Err-take_groups-clause-watches g c =
     let learned = c.put_all-put.ensures.learned in
     let groups = c.as_slice-came.result.now in
     let count = c.in-Ok.came.count in
-    let p = as_slice (kept_in old).store held d count c.in-Ok.came.groups.items groups c.as_slice-came.ensures.value (c.in-Ok.ensures.put (kept_in old).store (agrees old)) in
+    let p = as_slice (kept_in old).store held d count c.in-Ok.came.groups.items groups c.as_slice-came.ensures.value
+    (c.in-Ok.ensures.put (kept_in old).store (agrees old)) in
     let w : WentInAll (kept_in old).store held c.take_groups.new.parts.catalog.relations = record {
       suits = c.requires.suit;
       counted = catalog_counted old.catalog c.laws.ensures;
@@ -455,12 +561,19 @@ returns-in-Err-take_groups-clause-watches g c =
     let after = c.take_back.new.catalog in
     let mid : Parts = record c.take_groups.new.parts { catalog = after } in
     let places = reached old.readers.items groups in
-    let start = start_here old c.requires.whole held d groups count c.cells_stay.ensures c.laws.ensures c.laws-2.ensures c.requires.suit p learned.0 learned.1 in
+    let start = start_here old c.requires.whole held d groups count c.cells_stay.ensures c.laws.ensures c.laws-2.ensures
+    c.requires.suit p learned.0 learned.1 in
     let same = c.take_back.ensures.texts ∙ ap (λ (x : Catalog). x.texts) c.take_groups.ensures.catalog in
-    let k = lacks_groups old c.requires.whole held start d groups count (begun old c.requires.whole held d groups count c.cells_stay.ensures c.laws.ensures c.laws-2.ensures c.requires.suit p learned.0 learned.1 (λ e. omega (arith, e, c.if-count-eq0.false)))
-    c.take_groups.new.parts c.in-Err-take_groups.ensures.given c.take_groups.ensures.rest (leads_here old c.requires.whole held d groups count c.cells_stay.ensures c.laws.ensures c.laws-2.ensures c.requires.suit p learned.0 learned.1 c.live_stays.ensures (λ e. omega (arith, e, c.if-count-eq0.false)))
-    c.live_stays.ensures after c.laws-in-Err-take_groups.ensures (c.take_back.ensures.back (kept_in old).store w) same learned.0 learned.1 in
-    lacks_registered old mid c.requires.whole c.requires.tended held places k c.give_up-in-Err-take_groups.new.parts c.give_up-in-Err-take_groups.ensures
+    let k = lacks_groups old c.requires.whole held start d groups count
+    (begun old c.requires.whole held d groups count c.cells_stay.ensures c.laws.ensures c.laws-2.ensures
+    c.requires.suit p learned.0 learned.1 (λ e. omega (arith, e, c.if-count-eq0.false)))
+    c.take_groups.new.parts c.in-Err-take_groups.ensures.given c.take_groups.ensures.rest
+    (leads_here old c.requires.whole held d groups count c.cells_stay.ensures c.laws.ensures c.laws-2.ensures
+    c.requires.suit p learned.0 learned.1 c.live_stays.ensures (λ e. omega (arith, e, c.if-count-eq0.false)))
+    c.live_stays.ensures after c.laws-in-Err-take_groups.ensures (c.take_back.ensures.back (kept_in old).store w) same
+    learned.0 learned.1 in
+    lacks_registered old mid c.requires.whole c.requires.tended held places k c.give_up-in-Err-take_groups.new.parts
+    c.give_up-in-Err-take_groups.ensures
 
 pub returns-in-Err-take_groups-clause-tells : goal.returns-in-Err-take_groups-clause-tells
 returns-in-Err-take_groups-clause-tells g c =
@@ -470,7 +583,8 @@ returns-in-Err-take_groups-clause-tells g c =
     let learned = c.put_all-put.ensures.learned in
     let groups = c.as_slice-came.result.now in
     let count = c.in-Ok.came.count in
-    let p = as_slice (kept_in old).store held d count c.in-Ok.came.groups.items groups c.as_slice-came.ensures.value (c.in-Ok.ensures.put (kept_in old).store (agrees old)) in
+    let p = as_slice (kept_in old).store held d count c.in-Ok.came.groups.items groups c.as_slice-came.ensures.value
+    (c.in-Ok.ensures.put (kept_in old).store (agrees old)) in
     let w : WentInAll (kept_in old).store held c.take_groups.new.parts.catalog.relations = record {
       suits = c.requires.suit;
       counted = catalog_counted old.catalog c.laws.ensures;
@@ -479,15 +593,25 @@ returns-in-Err-take_groups-clause-tells g c =
     let after = c.take_back.new.catalog in
     let mid : Parts = record c.take_groups.new.parts { catalog = after } in
     let places = reached old.readers.items groups in
-    let start = start_here old c.requires.whole held d groups count c.cells_stay.ensures c.laws.ensures c.laws-2.ensures c.requires.suit p learned.0 learned.1 in
+    let start = start_here old c.requires.whole held d groups count c.cells_stay.ensures c.laws.ensures c.laws-2.ensures
+    c.requires.suit p learned.0 learned.1 in
     let same = c.take_back.ensures.texts ∙ ap (λ (x : Catalog). x.texts) c.take_groups.ensures.catalog in
-    let k = lacks_groups old c.requires.whole held start d groups count (begun old c.requires.whole held d groups count c.cells_stay.ensures c.laws.ensures c.laws-2.ensures c.requires.suit p learned.0 learned.1 (λ e. omega (arith, e, c.if-count-eq0.false)))
-    c.take_groups.new.parts c.in-Err-take_groups.ensures.given c.take_groups.ensures.rest (leads_here old c.requires.whole held d groups count c.cells_stay.ensures c.laws.ensures c.laws-2.ensures c.requires.suit p learned.0 learned.1 c.live_stays.ensures (λ e. omega (arith, e, c.if-count-eq0.false)))
-    c.live_stays.ensures after c.laws-in-Err-take_groups.ensures (c.take_back.ensures.back (kept_in old).store w) same learned.0 learned.1 in
-    lacks_tells old mid c.requires.whole c.requires.tended held places k c.give_up-in-Err-take_groups.new.parts c.give_up-in-Err-take_groups.ensures c.showable_stays.ensures
-    (have c.deltas_exist.ensures c.heads_are_bound.ensures old c.requires.whole (with_all (kept_in old).store held).relations)
+    let k = lacks_groups old c.requires.whole held start d groups count
+    (begun old c.requires.whole held d groups count c.cells_stay.ensures c.laws.ensures c.laws-2.ensures
+    c.requires.suit p learned.0 learned.1 (λ e. omega (arith, e, c.if-count-eq0.false)))
+    c.take_groups.new.parts c.in-Err-take_groups.ensures.given c.take_groups.ensures.rest
+    (leads_here old c.requires.whole held d groups count c.cells_stay.ensures c.laws.ensures c.laws-2.ensures
+    c.requires.suit p learned.0 learned.1 c.live_stays.ensures (λ e. omega (arith, e, c.if-count-eq0.false)))
+    c.live_stays.ensures after c.laws-in-Err-take_groups.ensures (c.take_back.ensures.back (kept_in old).store w) same
+    learned.0 learned.1 in
+    lacks_tells old mid c.requires.whole c.requires.tended held places k c.give_up-in-Err-take_groups.new.parts
+    c.give_up-in-Err-take_groups.ensures c.showable_stays.ensures
+    (have c.deltas_exist.ensures c.heads_are_bound.ensures old c.requires.whole
+    (with_all (kept_in old).store held).relations)
     c.args.steps.now.listing c.take_groups.new.steps.listing
-    (lacks_counts old c.requires.whole held start d groups count (begun old c.requires.whole held d groups count c.cells_stay.ensures c.laws.ensures c.laws-2.ensures c.requires.suit p learned.0 learned.1 (λ e. omega (arith, e, c.if-count-eq0.false))) c.live_stays.ensures
+    (lacks_counts old c.requires.whole held start d groups count
+    (begun old c.requires.whole held d groups count c.cells_stay.ensures c.laws.ensures c.laws-2.ensures
+    c.requires.suit p learned.0 learned.1 (λ e. omega (arith, e, c.if-count-eq0.false))) c.live_stays.ensures
     c.args.steps.now.listing c.take_groups.new.steps.listing c.take_groups.ensures.counted)
 
 pub returns-in-Err-take_groups-clause-unlisted : goal.returns-in-Err-take_groups-clause-unlisted
@@ -498,8 +622,12 @@ returns-in-Err-take_groups-clause-unlisted g c none =
     let learned = c.put_all-put.ensures.learned in
     let groups = c.as_slice-came.result.now in
     let count = c.in-Ok.came.count in
-    let p = as_slice (kept_in old).store held d count c.in-Ok.came.groups.items groups c.as_slice-came.ensures.value (c.in-Ok.ensures.put (kept_in old).store (agrees old)) in
-    c.take_groups.ensures.unlisted (unwatched_reached old c.requires.whole none groups (came_within old c.requires.whole held d groups count c.cells_stay.ensures c.laws.ensures c.laws-2.ensures c.requires.suit p learned.0 learned.1))
+    let p = as_slice (kept_in old).store held d count c.in-Ok.came.groups.items groups c.as_slice-came.ensures.value
+    (c.in-Ok.ensures.put (kept_in old).store (agrees old)) in
+    c.take_groups.ensures.unlisted
+    (unwatched_reached old c.requires.whole none groups
+    (came_within old c.requires.whole held d groups count c.cells_stay.ensures c.laws.ensures c.laws-2.ensures
+    c.requires.suit p learned.0 learned.1))
 
 pub overflow_add-parts : goal.overflow_add-parts
 overflow_add-parts g c =
@@ -509,8 +637,10 @@ overflow_add-parts g c =
     let learned = c.put_all-put.ensures.learned in
     let groups = c.as_slice-came.result.now in
     let count = c.in-Ok.came.count in
-    let p = as_slice (kept_in old).store held d count c.in-Ok.came.groups.items groups c.as_slice-came.ensures.value (c.in-Ok.ensures.put (kept_in old).store (agrees old)) in
-    let low = came_seq old c.requires.whole held d groups count c.cells_stay.ensures c.laws.ensures c.laws-2.ensures c.requires.suit p learned.0 learned.1 (λ e. omega (arith, e, c.if-count-eq0.false)) in
+    let p = as_slice (kept_in old).store held d count c.in-Ok.came.groups.items groups c.as_slice-came.ensures.value
+    (c.in-Ok.ensures.put (kept_in old).store (agrees old)) in
+    let low = came_seq old c.requires.whole held d groups count c.cells_stay.ensures c.laws.ensures c.laws-2.ensures
+    c.requires.suit p learned.0 learned.1 (λ e. omega (arith, e, c.if-count-eq0.false)) in
     omega (arith, low, c.take_groups.ensures.rest.seq)
 
 pub affect_reached-requires-clause-within : goal.affect_reached-requires-clause-within
@@ -521,8 +651,10 @@ affect_reached-requires-clause-within g c =
     let learned = c.put_all-put.ensures.learned in
     let groups = c.as_slice-came.result.now in
     let count = c.in-Ok.came.count in
-    let p = as_slice (kept_in old).store held d count c.in-Ok.came.groups.items groups c.as_slice-came.ensures.value (c.in-Ok.ensures.put (kept_in old).store (agrees old)) in
-    came_here old c.requires.whole held d groups count c.cells_stay.ensures c.laws.ensures c.laws-2.ensures c.requires.suit p learned.0 learned.1 c.take_groups.new.parts.readers.items c.take_groups.ensures.rest.readers
+    let p = as_slice (kept_in old).store held d count c.in-Ok.came.groups.items groups c.as_slice-came.ensures.value
+    (c.in-Ok.ensures.put (kept_in old).store (agrees old)) in
+    came_here old c.requires.whole held d groups count c.cells_stay.ensures c.laws.ensures c.laws-2.ensures
+    c.requires.suit p learned.0 learned.1 c.take_groups.new.parts.readers.items c.take_groups.ensures.rest.readers
 
 pub outdate_came-requires-clause-readers : goal.outdate_came-requires-clause-readers
 outdate_came-requires-clause-readers g c =
@@ -532,10 +664,14 @@ outdate_came-requires-clause-readers g c =
     let learned = c.put_all-put.ensures.learned in
     let groups = c.as_slice-came.result.now in
     let count = c.in-Ok.came.count in
-    let p = as_slice (kept_in old).store held d count c.in-Ok.came.groups.items groups c.as_slice-came.ensures.value (c.in-Ok.ensures.put (kept_in old).store (agrees old)) in
+    let p = as_slice (kept_in old).store held d count c.in-Ok.came.groups.items groups c.as_slice-came.ensures.value
+    (c.in-Ok.ensures.put (kept_in old).store (agrees old)) in
     let mid = c.take_groups.new.parts in
-    let start = start_here old c.requires.whole held d groups count c.cells_stay.ensures c.laws.ensures c.laws-2.ensures c.requires.suit p learned.0 learned.1 in
-    came_readers old c.requires.whole held d groups count c.cells_stay.ensures c.laws.ensures c.laws-2.ensures c.requires.suit p learned.0 learned.1 c.live_stays.ensures (λ e. omega (arith, e, c.if-count-eq0.false)) mid c.in-Ok-take_groups.ensures.taken c.take_groups.ensures.catalog c.take_groups.ensures.rest.readers
+    let start = start_here old c.requires.whole held d groups count c.cells_stay.ensures c.laws.ensures c.laws-2.ensures
+    c.requires.suit p learned.0 learned.1 in
+    came_readers old c.requires.whole held d groups count c.cells_stay.ensures c.laws.ensures c.laws-2.ensures
+    c.requires.suit p learned.0 learned.1 c.live_stays.ensures (λ e. omega (arith, e, c.if-count-eq0.false)) mid
+    c.in-Ok-take_groups.ensures.taken c.take_groups.ensures.catalog c.take_groups.ensures.rest.readers
 
 pub outdate_came-requires-clause-found : goal.outdate_came-requires-clause-found
 outdate_came-requires-clause-found g c =
@@ -545,11 +681,14 @@ outdate_came-requires-clause-found g c =
     let learned = c.put_all-put.ensures.learned in
     let groups = c.as_slice-came.result.now in
     let count = c.in-Ok.came.count in
-    let p = as_slice (kept_in old).store held d count c.in-Ok.came.groups.items groups c.as_slice-came.ensures.value (c.in-Ok.ensures.put (kept_in old).store (agrees old)) in
+    let p = as_slice (kept_in old).store held d count c.in-Ok.came.groups.items groups c.as_slice-came.ensures.value
+    (c.in-Ok.ensures.put (kept_in old).store (agrees old)) in
     let mid = c.take_groups.new.parts in
-    let start = start_here old c.requires.whole held d groups count c.cells_stay.ensures c.laws.ensures c.laws-2.ensures c.requires.suit p learned.0 learned.1 in
+    let start = start_here old c.requires.whole held d groups count c.cells_stay.ensures c.laws.ensures c.laws-2.ensures
+    c.requires.suit p learned.0 learned.1 in
     All-take (λ (h : HeldRow). IsSome (relation_of (mid.catalog).relations h.relation)) c.in-Ok.came.first held
-    (came_found old c.requires.whole held d groups count c.cells_stay.ensures c.laws.ensures c.laws-2.ensures c.requires.suit p learned.0 learned.1 mid.catalog c.take_groups.ensures.catalog)
+    (came_found old c.requires.whole held d groups count c.cells_stay.ensures c.laws.ensures c.laws-2.ensures
+    c.requires.suit p learned.0 learned.1 mid.catalog c.take_groups.ensures.catalog)
 
 pub outdate_came-requires-clause-tested : goal.outdate_came-requires-clause-tested
 outdate_came-requires-clause-tested g c =
@@ -559,10 +698,16 @@ outdate_came-requires-clause-tested g c =
     let learned = c.put_all-put.ensures.learned in
     let groups = c.as_slice-came.result.now in
     let count = c.in-Ok.came.count in
-    let p = as_slice (kept_in old).store held d count c.in-Ok.came.groups.items groups c.as_slice-came.ensures.value (c.in-Ok.ensures.put (kept_in old).store (agrees old)) in
+    let p = as_slice (kept_in old).store held d count c.in-Ok.came.groups.items groups c.as_slice-came.ensures.value
+    (c.in-Ok.ensures.put (kept_in old).store (agrees old)) in
     let mid = c.take_groups.new.parts in
-    let start = start_here old c.requires.whole held d groups count c.cells_stay.ensures c.laws.ensures c.laws-2.ensures c.requires.suit p learned.0 learned.1 in
-    (has_come (kept_in old).store held, came_tested old c.requires.whole held d groups count c.cells_stay.ensures c.laws.ensures c.laws-2.ensures c.requires.suit p learned.0 learned.1 mid.catalog c.take_groups.ensures.catalog)
+    let start = start_here old c.requires.whole held d groups count c.cells_stay.ensures c.laws.ensures c.laws-2.ensures
+    c.requires.suit p learned.0 learned.1 in (
+      has_come (kept_in old).store held,
+      came_tested old c.requires.whole held d groups count c.cells_stay.ensures
+          c.laws.ensures c.laws-2.ensures c.requires.suit p learned.0 learned.1 mid.catalog
+          c.take_groups.ensures.catalog,
+    )
 
 pub returns-clause-whole : goal.returns-clause-whole
 returns-clause-whole g c =
@@ -572,12 +717,20 @@ returns-clause-whole g c =
     let learned = c.put_all-put.ensures.learned in
     let groups = c.as_slice-came.result.now in
     let count = c.in-Ok.came.count in
-    let p = as_slice (kept_in old).store held d count c.in-Ok.came.groups.items groups c.as_slice-came.ensures.value (c.in-Ok.ensures.put (kept_in old).store (agrees old)) in
+    let p = as_slice (kept_in old).store held d count c.in-Ok.came.groups.items groups c.as_slice-came.ensures.value
+    (c.in-Ok.ensures.put (kept_in old).store (agrees old)) in
     let mid = c.take_groups.new.parts in
-    let start = start_here old c.requires.whole held d groups count c.cells_stay.ensures c.laws.ensures c.laws-2.ensures c.requires.suit p learned.0 learned.1 in
-    let new : Parts = record mid { seq = mid.seq + 1; affected = c.affect_reached.new.affected; queries = c.outdate_came.new.queries } in
+    let start = start_here old c.requires.whole held d groups count c.cells_stay.ensures c.laws.ensures c.laws-2.ensures
+    c.requires.suit p learned.0 learned.1 in
+    let new : Parts = record mid
+    { seq = mid.seq + 1; affected = c.affect_reached.new.affected; queries = c.outdate_came.new.queries } in
     let x : Settles old held groups mid new = record {
-      ages = ages_first (kept_in old).store held c.in-Ok.came.first (c.in-Ok.ensures.first (kept_in old).store (agrees old)) (mid.seq + 1) mid.queries.items c.outdate_came.new.queries.items (c.outdate_came.ensures (has_come (kept_in old).store held) (came_tested old c.requires.whole held d groups count c.cells_stay.ensures c.laws.ensures c.laws-2.ensures c.requires.suit p learned.0 learned.1 mid.catalog c.take_groups.ensures.catalog));
+      ages = ages_first (kept_in old).store held c.in-Ok.came.first
+          (c.in-Ok.ensures.first (kept_in old).store (agrees old)) (mid.seq + 1) mid.queries.items
+          c.outdate_came.new.queries.items
+          (c.outdate_came.ensures (has_come (kept_in old).store held)
+          (came_tested old c.requires.whole held d groups count c.cells_stay.ensures c.laws.ensures c.laws-2.ensures
+          c.requires.suit p learned.0 learned.1 mid.catalog c.take_groups.ensures.catalog));
       catalog = refl;
       logs = refl;
       readers = c.take_groups.ensures.rest.readers;
@@ -585,11 +738,19 @@ returns-clause-whole g c =
       watchers = c.take_groups.ensures.rest.watchers;
       seq = ap (λ (n : ℕ). n + 1) c.take_groups.ensures.rest.seq;
       affected = c.affect_reached.ensures.items
-          ∙ ap (λ (rs : List (List ℕ)). filter (is_reader (reached rs groups)) c.as_slice-order.result.now) c.take_groups.ensures.rest.readers
-          ∙ ap (λ (xs : List ℕ). filter (is_reader (reached old.readers.items groups)) xs) (c.as_slice-order.ensures ∙ c.take_groups.ensures.rest.order);
+          ∙ ap (λ (rs : List (List ℕ)). filter (is_reader (reached rs groups)) c.as_slice-order.result.now)
+          c.take_groups.ensures.rest.readers
+          ∙ ap (λ (xs : List ℕ). filter (is_reader (reached old.readers.items groups)) xs)
+          (c.as_slice-order.ensures ∙ c.take_groups.ensures.rest.order);
       room = omega (arith, c.requires.tended.room, c.take_groups.ensures.rest.room, c.affect_reached.ensures.room);
     } in
-    taken_whole old mid new c.requires.whole c.requires.tended held start groups count (filled_mid old c.requires.whole held d groups count c.cells_stay.ensures c.laws.ensures c.laws-2.ensures c.requires.suit p learned.0 learned.1 c.live_stays.ensures (λ e. omega (arith, e, c.if-count-eq0.false)) mid c.in-Ok-take_groups.ensures.taken c.take_groups.ensures.catalog) (came_takes old c.requires.whole held d groups count c.cells_stay.ensures c.laws.ensures c.laws-2.ensures c.requires.suit p learned.0 learned.1 c.live_stays.ensures (λ e. omega (arith, e, c.if-count-eq0.false)) mid c.in-Ok-take_groups.ensures.taken c.take_groups.ensures.catalog) x c.live_stays.ensures c.showable_stays.ensures
+    taken_whole old mid new c.requires.whole c.requires.tended held start groups count
+    (filled_mid old c.requires.whole held d groups count c.cells_stay.ensures c.laws.ensures c.laws-2.ensures
+    c.requires.suit p learned.0 learned.1 c.live_stays.ensures (λ e. omega (arith, e, c.if-count-eq0.false)) mid
+    c.in-Ok-take_groups.ensures.taken c.take_groups.ensures.catalog)
+    (came_takes old c.requires.whole held d groups count c.cells_stay.ensures c.laws.ensures c.laws-2.ensures
+    c.requires.suit p learned.0 learned.1 c.live_stays.ensures (λ e. omega (arith, e, c.if-count-eq0.false)) mid
+    c.in-Ok-take_groups.ensures.taken c.take_groups.ensures.catalog) x c.live_stays.ensures c.showable_stays.ensures
 
 pub returns-clause-tended : goal.returns-clause-tended
 returns-clause-tended g c =
@@ -599,12 +760,20 @@ returns-clause-tended g c =
     let learned = c.put_all-put.ensures.learned in
     let groups = c.as_slice-came.result.now in
     let count = c.in-Ok.came.count in
-    let p = as_slice (kept_in old).store held d count c.in-Ok.came.groups.items groups c.as_slice-came.ensures.value (c.in-Ok.ensures.put (kept_in old).store (agrees old)) in
+    let p = as_slice (kept_in old).store held d count c.in-Ok.came.groups.items groups c.as_slice-came.ensures.value
+    (c.in-Ok.ensures.put (kept_in old).store (agrees old)) in
     let mid = c.take_groups.new.parts in
-    let start = start_here old c.requires.whole held d groups count c.cells_stay.ensures c.laws.ensures c.laws-2.ensures c.requires.suit p learned.0 learned.1 in
-    let new : Parts = record mid { seq = mid.seq + 1; affected = c.affect_reached.new.affected; queries = c.outdate_came.new.queries } in
+    let start = start_here old c.requires.whole held d groups count c.cells_stay.ensures c.laws.ensures c.laws-2.ensures
+    c.requires.suit p learned.0 learned.1 in
+    let new : Parts = record mid
+    { seq = mid.seq + 1; affected = c.affect_reached.new.affected; queries = c.outdate_came.new.queries } in
     let x : Settles old held groups mid new = record {
-      ages = ages_first (kept_in old).store held c.in-Ok.came.first (c.in-Ok.ensures.first (kept_in old).store (agrees old)) (mid.seq + 1) mid.queries.items c.outdate_came.new.queries.items (c.outdate_came.ensures (has_come (kept_in old).store held) (came_tested old c.requires.whole held d groups count c.cells_stay.ensures c.laws.ensures c.laws-2.ensures c.requires.suit p learned.0 learned.1 mid.catalog c.take_groups.ensures.catalog));
+      ages = ages_first (kept_in old).store held c.in-Ok.came.first
+          (c.in-Ok.ensures.first (kept_in old).store (agrees old)) (mid.seq + 1) mid.queries.items
+          c.outdate_came.new.queries.items
+          (c.outdate_came.ensures (has_come (kept_in old).store held)
+          (came_tested old c.requires.whole held d groups count c.cells_stay.ensures c.laws.ensures c.laws-2.ensures
+          c.requires.suit p learned.0 learned.1 mid.catalog c.take_groups.ensures.catalog));
       catalog = refl;
       logs = refl;
       readers = c.take_groups.ensures.rest.readers;
@@ -612,11 +781,19 @@ returns-clause-tended g c =
       watchers = c.take_groups.ensures.rest.watchers;
       seq = ap (λ (n : ℕ). n + 1) c.take_groups.ensures.rest.seq;
       affected = c.affect_reached.ensures.items
-          ∙ ap (λ (rs : List (List ℕ)). filter (is_reader (reached rs groups)) c.as_slice-order.result.now) c.take_groups.ensures.rest.readers
-          ∙ ap (λ (xs : List ℕ). filter (is_reader (reached old.readers.items groups)) xs) (c.as_slice-order.ensures ∙ c.take_groups.ensures.rest.order);
+          ∙ ap (λ (rs : List (List ℕ)). filter (is_reader (reached rs groups)) c.as_slice-order.result.now)
+          c.take_groups.ensures.rest.readers
+          ∙ ap (λ (xs : List ℕ). filter (is_reader (reached old.readers.items groups)) xs)
+          (c.as_slice-order.ensures ∙ c.take_groups.ensures.rest.order);
       room = omega (arith, c.requires.tended.room, c.take_groups.ensures.rest.room, c.affect_reached.ensures.room);
     } in
-    taken_tended old mid new c.requires.whole c.requires.tended held start groups count (filled_mid old c.requires.whole held d groups count c.cells_stay.ensures c.laws.ensures c.laws-2.ensures c.requires.suit p learned.0 learned.1 c.live_stays.ensures (λ e. omega (arith, e, c.if-count-eq0.false)) mid c.in-Ok-take_groups.ensures.taken c.take_groups.ensures.catalog) (came_takes old c.requires.whole held d groups count c.cells_stay.ensures c.laws.ensures c.laws-2.ensures c.requires.suit p learned.0 learned.1 c.live_stays.ensures (λ e. omega (arith, e, c.if-count-eq0.false)) mid c.in-Ok-take_groups.ensures.taken c.take_groups.ensures.catalog) x c.live_stays.ensures c.showable_stays.ensures
+    taken_tended old mid new c.requires.whole c.requires.tended held start groups count
+    (filled_mid old c.requires.whole held d groups count c.cells_stay.ensures c.laws.ensures c.laws-2.ensures
+    c.requires.suit p learned.0 learned.1 c.live_stays.ensures (λ e. omega (arith, e, c.if-count-eq0.false)) mid
+    c.in-Ok-take_groups.ensures.taken c.take_groups.ensures.catalog)
+    (came_takes old c.requires.whole held d groups count c.cells_stay.ensures c.laws.ensures c.laws-2.ensures
+    c.requires.suit p learned.0 learned.1 c.live_stays.ensures (λ e. omega (arith, e, c.if-count-eq0.false)) mid
+    c.in-Ok-take_groups.ensures.taken c.take_groups.ensures.catalog) x c.live_stays.ensures c.showable_stays.ensures
 
 pub returns-clause-adds : goal.returns-clause-adds
 returns-clause-adds g c =
@@ -626,12 +803,20 @@ returns-clause-adds g c =
     let learned = c.put_all-put.ensures.learned in
     let groups = c.as_slice-came.result.now in
     let count = c.in-Ok.came.count in
-    let p = as_slice (kept_in old).store held d count c.in-Ok.came.groups.items groups c.as_slice-came.ensures.value (c.in-Ok.ensures.put (kept_in old).store (agrees old)) in
+    let p = as_slice (kept_in old).store held d count c.in-Ok.came.groups.items groups c.as_slice-came.ensures.value
+    (c.in-Ok.ensures.put (kept_in old).store (agrees old)) in
     let mid = c.take_groups.new.parts in
-    let start = start_here old c.requires.whole held d groups count c.cells_stay.ensures c.laws.ensures c.laws-2.ensures c.requires.suit p learned.0 learned.1 in
-    let new : Parts = record mid { seq = mid.seq + 1; affected = c.affect_reached.new.affected; queries = c.outdate_came.new.queries } in
+    let start = start_here old c.requires.whole held d groups count c.cells_stay.ensures c.laws.ensures c.laws-2.ensures
+    c.requires.suit p learned.0 learned.1 in
+    let new : Parts = record mid
+    { seq = mid.seq + 1; affected = c.affect_reached.new.affected; queries = c.outdate_came.new.queries } in
     let x : Settles old held groups mid new = record {
-      ages = ages_first (kept_in old).store held c.in-Ok.came.first (c.in-Ok.ensures.first (kept_in old).store (agrees old)) (mid.seq + 1) mid.queries.items c.outdate_came.new.queries.items (c.outdate_came.ensures (has_come (kept_in old).store held) (came_tested old c.requires.whole held d groups count c.cells_stay.ensures c.laws.ensures c.laws-2.ensures c.requires.suit p learned.0 learned.1 mid.catalog c.take_groups.ensures.catalog));
+      ages = ages_first (kept_in old).store held c.in-Ok.came.first
+          (c.in-Ok.ensures.first (kept_in old).store (agrees old)) (mid.seq + 1) mid.queries.items
+          c.outdate_came.new.queries.items
+          (c.outdate_came.ensures (has_come (kept_in old).store held)
+          (came_tested old c.requires.whole held d groups count c.cells_stay.ensures c.laws.ensures c.laws-2.ensures
+          c.requires.suit p learned.0 learned.1 mid.catalog c.take_groups.ensures.catalog));
       catalog = refl;
       logs = refl;
       readers = c.take_groups.ensures.rest.readers;
@@ -639,11 +824,19 @@ returns-clause-adds g c =
       watchers = c.take_groups.ensures.rest.watchers;
       seq = ap (λ (n : ℕ). n + 1) c.take_groups.ensures.rest.seq;
       affected = c.affect_reached.ensures.items
-          ∙ ap (λ (rs : List (List ℕ)). filter (is_reader (reached rs groups)) c.as_slice-order.result.now) c.take_groups.ensures.rest.readers
-          ∙ ap (λ (xs : List ℕ). filter (is_reader (reached old.readers.items groups)) xs) (c.as_slice-order.ensures ∙ c.take_groups.ensures.rest.order);
+          ∙ ap (λ (rs : List (List ℕ)). filter (is_reader (reached rs groups)) c.as_slice-order.result.now)
+          c.take_groups.ensures.rest.readers
+          ∙ ap (λ (xs : List ℕ). filter (is_reader (reached old.readers.items groups)) xs)
+          (c.as_slice-order.ensures ∙ c.take_groups.ensures.rest.order);
       room = omega (arith, c.requires.tended.room, c.take_groups.ensures.rest.room, c.affect_reached.ensures.room);
     } in
-    taken_adds old mid new c.requires.whole c.requires.tended held start groups count (filled_mid old c.requires.whole held d groups count c.cells_stay.ensures c.laws.ensures c.laws-2.ensures c.requires.suit p learned.0 learned.1 c.live_stays.ensures (λ e. omega (arith, e, c.if-count-eq0.false)) mid c.in-Ok-take_groups.ensures.taken c.take_groups.ensures.catalog) (came_takes old c.requires.whole held d groups count c.cells_stay.ensures c.laws.ensures c.laws-2.ensures c.requires.suit p learned.0 learned.1 c.live_stays.ensures (λ e. omega (arith, e, c.if-count-eq0.false)) mid c.in-Ok-take_groups.ensures.taken c.take_groups.ensures.catalog) x c.live_stays.ensures c.showable_stays.ensures
+    taken_adds old mid new c.requires.whole c.requires.tended held start groups count
+    (filled_mid old c.requires.whole held d groups count c.cells_stay.ensures c.laws.ensures c.laws-2.ensures
+    c.requires.suit p learned.0 learned.1 c.live_stays.ensures (λ e. omega (arith, e, c.if-count-eq0.false)) mid
+    c.in-Ok-take_groups.ensures.taken c.take_groups.ensures.catalog)
+    (came_takes old c.requires.whole held d groups count c.cells_stay.ensures c.laws.ensures c.laws-2.ensures
+    c.requires.suit p learned.0 learned.1 c.live_stays.ensures (λ e. omega (arith, e, c.if-count-eq0.false)) mid
+    c.in-Ok-take_groups.ensures.taken c.take_groups.ensures.catalog) x c.live_stays.ensures c.showable_stays.ensures
 
 pub returns-clause-outdates : goal.returns-clause-outdates
 returns-clause-outdates g c =
@@ -653,12 +846,20 @@ returns-clause-outdates g c =
     let learned = c.put_all-put.ensures.learned in
     let groups = c.as_slice-came.result.now in
     let count = c.in-Ok.came.count in
-    let p = as_slice (kept_in old).store held d count c.in-Ok.came.groups.items groups c.as_slice-came.ensures.value (c.in-Ok.ensures.put (kept_in old).store (agrees old)) in
+    let p = as_slice (kept_in old).store held d count c.in-Ok.came.groups.items groups c.as_slice-came.ensures.value
+    (c.in-Ok.ensures.put (kept_in old).store (agrees old)) in
     let mid = c.take_groups.new.parts in
-    let start = start_here old c.requires.whole held d groups count c.cells_stay.ensures c.laws.ensures c.laws-2.ensures c.requires.suit p learned.0 learned.1 in
-    let new : Parts = record mid { seq = mid.seq + 1; affected = c.affect_reached.new.affected; queries = c.outdate_came.new.queries } in
+    let start = start_here old c.requires.whole held d groups count c.cells_stay.ensures c.laws.ensures c.laws-2.ensures
+    c.requires.suit p learned.0 learned.1 in
+    let new : Parts = record mid
+    { seq = mid.seq + 1; affected = c.affect_reached.new.affected; queries = c.outdate_came.new.queries } in
     let x : Settles old held groups mid new = record {
-      ages = ages_first (kept_in old).store held c.in-Ok.came.first (c.in-Ok.ensures.first (kept_in old).store (agrees old)) (mid.seq + 1) mid.queries.items c.outdate_came.new.queries.items (c.outdate_came.ensures (has_come (kept_in old).store held) (came_tested old c.requires.whole held d groups count c.cells_stay.ensures c.laws.ensures c.laws-2.ensures c.requires.suit p learned.0 learned.1 mid.catalog c.take_groups.ensures.catalog));
+      ages = ages_first (kept_in old).store held c.in-Ok.came.first
+          (c.in-Ok.ensures.first (kept_in old).store (agrees old)) (mid.seq + 1) mid.queries.items
+          c.outdate_came.new.queries.items
+          (c.outdate_came.ensures (has_come (kept_in old).store held)
+          (came_tested old c.requires.whole held d groups count c.cells_stay.ensures c.laws.ensures c.laws-2.ensures
+          c.requires.suit p learned.0 learned.1 mid.catalog c.take_groups.ensures.catalog));
       catalog = refl;
       logs = refl;
       readers = c.take_groups.ensures.rest.readers;
@@ -666,11 +867,19 @@ returns-clause-outdates g c =
       watchers = c.take_groups.ensures.rest.watchers;
       seq = ap (λ (n : ℕ). n + 1) c.take_groups.ensures.rest.seq;
       affected = c.affect_reached.ensures.items
-          ∙ ap (λ (rs : List (List ℕ)). filter (is_reader (reached rs groups)) c.as_slice-order.result.now) c.take_groups.ensures.rest.readers
-          ∙ ap (λ (xs : List ℕ). filter (is_reader (reached old.readers.items groups)) xs) (c.as_slice-order.ensures ∙ c.take_groups.ensures.rest.order);
+          ∙ ap (λ (rs : List (List ℕ)). filter (is_reader (reached rs groups)) c.as_slice-order.result.now)
+          c.take_groups.ensures.rest.readers
+          ∙ ap (λ (xs : List ℕ). filter (is_reader (reached old.readers.items groups)) xs)
+          (c.as_slice-order.ensures ∙ c.take_groups.ensures.rest.order);
       room = omega (arith, c.requires.tended.room, c.take_groups.ensures.rest.room, c.affect_reached.ensures.room);
     } in
-    taken_cursors old mid new c.requires.whole c.requires.tended held start groups count (filled_mid old c.requires.whole held d groups count c.cells_stay.ensures c.laws.ensures c.laws-2.ensures c.requires.suit p learned.0 learned.1 c.live_stays.ensures (λ e. omega (arith, e, c.if-count-eq0.false)) mid c.in-Ok-take_groups.ensures.taken c.take_groups.ensures.catalog) (came_takes old c.requires.whole held d groups count c.cells_stay.ensures c.laws.ensures c.laws-2.ensures c.requires.suit p learned.0 learned.1 c.live_stays.ensures (λ e. omega (arith, e, c.if-count-eq0.false)) mid c.in-Ok-take_groups.ensures.taken c.take_groups.ensures.catalog) x c.live_stays.ensures c.showable_stays.ensures
+    taken_cursors old mid new c.requires.whole c.requires.tended held start groups count
+    (filled_mid old c.requires.whole held d groups count c.cells_stay.ensures c.laws.ensures c.laws-2.ensures
+    c.requires.suit p learned.0 learned.1 c.live_stays.ensures (λ e. omega (arith, e, c.if-count-eq0.false)) mid
+    c.in-Ok-take_groups.ensures.taken c.take_groups.ensures.catalog)
+    (came_takes old c.requires.whole held d groups count c.cells_stay.ensures c.laws.ensures c.laws-2.ensures
+    c.requires.suit p learned.0 learned.1 c.live_stays.ensures (λ e. omega (arith, e, c.if-count-eq0.false)) mid
+    c.in-Ok-take_groups.ensures.taken c.take_groups.ensures.catalog) x c.live_stays.ensures c.showable_stays.ensures
 
 pub returns-clause-watches : goal.returns-clause-watches
 returns-clause-watches g c =
@@ -680,12 +889,20 @@ returns-clause-watches g c =
     let learned = c.put_all-put.ensures.learned in
     let groups = c.as_slice-came.result.now in
     let count = c.in-Ok.came.count in
-    let p = as_slice (kept_in old).store held d count c.in-Ok.came.groups.items groups c.as_slice-came.ensures.value (c.in-Ok.ensures.put (kept_in old).store (agrees old)) in
+    let p = as_slice (kept_in old).store held d count c.in-Ok.came.groups.items groups c.as_slice-came.ensures.value
+    (c.in-Ok.ensures.put (kept_in old).store (agrees old)) in
     let mid = c.take_groups.new.parts in
-    let start = start_here old c.requires.whole held d groups count c.cells_stay.ensures c.laws.ensures c.laws-2.ensures c.requires.suit p learned.0 learned.1 in
-    let new : Parts = record mid { seq = mid.seq + 1; affected = c.affect_reached.new.affected; queries = c.outdate_came.new.queries } in
+    let start = start_here old c.requires.whole held d groups count c.cells_stay.ensures c.laws.ensures c.laws-2.ensures
+    c.requires.suit p learned.0 learned.1 in
+    let new : Parts = record mid
+    { seq = mid.seq + 1; affected = c.affect_reached.new.affected; queries = c.outdate_came.new.queries } in
     let x : Settles old held groups mid new = record {
-      ages = ages_first (kept_in old).store held c.in-Ok.came.first (c.in-Ok.ensures.first (kept_in old).store (agrees old)) (mid.seq + 1) mid.queries.items c.outdate_came.new.queries.items (c.outdate_came.ensures (has_come (kept_in old).store held) (came_tested old c.requires.whole held d groups count c.cells_stay.ensures c.laws.ensures c.laws-2.ensures c.requires.suit p learned.0 learned.1 mid.catalog c.take_groups.ensures.catalog));
+      ages = ages_first (kept_in old).store held c.in-Ok.came.first
+          (c.in-Ok.ensures.first (kept_in old).store (agrees old)) (mid.seq + 1) mid.queries.items
+          c.outdate_came.new.queries.items
+          (c.outdate_came.ensures (has_come (kept_in old).store held)
+          (came_tested old c.requires.whole held d groups count c.cells_stay.ensures c.laws.ensures c.laws-2.ensures
+          c.requires.suit p learned.0 learned.1 mid.catalog c.take_groups.ensures.catalog));
       catalog = refl;
       logs = refl;
       readers = c.take_groups.ensures.rest.readers;
@@ -693,11 +910,19 @@ returns-clause-watches g c =
       watchers = c.take_groups.ensures.rest.watchers;
       seq = ap (λ (n : ℕ). n + 1) c.take_groups.ensures.rest.seq;
       affected = c.affect_reached.ensures.items
-          ∙ ap (λ (rs : List (List ℕ)). filter (is_reader (reached rs groups)) c.as_slice-order.result.now) c.take_groups.ensures.rest.readers
-          ∙ ap (λ (xs : List ℕ). filter (is_reader (reached old.readers.items groups)) xs) (c.as_slice-order.ensures ∙ c.take_groups.ensures.rest.order);
+          ∙ ap (λ (rs : List (List ℕ)). filter (is_reader (reached rs groups)) c.as_slice-order.result.now)
+          c.take_groups.ensures.rest.readers
+          ∙ ap (λ (xs : List ℕ). filter (is_reader (reached old.readers.items groups)) xs)
+          (c.as_slice-order.ensures ∙ c.take_groups.ensures.rest.order);
       room = omega (arith, c.requires.tended.room, c.take_groups.ensures.rest.room, c.affect_reached.ensures.room);
     } in
-    taken_registered old mid new c.requires.whole c.requires.tended held start groups count (filled_mid old c.requires.whole held d groups count c.cells_stay.ensures c.laws.ensures c.laws-2.ensures c.requires.suit p learned.0 learned.1 c.live_stays.ensures (λ e. omega (arith, e, c.if-count-eq0.false)) mid c.in-Ok-take_groups.ensures.taken c.take_groups.ensures.catalog) (came_takes old c.requires.whole held d groups count c.cells_stay.ensures c.laws.ensures c.laws-2.ensures c.requires.suit p learned.0 learned.1 c.live_stays.ensures (λ e. omega (arith, e, c.if-count-eq0.false)) mid c.in-Ok-take_groups.ensures.taken c.take_groups.ensures.catalog) x c.live_stays.ensures c.showable_stays.ensures
+    taken_registered old mid new c.requires.whole c.requires.tended held start groups count
+    (filled_mid old c.requires.whole held d groups count c.cells_stay.ensures c.laws.ensures c.laws-2.ensures
+    c.requires.suit p learned.0 learned.1 c.live_stays.ensures (λ e. omega (arith, e, c.if-count-eq0.false)) mid
+    c.in-Ok-take_groups.ensures.taken c.take_groups.ensures.catalog)
+    (came_takes old c.requires.whole held d groups count c.cells_stay.ensures c.laws.ensures c.laws-2.ensures
+    c.requires.suit p learned.0 learned.1 c.live_stays.ensures (λ e. omega (arith, e, c.if-count-eq0.false)) mid
+    c.in-Ok-take_groups.ensures.taken c.take_groups.ensures.catalog) x c.live_stays.ensures c.showable_stays.ensures
 
 pub returns-clause-tells : goal.returns-clause-tells
 returns-clause-tells g c =
@@ -707,12 +932,20 @@ returns-clause-tells g c =
     let learned = c.put_all-put.ensures.learned in
     let groups = c.as_slice-came.result.now in
     let count = c.in-Ok.came.count in
-    let p = as_slice (kept_in old).store held d count c.in-Ok.came.groups.items groups c.as_slice-came.ensures.value (c.in-Ok.ensures.put (kept_in old).store (agrees old)) in
+    let p = as_slice (kept_in old).store held d count c.in-Ok.came.groups.items groups c.as_slice-came.ensures.value
+    (c.in-Ok.ensures.put (kept_in old).store (agrees old)) in
     let mid = c.take_groups.new.parts in
-    let start = start_here old c.requires.whole held d groups count c.cells_stay.ensures c.laws.ensures c.laws-2.ensures c.requires.suit p learned.0 learned.1 in
-    let new : Parts = record mid { seq = mid.seq + 1; affected = c.affect_reached.new.affected; queries = c.outdate_came.new.queries } in
+    let start = start_here old c.requires.whole held d groups count c.cells_stay.ensures c.laws.ensures c.laws-2.ensures
+    c.requires.suit p learned.0 learned.1 in
+    let new : Parts = record mid
+    { seq = mid.seq + 1; affected = c.affect_reached.new.affected; queries = c.outdate_came.new.queries } in
     let x : Settles old held groups mid new = record {
-      ages = ages_first (kept_in old).store held c.in-Ok.came.first (c.in-Ok.ensures.first (kept_in old).store (agrees old)) (mid.seq + 1) mid.queries.items c.outdate_came.new.queries.items (c.outdate_came.ensures (has_come (kept_in old).store held) (came_tested old c.requires.whole held d groups count c.cells_stay.ensures c.laws.ensures c.laws-2.ensures c.requires.suit p learned.0 learned.1 mid.catalog c.take_groups.ensures.catalog));
+      ages = ages_first (kept_in old).store held c.in-Ok.came.first
+          (c.in-Ok.ensures.first (kept_in old).store (agrees old)) (mid.seq + 1) mid.queries.items
+          c.outdate_came.new.queries.items
+          (c.outdate_came.ensures (has_come (kept_in old).store held)
+          (came_tested old c.requires.whole held d groups count c.cells_stay.ensures c.laws.ensures c.laws-2.ensures
+          c.requires.suit p learned.0 learned.1 mid.catalog c.take_groups.ensures.catalog));
       catalog = refl;
       logs = refl;
       readers = c.take_groups.ensures.rest.readers;
@@ -720,12 +953,21 @@ returns-clause-tells g c =
       watchers = c.take_groups.ensures.rest.watchers;
       seq = ap (λ (n : ℕ). n + 1) c.take_groups.ensures.rest.seq;
       affected = c.affect_reached.ensures.items
-          ∙ ap (λ (rs : List (List ℕ)). filter (is_reader (reached rs groups)) c.as_slice-order.result.now) c.take_groups.ensures.rest.readers
-          ∙ ap (λ (xs : List ℕ). filter (is_reader (reached old.readers.items groups)) xs) (c.as_slice-order.ensures ∙ c.take_groups.ensures.rest.order);
+          ∙ ap (λ (rs : List (List ℕ)). filter (is_reader (reached rs groups)) c.as_slice-order.result.now)
+          c.take_groups.ensures.rest.readers
+          ∙ ap (λ (xs : List ℕ). filter (is_reader (reached old.readers.items groups)) xs)
+          (c.as_slice-order.ensures ∙ c.take_groups.ensures.rest.order);
       room = omega (arith, c.requires.tended.room, c.take_groups.ensures.rest.room, c.affect_reached.ensures.room);
     } in
-    taken_tells old mid new c.requires.whole c.requires.tended held start groups count (filled_mid old c.requires.whole held d groups count c.cells_stay.ensures c.laws.ensures c.laws-2.ensures c.requires.suit p learned.0 learned.1 c.live_stays.ensures (λ e. omega (arith, e, c.if-count-eq0.false)) mid c.in-Ok-take_groups.ensures.taken c.take_groups.ensures.catalog) (came_takes old c.requires.whole held d groups count c.cells_stay.ensures c.laws.ensures c.laws-2.ensures c.requires.suit p learned.0 learned.1 c.live_stays.ensures (λ e. omega (arith, e, c.if-count-eq0.false)) mid c.in-Ok-take_groups.ensures.taken c.take_groups.ensures.catalog) x c.live_stays.ensures c.showable_stays.ensures
-    (have c.deltas_exist.ensures c.heads_are_bound.ensures old c.requires.whole (with_all (kept_in old).store held).relations)
+    taken_tells old mid new c.requires.whole c.requires.tended held start groups count
+    (filled_mid old c.requires.whole held d groups count c.cells_stay.ensures c.laws.ensures c.laws-2.ensures
+    c.requires.suit p learned.0 learned.1 c.live_stays.ensures (λ e. omega (arith, e, c.if-count-eq0.false)) mid
+    c.in-Ok-take_groups.ensures.taken c.take_groups.ensures.catalog)
+    (came_takes old c.requires.whole held d groups count c.cells_stay.ensures c.laws.ensures c.laws-2.ensures
+    c.requires.suit p learned.0 learned.1 c.live_stays.ensures (λ e. omega (arith, e, c.if-count-eq0.false)) mid
+    c.in-Ok-take_groups.ensures.taken c.take_groups.ensures.catalog) x c.live_stays.ensures c.showable_stays.ensures
+    (have c.deltas_exist.ensures c.heads_are_bound.ensures old c.requires.whole
+    (with_all (kept_in old).store held).relations)
     c.args.steps.now.listing c.take_groups.new.steps.listing c.take_groups.ensures.counted
 
 pub returns-clause-unlisted : goal.returns-clause-unlisted
@@ -736,8 +978,12 @@ returns-clause-unlisted g c none =
     let learned = c.put_all-put.ensures.learned in
     let groups = c.as_slice-came.result.now in
     let count = c.in-Ok.came.count in
-    let p = as_slice (kept_in old).store held d count c.in-Ok.came.groups.items groups c.as_slice-came.ensures.value (c.in-Ok.ensures.put (kept_in old).store (agrees old)) in
-    c.take_groups.ensures.unlisted (unwatched_reached old c.requires.whole none groups (came_within old c.requires.whole held d groups count c.cells_stay.ensures c.laws.ensures c.laws-2.ensures c.requires.suit p learned.0 learned.1))
+    let p = as_slice (kept_in old).store held d count c.in-Ok.came.groups.items groups c.as_slice-came.ensures.value
+    (c.in-Ok.ensures.put (kept_in old).store (agrees old)) in
+    c.take_groups.ensures.unlisted
+    (unwatched_reached old c.requires.whole none groups
+    (came_within old c.requires.whole held d groups count c.cells_stay.ensures c.laws.ensures c.laws-2.ensures
+    c.requires.suit p learned.0 learned.1))
 
 pub returns-in-Err-take_groups-clause-updates : goal.returns-in-Err-take_groups-clause-updates
 returns-in-Err-take_groups-clause-updates g c =
@@ -747,12 +993,19 @@ returns-in-Err-take_groups-clause-updates g c =
     let learned = c.put_all-put.ensures.learned in
     let groups = c.as_slice-came.result.now in
     let count = c.in-Ok.came.count in
-    let p = as_slice (kept_in old).store held d count c.in-Ok.came.groups.items groups c.as_slice-came.ensures.value (c.in-Ok.ensures.put (kept_in old).store (agrees old)) in
+    let p = as_slice (kept_in old).store held d count c.in-Ok.came.groups.items groups c.as_slice-came.ensures.value
+    (c.in-Ok.ensures.put (kept_in old).store (agrees old)) in
     let few = came_few (kept_in old).store held in
     let fits : rows_in groups ≤ length held = omega (arith, few, p.size, p.count) in
     record {
-      counted = counts_all old c.requires.whole held (start_here old c.requires.whole held d groups count c.cells_stay.ensures c.laws.ensures c.laws-2.ensures c.requires.suit p learned.0 learned.1) d groups count (begun old c.requires.whole held d groups count c.cells_stay.ensures c.laws.ensures c.laws-2.ensures c.requires.suit p learned.0 learned.1 (λ e. omega (arith, e, c.if-count-eq0.false))) c.leaves_are_small.ensures fits
-          (length held + 2) times_back (rows_each groups (length held) fits) c.args.steps.now.update c.take_groups.new.steps.update c.in-Err-take_groups.ensures.refusal;
+      counted = counts_all old c.requires.whole held
+          (start_here old c.requires.whole held d groups count c.cells_stay.ensures c.laws.ensures c.laws-2.ensures
+          c.requires.suit p learned.0 learned.1) d groups count
+          (begun old c.requires.whole held d groups count c.cells_stay.ensures c.laws.ensures c.laws-2.ensures
+          c.requires.suit p learned.0 learned.1 (λ e. omega (arith, e, c.if-count-eq0.false)))
+          c.leaves_are_small.ensures fits
+          (length held + 2) times_back (rows_each groups (length held) fits) c.args.steps.now.update
+          c.take_groups.new.steps.update c.in-Err-take_groups.ensures.refusal;
     }
 
 pub returns-clause-updates : goal.returns-clause-updates
@@ -763,12 +1016,20 @@ returns-clause-updates g c =
     let learned = c.put_all-put.ensures.learned in
     let groups = c.as_slice-came.result.now in
     let count = c.in-Ok.came.count in
-    let p = as_slice (kept_in old).store held d count c.in-Ok.came.groups.items groups c.as_slice-came.ensures.value (c.in-Ok.ensures.put (kept_in old).store (agrees old)) in
+    let p = as_slice (kept_in old).store held d count c.in-Ok.came.groups.items groups c.as_slice-came.ensures.value
+    (c.in-Ok.ensures.put (kept_in old).store (agrees old)) in
     let few = came_few (kept_in old).store held in
     let fits : rows_in groups ≤ length held = omega (arith, few, p.size, p.count) in
     record {
-      counted = counts_all old c.requires.whole held (start_here old c.requires.whole held d groups count c.cells_stay.ensures c.laws.ensures c.laws-2.ensures c.requires.suit p learned.0 learned.1) c.take_groups.new.parts.catalog groups count (filled_mid old c.requires.whole held d groups count c.cells_stay.ensures c.laws.ensures c.laws-2.ensures c.requires.suit p learned.0 learned.1 c.live_stays.ensures (λ e. omega (arith, e, c.if-count-eq0.false)) c.take_groups.new.parts c.in-Ok-take_groups.ensures.taken c.take_groups.ensures.catalog) c.leaves_are_small.ensures fits
-          1 (λ x. 1) (λ k e low. omega arith) c.args.steps.now.update c.take_groups.new.steps.update c.in-Ok-take_groups.ensures.updates;
+      counted = counts_all old c.requires.whole held
+          (start_here old c.requires.whole held d groups count c.cells_stay.ensures c.laws.ensures c.laws-2.ensures
+          c.requires.suit p learned.0 learned.1) c.take_groups.new.parts.catalog groups count
+          (filled_mid old c.requires.whole held d groups count c.cells_stay.ensures c.laws.ensures c.laws-2.ensures
+          c.requires.suit p learned.0 learned.1 c.live_stays.ensures (λ e. omega (arith, e, c.if-count-eq0.false))
+          c.take_groups.new.parts c.in-Ok-take_groups.ensures.taken c.take_groups.ensures.catalog)
+          c.leaves_are_small.ensures fits
+          1 (λ x. 1) (λ k e low. omega arith) c.args.steps.now.update c.take_groups.new.steps.update
+          c.in-Ok-take_groups.ensures.updates;
     }
 
 pub returns-in-NoMemory-clause-updates : goal.returns-in-NoMemory-clause-updates
@@ -784,7 +1045,8 @@ returns-in-NoMemory-clause-places g c =
     let d = c.put_all-put.new.catalog in
     let learned = c.put_all-put.ensures.learned in
     let mid : Parts = record old { catalog = d } in
-    let k = lacks_rows old c.requires.whole held d c.live_stays.ensures c.laws-2.ensures c.in-Err.ensures.stays learned.0 learned.1 in
+    let k = lacks_rows old c.requires.whole held d c.live_stays.ensures c.laws-2.ensures c.in-Err.ensures.stays
+    learned.0 learned.1 in
     lacks_places old mid c.requires.whole c.requires.tended held [] k c.give_up.new.parts c.give_up.ensures
 
 pub returns-in-Err-take_groups-clause-places : goal.returns-in-Err-take_groups-clause-places
@@ -795,7 +1057,8 @@ returns-in-Err-take_groups-clause-places g c =
     let learned = c.put_all-put.ensures.learned in
     let groups = c.as_slice-came.result.now in
     let count = c.in-Ok.came.count in
-    let p = as_slice (kept_in old).store held d count c.in-Ok.came.groups.items groups c.as_slice-came.ensures.value (c.in-Ok.ensures.put (kept_in old).store (agrees old)) in
+    let p = as_slice (kept_in old).store held d count c.in-Ok.came.groups.items groups c.as_slice-came.ensures.value
+    (c.in-Ok.ensures.put (kept_in old).store (agrees old)) in
     let w : WentInAll (kept_in old).store held c.take_groups.new.parts.catalog.relations = record {
       suits = c.requires.suit;
       counted = catalog_counted old.catalog c.laws.ensures;
@@ -804,12 +1067,19 @@ returns-in-Err-take_groups-clause-places g c =
     let after = c.take_back.new.catalog in
     let mid : Parts = record c.take_groups.new.parts { catalog = after } in
     let places = reached old.readers.items groups in
-    let start = start_here old c.requires.whole held d groups count c.cells_stay.ensures c.laws.ensures c.laws-2.ensures c.requires.suit p learned.0 learned.1 in
+    let start = start_here old c.requires.whole held d groups count c.cells_stay.ensures c.laws.ensures c.laws-2.ensures
+    c.requires.suit p learned.0 learned.1 in
     let same = c.take_back.ensures.texts ∙ ap (λ (x : Catalog). x.texts) c.take_groups.ensures.catalog in
-    let k = lacks_groups old c.requires.whole held start d groups count (begun old c.requires.whole held d groups count c.cells_stay.ensures c.laws.ensures c.laws-2.ensures c.requires.suit p learned.0 learned.1 (λ e. omega (arith, e, c.if-count-eq0.false)))
-    c.take_groups.new.parts c.in-Err-take_groups.ensures.given c.take_groups.ensures.rest (leads_here old c.requires.whole held d groups count c.cells_stay.ensures c.laws.ensures c.laws-2.ensures c.requires.suit p learned.0 learned.1 c.live_stays.ensures (λ e. omega (arith, e, c.if-count-eq0.false)))
-    c.live_stays.ensures after c.laws-in-Err-take_groups.ensures (c.take_back.ensures.back (kept_in old).store w) same learned.0 learned.1 in
-    lacks_places old mid c.requires.whole c.requires.tended held places k c.give_up-in-Err-take_groups.new.parts c.give_up-in-Err-take_groups.ensures
+    let k = lacks_groups old c.requires.whole held start d groups count
+    (begun old c.requires.whole held d groups count c.cells_stay.ensures c.laws.ensures c.laws-2.ensures
+    c.requires.suit p learned.0 learned.1 (λ e. omega (arith, e, c.if-count-eq0.false)))
+    c.take_groups.new.parts c.in-Err-take_groups.ensures.given c.take_groups.ensures.rest
+    (leads_here old c.requires.whole held d groups count c.cells_stay.ensures c.laws.ensures c.laws-2.ensures
+    c.requires.suit p learned.0 learned.1 c.live_stays.ensures (λ e. omega (arith, e, c.if-count-eq0.false)))
+    c.live_stays.ensures after c.laws-in-Err-take_groups.ensures (c.take_back.ensures.back (kept_in old).store w) same
+    learned.0 learned.1 in
+    lacks_places old mid c.requires.whole c.requires.tended held places k c.give_up-in-Err-take_groups.new.parts
+    c.give_up-in-Err-take_groups.ensures
 
 pub returns-clause-places : goal.returns-clause-places
 returns-clause-places g c =
@@ -819,12 +1089,20 @@ returns-clause-places g c =
     let learned = c.put_all-put.ensures.learned in
     let groups = c.as_slice-came.result.now in
     let count = c.in-Ok.came.count in
-    let p = as_slice (kept_in old).store held d count c.in-Ok.came.groups.items groups c.as_slice-came.ensures.value (c.in-Ok.ensures.put (kept_in old).store (agrees old)) in
+    let p = as_slice (kept_in old).store held d count c.in-Ok.came.groups.items groups c.as_slice-came.ensures.value
+    (c.in-Ok.ensures.put (kept_in old).store (agrees old)) in
     let mid = c.take_groups.new.parts in
-    let start = start_here old c.requires.whole held d groups count c.cells_stay.ensures c.laws.ensures c.laws-2.ensures c.requires.suit p learned.0 learned.1 in
-    let new : Parts = record mid { seq = mid.seq + 1; affected = c.affect_reached.new.affected; queries = c.outdate_came.new.queries } in
+    let start = start_here old c.requires.whole held d groups count c.cells_stay.ensures c.laws.ensures c.laws-2.ensures
+    c.requires.suit p learned.0 learned.1 in
+    let new : Parts = record mid
+    { seq = mid.seq + 1; affected = c.affect_reached.new.affected; queries = c.outdate_came.new.queries } in
     let x : Settles old held groups mid new = record {
-      ages = ages_first (kept_in old).store held c.in-Ok.came.first (c.in-Ok.ensures.first (kept_in old).store (agrees old)) (mid.seq + 1) mid.queries.items c.outdate_came.new.queries.items (c.outdate_came.ensures (has_come (kept_in old).store held) (came_tested old c.requires.whole held d groups count c.cells_stay.ensures c.laws.ensures c.laws-2.ensures c.requires.suit p learned.0 learned.1 mid.catalog c.take_groups.ensures.catalog));
+      ages = ages_first (kept_in old).store held c.in-Ok.came.first
+          (c.in-Ok.ensures.first (kept_in old).store (agrees old)) (mid.seq + 1) mid.queries.items
+          c.outdate_came.new.queries.items
+          (c.outdate_came.ensures (has_come (kept_in old).store held)
+          (came_tested old c.requires.whole held d groups count c.cells_stay.ensures c.laws.ensures c.laws-2.ensures
+          c.requires.suit p learned.0 learned.1 mid.catalog c.take_groups.ensures.catalog));
       catalog = refl;
       logs = refl;
       readers = c.take_groups.ensures.rest.readers;
@@ -832,11 +1110,20 @@ returns-clause-places g c =
       watchers = c.take_groups.ensures.rest.watchers;
       seq = ap (λ (n : ℕ). n + 1) c.take_groups.ensures.rest.seq;
       affected = c.affect_reached.ensures.items
-          ∙ ap (λ (rs : List (List ℕ)). filter (is_reader (reached rs groups)) c.as_slice-order.result.now) c.take_groups.ensures.rest.readers
-          ∙ ap (λ (xs : List ℕ). filter (is_reader (reached old.readers.items groups)) xs) (c.as_slice-order.ensures ∙ c.take_groups.ensures.rest.order);
+          ∙ ap (λ (rs : List (List ℕ)). filter (is_reader (reached rs groups)) c.as_slice-order.result.now)
+          c.take_groups.ensures.rest.readers
+          ∙ ap (λ (xs : List ℕ). filter (is_reader (reached old.readers.items groups)) xs)
+          (c.as_slice-order.ensures ∙ c.take_groups.ensures.rest.order);
       room = omega (arith, c.requires.tended.room, c.take_groups.ensures.rest.room, c.affect_reached.ensures.room);
     } in
-    taken_places old mid new c.requires.whole c.requires.tended held start groups count (filled_mid old c.requires.whole held d groups count c.cells_stay.ensures c.laws.ensures c.laws-2.ensures c.requires.suit p learned.0 learned.1 c.live_stays.ensures (λ e. omega (arith, e, c.if-count-eq0.false)) mid c.in-Ok-take_groups.ensures.taken c.take_groups.ensures.catalog) (came_takes old c.requires.whole held d groups count c.cells_stay.ensures c.laws.ensures c.laws-2.ensures c.requires.suit p learned.0 learned.1 c.live_stays.ensures (λ e. omega (arith, e, c.if-count-eq0.false)) mid c.in-Ok-take_groups.ensures.taken c.take_groups.ensures.catalog) x c.live_stays.ensures c.showable_stays.ensures
+    taken_places old mid new c.requires.whole c.requires.tended held start groups count
+    (filled_mid old c.requires.whole held d groups count c.cells_stay.ensures c.laws.ensures c.laws-2.ensures
+    c.requires.suit p learned.0 learned.1 c.live_stays.ensures (λ e. omega (arith, e, c.if-count-eq0.false)) mid
+    c.in-Ok-take_groups.ensures.taken c.take_groups.ensures.catalog)
+    (came_takes old c.requires.whole held d groups count c.cells_stay.ensures c.laws.ensures c.laws-2.ensures
+    c.requires.suit p learned.0 learned.1 c.live_stays.ensures (λ e. omega (arith, e, c.if-count-eq0.false)) mid
+    c.in-Ok-take_groups.ensures.taken c.take_groups.ensures.catalog) x c.live_stays.ensures c.showable_stays.ensures
 
 pub returns-then-count-eq0-clause-places : goal.returns-then-count-eq0-clause-places
-returns-then-count-eq0-clause-places g c = keeps_equal _ c.args.parts.now.queries.items c.args.parts.now.queries.items refl
+returns-then-count-eq0-clause-places g c = keeps_equal _ c.args.parts.now.queries.items c.args.parts.now.queries.items
+    refl

@@ -20,11 +20,13 @@ either (Ok x) f g a b = f a
 either (Err x) f g a b = g b
 
 pub take_in_batch-requires-clause-once : goal.take_in_batch-requires-clause-once
-take_in_batch-requires-clause-once g c = subst (λ (rs : List (List ℕ)). (r : ℕ) → AreOnce (readers_at rs r)) (sym c.as_slice-readers.ensures.value) c.requires.once
+take_in_batch-requires-clause-once g c = subst (λ (rs : List (List ℕ)). (r : ℕ) → AreOnce (readers_at rs r))
+    (sym c.as_slice-readers.ensures.value) c.requires.once
 
 pub take_in_batch-requires-clause-can : goal.take_in_batch-requires-clause-can
 take_in_batch-requires-clause-can g c =
-    subst (λ (rs : List (List ℕ)). CanComeBy rs c.args.groups.now c.args.parts.now.queries.items) (sym c.as_slice-readers.ensures.value) (record {
+    subst (λ (rs : List (List ℕ)). CanComeBy rs c.args.groups.now c.args.parts.now.queries.items)
+    (sym c.as_slice-readers.ensures.value) (record {
       before = c.requires.can.0;
       after = c.args.parts.now.catalog;
       leads = c.requires.can.1.leads;
@@ -32,24 +34,32 @@ take_in_batch-requires-clause-can g c =
     })
 
 pub take_in_batch-requires-clause-watched : goal.take_in_batch-requires-clause-watched
-take_in_batch-requires-clause-watched g c = ap (λ (ws : List ℕ). length ws) c.as_slice-watchers.ensures.value ∙ c.requires.watched
+take_in_batch-requires-clause-watched g c = ap (λ (ws : List ℕ). length ws) c.as_slice-watchers.ensures.value
+    ∙ c.requires.watched
 
 pub returns-clause-taken : goal.returns-clause-taken
 returns-clause-taken g c =
     on_ok c.take_in_batch.result
     (λ reach tends. record {
       reach = λ d here.
-          subst (λ (rs : List (List ℕ)). Reach (reached rs c.args.groups.now) (Renews c.args.parts.now.catalog) c.args.parts.now.queries.items c.take_in_batch.new.queries.items) c.as_slice-readers.ensures.value
+          subst (λ (rs : List (List ℕ)). Reach (reached rs c.args.groups.now) (Renews c.args.parts.now.catalog)
+          c.args.parts.now.queries.items c.take_in_batch.new.queries.items) c.as_slice-readers.ensures.value
           (reach d c.args.parts.now.catalog
-          (subst (λ (rs : List (List ℕ)). Leads rs c.args.groups.now c.args.parts.now.queries.items d c.args.parts.now.catalog) (sym c.as_slice-readers.ensures.value) here.leads)
-          (subst (λ (rs : List (List ℕ)). AllAt (reached rs c.args.groups.now) c.args.parts.now.queries.items (λ l. IsKept d l)) (sym c.as_slice-readers.ensures.value) here.kept));
+          (subst (λ (rs : List (List ℕ)). Leads rs c.args.groups.now c.args.parts.now.queries.items d
+          c.args.parts.now.catalog) (sym c.as_slice-readers.ensures.value) here.leads)
+          (subst (λ (rs : List (List ℕ)). AllAt (reached rs c.args.groups.now) c.args.parts.now.queries.items
+          (λ l. IsKept d l)) (sym c.as_slice-readers.ensures.value) here.kept));
       tends =
           subst (λ (ws : List ℕ). Tends (reached c.args.parts.now.readers.items c.args.groups.now)
-          (TellsAt ws (λ x y (what : ⊤). Leads c.args.parts.now.readers.items c.args.groups.now c.args.parts.now.queries.items x y))
-          c.args.parts.now.queries.items c.args.parts.now.logs.items c.take_in_batch.new.logs.items) c.as_slice-watchers.ensures.value
+          (TellsAt ws (λ x y (what : ⊤). Leads c.args.parts.now.readers.items c.args.groups.now
+          c.args.parts.now.queries.items x y))
+          c.args.parts.now.queries.items c.args.parts.now.logs.items c.take_in_batch.new.logs.items)
+          c.as_slice-watchers.ensures.value
           (subst (λ (rs : List (List ℕ)). Tends (reached rs c.args.groups.now)
-          (TellsAt c.as_slice-watchers.result.now (λ x y (what : ⊤). Leads rs c.args.groups.now c.args.parts.now.queries.items x y))
-          c.args.parts.now.queries.items c.args.parts.now.logs.items c.take_in_batch.new.logs.items) c.as_slice-readers.ensures.value tends);
+          (TellsAt c.as_slice-watchers.result.now
+          (λ x y (what : ⊤). Leads rs c.args.groups.now c.args.parts.now.queries.items x y))
+          c.args.parts.now.queries.items c.args.parts.now.logs.items c.take_in_batch.new.logs.items)
+          c.as_slice-readers.ensures.value tends);
     }) c.take_in_batch.ensures.taken c.take_in_batch.ensures.tells
 
 pub returns-clause-given : goal.returns-clause-given
@@ -57,25 +67,34 @@ returns-clause-given g c =
     on_err c.take_in_batch.result
     (λ reach empties. record {
       reach = λ d here.
-          subst (λ (rs : List (List ℕ)). Reach (reached rs c.args.groups.now) (Renews d) c.args.parts.now.queries.items c.take_in_batch.new.queries.items) c.as_slice-readers.ensures.value
+          subst (λ (rs : List (List ℕ)). Reach (reached rs c.args.groups.now) (Renews d) c.args.parts.now.queries.items
+          c.take_in_batch.new.queries.items) c.as_slice-readers.ensures.value
           (reach d c.args.parts.now.catalog
-          (subst (λ (rs : List (List ℕ)). Leads rs c.args.groups.now c.args.parts.now.queries.items d c.args.parts.now.catalog) (sym c.as_slice-readers.ensures.value) here.leads)
-          (subst (λ (rs : List (List ℕ)). AllAt (reached rs c.args.groups.now) c.args.parts.now.queries.items (λ l. IsKept d l)) (sym c.as_slice-readers.ensures.value) here.kept));
+          (subst (λ (rs : List (List ℕ)). Leads rs c.args.groups.now c.args.parts.now.queries.items d
+          c.args.parts.now.catalog) (sym c.as_slice-readers.ensures.value) here.leads)
+          (subst (λ (rs : List (List ℕ)). AllAt (reached rs c.args.groups.now) c.args.parts.now.queries.items
+          (λ l. IsKept d l)) (sym c.as_slice-readers.ensures.value) here.kept));
       empties =
-          subst (λ (rs : List (List ℕ)). Empties (reached rs c.args.groups.now) c.args.parts.now.logs.items c.take_in_batch.new.logs.items) c.as_slice-readers.ensures.value empties;
+          subst (λ (rs : List (List ℕ)). Empties (reached rs c.args.groups.now) c.args.parts.now.logs.items
+          c.take_in_batch.new.logs.items) c.as_slice-readers.ensures.value empties;
     }) c.take_in_batch.ensures.given c.take_in_batch.ensures.emptied
 
 pub returns-clause-counted : goal.returns-clause-counted
 returns-clause-counted g c =
-    subst (λ (ws : List ℕ). CostsBy c.args.parts.now.readers.items c.args.groups.now ws c.args.parts.now.queries.items c.args.steps.now.listing c.take_in_batch.new.steps.listing) c.as_slice-watchers.ensures.value
-    (subst (λ (rs : List (List ℕ)). CostsBy rs c.args.groups.now c.as_slice-watchers.result.now c.args.parts.now.queries.items c.args.steps.now.listing c.take_in_batch.new.steps.listing) c.as_slice-readers.ensures.value
+    subst (λ (ws : List ℕ). CostsBy c.args.parts.now.readers.items c.args.groups.now ws c.args.parts.now.queries.items
+    c.args.steps.now.listing c.take_in_batch.new.steps.listing) c.as_slice-watchers.ensures.value
+    (subst (λ (rs : List (List ℕ)). CostsBy rs c.args.groups.now c.as_slice-watchers.result.now
+    c.args.parts.now.queries.items c.args.steps.now.listing c.take_in_batch.new.steps.listing)
+    c.as_slice-readers.ensures.value
     c.take_in_batch.ensures.counted)
 
 pub returns-clause-unlisted : goal.returns-clause-unlisted
 returns-clause-unlisted g c none =
     c.take_in_batch.ensures.unlisted
-    (subst (λ (ws : List ℕ). AreUnwatched ws (reached c.as_slice-readers.result.now c.args.groups.now)) (sym c.as_slice-watchers.ensures.value)
-    (subst (λ (rs : List (List ℕ)). AreUnwatched c.args.parts.now.watchers.items (reached rs c.args.groups.now)) (sym c.as_slice-readers.ensures.value) none))
+    (subst (λ (ws : List ℕ). AreUnwatched ws (reached c.as_slice-readers.result.now c.args.groups.now))
+    (sym c.as_slice-watchers.ensures.value)
+    (subst (λ (rs : List (List ℕ)). AreUnwatched c.args.parts.now.watchers.items (reached rs c.args.groups.now))
+    (sym c.as_slice-readers.ensures.value) none))
 
 pub returns-clause-rest : goal.returns-clause-rest
 returns-clause-rest g c = record {
@@ -85,15 +104,20 @@ returns-clause-rest g c = record {
   watchers = refl;
   affected = refl;
   room = refl;
-  long = either c.take_in_batch.result (λ t. t.long) (λ e. e.long) c.take_in_batch.ensures.tells c.take_in_batch.ensures.emptied;
+  long = either c.take_in_batch.result (λ t. t.long) (λ e. e.long) c.take_in_batch.ensures.tells
+      c.take_in_batch.ensures.emptied;
 }
 
 pub returns-clause-updates : goal.returns-clause-updates
 returns-clause-updates g c =
-    subst (λ (rs : List (List ℕ)). OnOk c.take_in_batch.result (WorksBy rs c.args.groups.now c.args.parts.now.queries.items (rows_in c.args.groups.now) (λ x. 1) c.args.steps.now.update c.take_in_batch.new.steps.update))
+    subst (λ (rs : List (List ℕ)). OnOk c.take_in_batch.result
+    (WorksBy rs c.args.groups.now c.args.parts.now.queries.items (rows_in c.args.groups.now) (λ x. 1)
+    c.args.steps.now.update c.take_in_batch.new.steps.update))
     c.as_slice-readers.ensures.value c.take_in_batch.ensures.updates
 
 pub returns-clause-refusal : goal.returns-clause-refusal
 returns-clause-refusal g c =
-    subst (λ (rs : List (List ℕ)). OnErr c.take_in_batch.result (WorksBy rs c.args.groups.now c.args.parts.now.queries.items (rows_in c.args.groups.now) times_back c.args.steps.now.update c.take_in_batch.new.steps.update))
+    subst (λ (rs : List (List ℕ)). OnErr c.take_in_batch.result
+    (WorksBy rs c.args.groups.now c.args.parts.now.queries.items (rows_in c.args.groups.now) times_back
+    c.args.steps.now.update c.take_in_batch.new.steps.update))
     c.as_slice-readers.ensures.value c.take_in_batch.ensures.refusal

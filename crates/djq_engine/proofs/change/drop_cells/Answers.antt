@@ -50,12 +50,14 @@ let_out-requires-clause-once g c =
     let old = c.args.parts.now in
     let d = c.delete_row.new.self in
     let row = c.requires.row.0 in
-    let gone = (subst (λ (o : DeleteOutcome). DeletesRow old.catalog.relations c.args.id.at c.requires.row.0 o d.relations)
+    let gone = (subst (λ (o : DeleteOutcome). DeletesRow old.catalog.relations c.args.id.at c.requires.row.0 o
+    d.relations)
     c.in-Last.is (c.delete_row.ensures.deletes c.requires.row.0 c.requires.row.1)) in
     let was : IsOld old.catalog c.args.id.at c.args.cells.now row =
     record { stand = c.requires.row.1; there = gone.0 } in
     gone_once old.catalog d c.args.id.at c.requires.there c.args.cells.now row was c.laws-2.ensures
-    c.delete_row.ensures.texts gone.2 c.deleted_went.ensures old.queries.items old.order old.readers.items c.requires.whole c.as_slice-places.result.now
+    c.delete_row.ensures.texts gone.2 c.deleted_went.ensures old.queries.items old.order old.readers.items
+    c.requires.whole c.as_slice-places.result.now
     (places_read old.readers.items c.args.id.at c.index.result.now c.as_slice-places.result.now
     (omega (arith, c.requires.there, c.requires.whole.long)) c.index.ensures c.as_slice-places.ensures)
 
@@ -64,12 +66,14 @@ let_out-requires-clause-can g c =
     let old = c.args.parts.now in
     let d = c.delete_row.new.self in
     let row = c.requires.row.0 in
-    let gone = (subst (λ (o : DeleteOutcome). DeletesRow old.catalog.relations c.args.id.at c.requires.row.0 o d.relations)
+    let gone = (subst (λ (o : DeleteOutcome). DeletesRow old.catalog.relations c.args.id.at c.requires.row.0 o
+    d.relations)
     c.in-Last.is (c.delete_row.ensures.deletes c.requires.row.0 c.requires.row.1)) in
     let was : IsOld old.catalog c.args.id.at c.args.cells.now row =
     record { stand = c.requires.row.1; there = gone.0 } in
     can_go old.catalog d c.args.id.at c.requires.there c.args.cells.now row was c.laws-2.ensures
-    c.delete_row.ensures.texts gone.2 c.deleted_went.ensures old.queries.items old.order old.readers.items c.requires.whole c.as_slice-places.result.now
+    c.delete_row.ensures.texts gone.2 c.deleted_went.ensures old.queries.items old.order old.readers.items
+    c.requires.whole c.as_slice-places.result.now
     (places_read old.readers.items c.args.id.at c.index.result.now c.as_slice-places.result.now
     (omega (arith, c.requires.there, c.requires.whole.long)) c.index.ensures c.as_slice-places.ensures)
 
@@ -87,7 +91,8 @@ returns-clause-deletes g c row stand =
         has = record {
           relations = gone.2;
           carries = drop_carries old.catalog d c.args.id.at c.requires.there c.args.cells.now row was c.laws-2.ensures
-              c.delete_row.ensures.texts gone.2 c.deleted_went.ensures old.queries.items old.order old.readers.items c.requires.whole c.as_slice-places.result.now
+              c.delete_row.ensures.texts gone.2 c.deleted_went.ensures old.queries.items old.order old.readers.items
+              c.requires.whole c.as_slice-places.result.now
               (places_read old.readers.items c.args.id.at c.index.result.now c.as_slice-places.result.now
               (omega (arith, c.requires.there, c.requires.whole.long)) c.index.ensures c.as_slice-places.ensures)
               c.went_passes.ensures c.let_out.new.queries.items c.let_out.ensures.reach;
@@ -102,11 +107,13 @@ returns-clause-tells g c row stand =
     let gone = (subst (λ (o : DeleteOutcome). DeletesRow old.catalog.relations c.args.id.at row o d.relations)
     c.in-Last.is (c.delete_row.ensures.deletes row stand)) in
     let was : IsOld old.catalog c.args.id.at c.args.cells.now row = record { stand = stand; there = gone.0 } in
-    tells_rows (λ x y. Went x y c.args.id.at c.args.cells.now) old.catalog d old.queries.items old.order old.readers.items c.requires.whole c.args.id.at c.requires.there
+    tells_rows (λ x y. Went x y c.args.id.at c.args.cells.now) old.catalog d old.queries.items old.order
+    old.readers.items c.requires.whole c.args.id.at c.requires.there
     old.watchers.items c.as_slice-places.result.now
     (places_read old.readers.items c.args.id.at c.index.result.now c.as_slice-places.result.now
     (omega (arith, c.requires.there, c.requires.whole.long)) c.index.ensures c.as_slice-places.ensures)
-    row (c.deleted_went.ensures old.catalog d c.args.id.at c.args.cells.now row c.laws-2.ensures c.requires.there was.stand c.delete_row.ensures.texts gone.2)
+    row (c.deleted_went.ensures old.catalog d c.args.id.at c.args.cells.now row c.laws-2.ensures c.requires.there
+    was.stand c.delete_row.ensures.texts gone.2)
     (without_copies (counted_at old.catalog.relations c.args.id.at) row) gone.2 old.logs.items c.let_out.new.logs.items
     (subst (λ (ws : List ℕ). Tends c.as_slice-places.result.now
     (TellsAt ws (λ x y. Went x y c.args.id.at c.args.cells.now)) old.queries.items old.logs.items
@@ -120,13 +127,18 @@ returns-clause-counted g c row stand =
     let gone = (subst (λ (o : DeleteOutcome). DeletesRow old.catalog.relations c.args.id.at row o d.relations)
     c.in-Last.is (c.delete_row.ensures.deletes row stand)) in
     let was : IsOld old.catalog c.args.id.at c.args.cells.now row = record { stand = stand; there = gone.0 } in
-    counts_rows (λ x y. Went x y c.args.id.at c.args.cells.now) old.catalog d old.queries.items old.order old.readers.items c.requires.whole c.args.id.at c.requires.there
+    counts_rows (λ x y. Went x y c.args.id.at c.args.cells.now) old.catalog d old.queries.items old.order
+    old.readers.items c.requires.whole c.args.id.at c.requires.there
     old.watchers.items c.as_slice-places.result.now
     (places_read old.readers.items c.args.id.at c.index.result.now c.as_slice-places.result.now
     (omega (arith, c.requires.there, c.requires.whole.long)) c.index.ensures c.as_slice-places.ensures)
-    row (c.deleted_went.ensures old.catalog d c.args.id.at c.args.cells.now row c.laws-2.ensures c.requires.there was.stand c.delete_row.ensures.texts gone.2)
-    (without_copies (counted_at old.catalog.relations c.args.id.at) row) gone.2 c.args.steps.now.listing c.let_out.new.steps.listing
-    (subst (λ (ws : List ℕ). Costs (λ x y. Went x y c.args.id.at c.args.cells.now) c.as_slice-places.result.now ws old.queries.items c.args.id.at c.args.steps.now.listing c.let_out.new.steps.listing) c.as_slice-watchers.ensures.value
+    row (c.deleted_went.ensures old.catalog d c.args.id.at c.args.cells.now row c.laws-2.ensures c.requires.there
+    was.stand c.delete_row.ensures.texts gone.2)
+    (without_copies (counted_at old.catalog.relations c.args.id.at) row) gone.2 c.args.steps.now.listing
+    c.let_out.new.steps.listing
+    (subst (λ (ws : List ℕ). Costs (λ x y. Went x y c.args.id.at c.args.cells.now) c.as_slice-places.result.now ws
+    old.queries.items c.args.id.at c.args.steps.now.listing c.let_out.new.steps.listing)
+    c.as_slice-watchers.ensures.value
     c.let_out.ensures.counted)
 
 pub returns-clause-shown : goal.returns-clause-shown
@@ -134,19 +146,25 @@ returns-clause-shown g c =
     let old = c.args.parts.now in
     let d = c.delete_row.new.self in
     let row = c.requires.row.0 in
-    let gone = (subst (λ (o : DeleteOutcome). DeletesRow old.catalog.relations c.args.id.at c.requires.row.0 o d.relations)
+    let gone = (subst (λ (o : DeleteOutcome). DeletesRow old.catalog.relations c.args.id.at c.requires.row.0 o
+    d.relations)
     c.in-Last.is (c.delete_row.ensures.deletes c.requires.row.0 c.requires.row.1)) in
     let was : IsOld old.catalog c.args.id.at c.args.cells.now row =
     record { stand = c.requires.row.1; there = gone.0 } in
     let tells = c.let_out.ensures.tells in
     subst (λ (ts : List Bytes). AreShown ts old.queries.items c.let_out.new.logs.items) (sym c.delete_row.ensures.texts)
-    (shown_tended (λ x y. Went x y c.args.id.at c.args.cells.now) old.catalog d old.queries.items c.as_slice-places.result.now old.logs.items c.let_out.new.logs.items row
+    (shown_tended (λ x y. Went x y c.args.id.at c.args.cells.now) old.catalog d old.queries.items
+    c.as_slice-places.result.now old.logs.items c.let_out.new.logs.items row
     (subst (λ (ps : List ℕ). AllAt ps old.queries.items (λ l. IsKept old.catalog l))
     (sym (places_read old.readers.items c.args.id.at c.index.result.now c.as_slice-places.result.now
     (omega (arith, c.requires.there, c.requires.whole.long)) c.index.ensures c.as_slice-places.ensures))
-    (readers_kept old.catalog old.queries.items old.order old.readers.items c.requires.whole c.args.id.at c.requires.there))
-    (c.deleted_went.ensures old.catalog d c.args.id.at c.args.cells.now row c.laws-2.ensures c.requires.there was.stand c.delete_row.ensures.texts gone.2) c.delete_row.ensures.texts
-    (tells_show (λ x y. Went x y c.args.id.at c.args.cells.now) c.as_slice-watchers.result.now c.as_slice-places.result.now old.queries.items old.logs.items c.let_out.new.logs.items tells) c.requires.tended.shown)
+    (readers_kept old.catalog old.queries.items old.order old.readers.items c.requires.whole c.args.id.at
+    c.requires.there))
+    (c.deleted_went.ensures old.catalog d c.args.id.at c.args.cells.now row c.laws-2.ensures c.requires.there was.stand
+    c.delete_row.ensures.texts gone.2) c.delete_row.ensures.texts
+    (tells_show (λ x y. Went x y c.args.id.at c.args.cells.now) c.as_slice-watchers.result.now
+    c.as_slice-places.result.now old.queries.items old.logs.items c.let_out.new.logs.items tells)
+    c.requires.tended.shown)
 
 pub returns-clause-quiet : goal.returns-clause-quiet
 returns-clause-quiet g c i l there e =
@@ -165,7 +183,8 @@ pub returns-clause-updates : goal.returns-clause-updates
 returns-clause-updates g c =
     let old = c.args.parts.now in
     subst (λ (ps : List ℕ). Works ps old.queries.items c.args.id.at 1 c.args.steps.now.update
-    c.let_out.new.steps.update) (places_read old.readers.items c.args.id.at c.index.result.now c.as_slice-places.result.now
+    c.let_out.new.steps.update)
+    (places_read old.readers.items c.args.id.at c.index.result.now c.as_slice-places.result.now
     (omega (arith, c.requires.there, c.requires.whole.long)) c.index.ensures c.as_slice-places.ensures)
     c.let_out.ensures.updates
 
@@ -174,5 +193,6 @@ returns-clause-unlisted g c none =
     let old = c.args.parts.now in
     let places = places_read old.readers.items c.args.id.at c.index.result.now c.as_slice-places.result.now
     (omega (arith, c.requires.there, c.requires.whole.long)) c.index.ensures c.as_slice-places.ensures in
-    c.let_out.ensures.unlisted (subst (λ (ws : List ℕ). AreUnwatched ws c.as_slice-places.result.now) (sym c.as_slice-watchers.ensures.value)
+    c.let_out.ensures.unlisted
+    (subst (λ (ws : List ℕ). AreUnwatched ws c.as_slice-places.result.now) (sym c.as_slice-watchers.ensures.value)
     (subst (λ (ps : List ℕ). AreUnwatched old.watchers.items ps) (sym places) none))

@@ -74,7 +74,8 @@ returns-in-Err-NoMem-clause-adds g c row stand =
       adds.0,
       record {
         catalog = same;
-        carries = unput_carries old.catalog c.add_row.new.self old.queries.items old.order old.readers.items c.args.id.at
+        carries = unput_carries old.catalog c.add_row.new.self old.queries.items old.order old.readers.items
+            c.args.id.at
             c.requires.whole same;
       },
     )
@@ -98,10 +99,12 @@ take_in-requires-clause-once g c =
     let old = c.args.parts.now in
     let d = c.add_row.new.self in
     let row = c.requires.row.0 in
-    let adds = (subst (λ (o : AddOutcome). AddsRow old.catalog.relations c.args.id.at c.requires.row.0 (Ok o) d.relations)
+    let adds = (subst (λ (o : AddOutcome). AddsRow old.catalog.relations c.args.id.at c.requires.row.0 (Ok o)
+    d.relations)
     c.in-Ok-First.field-0-is (c.in-Ok-First.ensures.adds c.requires.row.0 c.requires.row.1)) in
     let new = came_new old.catalog c.args.id.at c.args.cells.now row d.relations c.requires.row.1 adds in
-    places_once old.catalog d c.args.id.at c.requires.there c.args.cells.now row new c.laws.ensures c.laws-2.ensures c.add_row.ensures.texts adds.2
+    places_once old.catalog d c.args.id.at c.requires.there c.args.cells.now row new c.laws.ensures c.laws-2.ensures
+    c.add_row.ensures.texts adds.2
     old.queries.items old.order old.readers.items c.requires.whole c.as_slice-places.result.now
     (places_read old.readers.items c.args.id.at c.index.result.now c.as_slice-places.result.now
     (omega (arith, c.requires.there, c.requires.whole.long)) c.index.ensures c.as_slice-places.ensures)
@@ -111,10 +114,12 @@ take_in-requires-clause-can g c =
     let old = c.args.parts.now in
     let d = c.add_row.new.self in
     let row = c.requires.row.0 in
-    let adds = (subst (λ (o : AddOutcome). AddsRow old.catalog.relations c.args.id.at c.requires.row.0 (Ok o) d.relations)
+    let adds = (subst (λ (o : AddOutcome). AddsRow old.catalog.relations c.args.id.at c.requires.row.0 (Ok o)
+    d.relations)
     c.in-Ok-First.field-0-is (c.in-Ok-First.ensures.adds c.requires.row.0 c.requires.row.1)) in
     let new = came_new old.catalog c.args.id.at c.args.cells.now row d.relations c.requires.row.1 adds in
-    can_come old.catalog d c.args.id.at c.requires.there c.args.cells.now row new c.laws.ensures c.laws-2.ensures c.add_row.ensures.texts adds.2
+    can_come old.catalog d c.args.id.at c.requires.there c.args.cells.now row new c.laws.ensures c.laws-2.ensures
+    c.add_row.ensures.texts adds.2
     old.queries.items old.order old.readers.items c.requires.whole c.as_slice-places.result.now
     (places_read old.readers.items c.args.id.at c.index.result.now c.as_slice-places.result.now
     (omega (arith, c.requires.there, c.requires.whole.long)) c.index.ensures c.as_slice-places.ensures)
@@ -132,7 +137,8 @@ returns-in-Ok-clause-adds g c row stand =
         texts = c.add_row.ensures.texts;
         has = record {
           relations = adds.2;
-          carries = put_carries old.catalog d c.args.id.at c.requires.there c.args.cells.now row new c.laws.ensures c.laws-2.ensures c.add_row.ensures.texts adds.2
+          carries = put_carries old.catalog d c.args.id.at c.requires.there c.args.cells.now row new c.laws.ensures
+              c.laws-2.ensures c.add_row.ensures.texts adds.2
               old.queries.items old.order old.readers.items c.requires.whole c.as_slice-places.result.now
               (places_read old.readers.items c.args.id.at c.index.result.now c.as_slice-places.result.now
               (omega (arith, c.requires.there, c.requires.whole.long)) c.index.ensures c.as_slice-places.ensures)
@@ -148,13 +154,17 @@ returns-in-Err-clause-adds g c row stand =
     let adds = (subst (λ (o : AddOutcome). AddsRow old.catalog.relations c.args.id.at row (Ok o) d.relations)
     c.in-Ok-First.field-0-is (c.in-Ok-First.ensures.adds row stand)) in
     let new = came_new old.catalog c.args.id.at c.args.cells.now row d.relations stand adds in
-    let back = catalog_back old.catalog d c.args.id.at c.requires.there c.args.cells.now row new c.laws.ensures c.laws-2.ensures c.add_row.ensures.texts adds.2
+    let back = catalog_back old.catalog d c.args.id.at c.requires.there c.args.cells.now row new c.laws.ensures
+    c.laws-2.ensures c.add_row.ensures.texts adds.2
     c.delete_row.new.self c.delete_row.result
-    (c.delete_row.ensures.deletes row (stand_now old.catalog d c.args.id.at c.requires.there c.args.cells.now row new c.laws.ensures c.laws-2.ensures c.add_row.ensures.texts adds.2)) c.delete_row.ensures.texts in (
+    (c.delete_row.ensures.deletes row
+    (stand_now old.catalog d c.args.id.at c.requires.there c.args.cells.now row new c.laws.ensures c.laws-2.ensures
+    c.add_row.ensures.texts adds.2)) c.delete_row.ensures.texts in (
       adds.0,
       record {
         catalog = back;
-        carries = wait_carries old.catalog d c.args.id.at c.requires.there c.args.cells.now row new c.laws.ensures c.laws-2.ensures c.add_row.ensures.texts adds.2
+        carries = wait_carries old.catalog d c.args.id.at c.requires.there c.args.cells.now row new c.laws.ensures
+            c.laws-2.ensures c.add_row.ensures.texts adds.2
             old.queries.items old.order old.readers.items c.requires.whole c.as_slice-places.result.now
             (places_read old.readers.items c.args.id.at c.index.result.now c.as_slice-places.result.now
             (omega (arith, c.requires.there, c.requires.whole.long)) c.index.ensures c.as_slice-places.ensures)
@@ -170,11 +180,13 @@ returns-in-Ok-clause-tells g c row stand =
     let adds = (subst (λ (o : AddOutcome). AddsRow old.catalog.relations c.args.id.at row (Ok o) d.relations)
     c.in-Ok-First.field-0-is (c.in-Ok-First.ensures.adds row stand)) in
     let new = came_new old.catalog c.args.id.at c.args.cells.now row d.relations stand adds in
-    tells_rows (λ x y. Came x y c.args.id.at c.args.cells.now) old.catalog d old.queries.items old.order old.readers.items c.requires.whole c.args.id.at c.requires.there
+    tells_rows (λ x y. Came x y c.args.id.at c.args.cells.now) old.catalog d old.queries.items old.order
+    old.readers.items c.requires.whole c.args.id.at c.requires.there
     old.watchers.items c.as_slice-places.result.now
     (places_read old.readers.items c.args.id.at c.index.result.now c.as_slice-places.result.now
     (omega (arith, c.requires.there, c.requires.whole.long)) c.index.ensures c.as_slice-places.ensures)
-    row (came old.catalog d c.args.id.at c.requires.there c.args.cells.now row new c.laws.ensures c.laws-2.ensures c.add_row.ensures.texts adds.2 c.added_came.ensures)
+    row (came old.catalog d c.args.id.at c.requires.there c.args.cells.now row new c.laws.ensures c.laws-2.ensures
+    c.add_row.ensures.texts adds.2 c.added_came.ensures)
     (with_row (counted_at old.catalog.relations c.args.id.at) row) adds.2 old.logs.items c.take_in.new.logs.items
     (subst (λ (ws : List ℕ). Tends c.as_slice-places.result.now
     (TellsAt ws (λ x y. Came x y c.args.id.at c.args.cells.now)) old.queries.items old.logs.items
@@ -188,13 +200,18 @@ returns-in-Ok-clause-counted g c row stand =
     let adds = (subst (λ (o : AddOutcome). AddsRow old.catalog.relations c.args.id.at row (Ok o) d.relations)
     c.in-Ok-First.field-0-is (c.in-Ok-First.ensures.adds row stand)) in
     let new = came_new old.catalog c.args.id.at c.args.cells.now row d.relations stand adds in
-    counts_rows (λ x y. Came x y c.args.id.at c.args.cells.now) old.catalog d old.queries.items old.order old.readers.items c.requires.whole c.args.id.at c.requires.there
+    counts_rows (λ x y. Came x y c.args.id.at c.args.cells.now) old.catalog d old.queries.items old.order
+    old.readers.items c.requires.whole c.args.id.at c.requires.there
     old.watchers.items c.as_slice-places.result.now
     (places_read old.readers.items c.args.id.at c.index.result.now c.as_slice-places.result.now
     (omega (arith, c.requires.there, c.requires.whole.long)) c.index.ensures c.as_slice-places.ensures)
-    row (came old.catalog d c.args.id.at c.requires.there c.args.cells.now row new c.laws.ensures c.laws-2.ensures c.add_row.ensures.texts adds.2 c.added_came.ensures)
-    (with_row (counted_at old.catalog.relations c.args.id.at) row) adds.2 c.args.steps.now.listing c.take_in.new.steps.listing
-    (subst (λ (ws : List ℕ). Costs (λ x y. Came x y c.args.id.at c.args.cells.now) c.as_slice-places.result.now ws old.queries.items c.args.id.at c.args.steps.now.listing c.take_in.new.steps.listing) c.as_slice-watchers.ensures.value
+    row (came old.catalog d c.args.id.at c.requires.there c.args.cells.now row new c.laws.ensures c.laws-2.ensures
+    c.add_row.ensures.texts adds.2 c.added_came.ensures)
+    (with_row (counted_at old.catalog.relations c.args.id.at) row) adds.2 c.args.steps.now.listing
+    c.take_in.new.steps.listing
+    (subst (λ (ws : List ℕ). Costs (λ x y. Came x y c.args.id.at c.args.cells.now) c.as_slice-places.result.now ws
+    old.queries.items c.args.id.at c.args.steps.now.listing c.take_in.new.steps.listing)
+    c.as_slice-watchers.ensures.value
     c.take_in.ensures.counted)
 
 pub returns-in-Err-clause-listed : goal.returns-in-Err-clause-listed
@@ -204,13 +221,18 @@ returns-in-Err-clause-listed g c row stand =
     let adds = (subst (λ (o : AddOutcome). AddsRow old.catalog.relations c.args.id.at row (Ok o) d.relations)
     c.in-Ok-First.field-0-is (c.in-Ok-First.ensures.adds row stand)) in
     let new = came_new old.catalog c.args.id.at c.args.cells.now row d.relations stand adds in
-    counts_rows (λ x y. Came x y c.args.id.at c.args.cells.now) old.catalog d old.queries.items old.order old.readers.items c.requires.whole c.args.id.at c.requires.there
+    counts_rows (λ x y. Came x y c.args.id.at c.args.cells.now) old.catalog d old.queries.items old.order
+    old.readers.items c.requires.whole c.args.id.at c.requires.there
     old.watchers.items c.as_slice-places.result.now
     (places_read old.readers.items c.args.id.at c.index.result.now c.as_slice-places.result.now
     (omega (arith, c.requires.there, c.requires.whole.long)) c.index.ensures c.as_slice-places.ensures)
-    row (came old.catalog d c.args.id.at c.requires.there c.args.cells.now row new c.laws.ensures c.laws-2.ensures c.add_row.ensures.texts adds.2 c.added_came.ensures)
-    (with_row (counted_at old.catalog.relations c.args.id.at) row) adds.2 c.args.steps.now.listing c.take_in.new.steps.listing
-    (subst (λ (ws : List ℕ). Costs (λ x y. Came x y c.args.id.at c.args.cells.now) c.as_slice-places.result.now ws old.queries.items c.args.id.at c.args.steps.now.listing c.take_in.new.steps.listing) c.as_slice-watchers.ensures.value
+    row (came old.catalog d c.args.id.at c.requires.there c.args.cells.now row new c.laws.ensures c.laws-2.ensures
+    c.add_row.ensures.texts adds.2 c.added_came.ensures)
+    (with_row (counted_at old.catalog.relations c.args.id.at) row) adds.2 c.args.steps.now.listing
+    c.take_in.new.steps.listing
+    (subst (λ (ws : List ℕ). Costs (λ x y. Came x y c.args.id.at c.args.cells.now) c.as_slice-places.result.now ws
+    old.queries.items c.args.id.at c.args.steps.now.listing c.take_in.new.steps.listing)
+    c.as_slice-watchers.ensures.value
     c.take_in.ensures.counted)
 
 pub returns-in-Ok-clause-shown : goal.returns-in-Ok-clause-shown
@@ -218,32 +240,43 @@ returns-in-Ok-clause-shown g c =
     let old = c.args.parts.now in
     let d = c.add_row.new.self in
     let row = c.requires.row.0 in
-    let adds = (subst (λ (o : AddOutcome). AddsRow old.catalog.relations c.args.id.at c.requires.row.0 (Ok o) d.relations)
+    let adds = (subst (λ (o : AddOutcome). AddsRow old.catalog.relations c.args.id.at c.requires.row.0 (Ok o)
+    d.relations)
     c.in-Ok-First.field-0-is (c.in-Ok-First.ensures.adds c.requires.row.0 c.requires.row.1)) in
     let new = came_new old.catalog c.args.id.at c.args.cells.now row d.relations c.requires.row.1 adds in
     subst (λ (ts : List Bytes). AreShown ts old.queries.items c.take_in.new.logs.items) (sym c.add_row.ensures.texts)
-    (shown_tended (λ x y. Came x y c.args.id.at c.args.cells.now) old.catalog d old.queries.items c.as_slice-places.result.now old.logs.items c.take_in.new.logs.items row
+    (shown_tended (λ x y. Came x y c.args.id.at c.args.cells.now) old.catalog d old.queries.items
+    c.as_slice-places.result.now old.logs.items c.take_in.new.logs.items row
     (subst (λ (ps : List ℕ). AllAt ps old.queries.items (λ l. IsKept old.catalog l))
     (sym (places_read old.readers.items c.args.id.at c.index.result.now c.as_slice-places.result.now
     (omega (arith, c.requires.there, c.requires.whole.long)) c.index.ensures c.as_slice-places.ensures))
-    (readers_kept old.catalog old.queries.items old.order old.readers.items c.requires.whole c.args.id.at c.requires.there))
-    (came old.catalog d c.args.id.at c.requires.there c.args.cells.now row new c.laws.ensures c.laws-2.ensures c.add_row.ensures.texts adds.2 c.added_came.ensures) c.add_row.ensures.texts c.take_in.ensures.shows c.requires.tended.shown)
+    (readers_kept old.catalog old.queries.items old.order old.readers.items c.requires.whole c.args.id.at
+    c.requires.there))
+    (came old.catalog d c.args.id.at c.requires.there c.args.cells.now row new c.laws.ensures c.laws-2.ensures
+    c.add_row.ensures.texts adds.2 c.added_came.ensures) c.add_row.ensures.texts c.take_in.ensures.shows
+    c.requires.tended.shown)
 
 pub returns-in-Err-clause-shown : goal.returns-in-Err-clause-shown
 returns-in-Err-clause-shown g c =
     let old = c.args.parts.now in
     let d = c.add_row.new.self in
     let row = c.requires.row.0 in
-    let adds = (subst (λ (o : AddOutcome). AddsRow old.catalog.relations c.args.id.at c.requires.row.0 (Ok o) d.relations)
+    let adds = (subst (λ (o : AddOutcome). AddsRow old.catalog.relations c.args.id.at c.requires.row.0 (Ok o)
+    d.relations)
     c.in-Ok-First.field-0-is (c.in-Ok-First.ensures.adds c.requires.row.0 c.requires.row.1)) in
     let new = came_new old.catalog c.args.id.at c.args.cells.now row d.relations c.requires.row.1 adds in
-    subst (λ (ts : List Bytes). AreShown ts old.queries.items c.take_in.new.logs.items) (sym (c.delete_row.ensures.texts ∙ c.add_row.ensures.texts))
-    (shown_tended (λ x y. Came x y c.args.id.at c.args.cells.now) old.catalog d old.queries.items c.as_slice-places.result.now old.logs.items c.take_in.new.logs.items row
+    subst (λ (ts : List Bytes). AreShown ts old.queries.items c.take_in.new.logs.items)
+    (sym (c.delete_row.ensures.texts ∙ c.add_row.ensures.texts))
+    (shown_tended (λ x y. Came x y c.args.id.at c.args.cells.now) old.catalog d old.queries.items
+    c.as_slice-places.result.now old.logs.items c.take_in.new.logs.items row
     (subst (λ (ps : List ℕ). AllAt ps old.queries.items (λ l. IsKept old.catalog l))
     (sym (places_read old.readers.items c.args.id.at c.index.result.now c.as_slice-places.result.now
     (omega (arith, c.requires.there, c.requires.whole.long)) c.index.ensures c.as_slice-places.ensures))
-    (readers_kept old.catalog old.queries.items old.order old.readers.items c.requires.whole c.args.id.at c.requires.there))
-    (came old.catalog d c.args.id.at c.requires.there c.args.cells.now row new c.laws.ensures c.laws-2.ensures c.add_row.ensures.texts adds.2 c.added_came.ensures) c.add_row.ensures.texts c.take_in.ensures.shows c.requires.tended.shown)
+    (readers_kept old.catalog old.queries.items old.order old.readers.items c.requires.whole c.args.id.at
+    c.requires.there))
+    (came old.catalog d c.args.id.at c.requires.there c.args.cells.now row new c.laws.ensures c.laws-2.ensures
+    c.add_row.ensures.texts adds.2 c.added_came.ensures) c.add_row.ensures.texts c.take_in.ensures.shows
+    c.requires.tended.shown)
 
 pub returns-in-Ok-clause-quiet : goal.returns-in-Ok-clause-quiet
 returns-in-Ok-clause-quiet g c i l there e =
@@ -263,14 +296,16 @@ returns-in-Err-clause-apart g c i l there e =
     let old = c.args.parts.now in
     tends_apart (Shows (λ x y. Came x y c.args.id.at c.args.cells.now)) c.as_slice-places.result.now old.queries.items
     old.logs.items c.take_in.new.logs.items c.take_in.ensures.shows i
-    (ap (λ (ps : List ℕ). is_reader ps i) (places_read old.readers.items c.args.id.at c.index.result.now c.as_slice-places.result.now
+    (ap (λ (ps : List ℕ). is_reader ps i)
+    (places_read old.readers.items c.args.id.at c.index.result.now c.as_slice-places.result.now
     (omega (arith, c.requires.there, c.requires.whole.long)) c.index.ensures c.as_slice-places.ensures) ∙ e)
 
 pub returns-in-Ok-clause-updates : goal.returns-in-Ok-clause-updates
 returns-in-Ok-clause-updates g c =
     let old = c.args.parts.now in
     subst (λ (ps : List ℕ). Works ps old.queries.items c.args.id.at 1 c.args.steps.now.update
-    c.take_in.new.steps.update) (places_read old.readers.items c.args.id.at c.index.result.now c.as_slice-places.result.now
+    c.take_in.new.steps.update)
+    (places_read old.readers.items c.args.id.at c.index.result.now c.as_slice-places.result.now
     (omega (arith, c.requires.there, c.requires.whole.long)) c.index.ensures c.as_slice-places.ensures)
     c.in-Ok.ensures.updates
 
@@ -278,7 +313,8 @@ pub returns-in-Err-clause-refusal : goal.returns-in-Err-clause-refusal
 returns-in-Err-clause-refusal g c =
     let old = c.args.parts.now in
     subst (λ (ps : List ℕ). Works ps old.queries.items c.args.id.at 3 c.args.steps.now.update
-    c.take_in.new.steps.update) (places_read old.readers.items c.args.id.at c.index.result.now c.as_slice-places.result.now
+    c.take_in.new.steps.update)
+    (places_read old.readers.items c.args.id.at c.index.result.now c.as_slice-places.result.now
     (omega (arith, c.requires.there, c.requires.whole.long)) c.index.ensures c.as_slice-places.ensures)
     c.in-Err.ensures.refusal
 
@@ -287,7 +323,8 @@ returns-in-Ok-clause-unlisted g c none =
     let old = c.args.parts.now in
     let places = places_read old.readers.items c.args.id.at c.index.result.now c.as_slice-places.result.now
     (omega (arith, c.requires.there, c.requires.whole.long)) c.index.ensures c.as_slice-places.ensures in
-    c.take_in.ensures.unlisted (subst (λ (ws : List ℕ). AreUnwatched ws c.as_slice-places.result.now) (sym c.as_slice-watchers.ensures.value)
+    c.take_in.ensures.unlisted
+    (subst (λ (ws : List ℕ). AreUnwatched ws c.as_slice-places.result.now) (sym c.as_slice-watchers.ensures.value)
     (subst (λ (ps : List ℕ). AreUnwatched old.watchers.items ps) (sym places) none))
 
 pub returns-in-Err-clause-unlisted : goal.returns-in-Err-clause-unlisted
@@ -295,5 +332,6 @@ returns-in-Err-clause-unlisted g c none =
     let old = c.args.parts.now in
     let places = places_read old.readers.items c.args.id.at c.index.result.now c.as_slice-places.result.now
     (omega (arith, c.requires.there, c.requires.whole.long)) c.index.ensures c.as_slice-places.ensures in
-    c.take_in.ensures.unlisted (subst (λ (ws : List ℕ). AreUnwatched ws c.as_slice-places.result.now) (sym c.as_slice-watchers.ensures.value)
+    c.take_in.ensures.unlisted
+    (subst (λ (ws : List ℕ). AreUnwatched ws c.as_slice-places.result.now) (sym c.as_slice-watchers.ensures.value)
     (subst (λ (ps : List ℕ). AreUnwatched old.watchers.items ps) (sym places) none))

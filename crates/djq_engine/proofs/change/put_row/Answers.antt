@@ -40,16 +40,26 @@ returns-in-Err-clause-adds g c =
     (all_stay c.live_stays.ensures old.catalog c.intern_cells.new.self old.queries.items old.order old.readers.items
     c.requires.whole
     (learned_rows c.texts_stay.ensures old.catalog c.intern_cells.new.self
-    (interned old.catalog.texts c.args.row.now (given c.intern_cells.result c.intern_cells.new.cells) c.intern_cells.new.self.texts c.intern_cells.ensures.interns).0
+    (interned old.catalog.texts c.args.row.now (given c.intern_cells.result c.intern_cells.new.cells)
+    c.intern_cells.new.self.texts c.intern_cells.ensures.interns).0
     c.laws-in-Err.ensures c.intern_cells.ensures.relations
-    (interned old.catalog.texts c.args.row.now (given c.intern_cells.result c.intern_cells.new.cells) c.intern_cells.new.self.texts c.intern_cells.ensures.interns).1))
+    (interned old.catalog.texts c.args.row.now (given c.intern_cells.result c.intern_cells.new.cells)
+    c.intern_cells.new.self.texts c.intern_cells.ensures.interns).1))
     (c.in-Err.ensures.absent c.args.id.at c.requires.there)
 
 pub returns-in-Err-clause-shown : goal.returns-in-Err-clause-shown
 returns-in-Err-clause-shown g c =
     let old = c.args.parts.now in
-    (shown_more c.showable_stays.ensures old.catalog.texts (c.texts_stay.ensures old.catalog.texts (interned old.catalog.texts c.args.row.now (given c.intern_cells.result c.intern_cells.new.cells) c.intern_cells.new.self.texts c.intern_cells.ensures.interns).0).0 c.intern_cells.new.self.texts
-    ((interned old.catalog.texts c.args.row.now (given c.intern_cells.result c.intern_cells.new.cells) c.intern_cells.new.self.texts c.intern_cells.ensures.interns).1 ∙ (c.texts_stay.ensures old.catalog.texts (interned old.catalog.texts c.args.row.now (given c.intern_cells.result c.intern_cells.new.cells) c.intern_cells.new.self.texts c.intern_cells.ensures.interns).0).1) old.queries.items old.logs.items c.requires.tended.shown)
+    (shown_more c.showable_stays.ensures old.catalog.texts
+    (c.texts_stay.ensures old.catalog.texts
+    (interned old.catalog.texts c.args.row.now (given c.intern_cells.result c.intern_cells.new.cells)
+    c.intern_cells.new.self.texts c.intern_cells.ensures.interns).0).0 c.intern_cells.new.self.texts
+    ((interned old.catalog.texts c.args.row.now (given c.intern_cells.result c.intern_cells.new.cells)
+    c.intern_cells.new.self.texts c.intern_cells.ensures.interns).1
+    ∙ (c.texts_stay.ensures old.catalog.texts
+    (interned old.catalog.texts c.args.row.now (given c.intern_cells.result c.intern_cells.new.cells)
+    c.intern_cells.new.self.texts c.intern_cells.ensures.interns).0).1) old.queries.items old.logs.items
+    c.requires.tended.shown)
 
 pub returns-in-Err-clause-apart : goal.returns-in-Err-clause-apart
 returns-in-Err-clause-apart g c = idle_lacking c.in-Err.refusal (λ i l there e. refl)
@@ -69,13 +79,16 @@ returns-in-Err-clause-unmoved g c = idle_still c.in-Err.refusal (omega arith)
 pub put_cells-requires-clause-whole : goal.put_cells-requires-clause-whole
 put_cells-requires-clause-whole g c =
     let old = c.args.parts.now in
-    sound_texts old.catalog c.intern_cells.new.self old.queries.items old.order old.readers.items c.intern_cells.ensures.relations
+    sound_texts old.catalog c.intern_cells.new.self old.queries.items old.order old.readers.items
+    c.intern_cells.ensures.relations
     (all_stay c.live_stays.ensures old.catalog c.intern_cells.new.self old.queries.items old.order old.readers.items
     c.requires.whole
     (learned_rows c.texts_stay.ensures old.catalog c.intern_cells.new.self
-    (interned old.catalog.texts c.args.row.now (given c.intern_cells.result c.intern_cells.new.cells) c.intern_cells.new.self.texts c.intern_cells.ensures.interns).0
+    (interned old.catalog.texts c.args.row.now (given c.intern_cells.result c.intern_cells.new.cells)
+    c.intern_cells.new.self.texts c.intern_cells.ensures.interns).0
     c.laws-2.ensures c.intern_cells.ensures.relations
-    (interned old.catalog.texts c.args.row.now (given c.intern_cells.result c.intern_cells.new.cells) c.intern_cells.new.self.texts c.intern_cells.ensures.interns).1)) c.requires.whole
+    (interned old.catalog.texts c.args.row.now (given c.intern_cells.result c.intern_cells.new.cells)
+    c.intern_cells.new.self.texts c.intern_cells.ensures.interns).1)) c.requires.whole
 
 pub put_cells-requires-clause-tended : goal.put_cells-requires-clause-tended
 put_cells-requires-clause-tended g c =
@@ -84,8 +97,16 @@ put_cells-requires-clause-tended g c =
       watched = c.requires.tended.watched;
       logged = c.requires.tended.logged;
       room = c.requires.tended.room;
-      shown = (shown_more c.showable_stays.ensures old.catalog.texts (c.texts_stay.ensures old.catalog.texts (interned old.catalog.texts c.args.row.now (given c.intern_cells.result c.intern_cells.new.cells) c.intern_cells.new.self.texts c.intern_cells.ensures.interns).0).0 c.intern_cells.new.self.texts
-          ((interned old.catalog.texts c.args.row.now (given c.intern_cells.result c.intern_cells.new.cells) c.intern_cells.new.self.texts c.intern_cells.ensures.interns).1 ∙ (c.texts_stay.ensures old.catalog.texts (interned old.catalog.texts c.args.row.now (given c.intern_cells.result c.intern_cells.new.cells) c.intern_cells.new.self.texts c.intern_cells.ensures.interns).0).1) old.queries.items old.logs.items c.requires.tended.shown);
+      shown = (shown_more c.showable_stays.ensures old.catalog.texts
+          (c.texts_stay.ensures old.catalog.texts
+          (interned old.catalog.texts c.args.row.now (given c.intern_cells.result c.intern_cells.new.cells)
+          c.intern_cells.new.self.texts c.intern_cells.ensures.interns).0).0 c.intern_cells.new.self.texts
+          ((interned old.catalog.texts c.args.row.now (given c.intern_cells.result c.intern_cells.new.cells)
+          c.intern_cells.new.self.texts c.intern_cells.ensures.interns).1
+          ∙ (c.texts_stay.ensures old.catalog.texts
+          (interned old.catalog.texts c.args.row.now (given c.intern_cells.result c.intern_cells.new.cells)
+          c.intern_cells.new.self.texts c.intern_cells.ensures.interns).0).1) old.queries.items old.logs.items
+          c.requires.tended.shown);
     }
 
 pub put_cells-requires-clause-row : goal.put_cells-requires-clause-row
@@ -100,15 +121,19 @@ put_cells-requires-clause-row g c =
 pub returns-clause-adds : goal.returns-clause-adds
 returns-clause-adds g c =
     let old = c.args.parts.now in
-    adds_to old c.put_cells.new.parts c.intern_cells.new.self c.args.id.at c.args.row.now c.laws.ensures c.requires.there
+    adds_to old c.put_cells.new.parts c.intern_cells.new.self c.args.id.at c.args.row.now c.laws.ensures
+    c.requires.there
     c.intern_cells.ensures.relations c.in-Ok.ensures.interns.0 c.laws-2.ensures.many
     (all_stay c.live_stays.ensures old.catalog c.intern_cells.new.self old.queries.items old.order old.readers.items
     c.requires.whole
     (learned_rows c.texts_stay.ensures old.catalog c.intern_cells.new.self
-    (interned old.catalog.texts c.args.row.now (given c.intern_cells.result c.intern_cells.new.cells) c.intern_cells.new.self.texts c.intern_cells.ensures.interns).0
+    (interned old.catalog.texts c.args.row.now (given c.intern_cells.result c.intern_cells.new.cells)
+    c.intern_cells.new.self.texts c.intern_cells.ensures.interns).0
     c.laws-2.ensures c.intern_cells.ensures.relations
-    (interned old.catalog.texts c.args.row.now (given c.intern_cells.result c.intern_cells.new.cells) c.intern_cells.new.self.texts c.intern_cells.ensures.interns).1)) c.requires.room c.put_cells.result
-    (c.put_cells.ensures.adds c.args.row.now (same_stand old.catalog c.intern_cells.new.self c.args.id.at c.as_slice.result.now c.args.row.now
+    (interned old.catalog.texts c.args.row.now (given c.intern_cells.result c.intern_cells.new.cells)
+    c.intern_cells.new.self.texts c.intern_cells.ensures.interns).1)) c.requires.room c.put_cells.result
+    (c.put_cells.ensures.adds c.args.row.now
+    (same_stand old.catalog c.intern_cells.new.self c.args.id.at c.as_slice.result.now c.args.row.now
     c.intern_cells.ensures.relations c.requires.suits c.in-Ok.ensures.interns.1
     (c.as_slice.ensures ∙ c.in-Ok.ensures.interns.2)))
 
@@ -116,10 +141,14 @@ pub returns-clause-tells : goal.returns-clause-tells
 returns-clause-tells g c =
     let old = c.args.parts.now in
     if_came c.put_cells.result
-    (λ tells. subst (λ (rs : List Relation). (i : ℕ) (l : Live) → is_reader (readers_at old.readers.items c.args.id.at) i ≡ true → watched_at old.watchers.items i ≡ true
+    (λ tells. subst (λ (rs : List Relation). (i : ℕ) (l : Live)
+    → is_reader (readers_at old.readers.items c.args.id.at) i ≡ true → watched_at old.watchers.items i ≡ true
     → place_at old.queries.items i ≡ Some l → (log_at c.put_cells.new.parts.logs.items i).lost ≡ false
-    → IsDeltaWith c.args.id.at (with_row (counted_at rs c.args.id.at) c.args.row.now) rs l (map (change_of c.put_cells.new.parts.catalog.texts l) (log_at c.put_cells.new.parts.logs.items i).lines)) c.intern_cells.ensures.relations
-    (tells c.args.row.now (same_stand old.catalog c.intern_cells.new.self c.args.id.at c.as_slice.result.now c.args.row.now
+    → IsDeltaWith c.args.id.at (with_row (counted_at rs c.args.id.at) c.args.row.now) rs l
+    (map (change_of c.put_cells.new.parts.catalog.texts l) (log_at c.put_cells.new.parts.logs.items i).lines))
+    c.intern_cells.ensures.relations
+    (tells c.args.row.now
+    (same_stand old.catalog c.intern_cells.new.self c.args.id.at c.as_slice.result.now c.args.row.now
     c.intern_cells.ensures.relations c.requires.suits c.in-Ok.ensures.interns.1
     (c.as_slice.ensures ∙ c.in-Ok.ensures.interns.2))))
     c.put_cells.ensures.tells
@@ -128,9 +157,13 @@ pub returns-clause-counted : goal.returns-clause-counted
 returns-clause-counted g c =
     let old = c.args.parts.now in
     if_came c.put_cells.result
-    (λ counts. subst (λ (rs : List Relation). CountsRows c.args.id.at (with_row (counted_at rs c.args.id.at) c.args.row.now)
-    (record old { catalog = record old.catalog { relations = rs } }) c.args.steps.now.listing c.put_cells.new.steps.listing)
-    c.intern_cells.ensures.relations (counts c.args.row.now (same_stand old.catalog c.intern_cells.new.self c.args.id.at c.as_slice.result.now c.args.row.now
+    (λ counts. subst (λ (rs : List Relation). CountsRows c.args.id.at
+    (with_row (counted_at rs c.args.id.at) c.args.row.now)
+    (record old { catalog = record old.catalog { relations = rs } }) c.args.steps.now.listing
+    c.put_cells.new.steps.listing)
+    c.intern_cells.ensures.relations
+    (counts c.args.row.now
+    (same_stand old.catalog c.intern_cells.new.self c.args.id.at c.as_slice.result.now c.args.row.now
     c.intern_cells.ensures.relations c.requires.suits c.in-Ok.ensures.interns.1
     (c.as_slice.ensures ∙ c.in-Ok.ensures.interns.2))))
     c.put_cells.ensures.counted
@@ -139,9 +172,13 @@ pub returns-clause-listed : goal.returns-clause-listed
 returns-clause-listed g c =
     let old = c.args.parts.now in
     if_lacking c.put_cells.result
-    (λ counts. subst (λ (rs : List Relation). CountsRows c.args.id.at (with_row (counted_at rs c.args.id.at) c.args.row.now)
-    (record old { catalog = record old.catalog { relations = rs } }) c.args.steps.now.listing c.put_cells.new.steps.listing)
-    c.intern_cells.ensures.relations (counts c.args.row.now (same_stand old.catalog c.intern_cells.new.self c.args.id.at c.as_slice.result.now c.args.row.now
+    (λ counts. subst (λ (rs : List Relation). CountsRows c.args.id.at
+    (with_row (counted_at rs c.args.id.at) c.args.row.now)
+    (record old { catalog = record old.catalog { relations = rs } }) c.args.steps.now.listing
+    c.put_cells.new.steps.listing)
+    c.intern_cells.ensures.relations
+    (counts c.args.row.now
+    (same_stand old.catalog c.intern_cells.new.self c.args.id.at c.as_slice.result.now c.args.row.now
     c.intern_cells.ensures.relations c.requires.suits c.in-Ok.ensures.interns.1
     (c.as_slice.ensures ∙ c.in-Ok.ensures.interns.2))))
     c.put_cells.ensures.listed

@@ -12,9 +12,11 @@ returns-then-not-is_there-clause-err g c =
     let h = c.args.held.now in
     let at = c.in-Some.id.at in
     let suits : Suits rs h.relation h.row at =
-    suits_here rs c.args.seq h.relation h.row at c.requires c.in-Some.ensures.0 c.in-Some.ensures.1 c.in-Some.ensures.2 in
+    suits_here rs c.args.seq h.relation h.row at c.requires c.in-Some.ensures.0 c.in-Some.ensures.1 c.in-Some.ensures.2
+    in
     place_limited rs h.relation h.row c.args.seq at suits
-    (ap (λ (row : Tuple). has_row (rows_at rs at) row) (sym c.as_slice-row.ensures) ∙ sym c.is_there.ensures ∙ c.if-not-is_there.true)
+    (ap (λ (row : Tuple). has_row (rows_at rs at) row) (sym c.as_slice-row.ensures) ∙ sym c.is_there.ensures
+    ∙ c.if-not-is_there.true)
     (elim c.else-row_count-lt-ROWS.either [
       | inl last ↦ inr last.1
       | inr full ↦ inl (omega (arith, full, c.row_count.ensures))
@@ -25,9 +27,11 @@ returns-clause-ok g c =
     let rs = c.args.catalog.now.relations in
     let h = c.args.held.now in
     let at = c.in-Some.id.at in
-    let there = ap (λ (row : Tuple). has_row (rows_at rs at) row) (sym c.as_slice-row.ensures) ∙ sym c.is_there.ensures ∙ c.if-not-is_there.false in
+    let there = ap (λ (row : Tuple). has_row (rows_at rs at) row) (sym c.as_slice-row.ensures) ∙ sym c.is_there.ensures
+    ∙ c.if-not-is_there.false in
     record {
-      relation = suits_here rs c.args.seq h.relation h.row at c.requires c.in-Some.ensures.0 c.in-Some.ensures.1 c.in-Some.ensures.2;
+      relation = suits_here rs c.args.seq h.relation h.row at c.requires c.in-Some.ensures.0 c.in-Some.ensures.1
+          c.in-Some.ensures.2;
       room = λ absent. absurd (false≢true (sym absent ∙ there));
       more = λ absent. absurd (false≢true (sym absent ∙ there));
     }

@@ -7,6 +7,16 @@ use Rattle.djq_engine.proofs.outdating.affect_reached.Goals as goal
 
 pub push_reserved-requires : goal.push_reserved-requires
 push_reserved-requires c =
-    let few = filter_few (is_reader (reached c.args.readers.now.items c.args.groups.now)) (take c.loop-nth.nth c.args.order.now) in
+    let few = filter_few (is_reader (reached c.args.readers.now.items c.args.groups.now))
+    (take c.loop-nth.nth c.args.order.now) in
     let long = length-take-le c.loop-nth.nth c.args.order.now (omega (arith, c.loop-nth-test.true)) in
-    omega (arith, few, long, c.loop-nth-test.true, c.requires.room, c.loop-nth.invariant.room, c.loop-nth.affected.ok.0, ap (λ (xs : List ℕ). length xs) c.loop-nth.invariant.items)
+    omega (
+      arith,
+      few,
+      long,
+      c.loop-nth-test.true,
+      c.requires.room,
+      c.loop-nth.invariant.room,
+      c.loop-nth.affected.ok.0,
+      ap (λ (xs : List ℕ). length xs) c.loop-nth.invariant.items,
+    )

@@ -11,12 +11,16 @@ returns-then-has_group c test tested =
     let rs = c.args.catalog.now.relations in
     let low = c.in-Some.ensures.0 in
     let named : (relation_at rs at).name ≡ c.args.relation.now = c.in-Some.ensures.1 in
-    let places = places_read c.args.readers.now.items at c.index.result.now c.as_slice.result.now (omega (arith, low, c.requires.readers.long)) c.index.ensures c.as_slice.ensures in
+    let places = places_read c.args.readers.now.items at c.index.result.now c.as_slice.result.now
+    (omega (arith, low, c.requires.readers.long)) c.index.ensures c.as_slice.ensures in
     let passes : test c.args.relation.now ≡ true =
-    ap test (sym named) ∙ tested at low ∙ sym (group_any c.args.groups.now at) ∙ sym c.has_group.ensures ∙ c.if-has_group.true in
+    ap test (sym named) ∙ tested at low ∙ sym (group_any c.args.groups.now at) ∙ sym c.has_group.ensures
+    ∙ c.if-has_group.true in
     ages_passed test c.args.relation.now c.args.seq c.args.queries.now.items c.age.new.queries.items passes
-    (ages_readers rs c.args.readers.now.items at c.args.relation.now c.args.seq c.args.queries.now.items c.age.new.queries.items c.requires.readers low named
-    (subst (λ (ps : List ℕ). Reach ps (Ages c.args.relation.now c.args.seq) c.args.queries.now.items c.age.new.queries.items) places c.age.ensures))
+    (ages_readers rs c.args.readers.now.items at c.args.relation.now c.args.seq c.args.queries.now.items
+    c.age.new.queries.items c.requires.readers low named
+    (subst (λ (ps : List ℕ). Reach ps (Ages c.args.relation.now c.args.seq) c.args.queries.now.items
+    c.age.new.queries.items) places c.age.ensures))
 
 pub returns-else-has_group : goal.returns-else-has_group
 returns-else-has_group c test tested =
@@ -25,5 +29,6 @@ returns-else-has_group c test tested =
     let low = c.in-Some.ensures.0 in
     let named : (relation_at rs at).name ≡ c.args.relation.now = c.in-Some.ensures.1 in
     let fails : test c.args.relation.now ≡ false =
-    ap test (sym named) ∙ tested at low ∙ sym (group_any c.args.groups.now at) ∙ sym c.has_group.ensures ∙ c.if-has_group.false in
+    ap test (sym named) ∙ tested at low ∙ sym (group_any c.args.groups.now at) ∙ sym c.has_group.ensures
+    ∙ c.if-has_group.false in
     ages_failed test c.args.relation.now c.args.seq c.args.queries.now.items fails

@@ -6,7 +6,14 @@ use Rattle.djq_engine.proofs.places.leave_all.Goals as goal
 
 pub leave_out-requires : goal.leave_out-requires
 leave_out-requires c =
-    let low : c.loop-list.list < length c.loop-list.lists.items = omega (arith, c.loop-list-test.true, c.len-list-end.ensures, c.loop-list.lists.ok.0, c.args.lists.now.ok.0, c.loop-list.invariant.long) in
+    let low : c.loop-list.list < length c.loop-list.lists.items = omega (
+      arith,
+      c.loop-list-test.true,
+      c.len-list-end.ensures,
+      c.loop-list.lists.ok.0,
+      c.args.lists.now.ok.0,
+      c.loop-list.invariant.long,
+    ) in
     subst AreOnce
     (sym (list_read c.loop-list.lists.items c.args.lists.now.items c.loop-list.list
     c.index_mut.result.now low c.index_mut.ensures.value
@@ -14,7 +21,14 @@ leave_out-requires c =
 
 pub loop-list-preserved : goal.loop-list-preserved
 loop-list-preserved c =
-    let low : c.loop-list.list < length c.loop-list.lists.items = omega (arith, c.loop-list-test.true, c.len-list-end.ensures, c.loop-list.lists.ok.0, c.args.lists.now.ok.0, c.loop-list.invariant.long) in
+    let low : c.loop-list.list < length c.loop-list.lists.items = omega (
+      arith,
+      c.loop-list-test.true,
+      c.len-list-end.ensures,
+      c.loop-list.lists.ok.0,
+      c.args.lists.now.ok.0,
+      c.loop-list.invariant.long,
+    ) in
     let is = list_read c.loop-list.lists.items c.args.lists.now.items c.loop-list.list
     c.index_mut.result.now low c.index_mut.ensures.value
     (c.loop-list.invariant.rest c.loop-list.list (omega arith)) in

@@ -6,7 +6,9 @@ use Rattle.djq_engine.proofs.places.leave_out.Goals as goal
 pub returns-in-Some : goal.returns-in-Some
 returns-in-Some c =
     c.remove.ensures.others
-    ∙ left_out c.args.places.now c.args.at c.in-Some.place c.requires (c.in-Some.ensures ∙ ap (position (λ i. i == c.args.at)) c.as_slice.ensures)
+    ∙ left_out c.args.places.now c.args.at c.in-Some.place c.requires
+    (c.in-Some.ensures ∙ ap (position (λ i. i == c.args.at)) c.as_slice.ensures)
 
 pub returns-in_default : goal.returns-in_default
-returns-in_default c = none_left_out c.args.places.now c.args.at (c.in_default.ensures ∙ ap (position (λ i. i == c.args.at)) c.as_slice.ensures)
+returns-in_default c = none_left_out c.args.places.now c.args.at
+    (c.in_default.ensures ∙ ap (position (λ i. i == c.args.at)) c.as_slice.ensures)

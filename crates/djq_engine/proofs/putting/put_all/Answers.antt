@@ -1,4 +1,5 @@
-use Rattle.std.proofs.Common.{◌≡◌, ◌∙◌, ◌+◌, ◌++◌, [], ℕ, List, true, refl, sym, ap, ap₂, subst, arith, length, take, append_assoc, append-nil}
+use Rattle.std.proofs.Common.{◌≡◌, ◌∙◌, ◌+◌, ◌++◌, [], ℕ, List, true, refl, sym, ap, ap₂, subst}
+use Rattle.std.proofs.Common.{arith, length, take, append_assoc, append-nil}
 use Rattle.std.specs.Prelude.{◌==◌, cond}
 use Rattle.std.proofs.lemmas.List.{take_all}
 use Rattle.djq_model.specs.Data.{Bytes}
@@ -55,27 +56,39 @@ loop-at-preserved g c =
     let one = c.in-Ok.ensures.ok in
     let low = c.loop-at-test.true in
     let x = c.index-held-at.result in
-    let reached : c.reach-first.result ≡ cond (length c.loop-at.groups.items == length c.put_one.new.groups.items) c.loop-at.first (c.loop-at.at + 1) =
-    c.reach-first.ensures ∙ ap₂ (λ (m n : ℕ). cond (m == n) c.loop-at.first (c.loop-at.at + 1)) (c.len-before.ensures ∙ c.loop-at.groups.ok.0) (c.len.ensures ∙ c.put_one.new.groups.ok.0) in
+    let reached : c.reach-first.result
+    ≡ cond (length c.loop-at.groups.items == length c.put_one.new.groups.items) c.loop-at.first (c.loop-at.at + 1) =
+    c.reach-first.ensures
+    ∙ ap₂ (λ (m n : ℕ). cond (m == n) c.loop-at.first (c.loop-at.at + 1))
+    (c.len-before.ensures ∙ c.loop-at.groups.ok.0) (c.len.ensures ∙ c.put_one.new.groups.ok.0) in
     record {
       puts = λ st s.
-          subst (λ (xs : List HeldRow). PutsAll st xs c.put_one.new.catalog (c.loop-at.count + c.in-Ok.came) c.put_one.new.groups.items)
+          subst (λ (xs : List HeldRow). PutsAll st xs c.put_one.new.catalog (c.loop-at.count + c.in-Ok.came)
+          c.put_one.new.groups.items)
           (sym (next_row c.args.held.now c.loop-at.at x low c.index-held-at.is))
-          (put_more c.names_tell.ensures c.texts_stay.ensures c.cells_stay.ensures st (take c.loop-at.at c.args.held.now) c.loop-at.catalog c.loop-at.count c.loop-at.groups.items
-          (c.loop-at.invariant.puts st s) x c.args.seq s.seq c.laws-in-loop-at.ensures c.in-Ok.came c.put_one.new.catalog c.put_one.new.groups.items one);
+          (put_more c.names_tell.ensures c.texts_stay.ensures c.cells_stay.ensures st
+          (take c.loop-at.at c.args.held.now) c.loop-at.catalog c.loop-at.count c.loop-at.groups.items
+          (c.loop-at.invariant.puts st s) x c.args.seq s.seq c.laws-in-loop-at.ensures c.in-Ok.came
+          c.put_one.new.catalog c.put_one.new.groups.items one);
       few =
-          let most = at_most_one c.loop-at.catalog c.loop-at.groups.items x c.args.seq c.in-Ok.came c.put_one.new.catalog c.put_one.new.groups.items one in
+          let most = at_most_one c.loop-at.catalog c.loop-at.groups.items x c.args.seq c.in-Ok.came
+          c.put_one.new.catalog c.put_one.new.groups.items one in
           omega (arith, most, c.loop-at.invariant.few);
-      early = first_few (bare_of c.args.catalog.now c.args.seq) (take c.loop-at.at c.args.held.now) c.loop-at.catalog c.loop-at.count c.loop-at.groups.items
-          (c.loop-at.invariant.puts (bare_of c.args.catalog.now c.args.seq) (agrees c.args.catalog.now c.args.seq)) x c.args.seq c.put_one.new.catalog c.put_one.new.groups.items
-          c.args.held.now c.loop-at.at (next_row c.args.held.now c.loop-at.at x low c.index-held-at.is) c.loop-at.first c.reach-first.result reached c.loop-at.invariant.early;
+      early = first_few (bare_of c.args.catalog.now c.args.seq) (take c.loop-at.at c.args.held.now) c.loop-at.catalog
+          c.loop-at.count c.loop-at.groups.items
+          (c.loop-at.invariant.puts (bare_of c.args.catalog.now c.args.seq) (agrees c.args.catalog.now c.args.seq)) x
+          c.args.seq c.put_one.new.catalog c.put_one.new.groups.items
+          c.args.held.now c.loop-at.at (next_row c.args.held.now c.loop-at.at x low c.index-held-at.is) c.loop-at.first
+          c.reach-first.result reached c.loop-at.invariant.early;
       first = λ st s.
           first_more st (take c.loop-at.at c.args.held.now) c.loop-at.catalog c.loop-at.count c.loop-at.groups.items
           (c.loop-at.invariant.puts st s) x c.args.seq c.put_one.new.catalog c.put_one.new.groups.items
-          c.args.held.now c.loop-at.at (next_row c.args.held.now c.loop-at.at x low c.index-held-at.is) c.loop-at.first c.reach-first.result reached
+          c.args.held.now c.loop-at.at (next_row c.args.held.now c.loop-at.at x low c.index-held-at.is) c.loop-at.first
+          c.reach-first.result reached
           c.in-Ok.came one (c.loop-at.invariant.first st s);
       learned =
-          let more = one_learned c.texts_stay.ensures c.loop-at.catalog c.loop-at.groups.items x c.args.seq c.in-Ok.came c.put_one.new.catalog c.put_one.new.groups.items one in
+          let more = one_learned c.texts_stay.ensures c.loop-at.catalog c.loop-at.groups.items x c.args.seq c.in-Ok.came
+          c.put_one.new.catalog c.put_one.new.groups.items one in
           let was = c.loop-at.invariant.learned in (
             was.0 ++ more.0,
             more.1 ∙ ap (λ (ts : List Bytes). ts ++ more.0) was.1 ∙ append_assoc c.args.catalog.now.texts was.0 more.0,
@@ -87,7 +100,8 @@ take_back-requires g c =
     let old = c.args.catalog.now in
     let p = c.loop-at.invariant.puts (bare_of old c.args.seq) (agrees old c.args.seq) in (
       bare_of old c.args.seq,
-      went_front old c.args.seq (bare_of old c.args.seq) (agrees old c.args.seq) c.laws.ensures c.args.held.now c.loop-at.at c.put_one.new.catalog.relations c.requires.suit
+      went_front old c.args.seq (bare_of old c.args.seq) (agrees old c.args.seq) c.laws.ensures c.args.held.now
+          c.loop-at.at c.put_one.new.catalog.relations c.requires.suit
           (c.in-Err.ensures.stays ∙ p.relations),
     )
 
@@ -96,7 +110,8 @@ returns-in-Err-clause-stays g c =
     let old = c.args.catalog.now in
     let p = c.loop-at.invariant.puts (bare_of old c.args.seq) (agrees old c.args.seq) in
     c.take_back.ensures.back (bare_of old c.args.seq)
-    (went_front old c.args.seq (bare_of old c.args.seq) (agrees old c.args.seq) c.laws.ensures c.args.held.now c.loop-at.at c.put_one.new.catalog.relations c.requires.suit
+    (went_front old c.args.seq (bare_of old c.args.seq) (agrees old c.args.seq) c.laws.ensures c.args.held.now
+    c.loop-at.at c.put_one.new.catalog.relations c.requires.suit
     (c.in-Err.ensures.stays ∙ p.relations))
 
 pub returns-in-Err-clause-refused : goal.returns-in-Err-clause-refused
@@ -110,17 +125,21 @@ returns-in-Err-clause-refused g c st s =
       rest = split.0;
       parts = split.1;
       places = p.places;
-      stops = subst (λ (ts : List Bytes). StopsAt (with_all st (take c.loop-at.at c.args.held.now)) x ts c.in-Err.refusal) (sym c.take_back.ensures.texts)
-          (stops_as (bare_of c.loop-at.catalog c.args.seq) (with_all st (take c.loop-at.at c.args.held.now)) x c.put_one.new.catalog.texts c.in-Err.refusal
+      stops = subst (λ (ts : List Bytes). StopsAt (with_all st (take c.loop-at.at c.args.held.now)) x ts
+          c.in-Err.refusal) (sym c.take_back.ensures.texts)
+          (stops_as (bare_of c.loop-at.catalog c.args.seq) (with_all st (take c.loop-at.at c.args.held.now)) x
+          c.put_one.new.catalog.texts c.in-Err.refusal
           p.relations p.texts (sym (all_seq st (take c.loop-at.at c.args.held.now) ∙ s.seq)) c.in-Err.ensures.err);
     }
 
 pub returns-in-Err-clause-learned : goal.returns-in-Err-clause-learned
 returns-in-Err-clause-learned g c =
-    let more = stops_learned c.texts_stay.ensures (bare_of c.loop-at.catalog c.args.seq) c.index-held-at.result c.put_one.new.catalog.texts c.in-Err.refusal c.in-Err.ensures.err in
+    let more = stops_learned c.texts_stay.ensures (bare_of c.loop-at.catalog c.args.seq) c.index-held-at.result
+    c.put_one.new.catalog.texts c.in-Err.refusal c.in-Err.ensures.err in
     let was = c.loop-at.invariant.learned in (
       was.0 ++ more.0,
-      c.take_back.ensures.texts ∙ more.1 ∙ ap (λ (ts : List Bytes). ts ++ more.0) was.1 ∙ append_assoc c.args.catalog.now.texts was.0 more.0,
+      c.take_back.ensures.texts ∙ more.1 ∙ ap (λ (ts : List Bytes). ts ++ more.0) was.1
+          ∙ append_assoc c.args.catalog.now.texts was.0 more.0,
     )
 
 pub returns-clause-put : goal.returns-clause-put
@@ -131,4 +150,5 @@ returns-clause-put g c st s =
 pub returns-clause-first : goal.returns-clause-first
 returns-clause-first g c st s name hit =
     c.loop-at.invariant.first st s name
-    (subst (λ (xs : List HeldRow). has_come st xs name ≡ true) (sym (take_all c.loop-at.at c.args.held.now (omega arith))) hit)
+    (subst (λ (xs : List HeldRow). has_come st xs name ≡ true)
+    (sym (take_all c.loop-at.at c.args.held.now (omega arith))) hit)

@@ -11,7 +11,8 @@ use Rattle.djq_engine.proofs.Put.{one_in, one_stops}
 use Rattle.djq_engine.proofs.putting.put_one.Goals as goal
 
 -- the row came
-came : (c : Catalog) (h : HeldRow) (seq : ℕ) (o : Option RelationId) (cells : List ℕ) (d : Catalog) (id : RelationId) → PutsRow c h seq (placed o cells) d → o ≡ Some id
+came : (c : Catalog) (h : HeldRow) (seq : ℕ) (o : Option RelationId) (cells : List ℕ) (d : Catalog) (id : RelationId)
+    → PutsRow c h seq (placed o cells) d → o ≡ Some id
     → PutsNew c h seq (record { relation = id; cells = cells }) d
 came c h seq o cells d id x e = subst (λ (q : Option RelationId). PutsRow c h seq (placed q cells) d) e x
 
@@ -19,23 +20,30 @@ pub take_row_back-requires : goal.take_row_back-requires
 take_row_back-requires g c =
     let old = c.args.catalog.now in
     let q : Placed = record { relation = c.in-Ok-Some.relation; cells = c.put_row.new.cells } in
-    let p = came old c.args.held.now c.args.seq c.in-Ok-Some.field-0 c.put_row.new.cells c.put_row.new.catalog c.in-Ok-Some.relation c.in-Ok-Some.ensures.ok c.in-Ok-Some.field-0-is in (
+    let p = came old c.args.held.now c.args.seq c.in-Ok-Some.field-0 c.put_row.new.cells c.put_row.new.catalog
+    c.in-Ok-Some.relation c.in-Ok-Some.ensures.ok c.in-Ok-Some.field-0-is in (
       bare_of old c.args.seq,
-      one_in c.names_tell.ensures c.texts_stay.ensures old c.args.seq c.args.held.now c.laws.ensures c.requires c.put_row.new.catalog q p,
+      one_in c.names_tell.ensures c.texts_stay.ensures old c.args.seq c.args.held.now c.laws.ensures c.requires
+          c.put_row.new.catalog q p,
     )
 
 pub returns-in-Err-join_group-clause-err : goal.returns-in-Err-join_group-clause-err
 returns-in-Err-join_group-clause-err g c =
     let old = c.args.catalog.now in
     let q : Placed = record { relation = c.in-Ok-Some.relation; cells = c.put_row.new.cells } in
-    let p = came old c.args.held.now c.args.seq c.in-Ok-Some.field-0 c.put_row.new.cells c.put_row.new.catalog c.in-Ok-Some.relation c.in-Ok-Some.ensures.ok c.in-Ok-Some.field-0-is in
-    subst (λ (ts : List Bytes). StopsAt (bare_of old c.args.seq) c.args.held.now ts NoMemory) (sym c.take_row_back.ensures.texts)
-    (one_stops c.names_tell.ensures c.texts_stay.ensures old c.args.seq c.args.held.now c.laws.ensures c.put_row.new.catalog q p)
+    let p = came old c.args.held.now c.args.seq c.in-Ok-Some.field-0 c.put_row.new.cells c.put_row.new.catalog
+    c.in-Ok-Some.relation c.in-Ok-Some.ensures.ok c.in-Ok-Some.field-0-is in
+    subst (λ (ts : List Bytes). StopsAt (bare_of old c.args.seq) c.args.held.now ts NoMemory)
+    (sym c.take_row_back.ensures.texts)
+    (one_stops c.names_tell.ensures c.texts_stay.ensures old c.args.seq c.args.held.now c.laws.ensures
+    c.put_row.new.catalog q p)
 
 pub returns-in-Err-join_group-clause-stays : goal.returns-in-Err-join_group-clause-stays
 returns-in-Err-join_group-clause-stays g c =
     let old = c.args.catalog.now in
     let q : Placed = record { relation = c.in-Ok-Some.relation; cells = c.put_row.new.cells } in
-    let p = came old c.args.held.now c.args.seq c.in-Ok-Some.field-0 c.put_row.new.cells c.put_row.new.catalog c.in-Ok-Some.relation c.in-Ok-Some.ensures.ok c.in-Ok-Some.field-0-is in
+    let p = came old c.args.held.now c.args.seq c.in-Ok-Some.field-0 c.put_row.new.cells c.put_row.new.catalog
+    c.in-Ok-Some.relation c.in-Ok-Some.ensures.ok c.in-Ok-Some.field-0-is in
     c.take_row_back.ensures.back (bare_of old c.args.seq)
-    (one_in c.names_tell.ensures c.texts_stay.ensures old c.args.seq c.args.held.now c.laws.ensures c.requires c.put_row.new.catalog q p)
+    (one_in c.names_tell.ensures c.texts_stay.ensures old c.args.seq c.args.held.now c.laws.ensures c.requires
+    c.put_row.new.catalog q p)

@@ -17,7 +17,8 @@ unreachable-requires g c =
     let now = c.args.catalog.now.relations in
     let h = c.args.held.now in
     let suit : suit_refusal (bare now 0) h.relation h.row ≡ None = suits_last c.requires.0 h now 0 c.requires.1 in
-    let none : suit_refusal (bare now 0) h.relation h.row ≡ Some NoRelation = suited_none now h.relation h.row c.in_default.ensures in
+    let none : suit_refusal (bare now 0) h.relation h.row
+    ≡ Some NoRelation = suited_none now h.relation h.row c.in_default.ensures in
     cc
 
 pub cells-requires : goal.cells-requires
@@ -25,7 +26,8 @@ cells-requires g c =
     let now = c.args.catalog.now.relations in
     let h = c.args.held.now in
     let suits : Suits now h.relation h.row c.in-Some.id.at
-    = last_suits c.requires.0 h now c.in-Some.id.at c.requires.1 c.in-Some.ensures.0 c.in-Some.ensures.1 c.in-Some.ensures.2 in
+    = last_suits c.requires.0 h now c.in-Some.id.at c.requires.1 c.in-Some.ensures.0 c.in-Some.ensures.1
+    c.in-Some.ensures.2 in
     omega (
       arith,
       fits_length (relation_at now c.in-Some.id.at).types h.row suits.suits,
@@ -37,7 +39,8 @@ pub unreachable-requires-in_default-cells : goal.unreachable-requires-in_default
 unreachable-requires-in_default-cells g c =
     let now = c.args.catalog.now.relations in
     let h = c.args.held.now in
-    let there = row_there c.requires.0 h c.in-Some.id.at now c.requires.1 (suits_found c.requires.0 h c.requires.1.suits) c.in-Some.ensures.2 in
+    let there = row_there c.requires.0 h c.in-Some.id.at now c.requires.1
+    (suits_found c.requires.0 h c.requires.1.suits) c.in-Some.ensures.2 in
     let absent = c.in_default-cells.ensures.absent c.in-Some.id.at c.in-Some.ensures.0 in
     false≢true (sym absent ∙ ap (has_row (rows_at now c.in-Some.id.at)) c.as_slice.ensures ∙ there)
 
@@ -48,9 +51,12 @@ delete_row-outcome-requires-clause-row g c =
     record {
       row = h.row;
       stand = record {
-        of = (last_suits c.requires.0 h now c.in-Some.id.at c.requires.1 c.in-Some.ensures.0 c.in-Some.ensures.1 c.in-Some.ensures.2).suits;
-        have = subst (λ (row : Tuple). HaveCells c.args.catalog.now.texts row) c.as_slice.ensures c.in-Some-cells.ensures.tells.0;
-        are = c.as_slice-2.ensures ∙ c.in-Some-cells.ensures.tells.1 ∙ ap (cells_of c.args.catalog.now.texts) c.as_slice.ensures;
+        of = (last_suits c.requires.0 h now c.in-Some.id.at c.requires.1 c.in-Some.ensures.0 c.in-Some.ensures.1
+            c.in-Some.ensures.2).suits;
+        have = subst (λ (row : Tuple). HaveCells c.args.catalog.now.texts row) c.as_slice.ensures
+            c.in-Some-cells.ensures.tells.0;
+        are = c.as_slice-2.ensures ∙ c.in-Some-cells.ensures.tells.1
+            ∙ ap (cells_of c.args.catalog.now.texts) c.as_slice.ensures;
       };
     }
 
@@ -61,9 +67,12 @@ returns-clause-back g c st w =
     let at = c.in-Some.id.at in
     let stand : StandForRow c.args.catalog.now at c.as_slice-2.result.now h.row = record {
       of = (last_suits st h now at w c.in-Some.ensures.0 c.in-Some.ensures.1 c.in-Some.ensures.2).suits;
-      have = subst (λ (row : Tuple). HaveCells c.args.catalog.now.texts row) c.as_slice.ensures c.in-Some-cells.ensures.tells.0;
-      are = c.as_slice-2.ensures ∙ c.in-Some-cells.ensures.tells.1 ∙ ap (cells_of c.args.catalog.now.texts) c.as_slice.ensures;
+      have = subst (λ (row : Tuple). HaveCells c.args.catalog.now.texts row) c.as_slice.ensures
+          c.in-Some-cells.ensures.tells.0;
+      are = c.as_slice-2.ensures ∙ c.in-Some-cells.ensures.tells.1
+          ∙ ap (cells_of c.args.catalog.now.texts) c.as_slice.ensures;
     } in
-    held_back st h at now c.delete_row-outcome.new.self.relations c.delete_row-outcome.result c.names_tell.ensures c.laws.ensures.names
+    held_back st h at now c.delete_row-outcome.new.self.relations c.delete_row-outcome.result c.names_tell.ensures
+    c.laws.ensures.names
     (suits_found st h w.suits) c.in-Some.ensures.0 c.in-Some.ensures.1 c.in-Some.ensures.2 w.counted w.are
     (c.delete_row-outcome.ensures.deletes h.row stand)

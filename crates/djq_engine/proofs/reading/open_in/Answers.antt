@@ -12,32 +12,49 @@ use Rattle.djq_engine.proofs.reading.open_in.Goals as goal
 
 pub returns-in_default-clause-gives : goal.returns-in_default-clause-gives
 returns-in_default-clause-gives c =
-    open_refused c.args.parts.now.catalog c.args.parts.now.queries.items c.args.parts.now.order c.args.parts.now.readers.items c.args.parts.now.seq (watches_in c.args.parts.now) c.requires.whole c.args.query.now
+    open_refused c.args.parts.now.catalog c.args.parts.now.queries.items c.args.parts.now.order
+    c.args.parts.now.readers.items c.args.parts.now.seq (watches_in c.args.parts.now) c.requires.whole
+    c.args.query.now
     (c.in_default.ensures ∙ ap (position (is_query c.args.query.now)) c.as_slice.ensures.value)
 
 pub open_at-requires : goal.open_at-requires
 open_at-requires c =
-    subst (λ (o : Option Live). IsSomeAnd o (λ l. ⊤)) (sym (first_query c.args.parts.now.queries.items c.args.query.now c.in-Some.at (c.in-Some.ensures ∙ ap (position (is_query c.args.query.now)) c.as_slice.ensures.value)).there) tt
+    subst (λ (o : Option Live). IsSomeAnd o (λ l. ⊤))
+    (sym (first_query c.args.parts.now.queries.items c.args.query.now c.in-Some.at
+    (c.in-Some.ensures ∙ ap (position (is_query c.args.query.now)) c.as_slice.ensures.value)).there) tt
 
 pub returns-in-Ok-clause-whole : goal.returns-in-Ok-clause-whole
 returns-in-Ok-clause-whole c =
-    (open_gives c.args.parts.now.catalog c.args.parts.now.queries.items c.args.parts.now.order c.args.parts.now.readers.items c.args.parts.now.seq (watches_in c.args.parts.now) c.requires.whole c.args.query.now (record { query = record { at = c.in-Some.at }; cursor = c.in-Ok.cursor }) c.open_at.new.queries.items
-    (first_query c.args.parts.now.queries.items c.args.query.now c.in-Some.at (c.in-Some.ensures ∙ ap (position (is_query c.args.query.now)) c.as_slice.ensures.value)) c.in-Ok.ensures.ok).0
+    (open_gives c.args.parts.now.catalog c.args.parts.now.queries.items c.args.parts.now.order
+    c.args.parts.now.readers.items c.args.parts.now.seq (watches_in c.args.parts.now) c.requires.whole
+    c.args.query.now (record { query = record { at = c.in-Some.at }; cursor = c.in-Ok.cursor })
+    c.open_at.new.queries.items
+    (first_query c.args.parts.now.queries.items c.args.query.now c.in-Some.at
+    (c.in-Some.ensures ∙ ap (position (is_query c.args.query.now)) c.as_slice.ensures.value)) c.in-Ok.ensures.ok).0
 
 pub returns-in-Ok-clause-gives : goal.returns-in-Ok-clause-gives
 returns-in-Ok-clause-gives c =
-    (open_gives c.args.parts.now.catalog c.args.parts.now.queries.items c.args.parts.now.order c.args.parts.now.readers.items c.args.parts.now.seq (watches_in c.args.parts.now) c.requires.whole c.args.query.now (record { query = record { at = c.in-Some.at }; cursor = c.in-Ok.cursor }) c.open_at.new.queries.items
-    (first_query c.args.parts.now.queries.items c.args.query.now c.in-Some.at (c.in-Some.ensures ∙ ap (position (is_query c.args.query.now)) c.as_slice.ensures.value)) c.in-Ok.ensures.ok).1
+    (open_gives c.args.parts.now.catalog c.args.parts.now.queries.items c.args.parts.now.order
+    c.args.parts.now.readers.items c.args.parts.now.seq (watches_in c.args.parts.now) c.requires.whole
+    c.args.query.now (record { query = record { at = c.in-Some.at }; cursor = c.in-Ok.cursor })
+    c.open_at.new.queries.items
+    (first_query c.args.parts.now.queries.items c.args.query.now c.in-Some.at
+    (c.in-Some.ensures ∙ ap (position (is_query c.args.query.now)) c.as_slice.ensures.value)) c.in-Ok.ensures.ok).1
 
 pub returns-in-Err-clause-gives : goal.returns-in-Err-clause-gives
 returns-in-Err-clause-gives c =
-    (open_lacks c.args.parts.now.catalog c.args.parts.now.queries.items c.args.parts.now.order c.args.parts.now.readers.items c.args.parts.now.seq (watches_in c.args.parts.now) c.requires.whole c.args.query.now c.in-Some.at c.open_at.new.queries.items
-    (first_query c.args.parts.now.queries.items c.args.query.now c.in-Some.at (c.in-Some.ensures ∙ ap (position (is_query c.args.query.now)) c.as_slice.ensures.value)) c.in-Err.ensures.err).1
+    (open_lacks c.args.parts.now.catalog c.args.parts.now.queries.items c.args.parts.now.order
+    c.args.parts.now.readers.items c.args.parts.now.seq (watches_in c.args.parts.now) c.requires.whole
+    c.args.query.now c.in-Some.at c.open_at.new.queries.items
+    (first_query c.args.parts.now.queries.items c.args.query.now c.in-Some.at
+    (c.in-Some.ensures ∙ ap (position (is_query c.args.query.now)) c.as_slice.ensures.value))
+    c.in-Err.ensures.err).1
 
 pub returns-in-Ok-clause-tended : goal.returns-in-Ok-clause-tended
 returns-in-Ok-clause-tended c =
     let old = c.args.parts.now in
-    let k = opened_kept old.catalog old.queries.items c.open_at.new.queries.items old.order old.readers.items c.requires.whole old.logs.items c.in-Some.at c.in-Ok.cursor c.in-Ok.ensures.ok in
+    let k = opened_kept old.catalog old.queries.items c.open_at.new.queries.items old.order old.readers.items
+    c.requires.whole old.logs.items c.in-Some.at c.in-Ok.cursor c.in-Ok.ensures.ok in
     record {
       watched = c.requires.tended.watched ∙ sym k.long;
       logged = c.requires.tended.logged ∙ sym k.long;
@@ -53,17 +70,20 @@ returns-in-Err-clause-tended c =
       watched = c.requires.tended.watched ∙ sym (ap (λ (gs : List (Option Live)). length gs) e);
       logged = c.requires.tended.logged ∙ sym (ap (λ (gs : List (Option Live)). length gs) e);
       room = c.requires.tended.room;
-      shown = subst (λ (gs : List (Option Live)). AreShown old.catalog.texts gs old.logs.items) (sym e) c.requires.tended.shown;
+      shown = subst (λ (gs : List (Option Live)). AreShown old.catalog.texts gs old.logs.items) (sym e)
+          c.requires.tended.shown;
     }
 
 pub returns-in-Ok-clause-places : goal.returns-in-Ok-clause-places
 returns-in-Ok-clause-places c =
     let old = c.args.parts.now in
-    let k = opened_kept old.catalog old.queries.items c.open_at.new.queries.items old.order old.readers.items c.requires.whole old.logs.items c.in-Some.at c.in-Ok.cursor c.in-Ok.ensures.ok in
+    let k = opened_kept old.catalog old.queries.items c.open_at.new.queries.items old.order old.readers.items
+    c.requires.whole old.logs.items c.in-Some.at c.in-Ok.cursor c.in-Ok.ensures.ok in
     k.places
 
 pub returns-in_default-clause-places : goal.returns-in_default-clause-places
-returns-in_default-clause-places c = keeps_equal (λ q. false) c.args.parts.now.queries.items c.args.parts.now.queries.items refl
+returns-in_default-clause-places c = keeps_equal (λ q. false) c.args.parts.now.queries.items
+    c.args.parts.now.queries.items refl
 
 pub returns-in-Err-clause-places : goal.returns-in-Err-clause-places
 returns-in-Err-clause-places c =

@@ -7,7 +7,14 @@ use Rattle.djq_engine.proofs.registering.join_readers.Goals as goal
 
 pub loop-list-preserved : goal.loop-list-preserved
 loop-list-preserved c =
-    let low : c.loop-list.list < length c.loop-list.lists.items = omega (arith, c.loop-list-test.true, c.len-list-end.ensures, c.loop-list.lists.ok.0, c.args.lists.now.ok.0, c.loop-list.invariant.long) in
+    let low : c.loop-list.list < length c.loop-list.lists.items = omega (
+      arith,
+      c.loop-list-test.true,
+      c.len-list-end.ensures,
+      c.loop-list.lists.ok.0,
+      c.args.lists.now.ok.0,
+      c.loop-list.invariant.long,
+    ) in
     let is = list_read c.loop-list.lists.items c.args.lists.now.items c.loop-list.list
     c.index_mut.result.now low c.index_mut.ensures.value
     (c.loop-list.invariant.rest c.loop-list.list (omega arith)) in
@@ -17,11 +24,20 @@ loop-list-preserved c =
     (c.in-Ok.ensures.ok
     ∙ ap (λ b. cond b (c.index_mut.result.now ++ c.args.at ∷ []) c.index_mut.result.now)
     (c.reads.ensures ∙ ap (λ (n : Bytes). reads c.args.query.now n) c.name-name.ensures)
-    ∙ ap (λ (xs : List ℕ). cond (reads c.args.query.now (relation_at c.args.catalog.now.relations c.loop-list.list).name) (xs ++ c.args.at ∷ []) xs) is)
+    ∙ ap (λ (xs : List ℕ). cond
+    (reads c.args.query.now (relation_at c.args.catalog.now.relations c.loop-list.list).name) (xs ++ c.args.at ∷ [])
+    xs) is)
 
 pub returns-in-Err-clause-err : goal.returns-in-Err-clause-err
 returns-in-Err-clause-err c =
-    let low : c.loop-list.list < length c.loop-list.lists.items = omega (arith, c.loop-list-test.true, c.len-list-end.ensures, c.loop-list.lists.ok.0, c.args.lists.now.ok.0, c.loop-list.invariant.long) in
+    let low : c.loop-list.list < length c.loop-list.lists.items = omega (
+      arith,
+      c.loop-list-test.true,
+      c.len-list-end.ensures,
+      c.loop-list.lists.ok.0,
+      c.args.lists.now.ok.0,
+      c.loop-list.invariant.long,
+    ) in
     let is = list_read c.loop-list.lists.items c.args.lists.now.items c.loop-list.list
     c.index_mut.result.now low c.index_mut.ensures.value
     (c.loop-list.invariant.rest c.loop-list.list (omega arith)) in

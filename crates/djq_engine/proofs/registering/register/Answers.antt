@@ -1,4 +1,5 @@
-use Rattle.std.proofs.Common.{◌≡◌, ◌∷◌, [], length-append, ◌∙◌, None, Some, refl, sym, ap, ap₂, subst, arith, ℕ, List, length}
+use Rattle.std.proofs.Common.{◌≡◌, ◌∷◌, [], length-append, ◌∙◌, None, Some, refl, sym, ap, ap₂}
+use Rattle.std.proofs.Common.{subst, arith, ℕ, List, length}
 use Rattle.std.proofs.lemmas.List.{get_or-set_same, get_or-set_other, length-set}
 use Rattle.std.specs.Prelude.{remove}
 use Rattle.djq_model.specs.declared.query.Query.{Query}
@@ -45,7 +46,8 @@ returns-in-Err-join_readers-clause-err c =
       room = omega (arith, c.requires.tended.room, c.reserve.ensures.capacity, ap (λ (xs : List ℕ). length xs) same);
       watched = c.vacant_place.ensures.watched;
       logged = c.vacant_place.ensures.logged;
-      bounded = room_bounds old.catalog old.queries.items c.vacant_place.new.queries.items old.order old.readers.items c.requires.whole c.requires.room c.vacant_place.ensures.long;
+      bounded = room_bounds old.catalog old.queries.items c.vacant_place.new.queries.items old.order old.readers.items
+          c.requires.whole c.requires.room c.vacant_place.ensures.long;
     }
 
 -- the context is too long for `search` to find the parts of what is registered
@@ -70,18 +72,27 @@ returns-in-Ok-join_readers-clause-ok c =
       unwatched = get_or-set_same ws at 0 0 (omega (arith, c.in-Ok.ensures.place, c.in-Ok.ensures.watched));
       watchers = λ i d. get_or-set_other ws at i 0 0 d ∙ c.in-Ok.ensures.watchers i;
       empty = subst (λ (x : Log). IsEmpty x)
-          (sym (get_or-set_same ls at c.clear.new.self no_log (omega (arith, c.in-Ok.ensures.place, c.in-Ok.ensures.logged))))
+          (sym (get_or-set_same ls at c.clear.new.self no_log
+          (omega (arith, c.in-Ok.ensures.place, c.in-Ok.ensures.logged))))
           (record { lines = c.clear.ensures.lines; kept = c.clear.ensures.kept });
       logs = logs_cleared c.args.parts.now.queries.items c.args.parts.now.logs.items ls at c.clear.new.self
           (sym (c.in-Ok.ensures.same at) ∙ c.in-Ok.ensures.vacant) c.in-Ok.ensures.logs;
       affected = c.reserve.ensures.items;
       room = (let long = length-append c.args.parts.now.order (c.in-Ok.at ∷ []) in
-          omega (arith, long, c.in_ok-reserve.ensures.ok, c.len-listed.ensures, ap (λ (xs : List ℕ). length xs) c.in-Ok-push.ensures.ok));
+          omega (
+            arith,
+            long,
+            c.in_ok-reserve.ensures.ok,
+            c.len-listed.ensures,
+            ap (λ (xs : List ℕ). length xs)
+                c.in-Ok-push.ensures.ok,
+          ));
       watched = length-set ws at 0 ∙ c.in-Ok.ensures.watched ∙ sym (length-set gs at (Some q));
       logged = length-set ls at c.clear.new.self ∙ c.in-Ok.ensures.logged ∙ sym (length-set gs at (Some q));
       bounded = omega (
         arith,
-        room_bounds c.args.parts.now.catalog c.args.parts.now.queries.items gs c.args.parts.now.order c.args.parts.now.readers.items
+        room_bounds c.args.parts.now.catalog c.args.parts.now.queries.items gs c.args.parts.now.order
+            c.args.parts.now.readers.items
             c.requires.whole c.requires.room c.vacant_place.ensures.long,
         length-set gs at (Some q),
       );
@@ -99,10 +110,17 @@ returns-in-Err-push-clause-err c =
       watchers = c.vacant_place.ensures.watchers;
       logs = c.vacant_place.ensures.logs;
       affected = c.reserve.ensures.items;
-      room = omega (arith, c.requires.tended.room, c.reserve.ensures.capacity, ap (λ (xs : List ℕ). length xs) (c.in-Err-push.ensures.err));
+      room = omega (
+        arith,
+        c.requires.tended.room,
+        c.reserve.ensures.capacity,
+        ap (λ (xs : List ℕ). length xs)
+            (c.in-Err-push.ensures.err),
+      );
       watched = c.vacant_place.ensures.watched;
       logged = c.vacant_place.ensures.logged;
-      bounded = room_bounds old.catalog old.queries.items c.vacant_place.new.queries.items old.order old.readers.items c.requires.whole c.requires.room c.vacant_place.ensures.long;
+      bounded = room_bounds old.catalog old.queries.items c.vacant_place.new.queries.items old.order old.readers.items
+          c.requires.whole c.requires.room c.vacant_place.ensures.long;
     }
 
 pub returns-in-Err-clause-err : goal.returns-in-Err-clause-err
@@ -120,5 +138,6 @@ returns-in-Err-clause-err c =
       room = omega (arith, c.requires.tended.room, c.reserve.ensures.capacity);
       watched = c.vacant_place.ensures.watched;
       logged = c.vacant_place.ensures.logged;
-      bounded = room_bounds old.catalog old.queries.items c.vacant_place.new.queries.items old.order old.readers.items c.requires.whole c.requires.room c.vacant_place.ensures.long;
+      bounded = room_bounds old.catalog old.queries.items c.vacant_place.new.queries.items old.order old.readers.items
+          c.requires.whole c.requires.room c.vacant_place.ensures.long;
     }

@@ -69,18 +69,26 @@ use Rattle.djq_engine.proofs.rows.add_in.Goals as goal
 
 pub returns-in-Err-Full-clause-whole : goal.returns-in-Err-Full-clause-whole
 returns-in-Err-Full-clause-whole g c =
-    rested_whole c.args.parts.now c.put_row.new.parts c.requires.whole (subst (λ (r : InternRefusal). AddsTo c.in_ok-id.id.at c.args.row.now c.args.parts.now (Err r) c.put_row.new.parts) c.in-Err-Full.field-0-is c.in-Err-Full.ensures.adds).rests c.put_row.ensures.rest
+    rested_whole c.args.parts.now c.put_row.new.parts c.requires.whole
+    (subst (λ (r : InternRefusal). AddsTo c.in_ok-id.id.at c.args.row.now c.args.parts.now (Err r)
+    c.put_row.new.parts) c.in-Err-Full.field-0-is c.in-Err-Full.ensures.adds).rests c.put_row.ensures.rest
 
 pub returns-in-Err-Full-clause-outdates : goal.returns-in-Err-Full-clause-outdates
-returns-in-Err-Full-clause-outdates g c = rested_cursors c.args.parts.now c.put_row.new.parts (subst (λ (r : InternRefusal). AddsTo c.in_ok-id.id.at c.args.row.now c.args.parts.now (Err r) c.put_row.new.parts) c.in-Err-Full.field-0-is c.in-Err-Full.ensures.adds).rests
+returns-in-Err-Full-clause-outdates g c = rested_cursors c.args.parts.now c.put_row.new.parts
+    (subst (λ (r : InternRefusal). AddsTo c.in_ok-id.id.at c.args.row.now c.args.parts.now (Err r) c.put_row.new.parts)
+    c.in-Err-Full.field-0-is c.in-Err-Full.ensures.adds).rests
 
 pub returns-in-Err-Full-clause-adds : goal.returns-in-Err-Full-clause-adds
 returns-in-Err-Full-clause-adds g c =
-    add_limited c.args.parts.now c.args.name.now c.args.row.now c.in_ok-id.id.at c.in_ok-id.ensures.ok c.put_row.new.parts (subst (λ (r : InternRefusal). AddsTo c.in_ok-id.id.at c.args.row.now c.args.parts.now (Err r) c.put_row.new.parts) c.in-Err-Full.field-0-is c.in-Err-Full.ensures.adds) c.put_row.ensures.rest.order c.put_row.ensures.rest.seq
+    add_limited c.args.parts.now c.args.name.now c.args.row.now c.in_ok-id.id.at c.in_ok-id.ensures.ok
+    c.put_row.new.parts (subst
+    (λ (r : InternRefusal). AddsTo c.in_ok-id.id.at c.args.row.now c.args.parts.now (Err r) c.put_row.new.parts)
+    c.in-Err-Full.field-0-is c.in-Err-Full.ensures.adds) c.put_row.ensures.rest.order c.put_row.ensures.rest.seq
 
 pub age_readers-requires-clause-once : goal.age_readers-requires-clause-once
 age_readers-requires-clause-once g c =
-    let lacks = subst (λ (r : InternRefusal). AddsTo c.in_ok-id.id.at c.args.row.now c.args.parts.now (Err r) c.put_row.new.parts) c.in-Err-NoMem.field-0-is c.in-Err-NoMem.ensures.adds in
+    let lacks = subst (λ (r : InternRefusal). AddsTo c.in_ok-id.id.at c.args.row.now c.args.parts.now (Err r)
+    c.put_row.new.parts) c.in-Err-NoMem.field-0-is c.in-Err-NoMem.ensures.adds in
     mid_once c.args.parts.now (record c.put_row.new.parts { logs = c.empty_logs.new.logs }) c.requires.whole
     c.in_ok-id.id.at c.in_ok-id.ensures.ok.relation.below
     lacks.1.carries c.put_row.ensures.rest.readers c.put_row.ensures.rest.order
@@ -88,7 +96,8 @@ age_readers-requires-clause-once g c =
 
 pub age_readers-requires-clause-there : goal.age_readers-requires-clause-there
 age_readers-requires-clause-there g c =
-    let lacks = subst (λ (r : InternRefusal). AddsTo c.in_ok-id.id.at c.args.row.now c.args.parts.now (Err r) c.put_row.new.parts) c.in-Err-NoMem.field-0-is c.in-Err-NoMem.ensures.adds in
+    let lacks = subst (λ (r : InternRefusal). AddsTo c.in_ok-id.id.at c.args.row.now c.args.parts.now (Err r)
+    c.put_row.new.parts) c.in-Err-NoMem.field-0-is c.in-Err-NoMem.ensures.adds in
     mid_there c.args.parts.now (record c.put_row.new.parts { logs = c.empty_logs.new.logs }) c.requires.whole
     c.in_ok-id.id.at c.in_ok-id.ensures.ok.relation.below
     lacks.1.carries c.put_row.ensures.rest.readers c.put_row.ensures.rest.order
@@ -96,96 +105,145 @@ age_readers-requires-clause-there g c =
 
 pub returns-in-Err-NoMem-clause-whole : goal.returns-in-Err-NoMem-clause-whole
 returns-in-Err-NoMem-clause-whole g c =
-    let lacks = subst (λ (r : InternRefusal). AddsTo c.in_ok-id.id.at c.args.row.now c.args.parts.now (Err r) c.put_row.new.parts) c.in-Err-NoMem.field-0-is c.in-Err-NoMem.ensures.adds in
+    let lacks = subst (λ (r : InternRefusal). AddsTo c.in_ok-id.id.at c.args.row.now c.args.parts.now (Err r)
+    c.put_row.new.parts) c.in-Err-NoMem.field-0-is c.in-Err-NoMem.ensures.adds in
     (aged c.args.parts.now (record c.put_row.new.parts { logs = c.empty_logs.new.logs }) c.requires.whole
     c.in_ok-id.id.at c.in_ok-id.ensures.ok.relation.below
     lacks.1.carries c.put_row.ensures.rest.readers c.put_row.ensures.rest.order
-    (names_kept c.args.parts.now.catalog c.put_row.new.parts.catalog lacks.1.relations) c.age_readers.new.parts c.args.name.now c.in_ok-id.ensures.ok.relation.named c.age_readers.ensures).whole
+    (names_kept c.args.parts.now.catalog c.put_row.new.parts.catalog lacks.1.relations) c.age_readers.new.parts
+    c.args.name.now c.in_ok-id.ensures.ok.relation.named c.age_readers.ensures).whole
 
 pub returns-in-Err-NoMem-clause-outdates : goal.returns-in-Err-NoMem-clause-outdates
 returns-in-Err-NoMem-clause-outdates g c =
-    let lacks = subst (λ (r : InternRefusal). AddsTo c.in_ok-id.id.at c.args.row.now c.args.parts.now (Err r) c.put_row.new.parts) c.in-Err-NoMem.field-0-is c.in-Err-NoMem.ensures.adds in
+    let lacks = subst (λ (r : InternRefusal). AddsTo c.in_ok-id.id.at c.args.row.now c.args.parts.now (Err r)
+    c.put_row.new.parts) c.in-Err-NoMem.field-0-is c.in-Err-NoMem.ensures.adds in
     (aged c.args.parts.now (record c.put_row.new.parts { logs = c.empty_logs.new.logs }) c.requires.whole
     c.in_ok-id.id.at c.in_ok-id.ensures.ok.relation.below
     lacks.1.carries c.put_row.ensures.rest.readers c.put_row.ensures.rest.order
-    (names_kept c.args.parts.now.catalog c.put_row.new.parts.catalog lacks.1.relations) c.age_readers.new.parts c.args.name.now c.in_ok-id.ensures.ok.relation.named c.age_readers.ensures).cursors
+    (names_kept c.args.parts.now.catalog c.put_row.new.parts.catalog lacks.1.relations) c.age_readers.new.parts
+    c.args.name.now c.in_ok-id.ensures.ok.relation.named c.age_readers.ensures).cursors
 
 pub age_readers-requires-2-clause-once : goal.age_readers-requires-2-clause-once
 age_readers-requires-2-clause-once g c =
-    let came = subst (λ (o : AddOutcome). AddsTo c.in_ok-id.id.at c.args.row.now c.args.parts.now (Ok o) c.put_row.new.parts) c.in-Ok-First.field-0-is c.in-Ok-First.ensures.adds in
-    mid_once c.args.parts.now (record c.put_row.new.parts { seq = c.put_row.new.parts.seq + 1; affected = c.affect.new.affected }) c.requires.whole c.in_ok-id.id.at c.in_ok-id.ensures.ok.relation.below
+    let came = subst (λ (o : AddOutcome). AddsTo c.in_ok-id.id.at c.args.row.now c.args.parts.now (Ok o)
+    c.put_row.new.parts) c.in-Ok-First.field-0-is c.in-Ok-First.ensures.adds in
+    mid_once c.args.parts.now
+    (record c.put_row.new.parts { seq = c.put_row.new.parts.seq + 1; affected = c.affect.new.affected })
+    c.requires.whole c.in_ok-id.id.at c.in_ok-id.ensures.ok.relation.below
     came.1.has.carries c.put_row.ensures.rest.readers c.put_row.ensures.rest.order
-    (same_names c.args.parts.now.catalog c.put_row.new.parts.catalog c.in_ok-id.id.at (with_row (counted_at c.args.parts.now.catalog.relations c.in_ok-id.id.at) c.args.row.now) c.in_ok-id.ensures.ok.relation.below came.1.has.relations)
+    (same_names c.args.parts.now.catalog c.put_row.new.parts.catalog c.in_ok-id.id.at
+    (with_row (counted_at c.args.parts.now.catalog.relations c.in_ok-id.id.at) c.args.row.now)
+    c.in_ok-id.ensures.ok.relation.below came.1.has.relations)
 
 pub age_readers-requires-2-clause-there : goal.age_readers-requires-2-clause-there
 age_readers-requires-2-clause-there g c =
-    let came = subst (λ (o : AddOutcome). AddsTo c.in_ok-id.id.at c.args.row.now c.args.parts.now (Ok o) c.put_row.new.parts) c.in-Ok-First.field-0-is c.in-Ok-First.ensures.adds in
-    mid_there c.args.parts.now (record c.put_row.new.parts { seq = c.put_row.new.parts.seq + 1; affected = c.affect.new.affected }) c.requires.whole c.in_ok-id.id.at c.in_ok-id.ensures.ok.relation.below
+    let came = subst (λ (o : AddOutcome). AddsTo c.in_ok-id.id.at c.args.row.now c.args.parts.now (Ok o)
+    c.put_row.new.parts) c.in-Ok-First.field-0-is c.in-Ok-First.ensures.adds in
+    mid_there c.args.parts.now
+    (record c.put_row.new.parts { seq = c.put_row.new.parts.seq + 1; affected = c.affect.new.affected })
+    c.requires.whole c.in_ok-id.id.at c.in_ok-id.ensures.ok.relation.below
     came.1.has.carries c.put_row.ensures.rest.readers c.put_row.ensures.rest.order
-    (same_names c.args.parts.now.catalog c.put_row.new.parts.catalog c.in_ok-id.id.at (with_row (counted_at c.args.parts.now.catalog.relations c.in_ok-id.id.at) c.args.row.now) c.in_ok-id.ensures.ok.relation.below came.1.has.relations)
+    (same_names c.args.parts.now.catalog c.put_row.new.parts.catalog c.in_ok-id.id.at
+    (with_row (counted_at c.args.parts.now.catalog.relations c.in_ok-id.id.at) c.args.row.now)
+    c.in_ok-id.ensures.ok.relation.below came.1.has.relations)
 
 pub returns-clause-whole : goal.returns-clause-whole
 returns-clause-whole g c =
-    let came = subst (λ (o : AddOutcome). AddsTo c.in_ok-id.id.at c.args.row.now c.args.parts.now (Ok o) c.put_row.new.parts) c.in-Ok-First.field-0-is c.in-Ok-First.ensures.adds in
-    (aged c.args.parts.now (record c.put_row.new.parts { seq = c.put_row.new.parts.seq + 1; affected = c.affect.new.affected }) c.requires.whole c.in_ok-id.id.at c.in_ok-id.ensures.ok.relation.below
+    let came = subst (λ (o : AddOutcome). AddsTo c.in_ok-id.id.at c.args.row.now c.args.parts.now (Ok o)
+    c.put_row.new.parts) c.in-Ok-First.field-0-is c.in-Ok-First.ensures.adds in
+    (aged c.args.parts.now
+    (record c.put_row.new.parts { seq = c.put_row.new.parts.seq + 1; affected = c.affect.new.affected })
+    c.requires.whole c.in_ok-id.id.at c.in_ok-id.ensures.ok.relation.below
     came.1.has.carries c.put_row.ensures.rest.readers c.put_row.ensures.rest.order
-    (same_names c.args.parts.now.catalog c.put_row.new.parts.catalog c.in_ok-id.id.at (with_row (counted_at c.args.parts.now.catalog.relations c.in_ok-id.id.at) c.args.row.now) c.in_ok-id.ensures.ok.relation.below came.1.has.relations) c.age_readers-2.new.parts c.args.name.now c.in_ok-id.ensures.ok.relation.named c.age_readers-2.ensures).whole
+    (same_names c.args.parts.now.catalog c.put_row.new.parts.catalog c.in_ok-id.id.at
+    (with_row (counted_at c.args.parts.now.catalog.relations c.in_ok-id.id.at) c.args.row.now)
+    c.in_ok-id.ensures.ok.relation.below came.1.has.relations) c.age_readers-2.new.parts c.args.name.now
+    c.in_ok-id.ensures.ok.relation.named c.age_readers-2.ensures).whole
 
 pub returns-clause-outdates : goal.returns-clause-outdates
 returns-clause-outdates g c =
-    let came = subst (λ (o : AddOutcome). AddsTo c.in_ok-id.id.at c.args.row.now c.args.parts.now (Ok o) c.put_row.new.parts) c.in-Ok-First.field-0-is c.in-Ok-First.ensures.adds in
-    (aged c.args.parts.now (record c.put_row.new.parts { seq = c.put_row.new.parts.seq + 1; affected = c.affect.new.affected }) c.requires.whole c.in_ok-id.id.at c.in_ok-id.ensures.ok.relation.below
+    let came = subst (λ (o : AddOutcome). AddsTo c.in_ok-id.id.at c.args.row.now c.args.parts.now (Ok o)
+    c.put_row.new.parts) c.in-Ok-First.field-0-is c.in-Ok-First.ensures.adds in
+    (aged c.args.parts.now
+    (record c.put_row.new.parts { seq = c.put_row.new.parts.seq + 1; affected = c.affect.new.affected })
+    c.requires.whole c.in_ok-id.id.at c.in_ok-id.ensures.ok.relation.below
     came.1.has.carries c.put_row.ensures.rest.readers c.put_row.ensures.rest.order
-    (same_names c.args.parts.now.catalog c.put_row.new.parts.catalog c.in_ok-id.id.at (with_row (counted_at c.args.parts.now.catalog.relations c.in_ok-id.id.at) c.args.row.now) c.in_ok-id.ensures.ok.relation.below came.1.has.relations) c.age_readers-2.new.parts c.args.name.now c.in_ok-id.ensures.ok.relation.named c.age_readers-2.ensures).cursors
+    (same_names c.args.parts.now.catalog c.put_row.new.parts.catalog c.in_ok-id.id.at
+    (with_row (counted_at c.args.parts.now.catalog.relations c.in_ok-id.id.at) c.args.row.now)
+    c.in_ok-id.ensures.ok.relation.below came.1.has.relations) c.age_readers-2.new.parts c.args.name.now
+    c.in_ok-id.ensures.ok.relation.named c.age_readers-2.ensures).cursors
 
 pub returns-clause-adds : goal.returns-clause-adds
 returns-clause-adds g c =
-    let came = subst (λ (o : AddOutcome). AddsTo c.in_ok-id.id.at c.args.row.now c.args.parts.now (Ok o) c.put_row.new.parts) c.in-Ok-First.field-0-is c.in-Ok-First.ensures.adds in
-    add_done c.args.parts.now c.args.name.now c.args.row.now c.in_ok-id.id.at c.in_ok-id.ensures.ok c.names_tell.ensures c.laws.ensures.names c.put_row.new.parts c.age_readers-2.new.parts
+    let came = subst (λ (o : AddOutcome). AddsTo c.in_ok-id.id.at c.args.row.now c.args.parts.now (Ok o)
+    c.put_row.new.parts) c.in-Ok-First.field-0-is c.in-Ok-First.ensures.adds in
+    add_done c.args.parts.now c.args.name.now c.args.row.now c.in_ok-id.id.at c.in_ok-id.ensures.ok c.names_tell.ensures
+    c.laws.ensures.names c.put_row.new.parts c.age_readers-2.new.parts
     came.0
-    came.1 c.age_readers-2.ensures.catalog (c.age_readers-2.ensures.rest.seq ∙ ap (λ n. n + 1) c.put_row.ensures.rest.seq)
-    (aged c.args.parts.now (record c.put_row.new.parts { seq = c.put_row.new.parts.seq + 1; affected = c.affect.new.affected }) c.requires.whole c.in_ok-id.id.at c.in_ok-id.ensures.ok.relation.below
+    came.1 c.age_readers-2.ensures.catalog
+    (c.age_readers-2.ensures.rest.seq ∙ ap (λ n. n + 1) c.put_row.ensures.rest.seq)
+    (aged c.args.parts.now
+    (record c.put_row.new.parts { seq = c.put_row.new.parts.seq + 1; affected = c.affect.new.affected })
+    c.requires.whole c.in_ok-id.id.at c.in_ok-id.ensures.ok.relation.below
     came.1.has.carries c.put_row.ensures.rest.readers c.put_row.ensures.rest.order
-    (same_names c.args.parts.now.catalog c.put_row.new.parts.catalog c.in_ok-id.id.at (with_row (counted_at c.args.parts.now.catalog.relations c.in_ok-id.id.at) c.args.row.now) c.in_ok-id.ensures.ok.relation.below came.1.has.relations) c.age_readers-2.new.parts c.args.name.now c.in_ok-id.ensures.ok.relation.named c.age_readers-2.ensures).queries
+    (same_names c.args.parts.now.catalog c.put_row.new.parts.catalog c.in_ok-id.id.at
+    (with_row (counted_at c.args.parts.now.catalog.relations c.in_ok-id.id.at) c.args.row.now)
+    c.in_ok-id.ensures.ok.relation.below came.1.has.relations) c.age_readers-2.new.parts c.args.name.now
+    c.in_ok-id.ensures.ok.relation.named c.age_readers-2.ensures).queries
 
 pub returns-in-Err-NoMem-clause-adds : goal.returns-in-Err-NoMem-clause-adds
 returns-in-Err-NoMem-clause-adds g c =
-    let lacks = subst (λ (r : InternRefusal). AddsTo c.in_ok-id.id.at c.args.row.now c.args.parts.now (Err r) c.put_row.new.parts) c.in-Err-NoMem.field-0-is c.in-Err-NoMem.ensures.adds in
-    add_lacking c.args.parts.now c.args.name.now c.args.row.now c.in_ok-id.id.at c.in_ok-id.ensures.ok c.put_row.new.parts c.age_readers.new.parts
+    let lacks = subst (λ (r : InternRefusal). AddsTo c.in_ok-id.id.at c.args.row.now c.args.parts.now (Err r)
+    c.put_row.new.parts) c.in-Err-NoMem.field-0-is c.in-Err-NoMem.ensures.adds in
+    add_lacking c.args.parts.now c.args.name.now c.args.row.now c.in_ok-id.id.at c.in_ok-id.ensures.ok
+    c.put_row.new.parts c.age_readers.new.parts
     lacks.0
     lacks.1 c.age_readers.ensures.catalog (c.age_readers.ensures.rest.seq ∙ c.put_row.ensures.rest.seq)
     (aged c.args.parts.now (record c.put_row.new.parts { logs = c.empty_logs.new.logs }) c.requires.whole
     c.in_ok-id.id.at c.in_ok-id.ensures.ok.relation.below
     lacks.1.carries c.put_row.ensures.rest.readers c.put_row.ensures.rest.order
-    (names_kept c.args.parts.now.catalog c.put_row.new.parts.catalog lacks.1.relations) c.age_readers.new.parts c.args.name.now c.in_ok-id.ensures.ok.relation.named c.age_readers.ensures).queries
+    (names_kept c.args.parts.now.catalog c.put_row.new.parts.catalog lacks.1.relations) c.age_readers.new.parts
+    c.args.name.now c.in_ok-id.ensures.ok.relation.named c.age_readers.ensures).queries
 
 pub returns-in_err-id-clause-tells : goal.returns-in_err-id-clause-tells
 returns-in_err-id-clause-tells g c =
     let old = c.args.parts.now in
-    let h : IfErr c.from_residual.result (λ (r : Refusal). add_refusal (bare old.catalog.relations old.seq) c.args.name.now c.args.row.now ≡ Some r) = search rules in
-    add_refused_tells old c.args.name.now c.args.row.now c.from_residual.result c.from_residual.ensures.0 h c.args.steps.now.listing
+    let h : IfErr c.from_residual.result
+    (λ (r : Refusal). add_refusal (bare old.catalog.relations old.seq) c.args.name.now c.args.row.now ≡ Some r) =
+    search rules in
+    add_refused_tells old c.args.name.now c.args.row.now c.from_residual.result c.from_residual.ensures.0 h
+    c.args.steps.now.listing
 
 pub returns-in-Err-Full-clause-tended : goal.returns-in-Err-Full-clause-tended
 returns-in-Err-Full-clause-tended g c =
-    tended_still c.args.parts.now c.put_row.new.parts c.requires.tended c.put_row.ensures.rest (subst (λ (r : InternRefusal). AddsTo c.in_ok-id.id.at c.args.row.now c.args.parts.now (Err r) c.put_row.new.parts) c.in-Err-Full.field-0-is c.in-Err-Full.ensures.adds).rests.queries c.put_row.ensures.shown
+    tended_still c.args.parts.now c.put_row.new.parts c.requires.tended c.put_row.ensures.rest
+    (subst (λ (r : InternRefusal). AddsTo c.in_ok-id.id.at c.args.row.now c.args.parts.now (Err r)
+    c.put_row.new.parts) c.in-Err-Full.field-0-is c.in-Err-Full.ensures.adds).rests.queries c.put_row.ensures.shown
 
 pub returns-in-Err-Full-clause-watches : goal.returns-in-Err-Full-clause-watches
 returns-in-Err-Full-clause-watches g c =
-    registered_still c.args.parts.now c.put_row.new.parts c.put_row.ensures.rest (subst (λ (r : InternRefusal). AddsTo c.in_ok-id.id.at c.args.row.now c.args.parts.now (Err r) c.put_row.new.parts) c.in-Err-Full.field-0-is c.in-Err-Full.ensures.adds).rests.queries
+    registered_still c.args.parts.now c.put_row.new.parts c.put_row.ensures.rest
+    (subst (λ (r : InternRefusal). AddsTo c.in_ok-id.id.at c.args.row.now c.args.parts.now (Err r)
+    c.put_row.new.parts) c.in-Err-Full.field-0-is c.in-Err-Full.ensures.adds).rests.queries
 
 pub returns-in-Err-Full-clause-tells : goal.returns-in-Err-Full-clause-tells
 returns-in-Err-Full-clause-tells g c =
     let old = c.args.parts.now in
     tells_nothing (kept_in old) (kept_in c.put_row.new.parts) c.args.steps.now.listing c.put_row.new.steps.listing
-    (subst (λ (r : InternRefusal). IfStill (Err r) (c.put_row.new.steps.listing ≤ c.args.steps.now.listing)) c.in-Err-Full.field-0-is c.in-Err-Full.ensures.idle)
+    (subst (λ (r : InternRefusal). IfStill (Err r) (c.put_row.new.steps.listing ≤ c.args.steps.now.listing))
+    c.in-Err-Full.field-0-is c.in-Err-Full.ensures.idle)
     (affected_same old c.put_row.new.parts c.put_row.ensures.rest.affected)
-    (λ id h. told_full c.showable_stays.ensures c.texts_stay.ensures old c.put_row.new.parts c.in_ok-id.id.at c.args.row.now
-    (subst (λ (r : InternRefusal). AddsTo c.in_ok-id.id.at c.args.row.now c.args.parts.now (Err r) c.put_row.new.parts) c.in-Err-Full.field-0-is c.in-Err-Full.ensures.adds) c.requires.tended id.at)
+    (λ id h. told_full c.showable_stays.ensures c.texts_stay.ensures old c.put_row.new.parts c.in_ok-id.id.at
+    c.args.row.now
+    (subst (λ (r : InternRefusal). AddsTo c.in_ok-id.id.at c.args.row.now c.args.parts.now (Err r) c.put_row.new.parts)
+    c.in-Err-Full.field-0-is c.in-Err-Full.ensures.adds) c.requires.tended id.at)
 
 pub returns-in-Err-NoMem-clause-tended : goal.returns-in-Err-NoMem-clause-tended
 returns-in-Err-NoMem-clause-tended g c =
     tended_now c.args.parts.now (record c.put_row.new.parts { logs = c.empty_logs.new.logs }) c.age_readers.new.parts
-    c.in_ok-id.id.at c.args.name.now (subst (λ (r : InternRefusal). AddsTo c.in_ok-id.id.at c.args.row.now c.args.parts.now (Err r) c.put_row.new.parts) c.in-Err-NoMem.field-0-is c.in-Err-NoMem.ensures.adds).1.carries
+    c.in_ok-id.id.at c.args.name.now
+    (subst (λ (r : InternRefusal). AddsTo c.in_ok-id.id.at c.args.row.now c.args.parts.now (Err r)
+    c.put_row.new.parts) c.in-Err-NoMem.field-0-is c.in-Err-NoMem.ensures.adds).1.carries
     c.put_row.ensures.rest.watchers c.put_row.ensures.rest.order (c.empty_logs.ensures.long
     ∙ c.put_row.ensures.rest.long) c.age_readers.ensures c.requires.tended
     (room_kept c.args.parts.now c.put_row.new.parts c.requires.tended c.put_row.ensures.rest)
@@ -196,7 +254,8 @@ pub returns-in-Err-NoMem-clause-watches : goal.returns-in-Err-NoMem-clause-watch
 returns-in-Err-NoMem-clause-watches g c =
     registered_now c.args.parts.now (record c.put_row.new.parts { logs = c.empty_logs.new.logs })
     c.age_readers.new.parts c.in_ok-id.id.at c.args.name.now
-    (subst (λ (r : InternRefusal). AddsTo c.in_ok-id.id.at c.args.row.now c.args.parts.now (Err r) c.put_row.new.parts) c.in-Err-NoMem.field-0-is c.in-Err-NoMem.ensures.adds).1.carries
+    (subst (λ (r : InternRefusal). AddsTo c.in_ok-id.id.at c.args.row.now c.args.parts.now (Err r) c.put_row.new.parts)
+    c.in-Err-NoMem.field-0-is c.in-Err-NoMem.ensures.adds).1.carries
     c.put_row.ensures.rest.watchers c.put_row.ensures.rest.order (c.empty_logs.ensures.long
     ∙ c.put_row.ensures.rest.long) c.age_readers.ensures
 
@@ -205,7 +264,8 @@ returns-in-Err-NoMem-clause-tells g c =
     let old = c.args.parts.now in
     let mid = c.put_row.new.parts in
     let new = c.age_readers.new.parts in
-    let lacks = (subst (λ (r : InternRefusal). AddsTo c.in_ok-id.id.at c.args.row.now c.args.parts.now (Err r) c.put_row.new.parts) c.in-Err-NoMem.field-0-is c.in-Err-NoMem.ensures.adds).1 in
+    let lacks = (subst (λ (r : InternRefusal). AddsTo c.in_ok-id.id.at c.args.row.now c.args.parts.now (Err r)
+    c.put_row.new.parts) c.in-Err-NoMem.field-0-is c.in-Err-NoMem.ensures.adds).1 in
     let m = c.in_ok-id.ensures.ok in
     let alike = alike_now old (record mid { logs = c.empty_logs.new.logs }) new c.in_ok-id.id.at c.args.name.now
     lacks.carries
@@ -218,10 +278,17 @@ returns-in-Err-NoMem-clause-tells g c =
     c.empty_logs.ensures in
     adds_refused old c.requires.whole c.args.name.now c.args.row.now c.in_ok-id.id.at m.relation c.deltas_exist.ensures
     c.heads_are_bound.ensures c.names_tell.ensures c.laws.ensures.names
-    c.args.steps.now.listing c.put_row.new.steps.listing (subst (λ (r : InternRefusal). IfLacking (Err r) (CountsRows c.in_ok-id.id.at (with_row (counted_at c.args.parts.now.catalog.relations c.in_ok-id.id.at) c.args.row.now) c.args.parts.now c.args.steps.now.listing c.put_row.new.steps.listing)) c.in-Err-NoMem.field-0-is c.in-Err-NoMem.ensures.listed) new
+    c.args.steps.now.listing c.put_row.new.steps.listing
+    (subst (λ (r : InternRefusal). IfLacking (Err r)
+    (CountsRows c.in_ok-id.id.at
+    (with_row (counted_at c.args.parts.now.catalog.relations c.in_ok-id.id.at) c.args.row.now) c.args.parts.now
+    c.args.steps.now.listing c.put_row.new.steps.listing)) c.in-Err-NoMem.field-0-is c.in-Err-NoMem.ensures.listed)
+    new
     (affected_same old new (c.age_readers.ensures.rest.affected ∙ c.put_row.ensures.rest.affected))
     (discards_by old mid new c.requires.whole c.in_ok-id.id.at m.relation.below c.put_row.ensures.rest.readers
-    (subst (λ (r : InternRefusal). IfLacking (Err r) (KeepsLogs (reads_at c.args.parts.now c.in_ok-id.id.at) c.args.parts.now c.put_row.new.parts)) c.in-Err-NoMem.field-0-is c.in-Err-NoMem.ensures.apart)
+    (subst (λ (r : InternRefusal). IfLacking (Err r)
+    (KeepsLogs (reads_at c.args.parts.now c.in_ok-id.id.at) c.args.parts.now c.put_row.new.parts))
+    c.in-Err-NoMem.field-0-is c.in-Err-NoMem.ensures.apart)
     (subst (λ (ls : List Log). Empties (readers_at mid.readers.items c.in_ok-id.id.at) mid.logs.items ls)
     (sym c.age_readers.ensures.logs) empties) alike)
     (told_lacking c.showable_stays.ensures c.texts_stay.ensures old mid new c.in_ok-id.id.at c.args.row.now lacks
@@ -229,29 +296,49 @@ returns-in-Err-NoMem-clause-tells g c =
 
 pub returns-clause-tended : goal.returns-clause-tended
 returns-clause-tended g c =
-    tended_now c.args.parts.now (record c.put_row.new.parts { seq = c.put_row.new.parts.seq + 1; affected = c.affect.new.affected }) c.age_readers-2.new.parts c.in_ok-id.id.at c.args.name.now (subst (λ (o : AddOutcome). AddsTo c.in_ok-id.id.at c.args.row.now c.args.parts.now (Ok o) c.put_row.new.parts) c.in-Ok-First.field-0-is c.in-Ok-First.ensures.adds).1.has.carries
-    c.put_row.ensures.rest.watchers c.put_row.ensures.rest.order c.put_row.ensures.rest.long c.age_readers-2.ensures c.requires.tended
-    (omega (arith, room_kept c.args.parts.now c.put_row.new.parts c.requires.tended c.put_row.ensures.rest, c.affect.ensures.room)) c.put_row.ensures.shown
+    tended_now c.args.parts.now
+    (record c.put_row.new.parts { seq = c.put_row.new.parts.seq + 1; affected = c.affect.new.affected })
+    c.age_readers-2.new.parts c.in_ok-id.id.at c.args.name.now
+    (subst (λ (o : AddOutcome). AddsTo c.in_ok-id.id.at c.args.row.now c.args.parts.now (Ok o) c.put_row.new.parts)
+    c.in-Ok-First.field-0-is c.in-Ok-First.ensures.adds).1.has.carries
+    c.put_row.ensures.rest.watchers c.put_row.ensures.rest.order c.put_row.ensures.rest.long c.age_readers-2.ensures
+    c.requires.tended
+    (omega (
+      arith,
+      room_kept c.args.parts.now c.put_row.new.parts c.requires.tended c.put_row.ensures.rest,
+      c.affect.ensures.room,
+    )) c.put_row.ensures.shown
 
 pub returns-clause-watches : goal.returns-clause-watches
 returns-clause-watches g c =
-    registered_now c.args.parts.now (record c.put_row.new.parts { seq = c.put_row.new.parts.seq + 1; affected = c.affect.new.affected }) c.age_readers-2.new.parts c.in_ok-id.id.at c.args.name.now (subst (λ (o : AddOutcome). AddsTo c.in_ok-id.id.at c.args.row.now c.args.parts.now (Ok o) c.put_row.new.parts) c.in-Ok-First.field-0-is c.in-Ok-First.ensures.adds).1.has.carries
+    registered_now c.args.parts.now
+    (record c.put_row.new.parts { seq = c.put_row.new.parts.seq + 1; affected = c.affect.new.affected })
+    c.age_readers-2.new.parts c.in_ok-id.id.at c.args.name.now
+    (subst (λ (o : AddOutcome). AddsTo c.in_ok-id.id.at c.args.row.now c.args.parts.now (Ok o) c.put_row.new.parts)
+    c.in-Ok-First.field-0-is c.in-Ok-First.ensures.adds).1.has.carries
     c.put_row.ensures.rest.watchers c.put_row.ensures.rest.order c.put_row.ensures.rest.long c.age_readers-2.ensures
 
 pub returns-clause-tells : goal.returns-clause-tells
 returns-clause-tells g c =
-    let came = subst (λ (o : AddOutcome). AddsTo c.in_ok-id.id.at c.args.row.now c.args.parts.now (Ok o) c.put_row.new.parts) c.in-Ok-First.field-0-is c.in-Ok-First.ensures.adds in
-    adds_done c.args.parts.now c.requires.whole c.args.name.now c.args.row.now c.in_ok-id.id.at c.in_ok-id.ensures.ok.relation c.deltas_exist.ensures c.heads_are_bound.ensures c.names_tell.ensures c.laws.ensures.names
+    let came = subst (λ (o : AddOutcome). AddsTo c.in_ok-id.id.at c.args.row.now c.args.parts.now (Ok o)
+    c.put_row.new.parts) c.in-Ok-First.field-0-is c.in-Ok-First.ensures.adds in
+    adds_done c.args.parts.now c.requires.whole c.args.name.now c.args.row.now c.in_ok-id.id.at
+    c.in_ok-id.ensures.ok.relation c.deltas_exist.ensures c.heads_are_bound.ensures c.names_tell.ensures
+    c.laws.ensures.names
     c.args.steps.now.listing c.put_row.new.steps.listing
-    (record c.put_row.new.parts { seq = c.put_row.new.parts.seq + 1; affected = c.affect.new.affected }) c.age_readers-2.new.parts c.age_readers-2.ensures.logs c.age_readers-2.ensures.catalog
+    (record c.put_row.new.parts { seq = c.put_row.new.parts.seq + 1; affected = c.affect.new.affected })
+    c.age_readers-2.new.parts c.age_readers-2.ensures.logs c.age_readers-2.ensures.catalog
     (alike_now c.args.parts.now (record c.put_row.new.parts {
       seq = c.put_row.new.parts.seq + 1;
       affected = c.affect.new.affected;
     }) c.age_readers-2.new.parts c.in_ok-id.id.at c.args.name.now
     came.1.has.carries
     c.put_row.ensures.rest.watchers c.put_row.ensures.rest.order c.put_row.ensures.rest.long c.age_readers-2.ensures)
-    (c.age_readers-2.ensures.rest.affected ∙ c.affect.ensures.items ∙ ap (λ (rs : List (List ℕ)). readers_at rs c.in_ok-id.id.at) c.put_row.ensures.rest.readers)
-    (subst (λ (o : AddOutcome). IfCame (Ok o) (KeepsLogs (tells_at c.args.parts.now c.in_ok-id.id.at) c.args.parts.now c.put_row.new.parts)) c.in-Ok-First.field-0-is c.in-Ok-First.ensures.quiet)
+    (c.age_readers-2.ensures.rest.affected ∙ c.affect.ensures.items
+    ∙ ap (λ (rs : List (List ℕ)). readers_at rs c.in_ok-id.id.at) c.put_row.ensures.rest.readers)
+    (subst (λ (o : AddOutcome). IfCame (Ok o)
+    (KeepsLogs (tells_at c.args.parts.now c.in_ok-id.id.at) c.args.parts.now c.put_row.new.parts))
+    c.in-Ok-First.field-0-is c.in-Ok-First.ensures.quiet)
     (told_put c.showable_stays.ensures c.texts_stay.ensures c.args.parts.now c.put_row.new.parts
     c.age_readers-2.new.parts c.in_ok-id.id.at c.args.row.now came.1 c.age_readers-2.ensures.catalog
     c.requires.tended
@@ -261,7 +348,14 @@ returns-clause-tells g c =
     }) c.age_readers-2.new.parts c.in_ok-id.id.at c.args.name.now
     came.1.has.carries
     c.put_row.ensures.rest.watchers c.put_row.ensures.rest.order c.put_row.ensures.rest.long c.age_readers-2.ensures))
-    (subst (λ (o : AddOutcome). IfCame (Ok o) (CountsRows c.in_ok-id.id.at (with_row (counted_at c.args.parts.now.catalog.relations c.in_ok-id.id.at) c.args.row.now) c.args.parts.now c.args.steps.now.listing c.put_row.new.steps.listing)) c.in-Ok-First.field-0-is c.in-Ok-First.ensures.counted) (subst (λ (o : AddOutcome). IfCame (Ok o) (TellsRows c.in_ok-id.id.at (with_row (counted_at c.args.parts.now.catalog.relations c.in_ok-id.id.at) c.args.row.now) c.args.parts.now c.put_row.new.parts)) c.in-Ok-First.field-0-is c.in-Ok-First.ensures.tells)
+    (subst (λ (o : AddOutcome). IfCame (Ok o)
+    (CountsRows c.in_ok-id.id.at
+    (with_row (counted_at c.args.parts.now.catalog.relations c.in_ok-id.id.at) c.args.row.now) c.args.parts.now
+    c.args.steps.now.listing c.put_row.new.steps.listing)) c.in-Ok-First.field-0-is c.in-Ok-First.ensures.counted)
+    (subst (λ (o : AddOutcome). IfCame (Ok o)
+    (TellsRows c.in_ok-id.id.at
+    (with_row (counted_at c.args.parts.now.catalog.relations c.in_ok-id.id.at) c.args.row.now) c.args.parts.now
+    c.put_row.new.parts)) c.in-Ok-First.field-0-is c.in-Ok-First.ensures.tells)
 
 pub index-requires : goal.index-requires
 index-requires g c = omega (
@@ -290,7 +384,8 @@ returns-in_err-id-clause-updates g c = record { counted = λ n flat few. omega a
 
 pub returns-in-Err-Full-clause-updates : goal.returns-in-Err-Full-clause-updates
 returns-in-Err-Full-clause-updates g c =
-    let still = subst (λ (r : InternRefusal). IfStill (Err r) (c.put_row.new.steps.update ≤ c.args.steps.now.update)) c.in-Err-Full.field-0-is c.in-Err-Full.ensures.unmoved in
+    let still = subst (λ (r : InternRefusal). IfStill (Err r) (c.put_row.new.steps.update ≤ c.args.steps.now.update))
+    c.in-Err-Full.field-0-is c.in-Err-Full.ensures.unmoved in
     record { counted = λ n flat few. omega (arith, still) }
 
 pub returns-in-Err-NoMem-clause-updates : goal.returns-in-Err-NoMem-clause-updates
@@ -298,86 +393,111 @@ returns-in-Err-NoMem-clause-updates g c =
     let m = c.in_ok-id.ensures.ok in
     counts_updates c.args.parts.now c.requires.whole c.in_ok-id.id.at m.relation.below c.args.name.now m.relation.named
     _ c.leaves_are_small.ensures
-    3 c.args.steps.now.update c.put_row.new.steps.update (subst (λ (r : InternRefusal). IfLacking (Err r) (WorksRows c.in_ok-id.id.at 3 c.args.parts.now c.args.steps.now.update c.put_row.new.steps.update)) c.in-Err-NoMem.field-0-is c.in-Err-NoMem.ensures.refusal)
+    3 c.args.steps.now.update c.put_row.new.steps.update
+    (subst (λ (r : InternRefusal). IfLacking (Err r)
+    (WorksRows c.in_ok-id.id.at 3 c.args.parts.now c.args.steps.now.update c.put_row.new.steps.update))
+    c.in-Err-NoMem.field-0-is c.in-Err-NoMem.ensures.refusal)
 
 pub returns-clause-updates : goal.returns-clause-updates
 returns-clause-updates g c =
     let m = c.in_ok-id.ensures.ok in
     counts_updates c.args.parts.now c.requires.whole c.in_ok-id.id.at m.relation.below c.args.name.now m.relation.named
     _ c.leaves_are_small.ensures
-    1 c.args.steps.now.update c.put_row.new.steps.update (subst (λ (o : AddOutcome). IfCame (Ok o) (WorksRows c.in_ok-id.id.at 1 c.args.parts.now c.args.steps.now.update c.put_row.new.steps.update)) c.in-Ok-First.field-0-is c.in-Ok-First.ensures.updates)
+    1 c.args.steps.now.update c.put_row.new.steps.update
+    (subst (λ (o : AddOutcome). IfCame (Ok o)
+    (WorksRows c.in_ok-id.id.at 1 c.args.parts.now c.args.steps.now.update c.put_row.new.steps.update))
+    c.in-Ok-First.field-0-is c.in-Ok-First.ensures.updates)
 
 pub returns-in-Ok-More-clause-whole : goal.returns-in-Ok-More-clause-whole
 returns-in-Ok-More-clause-whole g c =
-    let more = (subst (λ (o : AddOutcome). AddsTo c.in_ok-id.id.at c.args.row.now c.args.parts.now (Ok o) c.put_row.new.parts) c.in-Ok-More.field-0-is c.in-Ok-More.ensures.adds) in
-    copied_whole c.args.parts.now c.put_row.new.parts c.in_ok-id.id.at c.args.row.now c.in-Ok-More.copies c.requires.whole
+    let more = (subst (λ (o : AddOutcome). AddsTo c.in_ok-id.id.at c.args.row.now c.args.parts.now (Ok o)
+    c.put_row.new.parts) c.in-Ok-More.field-0-is c.in-Ok-More.ensures.adds) in
+    copied_whole c.args.parts.now c.put_row.new.parts c.in_ok-id.id.at c.args.row.now c.in-Ok-More.copies
+    c.requires.whole
     c.in_ok-id.ensures.ok.relation.below more.has c.put_row.ensures.rest
 
 pub returns-in-Ok-More-clause-tended : goal.returns-in-Ok-More-clause-tended
 returns-in-Ok-More-clause-tended g c =
-    let more = (subst (λ (o : AddOutcome). AddsTo c.in_ok-id.id.at c.args.row.now c.args.parts.now (Ok o) c.put_row.new.parts) c.in-Ok-More.field-0-is c.in-Ok-More.ensures.adds) in
+    let more = (subst (λ (o : AddOutcome). AddsTo c.in_ok-id.id.at c.args.row.now c.args.parts.now (Ok o)
+    c.put_row.new.parts) c.in-Ok-More.field-0-is c.in-Ok-More.ensures.adds) in
     tended_still c.args.parts.now c.put_row.new.parts c.requires.tended c.put_row.ensures.rest more.has.queries
     c.put_row.ensures.shown
 
 pub returns-in-Ok-More-clause-adds : goal.returns-in-Ok-More-clause-adds
 returns-in-Ok-More-clause-adds g c =
-    let more = (subst (λ (o : AddOutcome). AddsTo c.in_ok-id.id.at c.args.row.now c.args.parts.now (Ok o) c.put_row.new.parts) c.in-Ok-More.field-0-is c.in-Ok-More.ensures.adds) in
+    let more = (subst (λ (o : AddOutcome). AddsTo c.in_ok-id.id.at c.args.row.now c.args.parts.now (Ok o)
+    c.put_row.new.parts) c.in-Ok-More.field-0-is c.in-Ok-More.ensures.adds) in
     add_further c.args.parts.now c.args.name.now c.args.row.now c.in_ok-id.id.at c.in_ok-id.ensures.ok
     c.names_tell.ensures c.laws.ensures.names c.put_row.new.parts c.in-Ok-More.copies more
     c.put_row.ensures.rest.order c.put_row.ensures.rest.seq
 
 pub returns-in-Ok-More-clause-outdates : goal.returns-in-Ok-More-clause-outdates
 returns-in-Ok-More-clause-outdates g c =
-    let more = (subst (λ (o : AddOutcome). AddsTo c.in_ok-id.id.at c.args.row.now c.args.parts.now (Ok o) c.put_row.new.parts) c.in-Ok-More.field-0-is c.in-Ok-More.ensures.adds) in
+    let more = (subst (λ (o : AddOutcome). AddsTo c.in_ok-id.id.at c.args.row.now c.args.parts.now (Ok o)
+    c.put_row.new.parts) c.in-Ok-More.field-0-is c.in-Ok-More.ensures.adds) in
     copied_cursors c.args.parts.now c.put_row.new.parts c.in_ok-id.id.at c.args.row.now c.in-Ok-More.copies more.has
 
 pub returns-in-Ok-More-clause-watches : goal.returns-in-Ok-More-clause-watches
 returns-in-Ok-More-clause-watches g c =
-    let more = (subst (λ (o : AddOutcome). AddsTo c.in_ok-id.id.at c.args.row.now c.args.parts.now (Ok o) c.put_row.new.parts) c.in-Ok-More.field-0-is c.in-Ok-More.ensures.adds) in
+    let more = (subst (λ (o : AddOutcome). AddsTo c.in_ok-id.id.at c.args.row.now c.args.parts.now (Ok o)
+    c.put_row.new.parts) c.in-Ok-More.field-0-is c.in-Ok-More.ensures.adds) in
     registered_still c.args.parts.now c.put_row.new.parts c.put_row.ensures.rest more.has.queries
 
 pub returns-in-Ok-More-clause-tells : goal.returns-in-Ok-More-clause-tells
 returns-in-Ok-More-clause-tells g c =
-    let more = (subst (λ (o : AddOutcome). AddsTo c.in_ok-id.id.at c.args.row.now c.args.parts.now (Ok o) c.put_row.new.parts) c.in-Ok-More.field-0-is c.in-Ok-More.ensures.adds) in
+    let more = (subst (λ (o : AddOutcome). AddsTo c.in_ok-id.id.at c.args.row.now c.args.parts.now (Ok o)
+    c.put_row.new.parts) c.in-Ok-More.field-0-is c.in-Ok-More.ensures.adds) in
     let new = c.put_row.new.parts in
     tells_nothing (kept_in c.args.parts.now) (kept_in new) c.args.steps.now.listing c.put_row.new.steps.listing
-    (subst (λ (o : AddOutcome). IfStill (Ok o) (c.put_row.new.steps.listing ≤ c.args.steps.now.listing)) c.in-Ok-More.field-0-is c.in-Ok-More.ensures.idle)
+    (subst (λ (o : AddOutcome). IfStill (Ok o) (c.put_row.new.steps.listing ≤ c.args.steps.now.listing))
+    c.in-Ok-More.field-0-is c.in-Ok-More.ensures.idle)
     (affected_same c.args.parts.now new c.put_row.ensures.rest.affected)
     (λ id h. told_same c.args.parts.now new more.has.texts more.has.queries more.has.logs id.at)
 
 pub returns-in-Ok-More-clause-updates : goal.returns-in-Ok-More-clause-updates
 returns-in-Ok-More-clause-updates g c =
-    let still = (subst (λ (o : AddOutcome). IfStill (Ok o) (c.put_row.new.steps.update ≤ c.args.steps.now.update)) c.in-Ok-More.field-0-is c.in-Ok-More.ensures.unmoved) in
+    let still = (subst (λ (o : AddOutcome). IfStill (Ok o) (c.put_row.new.steps.update ≤ c.args.steps.now.update))
+    c.in-Ok-More.field-0-is c.in-Ok-More.ensures.unmoved) in
     record { counted = λ n flat few. omega (arith, still) }
 
 pub returns-in-Err-Full-clause-unlisted : goal.returns-in-Err-Full-clause-unlisted
 returns-in-Err-Full-clause-unlisted g c none =
-    c.put_row.ensures.unlisted (unwatched_readers c.args.parts.now.catalog c.args.parts.now.queries.items c.args.parts.now.order c.args.parts.now.readers.items c.args.parts.now.watchers.items c.requires.whole
+    c.put_row.ensures.unlisted
+    (unwatched_readers c.args.parts.now.catalog c.args.parts.now.queries.items c.args.parts.now.order
+    c.args.parts.now.readers.items c.args.parts.now.watchers.items c.requires.whole
     c.in_ok-id.id.at c.in_ok-id.ensures.ok.relation.below none)
 
 pub returns-in-Err-NoMem-clause-unlisted : goal.returns-in-Err-NoMem-clause-unlisted
 returns-in-Err-NoMem-clause-unlisted g c none =
-    c.put_row.ensures.unlisted (unwatched_readers c.args.parts.now.catalog c.args.parts.now.queries.items c.args.parts.now.order c.args.parts.now.readers.items c.args.parts.now.watchers.items c.requires.whole
+    c.put_row.ensures.unlisted
+    (unwatched_readers c.args.parts.now.catalog c.args.parts.now.queries.items c.args.parts.now.order
+    c.args.parts.now.readers.items c.args.parts.now.watchers.items c.requires.whole
     c.in_ok-id.id.at c.in_ok-id.ensures.ok.relation.below none)
 
 pub returns-in-Ok-More-clause-unlisted : goal.returns-in-Ok-More-clause-unlisted
 returns-in-Ok-More-clause-unlisted g c none =
-    c.put_row.ensures.unlisted (unwatched_readers c.args.parts.now.catalog c.args.parts.now.queries.items c.args.parts.now.order c.args.parts.now.readers.items c.args.parts.now.watchers.items c.requires.whole
+    c.put_row.ensures.unlisted
+    (unwatched_readers c.args.parts.now.catalog c.args.parts.now.queries.items c.args.parts.now.order
+    c.args.parts.now.readers.items c.args.parts.now.watchers.items c.requires.whole
     c.in_ok-id.id.at c.in_ok-id.ensures.ok.relation.below none)
 
 pub returns-clause-unlisted : goal.returns-clause-unlisted
 returns-clause-unlisted g c none =
-    c.put_row.ensures.unlisted (unwatched_readers c.args.parts.now.catalog c.args.parts.now.queries.items c.args.parts.now.order c.args.parts.now.readers.items c.args.parts.now.watchers.items c.requires.whole
+    c.put_row.ensures.unlisted
+    (unwatched_readers c.args.parts.now.catalog c.args.parts.now.queries.items c.args.parts.now.order
+    c.args.parts.now.readers.items c.args.parts.now.watchers.items c.requires.whole
     c.in_ok-id.id.at c.in_ok-id.ensures.ok.relation.below none)
 
 pub affect-requires-clause-within : goal.affect-requires-clause-within
 affect-requires-clause-within g c =
-    readers_within c.args.parts.now c.put_row.new.parts c.requires.whole c.in_ok-id.id.at c.in_ok-id.ensures.ok.relation.below
+    readers_within c.args.parts.now c.put_row.new.parts c.requires.whole c.in_ok-id.id.at
+    c.in_ok-id.ensures.ok.relation.below
     c.put_row.ensures.rest.readers
 
 pub affect-requires-clause-room : goal.affect-requires-clause-room
 affect-requires-clause-room g c =
-    readers_few c.args.parts.now c.put_row.new.parts c.requires.whole c.in_ok-id.id.at c.in_ok-id.ensures.ok.relation.below
+    readers_few c.args.parts.now c.put_row.new.parts c.requires.whole c.in_ok-id.id.at
+    c.in_ok-id.ensures.ok.relation.below
     c.put_row.ensures.rest c.requires.tended
 
 pub returns-in_err-id-clause-places : goal.returns-in_err-id-clause-places
@@ -386,23 +506,32 @@ returns-in_err-id-clause-places g c = keeps_equal _ c.args.parts.now.queries.ite
 pub returns-in-Err-Full-clause-places : goal.returns-in-Err-Full-clause-places
 returns-in-Err-Full-clause-places g c =
     keeps_equal _ c.args.parts.now.queries.items c.put_row.new.parts.queries.items
-    (subst (λ (r : InternRefusal). AddsTo c.in_ok-id.id.at c.args.row.now c.args.parts.now (Err r) c.put_row.new.parts) c.in-Err-Full.field-0-is c.in-Err-Full.ensures.adds).rests.queries
+    (subst (λ (r : InternRefusal). AddsTo c.in_ok-id.id.at c.args.row.now c.args.parts.now (Err r) c.put_row.new.parts)
+    c.in-Err-Full.field-0-is c.in-Err-Full.ensures.adds).rests.queries
 
 pub returns-in-Err-NoMem-clause-places : goal.returns-in-Err-NoMem-clause-places
 returns-in-Err-NoMem-clause-places g c =
-    keeps_changed c.args.parts.now (record c.put_row.new.parts { logs = c.empty_logs.new.logs }) c.age_readers.new.parts c.requires.whole
-    c.in_ok-id.id.at c.args.name.now (row_in c.args.parts.now.catalog.relations c.args.name.now c.args.row.now).after c.in_ok-id.ensures.ok.relation.below c.in_ok-id.ensures.ok.relation.named
-    (subst (λ (r : InternRefusal). AddsTo c.in_ok-id.id.at c.args.row.now c.args.parts.now (Err r) c.put_row.new.parts) c.in-Err-NoMem.field-0-is c.in-Err-NoMem.ensures.adds).1.carries
+    keeps_changed c.args.parts.now (record c.put_row.new.parts { logs = c.empty_logs.new.logs }) c.age_readers.new.parts
+    c.requires.whole
+    c.in_ok-id.id.at c.args.name.now (row_in c.args.parts.now.catalog.relations c.args.name.now c.args.row.now).after
+    c.in_ok-id.ensures.ok.relation.below c.in_ok-id.ensures.ok.relation.named
+    (subst (λ (r : InternRefusal). AddsTo c.in_ok-id.id.at c.args.row.now c.args.parts.now (Err r) c.put_row.new.parts)
+    c.in-Err-NoMem.field-0-is c.in-Err-NoMem.ensures.adds).1.carries
     c.put_row.ensures.rest.readers c.age_readers.ensures
 
 pub returns-in-Ok-More-clause-places : goal.returns-in-Ok-More-clause-places
 returns-in-Ok-More-clause-places g c =
     keeps_equal _ c.args.parts.now.queries.items c.put_row.new.parts.queries.items
-    (subst (λ (o : AddOutcome). AddsTo c.in_ok-id.id.at c.args.row.now c.args.parts.now (Ok o) c.put_row.new.parts) c.in-Ok-More.field-0-is c.in-Ok-More.ensures.adds).has.queries
+    (subst (λ (o : AddOutcome). AddsTo c.in_ok-id.id.at c.args.row.now c.args.parts.now (Ok o) c.put_row.new.parts)
+    c.in-Ok-More.field-0-is c.in-Ok-More.ensures.adds).has.queries
 
 pub returns-clause-places : goal.returns-clause-places
 returns-clause-places g c =
-    keeps_changed c.args.parts.now (record c.put_row.new.parts { seq = c.put_row.new.parts.seq + 1; affected = c.affect.new.affected }) c.age_readers-2.new.parts c.requires.whole
-    c.in_ok-id.id.at c.args.name.now (row_in c.args.parts.now.catalog.relations c.args.name.now c.args.row.now).after c.in_ok-id.ensures.ok.relation.below c.in_ok-id.ensures.ok.relation.named
-    (subst (λ (o : AddOutcome). AddsTo c.in_ok-id.id.at c.args.row.now c.args.parts.now (Ok o) c.put_row.new.parts) c.in-Ok-First.field-0-is c.in-Ok-First.ensures.adds).1.has.carries
+    keeps_changed c.args.parts.now
+    (record c.put_row.new.parts { seq = c.put_row.new.parts.seq + 1; affected = c.affect.new.affected })
+    c.age_readers-2.new.parts c.requires.whole
+    c.in_ok-id.id.at c.args.name.now (row_in c.args.parts.now.catalog.relations c.args.name.now c.args.row.now).after
+    c.in_ok-id.ensures.ok.relation.below c.in_ok-id.ensures.ok.relation.named
+    (subst (λ (o : AddOutcome). AddsTo c.in_ok-id.id.at c.args.row.now c.args.parts.now (Ok o) c.put_row.new.parts)
+    c.in-Ok-First.field-0-is c.in-Ok-First.ensures.adds).1.has.carries
     c.put_row.ensures.rest.readers c.age_readers-2.ensures

@@ -57,55 +57,106 @@ use Rattle.djq_engine.proofs.rows.del_in.Goals as goal
 
 pub age_readers-requires-clause-once : goal.age_readers-requires-clause-once
 age_readers-requires-clause-once g c =
-    let may = subst (λ (j : Option RelationId). JudgesDelete c.args.parts.now.catalog c.args.name.now c.args.row.now c.args.parts.now.seq c.judge_delete.new.cells j) c.in-Some.is c.in_ok-judged.ensures.ok in
-    let stand = subst (λ (cells : List ℕ). StandForRow c.args.parts.now.catalog c.in-Some.relation.at cells c.args.row.now) (sym c.as_slice.ensures) (stands c.args.parts.now c.args.name.now c.args.row.now (record { relation = c.in-Some.relation; cells = c.judge_delete.new.cells }) may) in
-    let went = subst (λ (o : DeleteOutcome). DeletesFrom c.in-Some.relation.at c.args.row.now c.args.parts.now o c.drop_cells.new.parts) c.in-Last.is (c.drop_cells.ensures.deletes c.args.row.now stand) in
-    mid_once c.args.parts.now (record c.drop_cells.new.parts { seq = c.drop_cells.new.parts.seq + 1; affected = c.affect.new.affected }) c.requires.whole c.in-Some.relation.at may.relation.below
+    let may = subst (λ (j : Option RelationId). JudgesDelete c.args.parts.now.catalog c.args.name.now c.args.row.now
+    c.args.parts.now.seq c.judge_delete.new.cells j) c.in-Some.is c.in_ok-judged.ensures.ok in
+    let stand = subst (λ (cells : List ℕ). StandForRow c.args.parts.now.catalog c.in-Some.relation.at cells
+    c.args.row.now) (sym c.as_slice.ensures)
+    (stands c.args.parts.now c.args.name.now c.args.row.now
+    (record { relation = c.in-Some.relation; cells = c.judge_delete.new.cells }) may) in
+    let went = subst (λ (o : DeleteOutcome). DeletesFrom c.in-Some.relation.at c.args.row.now c.args.parts.now o
+    c.drop_cells.new.parts) c.in-Last.is (c.drop_cells.ensures.deletes c.args.row.now stand) in
+    mid_once c.args.parts.now
+    (record c.drop_cells.new.parts { seq = c.drop_cells.new.parts.seq + 1; affected = c.affect.new.affected })
+    c.requires.whole c.in-Some.relation.at may.relation.below
     went.2.has.carries c.drop_cells.ensures.rest.readers c.drop_cells.ensures.rest.order
-    (same_names c.args.parts.now.catalog c.drop_cells.new.parts.catalog c.in-Some.relation.at (without_copies (counted_at c.args.parts.now.catalog.relations c.in-Some.relation.at) c.args.row.now) may.relation.below went.2.has.relations)
+    (same_names c.args.parts.now.catalog c.drop_cells.new.parts.catalog c.in-Some.relation.at
+    (without_copies (counted_at c.args.parts.now.catalog.relations c.in-Some.relation.at) c.args.row.now)
+    may.relation.below went.2.has.relations)
 
 pub age_readers-requires-clause-there : goal.age_readers-requires-clause-there
 age_readers-requires-clause-there g c =
-    let may = subst (λ (j : Option RelationId). JudgesDelete c.args.parts.now.catalog c.args.name.now c.args.row.now c.args.parts.now.seq c.judge_delete.new.cells j) c.in-Some.is c.in_ok-judged.ensures.ok in
-    let stand = subst (λ (cells : List ℕ). StandForRow c.args.parts.now.catalog c.in-Some.relation.at cells c.args.row.now) (sym c.as_slice.ensures) (stands c.args.parts.now c.args.name.now c.args.row.now (record { relation = c.in-Some.relation; cells = c.judge_delete.new.cells }) may) in
-    let went = subst (λ (o : DeleteOutcome). DeletesFrom c.in-Some.relation.at c.args.row.now c.args.parts.now o c.drop_cells.new.parts) c.in-Last.is (c.drop_cells.ensures.deletes c.args.row.now stand) in
-    mid_there c.args.parts.now (record c.drop_cells.new.parts { seq = c.drop_cells.new.parts.seq + 1; affected = c.affect.new.affected }) c.requires.whole c.in-Some.relation.at may.relation.below
+    let may = subst (λ (j : Option RelationId). JudgesDelete c.args.parts.now.catalog c.args.name.now c.args.row.now
+    c.args.parts.now.seq c.judge_delete.new.cells j) c.in-Some.is c.in_ok-judged.ensures.ok in
+    let stand = subst (λ (cells : List ℕ). StandForRow c.args.parts.now.catalog c.in-Some.relation.at cells
+    c.args.row.now) (sym c.as_slice.ensures)
+    (stands c.args.parts.now c.args.name.now c.args.row.now
+    (record { relation = c.in-Some.relation; cells = c.judge_delete.new.cells }) may) in
+    let went = subst (λ (o : DeleteOutcome). DeletesFrom c.in-Some.relation.at c.args.row.now c.args.parts.now o
+    c.drop_cells.new.parts) c.in-Last.is (c.drop_cells.ensures.deletes c.args.row.now stand) in
+    mid_there c.args.parts.now
+    (record c.drop_cells.new.parts { seq = c.drop_cells.new.parts.seq + 1; affected = c.affect.new.affected })
+    c.requires.whole c.in-Some.relation.at may.relation.below
     went.2.has.carries c.drop_cells.ensures.rest.readers c.drop_cells.ensures.rest.order
-    (same_names c.args.parts.now.catalog c.drop_cells.new.parts.catalog c.in-Some.relation.at (without_copies (counted_at c.args.parts.now.catalog.relations c.in-Some.relation.at) c.args.row.now) may.relation.below went.2.has.relations)
+    (same_names c.args.parts.now.catalog c.drop_cells.new.parts.catalog c.in-Some.relation.at
+    (without_copies (counted_at c.args.parts.now.catalog.relations c.in-Some.relation.at) c.args.row.now)
+    may.relation.below went.2.has.relations)
 
 pub returns-clause-whole : goal.returns-clause-whole
 returns-clause-whole g c =
-    let may = subst (λ (j : Option RelationId). JudgesDelete c.args.parts.now.catalog c.args.name.now c.args.row.now c.args.parts.now.seq c.judge_delete.new.cells j) c.in-Some.is c.in_ok-judged.ensures.ok in
-    let stand = subst (λ (cells : List ℕ). StandForRow c.args.parts.now.catalog c.in-Some.relation.at cells c.args.row.now) (sym c.as_slice.ensures) (stands c.args.parts.now c.args.name.now c.args.row.now (record { relation = c.in-Some.relation; cells = c.judge_delete.new.cells }) may) in
-    let went = subst (λ (o : DeleteOutcome). DeletesFrom c.in-Some.relation.at c.args.row.now c.args.parts.now o c.drop_cells.new.parts) c.in-Last.is (c.drop_cells.ensures.deletes c.args.row.now stand) in
-    (aged c.args.parts.now (record c.drop_cells.new.parts { seq = c.drop_cells.new.parts.seq + 1; affected = c.affect.new.affected }) c.requires.whole c.in-Some.relation.at may.relation.below
+    let may = subst (λ (j : Option RelationId). JudgesDelete c.args.parts.now.catalog c.args.name.now c.args.row.now
+    c.args.parts.now.seq c.judge_delete.new.cells j) c.in-Some.is c.in_ok-judged.ensures.ok in
+    let stand = subst (λ (cells : List ℕ). StandForRow c.args.parts.now.catalog c.in-Some.relation.at cells
+    c.args.row.now) (sym c.as_slice.ensures)
+    (stands c.args.parts.now c.args.name.now c.args.row.now
+    (record { relation = c.in-Some.relation; cells = c.judge_delete.new.cells }) may) in
+    let went = subst (λ (o : DeleteOutcome). DeletesFrom c.in-Some.relation.at c.args.row.now c.args.parts.now o
+    c.drop_cells.new.parts) c.in-Last.is (c.drop_cells.ensures.deletes c.args.row.now stand) in
+    (aged c.args.parts.now
+    (record c.drop_cells.new.parts { seq = c.drop_cells.new.parts.seq + 1; affected = c.affect.new.affected })
+    c.requires.whole c.in-Some.relation.at may.relation.below
     went.2.has.carries c.drop_cells.ensures.rest.readers c.drop_cells.ensures.rest.order
-    (same_names c.args.parts.now.catalog c.drop_cells.new.parts.catalog c.in-Some.relation.at (without_copies (counted_at c.args.parts.now.catalog.relations c.in-Some.relation.at) c.args.row.now) may.relation.below went.2.has.relations) c.age_readers.new.parts c.args.name.now may.relation.named c.age_readers.ensures).whole
+    (same_names c.args.parts.now.catalog c.drop_cells.new.parts.catalog c.in-Some.relation.at
+    (without_copies (counted_at c.args.parts.now.catalog.relations c.in-Some.relation.at) c.args.row.now)
+    may.relation.below went.2.has.relations) c.age_readers.new.parts c.args.name.now may.relation.named
+    c.age_readers.ensures).whole
 
 pub returns-clause-deletes : goal.returns-clause-deletes
 returns-clause-deletes g c =
-    let may = subst (λ (j : Option RelationId). JudgesDelete c.args.parts.now.catalog c.args.name.now c.args.row.now c.args.parts.now.seq c.judge_delete.new.cells j) c.in-Some.is c.in_ok-judged.ensures.ok in
-    let stand = subst (λ (cells : List ℕ). StandForRow c.args.parts.now.catalog c.in-Some.relation.at cells c.args.row.now) (sym c.as_slice.ensures) (stands c.args.parts.now c.args.name.now c.args.row.now (record { relation = c.in-Some.relation; cells = c.judge_delete.new.cells }) may) in
-    let went = subst (λ (o : DeleteOutcome). DeletesFrom c.in-Some.relation.at c.args.row.now c.args.parts.now o c.drop_cells.new.parts) c.in-Last.is (c.drop_cells.ensures.deletes c.args.row.now stand) in
-    delete_done c.args.parts.now c.args.name.now c.args.row.now (record { relation = c.in-Some.relation; cells = c.judge_delete.new.cells }) may c.names_tell.ensures c.laws.ensures.names c.drop_cells.new.parts c.age_readers.new.parts
+    let may = subst (λ (j : Option RelationId). JudgesDelete c.args.parts.now.catalog c.args.name.now c.args.row.now
+    c.args.parts.now.seq c.judge_delete.new.cells j) c.in-Some.is c.in_ok-judged.ensures.ok in
+    let stand = subst (λ (cells : List ℕ). StandForRow c.args.parts.now.catalog c.in-Some.relation.at cells
+    c.args.row.now) (sym c.as_slice.ensures)
+    (stands c.args.parts.now c.args.name.now c.args.row.now
+    (record { relation = c.in-Some.relation; cells = c.judge_delete.new.cells }) may) in
+    let went = subst (λ (o : DeleteOutcome). DeletesFrom c.in-Some.relation.at c.args.row.now c.args.parts.now o
+    c.drop_cells.new.parts) c.in-Last.is (c.drop_cells.ensures.deletes c.args.row.now stand) in
+    delete_done c.args.parts.now c.args.name.now c.args.row.now
+    (record { relation = c.in-Some.relation; cells = c.judge_delete.new.cells }) may c.names_tell.ensures
+    c.laws.ensures.names c.drop_cells.new.parts c.age_readers.new.parts
     went c.age_readers.ensures.catalog (c.age_readers.ensures.rest.seq ∙ ap (λ n. n + 1) c.drop_cells.ensures.rest.seq)
-    (aged c.args.parts.now (record c.drop_cells.new.parts { seq = c.drop_cells.new.parts.seq + 1; affected = c.affect.new.affected }) c.requires.whole c.in-Some.relation.at may.relation.below
+    (aged c.args.parts.now
+    (record c.drop_cells.new.parts { seq = c.drop_cells.new.parts.seq + 1; affected = c.affect.new.affected })
+    c.requires.whole c.in-Some.relation.at may.relation.below
     went.2.has.carries c.drop_cells.ensures.rest.readers c.drop_cells.ensures.rest.order
-    (same_names c.args.parts.now.catalog c.drop_cells.new.parts.catalog c.in-Some.relation.at (without_copies (counted_at c.args.parts.now.catalog.relations c.in-Some.relation.at) c.args.row.now) may.relation.below went.2.has.relations) c.age_readers.new.parts c.args.name.now may.relation.named c.age_readers.ensures).queries
+    (same_names c.args.parts.now.catalog c.drop_cells.new.parts.catalog c.in-Some.relation.at
+    (without_copies (counted_at c.args.parts.now.catalog.relations c.in-Some.relation.at) c.args.row.now)
+    may.relation.below went.2.has.relations) c.age_readers.new.parts c.args.name.now may.relation.named
+    c.age_readers.ensures).queries
 
 pub returns-clause-outdates : goal.returns-clause-outdates
 returns-clause-outdates g c =
-    let may = subst (λ (j : Option RelationId). JudgesDelete c.args.parts.now.catalog c.args.name.now c.args.row.now c.args.parts.now.seq c.judge_delete.new.cells j) c.in-Some.is c.in_ok-judged.ensures.ok in
-    let stand = subst (λ (cells : List ℕ). StandForRow c.args.parts.now.catalog c.in-Some.relation.at cells c.args.row.now) (sym c.as_slice.ensures) (stands c.args.parts.now c.args.name.now c.args.row.now (record { relation = c.in-Some.relation; cells = c.judge_delete.new.cells }) may) in
-    let went = subst (λ (o : DeleteOutcome). DeletesFrom c.in-Some.relation.at c.args.row.now c.args.parts.now o c.drop_cells.new.parts) c.in-Last.is (c.drop_cells.ensures.deletes c.args.row.now stand) in
-    (aged c.args.parts.now (record c.drop_cells.new.parts { seq = c.drop_cells.new.parts.seq + 1; affected = c.affect.new.affected }) c.requires.whole c.in-Some.relation.at may.relation.below
+    let may = subst (λ (j : Option RelationId). JudgesDelete c.args.parts.now.catalog c.args.name.now c.args.row.now
+    c.args.parts.now.seq c.judge_delete.new.cells j) c.in-Some.is c.in_ok-judged.ensures.ok in
+    let stand = subst (λ (cells : List ℕ). StandForRow c.args.parts.now.catalog c.in-Some.relation.at cells
+    c.args.row.now) (sym c.as_slice.ensures)
+    (stands c.args.parts.now c.args.name.now c.args.row.now
+    (record { relation = c.in-Some.relation; cells = c.judge_delete.new.cells }) may) in
+    let went = subst (λ (o : DeleteOutcome). DeletesFrom c.in-Some.relation.at c.args.row.now c.args.parts.now o
+    c.drop_cells.new.parts) c.in-Last.is (c.drop_cells.ensures.deletes c.args.row.now stand) in
+    (aged c.args.parts.now
+    (record c.drop_cells.new.parts { seq = c.drop_cells.new.parts.seq + 1; affected = c.affect.new.affected })
+    c.requires.whole c.in-Some.relation.at may.relation.below
     went.2.has.carries c.drop_cells.ensures.rest.readers c.drop_cells.ensures.rest.order
-    (same_names c.args.parts.now.catalog c.drop_cells.new.parts.catalog c.in-Some.relation.at (without_copies (counted_at c.args.parts.now.catalog.relations c.in-Some.relation.at) c.args.row.now) may.relation.below went.2.has.relations) c.age_readers.new.parts c.args.name.now may.relation.named c.age_readers.ensures).cursors
+    (same_names c.args.parts.now.catalog c.drop_cells.new.parts.catalog c.in-Some.relation.at
+    (without_copies (counted_at c.args.parts.now.catalog.relations c.in-Some.relation.at) c.args.row.now)
+    may.relation.below went.2.has.relations) c.age_readers.new.parts c.args.name.now may.relation.named
+    c.age_readers.ensures).cursors
 
 pub returns-in_err-judged-clause-tells : goal.returns-in_err-judged-clause-tells
 returns-in_err-judged-clause-tells g c =
     let old = c.args.parts.now in
-    delete_refused_tells old c.args.name.now c.args.row.now c.from_residual.result c.from_residual.ensures.0 c.args.steps.now.listing
+    delete_refused_tells old c.args.name.now c.args.row.now c.from_residual.result c.from_residual.ensures.0
+    c.args.steps.now.listing
 
 pub returns-in_default-clause-tells : goal.returns-in_default-clause-tells
 returns-in_default-clause-tells g c =
@@ -115,33 +166,70 @@ returns-in_default-clause-tells g c =
 
 pub returns-clause-tended : goal.returns-clause-tended
 returns-clause-tended g c =
-    tended_now c.args.parts.now (record c.drop_cells.new.parts { seq = c.drop_cells.new.parts.seq + 1; affected = c.affect.new.affected }) c.age_readers.new.parts c.in-Some.relation.at c.args.name.now (subst (λ (o : DeleteOutcome). DeletesFrom c.in-Some.relation.at c.args.row.now c.args.parts.now o c.drop_cells.new.parts) c.in-Last.is (c.drop_cells.ensures.deletes c.args.row.now (subst (λ (cells : List ℕ). StandForRow c.args.parts.now.catalog c.in-Some.relation.at cells c.args.row.now) (sym c.as_slice.ensures)
-    (stands c.args.parts.now c.args.name.now c.args.row.now (record { relation = c.in-Some.relation; cells = c.judge_delete.new.cells }) (subst (λ (j : Option RelationId). JudgesDelete c.args.parts.now.catalog c.args.name.now c.args.row.now c.args.parts.now.seq c.judge_delete.new.cells j) c.in-Some.is c.in_ok-judged.ensures.ok))))).2.has.carries
-    c.drop_cells.ensures.rest.watchers c.drop_cells.ensures.rest.order c.drop_cells.ensures.rest.long c.age_readers.ensures c.requires.tended
-    (omega (arith, room_kept c.args.parts.now c.drop_cells.new.parts c.requires.tended c.drop_cells.ensures.rest, c.affect.ensures.room)) c.drop_cells.ensures.shown
+    tended_now c.args.parts.now
+    (record c.drop_cells.new.parts { seq = c.drop_cells.new.parts.seq + 1; affected = c.affect.new.affected })
+    c.age_readers.new.parts c.in-Some.relation.at c.args.name.now
+    (subst (λ (o : DeleteOutcome). DeletesFrom c.in-Some.relation.at c.args.row.now c.args.parts.now o
+    c.drop_cells.new.parts) c.in-Last.is
+    (c.drop_cells.ensures.deletes c.args.row.now
+    (subst (λ (cells : List ℕ). StandForRow c.args.parts.now.catalog c.in-Some.relation.at cells c.args.row.now)
+    (sym c.as_slice.ensures)
+    (stands c.args.parts.now c.args.name.now c.args.row.now
+    (record { relation = c.in-Some.relation; cells = c.judge_delete.new.cells })
+    (subst (λ (j : Option RelationId). JudgesDelete c.args.parts.now.catalog c.args.name.now c.args.row.now
+    c.args.parts.now.seq c.judge_delete.new.cells j) c.in-Some.is c.in_ok-judged.ensures.ok))))).2.has.carries
+    c.drop_cells.ensures.rest.watchers c.drop_cells.ensures.rest.order c.drop_cells.ensures.rest.long
+    c.age_readers.ensures c.requires.tended
+    (omega (
+      arith,
+      room_kept c.args.parts.now c.drop_cells.new.parts c.requires.tended c.drop_cells.ensures.rest,
+      c.affect.ensures.room,
+    )) c.drop_cells.ensures.shown
 
 pub returns-clause-watches : goal.returns-clause-watches
 returns-clause-watches g c =
-    registered_now c.args.parts.now (record c.drop_cells.new.parts { seq = c.drop_cells.new.parts.seq + 1; affected = c.affect.new.affected }) c.age_readers.new.parts c.in-Some.relation.at c.args.name.now (subst (λ (o : DeleteOutcome). DeletesFrom c.in-Some.relation.at c.args.row.now c.args.parts.now o c.drop_cells.new.parts) c.in-Last.is (c.drop_cells.ensures.deletes c.args.row.now (subst (λ (cells : List ℕ). StandForRow c.args.parts.now.catalog c.in-Some.relation.at cells c.args.row.now) (sym c.as_slice.ensures)
-    (stands c.args.parts.now c.args.name.now c.args.row.now (record { relation = c.in-Some.relation; cells = c.judge_delete.new.cells }) (subst (λ (j : Option RelationId). JudgesDelete c.args.parts.now.catalog c.args.name.now c.args.row.now c.args.parts.now.seq c.judge_delete.new.cells j) c.in-Some.is c.in_ok-judged.ensures.ok))))).2.has.carries
-    c.drop_cells.ensures.rest.watchers c.drop_cells.ensures.rest.order c.drop_cells.ensures.rest.long c.age_readers.ensures
+    registered_now c.args.parts.now
+    (record c.drop_cells.new.parts { seq = c.drop_cells.new.parts.seq + 1; affected = c.affect.new.affected })
+    c.age_readers.new.parts c.in-Some.relation.at c.args.name.now
+    (subst (λ (o : DeleteOutcome). DeletesFrom c.in-Some.relation.at c.args.row.now c.args.parts.now o
+    c.drop_cells.new.parts) c.in-Last.is
+    (c.drop_cells.ensures.deletes c.args.row.now
+    (subst (λ (cells : List ℕ). StandForRow c.args.parts.now.catalog c.in-Some.relation.at cells c.args.row.now)
+    (sym c.as_slice.ensures)
+    (stands c.args.parts.now c.args.name.now c.args.row.now
+    (record { relation = c.in-Some.relation; cells = c.judge_delete.new.cells })
+    (subst (λ (j : Option RelationId). JudgesDelete c.args.parts.now.catalog c.args.name.now c.args.row.now
+    c.args.parts.now.seq c.judge_delete.new.cells j) c.in-Some.is c.in_ok-judged.ensures.ok))))).2.has.carries
+    c.drop_cells.ensures.rest.watchers c.drop_cells.ensures.rest.order c.drop_cells.ensures.rest.long
+    c.age_readers.ensures
 
 pub returns-clause-tells : goal.returns-clause-tells
 returns-clause-tells g c =
-    let may = subst (λ (j : Option RelationId). JudgesDelete c.args.parts.now.catalog c.args.name.now c.args.row.now c.args.parts.now.seq c.judge_delete.new.cells j) c.in-Some.is c.in_ok-judged.ensures.ok in
-    let stand = subst (λ (cells : List ℕ). StandForRow c.args.parts.now.catalog c.in-Some.relation.at cells c.args.row.now) (sym c.as_slice.ensures) (stands c.args.parts.now c.args.name.now c.args.row.now (record { relation = c.in-Some.relation; cells = c.judge_delete.new.cells }) may) in
-    let went = subst (λ (o : DeleteOutcome). DeletesFrom c.in-Some.relation.at c.args.row.now c.args.parts.now o c.drop_cells.new.parts) c.in-Last.is (c.drop_cells.ensures.deletes c.args.row.now stand) in
-    deletes_done c.args.parts.now c.requires.whole c.args.name.now c.args.row.now c.in-Some.relation.at may.relation c.deltas_exist.ensures c.heads_are_bound.ensures c.names_tell.ensures c.laws.ensures.names
+    let may = subst (λ (j : Option RelationId). JudgesDelete c.args.parts.now.catalog c.args.name.now c.args.row.now
+    c.args.parts.now.seq c.judge_delete.new.cells j) c.in-Some.is c.in_ok-judged.ensures.ok in
+    let stand = subst (λ (cells : List ℕ). StandForRow c.args.parts.now.catalog c.in-Some.relation.at cells
+    c.args.row.now) (sym c.as_slice.ensures)
+    (stands c.args.parts.now c.args.name.now c.args.row.now
+    (record { relation = c.in-Some.relation; cells = c.judge_delete.new.cells }) may) in
+    let went = subst (λ (o : DeleteOutcome). DeletesFrom c.in-Some.relation.at c.args.row.now c.args.parts.now o
+    c.drop_cells.new.parts) c.in-Last.is (c.drop_cells.ensures.deletes c.args.row.now stand) in
+    deletes_done c.args.parts.now c.requires.whole c.args.name.now c.args.row.now c.in-Some.relation.at may.relation
+    c.deltas_exist.ensures c.heads_are_bound.ensures c.names_tell.ensures c.laws.ensures.names
     c.args.steps.now.listing c.drop_cells.new.steps.listing
-    (record c.drop_cells.new.parts { seq = c.drop_cells.new.parts.seq + 1; affected = c.affect.new.affected }) c.age_readers.new.parts c.age_readers.ensures.logs c.age_readers.ensures.catalog
+    (record c.drop_cells.new.parts { seq = c.drop_cells.new.parts.seq + 1; affected = c.affect.new.affected })
+    c.age_readers.new.parts c.age_readers.ensures.logs c.age_readers.ensures.catalog
     (alike_now c.args.parts.now (record c.drop_cells.new.parts {
       seq = c.drop_cells.new.parts.seq + 1;
       affected = c.affect.new.affected;
     }) c.age_readers.new.parts c.in-Some.relation.at c.args.name.now
     went.2.has.carries
-    c.drop_cells.ensures.rest.watchers c.drop_cells.ensures.rest.order c.drop_cells.ensures.rest.long c.age_readers.ensures)
-    (c.age_readers.ensures.rest.affected ∙ c.affect.ensures.items ∙ ap (λ (rs : List (List ℕ)). readers_at rs c.in-Some.relation.at) c.drop_cells.ensures.rest.readers)
-    (subst (λ (o : DeleteOutcome). IfWent o (KeepsLogs (tells_at c.args.parts.now c.in-Some.relation.at) c.args.parts.now c.drop_cells.new.parts)) c.in-Last.is c.drop_cells.ensures.quiet)
+    c.drop_cells.ensures.rest.watchers c.drop_cells.ensures.rest.order c.drop_cells.ensures.rest.long
+    c.age_readers.ensures)
+    (c.age_readers.ensures.rest.affected ∙ c.affect.ensures.items
+    ∙ ap (λ (rs : List (List ℕ)). readers_at rs c.in-Some.relation.at) c.drop_cells.ensures.rest.readers)
+    (subst (λ (o : DeleteOutcome). IfWent o
+    (KeepsLogs (tells_at c.args.parts.now c.in-Some.relation.at) c.args.parts.now c.drop_cells.new.parts))
+    c.in-Last.is c.drop_cells.ensures.quiet)
     (told_drop c.showable_stays.ensures c.args.parts.now c.drop_cells.new.parts c.age_readers.new.parts
     c.in-Some.relation.at c.args.row.now went.2 c.age_readers.ensures.catalog c.requires.tended
     (alike_now c.args.parts.now (record c.drop_cells.new.parts {
@@ -151,7 +239,17 @@ returns-clause-tells g c =
     went.2.has.carries
     c.drop_cells.ensures.rest.watchers c.drop_cells.ensures.rest.order c.drop_cells.ensures.rest.long
     c.age_readers.ensures))
-    ((subst (λ (o : DeleteOutcome). IfWent o ((r : Tuple) → StandForRow c.args.parts.now.catalog c.in-Some.relation.at c.as_slice.result.now r → CountsRows c.in-Some.relation.at (without_copies (counted_at c.args.parts.now.catalog.relations c.in-Some.relation.at) r) c.args.parts.now c.args.steps.now.listing c.drop_cells.new.steps.listing)) c.in-Last.is c.drop_cells.ensures.counted) c.args.row.now stand) ((subst (λ (o : DeleteOutcome). IfWent o ((r : Tuple) → StandForRow c.args.parts.now.catalog c.in-Some.relation.at c.as_slice.result.now r → TellsRows c.in-Some.relation.at (without_copies (counted_at c.args.parts.now.catalog.relations c.in-Some.relation.at) r) c.args.parts.now c.drop_cells.new.parts)) c.in-Last.is c.drop_cells.ensures.tells) c.args.row.now stand)
+    ((subst (λ (o : DeleteOutcome). IfWent o
+    ((r : Tuple) → StandForRow c.args.parts.now.catalog c.in-Some.relation.at c.as_slice.result.now r
+    → CountsRows c.in-Some.relation.at
+    (without_copies (counted_at c.args.parts.now.catalog.relations c.in-Some.relation.at) r) c.args.parts.now
+    c.args.steps.now.listing c.drop_cells.new.steps.listing)) c.in-Last.is c.drop_cells.ensures.counted)
+    c.args.row.now stand)
+    ((subst (λ (o : DeleteOutcome). IfWent o
+    ((r : Tuple) → StandForRow c.args.parts.now.catalog c.in-Some.relation.at c.as_slice.result.now r
+    → TellsRows c.in-Some.relation.at
+    (without_copies (counted_at c.args.parts.now.catalog.relations c.in-Some.relation.at) r) c.args.parts.now
+    c.drop_cells.new.parts)) c.in-Last.is c.drop_cells.ensures.tells) c.args.row.now stand)
 
 pub returns-in_err-judged-clause-updates : goal.returns-in_err-judged-clause-updates
 returns-in_err-judged-clause-updates g c = record { counted = λ n flat few. omega arith }
@@ -161,155 +259,290 @@ returns-in_default-clause-updates g c = record { counted = λ n flat few. omega 
 
 pub returns-clause-updates : goal.returns-clause-updates
 returns-clause-updates g c =
-    let m = (subst (λ (j : Option RelationId). JudgesDelete c.args.parts.now.catalog c.args.name.now c.args.row.now c.args.parts.now.seq c.judge_delete.new.cells j) c.in-Some.is c.in_ok-judged.ensures.ok) in
+    let m = (subst (λ (j : Option RelationId). JudgesDelete c.args.parts.now.catalog c.args.name.now c.args.row.now
+    c.args.parts.now.seq c.judge_delete.new.cells j) c.in-Some.is c.in_ok-judged.ensures.ok) in
     counts_updates c.args.parts.now c.requires.whole c.in-Some.relation.at m.relation.below c.args.name.now
     m.relation.named _ c.leaves_are_small.ensures
-    1 c.args.steps.now.update c.drop_cells.new.steps.update (subst (λ (o : DeleteOutcome). IfWent o (WorksRows c.in-Some.relation.at 1 c.args.parts.now c.args.steps.now.update c.drop_cells.new.steps.update)) c.in-Last.is c.drop_cells.ensures.updates)
+    1 c.args.steps.now.update c.drop_cells.new.steps.update
+    (subst (λ (o : DeleteOutcome). IfWent o
+    (WorksRows c.in-Some.relation.at 1 c.args.parts.now c.args.steps.now.update c.drop_cells.new.steps.update))
+    c.in-Last.is c.drop_cells.ensures.updates)
 
 pub returns-in-Left-clause-whole : goal.returns-in-Left-clause-whole
 returns-in-Left-clause-whole g c =
-    let may = subst (λ (j : Option RelationId). JudgesDelete c.args.parts.now.catalog c.args.name.now c.args.row.now c.args.parts.now.seq c.judge_delete.new.cells j) c.in-Some.is c.in_ok-judged.ensures.ok in
-    let gone = (subst (λ (o : DeleteOutcome). DeletesFrom c.in-Some.relation.at c.args.row.now c.args.parts.now o c.drop_cells.new.parts) c.in-Left.is (c.drop_cells.ensures.deletes c.args.row.now (subst (λ (cells : List ℕ). StandForRow c.args.parts.now.catalog c.in-Some.relation.at cells c.args.row.now) (sym c.as_slice.ensures)
-    (stands c.args.parts.now c.args.name.now c.args.row.now (record { relation = c.in-Some.relation; cells = c.judge_delete.new.cells }) may)))) in
-    copied_whole c.args.parts.now c.drop_cells.new.parts c.in-Some.relation.at c.args.row.now c.in-Left.copies c.requires.whole may.relation.below gone.3 c.drop_cells.ensures.rest
+    let may = subst (λ (j : Option RelationId). JudgesDelete c.args.parts.now.catalog c.args.name.now c.args.row.now
+    c.args.parts.now.seq c.judge_delete.new.cells j) c.in-Some.is c.in_ok-judged.ensures.ok in
+    let gone = (subst (λ (o : DeleteOutcome). DeletesFrom c.in-Some.relation.at c.args.row.now c.args.parts.now o
+    c.drop_cells.new.parts) c.in-Left.is
+    (c.drop_cells.ensures.deletes c.args.row.now
+    (subst (λ (cells : List ℕ). StandForRow c.args.parts.now.catalog c.in-Some.relation.at cells c.args.row.now)
+    (sym c.as_slice.ensures)
+    (stands c.args.parts.now c.args.name.now c.args.row.now
+    (record { relation = c.in-Some.relation; cells = c.judge_delete.new.cells }) may)))) in
+    copied_whole c.args.parts.now c.drop_cells.new.parts c.in-Some.relation.at c.args.row.now c.in-Left.copies
+    c.requires.whole may.relation.below gone.3 c.drop_cells.ensures.rest
 
 pub returns-in-Left-clause-tended : goal.returns-in-Left-clause-tended
 returns-in-Left-clause-tended g c =
-    let gone = (subst (λ (o : DeleteOutcome). DeletesFrom c.in-Some.relation.at c.args.row.now c.args.parts.now o c.drop_cells.new.parts) c.in-Left.is (c.drop_cells.ensures.deletes c.args.row.now (subst (λ (cells : List ℕ). StandForRow c.args.parts.now.catalog c.in-Some.relation.at cells c.args.row.now) (sym c.as_slice.ensures)
-    (stands c.args.parts.now c.args.name.now c.args.row.now (record { relation = c.in-Some.relation; cells = c.judge_delete.new.cells }) (subst (λ (j : Option RelationId). JudgesDelete c.args.parts.now.catalog c.args.name.now c.args.row.now c.args.parts.now.seq c.judge_delete.new.cells j) c.in-Some.is c.in_ok-judged.ensures.ok))))) in
-    tended_still c.args.parts.now c.drop_cells.new.parts c.requires.tended c.drop_cells.ensures.rest gone.3.queries c.drop_cells.ensures.shown
+    let gone = (subst (λ (o : DeleteOutcome). DeletesFrom c.in-Some.relation.at c.args.row.now c.args.parts.now o
+    c.drop_cells.new.parts) c.in-Left.is
+    (c.drop_cells.ensures.deletes c.args.row.now
+    (subst (λ (cells : List ℕ). StandForRow c.args.parts.now.catalog c.in-Some.relation.at cells c.args.row.now)
+    (sym c.as_slice.ensures)
+    (stands c.args.parts.now c.args.name.now c.args.row.now
+    (record { relation = c.in-Some.relation; cells = c.judge_delete.new.cells })
+    (subst (λ (j : Option RelationId). JudgesDelete c.args.parts.now.catalog c.args.name.now c.args.row.now
+    c.args.parts.now.seq c.judge_delete.new.cells j) c.in-Some.is c.in_ok-judged.ensures.ok))))) in
+    tended_still c.args.parts.now c.drop_cells.new.parts c.requires.tended c.drop_cells.ensures.rest gone.3.queries
+    c.drop_cells.ensures.shown
 
 pub returns-in-Left-clause-deletes : goal.returns-in-Left-clause-deletes
 returns-in-Left-clause-deletes g c =
-    let may = subst (λ (j : Option RelationId). JudgesDelete c.args.parts.now.catalog c.args.name.now c.args.row.now c.args.parts.now.seq c.judge_delete.new.cells j) c.in-Some.is c.in_ok-judged.ensures.ok in
-    let gone = (subst (λ (o : DeleteOutcome). DeletesFrom c.in-Some.relation.at c.args.row.now c.args.parts.now o c.drop_cells.new.parts) c.in-Left.is (c.drop_cells.ensures.deletes c.args.row.now (subst (λ (cells : List ℕ). StandForRow c.args.parts.now.catalog c.in-Some.relation.at cells c.args.row.now) (sym c.as_slice.ensures)
-    (stands c.args.parts.now c.args.name.now c.args.row.now (record { relation = c.in-Some.relation; cells = c.judge_delete.new.cells }) may)))) in
-    delete_one c.args.parts.now c.args.name.now c.args.row.now (record { relation = c.in-Some.relation; cells = c.judge_delete.new.cells }) may c.names_tell.ensures c.laws.ensures.names c.drop_cells.new.parts c.in-Left.copies gone c.drop_cells.ensures.rest.order c.drop_cells.ensures.rest.seq
+    let may = subst (λ (j : Option RelationId). JudgesDelete c.args.parts.now.catalog c.args.name.now c.args.row.now
+    c.args.parts.now.seq c.judge_delete.new.cells j) c.in-Some.is c.in_ok-judged.ensures.ok in
+    let gone = (subst (λ (o : DeleteOutcome). DeletesFrom c.in-Some.relation.at c.args.row.now c.args.parts.now o
+    c.drop_cells.new.parts) c.in-Left.is
+    (c.drop_cells.ensures.deletes c.args.row.now
+    (subst (λ (cells : List ℕ). StandForRow c.args.parts.now.catalog c.in-Some.relation.at cells c.args.row.now)
+    (sym c.as_slice.ensures)
+    (stands c.args.parts.now c.args.name.now c.args.row.now
+    (record { relation = c.in-Some.relation; cells = c.judge_delete.new.cells }) may)))) in
+    delete_one c.args.parts.now c.args.name.now c.args.row.now
+    (record { relation = c.in-Some.relation; cells = c.judge_delete.new.cells }) may c.names_tell.ensures
+    c.laws.ensures.names c.drop_cells.new.parts c.in-Left.copies gone c.drop_cells.ensures.rest.order
+    c.drop_cells.ensures.rest.seq
 
 pub returns-in-Left-clause-outdates : goal.returns-in-Left-clause-outdates
 returns-in-Left-clause-outdates g c =
-    let gone = (subst (λ (o : DeleteOutcome). DeletesFrom c.in-Some.relation.at c.args.row.now c.args.parts.now o c.drop_cells.new.parts) c.in-Left.is (c.drop_cells.ensures.deletes c.args.row.now (subst (λ (cells : List ℕ). StandForRow c.args.parts.now.catalog c.in-Some.relation.at cells c.args.row.now) (sym c.as_slice.ensures)
-    (stands c.args.parts.now c.args.name.now c.args.row.now (record { relation = c.in-Some.relation; cells = c.judge_delete.new.cells }) (subst (λ (j : Option RelationId). JudgesDelete c.args.parts.now.catalog c.args.name.now c.args.row.now c.args.parts.now.seq c.judge_delete.new.cells j) c.in-Some.is c.in_ok-judged.ensures.ok))))) in
+    let gone = (subst (λ (o : DeleteOutcome). DeletesFrom c.in-Some.relation.at c.args.row.now c.args.parts.now o
+    c.drop_cells.new.parts) c.in-Left.is
+    (c.drop_cells.ensures.deletes c.args.row.now
+    (subst (λ (cells : List ℕ). StandForRow c.args.parts.now.catalog c.in-Some.relation.at cells c.args.row.now)
+    (sym c.as_slice.ensures)
+    (stands c.args.parts.now c.args.name.now c.args.row.now
+    (record { relation = c.in-Some.relation; cells = c.judge_delete.new.cells })
+    (subst (λ (j : Option RelationId). JudgesDelete c.args.parts.now.catalog c.args.name.now c.args.row.now
+    c.args.parts.now.seq c.judge_delete.new.cells j) c.in-Some.is c.in_ok-judged.ensures.ok))))) in
     copied_cursors c.args.parts.now c.drop_cells.new.parts c.in-Some.relation.at c.args.row.now c.in-Left.copies gone.3
 
 pub returns-in-Left-clause-watches : goal.returns-in-Left-clause-watches
 returns-in-Left-clause-watches g c =
-    let gone = (subst (λ (o : DeleteOutcome). DeletesFrom c.in-Some.relation.at c.args.row.now c.args.parts.now o c.drop_cells.new.parts) c.in-Left.is (c.drop_cells.ensures.deletes c.args.row.now (subst (λ (cells : List ℕ). StandForRow c.args.parts.now.catalog c.in-Some.relation.at cells c.args.row.now) (sym c.as_slice.ensures)
-    (stands c.args.parts.now c.args.name.now c.args.row.now (record { relation = c.in-Some.relation; cells = c.judge_delete.new.cells }) (subst (λ (j : Option RelationId). JudgesDelete c.args.parts.now.catalog c.args.name.now c.args.row.now c.args.parts.now.seq c.judge_delete.new.cells j) c.in-Some.is c.in_ok-judged.ensures.ok))))) in
+    let gone = (subst (λ (o : DeleteOutcome). DeletesFrom c.in-Some.relation.at c.args.row.now c.args.parts.now o
+    c.drop_cells.new.parts) c.in-Left.is
+    (c.drop_cells.ensures.deletes c.args.row.now
+    (subst (λ (cells : List ℕ). StandForRow c.args.parts.now.catalog c.in-Some.relation.at cells c.args.row.now)
+    (sym c.as_slice.ensures)
+    (stands c.args.parts.now c.args.name.now c.args.row.now
+    (record { relation = c.in-Some.relation; cells = c.judge_delete.new.cells })
+    (subst (λ (j : Option RelationId). JudgesDelete c.args.parts.now.catalog c.args.name.now c.args.row.now
+    c.args.parts.now.seq c.judge_delete.new.cells j) c.in-Some.is c.in_ok-judged.ensures.ok))))) in
     registered_still c.args.parts.now c.drop_cells.new.parts c.drop_cells.ensures.rest gone.3.queries
 
 pub returns-in-Left-clause-tells : goal.returns-in-Left-clause-tells
 returns-in-Left-clause-tells g c =
-    let gone = (subst (λ (o : DeleteOutcome). DeletesFrom c.in-Some.relation.at c.args.row.now c.args.parts.now o c.drop_cells.new.parts) c.in-Left.is (c.drop_cells.ensures.deletes c.args.row.now (subst (λ (cells : List ℕ). StandForRow c.args.parts.now.catalog c.in-Some.relation.at cells c.args.row.now) (sym c.as_slice.ensures)
-    (stands c.args.parts.now c.args.name.now c.args.row.now (record { relation = c.in-Some.relation; cells = c.judge_delete.new.cells }) (subst (λ (j : Option RelationId). JudgesDelete c.args.parts.now.catalog c.args.name.now c.args.row.now c.args.parts.now.seq c.judge_delete.new.cells j) c.in-Some.is c.in_ok-judged.ensures.ok))))) in
-    tells_nothing (kept_in c.args.parts.now) (kept_in c.drop_cells.new.parts) c.args.steps.now.listing c.drop_cells.new.steps.listing
-    (subst (λ (o : DeleteOutcome). IfNoneWent o (c.drop_cells.new.steps.listing ≤ c.args.steps.now.listing)) c.in-Left.is c.drop_cells.ensures.idle)
+    let gone = (subst (λ (o : DeleteOutcome). DeletesFrom c.in-Some.relation.at c.args.row.now c.args.parts.now o
+    c.drop_cells.new.parts) c.in-Left.is
+    (c.drop_cells.ensures.deletes c.args.row.now
+    (subst (λ (cells : List ℕ). StandForRow c.args.parts.now.catalog c.in-Some.relation.at cells c.args.row.now)
+    (sym c.as_slice.ensures)
+    (stands c.args.parts.now c.args.name.now c.args.row.now
+    (record { relation = c.in-Some.relation; cells = c.judge_delete.new.cells })
+    (subst (λ (j : Option RelationId). JudgesDelete c.args.parts.now.catalog c.args.name.now c.args.row.now
+    c.args.parts.now.seq c.judge_delete.new.cells j) c.in-Some.is c.in_ok-judged.ensures.ok))))) in
+    tells_nothing (kept_in c.args.parts.now) (kept_in c.drop_cells.new.parts) c.args.steps.now.listing
+    c.drop_cells.new.steps.listing
+    (subst (λ (o : DeleteOutcome). IfNoneWent o (c.drop_cells.new.steps.listing ≤ c.args.steps.now.listing))
+    c.in-Left.is c.drop_cells.ensures.idle)
     (affected_same c.args.parts.now c.drop_cells.new.parts c.drop_cells.ensures.rest.affected)
     (λ id h. told_same c.args.parts.now c.drop_cells.new.parts gone.3.texts gone.3.queries gone.3.logs id.at)
 
 pub returns-in-Left-clause-updates : goal.returns-in-Left-clause-updates
 returns-in-Left-clause-updates g c =
-    let still = (subst (λ (o : DeleteOutcome). IfNoneWent o (c.drop_cells.new.steps.update ≤ c.args.steps.now.update)) c.in-Left.is c.drop_cells.ensures.unmoved) in
+    let still = (subst (λ (o : DeleteOutcome). IfNoneWent o (c.drop_cells.new.steps.update ≤ c.args.steps.now.update))
+    c.in-Left.is c.drop_cells.ensures.unmoved) in
     record { counted = λ n flat few. omega (arith, still) }
 
 pub returns-in-Absent-clause-whole : goal.returns-in-Absent-clause-whole
 returns-in-Absent-clause-whole g c =
-    let gone = (subst (λ (o : DeleteOutcome). DeletesFrom c.in-Some.relation.at c.args.row.now c.args.parts.now o c.drop_cells.new.parts) c.in-Absent.is (c.drop_cells.ensures.deletes c.args.row.now (subst (λ (cells : List ℕ). StandForRow c.args.parts.now.catalog c.in-Some.relation.at cells c.args.row.now) (sym c.as_slice.ensures)
-    (stands c.args.parts.now c.args.name.now c.args.row.now (record { relation = c.in-Some.relation; cells = c.judge_delete.new.cells }) (subst (λ (j : Option RelationId). JudgesDelete c.args.parts.now.catalog c.args.name.now c.args.row.now c.args.parts.now.seq c.judge_delete.new.cells j) c.in-Some.is c.in_ok-judged.ensures.ok))))) in
+    let gone = (subst (λ (o : DeleteOutcome). DeletesFrom c.in-Some.relation.at c.args.row.now c.args.parts.now o
+    c.drop_cells.new.parts) c.in-Absent.is
+    (c.drop_cells.ensures.deletes c.args.row.now
+    (subst (λ (cells : List ℕ). StandForRow c.args.parts.now.catalog c.in-Some.relation.at cells c.args.row.now)
+    (sym c.as_slice.ensures)
+    (stands c.args.parts.now c.args.name.now c.args.row.now
+    (record { relation = c.in-Some.relation; cells = c.judge_delete.new.cells })
+    (subst (λ (j : Option RelationId). JudgesDelete c.args.parts.now.catalog c.args.name.now c.args.row.now
+    c.args.parts.now.seq c.judge_delete.new.cells j) c.in-Some.is c.in_ok-judged.ensures.ok))))) in
     same_whole c.args.parts.now c.drop_cells.new.parts c.requires.whole gone.1 gone.2 c.drop_cells.ensures.rest
 
 pub returns-in-Absent-clause-tended : goal.returns-in-Absent-clause-tended
 returns-in-Absent-clause-tended g c =
-    let gone = (subst (λ (o : DeleteOutcome). DeletesFrom c.in-Some.relation.at c.args.row.now c.args.parts.now o c.drop_cells.new.parts) c.in-Absent.is (c.drop_cells.ensures.deletes c.args.row.now (subst (λ (cells : List ℕ). StandForRow c.args.parts.now.catalog c.in-Some.relation.at cells c.args.row.now) (sym c.as_slice.ensures)
-    (stands c.args.parts.now c.args.name.now c.args.row.now (record { relation = c.in-Some.relation; cells = c.judge_delete.new.cells }) (subst (λ (j : Option RelationId). JudgesDelete c.args.parts.now.catalog c.args.name.now c.args.row.now c.args.parts.now.seq c.judge_delete.new.cells j) c.in-Some.is c.in_ok-judged.ensures.ok))))) in
-    tended_still c.args.parts.now c.drop_cells.new.parts c.requires.tended c.drop_cells.ensures.rest gone.2 c.drop_cells.ensures.shown
+    let gone = (subst (λ (o : DeleteOutcome). DeletesFrom c.in-Some.relation.at c.args.row.now c.args.parts.now o
+    c.drop_cells.new.parts) c.in-Absent.is
+    (c.drop_cells.ensures.deletes c.args.row.now
+    (subst (λ (cells : List ℕ). StandForRow c.args.parts.now.catalog c.in-Some.relation.at cells c.args.row.now)
+    (sym c.as_slice.ensures)
+    (stands c.args.parts.now c.args.name.now c.args.row.now
+    (record { relation = c.in-Some.relation; cells = c.judge_delete.new.cells })
+    (subst (λ (j : Option RelationId). JudgesDelete c.args.parts.now.catalog c.args.name.now c.args.row.now
+    c.args.parts.now.seq c.judge_delete.new.cells j) c.in-Some.is c.in_ok-judged.ensures.ok))))) in
+    tended_still c.args.parts.now c.drop_cells.new.parts c.requires.tended c.drop_cells.ensures.rest gone.2
+    c.drop_cells.ensures.shown
 
 pub returns-in-Absent-clause-deletes : goal.returns-in-Absent-clause-deletes
 returns-in-Absent-clause-deletes g c =
-    let may = subst (λ (j : Option RelationId). JudgesDelete c.args.parts.now.catalog c.args.name.now c.args.row.now c.args.parts.now.seq c.judge_delete.new.cells j) c.in-Some.is c.in_ok-judged.ensures.ok in
-    let gone = (subst (λ (o : DeleteOutcome). DeletesFrom c.in-Some.relation.at c.args.row.now c.args.parts.now o c.drop_cells.new.parts) c.in-Absent.is (c.drop_cells.ensures.deletes c.args.row.now (subst (λ (cells : List ℕ). StandForRow c.args.parts.now.catalog c.in-Some.relation.at cells c.args.row.now) (sym c.as_slice.ensures)
-    (stands c.args.parts.now c.args.name.now c.args.row.now (record { relation = c.in-Some.relation; cells = c.judge_delete.new.cells }) may)))) in
-    delete_none c.args.parts.now c.args.name.now c.args.row.now (record { relation = c.in-Some.relation; cells = c.judge_delete.new.cells }) may c.drop_cells.new.parts gone c.drop_cells.ensures.rest.order c.drop_cells.ensures.rest.seq
+    let may = subst (λ (j : Option RelationId). JudgesDelete c.args.parts.now.catalog c.args.name.now c.args.row.now
+    c.args.parts.now.seq c.judge_delete.new.cells j) c.in-Some.is c.in_ok-judged.ensures.ok in
+    let gone = (subst (λ (o : DeleteOutcome). DeletesFrom c.in-Some.relation.at c.args.row.now c.args.parts.now o
+    c.drop_cells.new.parts) c.in-Absent.is
+    (c.drop_cells.ensures.deletes c.args.row.now
+    (subst (λ (cells : List ℕ). StandForRow c.args.parts.now.catalog c.in-Some.relation.at cells c.args.row.now)
+    (sym c.as_slice.ensures)
+    (stands c.args.parts.now c.args.name.now c.args.row.now
+    (record { relation = c.in-Some.relation; cells = c.judge_delete.new.cells }) may)))) in
+    delete_none c.args.parts.now c.args.name.now c.args.row.now
+    (record { relation = c.in-Some.relation; cells = c.judge_delete.new.cells }) may c.drop_cells.new.parts gone
+    c.drop_cells.ensures.rest.order c.drop_cells.ensures.rest.seq
 
 pub returns-in-Absent-clause-outdates : goal.returns-in-Absent-clause-outdates
 returns-in-Absent-clause-outdates g c =
-    let gone = (subst (λ (o : DeleteOutcome). DeletesFrom c.in-Some.relation.at c.args.row.now c.args.parts.now o c.drop_cells.new.parts) c.in-Absent.is (c.drop_cells.ensures.deletes c.args.row.now (subst (λ (cells : List ℕ). StandForRow c.args.parts.now.catalog c.in-Some.relation.at cells c.args.row.now) (sym c.as_slice.ensures)
-    (stands c.args.parts.now c.args.name.now c.args.row.now (record { relation = c.in-Some.relation; cells = c.judge_delete.new.cells }) (subst (λ (j : Option RelationId). JudgesDelete c.args.parts.now.catalog c.args.name.now c.args.row.now c.args.parts.now.seq c.judge_delete.new.cells j) c.in-Some.is c.in_ok-judged.ensures.ok))))) in
+    let gone = (subst (λ (o : DeleteOutcome). DeletesFrom c.in-Some.relation.at c.args.row.now c.args.parts.now o
+    c.drop_cells.new.parts) c.in-Absent.is
+    (c.drop_cells.ensures.deletes c.args.row.now
+    (subst (λ (cells : List ℕ). StandForRow c.args.parts.now.catalog c.in-Some.relation.at cells c.args.row.now)
+    (sym c.as_slice.ensures)
+    (stands c.args.parts.now c.args.name.now c.args.row.now
+    (record { relation = c.in-Some.relation; cells = c.judge_delete.new.cells })
+    (subst (λ (j : Option RelationId). JudgesDelete c.args.parts.now.catalog c.args.name.now c.args.row.now
+    c.args.parts.now.seq c.judge_delete.new.cells j) c.in-Some.is c.in_ok-judged.ensures.ok))))) in
     λ id. ap₂ (λ (x : Catalog) (qs : List (Option Live)). held_at (held_from x.texts zero qs) id) gone.1 gone.2
 
 pub returns-in-Absent-clause-watches : goal.returns-in-Absent-clause-watches
 returns-in-Absent-clause-watches g c =
-    let gone = (subst (λ (o : DeleteOutcome). DeletesFrom c.in-Some.relation.at c.args.row.now c.args.parts.now o c.drop_cells.new.parts) c.in-Absent.is (c.drop_cells.ensures.deletes c.args.row.now (subst (λ (cells : List ℕ). StandForRow c.args.parts.now.catalog c.in-Some.relation.at cells c.args.row.now) (sym c.as_slice.ensures)
-    (stands c.args.parts.now c.args.name.now c.args.row.now (record { relation = c.in-Some.relation; cells = c.judge_delete.new.cells }) (subst (λ (j : Option RelationId). JudgesDelete c.args.parts.now.catalog c.args.name.now c.args.row.now c.args.parts.now.seq c.judge_delete.new.cells j) c.in-Some.is c.in_ok-judged.ensures.ok))))) in
+    let gone = (subst (λ (o : DeleteOutcome). DeletesFrom c.in-Some.relation.at c.args.row.now c.args.parts.now o
+    c.drop_cells.new.parts) c.in-Absent.is
+    (c.drop_cells.ensures.deletes c.args.row.now
+    (subst (λ (cells : List ℕ). StandForRow c.args.parts.now.catalog c.in-Some.relation.at cells c.args.row.now)
+    (sym c.as_slice.ensures)
+    (stands c.args.parts.now c.args.name.now c.args.row.now
+    (record { relation = c.in-Some.relation; cells = c.judge_delete.new.cells })
+    (subst (λ (j : Option RelationId). JudgesDelete c.args.parts.now.catalog c.args.name.now c.args.row.now
+    c.args.parts.now.seq c.judge_delete.new.cells j) c.in-Some.is c.in_ok-judged.ensures.ok))))) in
     registered_still c.args.parts.now c.drop_cells.new.parts c.drop_cells.ensures.rest gone.2
 
 pub returns-in-Absent-clause-tells : goal.returns-in-Absent-clause-tells
 returns-in-Absent-clause-tells g c =
-    let gone = (subst (λ (o : DeleteOutcome). DeletesFrom c.in-Some.relation.at c.args.row.now c.args.parts.now o c.drop_cells.new.parts) c.in-Absent.is (c.drop_cells.ensures.deletes c.args.row.now (subst (λ (cells : List ℕ). StandForRow c.args.parts.now.catalog c.in-Some.relation.at cells c.args.row.now) (sym c.as_slice.ensures)
-    (stands c.args.parts.now c.args.name.now c.args.row.now (record { relation = c.in-Some.relation; cells = c.judge_delete.new.cells }) (subst (λ (j : Option RelationId). JudgesDelete c.args.parts.now.catalog c.args.name.now c.args.row.now c.args.parts.now.seq c.judge_delete.new.cells j) c.in-Some.is c.in_ok-judged.ensures.ok))))) in
-    tells_nothing (kept_in c.args.parts.now) (kept_in c.drop_cells.new.parts) c.args.steps.now.listing c.drop_cells.new.steps.listing
-    (subst (λ (o : DeleteOutcome). IfNoneWent o (c.drop_cells.new.steps.listing ≤ c.args.steps.now.listing)) c.in-Absent.is c.drop_cells.ensures.idle)
+    let gone = (subst (λ (o : DeleteOutcome). DeletesFrom c.in-Some.relation.at c.args.row.now c.args.parts.now o
+    c.drop_cells.new.parts) c.in-Absent.is
+    (c.drop_cells.ensures.deletes c.args.row.now
+    (subst (λ (cells : List ℕ). StandForRow c.args.parts.now.catalog c.in-Some.relation.at cells c.args.row.now)
+    (sym c.as_slice.ensures)
+    (stands c.args.parts.now c.args.name.now c.args.row.now
+    (record { relation = c.in-Some.relation; cells = c.judge_delete.new.cells })
+    (subst (λ (j : Option RelationId). JudgesDelete c.args.parts.now.catalog c.args.name.now c.args.row.now
+    c.args.parts.now.seq c.judge_delete.new.cells j) c.in-Some.is c.in_ok-judged.ensures.ok))))) in
+    tells_nothing (kept_in c.args.parts.now) (kept_in c.drop_cells.new.parts) c.args.steps.now.listing
+    c.drop_cells.new.steps.listing
+    (subst (λ (o : DeleteOutcome). IfNoneWent o (c.drop_cells.new.steps.listing ≤ c.args.steps.now.listing))
+    c.in-Absent.is c.drop_cells.ensures.idle)
     (affected_same c.args.parts.now c.drop_cells.new.parts c.drop_cells.ensures.rest.affected)
-    (λ id h. told_same c.args.parts.now c.drop_cells.new.parts (ap (λ (x : Catalog). x.texts) gone.1) gone.2 gone.3 id.at)
+    (λ id h. told_same c.args.parts.now c.drop_cells.new.parts (ap (λ (x : Catalog). x.texts) gone.1) gone.2 gone.3
+    id.at)
 
 pub returns-in-Absent-clause-updates : goal.returns-in-Absent-clause-updates
 returns-in-Absent-clause-updates g c =
-    let still = (subst (λ (o : DeleteOutcome). IfNoneWent o (c.drop_cells.new.steps.update ≤ c.args.steps.now.update)) c.in-Absent.is c.drop_cells.ensures.unmoved) in
+    let still = (subst (λ (o : DeleteOutcome). IfNoneWent o (c.drop_cells.new.steps.update ≤ c.args.steps.now.update))
+    c.in-Absent.is c.drop_cells.ensures.unmoved) in
     record { counted = λ n flat few. omega (arith, still) }
 
 pub returns-in-Left-clause-unlisted : goal.returns-in-Left-clause-unlisted
 returns-in-Left-clause-unlisted g c none =
-    let may = subst (λ (j : Option RelationId). JudgesDelete c.args.parts.now.catalog c.args.name.now c.args.row.now c.args.parts.now.seq c.judge_delete.new.cells j) c.in-Some.is c.in_ok-judged.ensures.ok in
-    c.drop_cells.ensures.unlisted (unwatched_readers c.args.parts.now.catalog c.args.parts.now.queries.items c.args.parts.now.order c.args.parts.now.readers.items c.args.parts.now.watchers.items c.requires.whole
+    let may = subst (λ (j : Option RelationId). JudgesDelete c.args.parts.now.catalog c.args.name.now c.args.row.now
+    c.args.parts.now.seq c.judge_delete.new.cells j) c.in-Some.is c.in_ok-judged.ensures.ok in
+    c.drop_cells.ensures.unlisted
+    (unwatched_readers c.args.parts.now.catalog c.args.parts.now.queries.items c.args.parts.now.order
+    c.args.parts.now.readers.items c.args.parts.now.watchers.items c.requires.whole
     c.in-Some.relation.at may.relation.below none)
 
 pub returns-in-Absent-clause-unlisted : goal.returns-in-Absent-clause-unlisted
 returns-in-Absent-clause-unlisted g c none =
-    let may = subst (λ (j : Option RelationId). JudgesDelete c.args.parts.now.catalog c.args.name.now c.args.row.now c.args.parts.now.seq c.judge_delete.new.cells j) c.in-Some.is c.in_ok-judged.ensures.ok in
-    c.drop_cells.ensures.unlisted (unwatched_readers c.args.parts.now.catalog c.args.parts.now.queries.items c.args.parts.now.order c.args.parts.now.readers.items c.args.parts.now.watchers.items c.requires.whole
+    let may = subst (λ (j : Option RelationId). JudgesDelete c.args.parts.now.catalog c.args.name.now c.args.row.now
+    c.args.parts.now.seq c.judge_delete.new.cells j) c.in-Some.is c.in_ok-judged.ensures.ok in
+    c.drop_cells.ensures.unlisted
+    (unwatched_readers c.args.parts.now.catalog c.args.parts.now.queries.items c.args.parts.now.order
+    c.args.parts.now.readers.items c.args.parts.now.watchers.items c.requires.whole
     c.in-Some.relation.at may.relation.below none)
 
 pub returns-clause-unlisted : goal.returns-clause-unlisted
 returns-clause-unlisted g c none =
-    let may = subst (λ (j : Option RelationId). JudgesDelete c.args.parts.now.catalog c.args.name.now c.args.row.now c.args.parts.now.seq c.judge_delete.new.cells j) c.in-Some.is c.in_ok-judged.ensures.ok in
-    c.drop_cells.ensures.unlisted (unwatched_readers c.args.parts.now.catalog c.args.parts.now.queries.items c.args.parts.now.order c.args.parts.now.readers.items c.args.parts.now.watchers.items c.requires.whole
+    let may = subst (λ (j : Option RelationId). JudgesDelete c.args.parts.now.catalog c.args.name.now c.args.row.now
+    c.args.parts.now.seq c.judge_delete.new.cells j) c.in-Some.is c.in_ok-judged.ensures.ok in
+    c.drop_cells.ensures.unlisted
+    (unwatched_readers c.args.parts.now.catalog c.args.parts.now.queries.items c.args.parts.now.order
+    c.args.parts.now.readers.items c.args.parts.now.watchers.items c.requires.whole
     c.in-Some.relation.at may.relation.below none)
 
 pub affect-requires-clause-within : goal.affect-requires-clause-within
 affect-requires-clause-within g c =
-    let may = subst (λ (j : Option RelationId). JudgesDelete c.args.parts.now.catalog c.args.name.now c.args.row.now c.args.parts.now.seq c.judge_delete.new.cells j) c.in-Some.is c.in_ok-judged.ensures.ok in
+    let may = subst (λ (j : Option RelationId). JudgesDelete c.args.parts.now.catalog c.args.name.now c.args.row.now
+    c.args.parts.now.seq c.judge_delete.new.cells j) c.in-Some.is c.in_ok-judged.ensures.ok in
     readers_within c.args.parts.now c.drop_cells.new.parts c.requires.whole c.in-Some.relation.at may.relation.below
     c.drop_cells.ensures.rest.readers
 
 pub affect-requires-clause-room : goal.affect-requires-clause-room
 affect-requires-clause-room g c =
-    let may = subst (λ (j : Option RelationId). JudgesDelete c.args.parts.now.catalog c.args.name.now c.args.row.now c.args.parts.now.seq c.judge_delete.new.cells j) c.in-Some.is c.in_ok-judged.ensures.ok in
+    let may = subst (λ (j : Option RelationId). JudgesDelete c.args.parts.now.catalog c.args.name.now c.args.row.now
+    c.args.parts.now.seq c.judge_delete.new.cells j) c.in-Some.is c.in_ok-judged.ensures.ok in
     readers_few c.args.parts.now c.drop_cells.new.parts c.requires.whole c.in-Some.relation.at may.relation.below
     c.drop_cells.ensures.rest c.requires.tended
 
 pub returns-in_err-judged-clause-places : goal.returns-in_err-judged-clause-places
-returns-in_err-judged-clause-places g c = keeps_equal _ c.args.parts.now.queries.items c.args.parts.now.queries.items refl
+returns-in_err-judged-clause-places g c = keeps_equal _ c.args.parts.now.queries.items c.args.parts.now.queries.items
+    refl
 
 pub returns-in_default-clause-places : goal.returns-in_default-clause-places
 returns-in_default-clause-places g c = keeps_equal _ c.args.parts.now.queries.items c.args.parts.now.queries.items refl
 
 pub returns-in-Left-clause-places : goal.returns-in-Left-clause-places
 returns-in-Left-clause-places g c =
-    let gone = (subst (λ (o : DeleteOutcome). DeletesFrom c.in-Some.relation.at c.args.row.now c.args.parts.now o c.drop_cells.new.parts) c.in-Left.is (c.drop_cells.ensures.deletes c.args.row.now (subst (λ (cells : List ℕ). StandForRow c.args.parts.now.catalog c.in-Some.relation.at cells c.args.row.now) (sym c.as_slice.ensures)
-    (stands c.args.parts.now c.args.name.now c.args.row.now (record { relation = c.in-Some.relation; cells = c.judge_delete.new.cells }) (subst (λ (j : Option RelationId). JudgesDelete c.args.parts.now.catalog c.args.name.now c.args.row.now c.args.parts.now.seq c.judge_delete.new.cells j) c.in-Some.is c.in_ok-judged.ensures.ok))))) in
+    let gone = (subst (λ (o : DeleteOutcome). DeletesFrom c.in-Some.relation.at c.args.row.now c.args.parts.now o
+    c.drop_cells.new.parts) c.in-Left.is
+    (c.drop_cells.ensures.deletes c.args.row.now
+    (subst (λ (cells : List ℕ). StandForRow c.args.parts.now.catalog c.in-Some.relation.at cells c.args.row.now)
+    (sym c.as_slice.ensures)
+    (stands c.args.parts.now c.args.name.now c.args.row.now
+    (record { relation = c.in-Some.relation; cells = c.judge_delete.new.cells })
+    (subst (λ (j : Option RelationId). JudgesDelete c.args.parts.now.catalog c.args.name.now c.args.row.now
+    c.args.parts.now.seq c.judge_delete.new.cells j) c.in-Some.is c.in_ok-judged.ensures.ok))))) in
     keeps_equal _ c.args.parts.now.queries.items c.drop_cells.new.parts.queries.items gone.3.queries
 
 pub returns-in-Absent-clause-places : goal.returns-in-Absent-clause-places
 returns-in-Absent-clause-places g c =
-    let gone = (subst (λ (o : DeleteOutcome). DeletesFrom c.in-Some.relation.at c.args.row.now c.args.parts.now o c.drop_cells.new.parts) c.in-Absent.is (c.drop_cells.ensures.deletes c.args.row.now (subst (λ (cells : List ℕ). StandForRow c.args.parts.now.catalog c.in-Some.relation.at cells c.args.row.now) (sym c.as_slice.ensures)
-    (stands c.args.parts.now c.args.name.now c.args.row.now (record { relation = c.in-Some.relation; cells = c.judge_delete.new.cells }) (subst (λ (j : Option RelationId). JudgesDelete c.args.parts.now.catalog c.args.name.now c.args.row.now c.args.parts.now.seq c.judge_delete.new.cells j) c.in-Some.is c.in_ok-judged.ensures.ok))))) in
+    let gone = (subst (λ (o : DeleteOutcome). DeletesFrom c.in-Some.relation.at c.args.row.now c.args.parts.now o
+    c.drop_cells.new.parts) c.in-Absent.is
+    (c.drop_cells.ensures.deletes c.args.row.now
+    (subst (λ (cells : List ℕ). StandForRow c.args.parts.now.catalog c.in-Some.relation.at cells c.args.row.now)
+    (sym c.as_slice.ensures)
+    (stands c.args.parts.now c.args.name.now c.args.row.now
+    (record { relation = c.in-Some.relation; cells = c.judge_delete.new.cells })
+    (subst (λ (j : Option RelationId). JudgesDelete c.args.parts.now.catalog c.args.name.now c.args.row.now
+    c.args.parts.now.seq c.judge_delete.new.cells j) c.in-Some.is c.in_ok-judged.ensures.ok))))) in
     keeps_equal _ c.args.parts.now.queries.items c.drop_cells.new.parts.queries.items gone.2
 
 pub returns-clause-places : goal.returns-clause-places
 returns-clause-places g c =
-    let may = subst (λ (j : Option RelationId). JudgesDelete c.args.parts.now.catalog c.args.name.now c.args.row.now c.args.parts.now.seq c.judge_delete.new.cells j) c.in-Some.is c.in_ok-judged.ensures.ok in
-    let stand = subst (λ (cells : List ℕ). StandForRow c.args.parts.now.catalog c.in-Some.relation.at cells c.args.row.now) (sym c.as_slice.ensures) (stands c.args.parts.now c.args.name.now c.args.row.now (record { relation = c.in-Some.relation; cells = c.judge_delete.new.cells }) may) in
-    let went = subst (λ (o : DeleteOutcome). DeletesFrom c.in-Some.relation.at c.args.row.now c.args.parts.now o c.drop_cells.new.parts) c.in-Last.is (c.drop_cells.ensures.deletes c.args.row.now stand) in
-    keeps_changed c.args.parts.now (record c.drop_cells.new.parts { seq = c.drop_cells.new.parts.seq + 1; affected = c.affect.new.affected }) c.age_readers.new.parts c.requires.whole
-    c.in-Some.relation.at c.args.name.now (row_out c.args.parts.now.catalog.relations c.args.name.now c.args.row.now).after may.relation.below may.relation.named went.2.has.carries
+    let may = subst (λ (j : Option RelationId). JudgesDelete c.args.parts.now.catalog c.args.name.now c.args.row.now
+    c.args.parts.now.seq c.judge_delete.new.cells j) c.in-Some.is c.in_ok-judged.ensures.ok in
+    let stand = subst (λ (cells : List ℕ). StandForRow c.args.parts.now.catalog c.in-Some.relation.at cells
+    c.args.row.now) (sym c.as_slice.ensures)
+    (stands c.args.parts.now c.args.name.now c.args.row.now
+    (record { relation = c.in-Some.relation; cells = c.judge_delete.new.cells }) may) in
+    let went = subst (λ (o : DeleteOutcome). DeletesFrom c.in-Some.relation.at c.args.row.now c.args.parts.now o
+    c.drop_cells.new.parts) c.in-Last.is (c.drop_cells.ensures.deletes c.args.row.now stand) in
+    keeps_changed c.args.parts.now
+    (record c.drop_cells.new.parts { seq = c.drop_cells.new.parts.seq + 1; affected = c.affect.new.affected })
+    c.age_readers.new.parts c.requires.whole
+    c.in-Some.relation.at c.args.name.now
+    (row_out c.args.parts.now.catalog.relations c.args.name.now c.args.row.now).after may.relation.below
+    may.relation.named went.2.has.carries
     c.drop_cells.ensures.rest.readers c.age_readers.ensures

@@ -29,7 +29,8 @@ returns-in-Ok-relation-clause-tended c = record {
   watched = c.requires.tended.watched;
   logged = c.requires.tended.logged;
   room = c.requires.tended.room;
-  shown = subst (λ (ts : List Bytes). AreShown ts c.args.parts.now.queries.items c.args.parts.now.logs.items) (sym c.relation.ensures.texts) c.requires.tended.shown;
+  shown = subst (λ (ts : List Bytes). AreShown ts c.args.parts.now.queries.items c.args.parts.now.logs.items)
+      (sym c.relation.ensures.texts) c.requires.tended.shown;
 }
 
 pub returns-in-Err-clause-tended : goal.returns-in-Err-clause-tended
@@ -37,7 +38,8 @@ returns-in-Err-clause-tended c = record {
   watched = c.requires.tended.watched;
   logged = c.requires.tended.logged;
   room = c.requires.tended.room;
-  shown = subst (λ (ts : List Bytes). AreShown ts c.args.parts.now.queries.items c.args.parts.now.logs.items) (sym c.relation.ensures.texts) c.requires.tended.shown;
+  shown = subst (λ (ts : List Bytes). AreShown ts c.args.parts.now.queries.items c.args.parts.now.logs.items)
+      (sym c.relation.ensures.texts) c.requires.tended.shown;
 }
 
 pub returns-in-Ok-relation-clause-tellings : goal.returns-in-Ok-relation-clause-tellings

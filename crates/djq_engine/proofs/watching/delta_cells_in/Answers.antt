@@ -23,32 +23,43 @@ pub line_at-line-requires : goal.line_at-line-requires
 line_at-line-requires c =
     let p = c.args.parts.now in
     let t = query_kept_there p c.requires.whole c.args.id c.requires.registered in
-    let low : c.args.id.at < length p.logs.items = omega (arith, below_queries p c.requires.whole c.args.id t, c.requires.tended.logged) in
-    subst (λ (x : Log). c.args.nth < length x.lines) (sym (log_read p.logs.items c.args.id.at c.index.result.now low c.index.ensures))
+    let low : c.args.id.at < length p.logs.items = omega
+    (arith, below_queries p c.requires.whole c.args.id t, c.requires.tended.logged) in
+    subst (λ (x : Log). c.args.nth < length x.lines)
+    (sym (log_read p.logs.items c.args.id.at c.index.result.now low c.index.ensures))
     (line_there p c.requires.whole c.args.id t c.args.nth c.requires.within).1
 
 pub index-requires-2 : goal.index-requires-2
 index-requires-2 c =
     let p = c.args.parts.now in
-    omega (arith, below_queries p c.requires.whole c.args.id (query_kept_there p c.requires.whole c.args.id c.requires.registered))
+    omega (
+      arith,
+      below_queries p c.requires.whole c.args.id
+          (query_kept_there p c.requires.whole c.args.id c.requires.registered),
+    )
 
 pub unreachable-requires : goal.unreachable-requires
 unreachable-requires c =
     let p = c.args.parts.now in
-    there_not_none p.queries.items c.args.id.at (query_kept_there p c.requires.whole c.args.id c.requires.registered) c.index-2.result.now c.index-2.ensures c.in-None.is
+    there_not_none p.queries.items c.args.id.at (query_kept_there p c.requires.whole c.args.id c.requires.registered)
+    c.index-2.result.now c.index-2.ensures c.in-None.is
 
 pub put_in_head-requires-clause-kept : goal.put_in_head-requires-clause-kept
 put_in_head-requires-clause-kept c =
     let p = c.args.parts.now in
-    let is = place_read p.queries.items c.args.id.at c.index-2.result.now c.in-Some.live (below_queries p c.requires.whole c.args.id (query_kept_there p c.requires.whole c.args.id c.requires.registered)) c.index-2.ensures c.in-Some.is in
+    let is = place_read p.queries.items c.args.id.at c.index-2.result.now c.in-Some.live
+    (below_queries p c.requires.whole c.args.id
+    (query_kept_there p c.requires.whole c.args.id c.requires.registered)) c.index-2.ensures c.in-Some.is in
     (p.catalog, (c.requires.whole.live c.args.id.at c.in-Some.live is).kept)
 
 pub put_in_head-requires-clause-wide : goal.put_in_head-requires-clause-wide
 put_in_head-requires-clause-wide c =
     let p = c.args.parts.now in
     let k = query_kept_there p c.requires.whole c.args.id c.requires.registered in
-    let there = place_read p.queries.items c.args.id.at c.index-2.result.now c.in-Some.live (below_queries p c.requires.whole c.args.id k) c.index-2.ensures c.in-Some.is in
-    let low : c.args.id.at < length p.logs.items = omega (arith, below_queries p c.requires.whole c.args.id k, c.requires.tended.logged) in
+    let there = place_read p.queries.items c.args.id.at c.index-2.result.now c.in-Some.live
+    (below_queries p c.requires.whole c.args.id k) c.index-2.ensures c.in-Some.is in
+    let low : c.args.id.at < length p.logs.items = omega
+    (arith, below_queries p c.requires.whole c.args.id k, c.requires.tended.logged) in
     let is = log_read p.logs.items c.args.id.at c.index.result.now low c.index.ensures in
     let l = line_there p c.requires.whole c.args.id k c.args.nth c.requires.within in
     (all_got (λ x. IsShowable p.catalog.texts c.in-Some.live x.answer) _ c.args.nth c.line_at-line.result.now
@@ -59,13 +70,16 @@ pub returns : goal.returns
 returns c =
     let p = c.args.parts.now in
     let k = query_kept_there p c.requires.whole c.args.id c.requires.registered in
-    let there = place_read p.queries.items c.args.id.at c.index-2.result.now c.in-Some.live (below_queries p c.requires.whole c.args.id k) c.index-2.ensures c.in-Some.is in
+    let there = place_read p.queries.items c.args.id.at c.index-2.result.now c.in-Some.live
+    (below_queries p c.requires.whole c.args.id k) c.index-2.ensures c.in-Some.is in
     let t : There p.queries.items c.args.id.at = record { query = c.in-Some.live; is = there } in
-    let low : c.args.id.at < length p.logs.items = omega (arith, below_queries p c.requires.whole c.args.id k, c.requires.tended.logged) in
+    let low : c.args.id.at < length p.logs.items = omega
+    (arith, below_queries p c.requires.whole c.args.id k, c.requires.tended.logged) in
     let is = log_read p.logs.items c.args.id.at c.index.result.now low c.index.ensures in
     let l = line_there p c.requires.whole c.args.id k c.args.nth c.requires.within in
     let got = ap (λ (x : Log). slice_get x.lines c.args.nth) (sym is) ∙ c.line_at-line.ensures in
-    let shown = all_got (λ x. IsShowable p.catalog.texts c.in-Some.live x.answer) _ c.args.nth c.line_at-line.result.now got
+    let shown = all_got (λ x. IsShowable p.catalog.texts c.in-Some.live x.answer) _ c.args.nth c.line_at-line.result.now
+    got
     (c.requires.tended.shown c.args.id.at c.in-Some.live there l.0) in
     subst (λ (o : Option Live). IsSomeAnd o (λ m. IsSomeAnd (told_at (kept_in p) c.args.id)
     (λ changes. IsSomeAnd (slice_get changes c.args.nth) (λ x. (sign_of c.line_at-line.result.now.came ≡ x.sign)

@@ -15,7 +15,8 @@ pub returns-then-lost : goal.returns-then-lost
 returns-then-lost c =
     let p = c.args.parts.now in
     let t = query_kept_there p c.requires.whole c.args.id c.requires.registered in
-    let low : c.args.id.at < length p.logs.items = omega (arith, below_queries p c.requires.whole c.args.id t, c.requires.tended.logged) in
+    let low : c.args.id.at < length p.logs.items = omega
+    (arith, below_queries p c.requires.whole c.args.id t, c.requires.tended.logged) in
     let is = log_read p.logs.items c.args.id.at c.index-log.result.now low c.index-log.ensures in
     long_lost p c.requires.whole c.args.id t (ap (λ (x : Log). x.lost) (sym is) ∙ sym c.if-lost.ensures.lost)
 
@@ -23,7 +24,9 @@ pub returns : goal.returns
 returns c =
     let p = c.args.parts.now in
     let t = query_kept_there p c.requires.whole c.args.id c.requires.registered in
-    let low : c.args.id.at < length p.logs.items = omega (arith, below_queries p c.requires.whole c.args.id t, c.requires.tended.logged) in
+    let low : c.args.id.at < length p.logs.items = omega
+    (arith, below_queries p c.requires.whole c.args.id t, c.requires.tended.logged) in
     let is = log_read p.logs.items c.args.id.at c.index-log.result.now low c.index-log.ensures in
-    long_lines p c.requires.whole c.args.id t (length c.lines.result.now) (ap (λ (xs : List Line). length xs) c.lines.ensures ∙ ap (λ (x : Log). length x.lines) is)
+    long_lines p c.requires.whole c.args.id t (length c.lines.result.now)
+    (ap (λ (xs : List Line). length xs) c.lines.ensures ∙ ap (λ (x : Log). length x.lines) is)
     (ap (λ (x : Log). x.lost) (sym is) ∙ sym c.if-lost.ensures.lost)

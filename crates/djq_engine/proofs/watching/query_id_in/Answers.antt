@@ -9,11 +9,15 @@ use Rattle.djq_engine.proofs.watching.query_id_in.Goals as goal
 pub returns-in-Some : goal.returns-in-Some
 returns-in-Some c =
     let p = c.args.parts.now in
-    sym (ap (option_map (λ (r : Registered). r.id)) (name_found p.catalog p.queries.items p.order p.readers.items p.watchers.items c.requires c.args.name.now c.in-Some.at
-    (first_query p.queries.items c.args.name.now c.in-Some.at (c.in-Some.ensures ∙ ap (position (is_query c.args.name.now)) c.as_slice.ensures.value))))
+    sym (ap (option_map (λ (r : Registered). r.id))
+    (name_found p.catalog p.queries.items p.order p.readers.items p.watchers.items c.requires c.args.name.now
+    c.in-Some.at
+    (first_query p.queries.items c.args.name.now c.in-Some.at
+    (c.in-Some.ensures ∙ ap (position (is_query c.args.name.now)) c.as_slice.ensures.value))))
 
 pub returns-in-None : goal.returns-in-None
 returns-in-None c =
     let p = c.args.parts.now in
-    sym (ap (option_map (λ (r : Registered). r.id)) (name_unknown p.catalog p.queries.items p.order p.readers.items p.watchers.items c.requires c.args.name.now
+    sym (ap (option_map (λ (r : Registered). r.id))
+    (name_unknown p.catalog p.queries.items p.order p.readers.items p.watchers.items c.requires c.args.name.now
     (c.in-None.ensures ∙ ap (position (is_query c.args.name.now)) c.as_slice.ensures.value)))

@@ -11,17 +11,23 @@ use Rattle.djq_engine.proofs.watching.query_name_in.Goals as goal
 pub index-requires : goal.index-requires
 index-requires c =
     let p = c.args.parts.now in
-    omega (arith, below_queries p c.requires.whole c.args.id (query_kept_there p c.requires.whole c.args.id c.requires.registered))
+    omega (
+      arith,
+      below_queries p c.requires.whole c.args.id
+          (query_kept_there p c.requires.whole c.args.id c.requires.registered),
+    )
 
 pub unreachable-requires : goal.unreachable-requires
 unreachable-requires c =
     let p = c.args.parts.now in
-    there_not_none p.queries.items c.args.id.at (query_kept_there p c.requires.whole c.args.id c.requires.registered) c.index.result.now c.index.ensures c.in-None.is
+    there_not_none p.queries.items c.args.id.at (query_kept_there p c.requires.whole c.args.id c.requires.registered)
+    c.index.result.now c.index.ensures c.in-None.is
 
 pub returns : goal.returns
 returns c =
     let p = c.args.parts.now in
     let t = query_kept_there p c.requires.whole c.args.id c.requires.registered in
-    let there = place_read p.queries.items c.args.id.at c.index.result.now c.in-Some.live (below_queries p c.requires.whole c.args.id t) c.index.ensures c.in-Some.is in
+    let there = place_read p.queries.items c.args.id.at c.index.result.now c.in-Some.live
+    (below_queries p c.requires.whole c.args.id t) c.index.ensures c.in-Some.is in
     gives_that p c.requires.whole c.args.id (λ r. c.query.result.now.name ≡ listed_name r.query) t
     (ap (λ (q : Query). q.name) c.query.ensures ∙ sym (ap (λ (o : Option Live). listed_name (query_in o)) there))

@@ -13,7 +13,8 @@ pub overflow_add-index_mut : goal.overflow_add-index_mut
 overflow_add-index_mut c =
     let p = c.args.parts.now in
     let t = has_query p c.requires.whole c.args.id (λ r. r.watchers < 4294967295) c.requires.few in
-    let low : c.args.id.at < length p.watchers.items = omega (arith, below_queries p c.requires.whole c.args.id t, c.requires.tended.watched) in
+    let low : c.args.id.at < length p.watchers.items = omega
+    (arith, below_queries p c.requires.whole c.args.id t, c.requires.tended.watched) in
     let is = c.index_mut.ensures.value ∙ get_or_default p.watchers.items c.args.id.at c.index_mut.result.now 0 low in
     let bound = has_that p c.requires.whole c.args.id (λ r. r.watchers < 4294967295) c.requires.few in
     omega (arith, is, bound)
@@ -22,6 +23,8 @@ pub returns-clause-watches : goal.returns-clause-watches
 returns-clause-watches c =
     let p = c.args.parts.now in
     let t = has_query p c.requires.whole c.args.id (λ r. r.watchers < 4294967295) c.requires.few in
-    let low : c.args.id.at < length p.watchers.items = omega (arith, below_queries p c.requires.whole c.args.id t, c.requires.tended.watched) in
+    let low : c.args.id.at < length p.watchers.items = omega
+    (arith, below_queries p c.requires.whole c.args.id t, c.requires.tended.watched) in
     watched_more p c.requires.whole c.args.id t (λ n. n + 1) (c.index_mut.result.now + 1)
-    (ap (λ (n : ℕ). n + 1) (c.index_mut.ensures.value ∙ get_or_default p.watchers.items c.args.id.at c.index_mut.result.now 0 low)) low
+    (ap (λ (n : ℕ). n + 1)
+    (c.index_mut.ensures.value ∙ get_or_default p.watchers.items c.args.id.at c.index_mut.result.now 0 low)) low

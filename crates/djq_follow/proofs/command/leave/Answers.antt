@@ -15,7 +15,8 @@ returns-in-Whole g c =
     let faults = g.S.Source.faults c.args.source.now in
     let faults' = g.S.Source.faults c.follow.new.source in
     let held = c.follow.new.follower.held in
-    let ends = subst (λ (name : List ℕ). FollowEnds Whole name before now faults faults' held) (c.new-follower.ensures.name ∙ c.new.ensures.name) c.in-Whole.ensures in
+    let ends = subst (λ (name : List ℕ). FollowEnds Whole name before now faults faults' held)
+    (c.new-follower.ensures.name ∙ c.new.ensures.name) c.in-Whole.ensures in
     either c.written-in-Whole.result _ _ _ _
     (λ made h. leaves_whole c.args.query before now faults faults' held made.0.items made.1 ends
     (h.0 ∙ ap (λ (o : Held). written o) c.into_mirror.ensures.held) h.1)
@@ -30,7 +31,8 @@ returns-in-Halted g c =
     let faults' = g.S.Source.faults c.follow.new.source in
     let held = c.follow.new.follower.held in
     let halt = c.in-Halted.halt in
-    let ends = subst (λ (name : List ℕ). FollowEnds (Halted halt) name before now faults faults' held) (c.new-follower.ensures.name ∙ c.new.ensures.name) c.in-Halted.ensures in
+    let ends = subst (λ (name : List ℕ). FollowEnds (Halted halt) name before now faults faults' held)
+    (c.new-follower.ensures.name ∙ c.new.ensures.name) c.in-Halted.ensures in
     either c.tell_halt.result _ _ _ _
     (λ made h. leaves_halted c.args.query before now faults faults' held halt made.0.items made.1 ends h)
     (λ answer h. lacks_halted c.args.query before now faults faults' held halt answer ends h)
@@ -44,4 +46,5 @@ returns g c =
     let faults' = g.S.Source.faults c.follow.new.source in
     let held = c.follow.new.follower.held in
     fails c.args.query before now faults faults' held
-    (subst (λ (name : List ℕ). FollowEnds ReadFault name before now faults faults' held) (c.new-follower.ensures.name ∙ c.new.ensures.name) c.in-ReadFault.ensures)
+    (subst (λ (name : List ℕ). FollowEnds ReadFault name before now faults faults' held)
+    (c.new-follower.ensures.name ∙ c.new.ensures.name) c.in-ReadFault.ensures)

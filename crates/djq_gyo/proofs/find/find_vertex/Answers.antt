@@ -9,7 +9,9 @@ use Rattle.djq_gyo.proofs.find.find_vertex.Goals as goal
 pub returns-in-Some-clause-some : goal.returns-in-Some-clause-some
 returns-in-Some-clause-some c =
     let is = read_at c.args.sets.now c.sets.edge c.index-sets-edge.result c.sets-test.true c.index-sets-edge.is in
-    vertex_step c.args.sets.now c.sets.edge c.in-Some.variable c.index-sets-edge.result c.own_variables-own.result c.intersection-shared.result c.sets-test.true is c.own_variables-own.ensures c.intersection-shared.ensures c.in-Some.ensures
+    vertex_step c.args.sets.now c.sets.edge c.in-Some.variable c.index-sets-edge.result c.own_variables-own.result
+    c.intersection-shared.result c.sets-test.true is c.own_variables-own.ensures c.intersection-shared.ensures
+    c.in-Some.ensures
 
 pub sets-preserved : goal.sets-preserved
 sets-preserved c =
@@ -19,6 +21,9 @@ sets-preserved c =
       | inl before ↦ c.sets.invariant i x before lies once
       | inr last ↦
           let same : i ≡ c.sets.edge = omega arith in
-          let here : member x (edge_at c.args.sets.now c.sets.edge) ≡ true = ap (λ (k : ℕ). member x (edge_at c.args.sets.now k)) (sym same) ∙ lies in
-          no_vertex c.args.sets.now c.sets.edge c.index-sets-edge.result c.own_variables-own.result c.intersection-shared.result is c.own_variables-own.ensures c.intersection-shared.ensures c.in_default.ensures x here once
+          let here : member x (edge_at c.args.sets.now c.sets.edge)
+          ≡ true = ap (λ (k : ℕ). member x (edge_at c.args.sets.now k)) (sym same) ∙ lies in
+          no_vertex c.args.sets.now c.sets.edge c.index-sets-edge.result c.own_variables-own.result
+          c.intersection-shared.result is c.own_variables-own.ensures c.intersection-shared.ensures
+          c.in_default.ensures x here once
     ]

@@ -23,11 +23,13 @@ returns-then-not-stands c =
 
 pub offset_bounds-edges-link-2 : goal.offset_bounds-edges-link-2
 offset_bounds-edges-link-2 c =
-    let low : c.args.link.parent < length c.args.edges.now = c.requires.below c.args.link.parent (any_some c.args.link.parent c.args.before.now (sym c.stands-2.ensures ∙ c.if-not-stands.false)) in
+    let low : c.args.link.parent < length c.args.edges.now = c.requires.below c.args.link.parent
+    (any_some c.args.link.parent c.args.before.now (sym c.stands-2.ensures ∙ c.if-not-stands.false)) in
     search rules
 
 pub bounds-edges-link-2 : goal.bounds-edges-link-2
-bounds-edges-link-2 c = c.requires.below c.args.link.parent (any_some c.args.link.parent c.args.before.now (sym c.stands-2.ensures ∙ c.if-not-stands.false))
+bounds-edges-link-2 c = c.requires.below c.args.link.parent
+    (any_some c.args.link.parent c.args.before.now (sym c.stands-2.ensures ∙ c.if-not-stands.false))
 
 pub returns : goal.returns
 returns c =
@@ -40,4 +42,6 @@ returns c =
     last_test c.args.edges.now c.args.before.now c.args.link c.args.seen c.is_subset.result c.requires.seen below
     (any_none c.args.link.edge c.args.before.now (sym c.stands.ensures ∙ c.if-stands.false))
     (omega arith) under
-    (c.is_subset.ensures ∙ ap (λ (e : List ℕ). subset e c.index-edges-link-2.result) (c.intersection-shared.ensures ∙ ap (λ (e : List ℕ). intersection e c.args.seen) own) ∙ ap (λ (f : List ℕ). subset (intersection (edge_at c.args.edges.now c.args.link.edge) c.args.seen) f) over)
+    (c.is_subset.ensures ∙ ap (λ (e : List ℕ). subset e c.index-edges-link-2.result)
+    (c.intersection-shared.ensures ∙ ap (λ (e : List ℕ). intersection e c.args.seen) own)
+    ∙ ap (λ (f : List ℕ). subset (intersection (edge_at c.args.edges.now c.args.link.edge) c.args.seen) f) over)

@@ -7,4 +7,5 @@ sets-preserved c =
     let sets = c.args.sets.now in
     let within = c.sets-test.true in
     let is = read_at sets c.sets.i c.index-sets-i.result within c.index-sets-i.is in
-    once_more sets c.sets.i c.index-sets-i.result c.sets.all c.union-all.result within is c.sets.invariant c.union-all.ensures
+    once_more sets c.sets.i c.index-sets-i.result c.sets.all c.union-all.result within is c.sets.invariant
+    c.union-all.ensures

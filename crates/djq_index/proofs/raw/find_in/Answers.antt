@@ -9,4 +9,5 @@ pub returns-in-None : goal.returns-in-None
 returns-in-None c = absent_cnt c.args.raw.now.notes.items c.args.raw.now.rows.rows c.args.tuple.now c.in-None.ensures
 
 pub returns-in-Some : goal.returns-in-Some
-returns-in-Some c = subst (λ (p : Place). IsAt (entries_of c.args.raw.now) p c.args.tuple.now) (sym c.new.ensures) (row_is_at c.args.raw.now.notes.items c.args.raw.now.rows.rows c.in-Some.slot c.args.tuple.now c.in-Some.ensures)
+returns-in-Some c = subst (λ (p : Place). IsAt (entries_of c.args.raw.now) p c.args.tuple.now) (sym c.new.ensures)
+    (row_is_at c.args.raw.now.notes.items c.args.raw.now.rows.rows c.in-Some.slot c.args.tuple.now c.in-Some.ensures)

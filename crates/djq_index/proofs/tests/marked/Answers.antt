@@ -6,15 +6,23 @@ use Rattle.djq_index.proofs.tests.marked.Goals as goal
 
 pub tuple-requires : goal.tuple-requires
 tuple-requires g c =
-    let w = walk_cut (marks c.args.table.now.entries) c.loop-step._step c.in-Some.place (sym c.loop-step.invariant ∙ c.in-Some.is) in
-    subst (IsLive c.args.table.now.entries) w.at (marks_live c.args.table.now.entries (take c.loop-step._step (marks c.args.table.now.entries)) w.entry (drop (c.loop-step._step + 1) (marks c.args.table.now.entries)) w.is)
+    let w = walk_cut (marks c.args.table.now.entries) c.loop-step._step c.in-Some.place
+    (sym c.loop-step.invariant ∙ c.in-Some.is) in
+    subst (IsLive c.args.table.now.entries) w.at
+    (marks_live c.args.table.now.entries (take c.loop-step._step (marks c.args.table.now.entries)) w.entry
+    (drop (c.loop-step._step + 1) (marks c.args.table.now.entries)) w.is)
 
 pub next_marked-at-requires : goal.next_marked-at-requires
 next_marked-at-requires g c =
-    let w = walk_cut (marks c.args.table.now.entries) c.loop-step._step c.in-Some.place (sym c.loop-step.invariant ∙ c.in-Some.is) in
-    subst (IsLive c.args.table.now.entries) w.at (marks_live c.args.table.now.entries (take c.loop-step._step (marks c.args.table.now.entries)) w.entry (drop (c.loop-step._step + 1) (marks c.args.table.now.entries)) w.is)
+    let w = walk_cut (marks c.args.table.now.entries) c.loop-step._step c.in-Some.place
+    (sym c.loop-step.invariant ∙ c.in-Some.is) in
+    subst (IsLive c.args.table.now.entries) w.at
+    (marks_live c.args.table.now.entries (take c.loop-step._step (marks c.args.table.now.entries)) w.entry
+    (drop (c.loop-step._step + 1) (marks c.args.table.now.entries)) w.is)
 
 pub loop-step-preserved : goal.loop-step-preserved
 loop-step-preserved g c =
-    let w = walk_cut (marks c.args.table.now.entries) c.loop-step._step c.in-Some.place (sym c.loop-step.invariant ∙ c.in-Some.is) in
-    c.next_marked-at.ensures.found (take c.loop-step._step (marks c.args.table.now.entries)) w.entry (drop (c.loop-step._step + 1) (marks c.args.table.now.entries)) w.is w.at
+    let w = walk_cut (marks c.args.table.now.entries) c.loop-step._step c.in-Some.place
+    (sym c.loop-step.invariant ∙ c.in-Some.is) in
+    c.next_marked-at.ensures.found (take c.loop-step._step (marks c.args.table.now.entries)) w.entry
+    (drop (c.loop-step._step + 1) (marks c.args.table.now.entries)) w.is w.at

@@ -15,11 +15,13 @@ pub returns-in-Done-sync-clause-told : goal.returns-in-Done-sync-clause-told
 returns-in-Done-sync-clause-told g c lines =
     let group = g.G.Group.lines c.args.group.now in
     let gate = c.args.gate in
-    told_both _ _ _ (λ o s. (m : History) × (IsIdle lines gate o.file → IsStaged Done lines gate group o m) × Syncs Done m s)
+    told_both _ _ _ (λ o s. (m : History) × (IsIdle lines gate o.file → IsStaged Done lines gate group o m)
+    × Syncs Done m s)
     (WritesDown c.write_down.result gate (1 ∷ []))
     (λ o n. IsIdle lines gate o.file → AppendsAt c.write_down.result lines gate group o n)
     (λ o s n staged writes idle.
-    gate_opened c.write_down.result lines group gate o staged.0 s n c.requires.lines c.requires.some idle (staged.1 idle) staged.2 writes)
+    gate_opened c.write_down.result lines group gate o staged.0 s n c.requires.lines c.requires.some idle
+    (staged.1 idle) staged.2 writes)
     (told_both _ _ _ (λ o m. IsIdle lines gate o.file → IsStaged Done lines gate group o m) (Syncs Done)
     (λ o s. (m : History) × (IsIdle lines gate o.file → IsStaged Done lines gate group o m) × Syncs Done m s)
     (λ o m s staged syncs. (m, staged, syncs)) (c.in-Done.ensures.told lines) c.in-Done-sync.ensures.told)
@@ -31,11 +33,14 @@ returns-in-Failed-sync-clause-told g c lines =
     let gate = c.args.gate in
     told_both _ _ _ (λ o m. IsIdle lines gate o.file → IsStaged Done lines gate group o m) (Syncs Failed)
     (λ o n. IsIdle lines gate o.file → AppendsAt Failed lines gate group o n)
-    (λ o m n staged syncs idle. unsynced lines group gate o m n (staged idle) syncs) (c.in-Done.ensures.told lines) c.in-Failed-sync.ensures.told
+    (λ o m n staged syncs idle. unsynced lines group gate o m n (staged idle) syncs) (c.in-Done.ensures.told lines)
+    c.in-Failed-sync.ensures.told
 
 pub returns-in-Failed-clause-told : goal.returns-in-Failed-clause-told
 returns-in-Failed-clause-told g c lines =
     let group = g.G.Group.lines c.args.group.now in
     let gate = c.args.gate in
-    told_so _ _ (λ o n. IsIdle lines gate o.file → IsStaged Failed lines gate group o n) (λ o n. IsIdle lines gate o.file → AppendsAt Failed lines gate group o n)
-    (λ o n staged idle. leaves_so (OpensTo lines) (IsBeforeOrAfter lines group) o n (λ image opens. inl opens) (staged idle)) (c.in-Failed.ensures.told lines)
+    told_so _ _ (λ o n. IsIdle lines gate o.file → IsStaged Failed lines gate group o n)
+    (λ o n. IsIdle lines gate o.file → AppendsAt Failed lines gate group o n)
+    (λ o n staged idle. leaves_so (OpensTo lines) (IsBeforeOrAfter lines group) o n (λ image opens. inl opens)
+    (staged idle)) (c.in-Failed.ensures.told lines)

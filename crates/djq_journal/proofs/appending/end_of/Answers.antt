@@ -13,13 +13,20 @@ returns-then-end-size-clause-none g c =
 
 pub loop-line-smaller : goal.loop-line-smaller
 loop-line-smaller g c =
-    let within = slice_get_within (g.G.Group.lines c.args.group.now) c.loop-line.i c.in-Some.line.now (sym c.in-Some.ensures) in
+    let within = slice_get_within (g.G.Group.lines c.args.group.now) c.loop-line.i c.in-Some.line.now
+    (sym c.in-Some.ensures) in
     omega (arith, within)
 
 pub loop-line-preserved : goal.loop-line-preserved
 loop-line-preserved g c =
-    let next = gate_next c.args.gate (g.G.Group.lines c.args.group.now) c.loop-line.i c.in-Some.line.now c.in-Some.ensures in
-    record { end = omega (arith, next, c.loop-line.invariant.end); within = omega arith; few = omega (arith, c.loop-line.invariant.few) }
+    let next = gate_next c.args.gate (g.G.Group.lines c.args.group.now) c.loop-line.i c.in-Some.line.now
+    c.in-Some.ensures in
+    record {
+      end = omega (arith, next, c.loop-line.invariant.end);
+      within = omega arith;
+      few = omega
+          (arith, c.loop-line.invariant.few);
+    }
 
 pub returns-clause-some : goal.returns-clause-some
 returns-clause-some g c =

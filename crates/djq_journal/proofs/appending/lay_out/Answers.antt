@@ -1,4 +1,6 @@
-use Rattle.std.proofs.Common.{◌≡◌, ◌+◌, ◌-◌, ◌/◌, ◌%◌, ◌<◌, ◌≤◌, ℕ, List, [], ◌∷◌, ◌++◌, length, take, drop, slice_set, refl, sym, ap, ap₂, ◌∙◌, arith, length-append, length-take, length-drop}
+use Rattle.std.proofs.Common.{◌≡◌, ◌+◌, ◌-◌, ◌/◌, ◌%◌, ◌<◌, ◌≤◌, ℕ, List, [], ◌∷◌, ◌++◌, length}
+use Rattle.std.proofs.Common.{take, drop, slice_set, refl, sym, ap, ap₂, ◌∙◌, arith, length-append}
+use Rattle.std.proofs.Common.{length-take, length-drop}
 use borrow.Rule.Slice.PartMut.{put_mid}
 use Rattle.std.proofs.lemmas.Slice.{take-put_mid}
 use Rattle.std.proofs.lemmas.Grind.{take-set_at}
@@ -20,12 +22,24 @@ returns c =
     let in_one : 1 < length one = omega (arith, one_long, c.requires.room) in
     let in_two : 2 ≤ length two = omega (arith, two_long, c.requires.room) in
     let rest = drop (end - 2) (drop 2 two) in
-    let long : length laid ≡ end + 1 = omega (arith, c.requires.room, two_long, size, length-append (take 2 two) (got ++ rest), length-append got rest, length-take 2 two, length-drop (end - 2) (drop 2 two), length-drop 2 two) in
+    let long : length laid
+    ≡ end + 1 = omega (
+      arith,
+      c.requires.room,
+      two_long,
+      size,
+      length-append (take 2 two) (got ++ rest),
+      length-append got rest,
+      length-take 2 two,
+      length-drop (end - 2) (drop 2 two),
+      length-drop 2 two,
+    ) in
     sym (take_all (end + 1) (slice_set laid end c.args.gate) (omega (arith, long, length-set laid end c.args.gate)))
     ∙ take-set_at laid end (end + 1) c.args.gate refl (omega (arith, long))
     ∙ ap (λ (xs : List ℕ). xs ++ c.args.gate ∷ [])
     (take-put_mid 2 (end - 2) two got end size in_two
     ∙ ap₂ (λ (xs ys : List ℕ). xs ++ ys)
     (take-set_at one 1 2 (length line % 256) refl in_one
-    ∙ ap (λ (xs : List ℕ). xs ++ length line % 256 ∷ []) (take-set_at buf 0 1 (length line / 256) refl (omega (arith, c.requires.room))))
+    ∙ ap (λ (xs : List ℕ). xs ++ length line % 256 ∷ [])
+    (take-set_at buf 0 1 (length line / 256) refl (omega (arith, c.requires.room))))
     c.copy_from_slice.ensures.after)

@@ -1,4 +1,5 @@
-use Rattle.std.proofs.Common.{◌≡◌, ◌+◌, ◌-◌, ◌≤◌, ℕ, List, [], ◌∷◌, ◌++◌, length, take, drop, refl, sym, ap, subst, ◌∙◌, arith, length-take, length-drop, length-append}
+use Rattle.std.proofs.Common.{◌≡◌, ◌+◌, ◌-◌, ◌≤◌, ℕ, List, [], ◌∷◌, ◌++◌, length, take, drop, refl}
+use Rattle.std.proofs.Common.{sym, ap, subst, ◌∙◌, arith, length-take, length-drop, length-append}
 use borrow.Rule.Slice.PartMut.{put_mid}
 use Rattle.std.proofs.lemmas.Slice.{take-put_mid}
 use Rattle.std.proofs.lemmas.Option.{slice_get_within}
@@ -11,7 +12,8 @@ use Rattle.djq_journal.specs.Standing.{IsIdle}
 use Rattle.djq_journal.specs.Staging.{Stages, IsStaged, Gathers}
 use Rattle.djq_journal.specs.declared.limits.TheConstants.{PIECE_BYTES}
 use Rattle.djq_journal.proofs.Staged.{staged_none, staged_write, staged_more, staged_all}
-use Rattle.djq_journal.proofs.Groups.{line_at, few_lines, piece_within, gathers_none, gathers_end, gathers_written, gathers_still, gathers_line, gathers_all}
+use Rattle.djq_journal.proofs.Groups.{line_at, few_lines, piece_within, gathers_none, gathers_end}
+use Rattle.djq_journal.proofs.Groups.{gathers_written, gathers_still, gathers_line, gathers_all}
 use Rattle.djq_journal.proofs.appending.write_records.Goals as goal
 use Rattle.djq_journal.proofs.appending.write_records.Goals.{then-filled-size+in-Done, else-filled-size}
 
@@ -21,7 +23,8 @@ loop-line-init g c = record {
   within = omega arith;
   written = [];
   gathers = gathers_none (g.G.Group.lines c.args.group.now) c.args.gate (c.args.gate + 1) (omega arith);
-  told = λ lines. told_none (g.D.Disk.told c.args.disk.now) (λ o n. IsIdle lines c.args.gate o.file → Stages lines c.args.gate [] o n)
+  told = λ lines. told_none (g.D.Disk.told c.args.disk.now)
+      (λ o n. IsIdle lines c.args.gate o.file → Stages lines c.args.gate [] o n)
       (λ o idle. staged_none lines c.args.gate o idle);
   faults = refl;
 }
@@ -45,12 +48,15 @@ returns-in-Failed-clause-told g c lines =
     let piece = take c.loop-line.filled c.loop-line.buf in
     told_both _ _ _ (λ o m. IsIdle lines gate o.file → Stages lines gate inv.written o m) (Writes Failed at piece)
     (λ o n. IsIdle lines gate o.file → LeavesSince (OpensTo lines) o n)
-    (λ o m n stages writes idle. (staged_write Failed at piece lines gate inv.written o m n idle (stages idle) (omega (arith, inv.gathers.place)) writes).1)
+    (λ o m n stages writes idle.
+    (staged_write Failed at piece lines gate inv.written o m n idle (stages idle) (omega (arith, inv.gathers.place))
+    writes).1)
     (inv.told lines) c.in-Failed.ensures.told
 
 pub slice_bounds-buf-end-in-Some : goal.slice_bounds-buf-end-in-Some
 slice_bounds-buf-end-in-Some g c =
-    let short = (line_at (g.G.Group.lines c.args.group.now) c.loop-line.i c.in-Some.line.now c.requires.lines c.in-Some.ensures).1 in
+    let short = (line_at (g.G.Group.lines c.args.group.now) c.loop-line.i c.in-Some.line.now c.requires.lines
+    c.in-Some.ensures).1 in
     elim c.if-filled-size.branch [
       | then-filled-size+in-Done w ↦ omega (arith, short, w.filled-is)
       | else-filled-size w ↦ omega (arith, w.filled-is, w.if-filled-size, c.loop-line.invariant.within)
@@ -63,7 +69,8 @@ overflow_add-i g c =
     omega (arith, within, few_lines c.args.gate group, c.requires.room)
 
 pub lay_out-requires-clause-short : goal.lay_out-requires-clause-short
-lay_out-requires-clause-short g c = (line_at (g.G.Group.lines c.args.group.now) c.loop-line.i c.in-Some.line.now c.requires.lines c.in-Some.ensures).1
+lay_out-requires-clause-short g c =
+    (line_at (g.G.Group.lines c.args.group.now) c.loop-line.i c.in-Some.line.now c.requires.lines c.in-Some.ensures).1
 
 pub overflow_add-i-in-Some : goal.overflow_add-i-in-Some
 overflow_add-i-in-Some g c =
@@ -73,7 +80,8 @@ overflow_add-i-in-Some g c =
 
 pub loop-line-smaller : goal.loop-line-smaller
 loop-line-smaller g c =
-    let within = slice_get_within (g.G.Group.lines c.args.group.now) c.loop-line.i c.in-Some.line.now (sym c.in-Some.ensures) in
+    let within = slice_get_within (g.G.Group.lines c.args.group.now) c.loop-line.i c.in-Some.line.now
+    (sym c.in-Some.ensures) in
     omega (arith, within)
 
 -- What was gathered was written or not, and the line is gathered behind what is.
@@ -94,14 +102,21 @@ loop-line-preserved g c =
     let filled = c.if-filled-size.filled in
     let size = 3 + length line in
     let so_far : (written : List ℕ) × Gathers group i gate at written (take filled buf)
-    × ((lines : List (List ℕ)) → WhereTold (told c.args.disk.now) (told disk) (λ o n. IsIdle lines gate o.file → Stages lines gate written o n))
+    × ((lines : List (List ℕ))
+    → WhereTold (told c.args.disk.now) (told disk)
+    (λ o n. IsIdle lines gate o.file → Stages lines gate written o n))
     × (g.D.Disk.faults disk ≡ g.D.Disk.faults c.args.disk.now) = elim c.if-filled-size.branch [
       | then-filled-size+in-Done w ↦ (
         inv.written ++ take old buf,
-        gathers_written group i gate c.loop-line.at at old filled inv.written buf w.at-is w.filled-is (omega (arith, inv.size, inv.within)) inv.gathers,
-        (λ lines. rw w.disk-is (told_both (told c.args.disk.now) (told c.loop-line.disk) (told w.write_at.new.self) (λ o m. IsIdle lines gate o.file → Stages lines gate inv.written o m)
-            (Writes Done c.loop-line.at (take old buf)) (λ o n. IsIdle lines gate o.file → Stages lines gate (inv.written ++ take old buf) o n)
-            (λ o m n stages writes idle. staged_more c.loop-line.at (take old buf) lines gate inv.written o m n idle (stages idle) inv.gathers.place writes)
+        gathers_written group i gate c.loop-line.at at old filled inv.written buf w.at-is w.filled-is
+            (omega (arith, inv.size, inv.within)) inv.gathers,
+        (λ lines. rw w.disk-is
+            (told_both (told c.args.disk.now) (told c.loop-line.disk) (told w.write_at.new.self)
+            (λ o m. IsIdle lines gate o.file → Stages lines gate inv.written o m)
+            (Writes Done c.loop-line.at (take old buf))
+            (λ o n. IsIdle lines gate o.file → Stages lines gate (inv.written ++ take old buf) o n)
+            (λ o m n stages writes idle. staged_more c.loop-line.at (take old buf) lines gate inv.written o m n idle
+            (stages idle) inv.gathers.place writes)
             (inv.told lines) w.in-Done.ensures.told)),
         ap g.D.Disk.faults w.disk-is ∙ w.in-Done.ensures.faults ∙ inv.faults,
       )
@@ -119,17 +134,30 @@ loop-line-preserved g c =
     let got = c.lay_out.new.buf in
     let piece : List ℕ = body_of line ++ next ∷ [] in
     let after = put_mid filled (filled + size - filled) buf got in
-    let long : length got ≡ size = omega (arith, ap length c.lay_out.ensures, length-append (body_of line) (next ∷ [])) in
+    let long : length got
+    ≡ size = omega (arith, ap length c.lay_out.ensures, length-append (body_of line) (next ∷ [])) in
     let laid : take (filled + size) after ≡ take filled buf ++ piece =
-    take-put_mid filled (filled + size - filled) buf got (filled + size) (omega (arith, long)) (omega (arith, inv.size, room))
+    take-put_mid filled (filled + size - filled) buf got (filled + size) (omega (arith, long))
+    (omega (arith, inv.size, room))
     ∙ ap (λ (xs : List ℕ). take filled buf ++ xs) c.lay_out.ensures in
     let rest = drop (filled + size - filled) (drop filled buf) in
     record {
-      size = omega (arith, inv.size, room, long, length-append (take filled buf) (got ++ rest), length-append got rest, length-take filled buf, length-drop (filled + size - filled) (drop filled buf), length-drop filled buf);
+      size = omega (
+        arith,
+        inv.size,
+        room,
+        long,
+        length-append (take filled buf) (got ++ rest),
+        length-append got rest,
+        length-take filled buf,
+        length-drop (filled + size - filled) (drop filled buf),
+        length-drop filled buf,
+      );
       within = room;
       written = so_far.0;
       gathers = subst (λ (xs : List ℕ). Gathers group (i + 1) gate at so_far.0 xs) (sym laid)
-          (gathers_line group i line next gate at so_far.0 (take filled buf) c.in-Some.ensures c.gate_before.ensures so_far.1);
+          (gathers_line group i line next gate at so_far.0 (take filled buf) c.in-Some.ensures c.gate_before.ensures
+          so_far.1);
       told = so_far.2;
       faults = so_far.3;
     }
@@ -150,6 +178,7 @@ returns-clause-told g c lines =
     let did = c.write_at-2.result in
     told_both _ _ _ (λ o m. IsIdle lines gate o.file → Stages lines gate inv.written o m) (Writes did at piece)
     (λ o n. IsIdle lines gate o.file → IsStaged did lines gate group o n)
-    (λ o m n stages writes idle. staged_all did at piece lines group gate inv.written o m n idle (stages idle) inv.gathers.place
+    (λ o m n stages writes idle. staged_all did at piece lines group gate inv.written o m n idle (stages idle)
+    inv.gathers.place
     (gathers_all group c.loop-line.i gate at inv.written piece c.in_default.ensures inv.gathers) writes)
     (inv.told lines) c.write_at-2.ensures.told

@@ -9,7 +9,9 @@ use Rattle.djq_journal.proofs.Found.{made}
 use Rattle.djq_journal.proofs.journal.create.Goals as goal
 
 pub returns-in-Done-clause-told : goal.returns-in-Done-clause-told
-returns-in-Done-clause-told g c = told_so _ _ (WritesDown Done 0 (header ++ 0 ∷ [])) (Makes Made) made c.in-Done.ensures.told
+returns-in-Done-clause-told g c = told_so _ _ (WritesDown Done 0 (header ++ 0 ∷ [])) (Makes Made) made
+    c.in-Done.ensures.told
 
 pub returns-in-Failed-clause-told : goal.returns-in-Failed-clause-told
-returns-in-Failed-clause-told g c = told_so _ _ (WritesDown Failed 0 (header ++ 0 ∷ [])) (Makes Unmade) (λ o n writes. writes.paths) c.in-Failed.ensures.told
+returns-in-Failed-clause-told g c = told_so _ _ (WritesDown Failed 0 (header ++ 0 ∷ [])) (Makes Unmade)
+    (λ o n writes. writes.paths) c.in-Failed.ensures.told

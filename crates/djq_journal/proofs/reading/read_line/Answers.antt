@@ -16,7 +16,8 @@ returns-in-Whole-clause-told g c lines =
     let n = c.in-Open.n in
     let got = c.fill.new.buf in
     let behind = drop n c.args.buf.now in
-    let size : length got ≡ n = omega (arith, c.fill.auto.buf, length-take n c.args.buf.now, c.requires, c.in-Open.ensures.fits.1) in
+    let size : length got
+    ≡ n = omega (arith, c.fill.auto.buf, length-take n c.args.buf.now, c.requires, c.in-Open.ensures.fits.1) in
     told_both _ _ _ (λ o m. IsHead (Open n) (drop gate o.file.bytes) × (m ≡ o)) (Fills Whole (gate + 3) got)
     (λ o k. (k ≡ o) × (IsAt lines gate o.file → IsAt (lines ++ take n (got ++ behind) ∷ []) (gate + (3 + n)) o.file))
     (λ o m k head fills. (

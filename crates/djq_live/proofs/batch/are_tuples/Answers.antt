@@ -11,14 +11,18 @@ rows-init c = own_none c.args.rows.now c.args.pattern.now
 pub lend-requires : goal.lend-requires
 lend-requires c =
     c.requires.fit c.as_slice-row.result.now (row_at c.args.rows.now c.rows.i c.as_slice-row.result.now c.rows-test.true
-    (read_as c.args.rows.now c.rows.i c.index-rows-i.result c.as_slice-row.result.now c.as_slice-row.ensures c.index-rows-i.is))
+    (read_as c.args.rows.now c.rows.i c.index-rows-i.result c.as_slice-row.result.now c.as_slice-row.ensures
+    c.index-rows-i.is))
 
 pub rows-preserved : goal.rows-preserved
 rows-preserved c =
     own_more c.args.rows.now c.rows.i c.as_slice-row.result.now c.args.pattern.now c.requires.distinct c.rows-test.true
-    (read_as c.args.rows.now c.rows.i c.index-rows-i.result c.as_slice-row.result.now c.as_slice-row.ensures c.index-rows-i.is)
-    (subst (λ (u : List ℕ). IsOnly (Some u) c.args.pattern.now c.as_slice-row.result.now) (c.are_same.ensures c.if-not-are_same.false)
-    (only_lent c.args.pattern.now c.as_slice-row.result.now c.in-Some.tuple.now c.in-Some.ensures.exact)) c.rows.invariant
+    (read_as c.args.rows.now c.rows.i c.index-rows-i.result c.as_slice-row.result.now c.as_slice-row.ensures
+    c.index-rows-i.is)
+    (subst (λ (u : List ℕ). IsOnly (Some u) c.args.pattern.now c.as_slice-row.result.now)
+    (c.are_same.ensures c.if-not-are_same.false)
+    (only_lent c.args.pattern.now c.as_slice-row.result.now c.in-Some.tuple.now c.in-Some.ensures.exact))
+    c.rows.invariant
 
 pub returns : goal.returns
 returns c = λ yes.

@@ -24,8 +24,10 @@ rows-preserved-in_default c =
 
 pub rows-preserved : goal.rows-preserved
 rows-preserved c =
-    subst (λ (us : List (List ℕ)). AreTuplesOf (take (c.rows.i + 1) c.args.rows.now) c.args.pattern.now us) (sym c.in_ok-push.ensures.ok)
-    (tuples_more c.args.rows.now c.rows.tuples c.rows.i c.as_slice.result.now c.from_slice.result c.args.pattern.now c.requires.distinct c.rows-test.true
+    subst (λ (us : List (List ℕ)). AreTuplesOf (take (c.rows.i + 1) c.args.rows.now) c.args.pattern.now us)
+    (sym c.in_ok-push.ensures.ok)
+    (tuples_more c.args.rows.now c.rows.tuples c.rows.i c.as_slice.result.now c.from_slice.result c.args.pattern.now
+    c.requires.distinct c.rows-test.true
     (read_as c.args.rows.now c.rows.i c.index-rows-i.result c.as_slice.result.now c.as_slice.ensures c.index-rows-i.is)
     (subst (λ (u : List ℕ). IsOnly (Some u) c.args.pattern.now c.as_slice.result.now) (sym c.from_slice.ensures)
     (only_lent c.args.pattern.now c.as_slice.result.now c.in-Some.tuple.now c.in-Some.ensures.exact)) c.rows.invariant)

@@ -8,26 +8,34 @@ use Rattle.djq_live.proofs.batch.tuples_of_all.Goals as goal
 
 pub atoms-init : goal.atoms-init
 atoms-init c =
-    subst (λ (made : List (Option (List (List ℕ)))). AreSoFar c.args.relation c.args.rows.now c.args.atoms.now c.args.patterns.now 0 (batch_in c.args.rows.now made)) (sym c.new-batch.ensures.items)
+    subst (λ (made : List (Option (List (List ℕ)))). AreSoFar c.args.relation c.args.rows.now c.args.atoms.now
+    c.args.patterns.now 0 (batch_in c.args.rows.now made)) (sym c.new-batch.ensures.items)
     (batch_none c.args.relation c.args.rows.now c.args.atoms.now c.args.patterns.now)
 
 pub tuples_for-requires-clause-fit : goal.tuples_for-requires-clause-fit
 tuples_for-requires-clause-fit c =
     c.requires.fit c.atoms.j c.index-atoms-j.result c.index-patterns-j.result
     (got c.args.atoms.now c.atoms.j c.index-atoms-j.result c.atoms-test.true c.index-atoms-j.is)
-    (got c.args.patterns.now c.atoms.j c.index-patterns-j.result (subst (λ (n : ℕ). c.atoms.j < n) (sym c.requires.long) c.atoms-test.true) c.index-patterns-j.is)
+    (got c.args.patterns.now c.atoms.j c.index-patterns-j.result
+    (subst (λ (n : ℕ). c.atoms.j < n) (sym c.requires.long) c.atoms-test.true) c.index-patterns-j.is)
 
 pub atoms-preserved : goal.atoms-preserved
 atoms-preserved c =
-    subst (λ (batch : List (List (List ℕ))). AreSoFar c.args.relation c.args.rows.now c.args.atoms.now c.args.patterns.now (c.atoms.j + 1) batch)
-    (sym (ap (batch_in c.args.rows.now) c.in_ok-push.ensures.items ∙ map-append (tuples_in c.args.rows.now) c.atoms.batch.items (c.in_ok-tuples_for.field-0 ∷ [])))
-    (batch_more c.args.relation c.args.rows.now c.args.atoms.now c.args.patterns.now c.atoms.j (batch_in c.args.rows.now c.atoms.batch.items) c.index-atoms-j.result c.index-patterns-j.result (tuples_in c.args.rows.now c.in_ok-tuples_for.field-0)
+    subst (λ (batch : List (List (List ℕ))). AreSoFar c.args.relation c.args.rows.now c.args.atoms.now
+    c.args.patterns.now (c.atoms.j + 1) batch)
+    (sym (ap (batch_in c.args.rows.now) c.in_ok-push.ensures.items
+    ∙ map-append (tuples_in c.args.rows.now) c.atoms.batch.items (c.in_ok-tuples_for.field-0 ∷ [])))
+    (batch_more c.args.relation c.args.rows.now c.args.atoms.now c.args.patterns.now c.atoms.j
+    (batch_in c.args.rows.now c.atoms.batch.items) c.index-atoms-j.result c.index-patterns-j.result
+    (tuples_in c.args.rows.now c.in_ok-tuples_for.field-0)
     (got c.args.atoms.now c.atoms.j c.index-atoms-j.result c.atoms-test.true c.index-atoms-j.is)
-    (got c.args.patterns.now c.atoms.j c.index-patterns-j.result (subst (λ (n : ℕ). c.atoms.j < n) (sym c.requires.long) c.atoms-test.true) c.index-patterns-j.is)
+    (got c.args.patterns.now c.atoms.j c.index-patterns-j.result
+    (subst (λ (n : ℕ). c.atoms.j < n) (sym c.requires.long) c.atoms-test.true) c.index-patterns-j.is)
     c.in_ok-tuples_for.ensures.tuples c.in_ok-tuples_for.ensures.few c.atoms.invariant)
 
 pub returns : goal.returns
 returns c =
     let h = c.atoms-test.false in
     let e = c.atoms.auto.j-end in
-    batch_all c.args.relation c.args.rows.now c.args.atoms.now c.args.patterns.now c.atoms.j (batch_in c.args.rows.now c.atoms.batch.items) (omega arith) c.atoms.invariant
+    batch_all c.args.relation c.args.rows.now c.args.atoms.now c.args.patterns.now c.atoms.j
+    (batch_in c.args.rows.now c.atoms.batch.items) (omega arith) c.atoms.invariant

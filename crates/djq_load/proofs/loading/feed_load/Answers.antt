@@ -22,7 +22,8 @@ lines-preserved g c =
       idle = c.in_ok-feed_line.ensures.idle;
       so_far = (
         before.0 ++ line ∷ [],
-        append_assoc before.0 (line ∷ []) c.line.new.self ∙ ap (λ (lines : List (List ℕ)). before.0 ++ lines) (sym given) ∙ before.1,
+        append_assoc before.0 (line ∷ []) c.line.new.self
+            ∙ ap (λ (lines : List (List ℕ)). before.0 ++ lines) (sym given) ∙ before.1,
         loads_then before.0 (line ∷ []) _ _ _ _ _ _ before.2 c.in_ok-feed_line.ensures.loads,
       );
       ones = (subst AreOnes given c.lines.invariant.ones).1;

@@ -9,7 +9,8 @@ pub reads-smaller : goal.reads-smaller
 reads-smaller g c =
     let so_far = c.reads.invariant.read in
     let few = read_few _ _ _ _ c.reads.invariant.idle c.in_ok-reading.ensures.loads c.reads.invariant.few in
-    fewer_left _ _ c.reads.reading c.in_ok-reading.reading so_far.0 c.reads.invariant.few few (search rules) so_far.2 (c.in_ok-reading.ensures.read so_far.0 so_far.2)
+    fewer_left _ _ c.reads.reading c.in_ok-reading.reading so_far.0 c.reads.invariant.few few (search rules) so_far.2
+    (c.in_ok-reading.ensures.read so_far.0 so_far.2)
 
 pub reads-preserved : goal.reads-preserved
 reads-preserved g c =

@@ -13,7 +13,8 @@ invariant-reads g l =
     record {
       idle : IsIdle (state l.machine);
       few : GivesFew (state l.machine);
-      read : (k : ℕ) × Loads (replicate k next_line) (state l.fn.machine) (counts l.fn.steps.listing l.fn.steps.update l.fn.steps.rows)
+      read : (k : ℕ) × Loads (replicate k next_line) (state l.fn.machine)
+          (counts l.fn.steps.listing l.fn.steps.update l.fn.steps.rows)
           (state l.machine) (counts l.steps.listing l.steps.update l.steps.rows) × IsRead (state l.machine) l.reading k;
     }
 

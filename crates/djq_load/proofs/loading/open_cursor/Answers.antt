@@ -12,7 +12,9 @@ pub returns-clause-idle : goal.returns-clause-idle
 returns-clause-idle g c = line_idle _ _ _ _ _ _ c.requires refl c.in_ok-run_line.ensures.runs c.take_reply.ensures
 
 pub returns-clause-stands : goal.returns-clause-stands
-returns-clause-stands g c = open_stands _ _ _ _ _ c.requires c.in_ok-run_line.ensures.runs (sym c.pending.ensures ∙ search rules) c.take_reply.ensures
+returns-clause-stands g c = open_stands _ _ _ _ _ c.requires c.in_ok-run_line.ensures.runs
+    (sym c.pending.ensures ∙ search rules) c.take_reply.ensures
 
 pub returns-then-ne-clause-breaks : goal.returns-then-ne-clause-breaks
-returns-then-ne-clause-breaks g c = line_feeds _ _ _ _ _ c.requires (omega arith) (omega arith) c.in_ok-run_line.ensures.runs
+returns-then-ne-clause-breaks g c = line_feeds _ _ _ _ _ c.requires (omega arith) (omega arith)
+    c.in_ok-run_line.ensures.runs

@@ -11,4 +11,5 @@ pub returns-clause-idle : goal.returns-clause-idle
 returns-clause-idle g c = line_idle _ _ _ _ _ _ c.requires.idle refl c.in_ok-run_line.ensures.runs c.take_reply.ensures
 
 pub returns-clause-read : goal.returns-clause-read
-returns-clause-read g c most h = read_on _ _ _ _ _ _ _ _ most c.requires.idle c.in_ok-run_line.ensures.runs c.pending.ensures c.read-after.ensures c.take_reply.ensures c.requires.going h
+returns-clause-read g c most h = read_on _ _ _ _ _ _ _ _ most c.requires.idle c.in_ok-run_line.ensures.runs
+    c.pending.ensures c.read-after.ensures c.take_reply.ensures c.requires.going h

@@ -12,14 +12,17 @@ pub returns-in-None-clause-open : goal.returns-in-None-clause-open
 returns-in-None-clause-open g c = ran_open _ _ _ _ c.in-Ran.ensures.0
 
 pub returns-in_default-clause-breaks : goal.returns-in_default-clause-breaks
-returns-in_default-clause-breaks g c = comes_feeds _ _ _ _ c.requires.idle c.requires.some c.requires.short c.in_default.ensures.makes
+returns-in_default-clause-breaks g c = comes_feeds _ _ _ _ c.requires.idle c.requires.some c.requires.short
+    c.in_default.ensures.makes
 
 pub returns-in_default-step : goal.returns-in_default-step
 returns-in_default-step g c = record {
   runs = tt;
   «open» = tt;
-  breaks = stepped_feeds _ _ _ _ c.step.result _ _ _ c.requires.idle c.requires.some c.requires.short c.in-Held.ensures.makes c.in-Held.ensures.answer c.step.ensures;
+  breaks = stepped_feeds _ _ _ _ c.step.result _ _ _ c.requires.idle c.requires.some c.requires.short
+      c.in-Held.ensures.makes c.in-Held.ensures.answer c.step.ensures;
 }
 
 pub returns-in-Some-clause-breaks : goal.returns-in-Some-clause-breaks
-returns-in-Some-clause-breaks g c = stepped_feeds _ _ _ _ (Ran _) _ _ _ c.requires.idle c.requires.some c.requires.short c.in-Held.ensures.makes c.in-Held.ensures.answer c.in-Ran.ensures
+returns-in-Some-clause-breaks g c = stepped_feeds _ _ _ _ (Ran _) _ _ _ c.requires.idle c.requires.some c.requires.short
+    c.in-Held.ensures.makes c.in-Held.ensures.answer c.in-Ran.ensures

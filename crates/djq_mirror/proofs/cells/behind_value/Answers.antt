@@ -8,12 +8,15 @@ pub returns-then-branch : goal.returns-then-branch
 returns-then-branch c =
     let bytes = c.args.bytes.now in
     let rest = drop c.in-Ok.len bytes in
-    ap (λ (xs : List ℕ). Some xs) (take_all (length bytes - c.in-Ok.len) rest (omega (arith, length-drop c.in-Ok.len bytes)))
-    ∙ sym (value_behind bytes c.in-Ok.value c.in-Ok.len c.in_ok-is_printed-in-Ok.field-0 c.in-Ok.ensures.0 c.in-Ok.ensures.1 c.in_ok-is_printed-in-Ok.ensures
+    ap (λ (xs : List ℕ). Some xs)
+    (take_all (length bytes - c.in-Ok.len) rest (omega (arith, length-drop c.in-Ok.len bytes)))
+    ∙ sym (value_behind bytes c.in-Ok.value c.in-Ok.len c.in_ok-is_printed-in-Ok.field-0 c.in-Ok.ensures.0
+    c.in-Ok.ensures.1 c.in_ok-is_printed-in-Ok.ensures
     ∙ cond-true _ _ _ c.if-branch.true)
 
 pub returns-in-Ok : goal.returns-in-Ok
 returns-in-Ok c =
     let bytes = c.args.bytes.now in
-    sym (value_behind bytes c.in-Ok.value c.in-Ok.len c.in_ok-is_printed-in-Ok.field-0 c.in-Ok.ensures.0 c.in-Ok.ensures.1 c.in_ok-is_printed-in-Ok.ensures
+    sym (value_behind bytes c.in-Ok.value c.in-Ok.len c.in_ok-is_printed-in-Ok.field-0 c.in-Ok.ensures.0
+    c.in-Ok.ensures.1 c.in_ok-is_printed-in-Ok.ensures
     ∙ cond-false _ _ _ c.if-branch.false)

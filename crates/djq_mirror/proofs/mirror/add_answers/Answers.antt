@@ -10,5 +10,6 @@ returns-in_err-add_answer c =
 pub returns : goal.returns
 returns c =
     let over : c.loop-text.text-iterator ≡ [] = first_of (search rules, cc) in
-    end_added c.args.out.now.items c.loop-text.out c.put.new.out (codes "end\n") c.args.texts.now.keys c.loop-text.text-iterator c.put.result over
+    end_added c.args.out.now.items c.loop-text.out c.put.new.out (codes "end\n") c.args.texts.now.keys
+    c.loop-text.text-iterator c.put.result over
     c.loop-text.invariant c.put.ensures

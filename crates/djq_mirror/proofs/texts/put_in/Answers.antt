@@ -4,10 +4,14 @@ use Rattle.djq_mirror.proofs.Sets.{put_acted, set_has}
 use Rattle.djq_mirror.proofs.texts.put_in.Goals as goal
 
 pub returns-then-contains : goal.returns-then-contains
-returns-then-contains c = (not_from_true _ (sym (set_has c.args.texts.now c.args.text.now) ∙ sym c.contains.ensures ∙ c.if-contains.true), refl)
+returns-then-contains c = (
+  not_from_true _ (sym (set_has c.args.texts.now c.args.text.now) ∙ sym c.contains.ensures ∙ c.if-contains.true),
+  refl,
+)
 
 pub returns : goal.returns
 returns c = (
   not_from_false _ (sym (set_has c.args.texts.now c.args.text.now) ∙ sym c.contains.ensures ∙ c.if-contains.false),
-  put_acted c.args.texts.now c.insert.new.self c.in-Ok.owned c.args.text.now c.in-Ok.ensures.items c.in-Ok-insert.ensures.keys c.insert.ensures.ordered,
+  put_acted c.args.texts.now c.insert.new.self c.in-Ok.owned c.args.text.now c.in-Ok.ensures.items
+      c.in-Ok-insert.ensures.keys c.insert.ensures.ordered,
 )

@@ -6,7 +6,8 @@ use Rattle.djq_mirror.proofs.texts.take_out.Goals as goal
 pub returns-then-remove : goal.returns-then-remove
 returns-then-remove c = (
   sym (set_has c.args.texts.now c.args.text.now) ∙ sym c.remove.ensures.test ∙ c.if-remove.true,
-  take_acted c.args.texts.now c.remove.new.self c.args.text.now c.remove.ensures.keys c.len-count.ensures.ordered c.remove.ensures.ordered,
+  take_acted c.args.texts.now c.remove.new.self c.args.text.now c.remove.ensures.keys c.len-count.ensures.ordered
+      c.remove.ensures.ordered,
 )
 
 pub returns-else-remove : goal.returns-else-remove

@@ -6,10 +6,13 @@ use Rattle.djq_net.proofs.tests.serve.Goals as goal
 
 -- A session that opens, brings bytes or ends is open.
 pub flood-requires : goal.flood-requires
-flood-requires g c = subst (λ (ids : Ids). Contains ids.open_ids c.in-Opened.id) (sym c.in-Opened.ensures.ids.1) (Contains-push _ _)
+flood-requires g c = subst (λ (ids : Ids). Contains ids.open_ids c.in-Opened.id) (sym c.in-Opened.ensures.ids.1)
+    (Contains-push _ _)
 
 pub send-requires-clause-is_open : goal.send-requires-clause-is_open
-send-requires-clause-is_open g c = subst (λ (ids : Ids). Contains ids.open_ids c.in-Bytes.id) (sym c.in-Bytes.ensures.ids.3) c.in-Bytes.ensures.ids.2.0
+send-requires-clause-is_open g c = subst (λ (ids : Ids). Contains ids.open_ids c.in-Bytes.id)
+    (sym c.in-Bytes.ensures.ids.3) c.in-Bytes.ensures.ids.2.0
 
 pub close-requires : goal.close-requires
-close-requires g c = record { is_open = subst (λ ids. Contains ids c.in-Ended.id) (sym c.in-Ended.ensures.ids.1.1) c.in-Ended.ensures.ids.0.0 }
+close-requires g c = record
+    { is_open = subst (λ ids. Contains ids c.in-Ended.id) (sym c.in-Ended.ensures.ids.1.1) c.in-Ended.ensures.ids.0.0 }

@@ -3,7 +3,8 @@ use Rattle.djq_plan.proofs.Rules.{inside_is, inside_none}
 use Rattle.djq_plan.proofs.choosing.choose_covered.Goals as goal
 
 pub returns-in-Some : goal.returns-in-Some
-returns-in-Some c = inside_is c.args.labels.now c.loop-side.side c.in-Some.guard (omega arith) c.in-Some.ensures c.loop-side.invariant
+returns-in-Some c = inside_is c.args.labels.now c.loop-side.side c.in-Some.guard (omega arith) c.in-Some.ensures
+    c.loop-side.invariant
 
 pub returns : goal.returns
 returns c = inside_none c.args.labels.now (λ i h. c.loop-side.invariant i (omega arith))

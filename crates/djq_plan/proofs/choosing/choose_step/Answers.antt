@@ -7,8 +7,14 @@ use Rattle.djq_plan.proofs.choosing.choose_step.Goals as goal
 pub returns-then-not-is_empty : goal.returns-then-not-is_empty
 returns-then-not-is_empty c =
     let e : c.difference-removed.result ≡ removable c.args.keep c.args.labels.now c.loop-place.place =
-    removable_by c.args.keep c.args.labels.now c.loop-place.place c.own_variables-own.result c.difference-removed.result c.index-labels-place.result c.own_variables-own.ensures (read c.args.labels.now c.loop-place.place c.index-labels-place.result (omega arith) c.index-labels-place.is) (c.difference-removed.ensures ∙ ap (λ (k : List ℕ). difference k c.args.keep) c.intersection.ensures) in
-    trim_is c.args.keep c.args.labels.now c.loop-place.place c.difference-removed.result (omega arith) (has_by c.args.keep c.args.labels.now c.loop-place.place c.difference-removed.result false e (sym c.if-not-is_empty.ensures)) e c.loop-place.invariant
+    removable_by c.args.keep c.args.labels.now c.loop-place.place c.own_variables-own.result c.difference-removed.result
+    c.index-labels-place.result c.own_variables-own.ensures
+    (read c.args.labels.now c.loop-place.place c.index-labels-place.result (omega arith) c.index-labels-place.is)
+    (c.difference-removed.ensures ∙ ap (λ (k : List ℕ). difference k c.args.keep) c.intersection.ensures) in
+    trim_is c.args.keep c.args.labels.now c.loop-place.place c.difference-removed.result (omega arith)
+    (has_by c.args.keep c.args.labels.now c.loop-place.place c.difference-removed.result false e
+    (sym c.if-not-is_empty.ensures)) e c.loop-place.invariant
 
 pub returns : goal.returns
-returns c = trim_none c.args.keep c.args.labels.now _ (λ i h. c.loop-place.invariant i (omega arith)) c.choose_twins.ensures
+returns c = trim_none c.args.keep c.args.labels.now _ (λ i h. c.loop-place.invariant i (omega arith))
+    c.choose_twins.ensures

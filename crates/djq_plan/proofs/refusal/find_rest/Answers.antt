@@ -4,5 +4,6 @@ use Rattle.djq_plan.proofs.refusal.find_rest.Goals as goal
 
 pub returns : goal.returns
 returns c =
-    rest_says c.args.edges.now c.args.head c.in_ok-fronted.fronted c.in_ok-rest.field-0.rest c.in_ok-rest-2.field-0.rest c.requires (bare_rest c.in_ok-rest.field-0.rest true c.if-not-is_empty.ensures refl)
+    rest_says c.args.edges.now c.args.head c.in_ok-fronted.fronted c.in_ok-rest.field-0.rest c.in_ok-rest-2.field-0.rest
+    c.requires (bare_rest c.in_ok-rest.field-0.rest true c.if-not-is_empty.ensures refl)
     c.in_ok-rest.ensures.acyclic c.in_ok-fronted.ensures c.in_ok-rest-2.ensures.acyclic c.in_ok-rest-2.ensures.rest

@@ -28,8 +28,10 @@ decreases-kill_tuple g l = 5 * (length l.tree.now.nodes - l.at) + 3
 
 abbrev pub invariant-empty_group-loop-done : goal.invariant-empty_group-loop-done
 invariant-empty_group-loop-done g l = record {
-  next : l.next ≡ head_at (drop l._done (grp (key_at l.fn.tables.items l.guard) (entries_at l.fn.tables.items l.guard) l.cells));
-  emptied : IsEmptied l.tree l.fn.tables.items l.tables.items l.up (take l._done (grp (key_at l.fn.tables.items l.guard) (entries_at l.fn.tables.items l.guard) l.cells));
+  next : l.next ≡ head_at
+      (drop l._done (grp (key_at l.fn.tables.items l.guard) (entries_at l.fn.tables.items l.guard) l.cells));
+  emptied : IsEmptied l.tree l.fn.tables.items l.tables.items l.up
+      (take l._done (grp (key_at l.fn.tables.items l.guard) (entries_at l.fn.tables.items l.guard) l.cells));
   lesser : Fewer l.fn.tables.items l.tables.items;
   counted : l.tally + 5 * size l.tables.items ≤ l.fn.tally + 1 + 5 * size l.fn.tables.items;
 }

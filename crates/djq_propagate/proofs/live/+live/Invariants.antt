@@ -22,8 +22,10 @@ decreases-rise_trim g l = 3 * (length l.tree.now.nodes - l.at)
 
 abbrev pub invariant-rise_side-loop-done : goal.invariant-rise_side-loop-done
 invariant-rise_side-loop-done g l = record {
-  next : l.next ≡ head_at (drop l.done (grp (key_at l.fn.tables.items l.guard) (entries_at l.fn.tables.items l.guard) l.tuple));
-  grown : IsGrown l.tree l.fn.tables.items l.tables.items l.up (take l.done (grp (key_at l.fn.tables.items l.guard) (entries_at l.fn.tables.items l.guard) l.tuple));
+  next : l.next ≡ head_at
+      (drop l.done (grp (key_at l.fn.tables.items l.guard) (entries_at l.fn.tables.items l.guard) l.tuple));
+  grown : IsGrown l.tree l.fn.tables.items l.tables.items l.up
+      (take l.done (grp (key_at l.fn.tables.items l.guard) (entries_at l.fn.tables.items l.guard) l.tuple));
   unchanged : CameAs l.marked l.fn.tables.items l.tables.items;
   counted : l.tally + 4 * size l.fn.tables.items ≤ l.fn.tally + 1 + 4 * size l.tables.items;
 }

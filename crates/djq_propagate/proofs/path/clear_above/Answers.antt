@@ -18,7 +18,8 @@ clear_at-requires g c =
 
 pub returns-then-has_child-clause-next : goal.returns-then-has_child-clause-next
 returns-then-has_child-clause-next g c =
-    sym (ap (λ (b : Bool). cond b c.args.up c.args.at) (ap (λ n. has_child n c.args.at) (sym c.node.ensures) ∙ sym c.has_child.ensures ∙ c.if-has_child.true))
+    sym (ap (λ (b : Bool). cond b c.args.up c.args.at)
+    (ap (λ n. has_child n c.args.at) (sym c.node.ensures) ∙ sym c.has_child.ensures ∙ c.if-has_child.true))
 
 pub returns-then-has_child-clause-cleared : goal.returns-then-has_child-clause-cleared
 returns-then-has_child-clause-cleared g c =
@@ -30,23 +31,34 @@ returns-then-has_child-clause-changed g c =
 
 pub returns-then-has_child-clause-apart : goal.returns-then-has_child-clause-apart
 returns-then-has_child-clause-apart g c =
-    λ none. absurd (false≢true (sym none ∙ (ap (λ n. has_child n c.args.at) (sym c.node.ensures) ∙ sym c.has_child.ensures ∙ c.if-has_child.true)))
+    λ none. absurd (false≢true
+    (sym none ∙ (ap (λ n. has_child n c.args.at) (sym c.node.ensures) ∙ sym c.has_child.ensures
+    ∙ c.if-has_child.true)))
 
 pub returns-then-has_child-clause-counted : goal.returns-then-has_child-clause-counted
 returns-then-has_child-clause-counted g c =
-    λ n h. let b : one (has_child (node_at c.args.tree.now.nodes c.args.up) c.args.at) * (1 + n) ≡ 1 * (1 + n) = ap (λ (x : ℕ). x * (1 + n)) (one_true (has_child (node_at c.args.tree.now.nodes c.args.up) c.args.at) (ap (λ n. has_child n c.args.at) (sym c.node.ensures) ∙ sym c.has_child.ensures ∙ c.if-has_child.true)) in omega (arith, c.clear_at.ensures.counted, marks_length (entries_at c.args.tables.now.items c.args.up), h c.args.up)
+    λ n h. let b : one (has_child (node_at c.args.tree.now.nodes c.args.up) c.args.at) * (1 + n)
+    ≡ 1 * (1 + n) = ap (λ (x : ℕ). x * (1 + n))
+    (one_true (has_child (node_at c.args.tree.now.nodes c.args.up) c.args.at)
+    (ap (λ n. has_child n c.args.at) (sym c.node.ensures) ∙ sym c.has_child.ensures ∙ c.if-has_child.true)) in omega
+    (arith, c.clear_at.ensures.counted, marks_length (entries_at c.args.tables.now.items c.args.up), h c.args.up)
 
 pub returns-clause-next : goal.returns-clause-next
 returns-clause-next g c =
-    sym (ap (λ (b : Bool). cond b c.args.up c.args.at) (ap (λ n. has_child n c.args.at) (sym c.node.ensures) ∙ sym c.has_child.ensures ∙ c.if-has_child.false))
+    sym (ap (λ (b : Bool). cond b c.args.up c.args.at)
+    (ap (λ n. has_child n c.args.at) (sym c.node.ensures) ∙ sym c.has_child.ensures ∙ c.if-has_child.false))
 
 pub returns-clause-cleared : goal.returns-clause-cleared
 returns-clause-cleared g c =
-    λ child. absurd (false≢true (sym (ap (λ n. has_child n c.args.at) (sym c.node.ensures) ∙ sym c.has_child.ensures ∙ c.if-has_child.false) ∙ child))
+    λ child. absurd (false≢true
+    (sym (ap (λ n. has_child n c.args.at) (sym c.node.ensures) ∙ sym c.has_child.ensures ∙ c.if-has_child.false)
+    ∙ child))
 
 pub returns-clause-changed : goal.returns-clause-changed
 returns-clause-changed g c =
-    λ child. absurd (false≢true (sym (ap (λ n. has_child n c.args.at) (sym c.node.ensures) ∙ sym c.has_child.ensures ∙ c.if-has_child.false) ∙ child))
+    λ child. absurd (false≢true
+    (sym (ap (λ n. has_child n c.args.at) (sym c.node.ensures) ∙ sym c.has_child.ensures ∙ c.if-has_child.false)
+    ∙ child))
 
 pub returns-clause-apart : goal.returns-clause-apart
 returns-clause-apart g c =
@@ -58,7 +70,11 @@ returns-clause-counted g c =
 
 pub returns-then-has_child-clause-flat : goal.returns-then-has_child-clause-flat
 returns-then-has_child-clause-flat g c =
-    λ few. let b : one (has_child (node_at c.args.tree.now.nodes c.args.up) c.args.at) * 2 ≡ 1 * 2 = ap (λ (x : ℕ). x * 2) (one_true (has_child (node_at c.args.tree.now.nodes c.args.up) c.args.at) (ap (λ n. has_child n c.args.at) (sym c.node.ensures) ∙ sym c.has_child.ensures ∙ c.if-has_child.true)) in omega (arith, c.clear_at.ensures.counted, few.each c.args.up)
+    λ few. let b : one (has_child (node_at c.args.tree.now.nodes c.args.up) c.args.at) * 2
+    ≡ 1 * 2 = ap (λ (x : ℕ). x * 2)
+    (one_true (has_child (node_at c.args.tree.now.nodes c.args.up) c.args.at)
+    (ap (λ n. has_child n c.args.at) (sym c.node.ensures) ∙ sym c.has_child.ensures ∙ c.if-has_child.true)) in omega
+    (arith, c.clear_at.ensures.counted, few.each c.args.up)
 
 pub returns-clause-flat : goal.returns-clause-flat
 returns-clause-flat g c =

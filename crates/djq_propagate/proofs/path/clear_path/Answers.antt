@@ -20,10 +20,21 @@ pub loop-up-init : goal.loop-up-init
 loop-up-init g c =
     record {
       at = sym (path_zero c.args.tree.now.nodes c.args.leaf);
-      cleared = cleared_leaf c.args.tree.now c.args.tables.now.items c.clear_at.new.tables.items c.args.leaf c.requires.family c.clear_at.ensures.changed c.clear_at.ensures.cleared;
-      counted = λ n h. let s : (1 + steps c.args.tree.now.nodes c.args.leaf 0) * (1 + n) ≡ 1 * (1 + n) = ap (λ (x : ℕ). (1 + x) * (1 + n)) (steps_none c.args.tree.now.nodes c.args.leaf) in omega (arith, c.clear_at.ensures.counted, marks_length (entries_at c.args.tables.now.items c.args.leaf), h c.args.leaf);
-      few = few_cleared c.args.tables.now.items c.clear_at.new.tables.items c.args.leaf c.clear_at.ensures.changed c.clear_at.ensures.cleared;
-      flat = λ few. let s : (1 + steps c.args.tree.now.nodes c.args.leaf 0) * 2 ≡ 1 * 2 = ap (λ (x : ℕ). (1 + x) * 2) (steps_none c.args.tree.now.nodes c.args.leaf) in omega (arith, c.clear_at.ensures.counted, few.each c.args.leaf);
+      cleared = cleared_leaf c.args.tree.now c.args.tables.now.items c.clear_at.new.tables.items c.args.leaf
+          c.requires.family c.clear_at.ensures.changed c.clear_at.ensures.cleared;
+      counted = λ n h. let s : (1 + steps c.args.tree.now.nodes c.args.leaf 0) * (1 + n)
+          ≡ 1 * (1 + n) = ap (λ (x : ℕ). (1 + x) * (1 + n)) (steps_none c.args.tree.now.nodes c.args.leaf) in omega (
+            arith,
+            c.clear_at.ensures.counted,
+            marks_length (entries_at c.args.tables.now.items c.args.leaf),
+            h
+                c.args.leaf,
+          );
+      few = few_cleared c.args.tables.now.items c.clear_at.new.tables.items c.args.leaf c.clear_at.ensures.changed
+          c.clear_at.ensures.cleared;
+      flat = λ few. let s : (1 + steps c.args.tree.now.nodes c.args.leaf 0) * 2
+          ≡ 1 * 2 = ap (λ (x : ℕ). (1 + x) * 2) (steps_none c.args.tree.now.nodes c.args.leaf) in omega
+          (arith, c.clear_at.ensures.counted, few.each c.args.leaf);
     }
 
 pub clear_above-at-requires-clause-family : goal.clear_above-at-requires-clause-family
@@ -39,12 +50,30 @@ clear_above-at-requires-clause-within g c =
 pub loop-up-preserved : goal.loop-up-preserved
 loop-up-preserved g c =
     record {
-      at = path_next c.args.tree.now.nodes c.args.leaf c.loop-up.up c.loop-up.at c.clear_above-at.result c.loop-up.invariant.at c.clear_above-at.ensures.next;
-      cleared = cleared_more c.args.tree.now c.args.tables.now.items c.loop-up.tables.items c.clear_above-at.new.tables.items c.args.leaf c.loop-up.up c.loop-up.at c.requires.leaf c.loop-up.invariant.cleared c.loop-up.invariant.at c.clear_above-at.ensures.cleared c.clear_above-at.ensures.changed c.clear_above-at.ensures.apart;
-      counted = λ n h. steps_count (1 + steps c.args.tree.now.nodes c.args.leaf (c.loop-up.up + 1)) (1 + steps c.args.tree.now.nodes c.args.leaf c.loop-up.up) (one (has_child (node_at c.args.tree.now.nodes c.loop-up.up) c.loop-up.at)) (1 + n) c.loop-up.tally c.args.tally.now c.clear_above-at.new.tally (let s = steps_more c.args.tree.now.nodes c.args.leaf c.loop-up.up c.loop-up.at c.loop-up.invariant.at in omega arith)
-          (c.loop-up.invariant.counted n h) (c.clear_above-at.ensures.counted n (λ i. let e = c.loop-up.invariant.cleared.long i in let b = h i in omega arith));
-      few = λ few. few_clear_more (node_at c.args.tree.now.nodes c.loop-up.up) c.loop-up.tables.items c.clear_above-at.new.tables.items c.loop-up.at c.loop-up.up c.clear_above-at.ensures.cleared c.clear_above-at.ensures.changed c.clear_above-at.ensures.apart (c.loop-up.invariant.few few);
-      flat = λ few. steps_count (1 + steps c.args.tree.now.nodes c.args.leaf (c.loop-up.up + 1)) (1 + steps c.args.tree.now.nodes c.args.leaf c.loop-up.up) (one (has_child (node_at c.args.tree.now.nodes c.loop-up.up) c.loop-up.at)) 2 c.loop-up.tally c.args.tally.now c.clear_above-at.new.tally (let s = steps_more c.args.tree.now.nodes c.args.leaf c.loop-up.up c.loop-up.at c.loop-up.invariant.at in omega arith)
+      at = path_next c.args.tree.now.nodes c.args.leaf c.loop-up.up c.loop-up.at c.clear_above-at.result
+          c.loop-up.invariant.at c.clear_above-at.ensures.next;
+      cleared = cleared_more c.args.tree.now c.args.tables.now.items c.loop-up.tables.items
+          c.clear_above-at.new.tables.items c.args.leaf c.loop-up.up c.loop-up.at c.requires.leaf
+          c.loop-up.invariant.cleared c.loop-up.invariant.at c.clear_above-at.ensures.cleared
+          c.clear_above-at.ensures.changed c.clear_above-at.ensures.apart;
+      counted = λ n h. steps_count (1 + steps c.args.tree.now.nodes c.args.leaf (c.loop-up.up + 1))
+          (1 + steps c.args.tree.now.nodes c.args.leaf c.loop-up.up)
+          (one (has_child (node_at c.args.tree.now.nodes c.loop-up.up) c.loop-up.at)) (1 + n) c.loop-up.tally
+          c.args.tally.now c.clear_above-at.new.tally
+          (let s = steps_more c.args.tree.now.nodes c.args.leaf c.loop-up.up c.loop-up.at c.loop-up.invariant.at in
+          omega arith)
+          (c.loop-up.invariant.counted n h)
+          (c.clear_above-at.ensures.counted n
+          (λ i. let e = c.loop-up.invariant.cleared.long i in let b = h i in omega arith));
+      few = λ few. few_clear_more (node_at c.args.tree.now.nodes c.loop-up.up) c.loop-up.tables.items
+          c.clear_above-at.new.tables.items c.loop-up.at c.loop-up.up c.clear_above-at.ensures.cleared
+          c.clear_above-at.ensures.changed c.clear_above-at.ensures.apart (c.loop-up.invariant.few few);
+      flat = λ few. steps_count (1 + steps c.args.tree.now.nodes c.args.leaf (c.loop-up.up + 1))
+          (1 + steps c.args.tree.now.nodes c.args.leaf c.loop-up.up)
+          (one (has_child (node_at c.args.tree.now.nodes c.loop-up.up) c.loop-up.at)) 2 c.loop-up.tally c.args.tally.now
+          c.clear_above-at.new.tally
+          (let s = steps_more c.args.tree.now.nodes c.args.leaf c.loop-up.up c.loop-up.at c.loop-up.invariant.at in
+          omega arith)
           (c.loop-up.invariant.flat few) (c.clear_above-at.ensures.flat (c.loop-up.invariant.few few));
     }
 
@@ -54,7 +83,8 @@ returns-clause-cleared g c =
     let h = c.loop-up-test.false in
     let x = c.loop-up.auto.up-end in
     let e : c.loop-up.up ≡ length c.args.tree.now.nodes = omega arith in
-    subst (λ (k : ℕ). HasCleared c.args.tree.now c.args.tables.now.items c.loop-up.tables.items c.args.leaf k) e c.loop-up.invariant.cleared
+    subst (λ (k : ℕ). HasCleared c.args.tree.now c.args.tables.now.items c.loop-up.tables.items c.args.leaf k) e
+    c.loop-up.invariant.cleared
 
 pub returns-clause-counted : goal.returns-clause-counted
 returns-clause-counted g c =
@@ -62,7 +92,8 @@ returns-clause-counted g c =
     let h = c.loop-up-test.false in
     let x = c.loop-up.auto.up-end in
     let e : c.loop-up.up ≡ length c.args.tree.now.nodes = omega arith in
-    λ n b. subst (λ (k : ℕ). c.loop-up.tally ≤ c.args.tally.now + (1 + steps c.args.tree.now.nodes c.args.leaf k) * (1 + n)) e (c.loop-up.invariant.counted n b)
+    λ n b. subst (λ (k : ℕ). c.loop-up.tally ≤ c.args.tally.now + (1 + steps c.args.tree.now.nodes c.args.leaf k) *
+    (1 + n)) e (c.loop-up.invariant.counted n b)
 
 pub returns-clause-flat : goal.returns-clause-flat
 returns-clause-flat g c =
@@ -70,4 +101,5 @@ returns-clause-flat g c =
     let h = c.loop-up-test.false in
     let x = c.loop-up.auto.up-end in
     let e : c.loop-up.up ≡ length c.args.tree.now.nodes = omega arith in
-    λ few. subst (λ (k : ℕ). c.loop-up.tally ≤ c.args.tally.now + (1 + steps c.args.tree.now.nodes c.args.leaf k) * 2) e (c.loop-up.invariant.flat few)
+    λ few. subst (λ (k : ℕ). c.loop-up.tally ≤ c.args.tally.now + (1 + steps c.args.tree.now.nodes c.args.leaf k) * 2) e
+    (c.loop-up.invariant.flat few)

@@ -9,7 +9,8 @@ abbrev pub invariant-loop-up : goal.invariant-loop-up
 invariant-loop-up g l = record {
   at : l.at ≡ path_at l.tree.nodes l.leaf l.up;
   cleared : HasCleared l.tree l.fn.tables.items l.tables.items l.leaf l.up;
-  counted : (n : ℕ) → ((i : ℕ) → length (entries_at l.fn.tables.items i) ≤ n) → l.tally ≤ l.fn.tally + (1 + steps l.tree.nodes l.leaf l.up) * (1 + n);
+  counted : (n : ℕ) → ((i : ℕ) → length (entries_at l.fn.tables.items i) ≤ n)
+      → l.tally ≤ l.fn.tally + (1 + steps l.tree.nodes l.leaf l.up) * (1 + n);
   few : HaveFew l.fn.tables.items → HaveFew l.tables.items;
   flat : HaveFew l.fn.tables.items → l.tally ≤ l.fn.tally + (1 + steps l.tree.nodes l.leaf l.up) * 2;
 }

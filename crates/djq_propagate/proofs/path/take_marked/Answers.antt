@@ -7,20 +7,28 @@ use Rattle.djq_propagate.specs.Walks.{Died}
 use Rattle.djq_propagate.proofs.Gains.{width_narrow}
 use Rattle.djq_propagate.proofs.Sides.{head_none}
 use Rattle.djq_propagate.proofs.Going.{has_table, as_live}
-use Rattle.djq_propagate.proofs.Updating.{leaf_within, ready_leaf, taking_none, taking_more, taking_done, no_mark, no_entry, first_mark}
+use Rattle.djq_propagate.proofs.Updating.{leaf_within, ready_leaf, taking_none, taking_more}
+use Rattle.djq_propagate.proofs.Updating.{taking_done, no_mark, no_entry, first_mark}
 use Rattle.djq_propagate.proofs.path.take_marked.Goals as goal
 
 pub len_at-count-requires : goal.len_at-count-requires
 len_at-count-requires g c =
-    has_table c.args.tree.now c.args.tables.now.items c.args.leaf c.requires.reducts.family (leaf_within c.args.tree.now c.args.leaf c.requires.reducts.family.is_tree c.requires.leaf)
+    has_table c.args.tree.now c.args.tables.now.items c.args.leaf c.requires.reducts.family
+    (leaf_within c.args.tree.now c.args.leaf c.requires.reducts.family.is_tree c.requires.leaf)
 
 pub loop-done-init : goal.loop-done-init
 loop-done-init g c =
-    record { taking = taking_none c.args.tree.now c.args.tables.now.items c.args.leaf c.requires.reducts; few = omega arith; counted = omega arith }
+    record {
+      taking = taking_none c.args.tree.now c.args.tables.now.items c.args.leaf c.requires.reducts;
+      few = omega
+          arith;
+      counted = omega arith;
+    }
 
 pub first_marked_at-requires : goal.first_marked_at-requires
 first_marked_at-requires g c =
-    has_table c.args.tree.now c.loop-done.tables.items c.args.leaf c.loop-done.invariant.taking.sound.family (leaf_within c.args.tree.now c.args.leaf c.requires.reducts.family.is_tree c.requires.leaf)
+    has_table c.args.tree.now c.loop-done.tables.items c.args.leaf c.loop-done.invariant.taking.sound.family
+    (leaf_within c.args.tree.now c.args.leaf c.requires.reducts.family.is_tree c.requires.leaf)
 
 pub kill-requires-clause-ready : goal.kill-requires-clause-ready
 kill-requires-clause-ready g c =
@@ -28,21 +36,26 @@ kill-requires-clause-ready g c =
 
 pub read_at-requires-clause-within : goal.read_at-requires-clause-within
 read_at-requires-clause-within g c =
-    has_table c.args.tree.now c.loop-done.tables.items c.args.leaf c.loop-done.invariant.taking.sound.family (leaf_within c.args.tree.now c.args.leaf c.requires.reducts.family.is_tree c.requires.leaf)
+    has_table c.args.tree.now c.loop-done.tables.items c.args.leaf c.loop-done.invariant.taking.sound.family
+    (leaf_within c.args.tree.now c.args.leaf c.requires.reducts.family.is_tree c.requires.leaf)
 
 pub read_at-requires-clause-narrow : goal.read_at-requires-clause-narrow
 read_at-requires-clause-narrow g c =
-    width_narrow c.args.tree.now c.loop-done.tables.items c.args.leaf c.loop-done.invariant.taking.sound.family (leaf_within c.args.tree.now c.args.leaf c.requires.reducts.family.is_tree c.requires.leaf)
+    width_narrow c.args.tree.now c.loop-done.tables.items c.args.leaf c.loop-done.invariant.taking.sound.family
+    (leaf_within c.args.tree.now c.args.leaf c.requires.reducts.family.is_tree c.requires.leaf)
 
 pub read_at-requires-clause-live : goal.read_at-requires-clause-live
 read_at-requires-clause-live g c =
-    let m = first_mark (entries_at c.loop-done.tables.items c.args.leaf) c.in-Some.place (sym c.first_marked_at.ensures.found ∙ c.in-Some.is) in
+    let m = first_mark (entries_at c.loop-done.tables.items c.args.leaf) c.in-Some.place
+    (sym c.first_marked_at.ensures.found ∙ c.in-Some.is) in
     as_live (entries_at c.loop-done.tables.items c.args.leaf) c.in-Some.place m.tuple m.is_at
 
 pub kill-requires-clause-lies : goal.kill-requires-clause-lies
 kill-requires-clause-lies g c =
-    let m = first_mark (entries_at c.loop-done.tables.items c.args.leaf) c.in-Some.place (sym c.first_marked_at.ensures.found ∙ c.in-Some.is) in
-    subst (λ (u : List ℕ). IsAt (entries_at c.loop-done.tables.items c.args.leaf) c.in-Some.place u) (sym (c.as_slice.ensures ∙ c.read_at.ensures.tuple m.tuple m.is_at)) m.is_at
+    let m = first_mark (entries_at c.loop-done.tables.items c.args.leaf) c.in-Some.place
+    (sym c.first_marked_at.ensures.found ∙ c.in-Some.is) in
+    subst (λ (u : List ℕ). IsAt (entries_at c.loop-done.tables.items c.args.leaf) c.in-Some.place u)
+    (sym (c.as_slice.ensures ∙ c.read_at.ensures.tuple m.tuple m.is_at)) m.is_at
 
 pub loop-done-smaller : goal.loop-done-smaller
 loop-done-smaller g c =
@@ -51,17 +64,29 @@ loop-done-smaller g c =
 
 pub loop-done-preserved : goal.loop-done-preserved
 loop-done-preserved g c =
-    let m = first_mark (entries_at c.loop-done.tables.items c.args.leaf) c.in-Some.place (sym c.first_marked_at.ensures.found ∙ c.in-Some.is) in
-    let died = subst (λ (u : List ℕ). Died c.args.tree.now c.loop-done.tables.items c.kill.new.tables.items c.args.leaf u) (c.as_slice.ensures ∙ c.read_at.ensures.tuple m.tuple m.is_at) c.kill.ensures.died in
+    let m = first_mark (entries_at c.loop-done.tables.items c.args.leaf) c.in-Some.place
+    (sym c.first_marked_at.ensures.found ∙ c.in-Some.is) in
+    let died = subst (λ (u : List ℕ). Died c.args.tree.now c.loop-done.tables.items c.kill.new.tables.items c.args.leaf
+    u) (c.as_slice.ensures ∙ c.read_at.ensures.tuple m.tuple m.is_at) c.kill.ensures.died in
     record {
-      taking = taking_more c.args.tree.now c.args.tables.now.items c.loop-done.tables.items c.kill.new.tables.items c.args.leaf m.tuple c.requires.leaf c.loop-done.invariant.taking died c.kill.ensures.fewer m.some;
-      few = omega (arith, c.loop-done.invariant.few, removed_length (entries_at c.loop-done.tables.items c.args.leaf) (entries_at c.kill.new.tables.items c.args.leaf) m.tuple died.loses);
+      taking = taking_more c.args.tree.now c.args.tables.now.items c.loop-done.tables.items c.kill.new.tables.items
+          c.args.leaf m.tuple c.requires.leaf c.loop-done.invariant.taking died c.kill.ensures.fewer m.some;
+      few = omega (
+        arith,
+        c.loop-done.invariant.few,
+        removed_length (entries_at c.loop-done.tables.items c.args.leaf)
+            (entries_at c.kill.new.tables.items c.args.leaf) m.tuple died.loses,
+      );
       counted = omega (arith, c.loop-done.invariant.counted, c.kill.ensures.counted, c.first_marked_at.ensures.counted);
     }
 
 pub returns-in-None-clause-taken : goal.returns-in-None-clause-taken
 returns-in-None-clause-taken g c =
-    taking_done c.args.tree.now c.args.tables.now.items c.loop-done.tables.items c.args.leaf c.loop-done.invariant.taking (λ v. no_mark (entries_at c.loop-done.tables.items c.args.leaf) v (head_none (marks (entries_at c.loop-done.tables.items c.args.leaf)) (sym c.first_marked_at.ensures.found ∙ c.in-None.is)))
+    taking_done c.args.tree.now c.args.tables.now.items c.loop-done.tables.items c.args.leaf
+    c.loop-done.invariant.taking
+    (λ v. no_mark (entries_at c.loop-done.tables.items c.args.leaf) v
+    (head_none (marks (entries_at c.loop-done.tables.items c.args.leaf))
+    (sym c.first_marked_at.ensures.found ∙ c.in-None.is)))
 
 pub returns-in-None-clause-counted : goal.returns-in-None-clause-counted
 returns-in-None-clause-counted g c =
@@ -71,7 +96,10 @@ pub returns-clause-taken : goal.returns-clause-taken
 returns-clause-taken g c =
     let h = c.loop-done-test.false in
     let x = c.loop-done.auto._done-end in
-    taking_done c.args.tree.now c.args.tables.now.items c.loop-done.tables.items c.args.leaf c.loop-done.invariant.taking (λ v. no_entry (entries_at c.loop-done.tables.items c.args.leaf) v (omega (arith, c.loop-done.invariant.few, c.len_at-count.ensures)))
+    taking_done c.args.tree.now c.args.tables.now.items c.loop-done.tables.items c.args.leaf
+    c.loop-done.invariant.taking
+    (λ v. no_entry (entries_at c.loop-done.tables.items c.args.leaf) v
+    (omega (arith, c.loop-done.invariant.few, c.len_at-count.ensures)))
 
 pub returns-clause-counted : goal.returns-clause-counted
 returns-clause-counted g c =

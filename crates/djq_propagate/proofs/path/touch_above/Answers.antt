@@ -11,15 +11,30 @@ node-requires g c =
 
 pub touch_step-requires : goal.touch_step-requires
 touch_step-requires g c =
-    record { step = record { family = c.requires.family; within = c.requires.within; child = (ap (λ n. has_child n c.args.at) (sym c.node.ensures) ∙ sym c.has_child.ensures ∙ c.if-has_child.true) } }
+    record {
+      step = record {
+        family = c.requires.family;
+        within = c.requires.within;
+        child =
+            (ap (λ n. has_child n c.args.at) (sym c.node.ensures) ∙ sym c.has_child.ensures ∙ c.if-has_child.true);
+      };
+    }
 
 pub touch_step-requires-then-removal : goal.touch_step-requires-then-removal
 touch_step-requires-then-removal g c =
-    record { step = record { family = c.requires.family; within = c.requires.within; child = (ap (λ n. has_child n c.args.at) (sym c.node.ensures) ∙ sym c.has_child.ensures ∙ c.if-has_child.true) } }
+    record {
+      step = record {
+        family = c.requires.family;
+        within = c.requires.within;
+        child =
+            (ap (λ n. has_child n c.args.at) (sym c.node.ensures) ∙ sym c.has_child.ensures ∙ c.if-has_child.true);
+      };
+    }
 
 pub returns-then-up-second_stage-clause-next : goal.returns-then-up-second_stage-clause-next
 returns-then-up-second_stage-clause-next g c =
-    sym (ap (λ (b : Bool). cond b c.args.up c.args.at) (ap (λ n. has_child n c.args.at) (sym c.node.ensures) ∙ sym c.has_child.ensures ∙ c.if-has_child.true))
+    sym (ap (λ (b : Bool). cond b c.args.up c.args.at)
+    (ap (λ n. has_child n c.args.at) (sym c.node.ensures) ∙ sym c.has_child.ensures ∙ c.if-has_child.true))
 
 pub returns-then-up-second_stage-clause-above : goal.returns-then-up-second_stage-clause-above
 returns-then-up-second_stage-clause-above g c =
@@ -35,15 +50,22 @@ returns-then-up-second_stage-clause-idle g c =
 
 pub returns-then-up-second_stage-clause-apart : goal.returns-then-up-second_stage-clause-apart
 returns-then-up-second_stage-clause-apart g c =
-    λ none. absurd (false≢true (sym none ∙ (ap (λ n. has_child n c.args.at) (sym c.node.ensures) ∙ sym c.has_child.ensures ∙ c.if-has_child.true)))
+    λ none. absurd (false≢true
+    (sym none ∙ (ap (λ n. has_child n c.args.at) (sym c.node.ensures) ∙ sym c.has_child.ensures
+    ∙ c.if-has_child.true)))
 
 pub returns-then-up-second_stage-clause-counted : goal.returns-then-up-second_stage-clause-counted
 returns-then-up-second_stage-clause-counted g c =
-    λ n h. let b : one (has_child (node_at c.args.tree.now.nodes c.args.up) c.args.at) * (1 + 5 * n) ≡ 1 * (1 + 5 * n) = ap (λ (x : ℕ). x * (1 + 5 * n)) (one_true (has_child (node_at c.args.tree.now.nodes c.args.up) c.args.at) (ap (λ n. has_child n c.args.at) (sym c.node.ensures) ∙ sym c.has_child.ensures ∙ c.if-has_child.true)) in omega (arith, c.touch_step.ensures.counted n h)
+    λ n h. let b : one (has_child (node_at c.args.tree.now.nodes c.args.up) c.args.at) * (1 + 5 * n)
+    ≡ 1 * (1 + 5 * n) = ap (λ (x : ℕ). x * (1 + 5 * n))
+    (one_true (has_child (node_at c.args.tree.now.nodes c.args.up) c.args.at)
+    (ap (λ n. has_child n c.args.at) (sym c.node.ensures) ∙ sym c.has_child.ensures ∙ c.if-has_child.true)) in omega
+    (arith, c.touch_step.ensures.counted n h)
 
 pub returns-then-removal-clause-next : goal.returns-then-removal-clause-next
 returns-then-removal-clause-next g c =
-    sym (ap (λ (b : Bool). cond b c.args.up c.args.at) (ap (λ n. has_child n c.args.at) (sym c.node.ensures) ∙ sym c.has_child.ensures ∙ c.if-has_child.true))
+    sym (ap (λ (b : Bool). cond b c.args.up c.args.at)
+    (ap (λ n. has_child n c.args.at) (sym c.node.ensures) ∙ sym c.has_child.ensures ∙ c.if-has_child.true))
 
 pub returns-then-removal-clause-above : goal.returns-then-removal-clause-above
 returns-then-removal-clause-above g c =
@@ -59,15 +81,22 @@ returns-then-removal-clause-idle g c =
 
 pub returns-then-removal-clause-apart : goal.returns-then-removal-clause-apart
 returns-then-removal-clause-apart g c =
-    λ none. absurd (false≢true (sym none ∙ (ap (λ n. has_child n c.args.at) (sym c.node.ensures) ∙ sym c.has_child.ensures ∙ c.if-has_child.true)))
+    λ none. absurd (false≢true
+    (sym none ∙ (ap (λ n. has_child n c.args.at) (sym c.node.ensures) ∙ sym c.has_child.ensures
+    ∙ c.if-has_child.true)))
 
 pub returns-then-removal-clause-counted : goal.returns-then-removal-clause-counted
 returns-then-removal-clause-counted g c =
-    λ n h. let b : one (has_child (node_at c.args.tree.now.nodes c.args.up) c.args.at) * (1 + 5 * n) ≡ 1 * (1 + 5 * n) = ap (λ (x : ℕ). x * (1 + 5 * n)) (one_true (has_child (node_at c.args.tree.now.nodes c.args.up) c.args.at) (ap (λ n. has_child n c.args.at) (sym c.node.ensures) ∙ sym c.has_child.ensures ∙ c.if-has_child.true)) in omega (arith, c.touch_step-then-removal.ensures.counted n h)
+    λ n h. let b : one (has_child (node_at c.args.tree.now.nodes c.args.up) c.args.at) * (1 + 5 * n)
+    ≡ 1 * (1 + 5 * n) = ap (λ (x : ℕ). x * (1 + 5 * n))
+    (one_true (has_child (node_at c.args.tree.now.nodes c.args.up) c.args.at)
+    (ap (λ n. has_child n c.args.at) (sym c.node.ensures) ∙ sym c.has_child.ensures ∙ c.if-has_child.true)) in omega
+    (arith, c.touch_step-then-removal.ensures.counted n h)
 
 pub returns-then-has_child-clause-next : goal.returns-then-has_child-clause-next
 returns-then-has_child-clause-next g c =
-    sym (ap (λ (b : Bool). cond b c.args.up c.args.at) (ap (λ n. has_child n c.args.at) (sym c.node.ensures) ∙ sym c.has_child.ensures ∙ c.if-has_child.true))
+    sym (ap (λ (b : Bool). cond b c.args.up c.args.at)
+    (ap (λ n. has_child n c.args.at) (sym c.node.ensures) ∙ sym c.has_child.ensures ∙ c.if-has_child.true))
 
 pub returns-then-has_child-clause-above : goal.returns-then-has_child-clause-above
 returns-then-has_child-clause-above g c =
@@ -91,15 +120,20 @@ returns-then-has_child-clause-counted g c =
 
 pub returns-clause-next : goal.returns-clause-next
 returns-clause-next g c =
-    sym (ap (λ (b : Bool). cond b c.args.up c.args.at) (ap (λ n. has_child n c.args.at) (sym c.node.ensures) ∙ sym c.has_child.ensures ∙ c.if-has_child.false))
+    sym (ap (λ (b : Bool). cond b c.args.up c.args.at)
+    (ap (λ n. has_child n c.args.at) (sym c.node.ensures) ∙ sym c.has_child.ensures ∙ c.if-has_child.false))
 
 pub returns-clause-above : goal.returns-clause-above
 returns-clause-above g c =
-    λ child. absurd (false≢true (sym (ap (λ n. has_child n c.args.at) (sym c.node.ensures) ∙ sym c.has_child.ensures ∙ c.if-has_child.false) ∙ child))
+    λ child. absurd (false≢true
+    (sym (ap (λ n. has_child n c.args.at) (sym c.node.ensures) ∙ sym c.has_child.ensures ∙ c.if-has_child.false)
+    ∙ child))
 
 pub returns-clause-below : goal.returns-clause-below
 returns-clause-below g c =
-    λ child. absurd (false≢true (sym (ap (λ n. has_child n c.args.at) (sym c.node.ensures) ∙ sym c.has_child.ensures ∙ c.if-has_child.false) ∙ child))
+    λ child. absurd (false≢true
+    (sym (ap (λ n. has_child n c.args.at) (sym c.node.ensures) ∙ sym c.has_child.ensures ∙ c.if-has_child.false)
+    ∙ child))
 
 pub returns-clause-idle : goal.returns-clause-idle
 returns-clause-idle g c =
@@ -115,11 +149,19 @@ returns-clause-counted g c =
 
 pub returns-then-up-second_stage-clause-flat : goal.returns-then-up-second_stage-clause-flat
 returns-then-up-second_stage-clause-flat g c =
-    λ meets few. let b : one (has_child (node_at c.args.tree.now.nodes c.args.up) c.args.at) * 6 ≡ 1 * 6 = ap (λ (x : ℕ). x * 6) (one_true (has_child (node_at c.args.tree.now.nodes c.args.up) c.args.at) (ap (λ n. has_child n c.args.at) (sym c.node.ensures) ∙ sym c.has_child.ensures ∙ c.if-has_child.true)) in omega (arith, c.touch_step.ensures.flat meets few)
+    λ meets few. let b : one (has_child (node_at c.args.tree.now.nodes c.args.up) c.args.at) * 6
+    ≡ 1 * 6 = ap (λ (x : ℕ). x * 6)
+    (one_true (has_child (node_at c.args.tree.now.nodes c.args.up) c.args.at)
+    (ap (λ n. has_child n c.args.at) (sym c.node.ensures) ∙ sym c.has_child.ensures ∙ c.if-has_child.true)) in omega
+    (arith, c.touch_step.ensures.flat meets few)
 
 pub returns-then-removal-clause-flat : goal.returns-then-removal-clause-flat
 returns-then-removal-clause-flat g c =
-    λ meets few. let b : one (has_child (node_at c.args.tree.now.nodes c.args.up) c.args.at) * 6 ≡ 1 * 6 = ap (λ (x : ℕ). x * 6) (one_true (has_child (node_at c.args.tree.now.nodes c.args.up) c.args.at) (ap (λ n. has_child n c.args.at) (sym c.node.ensures) ∙ sym c.has_child.ensures ∙ c.if-has_child.true)) in omega (arith, c.touch_step-then-removal.ensures.flat meets few)
+    λ meets few. let b : one (has_child (node_at c.args.tree.now.nodes c.args.up) c.args.at) * 6
+    ≡ 1 * 6 = ap (λ (x : ℕ). x * 6)
+    (one_true (has_child (node_at c.args.tree.now.nodes c.args.up) c.args.at)
+    (ap (λ n. has_child n c.args.at) (sym c.node.ensures) ∙ sym c.has_child.ensures ∙ c.if-has_child.true)) in omega
+    (arith, c.touch_step-then-removal.ensures.flat meets few)
 
 pub returns-then-has_child-clause-flat : goal.returns-then-has_child-clause-flat
 returns-then-has_child-clause-flat g c =

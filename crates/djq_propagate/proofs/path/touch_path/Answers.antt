@@ -13,7 +13,17 @@ use Rattle.djq_propagate.proofs.path.touch_path.Goals as goal
 
 pub loop-up-init : goal.loop-up-init
 loop-up-init g c =
-    record { at = sym (path_zero c.args.tree.now.nodes c.args.leaf); touched = up_none c.args.tree.now c.args.tables.now.items c.args.leaf c.requires.family; walked = walk_none c.args.tree.now c.args.tables.now.items c.args.leaf c.args.removal; counted = λ n h. omega arith; few = λ meets few. few; flat = λ meets few. omega arith }
+    record {
+      at = sym (path_zero c.args.tree.now.nodes c.args.leaf);
+      touched = up_none c.args.tree.now
+          c.args.tables.now.items c.args.leaf c.requires.family;
+      walked = walk_none c.args.tree.now
+          c.args.tables.now.items c.args.leaf c.args.removal;
+      counted = λ n h. omega arith;
+      few = λ meets few. few;
+      flat =
+          λ meets few. omega arith;
+    }
 
 pub touch_above-at-requires-clause-family : goal.touch_above-at-requires-clause-family
 touch_above-at-requires-clause-family g c =
@@ -28,15 +38,44 @@ touch_above-at-requires-clause-within g c =
 pub loop-up-preserved : goal.loop-up-preserved
 loop-up-preserved g c =
     record {
-      at = path_next c.args.tree.now.nodes c.args.leaf c.loop-up.up c.loop-up.at c.touch_above-at.result c.loop-up.invariant.at c.touch_above-at.ensures.next;
-      touched = up_more c.args.tree.now c.args.tables.now.items c.loop-up.tables.items c.touch_above-at.new.tables.items c.args.leaf c.loop-up.up c.loop-up.at c.args.tree.now.second_stage c.args.removal (λ v. reach (node_at c.args.tree.now.nodes c.loop-up.up) false c.loop-up.at c.loop-up.tables.items (marks (entries_at c.loop-up.tables.items c.loop-up.at)) v) (λ v. reach (node_at c.args.tree.now.nodes c.loop-up.up) true c.loop-up.at c.loop-up.tables.items (marks (entries_at c.loop-up.tables.items c.loop-up.at)) v)
-          c.loop-up.invariant.touched c.loop-up.invariant.at c.touch_above-at.ensures.above c.touch_above-at.ensures.below c.touch_above-at.ensures.idle c.touch_above-at.ensures.apart;
-      walked = walk_more c.args.tree.now c.args.tables.now.items c.loop-up.tables.items c.touch_above-at.new.tables.items c.args.leaf c.loop-up.up c.loop-up.at c.args.removal c.requires.family c.requires.leaf c.requires.can (let len = c.len-up-end.ensures.count in let h = c.loop-up-test.true in omega arith) c.loop-up.invariant.touched c.loop-up.invariant.walked c.loop-up.invariant.at c.touch_above-at.ensures.above c.touch_above-at.ensures.below c.touch_above-at.ensures.idle c.touch_above-at.ensures.apart;
-      counted = λ n h. steps_count (steps c.args.tree.now.nodes c.args.leaf (c.loop-up.up + 1)) (steps c.args.tree.now.nodes c.args.leaf c.loop-up.up) (one (has_child (node_at c.args.tree.now.nodes c.loop-up.up) c.loop-up.at)) (1 + 5 * n) c.loop-up.tally c.args.tally.now c.touch_above-at.new.tally (steps_more c.args.tree.now.nodes c.args.leaf c.loop-up.up c.loop-up.at c.loop-up.invariant.at)
-          (c.loop-up.invariant.counted n h) (c.touch_above-at.ensures.counted n (λ i. let e = c.loop-up.invariant.touched.long i in let b = h i in omega arith));
-      few = λ meets few. few_more c.args.tree.now c.args.tables.now.items c.loop-up.tables.items c.touch_above-at.new.tables.items c.args.leaf c.loop-up.up c.loop-up.at c.args.removal meets c.requires.family c.requires.leaf c.requires.can (let len = c.len-up-end.ensures.count in let h = c.loop-up-test.true in omega arith) c.loop-up.invariant.touched c.loop-up.invariant.walked c.loop-up.invariant.at c.touch_above-at.ensures.above c.touch_above-at.ensures.below c.touch_above-at.ensures.idle c.touch_above-at.ensures.apart (c.loop-up.invariant.few meets few);
-      flat = λ meets few. steps_count (steps c.args.tree.now.nodes c.args.leaf (c.loop-up.up + 1)) (steps c.args.tree.now.nodes c.args.leaf c.loop-up.up) (one (has_child (node_at c.args.tree.now.nodes c.loop-up.up) c.loop-up.at)) 6 c.loop-up.tally c.args.tally.now c.touch_above-at.new.tally (steps_more c.args.tree.now.nodes c.args.leaf c.loop-up.up c.loop-up.at c.loop-up.invariant.at)
-          (c.loop-up.invariant.flat meets few) (c.touch_above-at.ensures.flat meets ((c.loop-up.invariant.few meets few).each c.loop-up.at));
+      at = path_next c.args.tree.now.nodes c.args.leaf c.loop-up.up c.loop-up.at c.touch_above-at.result
+          c.loop-up.invariant.at c.touch_above-at.ensures.next;
+      touched = up_more c.args.tree.now c.args.tables.now.items c.loop-up.tables.items c.touch_above-at.new.tables.items
+          c.args.leaf c.loop-up.up c.loop-up.at c.args.tree.now.second_stage c.args.removal
+          (λ v. reach (node_at c.args.tree.now.nodes c.loop-up.up) false c.loop-up.at c.loop-up.tables.items
+          (marks (entries_at c.loop-up.tables.items c.loop-up.at)) v)
+          (λ v. reach (node_at c.args.tree.now.nodes c.loop-up.up) true c.loop-up.at c.loop-up.tables.items
+          (marks (entries_at c.loop-up.tables.items c.loop-up.at)) v)
+          c.loop-up.invariant.touched c.loop-up.invariant.at c.touch_above-at.ensures.above
+          c.touch_above-at.ensures.below c.touch_above-at.ensures.idle c.touch_above-at.ensures.apart;
+      walked = walk_more c.args.tree.now c.args.tables.now.items c.loop-up.tables.items
+          c.touch_above-at.new.tables.items c.args.leaf c.loop-up.up c.loop-up.at c.args.removal c.requires.family
+          c.requires.leaf c.requires.can
+          (let len = c.len-up-end.ensures.count in let h = c.loop-up-test.true in omega arith)
+          c.loop-up.invariant.touched c.loop-up.invariant.walked c.loop-up.invariant.at c.touch_above-at.ensures.above
+          c.touch_above-at.ensures.below c.touch_above-at.ensures.idle c.touch_above-at.ensures.apart;
+      counted = λ n h. steps_count (steps c.args.tree.now.nodes c.args.leaf (c.loop-up.up + 1))
+          (steps c.args.tree.now.nodes c.args.leaf c.loop-up.up)
+          (one (has_child (node_at c.args.tree.now.nodes c.loop-up.up) c.loop-up.at)) (1 + 5 * n) c.loop-up.tally
+          c.args.tally.now c.touch_above-at.new.tally
+          (steps_more c.args.tree.now.nodes c.args.leaf c.loop-up.up c.loop-up.at c.loop-up.invariant.at)
+          (c.loop-up.invariant.counted n h)
+          (c.touch_above-at.ensures.counted n
+          (λ i. let e = c.loop-up.invariant.touched.long i in let b = h i in omega arith));
+      few = λ meets few. few_more c.args.tree.now c.args.tables.now.items c.loop-up.tables.items
+          c.touch_above-at.new.tables.items c.args.leaf c.loop-up.up c.loop-up.at c.args.removal meets c.requires.family
+          c.requires.leaf c.requires.can
+          (let len = c.len-up-end.ensures.count in let h = c.loop-up-test.true in omega arith)
+          c.loop-up.invariant.touched c.loop-up.invariant.walked c.loop-up.invariant.at c.touch_above-at.ensures.above
+          c.touch_above-at.ensures.below c.touch_above-at.ensures.idle c.touch_above-at.ensures.apart
+          (c.loop-up.invariant.few meets few);
+      flat = λ meets few. steps_count (steps c.args.tree.now.nodes c.args.leaf (c.loop-up.up + 1))
+          (steps c.args.tree.now.nodes c.args.leaf c.loop-up.up)
+          (one (has_child (node_at c.args.tree.now.nodes c.loop-up.up) c.loop-up.at)) 6 c.loop-up.tally c.args.tally.now
+          c.touch_above-at.new.tally
+          (steps_more c.args.tree.now.nodes c.args.leaf c.loop-up.up c.loop-up.at c.loop-up.invariant.at)
+          (c.loop-up.invariant.flat meets few)
+          (c.touch_above-at.ensures.flat meets ((c.loop-up.invariant.few meets few).each c.loop-up.at));
     }
 
 pub returns-clause-touched : goal.returns-clause-touched
@@ -49,7 +88,8 @@ returns-clause-walked g c =
     let h = c.loop-up-test.false in
     let x = c.loop-up.auto.up-end in
     let e : c.loop-up.up ≡ length c.args.tree.now.nodes = omega arith in
-    subst (λ (k : ℕ). IsWalked c.args.tree.now c.args.tables.now.items c.loop-up.tables.items c.args.leaf c.args.removal k) e c.loop-up.invariant.walked
+    subst (λ (k : ℕ). IsWalked c.args.tree.now c.args.tables.now.items c.loop-up.tables.items c.args.leaf c.args.removal
+    k) e c.loop-up.invariant.walked
 
 pub returns-clause-counted : goal.returns-clause-counted
 returns-clause-counted g c =
@@ -57,7 +97,8 @@ returns-clause-counted g c =
     let h = c.loop-up-test.false in
     let x = c.loop-up.auto.up-end in
     let e : c.loop-up.up ≡ length c.args.tree.now.nodes = omega arith in
-    λ n b. subst (λ (k : ℕ). c.loop-up.tally ≤ c.args.tally.now + steps c.args.tree.now.nodes c.args.leaf k * (1 + 5 * n)) e (c.loop-up.invariant.counted n b)
+    λ n b. subst (λ (k : ℕ). c.loop-up.tally ≤ c.args.tally.now + steps c.args.tree.now.nodes c.args.leaf k *
+    (1 + 5 * n)) e (c.loop-up.invariant.counted n b)
 
 pub returns-clause-few : goal.returns-clause-few
 returns-clause-few g c =
@@ -69,4 +110,5 @@ returns-clause-flat g c =
     let h = c.loop-up-test.false in
     let x = c.loop-up.auto.up-end in
     let e : c.loop-up.up ≡ length c.args.tree.now.nodes = omega arith in
-    λ meets few. subst (λ (k : ℕ). c.loop-up.tally ≤ c.args.tally.now + steps c.args.tree.now.nodes c.args.leaf k * 6) e (c.loop-up.invariant.flat meets few)
+    λ meets few. subst (λ (k : ℕ). c.loop-up.tally ≤ c.args.tally.now + steps c.args.tree.now.nodes c.args.leaf k * 6) e
+    (c.loop-up.invariant.flat meets few)

@@ -11,7 +11,8 @@ invariant-loop-up g l = record {
   at : l.at ≡ path_at l.tree.nodes l.leaf l.up;
   touched : IsTouchedUp l.tree l.fn.tables.items l.tables.items l.leaf;
   walked : IsWalked l.tree l.fn.tables.items l.tables.items l.leaf l.removal l.up;
-  counted : (n : ℕ) → ((i : ℕ) → length (entries_at l.fn.tables.items i) ≤ n) → l.tally ≤ l.fn.tally + steps l.tree.nodes l.leaf l.up * (1 + 5 * n);
+  counted : (n : ℕ) → ((i : ℕ) → length (entries_at l.fn.tables.items i) ≤ n)
+      → l.tally ≤ l.fn.tally + steps l.tree.nodes l.leaf l.up * (1 + 5 * n);
   few : HasEqualMeets l.tree → HaveFew l.fn.tables.items → HaveFew l.tables.items;
   flat : HasEqualMeets l.tree → HaveFew l.fn.tables.items → l.tally ≤ l.fn.tally + steps l.tree.nodes l.leaf l.up * 6;
 }

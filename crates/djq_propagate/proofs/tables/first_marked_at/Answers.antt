@@ -4,4 +4,6 @@ use Rattle.djq_propagate.proofs.Tabling.{entries_of}
 use Rattle.djq_propagate.proofs.tables.first_marked_at.Goals as goal
 
 pub returns-clause-found : goal.returns-clause-found
-returns-clause-found g c = c.first_marked.ensures.found ∙ ap (λ (es : List Entry). head_at (marks es)) (entries_of c.args.tables.now.items c.args.at c.table_of.result.now c.table_of.ensures)
+returns-clause-found g c = c.first_marked.ensures.found
+    ∙ ap (λ (es : List Entry). head_at (marks es))
+    (entries_of c.args.tables.now.items c.args.at c.table_of.result.now c.table_of.ensures)

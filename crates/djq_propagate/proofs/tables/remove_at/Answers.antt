@@ -7,10 +7,19 @@ use Rattle.djq_propagate.proofs.Tabling.{back, onto, changed_into}
 use Rattle.djq_propagate.proofs.tables.remove_at.Goals as goal
 
 pub remove-requires : goal.remove-requires
-remove-requires g c = back (λ (es : List Entry). IsLive es c.args.place) c.args.tables.now.items c.args.at c.index_mut-table.result.now c.requires.within c.index_mut-table.ensures.value c.requires.live
+remove-requires g c = back (λ (es : List Entry). IsLive es c.args.place) c.args.tables.now.items c.args.at
+    c.index_mut-table.result.now c.requires.within c.index_mut-table.ensures.value c.requires.live
 
 pub returns-clause-removed : goal.returns-clause-removed
-returns-clause-removed g c = onto (λ es fs. (u : List ℕ) → IsAt es c.args.place u → Removed es fs u) c.args.tables.now.items c.args.at c.index_mut-table.result.now c.remove.new.self c.requires.within c.index_mut-table.ensures.value c.remove.ensures.removed
+returns-clause-removed g c = onto (λ es fs. (u : List ℕ) → IsAt es c.args.place u → Removed es fs u)
+    c.args.tables.now.items c.args.at c.index_mut-table.result.now c.remove.new.self c.requires.within
+    c.index_mut-table.ensures.value c.remove.ensures.removed
 
 pub returns-clause-changed : goal.returns-clause-changed
-returns-clause-changed g c = changed_into c.args.tables.now.items c.args.at c.index_mut-table.result.now c.remove.new.self c.requires.within c.index_mut-table.ensures.value c.remove.ensures.table c.remove.ensures.key c.remove.ensures.width (let l = back (λ (es : List Entry). IsLive es c.args.place) c.args.tables.now.items c.args.at c.index_mut-table.result.now c.requires.within c.index_mut-table.ensures.value c.requires.live in λ h. removed_supported c.index_mut-table.result.now.entries c.remove.new.self.entries l.tuple (c.remove.ensures.removed l.tuple l.is_at) h)
+returns-clause-changed g c = changed_into c.args.tables.now.items c.args.at c.index_mut-table.result.now
+    c.remove.new.self c.requires.within c.index_mut-table.ensures.value c.remove.ensures.table c.remove.ensures.key
+    c.remove.ensures.width
+    (let l = back (λ (es : List Entry). IsLive es c.args.place) c.args.tables.now.items c.args.at
+    c.index_mut-table.result.now c.requires.within c.index_mut-table.ensures.value c.requires.live in λ h.
+    removed_supported c.index_mut-table.result.now.entries c.remove.new.self.entries l.tuple
+    (c.remove.ensures.removed l.tuple l.is_at) h)

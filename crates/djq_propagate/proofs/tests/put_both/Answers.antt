@@ -1,4 +1,5 @@
-use Rattle.std.proofs.Common.{◌≡◌, ◌≢◌, ℕ, List, [], ◌∷◌, ◌++◌, length, ap, ap₂, subst, sym, ◌∙◌, inl, inr, arith, rules}
+use Rattle.std.proofs.Common.{◌≡◌, ◌≢◌, ℕ, List, [], ◌∷◌, ◌++◌, length, ap, ap₂, subst, sym, ◌∙◌}
+use Rattle.std.proofs.Common.{inl, inr, arith, rules}
 use Rattle.std.specs.Prelude.{slice_index}
 use Rattle.djq_index.specs.Tuple.{same}
 use Rattle.djq_index.specs.Entries.{Entry, cnt}
@@ -8,7 +9,8 @@ use Rattle.djq_reduct.specs.Tables.{entries_at}
 use Rattle.djq_propagate.specs.Batches.{times, AreNew}
 use Rattle.djq_propagate.proofs.tests.put_both.Goals as goal
 
-two_new : (w a b : ℕ) (es : List Entry) → w ≡ 1 → a ≢ b → cnt es (a ∷ []) ≡ 0 → cnt es (b ∷ []) ≡ 0 → AreNew w es ((a ∷ []) ∷ (b ∷ []) ∷ [])
+two_new : (w a b : ℕ) (es : List Entry) → w ≡ 1 → a ≢ b → cnt es (a ∷ []) ≡ 0 → cnt es (b ∷ []) ≡ 0
+    → AreNew w es ((a ∷ []) ∷ (b ∷ []) ∷ [])
 unfolding times
 two_new w a b es one_wide apart no_a no_b = record {
   wide = λ v some. elim (same_cases (a ∷ []) v) [
@@ -42,7 +44,10 @@ insert_leaf_many-requires-clause-fresh g c =
     let no_first : cnt (entries_at c.args.reducts.now.tables c.args.leaf) (c.args.first ∷ []) ≡ 0 = search rules in
     let no_second : cnt (entries_at c.args.reducts.now.tables c.args.leaf) (c.args.second ∷ []) ≡ 0 = search rules in
     let one_item : c.push.new.self.items ≡ (c.args.first ∷ []) ∷ [] =
-    c.in_ok-push.ensures.items ∙ ap₂ (λ (xs : List (List ℕ)) (x : List ℕ). xs ++ x ∷ []) c.new-tuples.ensures.items c.from_slice.ensures in
+    c.in_ok-push.ensures.items
+    ∙ ap₂ (λ (xs : List (List ℕ)) (x : List ℕ). xs ++ x ∷ []) c.new-tuples.ensures.items c.from_slice.ensures in
     let both : c.deref.result.now ≡ (c.args.first ∷ []) ∷ (c.args.second ∷ []) ∷ [] =
-    c.deref.ensures.value ∙ c.in_ok-push-2.ensures.items ∙ ap₂ (λ (xs : List (List ℕ)) (x : List ℕ). xs ++ x ∷ []) one_item c.from_slice-2.ensures in
-    subst (λ (us : List (List ℕ)). AreNew width es us) (sym both) (two_new width c.args.first c.args.second es one_cell c.if-first-second.false no_first no_second)
+    c.deref.ensures.value ∙ c.in_ok-push-2.ensures.items
+    ∙ ap₂ (λ (xs : List (List ℕ)) (x : List ℕ). xs ++ x ∷ []) one_item c.from_slice-2.ensures in
+    subst (λ (us : List (List ℕ)). AreNew width es us) (sym both)
+    (two_new width c.args.first c.args.second es one_cell c.if-first-second.false no_first no_second)

@@ -16,13 +16,19 @@ marked_at-requires-clause-within g c =
 
 pub marked_at-requires-clause-live : goal.marked_at-requires-clause-live
 marked_at-requires-clause-live g c =
-    let x = first_is (key_at c.args.tables.now.items c.args.at) (entries_at c.args.tables.now.items c.args.at) c.args.cells.now c.in-Some.place (sym c.first_at.ensures.found ∙ c.in-Some.is) in
+    let x = first_is (key_at c.args.tables.now.items c.args.at) (entries_at c.args.tables.now.items c.args.at)
+    c.args.cells.now c.in-Some.place (sym c.first_at.ensures.found ∙ c.in-Some.is) in
     as_live (entries_at c.args.tables.now.items c.args.at) c.in-Some.place x.entry.tuple x.is_at
 
 pub returns-in-Some-clause-going : goal.returns-in-Some-clause-going
 returns-in-Some-clause-going g c =
-    let x = first_is (key_at c.args.tables.now.items c.args.at) (entries_at c.args.tables.now.items c.args.at) c.args.cells.now c.in-Some.place (sym c.first_at.ensures.found ∙ c.in-Some.is) in
-    gate_first c.args.tree.now c.args.tables.now.items c.args.at c.args.cells.now c.in-Some.place c.marked_at.result x c.requires.family (c.marked_at.ensures x.entry.tuple x.is_at) ∙ ap (λ (b : Bool). gate b (many (key_at c.args.tables.now.items c.args.at) (plain (entries_at c.args.tables.now.items c.args.at)) c.args.cells.now)) (sym c.if-going.true)
+    let x = first_is (key_at c.args.tables.now.items c.args.at) (entries_at c.args.tables.now.items c.args.at)
+    c.args.cells.now c.in-Some.place (sym c.first_at.ensures.found ∙ c.in-Some.is) in
+    gate_first c.args.tree.now c.args.tables.now.items c.args.at c.args.cells.now c.in-Some.place c.marked_at.result x
+    c.requires.family (c.marked_at.ensures x.entry.tuple x.is_at)
+    ∙ ap (λ (b : Bool). gate b
+    (many (key_at c.args.tables.now.items c.args.at) (plain (entries_at c.args.tables.now.items c.args.at))
+    c.args.cells.now)) (sym c.if-going.true)
 
 pub returns-in-Some-clause-counted : goal.returns-in-Some-clause-counted
 returns-in-Some-clause-counted g c =
@@ -30,7 +36,11 @@ returns-in-Some-clause-counted g c =
 
 pub returns-in-None-clause-going : goal.returns-in-None-clause-going
 returns-in-None-clause-going g c =
-    gate_none (key_at c.args.tables.now.items c.args.at) (entries_at c.args.tables.now.items c.args.at) c.args.cells.now (sym c.first_at.ensures.found ∙ c.in-None.is) ∙ ap (λ (b : Bool). gate b (many (key_at c.args.tables.now.items c.args.at) (plain (entries_at c.args.tables.now.items c.args.at)) c.args.cells.now)) (sym c.if-going.true)
+    gate_none (key_at c.args.tables.now.items c.args.at) (entries_at c.args.tables.now.items c.args.at) c.args.cells.now
+    (sym c.first_at.ensures.found ∙ c.in-None.is)
+    ∙ ap (λ (b : Bool). gate b
+    (many (key_at c.args.tables.now.items c.args.at) (plain (entries_at c.args.tables.now.items c.args.at))
+    c.args.cells.now)) (sym c.if-going.true)
 
 pub returns-in-None-clause-counted : goal.returns-in-None-clause-counted
 returns-in-None-clause-counted g c =
@@ -38,7 +48,11 @@ returns-in-None-clause-counted g c =
 
 pub returns-else-going-clause-going : goal.returns-else-going-clause-going
 returns-else-going-clause-going g c =
-    sym (ap (λ (b : Bool). gate b (many (key_at c.args.tables.now.items c.args.at) (plain (entries_at c.args.tables.now.items c.args.at)) c.args.cells.now)) c.if-going.false ∙ gate_open (many (key_at c.args.tables.now.items c.args.at) (plain (entries_at c.args.tables.now.items c.args.at)) c.args.cells.now))
+    sym (ap (λ (b : Bool). gate b
+    (many (key_at c.args.tables.now.items c.args.at) (plain (entries_at c.args.tables.now.items c.args.at))
+    c.args.cells.now)) c.if-going.false
+    ∙ gate_open (many (key_at c.args.tables.now.items c.args.at)
+    (plain (entries_at c.args.tables.now.items c.args.at)) c.args.cells.now))
 
 pub returns-else-going-clause-counted : goal.returns-else-going-clause-counted
 returns-else-going-clause-counted g c =

@@ -23,7 +23,22 @@ first_at-next-requires g c =
 
 pub loop-done-init : goal.loop-done-init
 loop-done-init g c =
-    record { next = c.first_at-next.ensures.found; touched = touched_none c.args.tree.now c.args.tables.now.items c.args.up (λ v. cnt (take 0 (grp (key_at c.args.tables.now.items c.args.guard) (entries_at c.args.tables.now.items c.args.guard) c.args.cells.now)) v) c.requires.family (λ v there some. absurd (omega (arith, take_zero (grp (key_at c.args.tables.now.items c.args.guard) (entries_at c.args.tables.now.items c.args.guard) c.args.cells.now) v))); bound = omega arith; counted = omega (arith, c.first_at-next.ensures.counted) }
+    record {
+      next = c.first_at-next.ensures.found;
+      touched = touched_none c.args.tree.now c.args.tables.now.items
+          c.args.up (λ v. cnt (take 0
+          (grp (key_at c.args.tables.now.items c.args.guard) (entries_at c.args.tables.now.items c.args.guard)
+          c.args.cells.now)) v) c.requires.family
+          (λ v there some. absurd
+          (omega (
+            arith,
+            take_zero
+                (grp (key_at c.args.tables.now.items c.args.guard) (entries_at c.args.tables.now.items c.args.guard)
+                c.args.cells.now) v,
+          )));
+      bound = omega arith;
+      counted = omega (arith, c.first_at-next.ensures.counted);
+    }
 
 pub read_at-requires-clause-within : goal.read_at-requires-clause-within
 read_at-requires-clause-within g c =
@@ -35,14 +50,20 @@ pub read_at-requires-clause-narrow : goal.read_at-requires-clause-narrow
 read_at-requires-clause-narrow g c =
     let glow = c.requires.lower in
     let within = c.requires.within in
-    width_narrow c.args.tree.now c.loop-done.tables.items c.args.guard c.loop-done.invariant.touched.family (omega arith)
+    width_narrow c.args.tree.now c.loop-done.tables.items c.args.guard c.loop-done.invariant.touched.family
+    (omega arith)
 
 pub read_at-requires-clause-live : goal.read_at-requires-clause-live
 read_at-requires-clause-live g c =
-    let k = cut_of (grp (key_at c.args.tables.now.items c.args.guard) (entries_at c.args.tables.now.items c.args.guard) c.args.cells.now) c.loop-done.done c.loop-done.next c.in-Some.place c.loop-done.invariant.next c.in-Some.is in
+    let k = cut_of (grp (key_at c.args.tables.now.items c.args.guard) (entries_at c.args.tables.now.items c.args.guard)
+    c.args.cells.now) c.loop-done.done c.loop-done.next c.in-Some.place c.loop-done.invariant.next c.in-Some.is in
     let glow = c.requires.lower in
     let within = c.requires.within in
-    as_live (entries_at c.loop-done.tables.items c.args.guard) c.in-Some.place k.entry.tuple (moved_at (entries_at c.args.tables.now.items c.args.guard) (entries_at c.loop-done.tables.items c.args.guard) c.in-Some.place k.entry.tuple (c.loop-done.invariant.touched.others c.args.guard (omega arith)) (cut_at (key_at c.args.tables.now.items c.args.guard) (entries_at c.args.tables.now.items c.args.guard) c.args.cells.now c.loop-done.done c.in-Some.place k))
+    as_live (entries_at c.loop-done.tables.items c.args.guard) c.in-Some.place k.entry.tuple
+    (moved_at (entries_at c.args.tables.now.items c.args.guard) (entries_at c.loop-done.tables.items c.args.guard)
+    c.in-Some.place k.entry.tuple (c.loop-done.invariant.touched.others c.args.guard (omega arith))
+    (cut_at (key_at c.args.tables.now.items c.args.guard) (entries_at c.args.tables.now.items c.args.guard)
+    c.args.cells.now c.loop-done.done c.in-Some.place k))
 
 pub touch_tuple-requires-clause-family : goal.touch_tuple-requires-clause-family
 touch_tuple-requires-clause-family g c =
@@ -56,15 +77,40 @@ pub next_at-next-requires-clause-within : goal.next_at-next-requires-clause-with
 next_at-next-requires-clause-within g c =
     let glow = c.requires.lower in
     let within = c.requires.within in
-    has_table c.args.tree.now c.touch_tuple.new.tables.items c.args.guard c.touch_tuple.ensures.touched.family (omega arith)
+    has_table c.args.tree.now c.touch_tuple.new.tables.items c.args.guard c.touch_tuple.ensures.touched.family
+    (omega arith)
 
 pub next_at-next-requires-clause-live : goal.next_at-next-requires-clause-live
 next_at-next-requires-clause-live g c =
-    let k = cut_of (grp (key_at c.args.tables.now.items c.args.guard) (entries_at c.args.tables.now.items c.args.guard) c.args.cells.now) c.loop-done.done c.loop-done.next c.in-Some.place c.loop-done.invariant.next c.in-Some.is in
+    let k = cut_of (grp (key_at c.args.tables.now.items c.args.guard) (entries_at c.args.tables.now.items c.args.guard)
+    c.args.cells.now) c.loop-done.done c.loop-done.next c.in-Some.place c.loop-done.invariant.next c.in-Some.is in
     let glow = c.requires.lower in
     let within = c.requires.within in
-    let n = touched_more c.args.tree.now c.args.tables.now.items c.loop-done.tables.items c.touch_tuple.new.tables.items c.args.up (λ v. cnt (take c.loop-done.done (grp (key_at c.args.tables.now.items c.args.guard) (entries_at c.args.tables.now.items c.args.guard) c.args.cells.now)) v) (λ v. one (same c.as_slice.result.now v)) (λ v. cnt (take (c.loop-done.done + 1) (grp (key_at c.args.tables.now.items c.args.guard) (entries_at c.args.tables.now.items c.args.guard) c.args.cells.now)) v) c.requires.family c.loop-done.invariant.touched c.touch_tuple.ensures.touched (λ v. (cut_cnt (grp (key_at c.args.tables.now.items c.args.guard) (entries_at c.args.tables.now.items c.args.guard) c.args.cells.now) c.loop-done.done k.entry v k.is).1 ∙ ap (λ (w : List ℕ). cnt (take c.loop-done.done (grp (key_at c.args.tables.now.items c.args.guard) (entries_at c.args.tables.now.items c.args.guard) c.args.cells.now)) v + one (same w v)) (sym (c.as_slice.ensures ∙ c.read_at.ensures.tuple k.entry.tuple (moved_at (entries_at c.args.tables.now.items c.args.guard) (entries_at c.loop-done.tables.items c.args.guard) c.in-Some.place k.entry.tuple (c.loop-done.invariant.touched.others c.args.guard (omega arith)) (cut_at (key_at c.args.tables.now.items c.args.guard) (entries_at c.args.tables.now.items c.args.guard) c.args.cells.now c.loop-done.done c.in-Some.place k))))) in
-    as_live (entries_at c.touch_tuple.new.tables.items c.args.guard) c.in-Some.place k.entry.tuple (moved_at (entries_at c.args.tables.now.items c.args.guard) (entries_at c.touch_tuple.new.tables.items c.args.guard) c.in-Some.place k.entry.tuple (n.others c.args.guard (omega arith)) (cut_at (key_at c.args.tables.now.items c.args.guard) (entries_at c.args.tables.now.items c.args.guard) c.args.cells.now c.loop-done.done c.in-Some.place k))
+    let n = touched_more c.args.tree.now c.args.tables.now.items c.loop-done.tables.items c.touch_tuple.new.tables.items
+    c.args.up (λ v. cnt (take c.loop-done.done
+    (grp (key_at c.args.tables.now.items c.args.guard) (entries_at c.args.tables.now.items c.args.guard)
+    c.args.cells.now)) v) (λ v. one (same c.as_slice.result.now v))
+    (λ v. cnt (take (c.loop-done.done + 1)
+    (grp (key_at c.args.tables.now.items c.args.guard) (entries_at c.args.tables.now.items c.args.guard)
+    c.args.cells.now)) v) c.requires.family c.loop-done.invariant.touched c.touch_tuple.ensures.touched
+    (λ v. (cut_cnt (grp (key_at c.args.tables.now.items c.args.guard)
+    (entries_at c.args.tables.now.items c.args.guard) c.args.cells.now) c.loop-done.done k.entry v k.is).1
+    ∙ ap (λ (w : List ℕ). cnt
+    (take c.loop-done.done
+    (grp (key_at c.args.tables.now.items c.args.guard) (entries_at c.args.tables.now.items c.args.guard)
+    c.args.cells.now)) v + one (same w v))
+    (sym (c.as_slice.ensures
+    ∙ c.read_at.ensures.tuple k.entry.tuple
+    (moved_at (entries_at c.args.tables.now.items c.args.guard) (entries_at c.loop-done.tables.items c.args.guard)
+    c.in-Some.place k.entry.tuple (c.loop-done.invariant.touched.others c.args.guard (omega arith))
+    (cut_at (key_at c.args.tables.now.items c.args.guard) (entries_at c.args.tables.now.items c.args.guard)
+    c.args.cells.now c.loop-done.done c.in-Some.place k))))) in
+    as_live (entries_at c.touch_tuple.new.tables.items c.args.guard) c.in-Some.place k.entry.tuple
+    (moved_at (entries_at c.args.tables.now.items c.args.guard)
+    (entries_at c.touch_tuple.new.tables.items c.args.guard) c.in-Some.place k.entry.tuple
+    (n.others c.args.guard (omega arith))
+    (cut_at (key_at c.args.tables.now.items c.args.guard) (entries_at c.args.tables.now.items c.args.guard)
+    c.args.cells.now c.loop-done.done c.in-Some.place k))
 
 pub loop-done-smaller : goal.loop-done-smaller
 loop-done-smaller g c =
@@ -73,31 +119,96 @@ loop-done-smaller g c =
 
 pub loop-done-preserved : goal.loop-done-preserved
 loop-done-preserved g c =
-    let k = cut_of (grp (key_at c.args.tables.now.items c.args.guard) (entries_at c.args.tables.now.items c.args.guard) c.args.cells.now) c.loop-done.done c.loop-done.next c.in-Some.place c.loop-done.invariant.next c.in-Some.is in
+    let k = cut_of (grp (key_at c.args.tables.now.items c.args.guard) (entries_at c.args.tables.now.items c.args.guard)
+    c.args.cells.now) c.loop-done.done c.loop-done.next c.in-Some.place c.loop-done.invariant.next c.in-Some.is in
     let glow = c.requires.lower in
     let within = c.requires.within in
-    let n = touched_more c.args.tree.now c.args.tables.now.items c.loop-done.tables.items c.touch_tuple.new.tables.items c.args.up (λ v. cnt (take c.loop-done.done (grp (key_at c.args.tables.now.items c.args.guard) (entries_at c.args.tables.now.items c.args.guard) c.args.cells.now)) v) (λ v. one (same c.as_slice.result.now v)) (λ v. cnt (take (c.loop-done.done + 1) (grp (key_at c.args.tables.now.items c.args.guard) (entries_at c.args.tables.now.items c.args.guard) c.args.cells.now)) v) c.requires.family c.loop-done.invariant.touched c.touch_tuple.ensures.touched (λ v. (cut_cnt (grp (key_at c.args.tables.now.items c.args.guard) (entries_at c.args.tables.now.items c.args.guard) c.args.cells.now) c.loop-done.done k.entry v k.is).1 ∙ ap (λ (w : List ℕ). cnt (take c.loop-done.done (grp (key_at c.args.tables.now.items c.args.guard) (entries_at c.args.tables.now.items c.args.guard) c.args.cells.now)) v + one (same w v)) (sym (c.as_slice.ensures ∙ c.read_at.ensures.tuple k.entry.tuple (moved_at (entries_at c.args.tables.now.items c.args.guard) (entries_at c.loop-done.tables.items c.args.guard) c.in-Some.place k.entry.tuple (c.loop-done.invariant.touched.others c.args.guard (omega arith)) (cut_at (key_at c.args.tables.now.items c.args.guard) (entries_at c.args.tables.now.items c.args.guard) c.args.cells.now c.loop-done.done c.in-Some.place k))))) in
+    let n = touched_more c.args.tree.now c.args.tables.now.items c.loop-done.tables.items c.touch_tuple.new.tables.items
+    c.args.up (λ v. cnt (take c.loop-done.done
+    (grp (key_at c.args.tables.now.items c.args.guard) (entries_at c.args.tables.now.items c.args.guard)
+    c.args.cells.now)) v) (λ v. one (same c.as_slice.result.now v))
+    (λ v. cnt (take (c.loop-done.done + 1)
+    (grp (key_at c.args.tables.now.items c.args.guard) (entries_at c.args.tables.now.items c.args.guard)
+    c.args.cells.now)) v) c.requires.family c.loop-done.invariant.touched c.touch_tuple.ensures.touched
+    (λ v. (cut_cnt (grp (key_at c.args.tables.now.items c.args.guard)
+    (entries_at c.args.tables.now.items c.args.guard) c.args.cells.now) c.loop-done.done k.entry v k.is).1
+    ∙ ap (λ (w : List ℕ). cnt
+    (take c.loop-done.done
+    (grp (key_at c.args.tables.now.items c.args.guard) (entries_at c.args.tables.now.items c.args.guard)
+    c.args.cells.now)) v + one (same w v))
+    (sym (c.as_slice.ensures
+    ∙ c.read_at.ensures.tuple k.entry.tuple
+    (moved_at (entries_at c.args.tables.now.items c.args.guard) (entries_at c.loop-done.tables.items c.args.guard)
+    c.in-Some.place k.entry.tuple (c.loop-done.invariant.touched.others c.args.guard (omega arith))
+    (cut_at (key_at c.args.tables.now.items c.args.guard) (entries_at c.args.tables.now.items c.args.guard)
+    c.args.cells.now c.loop-done.done c.in-Some.place k))))) in
     record {
-      next = c.next_at-next.ensures.found c.args.cells.now (take c.loop-done.done (grp (key_at c.args.tables.now.items c.args.guard) (entries_at c.args.tables.now.items c.args.guard) c.args.cells.now)) k.entry (drop (c.loop-done.done + 1) (grp (key_at c.args.tables.now.items c.args.guard) (entries_at c.args.tables.now.items c.args.guard) c.args.cells.now)) (group_still c.args.tree.now c.args.tables.now.items c.touch_tuple.new.tables.items c.args.guard c.args.cells.now c.requires.family n.family (n.others c.args.guard (omega arith)) ∙ k.is) k.at;
+      next = c.next_at-next.ensures.found c.args.cells.now
+          (take c.loop-done.done
+          (grp (key_at c.args.tables.now.items c.args.guard) (entries_at c.args.tables.now.items c.args.guard)
+          c.args.cells.now)) k.entry
+          (drop (c.loop-done.done + 1)
+          (grp (key_at c.args.tables.now.items c.args.guard) (entries_at c.args.tables.now.items c.args.guard)
+          c.args.cells.now)) (group_still c.args.tree.now c.args.tables.now.items c.touch_tuple.new.tables.items
+          c.args.guard c.args.cells.now c.requires.family n.family (n.others c.args.guard (omega arith)) ∙ k.is) k.at;
       touched = n;
-      bound = cut_length (grp (key_at c.args.tables.now.items c.args.guard) (entries_at c.args.tables.now.items c.args.guard) c.args.cells.now) c.loop-done.done k.entry k.is;
-      counted = omega (arith, c.loop-done.invariant.counted, c.touch_tuple.ensures.counted, c.next_at-next.ensures.counted);
+      bound = cut_length (grp (key_at c.args.tables.now.items c.args.guard)
+          (entries_at c.args.tables.now.items c.args.guard) c.args.cells.now) c.loop-done.done k.entry k.is;
+      counted = omega (
+        arith,
+        c.loop-done.invariant.counted,
+        c.touch_tuple.ensures.counted,
+        c.next_at-next.ensures.counted,
+      );
     }
 
 pub returns-in-None-clause-touched : goal.returns-in-None-clause-touched
 returns-in-None-clause-touched g c =
-    touched_as c.args.tree.now c.args.tables.now.items c.loop-done.tables.items c.args.up (λ v. cnt (take c.loop-done.done (grp (key_at c.args.tables.now.items c.args.guard) (entries_at c.args.tables.now.items c.args.guard) c.args.cells.now)) v) (λ v. cnt (grp (key_at c.args.tables.now.items c.args.guard) (entries_at c.args.tables.now.items c.args.guard) c.args.cells.now) v) c.loop-done.invariant.touched (λ v. sym (take_all (grp (key_at c.args.tables.now.items c.args.guard) (entries_at c.args.tables.now.items c.args.guard) c.args.cells.now) c.loop-done.done v (head_none (drop c.loop-done.done (grp (key_at c.args.tables.now.items c.args.guard) (entries_at c.args.tables.now.items c.args.guard) c.args.cells.now)) (sym c.loop-done.invariant.next ∙ c.in-None.is))))
+    touched_as c.args.tree.now c.args.tables.now.items c.loop-done.tables.items c.args.up
+    (λ v. cnt (take c.loop-done.done
+    (grp (key_at c.args.tables.now.items c.args.guard) (entries_at c.args.tables.now.items c.args.guard)
+    c.args.cells.now)) v)
+    (λ v. cnt (grp (key_at c.args.tables.now.items c.args.guard) (entries_at c.args.tables.now.items c.args.guard)
+    c.args.cells.now) v) c.loop-done.invariant.touched
+    (λ v. sym (take_all (grp (key_at c.args.tables.now.items c.args.guard)
+    (entries_at c.args.tables.now.items c.args.guard) c.args.cells.now) c.loop-done.done v
+    (head_none (drop c.loop-done.done
+    (grp (key_at c.args.tables.now.items c.args.guard) (entries_at c.args.tables.now.items c.args.guard)
+    c.args.cells.now)) (sym c.loop-done.invariant.next ∙ c.in-None.is))))
 
 pub returns-in-None-clause-counted : goal.returns-in-None-clause-counted
 returns-in-None-clause-counted g c =
-    omega (arith, c.loop-done.invariant.counted, c.loop-done.invariant.bound, length_grp (key_at c.args.tables.now.items c.args.guard) (entries_at c.args.tables.now.items c.args.guard) c.args.cells.now)
+    omega (
+      arith,
+      c.loop-done.invariant.counted,
+      c.loop-done.invariant.bound,
+      length_grp
+          (key_at c.args.tables.now.items c.args.guard) (entries_at c.args.tables.now.items c.args.guard)
+          c.args.cells.now,
+    )
 
 pub returns-clause-touched : goal.returns-clause-touched
 returns-clause-touched g c =
     let h = c.loop-done-test.false in
     let x = c.loop-done.auto.done-end in
-    touched_as c.args.tree.now c.args.tables.now.items c.loop-done.tables.items c.args.up (λ v. cnt (take c.loop-done.done (grp (key_at c.args.tables.now.items c.args.guard) (entries_at c.args.tables.now.items c.args.guard) c.args.cells.now)) v) (λ v. cnt (grp (key_at c.args.tables.now.items c.args.guard) (entries_at c.args.tables.now.items c.args.guard) c.args.cells.now) v) c.loop-done.invariant.touched (λ v. sym (take_all (grp (key_at c.args.tables.now.items c.args.guard) (entries_at c.args.tables.now.items c.args.guard) c.args.cells.now) c.loop-done.done v (drop_group (key_at c.args.tables.now.items c.args.guard) (entries_at c.args.tables.now.items c.args.guard) c.args.cells.now c.loop-done.done (omega (arith, c.len_at-count.ensures)))))
+    touched_as c.args.tree.now c.args.tables.now.items c.loop-done.tables.items c.args.up
+    (λ v. cnt (take c.loop-done.done
+    (grp (key_at c.args.tables.now.items c.args.guard) (entries_at c.args.tables.now.items c.args.guard)
+    c.args.cells.now)) v)
+    (λ v. cnt (grp (key_at c.args.tables.now.items c.args.guard) (entries_at c.args.tables.now.items c.args.guard)
+    c.args.cells.now) v) c.loop-done.invariant.touched
+    (λ v. sym (take_all (grp (key_at c.args.tables.now.items c.args.guard)
+    (entries_at c.args.tables.now.items c.args.guard) c.args.cells.now) c.loop-done.done v
+    (drop_group (key_at c.args.tables.now.items c.args.guard) (entries_at c.args.tables.now.items c.args.guard)
+    c.args.cells.now c.loop-done.done (omega (arith, c.len_at-count.ensures)))))
 
 pub returns-clause-counted : goal.returns-clause-counted
 returns-clause-counted g c =
-    omega (arith, c.loop-done.invariant.counted, c.loop-done.invariant.bound, length_grp (key_at c.args.tables.now.items c.args.guard) (entries_at c.args.tables.now.items c.args.guard) c.args.cells.now)
+    omega (
+      arith,
+      c.loop-done.invariant.counted,
+      c.loop-done.invariant.bound,
+      length_grp
+          (key_at c.args.tables.now.items c.args.guard) (entries_at c.args.tables.now.items c.args.guard)
+          c.args.cells.now,
+    )

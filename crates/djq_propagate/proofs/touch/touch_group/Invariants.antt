@@ -6,8 +6,11 @@ use Rattle.djq_propagate.proofs.touch.touch_group.Given as goal
 
 abbrev pub invariant-loop-done : goal.invariant-loop-done
 invariant-loop-done g l = record {
-  next : l.next ≡ head_at (drop l.done (grp (key_at l.fn.tables.items l.guard) (entries_at l.fn.tables.items l.guard) l.cells));
-  touched : IsTouched l.tree l.fn.tables.items l.tables.items l.up (λ v. cnt (take l.done (grp (key_at l.fn.tables.items l.guard) (entries_at l.fn.tables.items l.guard) l.cells)) v);
+  next : l.next ≡ head_at
+      (drop l.done (grp (key_at l.fn.tables.items l.guard) (entries_at l.fn.tables.items l.guard) l.cells));
+  touched : IsTouched l.tree l.fn.tables.items l.tables.items l.up
+      (λ v. cnt (take l.done (grp (key_at l.fn.tables.items l.guard) (entries_at l.fn.tables.items l.guard) l.cells))
+      v);
   bound : l.done ≤ length (grp (key_at l.fn.tables.items l.guard) (entries_at l.fn.tables.items l.guard) l.cells);
   counted : l.tally ≤ l.fn.tally + 1 + 3 * l.done;
 }

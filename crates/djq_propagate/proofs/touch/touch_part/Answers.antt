@@ -17,7 +17,8 @@ part_of-requires-clause-narrow g c =
 
 pub part_of-requires-clause-few : goal.part_of-requires-clause-few
 part_of-requires-clause-few g c =
-    trim_few c.args.tree.now c.args.tables.now.items c.args.at c.args.up c.requires.family c.requires.within c.requires.under
+    trim_few c.args.tree.now c.args.tables.now.items c.args.at c.args.up c.requires.family c.requires.within
+    c.requires.under
 
 pub part_of-requires-clause-wide : goal.part_of-requires-clause-wide
 part_of-requires-clause-wide g c =
@@ -41,7 +42,12 @@ touch_tuple-requires-clause-within g c =
 
 pub returns-then-is_going-clause-touched : goal.returns-then-is_going-clause-touched
 returns-then-is_going-clause-touched g c =
-    touched_as c.args.tree.now c.args.tables.now.items c.touch_tuple.new.tables.items c.args.up (λ v. one (same c.as_slice-cells.result.now v)) (λ v. reach_one (Trim c.args.at) c.args.going c.args.at c.args.tables.now.items c.args.tuple.now v) c.touch_tuple.ensures.touched (λ v. reach_yes c.args.at c.args.tables.now.items c.args.tuple.now v c.as_slice-cells.result.now c.args.going c.is_going.result (c.as_slice-cells.ensures ∙ c.part_of.ensures) c.is_going.ensures.going c.if-is_going.true)
+    touched_as c.args.tree.now c.args.tables.now.items c.touch_tuple.new.tables.items c.args.up
+    (λ v. one (same c.as_slice-cells.result.now v))
+    (λ v. reach_one (Trim c.args.at) c.args.going c.args.at c.args.tables.now.items c.args.tuple.now v)
+    c.touch_tuple.ensures.touched
+    (λ v. reach_yes c.args.at c.args.tables.now.items c.args.tuple.now v c.as_slice-cells.result.now c.args.going
+    c.is_going.result (c.as_slice-cells.ensures ∙ c.part_of.ensures) c.is_going.ensures.going c.if-is_going.true)
 
 pub returns-then-is_going-clause-counted : goal.returns-then-is_going-clause-counted
 returns-then-is_going-clause-counted g c =
@@ -49,7 +55,15 @@ returns-then-is_going-clause-counted g c =
 
 pub returns-else-is_going-clause-touched : goal.returns-else-is_going-clause-touched
 returns-else-is_going-clause-touched g c =
-    touched_none c.args.tree.now c.args.tables.now.items c.args.up (λ v. reach_one (Trim c.args.at) c.args.going c.args.at c.args.tables.now.items c.args.tuple.now v) c.requires.family (λ v there some. absurd (omega (arith, reach_no c.args.at c.args.tables.now.items c.args.tuple.now v c.as_slice-cells.result.now c.args.going c.is_going.result (c.as_slice-cells.ensures ∙ c.part_of.ensures) c.is_going.ensures.going c.if-is_going.false)))
+    touched_none c.args.tree.now c.args.tables.now.items c.args.up
+    (λ v. reach_one (Trim c.args.at) c.args.going c.args.at c.args.tables.now.items c.args.tuple.now v)
+    c.requires.family (λ v there some. absurd
+    (omega (
+      arith,
+      reach_no c.args.at c.args.tables.now.items c.args.tuple.now v c.as_slice-cells.result.now
+          c.args.going c.is_going.result (c.as_slice-cells.ensures ∙ c.part_of.ensures) c.is_going.ensures.going
+          c.if-is_going.false,
+    )))
 
 pub returns-else-is_going-clause-counted : goal.returns-else-is_going-clause-counted
 returns-else-is_going-clause-counted g c =

@@ -7,7 +7,10 @@ use Rattle.djq_propagate.proofs.Families.{same_keys}
 use Rattle.djq_propagate.proofs.Sides.{head_none}
 use Rattle.djq_propagate.proofs.Gains.{width_narrow}
 use Rattle.djq_propagate.proofs.Going.{has_table, cut_of, as_live, moved_at}
-use Rattle.djq_propagate.proofs.Touching.{touched_none, touched_as, touched_more, reach_still, cost_still, reach_more, reach_nothing, cost_none, cost_more, cost_le, cost_bound, take_whole, cut_mark, drop_marks, step_lower, kids_still}
+use Rattle.djq_propagate.proofs.Touching.{touched_none, touched_as, touched_more, reach_still}
+use Rattle.djq_propagate.proofs.Touching.{cost_still, reach_more, reach_nothing, cost_none}
+use Rattle.djq_propagate.proofs.Touching.{cost_more, cost_le, cost_bound, take_whole, cut_mark}
+use Rattle.djq_propagate.proofs.Touching.{drop_marks, step_lower, kids_still}
 use Rattle.djq_propagate.proofs.Fewing.{step_few}
 use Rattle.djq_propagate.proofs.touch.touch_step.Goals as goal
 
@@ -25,7 +28,24 @@ first_marked_at-next-requires g c =
 
 pub loop-done-init : goal.loop-done-init
 loop-done-init g c =
-    record { next = c.first_marked_at-next.ensures.found; touched = touched_none c.args.tree.now c.args.tables.now.items c.args.up (λ v. reach (node_at c.args.tree.now.nodes c.args.up) c.args.going c.args.at c.args.tables.now.items [] v) c.requires.step.family (λ v there some. absurd (omega (arith, reach_nothing (node_at c.args.tree.now.nodes c.args.up) c.args.going c.args.at c.args.tables.now.items v))); counted = omega (arith, c.first_marked_at-next.ensures.counted, cost_none (node_at c.args.tree.now.nodes c.args.up) c.args.at c.args.tables.now.items) }
+    record {
+      next = c.first_marked_at-next.ensures.found;
+      touched = touched_none c.args.tree.now c.args.tables.now.items
+          c.args.up (λ v. reach (node_at c.args.tree.now.nodes c.args.up) c.args.going c.args.at c.args.tables.now.items
+          [] v) c.requires.step.family
+          (λ v there some. absurd
+          (omega (
+            arith,
+            reach_nothing (node_at c.args.tree.now.nodes c.args.up) c.args.going c.args.at
+                c.args.tables.now.items v,
+          )));
+      counted = omega (
+        arith,
+        c.first_marked_at-next.ensures.counted,
+        cost_none (node_at c.args.tree.now.nodes c.args.up) c.args.at
+            c.args.tables.now.items,
+      );
+    }
 
 pub read_at-requires-clause-within : goal.read_at-requires-clause-within
 read_at-requires-clause-within g c =
@@ -41,14 +61,23 @@ read_at-requires-clause-narrow g c =
 
 pub read_at-requires-clause-live : goal.read_at-requires-clause-live
 read_at-requires-clause-live g c =
-    let k = cut_of (marks (entries_at c.args.tables.now.items c.args.at)) c.loop-done.done c.loop-done.next c.in-Some.place c.loop-done.invariant.next c.in-Some.is in
+    let k = cut_of (marks (entries_at c.args.tables.now.items c.args.at)) c.loop-done.done c.loop-done.next
+    c.in-Some.place c.loop-done.invariant.next c.in-Some.is in
     let low = step_lower c.args.tree.now c.args.tables.now.items c.args.at c.args.up c.requires.step in
     let within = c.requires.step.within in
-    as_live (entries_at c.loop-done.tables.items c.args.at) c.in-Some.place k.entry.tuple (moved_at (entries_at c.args.tables.now.items c.args.at) (entries_at c.loop-done.tables.items c.args.at) c.in-Some.place k.entry.tuple (c.loop-done.invariant.touched.others c.args.at (omega arith)) (cut_mark (entries_at c.args.tables.now.items c.args.at) c.loop-done.done c.in-Some.place k))
+    as_live (entries_at c.loop-done.tables.items c.args.at) c.in-Some.place k.entry.tuple
+    (moved_at (entries_at c.args.tables.now.items c.args.at) (entries_at c.loop-done.tables.items c.args.at)
+    c.in-Some.place k.entry.tuple (c.loop-done.invariant.touched.others c.args.at (omega arith))
+    (cut_mark (entries_at c.args.tables.now.items c.args.at) c.loop-done.done c.in-Some.place k))
 
 pub touch_from-requires-clause-step : goal.touch_from-requires-clause-step
 touch_from-requires-clause-step g c =
-    record { family = c.loop-done.invariant.touched.family; within = c.requires.step.within; child = c.requires.step.child }
+    record {
+      family = c.loop-done.invariant.touched.family;
+      within = c.requires.step.within;
+      child =
+          c.requires.step.child;
+    }
 
 pub touch_from-requires-clause-wide : goal.touch_from-requires-clause-wide
 touch_from-requires-clause-wide g c =
@@ -62,12 +91,40 @@ next_marked_at-next-requires-clause-within g c =
 
 pub next_marked_at-next-requires-clause-live : goal.next_marked_at-next-requires-clause-live
 next_marked_at-next-requires-clause-live g c =
-    let k = cut_of (marks (entries_at c.args.tables.now.items c.args.at)) c.loop-done.done c.loop-done.next c.in-Some.place c.loop-done.invariant.next c.in-Some.is in
+    let k = cut_of (marks (entries_at c.args.tables.now.items c.args.at)) c.loop-done.done c.loop-done.next
+    c.in-Some.place c.loop-done.invariant.next c.in-Some.is in
     let low = step_lower c.args.tree.now c.args.tables.now.items c.args.at c.args.up c.requires.step in
     let within = c.requires.step.within in
-    let n = touched_more c.args.tree.now c.args.tables.now.items c.loop-done.tables.items c.touch_from.new.tables.items c.args.up (λ v. reach (node_at c.args.tree.now.nodes c.args.up) c.args.going c.args.at c.args.tables.now.items (take c.loop-done.done (marks (entries_at c.args.tables.now.items c.args.at))) v) (λ v. reach_one (node_at c.args.tree.now.nodes c.args.up) c.args.going c.args.at c.loop-done.tables.items c.as_slice.result.now v) (λ v. reach (node_at c.args.tree.now.nodes c.args.up) c.args.going c.args.at c.args.tables.now.items (take (c.loop-done.done + 1) (marks (entries_at c.args.tables.now.items c.args.at))) v) c.requires.step.family c.loop-done.invariant.touched c.touch_from.ensures.touched
-    (λ v. reach_more (node_at c.args.tree.now.nodes c.args.up) c.args.going c.args.at c.args.tables.now.items (marks (entries_at c.args.tables.now.items c.args.at)) c.loop-done.done k.entry v k.is ∙ ap (λ (x : ℕ). reach (node_at c.args.tree.now.nodes c.args.up) c.args.going c.args.at c.args.tables.now.items (take c.loop-done.done (marks (entries_at c.args.tables.now.items c.args.at))) v + x) (sym (ap (λ (w : List ℕ). reach_one (node_at c.args.tree.now.nodes c.args.up) c.args.going c.args.at c.loop-done.tables.items w v) (c.as_slice.ensures ∙ c.read_at.ensures.tuple k.entry.tuple (moved_at (entries_at c.args.tables.now.items c.args.at) (entries_at c.loop-done.tables.items c.args.at) c.in-Some.place k.entry.tuple (c.loop-done.invariant.touched.others c.args.at (omega arith)) (cut_mark (entries_at c.args.tables.now.items c.args.at) c.loop-done.done c.in-Some.place k))) ∙ reach_still (node_at c.args.tree.now.nodes c.args.up) c.args.going c.args.at c.args.tables.now.items c.loop-done.tables.items k.entry.tuple v (same_keys c.args.tree.now c.args.tables.now.items c.loop-done.tables.items c.requires.step.family c.loop-done.invariant.touched.family) (kids_still c.args.tree.now c.args.tables.now.items c.loop-done.tables.items c.args.up (λ v. reach (node_at c.args.tree.now.nodes c.args.up) c.args.going c.args.at c.args.tables.now.items (take c.loop-done.done (marks (entries_at c.args.tables.now.items c.args.at))) v) c.requires.step.family.is_tree c.loop-done.invariant.touched)))) in
-    as_live (entries_at c.touch_from.new.tables.items c.args.at) c.in-Some.place k.entry.tuple (moved_at (entries_at c.args.tables.now.items c.args.at) (entries_at c.touch_from.new.tables.items c.args.at) c.in-Some.place k.entry.tuple (n.others c.args.at (omega arith)) (cut_mark (entries_at c.args.tables.now.items c.args.at) c.loop-done.done c.in-Some.place k))
+    let n = touched_more c.args.tree.now c.args.tables.now.items c.loop-done.tables.items c.touch_from.new.tables.items
+    c.args.up (λ v. reach (node_at c.args.tree.now.nodes c.args.up) c.args.going c.args.at c.args.tables.now.items
+    (take c.loop-done.done (marks (entries_at c.args.tables.now.items c.args.at))) v)
+    (λ v. reach_one (node_at c.args.tree.now.nodes c.args.up) c.args.going c.args.at c.loop-done.tables.items
+    c.as_slice.result.now v)
+    (λ v. reach (node_at c.args.tree.now.nodes c.args.up) c.args.going c.args.at c.args.tables.now.items
+    (take (c.loop-done.done + 1) (marks (entries_at c.args.tables.now.items c.args.at))) v) c.requires.step.family
+    c.loop-done.invariant.touched c.touch_from.ensures.touched
+    (λ v. reach_more (node_at c.args.tree.now.nodes c.args.up) c.args.going c.args.at c.args.tables.now.items
+    (marks (entries_at c.args.tables.now.items c.args.at)) c.loop-done.done k.entry v k.is
+    ∙ ap (λ (x : ℕ). reach (node_at c.args.tree.now.nodes c.args.up) c.args.going c.args.at c.args.tables.now.items
+    (take c.loop-done.done (marks (entries_at c.args.tables.now.items c.args.at))) v + x)
+    (sym (ap (λ (w : List ℕ). reach_one (node_at c.args.tree.now.nodes c.args.up) c.args.going c.args.at
+    c.loop-done.tables.items w v)
+    (c.as_slice.ensures ∙ c.read_at.ensures.tuple k.entry.tuple
+    (moved_at (entries_at c.args.tables.now.items c.args.at) (entries_at c.loop-done.tables.items c.args.at)
+    c.in-Some.place k.entry.tuple (c.loop-done.invariant.touched.others c.args.at (omega arith))
+    (cut_mark (entries_at c.args.tables.now.items c.args.at) c.loop-done.done c.in-Some.place k)))
+    ∙ reach_still (node_at c.args.tree.now.nodes c.args.up) c.args.going c.args.at c.args.tables.now.items
+    c.loop-done.tables.items k.entry.tuple v
+    (same_keys c.args.tree.now c.args.tables.now.items c.loop-done.tables.items c.requires.step.family
+    c.loop-done.invariant.touched.family)
+    (kids_still c.args.tree.now c.args.tables.now.items c.loop-done.tables.items c.args.up
+    (λ v. reach (node_at c.args.tree.now.nodes c.args.up) c.args.going c.args.at c.args.tables.now.items
+    (take c.loop-done.done (marks (entries_at c.args.tables.now.items c.args.at))) v) c.requires.step.family.is_tree
+    c.loop-done.invariant.touched)))) in
+    as_live (entries_at c.touch_from.new.tables.items c.args.at) c.in-Some.place k.entry.tuple
+    (moved_at (entries_at c.args.tables.now.items c.args.at) (entries_at c.touch_from.new.tables.items c.args.at)
+    c.in-Some.place k.entry.tuple (n.others c.args.at (omega arith))
+    (cut_mark (entries_at c.args.tables.now.items c.args.at) c.loop-done.done c.in-Some.place k))
 
 pub loop-done-smaller : goal.loop-done-smaller
 loop-done-smaller g c =
@@ -76,39 +133,134 @@ loop-done-smaller g c =
 
 pub loop-done-preserved : goal.loop-done-preserved
 loop-done-preserved g c =
-    let k = cut_of (marks (entries_at c.args.tables.now.items c.args.at)) c.loop-done.done c.loop-done.next c.in-Some.place c.loop-done.invariant.next c.in-Some.is in
+    let k = cut_of (marks (entries_at c.args.tables.now.items c.args.at)) c.loop-done.done c.loop-done.next
+    c.in-Some.place c.loop-done.invariant.next c.in-Some.is in
     let low = step_lower c.args.tree.now c.args.tables.now.items c.args.at c.args.up c.requires.step in
     let within = c.requires.step.within in
-    let n = touched_more c.args.tree.now c.args.tables.now.items c.loop-done.tables.items c.touch_from.new.tables.items c.args.up (λ v. reach (node_at c.args.tree.now.nodes c.args.up) c.args.going c.args.at c.args.tables.now.items (take c.loop-done.done (marks (entries_at c.args.tables.now.items c.args.at))) v) (λ v. reach_one (node_at c.args.tree.now.nodes c.args.up) c.args.going c.args.at c.loop-done.tables.items c.as_slice.result.now v) (λ v. reach (node_at c.args.tree.now.nodes c.args.up) c.args.going c.args.at c.args.tables.now.items (take (c.loop-done.done + 1) (marks (entries_at c.args.tables.now.items c.args.at))) v) c.requires.step.family c.loop-done.invariant.touched c.touch_from.ensures.touched
-    (λ v. reach_more (node_at c.args.tree.now.nodes c.args.up) c.args.going c.args.at c.args.tables.now.items (marks (entries_at c.args.tables.now.items c.args.at)) c.loop-done.done k.entry v k.is ∙ ap (λ (x : ℕ). reach (node_at c.args.tree.now.nodes c.args.up) c.args.going c.args.at c.args.tables.now.items (take c.loop-done.done (marks (entries_at c.args.tables.now.items c.args.at))) v + x) (sym (ap (λ (w : List ℕ). reach_one (node_at c.args.tree.now.nodes c.args.up) c.args.going c.args.at c.loop-done.tables.items w v) (c.as_slice.ensures ∙ c.read_at.ensures.tuple k.entry.tuple (moved_at (entries_at c.args.tables.now.items c.args.at) (entries_at c.loop-done.tables.items c.args.at) c.in-Some.place k.entry.tuple (c.loop-done.invariant.touched.others c.args.at (omega arith)) (cut_mark (entries_at c.args.tables.now.items c.args.at) c.loop-done.done c.in-Some.place k))) ∙ reach_still (node_at c.args.tree.now.nodes c.args.up) c.args.going c.args.at c.args.tables.now.items c.loop-done.tables.items k.entry.tuple v (same_keys c.args.tree.now c.args.tables.now.items c.loop-done.tables.items c.requires.step.family c.loop-done.invariant.touched.family) (kids_still c.args.tree.now c.args.tables.now.items c.loop-done.tables.items c.args.up (λ v. reach (node_at c.args.tree.now.nodes c.args.up) c.args.going c.args.at c.args.tables.now.items (take c.loop-done.done (marks (entries_at c.args.tables.now.items c.args.at))) v) c.requires.step.family.is_tree c.loop-done.invariant.touched)))) in
+    let n = touched_more c.args.tree.now c.args.tables.now.items c.loop-done.tables.items c.touch_from.new.tables.items
+    c.args.up (λ v. reach (node_at c.args.tree.now.nodes c.args.up) c.args.going c.args.at c.args.tables.now.items
+    (take c.loop-done.done (marks (entries_at c.args.tables.now.items c.args.at))) v)
+    (λ v. reach_one (node_at c.args.tree.now.nodes c.args.up) c.args.going c.args.at c.loop-done.tables.items
+    c.as_slice.result.now v)
+    (λ v. reach (node_at c.args.tree.now.nodes c.args.up) c.args.going c.args.at c.args.tables.now.items
+    (take (c.loop-done.done + 1) (marks (entries_at c.args.tables.now.items c.args.at))) v) c.requires.step.family
+    c.loop-done.invariant.touched c.touch_from.ensures.touched
+    (λ v. reach_more (node_at c.args.tree.now.nodes c.args.up) c.args.going c.args.at c.args.tables.now.items
+    (marks (entries_at c.args.tables.now.items c.args.at)) c.loop-done.done k.entry v k.is
+    ∙ ap (λ (x : ℕ). reach (node_at c.args.tree.now.nodes c.args.up) c.args.going c.args.at c.args.tables.now.items
+    (take c.loop-done.done (marks (entries_at c.args.tables.now.items c.args.at))) v + x)
+    (sym (ap (λ (w : List ℕ). reach_one (node_at c.args.tree.now.nodes c.args.up) c.args.going c.args.at
+    c.loop-done.tables.items w v)
+    (c.as_slice.ensures ∙ c.read_at.ensures.tuple k.entry.tuple
+    (moved_at (entries_at c.args.tables.now.items c.args.at) (entries_at c.loop-done.tables.items c.args.at)
+    c.in-Some.place k.entry.tuple (c.loop-done.invariant.touched.others c.args.at (omega arith))
+    (cut_mark (entries_at c.args.tables.now.items c.args.at) c.loop-done.done c.in-Some.place k)))
+    ∙ reach_still (node_at c.args.tree.now.nodes c.args.up) c.args.going c.args.at c.args.tables.now.items
+    c.loop-done.tables.items k.entry.tuple v
+    (same_keys c.args.tree.now c.args.tables.now.items c.loop-done.tables.items c.requires.step.family
+    c.loop-done.invariant.touched.family)
+    (kids_still c.args.tree.now c.args.tables.now.items c.loop-done.tables.items c.args.up
+    (λ v. reach (node_at c.args.tree.now.nodes c.args.up) c.args.going c.args.at c.args.tables.now.items
+    (take c.loop-done.done (marks (entries_at c.args.tables.now.items c.args.at))) v) c.requires.step.family.is_tree
+    c.loop-done.invariant.touched)))) in
     record {
-      next = c.next_marked_at-next.ensures.found (take c.loop-done.done (marks (entries_at c.args.tables.now.items c.args.at))) k.entry (drop (c.loop-done.done + 1) (marks (entries_at c.args.tables.now.items c.args.at))) (ap (λ (es : List Entry). marks es) (n.others c.args.at (omega arith)) ∙ k.is) k.at;
+      next = c.next_marked_at-next.ensures.found
+          (take c.loop-done.done (marks (entries_at c.args.tables.now.items c.args.at))) k.entry
+          (drop (c.loop-done.done + 1) (marks (entries_at c.args.tables.now.items c.args.at)))
+          (ap (λ (es : List Entry). marks es) (n.others c.args.at (omega arith)) ∙ k.is) k.at;
       touched = n;
-      counted = omega (arith, c.loop-done.invariant.counted, c.touch_from.ensures.counted, c.next_marked_at-next.ensures.counted, cost_more (node_at c.args.tree.now.nodes c.args.up) c.args.at c.args.tables.now.items (marks (entries_at c.args.tables.now.items c.args.at)) c.loop-done.done k.entry k.is, ap (λ (w : List ℕ). cost_one (node_at c.args.tree.now.nodes c.args.up) c.args.at c.loop-done.tables.items w) (c.as_slice.ensures ∙ c.read_at.ensures.tuple k.entry.tuple (moved_at (entries_at c.args.tables.now.items c.args.at) (entries_at c.loop-done.tables.items c.args.at) c.in-Some.place k.entry.tuple (c.loop-done.invariant.touched.others c.args.at (omega arith)) (cut_mark (entries_at c.args.tables.now.items c.args.at) c.loop-done.done c.in-Some.place k))), cost_still (node_at c.args.tree.now.nodes c.args.up) c.args.at c.args.tables.now.items c.loop-done.tables.items k.entry.tuple (same_keys c.args.tree.now c.args.tables.now.items c.loop-done.tables.items c.requires.step.family c.loop-done.invariant.touched.family) (kids_still c.args.tree.now c.args.tables.now.items c.loop-done.tables.items c.args.up (λ v. reach (node_at c.args.tree.now.nodes c.args.up) c.args.going c.args.at c.args.tables.now.items (take c.loop-done.done (marks (entries_at c.args.tables.now.items c.args.at))) v) c.requires.step.family.is_tree c.loop-done.invariant.touched));
+      counted = omega (
+        arith,
+        c.loop-done.invariant.counted,
+        c.touch_from.ensures.counted,
+        c.next_marked_at-next.ensures.counted,
+        cost_more (node_at c.args.tree.now.nodes c.args.up) c.args.at
+            c.args.tables.now.items (marks (entries_at c.args.tables.now.items c.args.at))
+            c.loop-done.done k.entry k.is,
+        ap (λ (w : List ℕ). cost_one (node_at c.args.tree.now.nodes c.args.up) c.args.at c.loop-done.tables.items w)
+            (c.as_slice.ensures ∙ c.read_at.ensures.tuple k.entry.tuple
+            (moved_at (entries_at c.args.tables.now.items c.args.at) (entries_at c.loop-done.tables.items c.args.at)
+            c.in-Some.place k.entry.tuple (c.loop-done.invariant.touched.others c.args.at (omega arith))
+            (cut_mark (entries_at c.args.tables.now.items c.args.at) c.loop-done.done c.in-Some.place k))),
+        cost_still
+            (node_at c.args.tree.now.nodes c.args.up) c.args.at c.args.tables.now.items c.loop-done.tables.items
+            k.entry.tuple (same_keys c.args.tree.now c.args.tables.now.items c.loop-done.tables.items
+            c.requires.step.family c.loop-done.invariant.touched.family)
+            (kids_still c.args.tree.now c.args.tables.now.items c.loop-done.tables.items c.args.up
+            (λ v. reach (node_at c.args.tree.now.nodes c.args.up) c.args.going c.args.at c.args.tables.now.items
+            (take c.loop-done.done (marks (entries_at c.args.tables.now.items c.args.at))) v)
+            c.requires.step.family.is_tree c.loop-done.invariant.touched),
+      );
     }
 
 pub returns-in-None-clause-touched : goal.returns-in-None-clause-touched
 returns-in-None-clause-touched g c =
-    touched_as c.args.tree.now c.args.tables.now.items c.loop-done.tables.items c.args.up (λ v. reach (node_at c.args.tree.now.nodes c.args.up) c.args.going c.args.at c.args.tables.now.items (take c.loop-done.done (marks (entries_at c.args.tables.now.items c.args.at))) v) (λ v. reach (node_at c.args.tree.now.nodes c.args.up) c.args.going c.args.at c.args.tables.now.items (marks (entries_at c.args.tables.now.items c.args.at)) v) c.loop-done.invariant.touched (λ v. ap (λ (es : List Entry). reach (node_at c.args.tree.now.nodes c.args.up) c.args.going c.args.at c.args.tables.now.items es v) (sym (take_whole (marks (entries_at c.args.tables.now.items c.args.at)) c.loop-done.done (head_none (drop c.loop-done.done (marks (entries_at c.args.tables.now.items c.args.at))) (sym c.loop-done.invariant.next ∙ c.in-None.is)))))
+    touched_as c.args.tree.now c.args.tables.now.items c.loop-done.tables.items c.args.up
+    (λ v. reach (node_at c.args.tree.now.nodes c.args.up) c.args.going c.args.at c.args.tables.now.items
+    (take c.loop-done.done (marks (entries_at c.args.tables.now.items c.args.at))) v)
+    (λ v. reach (node_at c.args.tree.now.nodes c.args.up) c.args.going c.args.at c.args.tables.now.items
+    (marks (entries_at c.args.tables.now.items c.args.at)) v) c.loop-done.invariant.touched
+    (λ v. ap (λ (es : List Entry). reach (node_at c.args.tree.now.nodes c.args.up) c.args.going c.args.at
+    c.args.tables.now.items es v)
+    (sym (take_whole (marks (entries_at c.args.tables.now.items c.args.at)) c.loop-done.done
+    (head_none (drop c.loop-done.done (marks (entries_at c.args.tables.now.items c.args.at)))
+    (sym c.loop-done.invariant.next ∙ c.in-None.is)))))
 
 pub returns-in-None-clause-counted : goal.returns-in-None-clause-counted
 returns-in-None-clause-counted g c =
-    λ n h. omega (arith, c.loop-done.invariant.counted, cost_le (node_at c.args.tree.now.nodes c.args.up) c.args.at c.args.tables.now.items (marks (entries_at c.args.tables.now.items c.args.at)) c.loop-done.done, cost_bound c.args.tree.now c.args.tables.now.items (node_at c.args.tree.now.nodes c.args.up) c.args.at n c.requires.step.family h)
+    λ n h. omega (
+      arith,
+      c.loop-done.invariant.counted,
+      cost_le (node_at c.args.tree.now.nodes c.args.up) c.args.at
+          c.args.tables.now.items (marks (entries_at c.args.tables.now.items c.args.at)) c.loop-done.done,
+      cost_bound
+          c.args.tree.now c.args.tables.now.items (node_at c.args.tree.now.nodes c.args.up) c.args.at n
+          c.requires.step.family h,
+    )
 
 pub returns-clause-touched : goal.returns-clause-touched
 returns-clause-touched g c =
     let h = c.loop-done-test.false in
     let x = c.loop-done.auto.done-end in
-    touched_as c.args.tree.now c.args.tables.now.items c.loop-done.tables.items c.args.up (λ v. reach (node_at c.args.tree.now.nodes c.args.up) c.args.going c.args.at c.args.tables.now.items (take c.loop-done.done (marks (entries_at c.args.tables.now.items c.args.at))) v) (λ v. reach (node_at c.args.tree.now.nodes c.args.up) c.args.going c.args.at c.args.tables.now.items (marks (entries_at c.args.tables.now.items c.args.at)) v) c.loop-done.invariant.touched (λ v. ap (λ (es : List Entry). reach (node_at c.args.tree.now.nodes c.args.up) c.args.going c.args.at c.args.tables.now.items es v) (sym (take_whole (marks (entries_at c.args.tables.now.items c.args.at)) c.loop-done.done (drop_marks (entries_at c.args.tables.now.items c.args.at) c.loop-done.done (omega (arith, c.len_at-count.ensures))))))
+    touched_as c.args.tree.now c.args.tables.now.items c.loop-done.tables.items c.args.up
+    (λ v. reach (node_at c.args.tree.now.nodes c.args.up) c.args.going c.args.at c.args.tables.now.items
+    (take c.loop-done.done (marks (entries_at c.args.tables.now.items c.args.at))) v)
+    (λ v. reach (node_at c.args.tree.now.nodes c.args.up) c.args.going c.args.at c.args.tables.now.items
+    (marks (entries_at c.args.tables.now.items c.args.at)) v) c.loop-done.invariant.touched
+    (λ v. ap (λ (es : List Entry). reach (node_at c.args.tree.now.nodes c.args.up) c.args.going c.args.at
+    c.args.tables.now.items es v)
+    (sym (take_whole (marks (entries_at c.args.tables.now.items c.args.at)) c.loop-done.done
+    (drop_marks (entries_at c.args.tables.now.items c.args.at) c.loop-done.done
+    (omega (arith, c.len_at-count.ensures))))))
 
 pub returns-clause-counted : goal.returns-clause-counted
 returns-clause-counted g c =
-    λ n h. omega (arith, c.loop-done.invariant.counted, cost_le (node_at c.args.tree.now.nodes c.args.up) c.args.at c.args.tables.now.items (marks (entries_at c.args.tables.now.items c.args.at)) c.loop-done.done, cost_bound c.args.tree.now c.args.tables.now.items (node_at c.args.tree.now.nodes c.args.up) c.args.at n c.requires.step.family h)
+    λ n h. omega (
+      arith,
+      c.loop-done.invariant.counted,
+      cost_le (node_at c.args.tree.now.nodes c.args.up) c.args.at
+          c.args.tables.now.items (marks (entries_at c.args.tables.now.items c.args.at)) c.loop-done.done,
+      cost_bound
+          c.args.tree.now c.args.tables.now.items (node_at c.args.tree.now.nodes c.args.up) c.args.at n
+          c.requires.step.family h,
+    )
 
 pub returns-in-None-clause-flat : goal.returns-in-None-clause-flat
 returns-in-None-clause-flat g c =
-    λ meets few. omega (arith, c.loop-done.invariant.counted, cost_le (node_at c.args.tree.now.nodes c.args.up) c.args.at c.args.tables.now.items (marks (entries_at c.args.tables.now.items c.args.at)) c.loop-done.done, step_few c.args.tree.now c.args.tables.now.items c.args.at c.args.up meets c.requires.step few)
+    λ meets few. omega (
+      arith,
+      c.loop-done.invariant.counted,
+      cost_le (node_at c.args.tree.now.nodes c.args.up)
+          c.args.at c.args.tables.now.items (marks (entries_at c.args.tables.now.items c.args.at)) c.loop-done.done,
+      step_few c.args.tree.now c.args.tables.now.items c.args.at c.args.up meets c.requires.step few,
+    )
 
 pub returns-clause-flat : goal.returns-clause-flat
 returns-clause-flat g c =
-    λ meets few. omega (arith, c.loop-done.invariant.counted, cost_le (node_at c.args.tree.now.nodes c.args.up) c.args.at c.args.tables.now.items (marks (entries_at c.args.tables.now.items c.args.at)) c.loop-done.done, step_few c.args.tree.now c.args.tables.now.items c.args.at c.args.up meets c.requires.step few)
+    λ meets few. omega (
+      arith,
+      c.loop-done.invariant.counted,
+      cost_le (node_at c.args.tree.now.nodes c.args.up)
+          c.args.at c.args.tables.now.items (marks (entries_at c.args.tables.now.items c.args.at)) c.loop-done.done,
+      step_few c.args.tree.now c.args.tables.now.items c.args.at c.args.up meets c.requires.step few,
+    )

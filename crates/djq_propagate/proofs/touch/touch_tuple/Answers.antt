@@ -20,7 +20,10 @@ marked_at-requires-clause-live g c =
 
 pub returns-then-marked_at-clause-touched : goal.returns-then-marked_at-clause-touched
 returns-then-marked_at-clause-touched g c =
-    touched_none c.args.tree.now c.args.tables.now.items c.args.at (λ v. one (same c.args.tuple.now v)) c.requires.family (λ v there some. one_marked (entries_at c.args.tables.now.items c.args.at) c.args.tuple.now v (apart_of c.args.tree.now c.args.tables.now.items c.requires.family c.args.at) (sym (c.marked_at.ensures c.args.tuple.now c.in-Some.ensures.found) ∙ c.if-marked_at.true) there some)
+    touched_none c.args.tree.now c.args.tables.now.items c.args.at (λ v. one (same c.args.tuple.now v))
+    c.requires.family (λ v there some. one_marked (entries_at c.args.tables.now.items c.args.at) c.args.tuple.now v
+    (apart_of c.args.tree.now c.args.tables.now.items c.requires.family c.args.at)
+    (sym (c.marked_at.ensures c.args.tuple.now c.in-Some.ensures.found) ∙ c.if-marked_at.true) there some)
 
 pub returns-then-marked_at-clause-counted : goal.returns-then-marked_at-clause-counted
 returns-then-marked_at-clause-counted g c =
@@ -32,11 +35,18 @@ touch_at-requires-clause-within g c =
 
 pub touch_at-requires-clause-unmarked : goal.touch_at-requires-clause-unmarked
 touch_at-requires-clause-unmarked g c =
-    record { tuple = c.args.tuple.now; is_at = c.in-Some.ensures.found; plain = sym (c.marked_at.ensures c.args.tuple.now c.in-Some.ensures.found) ∙ c.if-marked_at.false }
+    record {
+      tuple = c.args.tuple.now;
+      is_at = c.in-Some.ensures.found;
+      plain = sym
+          (c.marked_at.ensures c.args.tuple.now c.in-Some.ensures.found) ∙ c.if-marked_at.false;
+    }
 
 pub returns-else-marked_at-clause-touched : goal.returns-else-marked_at-clause-touched
 returns-else-marked_at-clause-touched g c =
-    touched_one c.args.tree.now c.args.tables.now.items c.touch_at.new.tables.items c.args.at c.args.tuple.now c.requires.family c.touch_at.ensures.changed (c.touch_at.ensures.touched c.args.tuple.now c.in-Some.ensures.found)
+    touched_one c.args.tree.now c.args.tables.now.items c.touch_at.new.tables.items c.args.at c.args.tuple.now
+    c.requires.family c.touch_at.ensures.changed
+    (c.touch_at.ensures.touched c.args.tuple.now c.in-Some.ensures.found)
 
 pub returns-else-marked_at-clause-counted : goal.returns-else-marked_at-clause-counted
 returns-else-marked_at-clause-counted g c =
@@ -44,7 +54,9 @@ returns-else-marked_at-clause-counted g c =
 
 pub returns-in-None-clause-touched : goal.returns-in-None-clause-touched
 returns-in-None-clause-touched g c =
-    touched_none c.args.tree.now c.args.tables.now.items c.args.at (λ v. one (same c.args.tuple.now v)) c.requires.family (λ v there some. one_absent (entries_at c.args.tables.now.items c.args.at) c.args.tuple.now v c.in-None.ensures.found there some)
+    touched_none c.args.tree.now c.args.tables.now.items c.args.at (λ v. one (same c.args.tuple.now v))
+    c.requires.family (λ v there some. one_absent (entries_at c.args.tables.now.items c.args.at) c.args.tuple.now v
+    c.in-None.ensures.found there some)
 
 pub returns-in-None-clause-counted : goal.returns-in-None-clause-counted
 returns-in-None-clause-counted g c =

@@ -23,20 +23,31 @@ clear_path-requires-clause-leaf g c =
 
 pub returns-clause-dropped : goal.returns-clause-dropped
 returns-clause-dropped g c =
-    dropped_all c.args.tree.now c.args.tables.now.items c.take_marked.new.tables.items c.clear_path.new.tables.items c.args.leaf c.requires.leaf c.requires.path c.take_marked.ensures.taken c.clear_path.ensures.cleared
+    dropped_all c.args.tree.now c.args.tables.now.items c.take_marked.new.tables.items c.clear_path.new.tables.items
+    c.args.leaf c.requires.leaf c.requires.path c.take_marked.ensures.taken c.clear_path.ensures.cleared
 
 pub returns-clause-back : goal.returns-clause-back
 returns-clause-back g c =
-    λ before r w. let d = dropped_all c.args.tree.now c.args.tables.now.items c.take_marked.new.tables.items c.clear_path.new.tables.items c.args.leaf c.requires.leaf c.requires.path c.take_marked.ensures.taken c.clear_path.ensures.cleared in undone before (both c.args.tree.now c.args.tables.now.items) (both c.args.tree.now c.clear_path.new.tables.items) c.args.leaf r d.sound w d.without
+    λ before r w. let d = dropped_all c.args.tree.now c.args.tables.now.items c.take_marked.new.tables.items
+    c.clear_path.new.tables.items c.args.leaf c.requires.leaf c.requires.path c.take_marked.ensures.taken
+    c.clear_path.ensures.cleared in undone before (both c.args.tree.now c.args.tables.now.items)
+    (both c.args.tree.now c.clear_path.new.tables.items) c.args.leaf r d.sound w d.without
 
 pub returns-clause-counted : goal.returns-clause-counted
 returns-clause-counted g c =
-    λ n few. take_counted c.args.tree.now c.args.tables.now.items c.take_marked.new.tables.items c.args.leaf n c.args.tally.now c.take_marked.new.tally c.clear_path.new.tally c.requires.reducts c.take_marked.ensures.taken few c.take_marked.ensures.counted c.clear_path.ensures.counted
+    λ n few. take_counted c.args.tree.now c.args.tables.now.items c.take_marked.new.tables.items c.args.leaf n
+    c.args.tally.now c.take_marked.new.tally c.clear_path.new.tally c.requires.reducts c.take_marked.ensures.taken
+    few c.take_marked.ensures.counted c.clear_path.ensures.counted
 
 pub returns-clause-flat : goal.returns-clause-flat
 returns-clause-flat g c =
     λ meets few.
     let w = c.take_marked.ensures.taken in
-    take_by c.args.tree.now c.args.tables.now.items c.take_marked.new.tables.items c.args.leaf 1 c.args.tally.now c.take_marked.new.tally c.clear_path.new.tally c.requires.reducts w
-    (more_length c.args.tree.now c.take_marked.new.tables.items c.args.tables.now.items c.args.leaf meets w.sound c.requires.reducts (λ j v low apart. sym (w.without.others j v low apart)) (one_taken c.args.tree.now c.args.tables.now.items c.take_marked.new.tables.items c.args.leaf w few))
-    c.take_marked.ensures.counted (c.clear_path.ensures.flat (few_taken c.args.tree.now c.args.tables.now.items c.take_marked.new.tables.items c.args.leaf w few))
+    take_by c.args.tree.now c.args.tables.now.items c.take_marked.new.tables.items c.args.leaf 1 c.args.tally.now
+    c.take_marked.new.tally c.clear_path.new.tally c.requires.reducts w
+    (more_length c.args.tree.now c.take_marked.new.tables.items c.args.tables.now.items c.args.leaf meets w.sound
+    c.requires.reducts (λ j v low apart. sym (w.without.others j v low apart))
+    (one_taken c.args.tree.now c.args.tables.now.items c.take_marked.new.tables.items c.args.leaf w few))
+    c.take_marked.ensures.counted
+    (c.clear_path.ensures.flat
+    (few_taken c.args.tree.now c.args.tables.now.items c.take_marked.new.tables.items c.args.leaf w few))

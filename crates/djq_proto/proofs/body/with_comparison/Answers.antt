@@ -9,5 +9,9 @@ use Rattle.djq_proto.proofs.body.with_comparison.Goals as goal
 pub returns : goal.returns
 returns c = λ b o kept own.
     let found = reads_some is_small_value o c.args.constant own (sym c.is_outside.ensures ∙ c.if-is_outside.false) in
-    subst (λ p. HasOneMore b (option_map (comparison_behind (length b.0) c.args.variable c.args.operator) p) (Some (record { read = c.add_comparison-read.result; has_atom = c.args.parts.has_atom }))) (sym found.1)
-    (c.add_comparison-read.ensures b found.0 kept.0 found.2, kept.1 ∙ atom_still b (compared (length b.0) c.args.variable c.args.operator found.0))
+    subst (λ p. HasOneMore b (option_map (comparison_behind (length b.0) c.args.variable c.args.operator) p)
+    (Some (record { read = c.add_comparison-read.result; has_atom = c.args.parts.has_atom }))) (sym found.1) (
+      c.add_comparison-read.ensures b found.0 kept.0 found.2,
+      kept.1
+          ∙ atom_still b (compared (length b.0) c.args.variable c.args.operator found.0),
+    )

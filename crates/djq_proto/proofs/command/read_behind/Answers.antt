@@ -12,7 +12,8 @@ use Rattle.djq_proto.proofs.command.read_behind.Goals as goal
 pub returns-in_err-name-in-Rel : goal.returns-in_err-name-in-Rel
 returns-in_err-name-in-Rel c =
     subst (λ k. Gives (command_behind k c.args.lexer.now) c.from_residual.result) (sym c.in-Rel.is)
-    (subst (λ r. Gives (command_behind Rel c.args.lexer.now) r) (sym (err_is c.from_residual.result c.in_err-name-in-Rel.field-0.0 c.from_residual.ensures.1))
+    (subst (λ r. Gives (command_behind Rel c.args.lexer.now) r)
+    (sym (err_is c.from_residual.result c.in_err-name-in-Rel.field-0.0 c.from_residual.ensures.1))
     (rel_refused (named_some type_of c.args.lexer.now) c.in_err-name-in-Rel.field-0.0 c.in_err-name-in-Rel.ensures))
 
 pub returns-in_err-name-in-Union : goal.returns-in_err-name-in-Union
@@ -27,7 +28,8 @@ pub returns-in_err-query-in-Query : goal.returns-in_err-query-in-Query
 returns-in_err-query-in-Query c =
     let r = c.from_residual-in_err-query-in-Query in
     subst (λ k. Gives (command_behind k c.args.lexer.now) r.result) (sym c.in-Query.is)
-    (subst (λ x. Gives (command_behind Query c.args.lexer.now) x) (sym (err_is r.result c.in_err-query-in-Query.field-0.0 r.ensures.1))
+    (subst (λ x. Gives (command_behind Query c.args.lexer.now) x)
+    (sym (err_is r.result c.in_err-query-in-Query.field-0.0 r.ensures.1))
     (query_refused (query_in c.args.lexer.now) c.in_err-query-in-Query.field-0.0 c.in_err-query-in-Query.ensures))
 
 pub returns-in_ok-query-in-Query : goal.returns-in_ok-query-in-Query

@@ -15,5 +15,6 @@ returns-then-not-is_utf8 c =
 
 pub returns : goal.returns
 unfolding command_of
-returns c = subst (λ o. Gives o c.read_tokens.result) (sym (cond-true _ _ _ (sym c.is_utf8.ensures ∙ c.if-not-is_utf8.false)))
+returns c = subst (λ o. Gives o c.read_tokens.result)
+    (sym (cond-true _ _ _ (sym c.is_utf8.ensures ∙ c.if-not-is_utf8.false)))
     (subst (λ ts. Gives (command_in ts) c.read_tokens.result) c.new-lexer.ensures c.read_tokens.ensures)

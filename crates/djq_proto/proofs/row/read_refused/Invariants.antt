@@ -8,7 +8,8 @@ use Rattle.djq_proto.proofs.row.read_refused.Given as goal
 
 abbrev pub invariant-values : goal.invariant-values
 invariant-values l = (xs : Tuple) → IsRefused (Some xs) l.fn.refusal
-    → (ys : Tuple) × (onto xs (all_of literal_of l.fn.lexer) ≡ onto ys (all_of literal_of l.lexer)) × IsRefused (Some ys) l.first
+    → (ys : Tuple) × (onto xs (all_of literal_of l.fn.lexer) ≡ onto ys (all_of literal_of l.lexer))
+    × IsRefused (Some ys) l.first
 
 abbrev pub decreases-values : goal.decreases-values
 decreases-values l = length l.lexer

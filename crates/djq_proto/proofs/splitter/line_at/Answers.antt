@@ -4,7 +4,8 @@ use Rattle.djq_proto.proofs.Cutting.{front_of-long_at, front_of-line}
 use Rattle.djq_proto.proofs.splitter.line_at.Goals as goal
 
 pub returns-then-is_long : goal.returns-then-is_long
-returns-then-is_long c = front_of-long_at c.args.bytes.now c.args.at c.requires (sym c.is_long.ensures ∙ c.if-is_long.true)
+returns-then-is_long c = front_of-long_at c.args.bytes.now c.args.at c.requires
+    (sym c.is_long.ensures ∙ c.if-is_long.true)
 
 pub returns-else-is_long : goal.returns-else-is_long
 returns-else-is_long c =
@@ -14,5 +15,6 @@ returns-else-is_long c =
     let all : length (take at held) ≡ at = length-take-le at held (omega (arith, c.requires.within)) in
     let within : end ≤ at = omega (arith, all, c.trimmed_len.ensures.within) in
     let line : take end held ≡ take end (take at held) = sym (take-take end at held within) in
-    let front = front_of-line held at c.requires (sym c.is_long.ensures ∙ c.if-is_long.false) (take end held) (line ∙ c.trimmed_len.ensures.trimmed) in
+    let front = front_of-line held at c.requires (sym c.is_long.ensures ∙ c.if-is_long.false) (take end held)
+    (line ∙ c.trimmed_len.ensures.trimmed) in
     (front, omega arith, omega (arith, c.requires.within), omega arith)

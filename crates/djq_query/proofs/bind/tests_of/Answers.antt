@@ -16,13 +16,18 @@ comparisons-preserved c =
     elim c.match-find.branch [
       | in-Some+in_ok-push w ↦
           ap rest (w.tests-is ∙ w.in_ok-push.ensures.ok)
-          ∙ tests_on c.comparisons.tests _ members comparisons constants i comparison c.comparisons-test.true c.requires c.index-comparisons-i.is (test_found members comparison _ w.in-Some.place c.find.result c.find.ensures w.in-Some.is)
+          ∙ tests_on c.comparisons.tests _ members comparisons constants i comparison c.comparisons-test.true c.requires
+          c.index-comparisons-i.is
+          (test_found members comparison _ w.in-Some.place c.find.result c.find.ensures w.in-Some.is)
           ∙ c.comparisons.invariant
       | in_default w ↦
           ap rest (w.tests-is ∙ sym (append-nil c.comparisons.tests))
-          ∙ tests_on c.comparisons.tests [] members comparisons constants i comparison c.comparisons-test.true c.requires c.index-comparisons-i.is (test_missed members comparison _ c.find.result c.find.ensures w.in_default.is)
+          ∙ tests_on c.comparisons.tests [] members comparisons constants i comparison c.comparisons-test.true
+          c.requires c.index-comparisons-i.is
+          (test_missed members comparison _ c.find.result c.find.ensures w.in_default.is)
           ∙ c.comparisons.invariant
     ]
 
 pub returns : goal.returns
-returns c = sym (tests_over c.comparisons.tests c.args.members.now c.args.comparisons.now c.args.constants.now c.comparisons.i c.comparisons-test.false) ∙ c.comparisons.invariant
+returns c = sym (tests_over c.comparisons.tests c.args.members.now c.args.comparisons.now c.args.constants.now
+    c.comparisons.i c.comparisons-test.false) ∙ c.comparisons.invariant

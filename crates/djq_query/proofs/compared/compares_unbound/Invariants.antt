@@ -5,4 +5,5 @@ use Rattle.djq_lines.specs.Variables.{stands_in}
 use Rattle.djq_query.proofs.compared.compares_unbound.Given as goal
 
 abbrev pub invariant-loop-comparison : goal.invariant-loop-comparison
-invariant-loop-comparison l = list_any (λ c. not (stands_in l.atoms c.variable)) (take l.comparison-index l.comparisons) ≡ false
+invariant-loop-comparison l = list_any (λ c. not (stands_in l.atoms c.variable)) (take l.comparison-index l.comparisons)
+    ≡ false

@@ -17,10 +17,14 @@ atoms-preserved g c =
     record {
       atoms = λ ns h.
           subst (λ (ms : List NumberedAtom). AreNumbered rs (labels c.args.known.now) atoms (ms ++ ns)) (sym put)
-          (numbered_on rs c.atoms.known c.args.known.now atoms c.atoms.numbered c.atoms.i a c.in_ok-number_atom.field-0 c.atoms-test.true c.index-atoms-i.is arity c.in_ok-number_atom.ensures.atom c.atoms.invariant.atoms ns
+          (numbered_on rs c.atoms.known c.args.known.now atoms c.atoms.numbered c.atoms.i a c.in_ok-number_atom.field-0
+          c.atoms-test.true c.index-atoms-i.is arity c.in_ok-number_atom.ensures.atom c.atoms.invariant.atoms ns
           (subst (λ (vs : List Variable). AreNumbered rs (labels vs) (drop (c.atoms.i + 1) atoms) ns) more h));
-      known = ap (λ (vs : List Variable). fold (with_columns rs) vs (drop (c.atoms.i + 1) atoms)) more ∙ columns_on rs c.atoms.known atoms c.atoms.i a c.atoms-test.true c.index-atoms-i.is ∙ c.atoms.invariant.known;
+      known = ap (λ (vs : List Variable). fold (with_columns rs) vs (drop (c.atoms.i + 1) atoms)) more
+          ∙ columns_on rs c.atoms.known atoms c.atoms.i a c.atoms-test.true c.index-atoms-i.is
+          ∙ c.atoms.invariant.known;
     }
 
 pub returns-clause-atoms : goal.returns-clause-atoms
-returns-clause-atoms g c = numbered_over (g.R.Relations.relations c.args.relations.now) c.atoms.known c.args.known.now c.args.atoms.now c.atoms.numbered c.atoms.i c.atoms-test.false c.atoms.invariant.atoms
+returns-clause-atoms g c = numbered_over (g.R.Relations.relations c.args.relations.now) c.atoms.known c.args.known.now
+    c.args.atoms.now c.atoms.numbered c.atoms.i c.atoms-test.false c.atoms.invariant.atoms

@@ -15,5 +15,6 @@ returns c =
     let known = c.args.known.now in
     let comparison = c.args.comparison.now in
     let number : c.unwrap_or.result ≡ number_of (labels known) comparison.variable =
-    c.unwrap_or.ensures ∙ ap (λ o. unwrap_or o (length known)) c.place_of.ensures ∙ number_or known comparison.variable in
+    c.unwrap_or.ensures ∙ ap (λ o. unwrap_or o (length known)) c.place_of.ensures
+    ∙ number_or known comparison.variable in
     ap₂ (λ (k : ℕ) (v : Value). of_parts k comparison.operator v) number c.in_ok-copy_value.ensures

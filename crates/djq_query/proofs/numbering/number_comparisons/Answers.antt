@@ -7,4 +7,5 @@ pub loop-comparison-preserved : goal.loop-comparison-preserved
 loop-comparison-preserved c =
     c.in_ok-push.ensures.ok
     ∙ ap₂ (λ xs x. xs ++ x ∷ []) c.loop-comparison.invariant c.in_ok-number_comparison.ensures
-    ∙ sym (compared_step (numbered_comparison (labels c.args.known.now)) c.args.comparisons.now c.loop-comparison.comparison-index c.comparison-item.result c.loop-comparison-test.true c.comparison-item.is)
+    ∙ sym (compared_step (numbered_comparison (labels c.args.known.now)) c.args.comparisons.now
+    c.loop-comparison.comparison-index c.comparison-item.result c.loop-comparison-test.true c.comparison-item.is)

@@ -10,4 +10,5 @@ loop-name-preserved c =
     c.in_ok-push.ensures.ok
     ∙ ap₂ (λ xs x. xs ++ x ∷ []) c.loop-name.invariant
     (c.unwrap_or.ensures ∙ ap (λ o. unwrap_or o (length known)) c.place_of.ensures ∙ number_or known c.name-item.result)
-    ∙ sym (head_step (number_of (labels known)) c.args.head.now c.loop-name.name-index c.name-item.result c.loop-name-test.true c.name-item.is)
+    ∙ sym (head_step (number_of (labels known)) c.args.head.now c.loop-name.name-index c.name-item.result
+    c.loop-name-test.true c.name-item.is)

@@ -17,11 +17,19 @@ new-requires g c =
     let start : labels c.new-variables.result ≡ [] = ap labels c.new-variables.ensures in
     let numbered : AreNumbered rs [] q.atoms c.in_ok-atoms.atoms =
     subst (λ (atoms : List Atom). AreNumbered rs [] atoms c.in_ok-atoms.atoms) c.as_slice.ensures
-    (subst (λ (ls : List Label). AreNumbered rs ls c.as_slice.result.now c.in_ok-atoms.atoms) start c.in_ok-atoms.ensures.atoms) in
+    (subst (λ (ls : List Label). AreNumbered rs ls c.as_slice.result.now c.in_ok-atoms.atoms) start
+    c.in_ok-atoms.ensures.atoms) in
     let variables : c.number_body.new.known ≡ fold (with_columns rs) [] q.atoms =
-    c.in_ok-atoms.ensures.known ∙ ap₂ (λ (vs : List Variable) (atoms : List Atom). fold (with_columns rs) vs atoms) c.new-variables.ensures c.as_slice.ensures in
+    c.in_ok-atoms.ensures.known
+    ∙ ap₂ (λ (vs : List Variable) (atoms : List Atom). fold (with_columns rs) vs atoms) c.new-variables.ensures
+    c.as_slice.ensures in
     let heads : c.in_ok-head.head ≡ map (number_of (labels c.number_body.new.known)) q.head =
-    c.in_ok-head.ensures ∙ ap₂ (λ (vs : List Variable) (xs : List Bytes). map (number_of (labels vs)) xs) c.as_slice-known.ensures c.as_slice-3.ensures in
-    let tests : c.in_ok-comparisons.comparisons ≡ map (numbered_comparison (labels c.number_body.new.known)) q.comparisons =
-    c.in_ok-comparisons.ensures ∙ ap₂ (λ (vs : List Variable) (cs : List Comparison). map (numbered_comparison (labels vs)) cs) c.as_slice-known.ensures c.as_slice-2.ensures in
-    within_of rs q c.in_ok-atoms.atoms c.in_ok-comparisons.comparisons c.number_body.new.known c.in_ok-head.head c.requires numbered tests variables heads
+    c.in_ok-head.ensures ∙ ap₂ (λ (vs : List Variable) (xs : List Bytes). map (number_of (labels vs)) xs)
+    c.as_slice-known.ensures c.as_slice-3.ensures in
+    let tests : c.in_ok-comparisons.comparisons
+    ≡ map (numbered_comparison (labels c.number_body.new.known)) q.comparisons =
+    c.in_ok-comparisons.ensures
+    ∙ ap₂ (λ (vs : List Variable) (cs : List Comparison). map (numbered_comparison (labels vs)) cs)
+    c.as_slice-known.ensures c.as_slice-2.ensures in
+    within_of rs q c.in_ok-atoms.atoms c.in_ok-comparisons.comparisons c.number_body.new.known c.in_ok-head.head
+    c.requires numbered tests variables heads

@@ -6,7 +6,9 @@ columns-init c u wide = filled_none u
 
 pub columns-preserved : goal.columns-preserved
 columns-preserved c =
-    plain_more c.args.width c.args.slots.now c.columns.i _ c.if-slots-width.false c.columns-test.true (λ u. c.is_at.ensures u c.if-not-is_at.false) c.columns.invariant
+    plain_more c.args.width c.args.slots.now c.columns.i _ c.if-slots-width.false c.columns-test.true
+    (λ u. c.is_at.ensures u c.if-not-is_at.false) c.columns.invariant
 
 pub returns : goal.returns
-returns c told = plain_all c.args.width c.args.slots.now c.columns.i c.if-slots-width.false c.columns-test.false c.columns.invariant
+returns c told = plain_all c.args.width c.args.slots.now c.columns.i c.if-slots-width.false c.columns-test.false
+    c.columns.invariant

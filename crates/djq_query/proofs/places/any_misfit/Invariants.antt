@@ -3,4 +3,5 @@ use Rattle.djq_lines.specs.QueryFault.{any_column, is_misfit}
 use Rattle.djq_query.proofs.places.any_misfit.Given as goal
 
 abbrev pub invariant-places : goal.invariant-places
-invariant-places l = any_column is_misfit l.terms l.columns ≡ any_column is_misfit (drop l.i l.terms) (drop l.i l.columns)
+invariant-places l = any_column is_misfit l.terms l.columns
+    ≡ any_column is_misfit (drop l.i l.terms) (drop l.i l.columns)

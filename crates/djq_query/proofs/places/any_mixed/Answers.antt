@@ -4,4 +4,6 @@ use Rattle.djq_query.proofs.Columns.{any_over}
 use Rattle.djq_query.proofs.places.any_mixed.Goals as goal
 
 pub returns : goal.returns
-returns g c = let over = c.min-i-end.ensures in let end = c.places-test.false in sym (any_over (mixes (g.R.Relations.relations c.args.relations.now) c.args.atoms.now) c.args.terms.now c.args.columns.now c.places.i (omega (arith, c.min-i-end.ensures)) c.places.invariant)
+returns g c = let over = c.min-i-end.ensures in let end = c.places-test.false in sym
+    (any_over (mixes (g.R.Relations.relations c.args.relations.now) c.args.atoms.now) c.args.terms.now
+    c.args.columns.now c.places.i (omega (arith, c.min-i-end.ensures)) c.places.invariant)

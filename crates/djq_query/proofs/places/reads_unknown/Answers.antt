@@ -9,9 +9,11 @@ use Rattle.djq_query.proofs.places.reads_unknown.Goals as goal
 pub loop-atom-preserved : goal.loop-atom-preserved
 loop-atom-preserved g c =
     let p = λ (a : Atom). is_none (relation_of (g.R.Relations.relations c.args.relations.now) a.relation) in
-    let told = id_none (g.R.Relations.relations c.args.relations.now) c.atom-item.result.relation c.id.result c.id.ensures in
+    let told = id_none (g.R.Relations.relations c.args.relations.now) c.atom-item.result.relation c.id.result
+    c.id.ensures in
     let asked = c.is_none.ensures in
     let none : is_none c.id.result ≡ false = ap not asked ∙ ap (λ b. not (not b)) c.if-is_none.false in
-    let here : is_none (relation_of (g.R.Relations.relations c.args.relations.now) c.atom-item.result.relation) ≡ false = told ∙ none in
+    let here : is_none (relation_of (g.R.Relations.relations c.args.relations.now) c.atom-item.result.relation)
+    ≡ false = told ∙ none in
     list_any_more p c.args.atoms.now c.loop-atom.atom-index c.atom-item.result c.loop-atom-test.true
     ∙ ap₂ (λ a b. a || b) c.loop-atom.invariant (ap p (sym c.atom-item.is) ∙ here)

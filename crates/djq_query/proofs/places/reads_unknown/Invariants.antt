@@ -5,4 +5,5 @@ use Rattle.djq_model.specs.Data.{relation_of}
 use Rattle.djq_query.proofs.places.reads_unknown.Given as goal
 
 abbrev pub invariant-loop-atom : goal.invariant-loop-atom
-invariant-loop-atom g l = list_any (λ a. is_none (relation_of (g.R.Relations.relations l.relations) a.relation)) (take l.atom-index l.atoms) ≡ false
+invariant-loop-atom g l = list_any (λ a. is_none (relation_of (g.R.Relations.relations l.relations) a.relation))
+    (take l.atom-index l.atoms) ≡ false

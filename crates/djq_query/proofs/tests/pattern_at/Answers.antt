@@ -9,6 +9,8 @@ pub variables_of-label-requires : goal.variables_of-label-requires
 variables_of-label-requires c =
     let there = c.atoms-atoms.ensures in
     let under = c.if-at-atoms.false in
-    let below : c.args.at < length c.args.query.now.atoms = omega (arith, ap (λ (l : List NumberedAtom). length l) there) in
+    let below : c.args.at < length c.args.query.now.atoms = omega
+    (arith, ap (λ (l : List NumberedAtom). length l) there) in
     let is = c.index-atoms-at.is ∙ ap (λ (l : List NumberedAtom). get_or l c.args.at c.index-atoms-at.result) there in
-    ap (are_below VARIABLES) c.as_slice.ensures ∙ atom_within c.args.query.now c.args.at c.index-atoms-at.result c.within.ensures below is
+    ap (are_below VARIABLES) c.as_slice.ensures
+    ∙ atom_within c.args.query.now c.args.at c.index-atoms-at.result c.within.ensures below is

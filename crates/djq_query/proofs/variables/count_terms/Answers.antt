@@ -7,7 +7,8 @@ use Rattle.djq_query.proofs.variables.count_terms.Goals as goal
 pub returns-then-count-gt-VARIABLES : goal.returns-then-count-gt-VARIABLES
 returns-then-count-gt-VARIABLES c =
     many_terms (variables_of c.args.before.now) c.args.terms.now (c.terms.i + 1) (c.terms.count + 1)
-    (count_more c.args.before.now c.args.terms.now c.terms.i c.index-terms-i.result c.terms.count c.is_fresh.result c.terms-test.true c.index-terms-i.is c.terms.invariant.counted c.is_fresh.ensures c.if-is_fresh.true)
+    (count_more c.args.before.now c.args.terms.now c.terms.i c.index-terms-i.result c.terms.count c.is_fresh.result
+    c.terms-test.true c.index-terms-i.is c.terms.invariant.counted c.is_fresh.ensures c.if-is_fresh.true)
     c.if-count-gt-VARIABLES.true
 
 pub terms-preserved : goal.terms-preserved
@@ -19,12 +20,16 @@ terms-preserved c =
           let below = w.if-count-gt-VARIABLES.false in
           record {
             few = omega arith;
-            counted = is ∙ count_more c.args.before.now c.args.terms.now c.terms.i c.index-terms-i.result c.terms.count c.is_fresh.result c.terms-test.true c.index-terms-i.is c.terms.invariant.counted c.is_fresh.ensures w.if-is_fresh.true;
+            counted = is ∙ count_more c.args.before.now c.args.terms.now c.terms.i c.index-terms-i.result c.terms.count
+                c.is_fresh.result c.terms-test.true c.index-terms-i.is c.terms.invariant.counted c.is_fresh.ensures
+                w.if-is_fresh.true;
           }
       | else-is_fresh w ↦
           let is = w.count-is in
           record {
             few = omega arith;
-            counted = is ∙ count_same c.args.before.now c.args.terms.now c.terms.i c.index-terms-i.result c.terms.count c.is_fresh.result c.terms-test.true c.index-terms-i.is c.terms.invariant.counted c.is_fresh.ensures w.if-is_fresh.false;
+            counted = is ∙ count_same c.args.before.now c.args.terms.now c.terms.i c.index-terms-i.result c.terms.count
+                c.is_fresh.result c.terms-test.true c.index-terms-i.is c.terms.invariant.counted c.is_fresh.ensures
+                w.if-is_fresh.false;
           }
     ]

@@ -5,4 +5,5 @@ use Rattle.djq_reach.specs.Grouping.{Clears, reached}
 use Rattle.djq_reach.proofs.batch.clear_logs.Given as goal
 
 abbrev pub invariant-loop-nth : goal.invariant-loop-nth
-invariant-loop-nth l = Clears (λ i. is_reader (reached l.readers (take l.nth l.groups)) i && watched_at l.watchers i) l.fn.logs.items l.logs.items
+invariant-loop-nth l = Clears (λ i. is_reader (reached l.readers (take l.nth l.groups)) i && watched_at l.watchers i)
+    l.fn.logs.items l.logs.items

@@ -29,4 +29,5 @@ loop-nth-preserved c =
     c.loop-nth.invariant
     (clears_at c.loop-nth.logs.items i (watched_at c.args.watchers.now i) c.index_mut.result.now c.ready.new.log
     (omega (arith, there, c.loop-nth.invariant.long)) c.index_mut.ensures.value
-    (subst (λ (b : Bool). Readies b c.index_mut.result.now c.ready.new.log) c.is_watched-wanted.ensures c.ready.ensures))
+    (subst (λ (b : Bool). Readies b c.index_mut.result.now c.ready.new.log) c.is_watched-wanted.ensures
+    c.ready.ensures))

@@ -17,13 +17,19 @@ returns-clause-reach g c =
 
 pub returns-clause-tells : goal.returns-clause-tells
 returns-clause-tells g c =
-    tends_read (TellsAt c.args.watchers.now (λ x d. Went x d c.args.relation.at c.args.cells.now)) c.args.queries.now.items c.args.logs.now.items c.args.at c.in-Some.query c.index_mut-in-Some.result.now c.let_one.new.log c.requires.logged
-    (place_read c.args.queries.now.items c.args.at c.index_mut.result.now c.in-Some.query (below_some c.args.queries.now.items c.args.at (λ l. CanDelete l c.args.relation.at c.args.cells.now) c.requires.can) c.index_mut.ensures.value c.in-Some.is) c.index_mut-in-Some.ensures.value
-    (subst (λ (b : Bool). TellsWhere b (λ x d. Went x d c.args.relation.at c.args.cells.now) c.in-Some.query c.index_mut-in-Some.result.now c.let_one.new.log) c.is_watched-wanted.ensures c.let_one.ensures.tells)
+    tends_read (TellsAt c.args.watchers.now (λ x d. Went x d c.args.relation.at c.args.cells.now))
+    c.args.queries.now.items c.args.logs.now.items c.args.at c.in-Some.query c.index_mut-in-Some.result.now
+    c.let_one.new.log c.requires.logged
+    (place_read c.args.queries.now.items c.args.at c.index_mut.result.now c.in-Some.query
+    (below_some c.args.queries.now.items c.args.at (λ l. CanDelete l c.args.relation.at c.args.cells.now)
+    c.requires.can) c.index_mut.ensures.value c.in-Some.is) c.index_mut-in-Some.ensures.value
+    (subst (λ (b : Bool). TellsWhere b (λ x d. Went x d c.args.relation.at c.args.cells.now) c.in-Some.query
+    c.index_mut-in-Some.result.now c.let_one.new.log) c.is_watched-wanted.ensures c.let_one.ensures.tells)
 
 pub returns-clause-counted : goal.returns-clause-counted
 returns-clause-counted g c =
-    costs_one (λ x d. Went x d c.args.relation.at c.args.cells.now) c.args.watchers.now c.args.relation.at c.args.queries.now.items c.args.at c.in-Some.query c.is_watched-wanted.result
+    costs_one (λ x d. Went x d c.args.relation.at c.args.cells.now) c.args.watchers.now c.args.relation.at
+    c.args.queries.now.items c.args.at c.in-Some.query c.is_watched-wanted.result
     c.args.steps.now.listing c.let_one.new.steps.listing
     (place_read c.args.queries.now.items c.args.at c.index_mut.result.now c.in-Some.query
     (below_some c.args.queries.now.items c.args.at (λ l. CanDelete l c.args.relation.at c.args.cells.now)
@@ -41,5 +47,6 @@ returns-clause-updates g c =
 
 pub returns-clause-unlisted : goal.returns-clause-unlisted
 returns-clause-unlisted g c none =
-    lists_nothing (λ x d. Went x d c.args.relation.at c.args.cells.now) c.in-Some.query c.is_watched-wanted.result c.args.relation.at
+    lists_nothing (λ x d. Went x d c.args.relation.at c.args.cells.now) c.in-Some.query c.is_watched-wanted.result
+    c.args.relation.at
     c.args.steps.now.listing c.let_one.new.steps.listing (c.is_watched-wanted.ensures ∙ none) c.let_one.ensures.counted

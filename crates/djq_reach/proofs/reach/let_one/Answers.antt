@@ -7,7 +7,8 @@ returns-clause-lets g c = record { follows = c.delete.ensures.deleted; same = c.
 
 pub returns-clause-tells : goal.returns-clause-tells
 returns-clause-tells g c =
-    tells_where (λ x d. Went x d c.args.relation.at c.args.cells.now) c.args.wanted c.args.query.now c.args.log.now c.ready.new.log c.delete.new.log c.ready.ensures c.delete.ensures.log
+    tells_where (λ x d. Went x d c.args.relation.at c.args.cells.now) c.args.wanted c.args.query.now c.args.log.now
+    c.ready.new.log c.delete.new.log c.ready.ensures c.delete.ensures.log
 
 pub returns-clause-updates : goal.returns-clause-updates
 returns-clause-updates g c = (c.delete.ensures.updates, c.delete.ensures.flat)

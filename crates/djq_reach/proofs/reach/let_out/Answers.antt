@@ -11,9 +11,11 @@ use Rattle.djq_reach.proofs.reach.let_out.Goals as goal
 pub loop-at-init : goal.loop-at-init
 loop-at-init g c = record {
   reach = reach_none (LetsOut c.args.relation.at c.args.cells.now) c.args.queries.now.items;
-  tends = tends_none (TellsAt c.args.watchers.now (λ x d. Went x d c.args.relation.at c.args.cells.now)) c.args.queries.now.items c.args.logs.now.items;
+  tends = tends_none (TellsAt c.args.watchers.now (λ x d. Went x d c.args.relation.at c.args.cells.now))
+      c.args.queries.now.items c.args.logs.now.items;
   works = works_none c.args.queries.now.items c.args.relation.at 1 c.args.steps.now.update;
-  counted = costs_none (λ x d. Went x d c.args.relation.at c.args.cells.now) c.args.watchers.now c.args.relation.at c.args.queries.now.items c.args.steps.now.listing;
+  counted = costs_none (λ x d. Went x d c.args.relation.at c.args.cells.now) c.args.watchers.now c.args.relation.at
+      c.args.queries.now.items c.args.steps.now.listing;
   unlisted = λ none. refl;
 }
 
@@ -28,13 +30,15 @@ let_at-requires-clause-can g c =
 
 pub let_at-requires-clause-watched : goal.let_at-requires-clause-watched
 let_at-requires-clause-watched g c =
-    let low = place_within c.args.places.now c.loop-at.at 0 c.args.queries.now.items (λ l. CanDelete l c.args.relation.at c.args.cells.now) c.loop-at-test.true
+    let low = place_within c.args.places.now c.loop-at.at 0 c.args.queries.now.items
+    (λ l. CanDelete l c.args.relation.at c.args.cells.now) c.loop-at-test.true
     (all_go c.args.places.now c.args.relation.at c.args.cells.now c.args.queries.now.items c.requires.can) in
     omega (arith, low, c.requires.watched)
 
 pub let_at-requires-clause-logged : goal.let_at-requires-clause-logged
 let_at-requires-clause-logged g c =
-    let low = place_within c.args.places.now c.loop-at.at 0 c.args.queries.now.items (λ l. CanDelete l c.args.relation.at c.args.cells.now) c.loop-at-test.true
+    let low = place_within c.args.places.now c.loop-at.at 0 c.args.queries.now.items
+    (λ l. CanDelete l c.args.relation.at c.args.cells.now) c.loop-at-test.true
     (all_go c.args.places.now c.args.relation.at c.args.cells.now c.args.queries.now.items c.requires.can) in
     omega (arith, low, c.requires.logged, c.loop-at.invariant.tends.long)
 
@@ -43,17 +47,24 @@ loop-at-preserved g c = record {
   reach = reach_next (LetsOut c.args.relation.at c.args.cells.now) c.args.places.now c.loop-at.at 0
       c.args.queries.now.items c.loop-at.queries.items c.let_at.new.queries.items
       c.requires.once c.loop-at-test.true c.loop-at.invariant.reach c.let_at.ensures.reach;
-  tends = tends_next (LetsOut c.args.relation.at c.args.cells.now) (TellsAt c.args.watchers.now (λ x d. Went x d c.args.relation.at c.args.cells.now)) c.args.places.now c.loop-at.at 0
-      c.args.queries.now.items c.loop-at.queries.items c.args.logs.now.items c.loop-at.logs.items c.let_at.new.logs.items
+  tends = tends_next (LetsOut c.args.relation.at c.args.cells.now)
+      (TellsAt c.args.watchers.now (λ x d. Went x d c.args.relation.at c.args.cells.now)) c.args.places.now c.loop-at.at
+      0
+      c.args.queries.now.items c.loop-at.queries.items c.args.logs.now.items c.loop-at.logs.items
+      c.let_at.new.logs.items
       c.requires.once c.loop-at-test.true c.loop-at.invariant.reach c.loop-at.invariant.tends c.let_at.ensures.tells;
   works = works_next (LetsOut c.args.relation.at c.args.cells.now) c.args.places.now c.loop-at.at 0
       c.args.queries.now.items c.loop-at.queries.items c.args.relation.at 1 c.args.steps.now.update
       c.loop-at.steps.update c.let_at.new.steps.update
       c.requires.once c.loop-at-test.true c.loop-at.invariant.reach c.loop-at.invariant.works c.let_at.ensures.updates;
-  counted = costs_next (λ x d. Went x d c.args.relation.at c.args.cells.now) c.args.watchers.now c.args.relation.at (LetsOut c.args.relation.at c.args.cells.now) c.args.places.now c.loop-at.at 0
-      c.args.queries.now.items c.loop-at.queries.items c.args.steps.now.listing c.loop-at.steps.listing c.let_at.new.steps.listing
-      c.requires.once c.loop-at-test.true c.loop-at.invariant.reach c.loop-at.invariant.counted c.let_at.ensures.counted;
-  unlisted = λ none. c.let_at.ensures.unlisted (none c.loop-at.at 0 c.loop-at-test.true) ∙ c.loop-at.invariant.unlisted none;
+  counted = costs_next (λ x d. Went x d c.args.relation.at c.args.cells.now) c.args.watchers.now c.args.relation.at
+      (LetsOut c.args.relation.at c.args.cells.now) c.args.places.now c.loop-at.at 0
+      c.args.queries.now.items c.loop-at.queries.items c.args.steps.now.listing c.loop-at.steps.listing
+      c.let_at.new.steps.listing
+      c.requires.once c.loop-at-test.true c.loop-at.invariant.reach c.loop-at.invariant.counted
+      c.let_at.ensures.counted;
+  unlisted = λ none. c.let_at.ensures.unlisted (none c.loop-at.at 0 c.loop-at-test.true)
+      ∙ c.loop-at.invariant.unlisted none;
 }
 
 pub returns-clause-updates : goal.returns-clause-updates
@@ -63,7 +74,9 @@ returns-clause-updates g c =
 
 pub returns-clause-counted : goal.returns-clause-counted
 returns-clause-counted g c =
-    costs_front (λ x d. Went x d c.args.relation.at c.args.cells.now) c.args.watchers.now c.args.relation.at c.args.places.now c.loop-at.at c.args.queries.now.items c.args.steps.now.listing c.loop-at.steps.listing c.loop-at.invariant.counted
+    costs_front (λ x d. Went x d c.args.relation.at c.args.cells.now) c.args.watchers.now c.args.relation.at
+    c.args.places.now c.loop-at.at c.args.queries.now.items c.args.steps.now.listing c.loop-at.steps.listing
+    c.loop-at.invariant.counted
 
 pub returns-clause-unlisted : goal.returns-clause-unlisted
 returns-clause-unlisted g c = c.loop-at.invariant.unlisted

@@ -11,33 +11,51 @@ use Rattle.djq_reach.proofs.reach.take_at.Goals as goal
 pub returns-clause-ok : goal.returns-clause-ok
 returns-clause-ok g c =
     on_ok c.take_one.result
-    (λ t. reach_read (TakesIn c.args.relation.at c.args.cells.now) c.args.queries.now.items c.args.at c.index_mut.result.now c.in-Some.query c.take_one.new.query
-    (λ l. CanAdd l c.args.relation.at c.args.cells.now) c.requires.can c.index_mut.ensures.value c.in-Some.is t) c.take_one.ensures.taken
+    (λ t. reach_read (TakesIn c.args.relation.at c.args.cells.now) c.args.queries.now.items c.args.at
+    c.index_mut.result.now c.in-Some.query c.take_one.new.query
+    (λ l. CanAdd l c.args.relation.at c.args.cells.now) c.requires.can c.index_mut.ensures.value c.in-Some.is t)
+    c.take_one.ensures.taken
 
 pub returns-clause-err : goal.returns-clause-err
 returns-clause-err g c =
     on_err c.take_one.result
-    (λ t. reach_read Remains c.args.queries.now.items c.args.at c.index_mut.result.now c.in-Some.query c.take_one.new.query
-    (λ l. CanAdd l c.args.relation.at c.args.cells.now) c.requires.can c.index_mut.ensures.value c.in-Some.is t) c.take_one.ensures.refused
+    (λ t. reach_read Remains c.args.queries.now.items c.args.at c.index_mut.result.now c.in-Some.query
+    c.take_one.new.query
+    (λ l. CanAdd l c.args.relation.at c.args.cells.now) c.requires.can c.index_mut.ensures.value c.in-Some.is t)
+    c.take_one.ensures.refused
 
 pub returns-clause-tells : goal.returns-clause-tells
 returns-clause-tells g c =
     on_ok c.take_one.result
-    (λ t. tends_read (TellsAt c.args.watchers.now (λ x d. Came x d c.args.relation.at c.args.cells.now)) c.args.queries.now.items c.args.logs.now.items c.args.at c.in-Some.query c.index_mut-in-Some.result.now c.take_one.new.log c.requires.logged
-    (place_read c.args.queries.now.items c.args.at c.index_mut.result.now c.in-Some.query (below_some c.args.queries.now.items c.args.at (λ l. CanAdd l c.args.relation.at c.args.cells.now) c.requires.can) c.index_mut.ensures.value c.in-Some.is) c.index_mut-in-Some.ensures.value
-    (subst (λ (b : Bool). TellsWhere b (λ x d. Came x d c.args.relation.at c.args.cells.now) c.in-Some.query c.index_mut-in-Some.result.now c.take_one.new.log) c.is_watched-wanted.ensures t)) c.take_one.ensures.tells
+    (λ t. tends_read (TellsAt c.args.watchers.now (λ x d. Came x d c.args.relation.at c.args.cells.now))
+    c.args.queries.now.items c.args.logs.now.items c.args.at c.in-Some.query c.index_mut-in-Some.result.now
+    c.take_one.new.log c.requires.logged
+    (place_read c.args.queries.now.items c.args.at c.index_mut.result.now c.in-Some.query
+    (below_some c.args.queries.now.items c.args.at (λ l. CanAdd l c.args.relation.at c.args.cells.now)
+    c.requires.can) c.index_mut.ensures.value c.in-Some.is) c.index_mut-in-Some.ensures.value
+    (subst (λ (b : Bool). TellsWhere b (λ x d. Came x d c.args.relation.at c.args.cells.now) c.in-Some.query
+    c.index_mut-in-Some.result.now c.take_one.new.log) c.is_watched-wanted.ensures t)) c.take_one.ensures.tells
 
 pub returns-clause-shows : goal.returns-clause-shows
 returns-clause-shows g c =
-    tends_read (Shows (λ x d. Came x d c.args.relation.at c.args.cells.now)) c.args.queries.now.items c.args.logs.now.items c.args.at c.in-Some.query c.index_mut-in-Some.result.now c.take_one.new.log c.requires.logged
-    (place_read c.args.queries.now.items c.args.at c.index_mut.result.now c.in-Some.query (below_some c.args.queries.now.items c.args.at (λ l. CanAdd l c.args.relation.at c.args.cells.now) c.requires.can) c.index_mut.ensures.value c.in-Some.is) c.index_mut-in-Some.ensures.value
-    (shows_either (λ x d. Came x d c.args.relation.at c.args.cells.now) c.is_watched-wanted.result c.args.at c.in-Some.query c.index_mut-in-Some.result.now c.take_one.new.log c.take_one.result c.take_one.ensures.tells c.take_one.ensures.none)
+    tends_read (Shows (λ x d. Came x d c.args.relation.at c.args.cells.now)) c.args.queries.now.items
+    c.args.logs.now.items c.args.at c.in-Some.query c.index_mut-in-Some.result.now c.take_one.new.log
+    c.requires.logged
+    (place_read c.args.queries.now.items c.args.at c.index_mut.result.now c.in-Some.query
+    (below_some c.args.queries.now.items c.args.at (λ l. CanAdd l c.args.relation.at c.args.cells.now)
+    c.requires.can) c.index_mut.ensures.value c.in-Some.is) c.index_mut-in-Some.ensures.value
+    (shows_either (λ x d. Came x d c.args.relation.at c.args.cells.now) c.is_watched-wanted.result c.args.at
+    c.in-Some.query c.index_mut-in-Some.result.now c.take_one.new.log c.take_one.result c.take_one.ensures.tells
+    c.take_one.ensures.none)
 
 pub returns-clause-counted : goal.returns-clause-counted
 returns-clause-counted g c =
-    costs_one (λ x d. Came x d c.args.relation.at c.args.cells.now) c.args.watchers.now c.args.relation.at c.args.queries.now.items c.args.at c.in-Some.query c.is_watched-wanted.result
+    costs_one (λ x d. Came x d c.args.relation.at c.args.cells.now) c.args.watchers.now c.args.relation.at
+    c.args.queries.now.items c.args.at c.in-Some.query c.is_watched-wanted.result
     c.args.steps.now.listing c.take_one.new.steps.listing
-    (place_read c.args.queries.now.items c.args.at c.index_mut.result.now c.in-Some.query (below_some c.args.queries.now.items c.args.at (λ l. CanAdd l c.args.relation.at c.args.cells.now) c.requires.can) c.index_mut.ensures.value c.in-Some.is)
+    (place_read c.args.queries.now.items c.args.at c.index_mut.result.now c.in-Some.query
+    (below_some c.args.queries.now.items c.args.at (λ l. CanAdd l c.args.relation.at c.args.cells.now)
+    c.requires.can) c.index_mut.ensures.value c.in-Some.is)
     c.is_watched-wanted.ensures c.take_one.ensures.counted
 
 pub returns-clause-updates : goal.returns-clause-updates
@@ -62,5 +80,7 @@ returns-clause-refusal g c =
 
 pub returns-clause-unlisted : goal.returns-clause-unlisted
 returns-clause-unlisted g c none =
-    lists_nothing (λ x d. Came x d c.args.relation.at c.args.cells.now) c.in-Some.query c.is_watched-wanted.result c.args.relation.at
-    c.args.steps.now.listing c.take_one.new.steps.listing (c.is_watched-wanted.ensures ∙ none) c.take_one.ensures.counted
+    lists_nothing (λ x d. Came x d c.args.relation.at c.args.cells.now) c.in-Some.query c.is_watched-wanted.result
+    c.args.relation.at
+    c.args.steps.now.listing c.take_one.new.steps.listing (c.is_watched-wanted.ensures ∙ none)
+    c.take_one.ensures.counted

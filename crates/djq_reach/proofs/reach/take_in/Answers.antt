@@ -4,16 +4,19 @@ use Rattle.djq_live.specs.Updating.{CanAdd}
 use Rattle.djq_reach.specs.Reaching.{TakesIn}
 use Rattle.djq_reach.specs.Tending.{Shows, TellsAt}
 use Rattle.djq_reach.proofs.Reaching.{all_come, front_goes, given_back, once_front, reach_next, reach_none, still}
-use Rattle.djq_reach.proofs.Tending.{costs_front, costs_next, costs_none, place_within, shows_front, tells_show, tends_next, tends_none}
+use Rattle.djq_reach.proofs.Tending.{costs_front, costs_next, costs_none, place_within, shows_front}
+use Rattle.djq_reach.proofs.Tending.{tells_show, tends_next, tends_none}
 use Rattle.djq_reach.proofs.Working.{works_back, works_front, works_next, works_none}
 use Rattle.djq_reach.proofs.reach.take_in.Goals as goal
 
 pub loop-at-init : goal.loop-at-init
 loop-at-init g c = record {
   reach = reach_none (TakesIn c.args.relation.at c.args.cells.now) c.args.queries.now.items;
-  tends = tends_none (TellsAt c.args.watchers.now (λ x d. Came x d c.args.relation.at c.args.cells.now)) c.args.queries.now.items c.args.logs.now.items;
+  tends = tends_none (TellsAt c.args.watchers.now (λ x d. Came x d c.args.relation.at c.args.cells.now))
+      c.args.queries.now.items c.args.logs.now.items;
   works = works_none c.args.queries.now.items c.args.relation.at 1 c.args.steps.now.update;
-  counted = costs_none (λ x d. Came x d c.args.relation.at c.args.cells.now) c.args.watchers.now c.args.relation.at c.args.queries.now.items c.args.steps.now.listing;
+  counted = costs_none (λ x d. Came x d c.args.relation.at c.args.cells.now) c.args.watchers.now c.args.relation.at
+      c.args.queries.now.items c.args.steps.now.listing;
   unlisted = λ none. refl;
 }
 
@@ -28,13 +31,15 @@ take_at-requires-clause-can g c =
 
 pub take_at-requires-clause-watched : goal.take_at-requires-clause-watched
 take_at-requires-clause-watched g c =
-    let low = place_within c.args.places.now c.loop-at.at 0 c.args.queries.now.items (λ l. CanAdd l c.args.relation.at c.args.cells.now) c.loop-at-test.true
+    let low = place_within c.args.places.now c.loop-at.at 0 c.args.queries.now.items
+    (λ l. CanAdd l c.args.relation.at c.args.cells.now) c.loop-at-test.true
     (all_come c.args.places.now c.args.relation.at c.args.cells.now c.args.queries.now.items c.requires.can) in
     omega (arith, low, c.requires.watched)
 
 pub take_at-requires-clause-logged : goal.take_at-requires-clause-logged
 take_at-requires-clause-logged g c =
-    let low = place_within c.args.places.now c.loop-at.at 0 c.args.queries.now.items (λ l. CanAdd l c.args.relation.at c.args.cells.now) c.loop-at-test.true
+    let low = place_within c.args.places.now c.loop-at.at 0 c.args.queries.now.items
+    (λ l. CanAdd l c.args.relation.at c.args.cells.now) c.loop-at-test.true
     (all_come c.args.places.now c.args.relation.at c.args.cells.now c.args.queries.now.items c.requires.can) in
     omega (arith, low, c.requires.logged, c.loop-at.invariant.tends.long)
 
@@ -56,20 +61,29 @@ returns-in-Err-clause-given g c =
 
 pub returns-in-Err-clause-shows : goal.returns-in-Err-clause-shows
 returns-in-Err-clause-shows g c =
-    shows_front (λ x d. Came x d c.args.relation.at c.args.cells.now) c.args.places.now (c.loop-at.at + 1) c.args.queries.now.items c.args.logs.now.items c.take_at.new.logs.items
-    (tends_next (TakesIn c.args.relation.at c.args.cells.now) (Shows (λ x d. Came x d c.args.relation.at c.args.cells.now)) c.args.places.now c.loop-at.at 0
+    shows_front (λ x d. Came x d c.args.relation.at c.args.cells.now) c.args.places.now (c.loop-at.at + 1)
+    c.args.queries.now.items c.args.logs.now.items c.take_at.new.logs.items
+    (tends_next (TakesIn c.args.relation.at c.args.cells.now)
+    (Shows (λ x d. Came x d c.args.relation.at c.args.cells.now)) c.args.places.now c.loop-at.at 0
     c.args.queries.now.items c.loop-at.queries.items c.args.logs.now.items c.loop-at.logs.items c.take_at.new.logs.items
     c.requires.once c.loop-at-test.true c.loop-at.invariant.reach
-    (tells_show (λ x d. Came x d c.args.relation.at c.args.cells.now) c.args.watchers.now (take c.loop-at.at c.args.places.now) c.args.queries.now.items c.args.logs.now.items c.loop-at.logs.items c.loop-at.invariant.tends)
+    (tells_show (λ x d. Came x d c.args.relation.at c.args.cells.now) c.args.watchers.now
+    (take c.loop-at.at c.args.places.now) c.args.queries.now.items c.args.logs.now.items c.loop-at.logs.items
+    c.loop-at.invariant.tends)
     c.take_at.ensures.shows)
 
 pub returns-in-Err-clause-counted : goal.returns-in-Err-clause-counted
 returns-in-Err-clause-counted g c =
-    costs_front (λ x d. Came x d c.args.relation.at c.args.cells.now) c.args.watchers.now c.args.relation.at c.args.places.now (c.loop-at.at + 1) c.args.queries.now.items c.args.steps.now.listing c.give_back.new.steps.listing
-    (costs_next (λ x d. Came x d c.args.relation.at c.args.cells.now) c.args.watchers.now c.args.relation.at (TakesIn c.args.relation.at c.args.cells.now) c.args.places.now c.loop-at.at 0
-    c.args.queries.now.items c.loop-at.queries.items c.args.steps.now.listing c.loop-at.steps.listing c.give_back.new.steps.listing
+    costs_front (λ x d. Came x d c.args.relation.at c.args.cells.now) c.args.watchers.now c.args.relation.at
+    c.args.places.now (c.loop-at.at + 1) c.args.queries.now.items c.args.steps.now.listing
+    c.give_back.new.steps.listing
+    (costs_next (λ x d. Came x d c.args.relation.at c.args.cells.now) c.args.watchers.now c.args.relation.at
+    (TakesIn c.args.relation.at c.args.cells.now) c.args.places.now c.loop-at.at 0
+    c.args.queries.now.items c.loop-at.queries.items c.args.steps.now.listing c.loop-at.steps.listing
+    c.give_back.new.steps.listing
     c.requires.once c.loop-at-test.true c.loop-at.invariant.reach c.loop-at.invariant.counted
-    (λ x d row f ch kept deltas. let h = c.take_at.ensures.counted x d row f ch kept deltas in omega (arith, h, c.give_back.ensures.counted)))
+    (λ x d row f ch kept deltas. let h = c.take_at.ensures.counted x d row f ch kept deltas in omega
+    (arith, h, c.give_back.ensures.counted)))
 
 pub returns-in-Err-clause-refusal : goal.returns-in-Err-clause-refusal
 returns-in-Err-clause-refusal g c =
@@ -86,29 +100,41 @@ returns-clause-updates g c =
 
 pub returns-clause-shows : goal.returns-clause-shows
 returns-clause-shows g c =
-    shows_front (λ x d. Came x d c.args.relation.at c.args.cells.now) c.args.places.now c.loop-at.at c.args.queries.now.items c.args.logs.now.items c.loop-at.logs.items
-    (tells_show (λ x d. Came x d c.args.relation.at c.args.cells.now) c.args.watchers.now (take c.loop-at.at c.args.places.now) c.args.queries.now.items c.args.logs.now.items c.loop-at.logs.items c.loop-at.invariant.tends)
+    shows_front (λ x d. Came x d c.args.relation.at c.args.cells.now) c.args.places.now c.loop-at.at
+    c.args.queries.now.items c.args.logs.now.items c.loop-at.logs.items
+    (tells_show (λ x d. Came x d c.args.relation.at c.args.cells.now) c.args.watchers.now
+    (take c.loop-at.at c.args.places.now) c.args.queries.now.items c.args.logs.now.items c.loop-at.logs.items
+    c.loop-at.invariant.tends)
 
 pub returns-clause-counted : goal.returns-clause-counted
 returns-clause-counted g c =
-    costs_front (λ x d. Came x d c.args.relation.at c.args.cells.now) c.args.watchers.now c.args.relation.at c.args.places.now c.loop-at.at c.args.queries.now.items c.args.steps.now.listing c.loop-at.steps.listing c.loop-at.invariant.counted
+    costs_front (λ x d. Came x d c.args.relation.at c.args.cells.now) c.args.watchers.now c.args.relation.at
+    c.args.places.now c.loop-at.at c.args.queries.now.items c.args.steps.now.listing c.loop-at.steps.listing
+    c.loop-at.invariant.counted
 
 pub loop-at-preserved : goal.loop-at-preserved
 loop-at-preserved g c = record {
   reach = reach_next (TakesIn c.args.relation.at c.args.cells.now) c.args.places.now c.loop-at.at 0
       c.args.queries.now.items c.loop-at.queries.items c.take_at.new.queries.items c.requires.once
       c.loop-at-test.true c.loop-at.invariant.reach c.in-Ok.ensures.ok;
-  tends = tends_next (TakesIn c.args.relation.at c.args.cells.now) (TellsAt c.args.watchers.now (λ x d. Came x d c.args.relation.at c.args.cells.now)) c.args.places.now c.loop-at.at 0
-      c.args.queries.now.items c.loop-at.queries.items c.args.logs.now.items c.loop-at.logs.items c.take_at.new.logs.items
+  tends = tends_next (TakesIn c.args.relation.at c.args.cells.now)
+      (TellsAt c.args.watchers.now (λ x d. Came x d c.args.relation.at c.args.cells.now)) c.args.places.now c.loop-at.at
+      0
+      c.args.queries.now.items c.loop-at.queries.items c.args.logs.now.items c.loop-at.logs.items
+      c.take_at.new.logs.items
       c.requires.once c.loop-at-test.true c.loop-at.invariant.reach c.loop-at.invariant.tends c.in-Ok.ensures.tells;
   works = works_next (TakesIn c.args.relation.at c.args.cells.now) c.args.places.now c.loop-at.at 0
       c.args.queries.now.items c.loop-at.queries.items c.args.relation.at 1 c.args.steps.now.update
       c.loop-at.steps.update c.take_at.new.steps.update
       c.requires.once c.loop-at-test.true c.loop-at.invariant.reach c.loop-at.invariant.works c.in-Ok.ensures.updates;
-  counted = costs_next (λ x d. Came x d c.args.relation.at c.args.cells.now) c.args.watchers.now c.args.relation.at (TakesIn c.args.relation.at c.args.cells.now) c.args.places.now c.loop-at.at 0
-      c.args.queries.now.items c.loop-at.queries.items c.args.steps.now.listing c.loop-at.steps.listing c.take_at.new.steps.listing
-      c.requires.once c.loop-at-test.true c.loop-at.invariant.reach c.loop-at.invariant.counted c.take_at.ensures.counted;
-  unlisted = λ none. c.take_at.ensures.unlisted (none c.loop-at.at 0 c.loop-at-test.true) ∙ c.loop-at.invariant.unlisted none;
+  counted = costs_next (λ x d. Came x d c.args.relation.at c.args.cells.now) c.args.watchers.now c.args.relation.at
+      (TakesIn c.args.relation.at c.args.cells.now) c.args.places.now c.loop-at.at 0
+      c.args.queries.now.items c.loop-at.queries.items c.args.steps.now.listing c.loop-at.steps.listing
+      c.take_at.new.steps.listing
+      c.requires.once c.loop-at-test.true c.loop-at.invariant.reach c.loop-at.invariant.counted
+      c.take_at.ensures.counted;
+  unlisted = λ none. c.take_at.ensures.unlisted (none c.loop-at.at 0 c.loop-at-test.true)
+      ∙ c.loop-at.invariant.unlisted none;
 }
 
 pub returns-clause-unlisted : goal.returns-clause-unlisted
@@ -116,4 +142,5 @@ returns-clause-unlisted g c = c.loop-at.invariant.unlisted
 
 pub returns-in-Err-clause-unlisted : goal.returns-in-Err-clause-unlisted
 returns-in-Err-clause-unlisted g c none =
-    c.give_back.ensures.counted ∙ c.take_at.ensures.unlisted (none c.loop-at.at 0 c.loop-at-test.true) ∙ c.loop-at.invariant.unlisted none
+    c.give_back.ensures.counted ∙ c.take_at.ensures.unlisted (none c.loop-at.at 0 c.loop-at-test.true)
+    ∙ c.loop-at.invariant.unlisted none

@@ -9,13 +9,17 @@ use Rattle.djq_reach.proofs.rows.give_all_back.Goals as goal
 pub loop-at-init : goal.loop-at-init
 loop-at-init g c = record {
   reach = reach_none (LetsOutAll c.args.relation.at c.args.rows.now) c.args.queries.now.items;
-  works = bounds_none (λ n l. HasAtMost l.reducts n) (λ n o. work_of c.args.relation.at (length c.args.rows.now) (n + 0) false o) c.args.queries.now.items c.args.steps.now.update;
+  works = bounds_none (λ n l. HasAtMost l.reducts n)
+      (λ n o. work_of c.args.relation.at (length c.args.rows.now) (n + 0) false o) c.args.queries.now.items
+      c.args.steps.now.update;
   counted = refl;
 }
 
 pub returns-clause-updates : goal.returns-clause-updates
 returns-clause-updates g c =
-    bounds_front (λ n l. HasAtMost l.reducts n) (λ n o. work_of c.args.relation.at (length c.args.rows.now) (n + 0) false o) c.args.places.now c.loop-at.at c.args.queries.now.items c.args.steps.now.update
+    bounds_front (λ n l. HasAtMost l.reducts n)
+    (λ n o. work_of c.args.relation.at (length c.args.rows.now) (n + 0) false o) c.args.places.now c.loop-at.at
+    c.args.queries.now.items c.args.steps.now.update
     c.loop-at.steps.update c.loop-at.invariant.works
 
 pub give_rows_at-requires : goal.give_rows_at-requires
@@ -32,9 +36,12 @@ loop-at-preserved g c = record {
   reach = reach_next (LetsOutAll c.args.relation.at c.args.rows.now) c.args.places.now c.loop-at.at 0
       c.args.queries.now.items c.loop-at.queries.items c.give_rows_at.new.queries.items
       c.requires.once c.loop-at-test.true c.loop-at.invariant.reach c.give_rows_at.ensures.reach;
-  works = bounds_next (λ n l. HasAtMost l.reducts n) (λ n o. work_of c.args.relation.at (length c.args.rows.now) (n + 0) false o) (LetsOutAll c.args.relation.at c.args.rows.now) c.args.places.now c.loop-at.at 0
+  works = bounds_next (λ n l. HasAtMost l.reducts n)
+      (λ n o. work_of c.args.relation.at (length c.args.rows.now) (n + 0) false o)
+      (LetsOutAll c.args.relation.at c.args.rows.now) c.args.places.now c.loop-at.at 0
       c.args.queries.now.items c.loop-at.queries.items c.args.steps.now.update
       c.loop-at.steps.update c.give_rows_at.new.steps.update
-      c.requires.once c.loop-at-test.true c.loop-at.invariant.reach c.loop-at.invariant.works c.give_rows_at.ensures.updates;
+      c.requires.once c.loop-at-test.true c.loop-at.invariant.reach c.loop-at.invariant.works
+      c.give_rows_at.ensures.updates;
   counted = c.give_rows_at.ensures.counted ∙ c.loop-at.invariant.counted;
 }

@@ -11,7 +11,8 @@ use Rattle.djq_reach.proofs.rows.give_rows.Given as goal
 abbrev pub invariant-loop-left : goal.invariant-loop-left
 invariant-loop-left g l = record {
   low : l.left ≤ length l.rows;
-  among : (c d : Catalog) (rows : List Tuple) → Comes c d l.relation.at l.rows rows → IsKept d l.fn.query → Among c l.relation.at (take l.left l.rows) l.query;
+  among : (c d : Catalog) (rows : List Tuple) → Comes c d l.relation.at l.rows rows → IsKept d l.fn.query
+      → Among c l.relation.at (take l.left l.rows) l.query;
   same : SameQuery l.fn.query l.query;
   fewer : HasMore l.query.reducts l.fn.query.reducts;
   counted : l.steps.listing ≡ l.fn.steps.listing;

@@ -15,10 +15,12 @@ returns-clause-reach g c =
 
 pub returns-clause-updates : goal.returns-clause-updates
 returns-clause-updates g c =
-    bounds_one (λ n l. HasAtMost l.reducts n) (λ n o. work_of c.args.relation.at (length c.args.rows.now) (n + 0) false o)
+    bounds_one (λ n l. HasAtMost l.reducts n)
+    (λ n o. work_of c.args.relation.at (length c.args.rows.now) (n + 0) false o)
     c.args.queries.now.items c.args.at c.in-Some.query c.args.steps.now.update c.give_rows.new.steps.update
     (place_read c.args.queries.now.items c.args.at c.index_mut.result.now c.in-Some.query
     (below_some c.args.queries.now.items c.args.at (λ l. CanGiveAll l c.args.relation.at c.args.rows.now) c.requires)
     c.index_mut.ensures.value c.in-Some.is)
-    (works_update c.in-Some.query c.args.relation.at (length c.args.rows.now) c.args.steps.now.update c.give_rows.new.steps.update
+    (works_update c.in-Some.query c.args.relation.at (length c.args.rows.now) c.args.steps.now.update
+    c.give_rows.new.steps.update
     c.give_rows.ensures.updates)

@@ -14,7 +14,8 @@ returns-in_err-print_cell g c =
     adds_err c.args.out.now c.print_cell.new.out (cells_text values) c.from_residual.result c.from_residual.ensures.0
     (cut_at_item (λ v. 32 ∷ value_text v) c.args.out.now c.loop-at.out c.print_cell.new.out values c.loop-at.at cell
     (slice_get_within values c.loop-at.at cell here) (get_or_from_slice_get values c.loop-at.at cell cell here)
-    c.loop-at.invariant (cut_whole c.loop-at.out c.print_cell.new.out (32 ∷ value_text cell) c.in_err-print_cell.ensures))
+    c.loop-at.invariant (cut_whole c.loop-at.out c.print_cell.new.out (32 ∷ value_text cell)
+    c.in_err-print_cell.ensures))
 
 pub loop-at-preserved : goal.loop-at-preserved
 loop-at-preserved g c =

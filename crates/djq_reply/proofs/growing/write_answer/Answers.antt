@@ -5,5 +5,7 @@ use Rattle.djq_reply.proofs.growing.write_answer.Goals as goal
 
 pub returns : goal.returns
 returns g c =
-    writes_more c.args.bytes.now c.write_byte-front.new.bytes c.write_values.new.bytes c.args.at c.write_byte-front.result (61 ∷ [])
-    (line (cells_text (g.A.Answered.values c.args.answer.now))) c.write_values.result c.requires c.write_byte-front.ensures c.write_values.ensures
+    writes_more c.args.bytes.now c.write_byte-front.new.bytes c.write_values.new.bytes c.args.at
+    c.write_byte-front.result (61 ∷ [])
+    (line (cells_text (g.A.Answered.values c.args.answer.now))) c.write_values.result c.requires
+    c.write_byte-front.ensures c.write_values.ensures

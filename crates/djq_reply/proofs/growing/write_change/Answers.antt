@@ -12,8 +12,11 @@ returns g c =
     let sign = sign_text c.args.sign in
     let query = c.args.query.now in
     let cells = cells_text (g.A.Answered.values c.args.answer.now) in
-    let first = subst (λ (t : Bytes). Written bytes c.write_bytes-name.new.bytes c.args.at t c.write_bytes-name.result) c.sign_text.ensures c.write_bytes-name.ensures in
-    let front = written_more bytes c.write_bytes-name.new.bytes c.write_bytes-front.new.bytes c.args.at c.write_bytes-name.result c.write_bytes-front.result sign query first c.write_bytes-front.ensures in
+    let first = subst (λ (t : Bytes). Written bytes c.write_bytes-name.new.bytes c.args.at t c.write_bytes-name.result)
+    c.sign_text.ensures c.write_bytes-name.ensures in
+    let front = written_more bytes c.write_bytes-name.new.bytes c.write_bytes-front.new.bytes c.args.at
+    c.write_bytes-name.result c.write_bytes-front.result sign query first c.write_bytes-front.ensures in
     subst (λ (t : Bytes). Writes bytes c.write_values.new.bytes c.args.at t c.write_values.result)
     (sym (append_assoc (sign ++ query) cells (10 ∷ [])))
-    (writes_more bytes c.write_bytes-front.new.bytes c.write_values.new.bytes c.args.at c.write_bytes-front.result (sign ++ query) (line cells) c.write_values.result c.requires front c.write_values.ensures)
+    (writes_more bytes c.write_bytes-front.new.bytes c.write_values.new.bytes c.args.at c.write_bytes-front.result
+    (sign ++ query) (line cells) c.write_values.result c.requires front c.write_values.ensures)

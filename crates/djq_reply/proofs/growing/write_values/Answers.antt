@@ -10,6 +10,7 @@ loop-place-preserved g c =
     let values = g.A.Answered.values c.args.answer.now in
     let here = c.value.ensures in
     let cell = value_lent c.value.result in
-    written_item (λ v. 32 ∷ value_text v) c.args.bytes.now c.loop-place.bytes c.write_cell.new.bytes c.args.at c.loop-place.end
+    written_item (λ v. 32 ∷ value_text v) c.args.bytes.now c.loop-place.bytes c.write_cell.new.bytes c.args.at
+    c.loop-place.end
     c.in-Some.behind values c.loop-place.place cell (slice_get_within values c.loop-place.place cell here)
     (get_or_from_slice_get values c.loop-place.place cell cell here) c.loop-place.invariant c.in-Some.ensures

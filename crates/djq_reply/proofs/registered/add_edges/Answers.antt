@@ -11,7 +11,8 @@ returns-in_err-add_edge c =
     let edge = c.edge-item.result in
     let all = c.as_slice-edge-items.ensures in
     adds_err c.args.out.now c.add_edge.new.out (edges_text names edges) c.from_residual.result c.from_residual.ensures.0
-    (cut_at_item (λ e. 32 ∷ edge_text names e) c.args.out.now c.loop-edge.out c.add_edge.new.out edges c.loop-edge.edge-index edge
+    (cut_at_item (λ e. 32 ∷ edge_text names e) c.args.out.now c.loop-edge.out c.add_edge.new.out edges
+    c.loop-edge.edge-index edge
     (subst (λ (es : List (List ℕ)). c.loop-edge.edge-index < length es) all c.loop-edge-test.true)
     (sym (c.edge-item.is ∙ ap (λ (es : List (List ℕ)). get_or es c.loop-edge.edge-index edge) all))
     c.loop-edge.invariant c.in_err-add_edge.ensures)

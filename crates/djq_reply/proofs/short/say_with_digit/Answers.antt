@@ -2,4 +2,5 @@ use Rattle.djq_reply.proofs.Digits.{and_digit}
 use Rattle.djq_reply.proofs.short.say_with_digit.Goals as goal
 
 pub returns-clause-says : goal.returns-clause-says
-returns-clause-says c = rw (and_digit c.args.words.now c.args.number c.args.digit c.requires.digit) c.say_digits.ensures.says
+returns-clause-says c = rw (and_digit c.args.words.now c.args.number c.args.digit c.requires.digit)
+    c.say_digits.ensures.says

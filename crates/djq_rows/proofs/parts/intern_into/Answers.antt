@@ -6,7 +6,8 @@ use Rattle.djq_rows.proofs.parts.intern_into.Goals as goal
 pub returns-clause-parts : goal.returns-clause-parts
 returns-clause-parts c =
     learned_parts c.args.parts.now _ c.requires.parts (row_learned c.args.parts.now.texts
-    c.intern_cells_in.new.texts c.args.row.now (given c.intern_cells_in.result c.intern_cells_in.new.cells) c.intern_cells_in.ensures.interns)
+    c.intern_cells_in.new.texts c.args.row.now (given c.intern_cells_in.result c.intern_cells_in.new.cells)
+    c.intern_cells_in.ensures.interns)
     refl refl
 
 pub returns-clause-relations : goal.returns-clause-relations

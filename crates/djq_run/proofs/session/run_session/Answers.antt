@@ -14,7 +14,8 @@ loop-init g c =
     let entry = outside (g.S.Source.told c.args.source.now) (g.S.Source.faults c.args.source.now)
     (g.K.Sink.told c.args.sink.now) (g.K.Sink.faults c.args.sink.now)
     (counts c.args.steps.now.listing c.args.steps.now.update c.args.steps.now.rows) in
-    let b = begun entry _ _ c.open_session.result (sym c.if-is_err.ensures.value) c.open_session.ensures c.requires.alone in
+    let b = begun entry _ _ c.open_session.result (sym c.if-is_err.ensures.value) c.open_session.ensures
+    c.requires.alone in
     record { awaits = b.0; so_far = b.1; reads = refl; writes = refl; room = refl }
 
 -- The run so far, and a read that ends it.

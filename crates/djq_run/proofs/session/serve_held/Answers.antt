@@ -18,7 +18,8 @@ lines-smaller g c =
     let before = counts c.lines.steps.listing c.lines.steps.update c.lines.steps.rows in
     let now = counts c.step.new.steps.listing c.step.new.steps.update c.step.new.steps.rows in
     let flushed = c.lines-test.ensures in
-    let line = line_ran (state c.flush.new.machine) (state c.step.new.self) before now flushed.is_open flushed.pending c.in-Ran.ensures.0 in
+    let line = line_ran (state c.flush.new.machine) (state c.step.new.self) before now flushed.is_open flushed.pending
+    c.in-Ran.ensures.0 in
     omega (arith, line.fewer, ap length flushed.held)
 
 -- The run so far, a flush, and a line.
@@ -28,7 +29,8 @@ lines-preserved g c =
     let before = counts c.lines.steps.listing c.lines.steps.update c.lines.steps.rows in
     let now = counts c.step.new.steps.listing c.step.new.steps.update c.step.new.steps.rows in
     let flushed = c.lines-test.ensures in
-    let line = line_ran (state c.flush.new.machine) (state c.step.new.self) before now flushed.is_open flushed.pending c.in-Ran.ensures.0 in
+    let line = line_ran (state c.flush.new.machine) (state c.step.new.self) before now flushed.is_open flushed.pending
+    c.in-Ran.ensures.0 in
     record {
       is_open = line.is_open;
       course = λ o. goes_then _ _ _ _ _ _ _ (c.lines.invariant.course o)
@@ -61,7 +63,8 @@ flush-requires-in-Ended g c =
     let before = counts c.lines.steps.listing c.lines.steps.update c.lines.steps.rows in
     let now = counts c.step.new.steps.listing c.step.new.steps.update c.step.new.steps.rows in
     let flushed = c.lines-test.ensures in
-    let line = line_ended c.in-Ended.cause (state c.flush.new.machine) (state c.step.new.self) before now _ flushed.is_open flushed.pending c.in-Ended.ensures in
+    let line = line_ended c.in-Ended.cause (state c.flush.new.machine) (state c.step.new.self) before now _
+    flushed.is_open flushed.pending c.in-Ended.ensures in
     line.is_open
 
 -- The run so far, a flush, what ended the session, and a flush.
@@ -71,7 +74,8 @@ returns-then-flush-clause-course g c o =
     let before = counts c.lines.steps.listing c.lines.steps.update c.lines.steps.rows in
     let now = counts c.step.new.steps.listing c.step.new.steps.update c.step.new.steps.rows in
     let flushed = c.lines-test.ensures in
-    let line = line_ended c.in-Ended.cause (state c.flush.new.machine) (state c.step.new.self) before now _ flushed.is_open flushed.pending c.in-Ended.ensures in
+    let line = line_ended c.in-Ended.cause (state c.flush.new.machine) (state c.step.new.self) before now _
+    flushed.is_open flushed.pending c.in-Ended.ensures in
     goes_then _ _ _ _ _ _ _ (c.lines.invariant.course o)
     (goes_then _ _ _ _ _ _ _ (flushed.course (record o { counted = before }))
     (goes_then _ _ _ _ _ _ _ (line.course o _ _) (c.if-flush.ensures.course (record o { counted = now }))))
@@ -82,7 +86,8 @@ returns-in-Ended-clause-course g c o =
     let before = counts c.lines.steps.listing c.lines.steps.update c.lines.steps.rows in
     let now = counts c.step.new.steps.listing c.step.new.steps.update c.step.new.steps.rows in
     let flushed = c.lines-test.ensures in
-    let line = line_ended c.in-Ended.cause (state c.flush.new.machine) (state c.step.new.self) before now _ flushed.is_open flushed.pending c.in-Ended.ensures in
+    let line = line_ended c.in-Ended.cause (state c.flush.new.machine) (state c.step.new.self) before now _
+    flushed.is_open flushed.pending c.in-Ended.ensures in
     goes_then _ _ _ _ _ _ _ (c.lines.invariant.course o)
     (goes_then _ _ _ _ _ _ _ (flushed.course (record o { counted = before }))
     (goes_then _ _ _ _ _ _ _ (line.course o _ _) (c.if-flush.ensures.course (record o { counted = now }))))
@@ -93,8 +98,13 @@ returns-then-flush-clause-serves g c =
     let before = counts c.lines.steps.listing c.lines.steps.update c.lines.steps.rows in
     let now = counts c.step.new.steps.listing c.step.new.steps.update c.step.new.steps.rows in
     let flushed = c.lines-test.ensures in
-    let line = line_ended c.in-Ended.cause (state c.flush.new.machine) (state c.step.new.self) before now _ flushed.is_open flushed.pending c.in-Ended.ensures in
-    (c.if-flush.ensures.cause ∙ line.cause, c.if-flush.ensures.pending, λ e. c.lines.invariant.input (sym flushed.cause ∙ line.input e))
+    let line = line_ended c.in-Ended.cause (state c.flush.new.machine) (state c.step.new.self) before now _
+    flushed.is_open flushed.pending c.in-Ended.ensures in (
+      c.if-flush.ensures.cause
+          ∙ line.cause,
+      c.if-flush.ensures.pending,
+      λ e. c.lines.invariant.input (sym flushed.cause ∙ line.input e),
+    )
 
 pub returns-in-Ended-clause-serves : goal.returns-in-Ended-clause-serves
 returns-in-Ended-clause-serves g c =
@@ -102,9 +112,13 @@ returns-in-Ended-clause-serves g c =
     let before = counts c.lines.steps.listing c.lines.steps.update c.lines.steps.rows in
     let now = counts c.step.new.steps.listing c.step.new.steps.update c.step.new.steps.rows in
     let flushed = c.lines-test.ensures in
-    let line = line_ended c.in-Ended.cause (state c.flush.new.machine) (state c.step.new.self) before now _ flushed.is_open flushed.pending c.in-Ended.ensures in
-    let last = c.if-flush.ensures in
-    (last.pending, λ e. c.lines.invariant.input (sym flushed.cause ∙ line.input (one_cause c.in-Ended.cause Input _ (last.cause ∙ line.cause) e)))
+    let line = line_ended c.in-Ended.cause (state c.flush.new.machine) (state c.step.new.self) before now _
+    flushed.is_open flushed.pending c.in-Ended.ensures in
+    let last = c.if-flush.ensures in (
+      last.pending,
+      λ e. c.lines.invariant.input
+          (sym flushed.cause ∙ line.input (one_cause c.in-Ended.cause Input _ (last.cause ∙ line.cause) e)),
+    )
 
 -- The run so far, and a flush that failed.
 pub returns-clause-course : goal.returns-clause-course

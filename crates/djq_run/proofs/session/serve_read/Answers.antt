@@ -38,12 +38,14 @@ returns-in-Got g c =
     let reads = c.in-Got.ensures.reads in
     let bytes = take c.in-Got.count c.read.new.buf in
     let some : 0 < length bytes = omega (arith, length-take c.in-Got.count c.read.new.buf, reads.0, reads.1) in
-    let few : length bytes ≤ READ_BYTES = omega (arith, length-take c.in-Got.count c.read.new.buf, reads.1, c.read.auto.buf, c.requires.most) in
+    let few : length bytes ≤ READ_BYTES = omega
+    (arith, length-take c.in-Got.count c.read.new.buf, reads.1, c.read.auto.buf, c.requires.most) in
     let m = c.feed.ensures.makes in
     let piece = by_piece (told c.args.source.now) (told c.read.new.self) (rf c.args.source.now) (rf c.read.new.self)
     (wrote c.args.sink.now) (wf c.args.sink.now) before old mid bytes c.requires.awaits some few reads.2 m in
     subst (λ (s : Option Status). ReadEnds s o o' old new) (sym c.status.ensures)
-    (piece_ends c.serve_held.result o mid_o o' old mid new bytes piece (c.serve_held.ensures.course mid_o) c.requires.awaits (fed_facts old 1 bytes m.effect mid m.step)
+    (piece_ends c.serve_held.result o mid_o o' old mid new bytes piece (c.serve_held.ensures.course mid_o)
+    c.requires.awaits (fed_facts old 1 bytes m.effect mid m.step)
     c.serve_held.ensures.serves some c.in-Got.ensures.faults c.serve_held.ensures.faults)
 
 -- The input ends, and what that queued is written.
@@ -75,7 +77,9 @@ returns-then-flush g c =
       course = whole.0;
       failed = whole.1;
       goes_on = (
-        ends_done (told c.read.new.self) mid new (input_ended old mid c.requires.awaits (ended_facts old 1 m.effect mid m.step)) flushed.cause flushed.held flushed.pending at_end,
+        ends_done (told c.read.new.self) mid new
+            (input_ended old mid c.requires.awaits (ended_facts old 1 m.effect mid m.step)) flushed.cause flushed.held
+            flushed.pending at_end,
         c.in-End.ensures.faults,
         flushed.faults,
       );

@@ -10,7 +10,8 @@ pub returns-in-Some-clause-behind : goal.returns-in-Some-clause-behind
 returns-in-Some-clause-behind c =
     let bytes = c.args.bytes.now in
     let rest = drop (c.in-Some.at + 1) bytes in
-    ap (λ (xs : List ℕ). Some xs) (take_all (length bytes - (c.in-Some.at + 1)) rest (omega (arith, length-drop (c.in-Some.at + 1) bytes)))
+    ap (λ (xs : List ℕ). Some xs)
+    (take_all (length bytes - (c.in-Some.at + 1)) rest (omega (arith, length-drop (c.in-Some.at + 1) bytes)))
     ∙ sym (split_first c.args.sign bytes c.in-Some.at c.in-Some.ensures).1
 
 pub returns-in-None-clause-before : goal.returns-in-None-clause-before

@@ -16,6 +16,7 @@ loop-told-preserved c = elim c.match-told.branch [
         c.loop-told.invariant.sent w.in_ok-add_piece.ensures.text w.in_ok-add_piece.ensures.begun;
   }))
   | in_default w ↦ rw w.text-is (rw w.begun-is (record {
-    sent = other_at c.args.past.now c.loop-told.told-index c.told-item.result _ _ c.loop-told-test.true c.told-item.is w.in_default.not-Sending c.loop-told.invariant.sent;
+    sent = other_at c.args.past.now c.loop-told.told-index c.told-item.result _ _ c.loop-told-test.true c.told-item.is
+        w.in_default.not-Sending c.loop-told.invariant.sent;
   }))
 ]

@@ -4,7 +4,10 @@ use Rattle.djq_serve.proofs.Settling.{closed_ids}
 use Rattle.djq_serve.proofs.flushing.close.Goals as goal
 
 pub close-requires : goal.close-requires
-close-requires g c = record { is_open = open_at_hub (g.M.Machine.state c.args.machine.now) (g.H.Hub.ids c.args.hub.now) c.args.id c.requires.agrees c.requires.open }
+close-requires g c = record {
+  is_open = open_at_hub (g.M.Machine.state c.args.machine.now) (g.H.Hub.ids c.args.hub.now) c.args.id
+      c.requires.agrees c.requires.open;
+}
 
 -- The hub has closed it, and so has the machine.
 pub returns-clause-agrees : goal.returns-clause-agrees

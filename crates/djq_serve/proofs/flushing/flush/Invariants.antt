@@ -11,7 +11,8 @@ invariant-visits g l =
     let script = g.H.Hub.script in
     let ids = g.H.Hub.ids in
     record {
-      flushing : Flushing (shown (past l.fn.hub) (script l.fn.hub) (ids l.fn.hub)) (shown (past l.hub) (script l.hub) (ids l.hub)) (state l.fn.machine) (state l.machine) l.from;
+      flushing : Flushing (shown (past l.fn.hub) (script l.fn.hub) (ids l.fn.hub))
+          (shown (past l.hub) (script l.hub) (ids l.hub)) (state l.fn.machine) (state l.machine) l.from;
       faults : g.H.Hub.faults l.hub ≡ g.H.Hub.faults l.fn.hub;
     }
 

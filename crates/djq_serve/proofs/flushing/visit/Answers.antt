@@ -11,7 +11,8 @@ use Rattle.djq_serve.proofs.Nearing.{took_nearer, closed_nearer}
 use Rattle.djq_serve.proofs.flushing.visit.Goals as goal
 
 pub send-requires-clause-is_open : goal.send-requires-clause-is_open
-send-requires-clause-is_open g c = open_at_hub (g.M.Machine.state c.args.machine.now) (g.H.Hub.ids c.args.hub.now) c.args.id c.requires.agrees c.requires.open
+send-requires-clause-is_open g c = open_at_hub (g.M.Machine.state c.args.machine.now) (g.H.Hub.ids c.args.hub.now)
+    c.args.id c.requires.agrees c.requires.open
 
 -- Nothing is pending, and the session is closed.
 
@@ -20,15 +21,19 @@ returns-then-is_empty-clause-goes g c from next due =
     let state = g.M.Machine.state in
     let old = state c.args.machine.now in
     let same : c.from-behind.result ≡ c.args.id = search rules in
-    let none : pending_of old c.args.id ≡ [] = sym c.pending-pending.ensures ∙ empty c.pending-pending.result.now (search rules) in
-    at_place _ _ old (state c.close.new.machine) from (c.args.id + 1) (c.from-behind.result + 1) next (ap (λ (n : ℕ). n + 1) same)
-    (visit_closes _ _ old (state c.close.new.machine) from next c.args.id due none (due_ended old from c.args.id due none) c.close.ensures.makes c.close.ensures.told)
+    let none : pending_of old c.args.id ≡ [] = sym c.pending-pending.ensures
+    ∙ empty c.pending-pending.result.now (search rules) in
+    at_place _ _ old (state c.close.new.machine) from (c.args.id + 1) (c.from-behind.result + 1) next
+    (ap (λ (n : ℕ). n + 1) same)
+    (visit_closes _ _ old (state c.close.new.machine) from next c.args.id due none
+    (due_ended old from c.args.id due none) c.close.ensures.makes c.close.ensures.told)
 
 pub returns-then-is_empty-clause-nearer : goal.returns-then-is_empty-clause-nearer
 returns-then-is_empty-clause-nearer g c =
     let state = g.M.Machine.state in
     let same : c.from-behind.result ≡ c.args.id = search rules in
-    closed_nearer (state c.args.machine.now) (state c.close.new.machine) c.args.id (c.from-behind.result + 1) _ (search rules) (ap (λ (n : ℕ). n + 1) same) c.close.ensures.makes
+    closed_nearer (state c.args.machine.now) (state c.close.new.machine) c.args.id (c.from-behind.result + 1) _
+    (search rules) (ap (λ (n : ℕ). n + 1) same) c.close.ensures.makes
 
 pub returns-then-is_empty-clause-spares : goal.returns-then-is_empty-clause-spares
 returns-then-is_empty-clause-spares g c =
@@ -43,7 +48,8 @@ returns-in-Took-clause-goes g c from next due =
     let sent = c.in-Took.ensures in
     let same : c.from.result ≡ c.args.id = search rules in
     at_place _ _ (state c.args.machine.now) (state c.took.new.self) from c.args.id c.from.result next same
-    (takes_some _ _ (state c.args.machine.now) (state c.took.new.self) c.args.id c.in-Took.count _ c.pending-pending.ensures sent.takes.0 sent.takes.1 c.took.ensures
+    (takes_some _ _ (state c.args.machine.now) (state c.took.new.self) c.args.id c.in-Took.count _
+    c.pending-pending.ensures sent.takes.0 sent.takes.1 c.took.ensures
     (tells_send _ _ _ _ _ _ c.args.id _ _ sent.past sent.script sent.ids) from next due)
 
 pub returns-in-Took-clause-nearer : goal.returns-in-Took-clause-nearer
@@ -51,12 +57,15 @@ returns-in-Took-clause-nearer g c =
     let state = g.M.Machine.state in
     let sent = c.in-Took.ensures in
     let same : c.from.result ≡ c.args.id = search rules in
-    took_nearer (state c.args.machine.now) (state c.took.new.self) c.args.id c.from.result c.in-Took.count _ same c.pending-pending.ensures sent.takes.0 sent.takes.1 c.took.ensures
+    took_nearer (state c.args.machine.now) (state c.took.new.self) c.args.id c.from.result c.in-Took.count _ same
+    c.pending-pending.ensures sent.takes.0 sent.takes.1 c.took.ensures
 
 pub returns-in-Took-clause-agrees : goal.returns-in-Took-clause-agrees
 returns-in-Took-clause-agrees g c =
     let state = g.M.Machine.state in
-    agrees_same (state c.args.machine.now) (state c.took.new.self) _ _ (step_ids _ (took c.args.id _) c.took.ensures.effect _ c.took.ensures.step) c.in-Took.ensures.ids c.requires.agrees
+    agrees_same (state c.args.machine.now) (state c.took.new.self) _ _
+    (step_ids _ (took c.args.id _) c.took.ensures.effect _ c.took.ensures.step) c.in-Took.ensures.ids
+    c.requires.agrees
 
 pub returns-in-Took-clause-spares : goal.returns-in-Took-clause-spares
 returns-in-Took-clause-spares g c =
@@ -87,7 +96,8 @@ returns-in-Gone-clause-goes g c from next due =
     let same : c.from-behind.result ≡ c.args.id = search rules in
     let some : 0 < length c.pending-pending.result.now = search rules in
     at_place _ _ old new from (c.args.id + 1) (c.from-behind.result + 1) next (ap (λ (n : ℕ). n + 1) same)
-    (visit_gone _ _ old new from next c.args.id due (omega (arith, some, ap length c.pending-pending.ensures)) c.close-in-Gone.ensures.makes
+    (visit_gone _ _ old new from next c.args.id due (omega (arith, some, ap length c.pending-pending.ensures))
+    c.close-in-Gone.ensures.makes
     (tells_more _ _ _ _ _
     (offers_all _ _ c.args.id _ _ _ c.pending-pending.ensures
     (tells_send _ _ _ _ _ _ c.args.id _ _ sent.past sent.script sent.ids))
@@ -97,9 +107,11 @@ pub returns-in-Gone-clause-nearer : goal.returns-in-Gone-clause-nearer
 returns-in-Gone-clause-nearer g c =
     let state = g.M.Machine.state in
     let same : c.from-behind.result ≡ c.args.id = search rules in
-    closed_nearer (state c.args.machine.now) (state c.close-in-Gone.new.machine) c.args.id (c.from-behind.result + 1) _ (search rules) (ap (λ (n : ℕ). n + 1) same) c.close-in-Gone.ensures.makes
+    closed_nearer (state c.args.machine.now) (state c.close-in-Gone.new.machine) c.args.id (c.from-behind.result + 1) _
+    (search rules) (ap (λ (n : ℕ). n + 1) same) c.close-in-Gone.ensures.makes
 
 pub returns-in-Gone-clause-spares : goal.returns-in-Gone-clause-spares
 returns-in-Gone-clause-spares g c =
     let state = g.M.Machine.state in
-    closed_spares (state c.args.machine.now) c.args.id _ (state c.close-in-Gone.new.machine) c.close-in-Gone.ensures.makes
+    closed_spares (state c.args.machine.now) c.args.id _ (state c.close-in-Gone.new.machine)
+    c.close-in-Gone.ensures.makes

@@ -5,4 +5,6 @@ use Rattle.djq_serve.proofs.running.is_served.Goals as goal
 
 pub returns-then-not-stopped : goal.returns-then-not-stopped
 returns-then-not-stopped g c =
-    served_by (g.M.Machine.state c.args.machine.now) c.args.id c.contains.result (c.contains.ensures.value ∙ ap (λ (is : List ℕ). list_any (λ i. nat_eq i c.args.id) is) c.ids.ensures) (sym c.if-not-stopped.ensures)
+    served_by (g.M.Machine.state c.args.machine.now) c.args.id c.contains.result
+    (c.contains.ensures.value ∙ ap (λ (is : List ℕ). list_any (λ i. nat_eq i c.args.id) is) c.ids.ensures)
+    (sym c.if-not-stopped.ensures)

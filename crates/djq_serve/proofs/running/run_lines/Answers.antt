@@ -7,15 +7,19 @@ use Rattle.djq_serve.specs.Server.{lines, server}
 use Rattle.djq_serve.specs.Goes.{far}
 use Rattle.djq_serve.proofs.Accepting.{step_group, step_lines}
 use Rattle.djq_serve.proofs.Holding.{goes_hold_lines}
-use Rattle.djq_serve.proofs.Keeping.{none_kept, kept_then, keeps_then, lines_kept, lines_lost, lines_left, some_group, full_some, failed_isnt_all, full_isnt_all}
-use Rattle.djq_serve.proofs.Lining.{lines_begun, ran_agrees, line_then, line_fails, line_fills, line_smaller, not_lined, dry_lined, ended_lined}
+use Rattle.djq_serve.proofs.Keeping.{none_kept, kept_then, keeps_then, lines_kept, lines_lost}
+use Rattle.djq_serve.proofs.Keeping.{lines_left, some_group, full_some, failed_isnt_all}
+use Rattle.djq_serve.proofs.Keeping.{full_isnt_all}
+use Rattle.djq_serve.proofs.Lining.{lines_begun, ran_agrees, line_then, line_fails, line_fills}
+use Rattle.djq_serve.proofs.Lining.{line_smaller, not_lined, dry_lined, ended_lined}
 use Rattle.djq_serve.proofs.running.run_lines.Goals as goal
 
 pub lines-init : goal.lines-init
 lines-init g c = record {
   lining = (
     [],
-    lines_begun _ (counts c.args.steps.now.listing c.args.steps.now.update c.args.steps.now.rows) (g.M.Machine.state c.args.machine.now) c.args.id c.requires.agrees c.requires.settled,
+    lines_begun _ (counts c.args.steps.now.listing c.args.steps.now.update c.args.steps.now.rows)
+        (g.M.Machine.state c.args.machine.now) c.args.id c.requires.agrees c.requires.settled,
     none_kept c.args.log.now (g.D.Disk.told c.args.disk.now),
   );
   faults = refl;
@@ -32,17 +36,22 @@ keep-requires g c =
     let state = g.M.Machine.state in
     let st = state c.lines.machine in
     step_lines st c.args.id (state c.step.new.self) _ _ c.in-Ran.kept (g.M.Machine.kept c.step.new.self)
-    (goes_hold_lines _ _ _ (server st (lines c.args.id)) (c.lines.invariant.lining.1.goes (far 0 [])) c.requires.lines) c.in-Ran.ensures.0 c.in-Ran.ensures.1
+    (goes_hold_lines _ _ _ (server st (lines c.args.id)) (c.lines.invariant.lining.1.goes (far 0 [])) c.requires.lines)
+    c.in-Ran.ensures.0 c.in-Ran.ensures.1
 
 pub flush-requires : goal.flush-requires
 flush-requires g c =
     let state = g.M.Machine.state in
-    record { agrees = ran_agrees (state c.lines.machine) (state c.step.new.self) (g.H.Hub.ids c.lines.hub) c.args.id _ _ c.in-Ran.ensures.0 c.lines.invariant.lining.1.agrees }
+    record {
+      agrees = ran_agrees (state c.lines.machine) (state c.step.new.self) (g.H.Hub.ids c.lines.hub) c.args.id _ _
+          c.in-Ran.ensures.0 c.lines.invariant.lining.1.agrees;
+    }
 
 pub lines-smaller : goal.lines-smaller
 lines-smaller g c =
     let state = g.M.Machine.state in
-    line_smaller (state c.lines.machine) (state c.step.new.self) (state c.flush.new.machine) c.args.id _ _ c.in-Ran.ensures.0 c.flush.ensures.spares
+    line_smaller (state c.lines.machine) (state c.step.new.self) (state c.flush.new.machine) c.args.id _ _
+    c.in-Ran.ensures.0 c.flush.ensures.spares
 
 pub lines-preserved : goal.lines-preserved
 lines-preserved g c =
@@ -59,9 +68,12 @@ lines-preserved g c =
       lining = (
         groups ++ more,
         line_then _ _ _ _ _ _ (state c.args.machine.now) st ran (state c.flush.new.machine) c.args.id groups
-            c.lines.invariant.lining.1 c.lines-test.ensures gives.0 c.flush.ensures.flushes.goes c.flush.ensures.agrees c.flush.ensures.spares,
-        kept_then c.args.log.now c.lines.log c.keep.new.self groups more (told c.args.disk.now) (told c.lines.disk) (told c.keep.new.disk) c.lines.invariant.lining.2
-            (lines_kept c.lines.log c.keep.new.self lines more (told c.lines.disk) (told c.keep.new.disk) is c.in-All.ensures.told),
+            c.lines.invariant.lining.1 c.lines-test.ensures gives.0 c.flush.ensures.flushes.goes c.flush.ensures.agrees
+            c.flush.ensures.spares,
+        kept_then c.args.log.now c.lines.log c.keep.new.self groups more (told c.args.disk.now) (told c.lines.disk)
+            (told c.keep.new.disk) c.lines.invariant.lining.2
+            (lines_kept c.lines.log c.keep.new.self lines more (told c.lines.disk) (told c.keep.new.disk) is
+            c.in-All.ensures.told),
       );
       faults = c.flush.ensures.faults ∙ c.lines.invariant.faults;
       disk = c.in-All.ensures.faults ∙ c.lines.invariant.disk;
@@ -83,16 +95,20 @@ returns-in-Failed g c =
     record {
       runs = record {
         groups = groups ++ more;
-        goes = line_fails _ _ _ _ _ (state c.args.machine.now) st ran c.args.id groups lining c.lines-test.ensures gives.0
+        goes = line_fails _ _ _ _ _ (state c.args.machine.now) st ran c.args.id groups lining c.lines-test.ensures
+            gives.0
             (some_group more lines is c.in-Failed.ensures.room.1);
-        kept = keeps_then (Some DiskFault) c.args.log.now c.lines.log c.keep.new.self groups more (told c.args.disk.now) (told c.lines.disk) (told c.keep.new.disk) c.lines.invariant.lining.2
-            (lines_lost c.lines.log c.keep.new.self lines more (told c.lines.disk) (told c.keep.new.disk) is c.in-Failed.ensures.room c.in-Failed.ensures.told);
+        kept = keeps_then (Some DiskFault) c.args.log.now c.lines.log c.keep.new.self groups more (told c.args.disk.now)
+            (told c.lines.disk) (told c.keep.new.disk) c.lines.invariant.lining.2
+            (lines_lost c.lines.log c.keep.new.self lines more (told c.lines.disk) (told c.keep.new.disk) is
+            c.in-Failed.ensures.room c.in-Failed.ensures.told);
       };
       agrees = ran_agrees st ran (g.H.Hub.ids c.lines.hub) c.args.id _ _ gives.0 lining.agrees;
       settled = tt;
       answer = tt;
       faults = c.lines.invariant.faults;
-      disk = subst (λ (n : ℕ). Counted n (g.D.Disk.faults c.keep.new.disk)) c.lines.invariant.disk c.in-Failed.ensures.faults;
+      disk = subst (λ (n : ℕ). Counted n (g.D.Disk.faults c.keep.new.disk)) c.lines.invariant.disk
+          c.in-Failed.ensures.faults;
       nowhere = λ none. absurd (failed_isnt_all (c.in-Failed.ensures.nowhere (c.lines.invariant.nowhere none)).0);
     }
 
@@ -111,10 +127,13 @@ returns-in-Full g c =
     record {
       runs = record {
         groups = groups ++ more;
-        goes = line_fills _ _ _ _ _ (state c.args.machine.now) st ran c.args.id groups lining c.lines-test.ensures gives.0
+        goes = line_fills _ _ _ _ _ (state c.args.machine.now) st ran c.args.id groups lining c.lines-test.ensures
+            gives.0
             (some_group more lines is (full_some c.lines.log lines c.in-Full.ensures.room));
-        kept = keeps_then (Some LogFull) c.args.log.now c.lines.log c.keep.new.self groups more (told c.args.disk.now) (told c.lines.disk) (told c.keep.new.disk) c.lines.invariant.lining.2
-            (lines_left c.lines.log c.keep.new.self lines more (told c.lines.disk) (told c.keep.new.disk) is c.in-Full.ensures.room c.in-Full.ensures.told);
+        kept = keeps_then (Some LogFull) c.args.log.now c.lines.log c.keep.new.self groups more (told c.args.disk.now)
+            (told c.lines.disk) (told c.keep.new.disk) c.lines.invariant.lining.2
+            (lines_left c.lines.log c.keep.new.self lines more (told c.lines.disk) (told c.keep.new.disk) is
+            c.in-Full.ensures.room c.in-Full.ensures.told);
       };
       agrees = ran_agrees st ran (g.H.Hub.ids c.lines.hub) c.args.id _ _ gives.0 lining.agrees;
       settled = tt;
@@ -128,7 +147,8 @@ pub returns-in-Dry : goal.returns-in-Dry
 returns-in-Dry g c =
     let state = g.M.Machine.state in
     let groups = c.lines.invariant.lining.0 in
-    let lined = dry_lined _ _ _ _ _ (state c.args.machine.now) (state c.lines.machine) (state c.step.new.self) c.args.id groups _ c.lines.invariant.lining.1 c.in-Dry.ensures in
+    let lined = dry_lined _ _ _ _ _ (state c.args.machine.now) (state c.lines.machine) (state c.step.new.self) c.args.id
+    groups _ c.lines.invariant.lining.1 c.in-Dry.ensures in
     record {
       runs = record { groups = groups; goes = lined.goes; kept = c.lines.invariant.lining.2 };
       agrees = lined.agrees;
@@ -143,7 +163,8 @@ pub returns-in-Ended : goal.returns-in-Ended
 returns-in-Ended g c =
     let state = g.M.Machine.state in
     let groups = c.lines.invariant.lining.0 in
-    let lined = ended_lined _ _ _ _ _ (state c.args.machine.now) (state c.lines.machine) (state c.step.new.self) c.args.id groups _ _ c.lines.invariant.lining.1 c.lines-test.ensures c.in-Ended.ensures in
+    let lined = ended_lined _ _ _ _ _ (state c.args.machine.now) (state c.lines.machine) (state c.step.new.self)
+    c.args.id groups _ _ c.lines.invariant.lining.1 c.lines-test.ensures c.in-Ended.ensures in
     record {
       runs = record { groups = groups; goes = lined.goes; kept = c.lines.invariant.lining.2 };
       agrees = lined.agrees;
@@ -158,7 +179,8 @@ pub returns : goal.returns
 returns g c =
     let state = g.M.Machine.state in
     let groups = c.lines.invariant.lining.0 in
-    let lined = not_lined _ _ _ _ (state c.args.machine.now) (state c.lines.machine) c.args.id groups c.lines.invariant.lining.1 c.lines-test.ensures in
+    let lined = not_lined _ _ _ _ (state c.args.machine.now) (state c.lines.machine) c.args.id groups
+    c.lines.invariant.lining.1 c.lines-test.ensures in
     record {
       runs = record { groups = groups; goes = lined.goes; kept = c.lines.invariant.lining.2 };
       agrees = lined.agrees;

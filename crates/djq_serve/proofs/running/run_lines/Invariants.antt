@@ -16,8 +16,10 @@ invariant-lines g l =
     let ids = g.H.Hub.ids in
     record {
       lining : (groups : List Group)
-          × Lining (shown (past l.fn.hub) (script l.fn.hub) (ids l.fn.hub)) (shown (past l.hub) (script l.hub) (ids l.hub))
-          (counts l.fn.steps.listing l.fn.steps.update l.fn.steps.rows) (counts l.steps.listing l.steps.update l.steps.rows)
+          × Lining (shown (past l.fn.hub) (script l.fn.hub) (ids l.fn.hub))
+          (shown (past l.hub) (script l.hub) (ids l.hub))
+          (counts l.fn.steps.listing l.fn.steps.update l.fn.steps.rows)
+          (counts l.steps.listing l.steps.update l.steps.rows)
           (state l.fn.machine) (state l.machine) l.id groups
           × AllKept l.fn.log l.log groups (g.D.Disk.told l.fn.disk) (g.D.Disk.told l.disk);
       faults : g.H.Hub.faults l.hub ≡ g.H.Hub.faults l.fn.hub;

@@ -16,25 +16,34 @@ closes-init g c = record {
 pub close-requires-clause-open : goal.close-requires-clause-open
 close-requires-clause-open g c =
     let st = g.M.Machine.state c.closes.machine in
-    let first : first_open st ≡ Some c.in-Some.id = ap (λ (is : List ℕ). slice_get is 0) (sym c.ids.ensures) ∙ sym c.first.ensures.value ∙ sym c.copied.ensures ∙ c.in-Some.is in
+    let first : first_open st ≡ Some c.in-Some.id = ap (λ (is : List ℕ). slice_get is 0) (sym c.ids.ensures)
+    ∙ sym c.first.ensures.value ∙ sym c.copied.ensures ∙ c.in-Some.is in
     first_is_open st c.in-Some.id first
 
 pub closes-smaller : goal.closes-smaller
 closes-smaller g c =
     let state = g.M.Machine.state in
     let st = state c.closes.machine in
-    let first : first_open st ≡ Some c.in-Some.id = ap (λ (is : List ℕ). slice_get is 0) (sym c.ids.ensures) ∙ sym c.first.ensures.value ∙ sym c.copied.ensures ∙ c.in-Some.is in
-    omega (arith, first_fewer st c.in-Some.id first, ap length (closed_ids st c.in-Some.id _ (state c.close.new.machine) c.close.ensures.makes))
+    let first : first_open st ≡ Some c.in-Some.id = ap (λ (is : List ℕ). slice_get is 0) (sym c.ids.ensures)
+    ∙ sym c.first.ensures.value ∙ sym c.copied.ensures ∙ c.in-Some.is in
+    omega (
+      arith,
+      first_fewer st c.in-Some.id first,
+      ap length
+          (closed_ids st c.in-Some.id _ (state c.close.new.machine) c.close.ensures.makes),
+    )
 
 pub closes-preserved : goal.closes-preserved
 closes-preserved g c =
     let state = g.M.Machine.state in
     let st = state c.closes.machine in
-    let first : first_open st ≡ Some c.in-Some.id = ap (λ (is : List ℕ). slice_get is 0) (sym c.ids.ensures) ∙ sym c.first.ensures.value ∙ sym c.copied.ensures ∙ c.in-Some.is in
+    let first : first_open st ≡ Some c.in-Some.id = ap (λ (is : List ℕ). slice_get is 0) (sym c.ids.ensures)
+    ∙ sym c.first.ensures.value ∙ sym c.copied.ensures ∙ c.in-Some.is in
     record {
       agrees = c.close.ensures.agrees;
       goes = λ answer. quietly_then _ _ _ (server st (closing answer)) _ _ (c.closes.invariant.goes answer)
-          (closing_goes _ _ st (state c.close.new.machine) answer c.in-Some.id first c.close.ensures.makes c.close.ensures.told);
+          (closing_goes _ _ st (state c.close.new.machine) answer c.in-Some.id first c.close.ensures.makes
+          c.close.ensures.told);
       faults = c.close.ensures.faults ∙ c.closes.invariant.faults;
     }
 
@@ -42,4 +51,5 @@ pub returns-clause-none : goal.returns-clause-none
 returns-clause-none g c =
     let st = g.M.Machine.state c.closes.machine in
     let none : c.copied.result ≡ None = search rules in
-    none_first st (ap (λ (is : List ℕ). slice_get is 0) (sym c.ids.ensures) ∙ sym c.first.ensures.value ∙ sym c.copied.ensures ∙ none)
+    none_first st (ap (λ (is : List ℕ). slice_get is 0) (sym c.ids.ensures) ∙ sym c.first.ensures.value
+    ∙ sym c.copied.ensures ∙ none)

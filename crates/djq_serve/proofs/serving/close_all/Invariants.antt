@@ -15,7 +15,9 @@ invariant-closes g l =
     let ids = g.H.Hub.ids in
     record {
       agrees : Agrees (state l.machine) (ids l.hub);
-      goes : (answer : Served) → GoesQuietly (shown (past l.fn.hub) (script l.fn.hub) (ids l.fn.hub)) (server (state l.fn.machine) (closing answer))
+      goes : (answer : Served)
+          → GoesQuietly (shown (past l.fn.hub) (script l.fn.hub) (ids l.fn.hub))
+          (server (state l.fn.machine) (closing answer))
           (shown (past l.hub) (script l.hub) (ids l.hub)) (server (state l.machine) (closing answer));
       faults : g.H.Hub.faults l.hub ≡ g.H.Hub.faults l.fn.hub;
     }

@@ -5,7 +5,8 @@ use Rattle.djq_serve.proofs.Completing.{serve_logs}
 use Rattle.djq_serve.proofs.serving.serve_logged.Goals as goal
 
 pub take_turns-served-requires-clause-agrees : goal.take_turns-served-requires-clause-agrees
-take_turns-served-requires-clause-agrees g c = agrees_none (g.M.Machine.state c.args.machine.now) (g.H.Hub.ids c.args.hub.now) c.requires.none c.requires.alone
+take_turns-served-requires-clause-agrees g c = agrees_none (g.M.Machine.state c.args.machine.now)
+    (g.H.Hub.ids c.args.hub.now) c.requires.none c.requires.alone
 
 pub take_turns-served-requires-clause-settled : goal.take_turns-served-requires-clause-settled
 take_turns-served-requires-clause-settled g c = none_settled (g.M.Machine.state c.args.machine.now) c.requires.none
@@ -17,7 +18,8 @@ pub returns-clause-logs : goal.returns-clause-logs
 returns-clause-logs g c =
     let state = g.M.Machine.state in
     let told = g.D.Disk.told in
-    serve_logs _ c.args.turns _ _ _ _ _ (state c.args.machine.now) (state c.take_turns-served.new.machine) (state c.close_all.new.machine) c.args.log.now c.take_turns-served.new.log
+    serve_logs _ c.args.turns _ _ _ _ _ (state c.args.machine.now) (state c.take_turns-served.new.machine)
+    (state c.close_all.new.machine) c.args.log.now c.take_turns-served.new.log
     (told c.args.disk.now) (told c.take_turns-served.new.disk) c.requires.going
     c.requires.none c.take_turns-served.ensures.took c.close_all.ensures.goes c.close_all.ensures.none
     c.close_all.ensures.agrees

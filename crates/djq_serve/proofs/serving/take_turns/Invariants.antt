@@ -16,9 +16,12 @@ invariant-loop g l =
     record {
       agrees : Agrees (state l.machine) (ids l.hub);
       settled : AllSettled (state l.machine);
-      taking : Taking (shown (past l.fn.hub) (script l.fn.hub) (ids l.fn.hub)) (shown (past l.hub) (script l.hub) (ids l.hub))
-          (counts l.fn.steps.listing l.fn.steps.update l.fn.steps.rows) (counts l.steps.listing l.steps.update l.steps.rows)
-          (state l.fn.machine) (state l.machine) l.fn.log l.log (g.D.Disk.told l.fn.disk) (g.D.Disk.told l.disk) l.counter;
+      taking : Taking (shown (past l.fn.hub) (script l.fn.hub) (ids l.fn.hub))
+          (shown (past l.hub) (script l.hub) (ids l.hub))
+          (counts l.fn.steps.listing l.fn.steps.update l.fn.steps.rows)
+          (counts l.steps.listing l.steps.update l.steps.rows)
+          (state l.fn.machine) (state l.machine) l.fn.log l.log (g.D.Disk.told l.fn.disk) (g.D.Disk.told l.disk)
+          l.counter;
       faults : g.H.Hub.faults l.hub ≡ g.H.Hub.faults l.fn.hub;
       disk : g.D.Disk.faults l.disk ≡ g.D.Disk.faults l.fn.disk;
       nowhere : l.fn.log ≡ None → l.log ≡ None;

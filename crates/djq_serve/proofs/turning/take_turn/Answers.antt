@@ -18,10 +18,12 @@ pub open-requires : goal.open-requires
 open-requires g c =
     let ids = g.H.Hub.ids in
     let opens = c.in-Opened.ensures.ids in
-    is_new (g.M.Machine.state c.args.machine.now) (ids c.args.hub.now) (ids c.turn.new.self) c.in-Opened.id opens.0 opens.1 c.requires.agrees
+    is_new (g.M.Machine.state c.args.machine.now) (ids c.args.hub.now) (ids c.turn.new.self) c.in-Opened.id opens.0
+    opens.1 c.requires.agrees
 
 pub feed-requires : goal.feed-requires
-feed-requires g c = running_open (g.M.Machine.state c.args.machine.now) (g.H.Hub.ids c.args.hub.now) c.in-Bytes.id c.requires.agrees c.in-Bytes.ensures.ids.2
+feed-requires g c = running_open (g.M.Machine.state c.args.machine.now) (g.H.Hub.ids c.args.hub.now) c.in-Bytes.id
+    c.requires.agrees c.in-Bytes.ensures.ids.2
 
 pub run_lines-requires-clause-agrees : goal.run_lines-requires-clause-agrees
 run_lines-requires-clause-agrees g c =
@@ -34,20 +36,24 @@ run_lines-requires-clause-agrees g c =
 pub run_lines-requires-clause-settled : goal.run_lines-requires-clause-settled
 run_lines-requires-clause-settled g c =
     let state = g.M.Machine.state in
-    fed_settled (state c.args.machine.now) c.in-Bytes.id _ (state c.feed.new.self) c.feed.ensures.makes c.requires.settled
+    fed_settled (state c.args.machine.now) c.in-Bytes.id _ (state c.feed.new.self) c.feed.ensures.makes
+    c.requires.settled
 
 pub run_lines-requires-clause-lines : goal.run_lines-requires-clause-lines
 run_lines-requires-clause-lines g c =
     let state = g.M.Machine.state in
-    made_holds_lines (state c.args.machine.now) (fed c.in-Bytes.id _) (state c.feed.new.self) c.feed.ensures.makes c.requires.lines
+    made_holds_lines (state c.args.machine.now) (fed c.in-Bytes.id _) (state c.feed.new.self) c.feed.ensures.makes
+    c.requires.lines
 
 pub end_session-requires-clause-open : goal.end_session-requires-clause-open
-end_session-requires-clause-open g c = running_open (g.M.Machine.state c.args.machine.now) (g.H.Hub.ids c.args.hub.now) c.in-Ended.id c.requires.agrees c.in-Ended.ensures.ids.0
+end_session-requires-clause-open g c = running_open (g.M.Machine.state c.args.machine.now) (g.H.Hub.ids c.args.hub.now)
+    c.in-Ended.id c.requires.agrees c.in-Ended.ensures.ids.0
 
 pub end_turn-requires-clause-settled : goal.end_turn-requires-clause-settled
 end_turn-requires-clause-settled g c going =
     let state = g.M.Machine.state in
-    opened_settled (state c.args.machine.now) c.in-Opened.id (state c.open.new.machine) c.open.ensures.admits.makes c.requires.settled
+    opened_settled (state c.args.machine.now) c.in-Opened.id (state c.open.new.machine) c.open.ensures.admits.makes
+    c.requires.settled
 
 pub end_turn-requires-in-Ended-clause-agrees : goal.end_turn-requires-in-Ended-clause-agrees
 end_turn-requires-in-Ended-clause-agrees g c =
@@ -56,22 +62,26 @@ end_turn-requires-in-Ended-clause-agrees g c =
     let ended_it = c.end_session.ensures in
     agrees_same (state c.args.machine.now) (state c.end_session.new.self) (ids c.turn.new.self) (ids c.turn.new.self)
     (step_ids _ (ended c.in-Ended.id) ended_it.effect _ ended_it.step) refl
-    (agrees_ended (state c.args.machine.now) (ids c.args.hub.now) (ids c.turn.new.self) c.in-Ended.id c.in-Ended.ensures.ids.1 c.requires.agrees)
+    (agrees_ended (state c.args.machine.now) (ids c.args.hub.now) (ids c.turn.new.self) c.in-Ended.id
+    c.in-Ended.ensures.ids.1 c.requires.agrees)
 
 pub end_turn-requires-in-Ended-clause-settled : goal.end_turn-requires-in-Ended-clause-settled
 end_turn-requires-in-Ended-clause-settled g c going =
     let state = g.M.Machine.state in
-    ended_settled (state c.args.machine.now) c.in-Ended.id (state c.end_session.new.self) c.end_session.ensures c.requires.settled
+    ended_settled (state c.args.machine.now) c.in-Ended.id (state c.end_session.new.self) c.end_session.ensures
+    c.requires.settled
 
 pub returns-in-Opened-clause-takes : goal.returns-in-Opened-clause-takes
 returns-in-Opened-clause-takes g c =
     let state = g.M.Machine.state in
     let counted = counts c.args.steps.now.listing c.args.steps.now.update c.args.steps.now.rows in
     let brought = c.in-Opened.ensures in
-    quiet_turn c.end_turn.result _ _ counted counted (state c.args.machine.now) (state c.end_turn.new.machine) c.args.log.now (g.D.Disk.told c.args.disk.now) c.end_turn.ensures.answer
+    quiet_turn c.end_turn.result _ _ counted counted (state c.args.machine.now) (state c.end_turn.new.machine)
+    c.args.log.now (g.D.Disk.told c.args.disk.now) c.end_turn.ensures.answer
     (λ f. goes_then _ _ _ _ _ _
     (turn_opens _ _ _ counted f (state c.args.machine.now) (state c.open.new.machine) c.in-Opened.id
-    (tells_turn _ _ _ _ _ _ (Opened c.in-Opened.id) c.turn.new.buf (at_room _ _ c.turn.auto.buf c.requires.room) brought.past brought.script brought.ids) c.open.ensures.admits)
+    (tells_turn _ _ _ _ _ _ (Opened c.in-Opened.id) c.turn.new.buf (at_room _ _ c.turn.auto.buf c.requires.room)
+    brought.past brought.script brought.ids) c.open.ensures.admits)
     (c.end_turn.ensures.goes counted (one_turn f)))
 
 pub returns-in-Some-clause-takes : goal.returns-in-Some-clause-takes
@@ -82,10 +92,13 @@ returns-in-Some-clause-takes g c =
     let now = counts c.run_lines.new.steps.listing c.run_lines.new.steps.update c.run_lines.new.steps.rows in
     let brought = c.in-Bytes.ensures in
     let room = at_room _ _ c.turn.auto.buf c.requires.room in
-    lost_turn c.in-Some.served _ _ _ before now (state c.args.machine.now) (state c.feed.new.self) (state c.run_lines.new.machine) c.in-Bytes.id
+    lost_turn c.in-Some.served _ _ _ before now (state c.args.machine.now) (state c.feed.new.self)
+    (state c.run_lines.new.machine) c.in-Bytes.id
     c.args.log.now c.run_lines.new.log (told c.args.disk.now) (told c.run_lines.new.disk)
-    (λ f. turn_feeds _ _ before f (state c.args.machine.now) (state c.feed.new.self) c.in-Bytes.id c.in-Bytes.count c.turn.new.buf brought.ids.0 brought.ids.1 room c.feed.ensures.makes
-    (tells_turn _ _ _ _ _ _ (Bytes c.in-Bytes.id c.in-Bytes.count) c.turn.new.buf room brought.past brought.script brought.ids))
+    (λ f. turn_feeds _ _ before f (state c.args.machine.now) (state c.feed.new.self) c.in-Bytes.id c.in-Bytes.count
+    c.turn.new.buf brought.ids.0 brought.ids.1 room c.feed.ensures.makes
+    (tells_turn _ _ _ _ _ _ (Bytes c.in-Bytes.id c.in-Bytes.count) c.turn.new.buf room brought.past brought.script
+    brought.ids))
     c.in-Some.ensures.runs
 
 pub returns-in-None-clause-takes : goal.returns-in-None-clause-takes
@@ -96,10 +109,14 @@ returns-in-None-clause-takes g c =
     let now = counts c.run_lines.new.steps.listing c.run_lines.new.steps.update c.run_lines.new.steps.rows in
     let brought = c.in-Bytes.ensures in
     let room = at_room _ _ c.turn.auto.buf c.requires.room in
-    kept_turn c.end_turn-in-None.result _ _ _ _ before now (state c.args.machine.now) (state c.feed.new.self) (state c.run_lines.new.machine) (state c.end_turn-in-None.new.machine) c.in-Bytes.id
-    c.args.log.now c.run_lines.new.log (told c.args.disk.now) (told c.run_lines.new.disk) c.end_turn-in-None.ensures.answer
-    (λ f. turn_feeds _ _ before f (state c.args.machine.now) (state c.feed.new.self) c.in-Bytes.id c.in-Bytes.count c.turn.new.buf brought.ids.0 brought.ids.1 room c.feed.ensures.makes
-    (tells_turn _ _ _ _ _ _ (Bytes c.in-Bytes.id c.in-Bytes.count) c.turn.new.buf room brought.past brought.script brought.ids))
+    kept_turn c.end_turn-in-None.result _ _ _ _ before now (state c.args.machine.now) (state c.feed.new.self)
+    (state c.run_lines.new.machine) (state c.end_turn-in-None.new.machine) c.in-Bytes.id
+    c.args.log.now c.run_lines.new.log (told c.args.disk.now) (told c.run_lines.new.disk)
+    c.end_turn-in-None.ensures.answer
+    (λ f. turn_feeds _ _ before f (state c.args.machine.now) (state c.feed.new.self) c.in-Bytes.id c.in-Bytes.count
+    c.turn.new.buf brought.ids.0 brought.ids.1 room c.feed.ensures.makes
+    (tells_turn _ _ _ _ _ _ (Bytes c.in-Bytes.id c.in-Bytes.count) c.turn.new.buf room brought.past brought.script
+    brought.ids))
     c.in-None.ensures.runs c.end_turn-in-None.ensures.goes
 
 pub returns-in-Ended-clause-takes : goal.returns-in-Ended-clause-takes
@@ -107,10 +124,14 @@ returns-in-Ended-clause-takes g c =
     let state = g.M.Machine.state in
     let counted = counts c.args.steps.now.listing c.args.steps.now.update c.args.steps.now.rows in
     let brought = c.in-Ended.ensures in
-    quiet_turn c.end_turn-in-Ended.result _ _ counted counted (state c.args.machine.now) (state c.end_turn-in-Ended.new.machine) c.args.log.now (g.D.Disk.told c.args.disk.now) c.end_turn-in-Ended.ensures.answer
+    quiet_turn c.end_turn-in-Ended.result _ _ counted counted (state c.args.machine.now)
+    (state c.end_turn-in-Ended.new.machine) c.args.log.now (g.D.Disk.told c.args.disk.now)
+    c.end_turn-in-Ended.ensures.answer
     (λ f. goes_then _ _ _ _ _ _
-    (turn_ends _ _ counted f (state c.args.machine.now) (state c.end_session.new.self) c.in-Ended.id c.end_session.ensures
-    (tells_turn _ _ _ _ _ _ (Ended c.in-Ended.id) c.turn.new.buf (at_room _ _ c.turn.auto.buf c.requires.room) brought.past brought.script brought.ids))
+    (turn_ends _ _ counted f (state c.args.machine.now) (state c.end_session.new.self) c.in-Ended.id
+    c.end_session.ensures
+    (tells_turn _ _ _ _ _ _ (Ended c.in-Ended.id) c.turn.new.buf (at_room _ _ c.turn.auto.buf c.requires.room)
+    brought.past brought.script brought.ids))
     (c.end_turn-in-Ended.ensures.goes counted (one_turn f)))
 
 pub returns-in-Idle-clause-takes : goal.returns-in-Idle-clause-takes
@@ -118,10 +139,13 @@ returns-in-Idle-clause-takes g c =
     let state = g.M.Machine.state in
     let counted = counts c.args.steps.now.listing c.args.steps.now.update c.args.steps.now.rows in
     let brought = c.in-Idle.ensures in
-    quiet_turn c.end_turn-in-Idle.result _ _ counted counted (state c.args.machine.now) (state c.end_turn-in-Idle.new.machine) c.args.log.now (g.D.Disk.told c.args.disk.now) c.end_turn-in-Idle.ensures.answer
+    quiet_turn c.end_turn-in-Idle.result _ _ counted counted (state c.args.machine.now)
+    (state c.end_turn-in-Idle.new.machine) c.args.log.now (g.D.Disk.told c.args.disk.now)
+    c.end_turn-in-Idle.ensures.answer
     (λ f. goes_then _ _ _ _ _ _
     (turn_idles _ _ counted f (state c.args.machine.now)
-    (tells_turn _ _ _ _ _ _ Idle c.turn.new.buf (at_room _ _ c.turn.auto.buf c.requires.room) brought.past brought.script brought.ids))
+    (tells_turn _ _ _ _ _ _ Idle c.turn.new.buf (at_room _ _ c.turn.auto.buf c.requires.room) brought.past
+    brought.script brought.ids))
     (c.end_turn-in-Idle.ensures.goes counted (one_turn f)))
 
 pub returns-in-Over-clause-takes : goal.returns-in-Over-clause-takes
@@ -129,17 +153,22 @@ returns-in-Over-clause-takes g c =
     let state = g.M.Machine.state in
     let counted = counts c.args.steps.now.listing c.args.steps.now.update c.args.steps.now.rows in
     let brought = c.in-Over.ensures in
-    over_turn _ _ counted counted (state c.args.machine.now) (state c.flush.new.machine) c.args.log.now (g.D.Disk.told c.args.disk.now)
+    over_turn _ _ counted counted (state c.args.machine.now) (state c.flush.new.machine) c.args.log.now
+    (g.D.Disk.told c.args.disk.now)
     (λ f. goes_then _ _ _ _ _ _
     (turn_over _ _ counted f (state c.args.machine.now)
-    (tells_turn _ _ _ _ _ _ Over c.turn.new.buf (at_room _ _ c.turn.auto.buf c.requires.room) brought.past brought.script brought.ids))
-    (turn_flushed _ _ (state c.args.machine.now) (state c.flush.new.machine) c.flush.ensures.flushes counted (one_turn f)))
+    (tells_turn _ _ _ _ _ _ Over c.turn.new.buf (at_room _ _ c.turn.auto.buf c.requires.room) brought.past
+    brought.script brought.ids))
+    (turn_flushed _ _ (state c.args.machine.now) (state c.flush.new.machine) c.flush.ensures.flushes counted
+    (one_turn f)))
 
 pub returns-in-Failed-clause-takes : goal.returns-in-Failed-clause-takes
 returns-in-Failed-clause-takes g c =
     let state = g.M.Machine.state in
     let counted = counts c.args.steps.now.listing c.args.steps.now.update c.args.steps.now.rows in
     let brought = c.in-Failed.ensures in
-    failed_turn _ _ counted counted (state c.args.machine.now) (state c.args.machine.now) c.args.log.now (g.D.Disk.told c.args.disk.now)
+    failed_turn _ _ counted counted (state c.args.machine.now) (state c.args.machine.now) c.args.log.now
+    (g.D.Disk.told c.args.disk.now)
     (λ f. turn_fails _ _ counted f (state c.args.machine.now)
-    (tells_turn _ _ _ _ _ _ Failed c.turn.new.buf (at_room _ _ c.turn.auto.buf c.requires.room) brought.past brought.script brought.ids))
+    (tells_turn _ _ _ _ _ _ Failed c.turn.new.buf (at_room _ _ c.turn.auto.buf c.requires.room) brought.past
+    brought.script brought.ids))

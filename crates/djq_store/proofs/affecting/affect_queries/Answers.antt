@@ -5,7 +5,9 @@ use Rattle.djq_store.proofs.affecting.affect_queries.Goals as goal
 
 pub loop-nth-preserved : goal.loop-nth-preserved
 loop-nth-preserved c = record {
-  items = c.push_reserved.ensures.items ∙ ap (λ (xs : List ℕ). xs ++ c.affected.result.at ∷ []) c.loop-nth.invariant.items
-      ∙ sym (mapped_more (λ (id : QueryId). id.at) c.args.engine.now.affected c.loop-nth.nth c.affected.result c.affected.ensures);
+  items = c.push_reserved.ensures.items
+      ∙ ap (λ (xs : List ℕ). xs ++ c.affected.result.at ∷ []) c.loop-nth.invariant.items
+      ∙ sym (mapped_more (λ (id : QueryId). id.at) c.args.engine.now.affected c.loop-nth.nth c.affected.result
+      c.affected.ensures);
   room = omega (arith, c.loop-nth.invariant.room, c.push_reserved.ensures.capacity);
 }

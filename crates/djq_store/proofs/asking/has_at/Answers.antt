@@ -18,7 +18,8 @@ pub returns-clause-tells : goal.returns-clause-tells
 returns-clause-tells g c =
     let e = c.args.engine.now in
     let q = some_there (query_at e.places c.args.at) _ c.requires in
-    and_so (query_at e.places c.args.at) (λ l. TellsOf (e.store).relations (a_query l.query) c.args.tuple.now c.has.result) q.0 q.1
+    and_so (query_at e.places c.args.at)
+    (λ l. TellsOf (e.store).relations (a_query l.query) c.args.tuple.now c.has.result) q.0 q.1
     (told_there e c.engine_laws.ensures.engine c.args.at q.0 q.1 c.query_name-name.result c.query_name-name.ensures
     c.args.tuple.now c.has.result c.has.ensures.tells)
 

@@ -4,7 +4,8 @@ use Rattle.djq_lines.specs.declared.answer.Refusal.{Refusal}
 use Rattle.djq_model.specs.Listed.{a_query}
 use Rattle.djq_live.specs.Member.{query_at}
 use Rattle.djq_store.specs.Asking.{TellsOf}
-use Rattle.djq_store.proofs.Having.{some_there, asked_more, atoms_part, counted_more, counted_part, one_has, one_refuses, all_lack, all_there}
+use Rattle.djq_store.proofs.Having.{some_there, asked_more, atoms_part, counted_more, counted_part}
+use Rattle.djq_store.proofs.Having.{one_has, one_refuses, all_lack, all_there}
 use Rattle.djq_store.proofs.asking.some_has.Goals as goal
 
 pub loop-nth-init : goal.loop-nth-init
@@ -25,7 +26,8 @@ returns-in-Ok-true-clause-tells g c = λ name.
     (subst (λ (r : Result Bool Refusal). IsSomeAnd (query_at e.places (get_or c.args.members.now c.loop-nth.nth 0))
     (λ l. TellsOf (e.store).relations (a_query l.query) c.args.tuple.now r))
     (c.in-Ok-true.is ∙ ap (λ (b : Bool). Ok b) c.in-Ok-true.field-0-test) c.has_at.ensures.tells) in
-    one_has e c.engine_laws.ensures.engine.over c.head_types_are.ensures c.args.members.now c.requires name c.args.tuple.now
+    one_has e c.engine_laws.ensures.engine.over c.head_types_are.ensures c.args.members.now c.requires name
+    c.args.tuple.now
     c.loop-nth.nth c.loop-nth-test.true q.0 q.1 q.2
 
 pub returns-in-Ok-true-clause-counted : goal.returns-in-Ok-true-clause-counted
@@ -37,7 +39,8 @@ pub returns-in-Err-clause-tells : goal.returns-in-Err-clause-tells
 returns-in-Err-clause-tells g c = λ name.
     let e = c.args.engine.now in
     let q = some_there (query_at e.places (get_or c.args.members.now c.loop-nth.nth 0)) _ c.in-Err.ensures.tells in
-    one_refuses e c.engine_laws.ensures.engine.over c.head_types_are.ensures c.args.members.now c.requires name c.args.tuple.now
+    one_refuses e c.engine_laws.ensures.engine.over c.head_types_are.ensures c.args.members.now c.requires name
+    c.args.tuple.now
     c.loop-nth.nth c.loop-nth-test.true q.0 q.1 c.in-Err.refusal q.2
 
 pub returns-in-Err-clause-counted : goal.returns-in-Err-clause-counted
@@ -50,16 +53,19 @@ loop-nth-preserved g c = record {
   told = asked_more (λ i. IsSomeAnd (query_at c.args.engine.now.places (get_or c.args.members.now i 0))
       (λ q. TellsOf (c.args.engine.now.store).relations (a_query q.query) c.args.tuple.now (Ok false)))
       c.loop-nth.nth c.loop-nth.invariant.told
-      (subst (λ (r : Result Bool Refusal). IsSomeAnd (query_at c.args.engine.now.places (get_or c.args.members.now c.loop-nth.nth 0))
+      (subst (λ (r : Result Bool Refusal). IsSomeAnd
+      (query_at c.args.engine.now.places (get_or c.args.members.now c.loop-nth.nth 0))
       (λ q. TellsOf (c.args.engine.now.store).relations (a_query q.query) c.args.tuple.now r))
       (c.in-Ok-false.is ∙ ap (λ (b : Bool). Ok b) c.in-Ok-false.field-0-test) c.has_at.ensures.tells);
   counted = counted_more c.args.engine.now.places c.args.members.now c.loop-nth.nth c.loop-nth-test.true
-      c.args.listing.now c.loop-nth.listing c.has_at.new.listing c.loop-nth.invariant.counted c.in-Ok-false.ensures.counted;
+      c.args.listing.now c.loop-nth.listing c.has_at.new.listing c.loop-nth.invariant.counted
+      c.in-Ok-false.ensures.counted;
 }
 
 pub returns-clause-tells : goal.returns-clause-tells
 returns-clause-tells g c = λ name.
-    all_lack c.args.engine.now c.engine_laws.ensures.engine.over c.head_types_are.ensures c.args.members.now c.requires name c.args.tuple.now
+    all_lack c.args.engine.now c.engine_laws.ensures.engine.over c.head_types_are.ensures c.args.members.now c.requires
+    name c.args.tuple.now
     (λ i low. c.loop-nth.invariant.told i (omega (arith, low, c.loop-nth-test.false)))
 
 pub returns-clause-counted : goal.returns-clause-counted

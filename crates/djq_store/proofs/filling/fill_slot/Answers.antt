@@ -11,8 +11,16 @@ returns-clause-ok c =
     let us = c.args.unions.now.items in
     let all = none_vacant us c.as_slice.result.now c.as_slice.ensures.value c.in_default.ensures in
     let low : length us < QUERIES = omega (arith, all, c.requires.few) in
-    let long : length us ≡ c.len-slot.result = omega (arith, c.len-slot.ensures, c.as_slice.ensures.len, ap (λ (vs : List (Option Joined)). length vs) c.as_slice.ensures.value) in
-    subst (λ (vs : List (Option Joined)). Fills us vs c.len-slot.result c.args.joined) (sym (c.push_reserved.ensures.items ∙ ap (λ (vs : List (Option Joined)). vs ++ Some c.args.joined ∷ []) c.reserve.ensures.items))
+    let long : length us ≡ c.len-slot.result = omega (
+      arith,
+      c.len-slot.ensures,
+      c.as_slice.ensures.len,
+      ap (λ (vs : List (Option Joined)). length vs)
+          c.as_slice.ensures.value,
+    ) in
+    subst (λ (vs : List (Option Joined)). Fills us vs c.len-slot.result c.args.joined)
+    (sym (c.push_reserved.ensures.items
+    ∙ ap (λ (vs : List (Option Joined)). vs ++ Some c.args.joined ∷ []) c.reserve.ensures.items))
     (subst (λ (k : ℕ). Fills us (us ++ Some c.args.joined ∷ []) k c.args.joined) long (fills_push us c.args.joined low))
 
 pub returns-in-Some-clause-ok : goal.returns-in-Some-clause-ok

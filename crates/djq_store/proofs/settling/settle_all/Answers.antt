@@ -1,5 +1,6 @@
 use Rattle.std.proofs.Common.{◌<◌, ◌∙◌, arith, length}
-use Rattle.djq_store.proofs.Walking.{slot_old, unwatched_slot, members_there, done_more, rest_more, long_more, read_more, count_more}
+use Rattle.djq_store.proofs.Walking.{slot_old, unwatched_slot, members_there, done_more, rest_more}
+use Rattle.djq_store.proofs.Walking.{long_more, read_more, count_more}
 use Rattle.djq_store.proofs.settling.settle_all.Goals as goal
 
 pub settle_slot-settled-requires : goal.settle_slot-settled-requires
@@ -31,5 +32,6 @@ loop-slot-preserved g c =
           c.loop-slot.read c.settle_slot-settled.result i.read s.read;
       counted = count_more e names c.args.seq c.args.turn old now k x y low i.long was i.done i.rest s.settles
           c.args.listing.now c.loop-slot.listing c.settle_slot-settled.new.listing i.counted s.counted;
-      unlisted = λ none. s.unlisted (unwatched_slot old now k x low c.index_mut.ensures.value i.rest none) ∙ i.unlisted none;
+      unlisted = λ none. s.unlisted (unwatched_slot old now k x low c.index_mut.ensures.value i.rest none)
+          ∙ i.unlisted none;
     }

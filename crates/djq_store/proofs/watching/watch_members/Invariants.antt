@@ -4,4 +4,5 @@ use Rattle.djq_store.specs.Counting.{with_all}
 use Rattle.djq_store.proofs.watching.watch_members.Given as goal
 
 abbrev pub invariant-loop-nth : goal.invariant-loop-nth
-invariant-loop-nth l = l.engine ≡ record l.fn.engine { registered = with_all (λ n. n + 1) (take l.nth l.members) l.fn.engine.registered }
+invariant-loop-nth l = l.engine
+    ≡ record l.fn.engine { registered = with_all (λ n. n + 1) (take l.nth l.members) l.fn.engine.registered }

@@ -11,7 +11,11 @@ overflow_add-count c =
 
 pub loop-left-preserved : goal.loop-left-preserved
 loop-left-preserved c =
-    omega (arith, length_four c.loop-left.left c.loop-left-test.true c.loop-left.auto.left-fits.fits, c.loop-left.invariant)
+    omega (
+      arith,
+      length_four c.loop-left.left c.loop-left-test.true c.loop-left.auto.left-fits.fits,
+      c.loop-left.invariant,
+    )
 
 pub overflow_add-result : goal.overflow_add-result
 overflow_add-result c =

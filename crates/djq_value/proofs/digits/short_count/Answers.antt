@@ -11,9 +11,19 @@ returns-else-number-lt10-clause-value c = sym (length_two c.args.number c.if-num
 pub returns-then-number-lt1000-clause-value : goal.returns-then-number-lt1000-clause-value
 returns-then-number-lt1000-clause-value c =
     let n = c.args.number in
-    omega (arith, length_pair n c.if-number-lt100.false (omega (arith, c.if-number-lt1000.true)), length_one (n / 100) (omega (arith, c.if-number-lt1000.true)))
+    omega (
+      arith,
+      length_pair n c.if-number-lt100.false (omega (arith, c.if-number-lt1000.true)),
+      length_one (n / 100)
+          (omega (arith, c.if-number-lt1000.true)),
+    )
 
 pub returns-else-number-lt1000-clause-value : goal.returns-else-number-lt1000-clause-value
 returns-else-number-lt1000-clause-value c =
     let n = c.args.number in
-    omega (arith, length_pair n c.if-number-lt100.false (omega (arith, c.requires)), length_two (n / 100) (omega (arith, c.if-number-lt1000.false)) (omega (arith, c.requires)))
+    omega (
+      arith,
+      length_pair n c.if-number-lt100.false (omega (arith, c.requires)),
+      length_two (n / 100)
+          (omega (arith, c.if-number-lt1000.false)) (omega (arith, c.requires)),
+    )

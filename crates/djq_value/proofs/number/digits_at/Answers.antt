@@ -10,11 +10,18 @@ next_below : (v i : ℕ) → v < 10 ^ i → i < 18 → v * 10 + 9 < 100000000000
 next_below v i h l = below_18 (v * 10 + 9) (i + 1) (small-step v 9 i h (omega arith)) (omega (arith, l))
 
 pub overflow_mul-size : goal.overflow_mul-size
-overflow_mul-size c = record { fits = omega (arith, next_below c.digits.size c.digits.len c.digits.invariant.small c.if-len-lt-FEW_DIGITS.true) }
+overflow_mul-size c = record
+    { fits = omega (arith, next_below c.digits.size c.digits.len c.digits.invariant.small c.if-len-lt-FEW_DIGITS.true) }
 
 pub overflow_add-size : goal.overflow_add-size
 overflow_add-size c =
-    record { fits = omega (arith, next_below c.digits.size c.digits.len c.digits.invariant.small c.if-len-lt-FEW_DIGITS.true, c.if-bytes-len-le57.true) }
+    record {
+      fits = omega (
+        arith,
+        next_below c.digits.size c.digits.len c.digits.invariant.small c.if-len-lt-FEW_DIGITS.true,
+        c.if-bytes-len-le57.true,
+      );
+    }
 
 pub digits-preserved : goal.digits-preserved
 digits-preserved c =
@@ -22,9 +29,12 @@ digits-preserved c =
     let n = c.digits.len in record {
       within = omega (arith, c.digits-test.true);
       few = omega (arith, c.if-len-lt-FEW_DIGITS.true);
-      digits = digits-more bs n c.digits-test.true c.digits.invariant.digits c.if-bytes-len-ge48.true c.if-bytes-len-le57.true;
-      value = ap (λ (m : ℕ). m * 10 + (get_or bs n 0 - 48)) c.digits.invariant.value ∙ sym (digits_value-more bs n c.digits-test.true);
-      small = small-step c.digits.size (get_or bs n 0 - 48) n c.digits.invariant.small (omega (arith, c.if-bytes-len-le57.true));
+      digits = digits-more bs n c.digits-test.true c.digits.invariant.digits c.if-bytes-len-ge48.true
+          c.if-bytes-len-le57.true;
+      value = ap (λ (m : ℕ). m * 10 + (get_or bs n 0 - 48)) c.digits.invariant.value
+          ∙ sym (digits_value-more bs n c.digits-test.true);
+      small = small-step c.digits.size (get_or bs n 0 - 48) n c.digits.invariant.small
+          (omega (arith, c.if-bytes-len-le57.true));
     }
 
 pub returns-then-may_end : goal.returns-then-may_end
@@ -32,7 +42,8 @@ returns-then-may_end c =
     let bs = c.args.bytes.now in
     let n = c.digits.len in (
       c.digits.invariant.within,
-      natural-some (take n bs) (omega (arith, length-take n bs, c.digits.invariant.within, c.if-len-gt0.true)) ∙ cond-true _ _ _ c.digits.invariant.digits ∙ ap Some (sym c.digits.invariant.value),
+      natural-some (take n bs) (omega (arith, length-take n bs, c.digits.invariant.within, c.if-len-gt0.true))
+          ∙ cond-true _ _ _ c.digits.invariant.digits ∙ ap Some (sym c.digits.invariant.value),
       below_18 c.digits.size n c.digits.invariant.small c.digits.invariant.few,
       ap may_end (sym (take_rest bs n)) ∙ sym c.may_end.ensures ∙ c.if-may_end.true,
     )

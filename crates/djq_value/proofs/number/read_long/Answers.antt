@@ -7,7 +7,8 @@ pub loop-digit-preserved : goal.loop-digit-preserved
 loop-digit-preserved c =
     let ds = c.args.digits.now in
     let i = c.loop-digit.digit-index in record {
-      digits = digits-more ds i c.loop-digit-test.true c.loop-digit.invariant.digits c.if-digit-lt48.false c.if-digit-gt57.false;
+      digits = digits-more ds i c.loop-digit-test.true c.loop-digit.invariant.digits c.if-digit-lt48.false
+          c.if-digit-gt57.false;
       value =
           capped-step _ _ _ _ _ c.loop-digit.invariant.value c.saturating_mul.ensures c.saturating_add-value.ensures
           ∙ ap capped (sym (digits_value-more ds i c.loop-digit-test.true));
@@ -17,4 +18,5 @@ pub returns : goal.returns
 returns c =
     let ds = c.args.digits.now in
     let i = c.loop-digit.digit-index in
-    ap Some c.loop-digit.invariant.value ∙ sym (ap (option_map capped) (natural_of-digits ds i c.requires (omega arith) c.loop-digit.invariant.digits))
+    ap Some c.loop-digit.invariant.value
+    ∙ sym (ap (option_map capped) (natural_of-digits ds i c.requires (omega arith) c.loop-digit.invariant.digits))

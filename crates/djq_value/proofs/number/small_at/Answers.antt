@@ -11,7 +11,8 @@ pub returns-in-Some : goal.returns-in-Some
 returns-in-Some c =
     let bs = c.args.bytes.now in
     let some = eqb-false _ 0 (sym c.is_empty.ensures ∙ c.if-not-is_empty.true) in
-    let digits = subst (λ (xs : Bytes). AreDigitsAt xs (Some (c.in-Some.size, c.in-Some.len))) (take_rest bs 1) c.in-Some.ensures in
+    let digits = subst (λ (xs : Bytes). AreDigitsAt xs (Some (c.in-Some.size, c.in-Some.len))) (take_rest bs 1)
+    c.in-Some.ensures in
     let small = negative_at bs c.in-Some.size c.in-Some.len (omega (arith, some)) c.if-bytes-eq45.true digits in
     let value : to_z w64 (of_z w64 c.negated.result) ≡ c.negated.result = search rules in
     let same = value ∙ c.negated.ensures in

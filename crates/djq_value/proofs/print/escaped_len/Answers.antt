@@ -3,4 +3,5 @@ use Rattle.djq_value.proofs.Escapes.{length-flat_map-escaped}
 use Rattle.djq_value.proofs.print.escaped_len.Goals as goal
 
 pub returns : goal.returns
-returns c = ap (λ n. length c.args.text.now + n) c.escape_count.ensures.value ∙ sym (length-flat_map-escaped c.args.text.now)
+returns c = ap (λ n. length c.args.text.now + n) c.escape_count.ensures.value
+    ∙ sym (length-flat_map-escaped c.args.text.now)

@@ -7,5 +7,6 @@ use Rattle.djq_value.proofs.print.extend_escaped.Goals as goal
 pub returns-then-len-text : goal.returns-then-len-text
 returns-then-len-text c =
     let text = c.args.text.now in
-    let plain : flat_map escaped text ≡ text = plain_text text (omega (arith, length-flat_map-escaped text, c.requires.len, c.if-len-text.true)) in
+    let plain : flat_map escaped text
+    ≡ text = plain_text text (omega (arith, length-flat_map-escaped text, c.requires.len, c.if-len-text.true)) in
     rw plain (record { items = c.extend_reserved.ensures.items; spare = c.extend_reserved.ensures.spare })

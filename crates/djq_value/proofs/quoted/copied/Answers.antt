@@ -3,4 +3,5 @@ use Rattle.djq_value.proofs.Scanning.{plain_piece}
 use Rattle.djq_value.proofs.quoted.copied.Goals as goal
 
 pub returns-in_ok-from_slice : goal.returns-in_ok-from_slice
-returns-in_ok-from_slice c = c.in_ok-from_slice.ensures.items ∙ plain_piece c.args.bytes.now c.args.end c.args.len c.requires.ends c.if-end-len.true
+returns-in_ok-from_slice c = c.in_ok-from_slice.ensures.items
+    ∙ plain_piece c.args.bytes.now c.args.end c.args.len c.requires.ends c.if-end-len.true

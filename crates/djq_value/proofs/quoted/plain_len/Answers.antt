@@ -5,5 +5,6 @@ use Rattle.djq_value.proofs.quoted.plain_len.Goals as goal
 pub plain-preserved : goal.plain-preserved
 plain-preserved c = record {
   within = omega (arith, c.plain-test.true);
-  read = plain_more c.args.bytes.now c.plain.len c.plain-test.true (sym c.is_escaped.ensures ∙ c.if-not-is_escaped.true) c.plain.invariant.read;
+  read = plain_more c.args.bytes.now c.plain.len c.plain-test.true (sym c.is_escaped.ensures ∙ c.if-not-is_escaped.true)
+      c.plain.invariant.read;
 }

@@ -11,7 +11,8 @@ use Rattle.djq_words.proofs.commands.mirror_asked.Goals as goal
 pub returns-in_err-query : goal.returns-in_err-query
 returns-in_err-query c =
     let f = found_of c.args.given.now in
-    let none = sym (first_value-rows f (codes "Q")) ∙ sym c.get_str.ensures ∙ ap (λ (o : Option (Bor (List ℕ))). option_map (λ s. s.now) o) c.in_err-query.was in
+    let none = sym (first_value-rows f (codes "Q")) ∙ sym c.get_str.ensures
+    ∙ ap (λ (o : Option (Bor (List ℕ))). option_map (λ s. s.now) o) c.in_err-query.was in
     subst (λ (o : Option Asked). MirrorAsked (rows_of f) o) (sym c.from_residual.ensures)
     (mirror_asks_none (rows_of f) (λ query given is. none_some (sym none ∙ given)))
   where
@@ -21,13 +22,19 @@ returns-in_err-query c =
 pub returns-then-is_name : goal.returns-then-is_name
 returns-then-is_name c =
     let f = found_of c.args.given.now in
-    let given = sym (first_value-rows f (codes "Q")) ∙ sym c.get_str.ensures ∙ ap (λ (o : Option (Bor (List ℕ))). option_map (λ s. s.now) o) c.in_ok-query.was in
-    (refl, given, subst (λ (t : Text). is_name t ≡ true) c.as_bytes.ensures.value (sym c.is_name.ensures ∙ c.if-is_name.true))
+    let given = sym (first_value-rows f (codes "Q")) ∙ sym c.get_str.ensures
+    ∙ ap (λ (o : Option (Bor (List ℕ))). option_map (λ s. s.now) o) c.in_ok-query.was in (
+      refl,
+      given,
+      subst (λ (t : Text). is_name t ≡ true) c.as_bytes.ensures.value
+          (sym c.is_name.ensures ∙ c.if-is_name.true),
+    )
 
 pub returns-else-is_name : goal.returns-else-is_name
 returns-else-is_name c =
     let f = found_of c.args.given.now in
-    let given = sym (first_value-rows f (codes "Q")) ∙ sym c.get_str.ensures ∙ ap (λ (o : Option (Bor (List ℕ))). option_map (λ s. s.now) o) c.in_ok-query.was in
+    let given = sym (first_value-rows f (codes "Q")) ∙ sym c.get_str.ensures
+    ∙ ap (λ (o : Option (Bor (List ℕ))). option_map (λ s. s.now) o) c.in_ok-query.was in
     mirror_asks_none (rows_of f) (λ query is name. not_both (sym c.is_name.ensures ∙ c.if-is_name.false)
     (subst (λ (t : Text). is_name t ≡ true) (some_is (sym is ∙ given) ∙ sym c.as_bytes.ensures.value) name))
   where

@@ -5,4 +5,5 @@ use Rattle.djq_arena.proofs.Accounts.{first_row}
 use Rattle.djq_arena.proofs.arena.Arena.first.Goals as goal
 
 pub returns : goal.returns
-returns c = c.get.ensures ∙ first_row c.self.inside.store c.self.invariant.0 ∙ ap (λ (v : Rows). first_of (slots v.rows)) c.self.view_is
+returns c = c.get.ensures ∙ first_row c.self.inside.store c.self.invariant.0
+    ∙ ap (λ (v : Rows). first_of (slots v.rows)) c.self.view_is

@@ -5,4 +5,5 @@ use Rattle.djq_arena.proofs.Accounts.{last_row}
 use Rattle.djq_arena.proofs.arena.Arena.last.Goals as goal
 
 pub returns : goal.returns
-returns c = c.get.ensures ∙ last_row c.self.inside.store c.self.invariant.0 ∙ ap (λ (v : Rows). last_of (slots v.rows)) c.self.view_is
+returns c = c.get.ensures ∙ last_row c.self.inside.store c.self.invariant.0
+    ∙ ap (λ (v : Rows). last_of (slots v.rows)) c.self.view_is

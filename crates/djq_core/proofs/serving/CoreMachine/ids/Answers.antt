@@ -5,4 +5,6 @@ use Rattle.djq_core.proofs.Places.{ids_seen}
 use Rattle.djq_core.proofs.serving.CoreMachine.ids.Goals as goal
 
 pub returns : goal.returns
-returns c = c.as_slice.ensures.value ∙ c.self.invariant.0.ids_are ∙ sym (ids_seen c.self.inside.engine c.self.inside.stopped c.self.inside.sessions.items) ∙ ap ids_of (ap (λ (v : Visible). v.state) c.self.view_is)
+returns c = c.as_slice.ensures.value ∙ c.self.invariant.0.ids_are
+    ∙ sym (ids_seen c.self.inside.engine c.self.inside.stopped c.self.inside.sessions.items)
+    ∙ ap ids_of (ap (λ (v : Visible). v.state) c.self.view_is)

@@ -5,4 +5,5 @@ use Rattle.djq_core.proofs.serving.tests.is_open.Goals as goal
 
 pub returns-then-ids-at : goal.returns-then-ids-at
 returns-then-ids-at c = λ _. listed_open (c.args.core.now).state c.args.id
-    (subst (λ (ns : List ℕ). Contains ns c.args.id) c.ids-ids.ensures (listed_at c.ids-ids.result.now c.args.id c.loop-at.at c.loop-at-test.true c.if-ids-at.true))
+    (subst (λ (ns : List ℕ). Contains ns c.args.id) c.ids-ids.ensures
+    (listed_at c.ids-ids.result.now c.args.id c.loop-at.at c.loop-at-test.true c.if-ids-at.true))

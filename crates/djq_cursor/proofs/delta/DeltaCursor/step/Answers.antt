@@ -26,7 +26,8 @@ returns-clause-same g c = told_same c.args.reducts.now c.args.self.now c.args.se
 pub returns-clause-answers : goal.returns-clause-answers
 returns-clause-answers g c = told_some c.args.reducts.now c.args.self.now.leaf c.args.self.now.leaf
     c.advance_by.new.cursor c.laws.ensures.sound
-    (updated c.args.reducts.now c.args.self.now.leaf c.laws.ensures.sound c.requires.leaf c.requires.marks) c.advance_by.ensures.fits
+    (updated c.args.reducts.now c.args.self.now.leaf c.laws.ensures.sound c.requires.leaf c.requires.marks)
+    c.advance_by.ensures.fits
 
 pub returns-clause-end : goal.returns-clause-end
 returns-clause-end g c =

@@ -8,7 +8,8 @@ use Rattle.djq_dict.proofs.dict.Dict.find_hashed.Goals as goal
 
 pub loop-candidate-init : goal.loop-candidate-init
 loop-candidate-init c =
-    searched-first c.self.inside.texts.texts c.self.inside.index.hashes c.args.text.now c.args.hash c.last-candidate.result c.self.invariant c.requires c.last-candidate.ensures
+    searched-first c.self.inside.texts.texts c.self.inside.index.hashes c.args.text.now c.args.hash
+    c.last-candidate.result c.self.invariant c.requires c.last-candidate.ensures
 
 pub loop-candidate-preserved : goal.loop-candidate-preserved
 loop-candidate-preserved c =
@@ -23,4 +24,5 @@ loop-candidate-preserved c =
     let yes = equal.1 (sym read ∙ same) in
     let no = c.if-eq.false in
     cc in
-    searched-next texts hashes text c.args.hash number _ c.before-candidate.result c.self.invariant c.requires searched other c.before-candidate.ensures (omega arith)
+    searched-next texts hashes text c.args.hash number _ c.before-candidate.result c.self.invariant c.requires searched
+    other c.before-candidate.ensures (omega arith)

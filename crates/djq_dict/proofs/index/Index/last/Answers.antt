@@ -14,4 +14,6 @@ returns c =
     let own = c.bucket_of-bucket.ensures.value ∙ ap (λ (n : ℕ). bucket_of n c.args.hash) many in
     let read = c.index.ensures ∙ get_or_default_zero heads.items bucket c.index.result.now within in
     let follows = rw c.deref.ensures.value at c.follow.ensures in
-    rw (← c.self.view_is) (follows-head links.items heads.items c.args.hash bucket c.index.result.now c.follow.result c.self.invariant within own read follows)
+    rw (← c.self.view_is)
+    (follows-head links.items heads.items c.args.hash bucket c.index.result.now c.follow.result c.self.invariant
+    within own read follows)

@@ -13,5 +13,15 @@ put_in_front-requires-clause-chained c =
     let pushed : c.deref_mut.result.now ≡ links.items ++ link ∷ [] = search rules in
     let hashes = length-map links.items (λ (k : Link). k.hash) in
     let nexts = length-map links.items (λ (k : Link). k.next) in
-    let longer = chained-longer (hashes_of links.items) (nexts_of links.items) heads.items (c.args.hash ∷ []) (c.end.result ∷ []) (length links.items) (omega (arith, hashes)) (omega (arith, nexts)) c.self.invariant.chained in
-    rw (pushed, map-append (λ (k : Link). k.hash) links.items (link ∷ []), map-append (λ (k : Link). k.next) links.items (link ∷ []), c.deref_mut-2.ensures.value, c.len-number.ensures, links.ok.0) longer
+    let longer = chained-longer (hashes_of links.items) (nexts_of links.items) heads.items (c.args.hash ∷ [])
+    (c.end.result ∷ []) (length links.items) (omega (arith, hashes)) (omega (arith, nexts)) c.self.invariant.chained
+    in
+    rw (
+      pushed,
+      map-append (λ (k : Link). k.hash) links.items (link ∷ []),
+      map-append (λ (k : Link). k.next) links.items
+          (link ∷ []),
+      c.deref_mut-2.ensures.value,
+      c.len-number.ensures,
+      links.ok.0,
+    ) longer

@@ -22,8 +22,10 @@ slice_bounds-result-count c =
     let t = c.self.inside in
     let many = sym (length-pieces t.bytes.items 0 t.ends.items) ∙ ap (λ (s : Shelf). length s.texts) c.self.view_is in
     let start = rw c.deref.ensures.value at c.start_of-start.ensures in
-    let end = slice_get_read t.ends.items (length t.ends.items) c.args.position c.index.result.now refl (omega (arith, many, c.requires)) c.index.ensures in
-    let w = piece_within 0 t.ends.items (length t.bytes.items) c.args.position c.start_of-start.result c.index.result.now c.self.invariant start end in
+    let end = slice_get_read t.ends.items (length t.ends.items) c.args.position c.index.result.now refl
+    (omega (arith, many, c.requires)) c.index.ensures in
+    let w = piece_within 0 t.ends.items (length t.bytes.items) c.args.position c.start_of-start.result
+    c.index.result.now c.self.invariant start end in
     w.0
 
 pub slice_bounds-result-start : goal.slice_bounds-result-start
@@ -31,8 +33,10 @@ slice_bounds-result-start c =
     let t = c.self.inside in
     let many = sym (length-pieces t.bytes.items 0 t.ends.items) ∙ ap (λ (s : Shelf). length s.texts) c.self.view_is in
     let start = rw c.deref.ensures.value at c.start_of-start.ensures in
-    let end = slice_get_read t.ends.items (length t.ends.items) c.args.position c.index.result.now refl (omega (arith, many, c.requires)) c.index.ensures in
-    let w = piece_within 0 t.ends.items (length t.bytes.items) c.args.position c.start_of-start.result c.index.result.now c.self.invariant start end in
+    let end = slice_get_read t.ends.items (length t.ends.items) c.args.position c.index.result.now refl
+    (omega (arith, many, c.requires)) c.index.ensures in
+    let w = piece_within 0 t.ends.items (length t.bytes.items) c.args.position c.start_of-start.result
+    c.index.result.now c.self.invariant start end in
     w.0
 
 pub slice_bounds-result-end : goal.slice_bounds-result-end
@@ -40,8 +44,10 @@ slice_bounds-result-end c =
     let t = c.self.inside in
     let many = sym (length-pieces t.bytes.items 0 t.ends.items) ∙ ap (λ (s : Shelf). length s.texts) c.self.view_is in
     let start = rw c.deref.ensures.value at c.start_of-start.ensures in
-    let end = slice_get_read t.ends.items (length t.ends.items) c.args.position c.index.result.now refl (omega (arith, many, c.requires)) c.index.ensures in
-    let w = piece_within 0 t.ends.items (length t.bytes.items) c.args.position c.start_of-start.result c.index.result.now c.self.invariant start end in
+    let end = slice_get_read t.ends.items (length t.ends.items) c.args.position c.index.result.now refl
+    (omega (arith, many, c.requires)) c.index.ensures in
+    let w = piece_within 0 t.ends.items (length t.bytes.items) c.args.position c.start_of-start.result
+    c.index.result.now c.self.invariant start end in
     let whole = ap (λ (l : List ℕ). length l) c.deref-2.ensures.value in
     omega (arith, whole, w.1)
 
@@ -50,6 +56,8 @@ returns c =
     let t = c.self.inside in
     let many = sym (length-pieces t.bytes.items 0 t.ends.items) ∙ ap (λ (s : Shelf). length s.texts) c.self.view_is in
     let start = rw c.deref.ensures.value at c.start_of-start.ensures in
-    let end = slice_get_read t.ends.items (length t.ends.items) c.args.position c.index.result.now refl (omega (arith, many, c.requires)) c.index.ensures in
-    let here = piece_at t.bytes.items 0 t.ends.items c.args.position c.start_of-start.result c.index.result.now start end in
+    let end = slice_get_read t.ends.items (length t.ends.items) c.args.position c.index.result.now refl
+    (omega (arith, many, c.requires)) c.index.ensures in
+    let here = piece_at t.bytes.items 0 t.ends.items c.args.position c.start_of-start.result c.index.result.now start
+    end in
     rw (← c.self.view_is, c.deref-2.ensures.value) here

@@ -6,4 +6,5 @@ use Rattle.djq_dict.proofs.texts.Texts.len.Goals as goal
 pub returns : goal.returns
 returns c =
     let t = c.self.inside in
-    c.len.ensures ∙ t.ends.ok.0 ∙ sym (length-pieces t.bytes.items 0 t.ends.items) ∙ ap (λ (s : Shelf). length s.texts) c.self.view_is
+    c.len.ensures ∙ t.ends.ok.0 ∙ sym (length-pieces t.bytes.items 0 t.ends.items)
+    ∙ ap (λ (s : Shelf). length s.texts) c.self.view_is

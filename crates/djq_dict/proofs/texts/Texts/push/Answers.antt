@@ -8,14 +8,21 @@ invariant_of-self c =
     let t = c.self.inside in
     let bytes : c.extend_from_slice.new.self.items ≡ t.bytes.items ++ c.args.text.now = search rules in
     let ends : c.push.new.self.items ≡ t.ends.items ++ c.len.result ∷ [] = search rules in
-    let total : c.len.result ≡ length t.bytes.items + length c.args.text.now = c.len.ensures ∙ c.extend_from_slice.new.self.ok.0 ∙ ap (λ (l : List ℕ). length l) bytes ∙ length-append t.bytes.items c.args.text.now in
-    let size : length (t.bytes.items ++ c.args.text.now) ≡ length t.bytes.items + length c.args.text.now = length-append t.bytes.items c.args.text.now in
-    rw (ends, bytes, total, size) (cut-push 0 t.ends.items (length t.bytes.items) (length c.args.text.now) c.self.invariant)
+    let total : c.len.result ≡ length t.bytes.items + length c.args.text.now = c.len.ensures
+    ∙ c.extend_from_slice.new.self.ok.0 ∙ ap (λ (l : List ℕ). length l) bytes
+    ∙ length-append t.bytes.items c.args.text.now in
+    let size : length (t.bytes.items ++ c.args.text.now)
+    ≡ length t.bytes.items + length c.args.text.now = length-append t.bytes.items c.args.text.now in
+    rw (ends, bytes, total, size)
+    (cut-push 0 t.ends.items (length t.bytes.items) (length c.args.text.now) c.self.invariant)
 
 pub returns : goal.returns
 returns c =
     let t = c.self.inside in
     let bytes : c.extend_from_slice.new.self.items ≡ t.bytes.items ++ c.args.text.now = search rules in
     let ends : c.push.new.self.items ≡ t.ends.items ++ c.len.result ∷ [] = search rules in
-    let total : c.len.result ≡ length t.bytes.items + length c.args.text.now = c.len.ensures ∙ c.extend_from_slice.new.self.ok.0 ∙ ap (λ (l : List ℕ). length l) bytes ∙ length-append t.bytes.items c.args.text.now in
-    rw (ends, bytes, total, ← c.self.view_is) (pieces-push t.bytes.items c.args.text.now 0 t.ends.items c.self.invariant)
+    let total : c.len.result ≡ length t.bytes.items + length c.args.text.now = c.len.ensures
+    ∙ c.extend_from_slice.new.self.ok.0 ∙ ap (λ (l : List ℕ). length l) bytes
+    ∙ length-append t.bytes.items c.args.text.now in
+    rw (ends, bytes, total, ← c.self.view_is)
+    (pieces-push t.bytes.items c.args.text.now 0 t.ends.items c.self.invariant)

@@ -12,9 +12,11 @@ returns-clause-tells g c =
     c.add_in.ensures.tells
 
 pub returns-clause-unlisted : goal.returns-clause-unlisted
-returns-clause-unlisted g c none = c.add_in.ensures.unlisted (subst (λ (k : Kept). IsUnwatched k) (sym c.self.view_is) none)
+returns-clause-unlisted g c none = c.add_in.ensures.unlisted
+    (subst (λ (k : Kept). IsUnwatched k) (sym c.self.view_is) none)
 
 pub returns-clause-places : goal.returns-clause-places
 returns-clause-places g c =
-    subst (λ (k : Kept). KeepsPlaces (is_tried (tried (add_outcome (row_in (k.store).relations c.args.name.now c.args.row.now)
+    subst (λ (k : Kept). KeepsPlaces
+    (is_tried (tried (add_outcome (row_in (k.store).relations c.args.name.now c.args.row.now)
     c.add_in.result))) k (kept_in c.add_in.new.parts)) c.self.view_is c.add_in.ensures.places

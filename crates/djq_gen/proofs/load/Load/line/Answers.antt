@@ -9,6 +9,15 @@ returns-clause-given c =
     let ahead = rw c.in_default.ensures.none at c.self.view_is in
     let after = c.after_change-self-inside.ensures (changes l.values c.next-third.result (l.done + 1) (l.left - 1)) in (
       c.put_change.ensures.within,
-      rw (c.put_change.ensures.text, after, c.drawn.ensures, c.drawn-2.ensures, c.drawn-3.ensures, c.next-third.ensures, c.next-second.ensures, c.next-first.ensures)
+      rw (
+        c.put_change.ensures.text,
+        after,
+        c.drawn.ensures,
+        c.drawn-2.ensures,
+        c.drawn-3.ensures,
+        c.next-third.ensures,
+        c.next-second.ensures,
+        c.next-first.ensures,
+      )
           (sym ahead ∙ changes-first l.values l.state l.done l.left c.if-self-eq0.false),
     )

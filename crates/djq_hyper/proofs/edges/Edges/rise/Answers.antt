@@ -11,7 +11,8 @@ loop-set-preserved c =
     let here : items ≡ c.args.self.now = c.deref-set-items.ensures.value ∙ c.self.view_is in
     let within : c.loop-set.set-index < length items = let t = c.loop-set-test.true in omega arith in
     let is = read_at items c.loop-set.set-index c.set-item.result within c.set-item.is in
-    sets_more c.args.self.now c.loop-set.set-index c.set-item.result (is ∙ ap (λ (E : List (List ℕ)). edge_at E c.loop-set.set-index) here) c.rises.ensures c.loop-set.invariant
+    sets_more c.args.self.now c.loop-set.set-index c.set-item.result
+    (is ∙ ap (λ (E : List (List ℕ)). edge_at E c.loop-set.set-index) here) c.rises.ensures c.loop-set.invariant
 
 pub returns : goal.returns
 returns c =

@@ -2,4 +2,5 @@ use Rattle.djq_hyper.proofs.Words.{word_subset}
 use Rattle.djq_hyper.proofs.var_set.VarSet.is_subset.Goals as goal
 
 pub returns : goal.returns
-returns c = word_subset c.self.inside.mask c.other.inside.mask c.args.self c.args.other c.self.view_is c.other.view_is c.self.invariant c.other.invariant
+returns c = word_subset c.self.inside.mask c.other.inside.mask c.args.self c.args.other c.self.view_is c.other.view_is
+    c.self.invariant c.other.invariant

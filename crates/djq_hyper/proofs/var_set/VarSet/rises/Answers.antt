@@ -2,4 +2,8 @@ use Rattle.djq_hyper.proofs.Words.{word_rises, word_below}
 use Rattle.djq_hyper.proofs.var_set.VarSet.rises.Goals as goal
 
 pub returns : goal.returns
-returns c = record { rising = word_rises c.self.inside.mask c.args.self c.self.view_is; below = word_below c.self.inside.mask c.args.self c.self.view_is }
+returns c = record {
+  rising = word_rises c.self.inside.mask c.args.self c.self.view_is;
+  below = word_below
+      c.self.inside.mask c.args.self c.self.view_is;
+}

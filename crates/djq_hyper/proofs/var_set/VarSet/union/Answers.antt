@@ -5,4 +5,5 @@ pub invariant_of-result : goal.invariant_of-result
 invariant_of-result c = word_fits c.self.inside.mask c.other.inside.mask c.self.invariant c.other.invariant
 
 pub returns : goal.returns
-returns c = word_union c.self.inside.mask c.other.inside.mask c.args.self c.args.other c.self.view_is c.other.view_is c.self.invariant c.other.invariant
+returns c = word_union c.self.inside.mask c.other.inside.mask c.args.self c.args.other c.self.view_is c.other.view_is
+    c.self.invariant c.other.invariant

@@ -8,8 +8,11 @@ use Rattle.djq_hyper.proofs.var_set.VarSet.without.Goals as goal
 
 pub returns-then-variable-ge-VARIABLES : goal.returns-then-variable-ge-VARIABLES
 returns-then-variable-ge-VARIABLES c =
-    let above = word_above c.self.inside.mask c.args.variable c.args.self c.self.view_is c.self.invariant c.if-variable-ge-VARIABLES.true in
-    c.self.view_is ∙ absent_stays c.args.variable c.args.self (from_false _ (sym above ∙ le-ltb c.args.variable VARIABLES c.if-variable-ge-VARIABLES.true))
+    let above = word_above c.self.inside.mask c.args.variable c.args.self c.self.view_is c.self.invariant
+    c.if-variable-ge-VARIABLES.true in
+    c.self.view_is ∙ absent_stays c.args.variable c.args.self
+    (from_false _ (sym above ∙ le-ltb c.args.variable VARIABLES c.if-variable-ge-VARIABLES.true))
 
 pub returns : goal.returns
-returns c = word_without c.self.inside.mask c.args.variable c.args.self c.self.view_is c.self.invariant c.if-variable-ge-VARIABLES.false
+returns c = word_without c.self.inside.mask c.args.variable c.args.self c.self.view_is c.self.invariant
+    c.if-variable-ge-VARIABLES.false

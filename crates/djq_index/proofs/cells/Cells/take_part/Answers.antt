@@ -9,12 +9,14 @@ loop-column-init c = c.clear.ensures ∙ sym (pick_nil c.args.tuple.now)
 
 pub offset_bounds-tuple-column : goal.offset_bounds-tuple-column
 offset_bounds-tuple-column c =
-    let below = column_below (length c.args.tuple.now) c.args.columns.now c.loop-column.column-index c.requires.within c.loop-column-test.true in
+    let below = column_below (length c.args.tuple.now) c.args.columns.now c.loop-column.column-index c.requires.within
+    c.loop-column-test.true in
     let small = c.requires.small in
     omega arith
 
 pub bounds-tuple-column : goal.bounds-tuple-column
-bounds-tuple-column c = column_below (length c.args.tuple.now) c.args.columns.now c.loop-column.column-index c.requires.within c.loop-column-test.true
+bounds-tuple-column c = column_below (length c.args.tuple.now) c.args.columns.now c.loop-column.column-index
+    c.requires.within c.loop-column-test.true
 
 pub push-requires : goal.push-requires
 push-requires c =
@@ -28,5 +30,6 @@ push-requires c =
 pub loop-column-preserved : goal.loop-column-preserved
 loop-column-preserved c =
     c.push.ensures
-    ∙ ap (λ (l : List ℕ). l ++ slice_index_or c.args.tuple.now (slice_index_or c.args.columns.now c.loop-column.column-index 0) 0 ∷ []) c.loop-column.invariant
+    ∙ ap (λ (l : List ℕ). l ++ slice_index_or c.args.tuple.now
+    (slice_index_or c.args.columns.now c.loop-column.column-index 0) 0 ∷ []) c.loop-column.invariant
     ∙ sym (pick_more c.args.columns.now c.loop-column.column-index c.args.tuple.now c.loop-column-test.true)

@@ -4,4 +4,5 @@ use Rattle.djq_index.proofs.Bounding.{few_entries}
 use Rattle.djq_index.proofs.table.Table.is_small.Goals as goal
 
 pub returns : goal.returns
-returns c = subst (λ (t : Table). length t.entries ≤ 4294967295) c.self.view_is (few_entries c.self.inside.raw c.self.invariant)
+returns c = subst (λ (t : Table). length t.entries ≤ 4294967295) c.self.view_is
+    (few_entries c.self.inside.raw c.self.invariant)

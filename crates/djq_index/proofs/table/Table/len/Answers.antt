@@ -5,4 +5,5 @@ use Rattle.djq_index.proofs.table.Table.len.Goals as goal
 
 pub returns : goal.returns
 returns c =
-    c.len.ensures ∙ sym (length_entries c.self.inside.raw.notes.items c.self.inside.raw.rows.rows) ∙ ap (λ (t : Table). length t.entries) c.self.view_is
+    c.len.ensures ∙ sym (length_entries c.self.inside.raw.notes.items c.self.inside.raw.rows.rows)
+    ∙ ap (λ (t : Table). length t.entries) c.self.view_is

@@ -26,4 +26,5 @@ returns-clause-sessions c =
     let exact : c.if-count_down.sent ≡ send_of old c.args.id c.args.piece.now = search rules in
     let sends = ap (λ (h : Recorded). h.failing_sends) c.self.view_is in
     let counts = rw sends at c.count_down.ensures in
-    counts_by old c.args.id c.args.piece.now c.if-count_down.sent old.ids.open_ids c.count_down.result c.count_down.new.self exact counts.due counts.faults
+    counts_by old c.args.id c.args.piece.now c.if-count_down.sent old.ids.open_ids c.count_down.result
+    c.count_down.new.self exact counts.due counts.faults

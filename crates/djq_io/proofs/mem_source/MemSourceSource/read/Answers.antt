@@ -1,4 +1,5 @@
-use Rattle.std.proofs.Common.{length, ◌+◌, ◌-◌, ◌≤◌, ◌≡◌, ◌++◌, take, drop, sym, ap, arith, ◌∙◌, length-append, length-take, length-drop}
+use Rattle.std.proofs.Common.{length, ◌+◌, ◌-◌, ◌≤◌, ◌≡◌, ◌++◌, take, drop, sym, ap, arith, ◌∙◌}
+use Rattle.std.proofs.Common.{length-append, length-take, length-drop}
 use Rattle.djq_io.proofs.Parts.{copied_part, part_then_left, gives_span}
 use Rattle.djq_io.proofs.mem_source.MemSourceSource.read.Goals as goal
 
@@ -15,5 +16,9 @@ returns-clause-reads c =
     let part_size : length part ≡ n = omega (arith, length-take n (drop at bytes), length-drop at bytes) in
     let copied = copied_part n part c.copy_from_slice.new.self (drop n c.args.buf.now) part_size is_part in
     let begins = part_then_left at n bytes ∙ ap (λ p. p ++ drop (at + n) bytes) (sym copied) in
-    let span = ap (λ k. take k (drop at bytes)) size ∙ sym copied in
-    (omega arith, omega (arith, length-append c.copy_from_slice.new.self (drop n c.args.buf.now), ap length is_part), rw (← c.self.view_is) (gives_span _ _ _ _ _ _ _ span begins c.push.ensures))
+    let span = ap (λ k. take k (drop at bytes)) size ∙ sym copied in (
+      omega arith,
+      omega (arith, length-append c.copy_from_slice.new.self (drop n c.args.buf.now), ap length is_part),
+      rw
+          (← c.self.view_is) (gives_span _ _ _ _ _ _ _ span begins c.push.ensures),
+    )

@@ -9,7 +9,8 @@ use Rattle.djq_io.proofs.sessions.Sessions.count_fault.Goals as goal
 
 -- One more of the sessions is counted, where it has the id.
 pub loop-x-preserved : goal.loop-x-preserved
-loop-x-preserved c = mapped_more (after_fault c.args.id) _ _ _ (record { id = 0; ended = false; faults = 0 }) _ (omega arith) c.loop-x.invariant c.after_fault.ensures
+loop-x-preserved c = mapped_more (after_fault c.args.id) _ _ _ (record { id = 0; ended = false; faults = 0 }) _
+    (omega arith) c.loop-x.invariant c.after_fault.ensures
 
 -- The bounds stay.
 pub invariant_of-self : goal.invariant_of-self

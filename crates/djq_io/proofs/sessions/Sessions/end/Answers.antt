@@ -9,7 +9,8 @@ use Rattle.djq_io.proofs.sessions.Sessions.end.Goals as goal
 
 -- One more of the sessions is marked, where it has the id.
 pub loop-x-preserved : goal.loop-x-preserved
-loop-x-preserved c = mapped_more (after_end c.args.id) _ _ _ (record { id = 0; ended = false; faults = 0 }) _ (omega arith) c.loop-x.invariant c.after_end.ensures
+loop-x-preserved c = mapped_more (after_end c.args.id) _ _ _ (record { id = 0; ended = false; faults = 0 }) _
+    (omega arith) c.loop-x.invariant c.after_end.ensures
 
 -- The sessions at the end are all marked.
 pub returns-clause-ids : goal.returns-clause-ids
@@ -22,7 +23,9 @@ returns-clause-ids c =
     let ends = ap (λ (s : Places). s.ids.ended_ids) (sym c.self.view_is) in
     let old = c.args.self.now.ids in
     let newest = ap (λ (s : Places). s.ids.newest) c.self.view_is in
-    ends_marked c.args.id old (record { newest = c.self.inside.newest; open_ids = open_in end; ended_ids = ended_in end }) places c.requires opens ends newest (ap open_in marked) (ap ended_in marked)
+    ends_marked c.args.id old
+    (record { newest = c.self.inside.newest; open_ids = open_in end; ended_ids = ended_in end }) places c.requires
+    opens ends newest (ap open_in marked) (ap ended_in marked)
 
 -- The counts stay, and so do their bounds.
 pub invariant_of-self : goal.invariant_of-self

@@ -4,4 +4,5 @@ use Rattle.djq_io.proofs.sessions.Sessions.end.Given as goal
 
 -- The sessions before this place are marked, where they have the id, and the others are as they were.
 abbrev pub invariant-loop-x : goal.invariant-loop-x
-invariant-loop-x l = l.x-items ≡ map (after_end l.id) (take l.x-index l.initial.x-items) ++ drop l.x-index l.initial.x-items
+invariant-loop-x l = l.x-items
+    ≡ map (after_end l.id) (take l.x-index l.initial.x-items) ++ drop l.x-index l.initial.x-items

@@ -28,4 +28,5 @@ returns-clause-script c =
     let piece = c.args.piece.now in
     let exact : c.send.result ≡ send_of old c.args.id piece = search rules in
     let stays : c.send.new.self.script ≡ old.script = search rules in
-    subst (λ (script : Script). Sends c.args.id (length piece) c.send.result old.script script) (sym stays) (sends_by old c.args.id piece c.send.result exact)
+    subst (λ (script : Script). Sends c.args.id (length piece) c.send.result old.script script) (sym stays)
+    (sends_by old c.args.id piece c.send.result exact)

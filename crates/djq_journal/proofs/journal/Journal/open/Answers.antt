@@ -14,4 +14,6 @@ use Rattle.djq_journal.proofs.journal.Journal.open.Goals as goal
 pub returns-then-eq-clause-told : goal.returns-then-eq-clause-told
 returns-then-eq-clause-told g c =
     told_both _ _ _ (Syncs Done) (Fills Whole 0 c.fill.new.buf) (Opens (Ready 8))
-    (λ o m n syncs fills. opened_ready c.fill.new.buf o m n ((bytes_eq-Decides c.fill.new.buf header).0 (sym c.if-eq.ensures)) syncs fills) c.in-Done.ensures.told c.in-Whole.ensures.told
+    (λ o m n syncs fills. opened_ready c.fill.new.buf o m n
+    ((bytes_eq-Decides c.fill.new.buf header).0 (sym c.if-eq.ensures)) syncs fills) c.in-Done.ensures.told
+    c.in-Whole.ensures.told

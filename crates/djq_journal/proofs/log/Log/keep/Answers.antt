@@ -17,10 +17,13 @@ returns-in-Done-clause-told g c =
     let gate = c.in-Some-take.journal in
     let next = c.in-Done.next in
     let is : c.args.self.now ≡ Some gate = search rules in
-    subst (λ (at : Option ℕ). WhereTold (told c.args.disk.now) (told c.append_all.new.disk) (Keeps All at (Some next) group)) (sym is)
-    (told_so _ _ (λ o n. (lines : List (List ℕ)) → IsIdle lines gate o.file → Appends (Done next) lines group o n) (Keeps All (Some gate) (Some next) group)
+    subst (λ (at : Option ℕ). WhereTold (told c.args.disk.now) (told c.append_all.new.disk)
+    (Keeps All at (Some next) group)) (sym is)
+    (told_so _ _ (λ o n. (lines : List (List ℕ)) → IsIdle lines gate o.file → Appends (Done next) lines group o n)
+    (Keeps All (Some gate) (Some next) group)
     (λ o n appends. keeps_all gate next group o n (with_lines group c.in-Some._first.now c.in-Some.ensures) appends)
-    (told_all [] _ _ (λ lines o n. IsIdle lines gate o.file → Appends (Done next) lines group o n) c.in-Done.ensures.told))
+    (told_all [] _ _ (λ lines o n. IsIdle lines gate o.file → Appends (Done next) lines group o n)
+    c.in-Done.ensures.told))
 
 pub returns-in-Failed-clause-told : goal.returns-in-Failed-clause-told
 returns-in-Failed-clause-told g c =
@@ -28,10 +31,13 @@ returns-in-Failed-clause-told g c =
     let group = g.G.Group.lines c.args.group.now in
     let gate = c.in-Some-take.journal in
     let is : c.args.self.now ≡ Some gate = search rules in
-    subst (λ (at : Option ℕ). WhereTold (told c.args.disk.now) (told c.append_all.new.disk) (Keeps Failed at c.take.new.self group)) (sym is)
-    (told_so _ _ (λ o n. (lines : List (List ℕ)) → IsIdle lines gate o.file → Appends Unappended lines group o n) (Keeps Failed (Some gate) c.take.new.self group)
+    subst (λ (at : Option ℕ). WhereTold (told c.args.disk.now) (told c.append_all.new.disk)
+    (Keeps Failed at c.take.new.self group)) (sym is)
+    (told_so _ _ (λ o n. (lines : List (List ℕ)) → IsIdle lines gate o.file → Appends Unappended lines group o n)
+    (Keeps Failed (Some gate) c.take.new.self group)
     (keeps_failed gate c.take.new.self group)
-    (told_all [] _ _ (λ lines o n. IsIdle lines gate o.file → Appends Unappended lines group o n) c.in-Failed.ensures.told))
+    (told_all [] _ _ (λ lines o n. IsIdle lines gate o.file → Appends Unappended lines group o n)
+    c.in-Failed.ensures.told))
 
 pub returns-in-Full-clause-told : goal.returns-in-Full-clause-told
 returns-in-Full-clause-told g c =
@@ -39,7 +45,10 @@ returns-in-Full-clause-told g c =
     let group = g.G.Group.lines c.args.group.now in
     let gate = c.in-Some-take.journal in
     let is : c.args.self.now ≡ Some gate = search rules in
-    subst (λ (at : Option ℕ). WhereTold (told c.args.disk.now) (told c.append_all.new.disk) (Keeps Full at c.take.new.self group)) (sym is)
-    (told_so _ _ (λ o n. (lines : List (List ℕ)) → IsIdle lines gate o.file → Appends Overflows lines group o n) (Keeps Full (Some gate) c.take.new.self group)
+    subst (λ (at : Option ℕ). WhereTold (told c.args.disk.now) (told c.append_all.new.disk)
+    (Keeps Full at c.take.new.self group)) (sym is)
+    (told_so _ _ (λ o n. (lines : List (List ℕ)) → IsIdle lines gate o.file → Appends Overflows lines group o n)
+    (Keeps Full (Some gate) c.take.new.self group)
     (keeps_full gate c.take.new.self group)
-    (told_all [] _ _ (λ lines o n. IsIdle lines gate o.file → Appends Overflows lines group o n) c.in-Full.ensures.told))
+    (told_all [] _ _ (λ lines o n. IsIdle lines gate o.file → Appends Overflows lines group o n)
+    c.in-Full.ensures.told))

@@ -5,6 +5,7 @@ use Rattle.djq_live.proofs.cursors.Cursors.outdate.Goals as goal
 
 pub returns : goal.returns
 returns c =
-    retained_all _ (outdated_progress c.args.relation c.args.seq) (λ f. (f.0.now ≡ c.args.relation) × (f.1.now ≡ c.args.seq))
+    retained_all _ (outdated_progress c.args.relation c.args.seq)
+    (λ f. (f.0.now ≡ c.args.relation) × (f.1.now ≡ c.args.seq))
     (λ f key old keep new next s h. search rules) _ 0 _ _ (refl, refl) c.retain.ensures.retained
     ∙ ap (outdated_slots c.args.relation c.args.seq) c.self.view_is

@@ -21,7 +21,8 @@ tuples_of_all-requires-clause-long g c =
       cursors = c.self.inside.cursors;
     } in
     let can = can_add_all l c.args.self.now c.args.relation.at c.args.rows.now c.self.view_is c.requires in
-    let hand = in_hand l c.args.relation.at c.args.rows.now c.atoms-atoms.result.now c.as_slice-patterns.result.now c.atoms-atoms.ensures c.as_slice-patterns.ensures.value can in
+    let hand = in_hand l c.args.relation.at c.args.rows.now c.atoms-atoms.result.now c.as_slice-patterns.result.now
+    c.atoms-atoms.ensures c.as_slice-patterns.ensures.value can in
     hand.long
 
 pub tuples_of_all-requires-clause-fit : goal.tuples_of_all-requires-clause-fit
@@ -34,7 +35,8 @@ tuples_of_all-requires-clause-fit g c =
       cursors = c.self.inside.cursors;
     } in
     let can = can_add_all l c.args.self.now c.args.relation.at c.args.rows.now c.self.view_is c.requires in
-    let hand = in_hand l c.args.relation.at c.args.rows.now c.atoms-atoms.result.now c.as_slice-patterns.result.now c.atoms-atoms.ensures c.as_slice-patterns.ensures.value can in
+    let hand = in_hand l c.args.relation.at c.args.rows.now c.atoms-atoms.result.now c.as_slice-patterns.result.now
+    c.atoms-atoms.ensures c.as_slice-patterns.ensures.value can in
     hand.fit
 
 pub tuples_of_all-requires-clause-distinct : goal.tuples_of_all-requires-clause-distinct
@@ -59,8 +61,11 @@ add_all_to_leaves-done-requires-clause-can g c =
       cursors = c.self.inside.cursors;
     } in
     let can = can_add_all l c.args.self.now c.args.relation.at c.args.rows.now c.self.view_is c.requires in
-    let hand = in_hand l c.args.relation.at c.args.rows.now c.atoms-atoms.result.now c.as_slice-patterns.result.now c.atoms-atoms.ensures c.as_slice-patterns.ensures.value can in
-    let of = tuples_as c.args.relation.at c.args.rows.now c.atoms-atoms.result.now c.as_slice-patterns.result.now (batch_in c.args.rows.now c.in-Ok.batch.items) (batch_in c.args.rows.now c.as_slice-tuples.result.now) (ap (batch_in c.args.rows.now) c.as_slice-tuples.ensures.value) c.in-Ok.ensures in
+    let hand = in_hand l c.args.relation.at c.args.rows.now c.atoms-atoms.result.now c.as_slice-patterns.result.now
+    c.atoms-atoms.ensures c.as_slice-patterns.ensures.value can in
+    let of = tuples_as c.args.relation.at c.args.rows.now c.atoms-atoms.result.now c.as_slice-patterns.result.now
+    (batch_in c.args.rows.now c.in-Ok.batch.items) (batch_in c.args.rows.now c.as_slice-tuples.result.now)
+    (ap (batch_in c.args.rows.now) c.as_slice-tuples.ensures.value) c.in-Ok.ensures in
     hand.takes (batch_in c.args.rows.now c.as_slice-tuples.result.now) of
 
 pub add_all_to_leaves-done-requires-clause-bare : goal.add_all_to_leaves-done-requires-clause-bare
@@ -84,10 +89,19 @@ returns-then-done-atoms-clause-added g c =
       reducts = c.self.inside.reducts;
       cursors = c.self.inside.cursors;
     } in
-    let of = tuples_as c.args.relation.at c.args.rows.now c.atoms-atoms.result.now c.as_slice-patterns.result.now (batch_in c.args.rows.now c.in-Ok.batch.items) (batch_in c.args.rows.now c.as_slice-tuples.result.now) (ap (batch_in c.args.rows.now) c.as_slice-tuples.ensures.value) c.in-Ok.ensures in
-    let gains = all_gains c.args.relation.at c.args.rows.now c.atoms-atoms.result.now c.as_slice-patterns.result.now (batch_in c.args.rows.now c.as_slice-tuples.result.now) c.add_all_to_leaves-done.result c.self.inside.reducts c.add_all_to_leaves-done.new.reducts of c.add_all_to_leaves-done.ensures.gained in
-    let all = below_at (λ p old new. GainsAll p c.args.rows.now old new) c.args.relation.at c.atoms-atoms.result.now c.as_slice-patterns.result.now c.add_all_to_leaves-done.result (length c.atoms-atoms.result.now) c.self.inside.reducts c.add_all_to_leaves-done.new.reducts (let e = c.if-done-atoms.true in omega arith) (let e = c.if-done-atoms.true in omega arith) gains in
-    follows_came l c.args.self.now c.add_all_to_leaves-done.new.reducts c.args.relation.at c.args.rows.now c.atoms-atoms.result.now c.as_slice-patterns.result.now c.self.view_is c.atoms-atoms.ensures c.as_slice-patterns.ensures.value all
+    let of = tuples_as c.args.relation.at c.args.rows.now c.atoms-atoms.result.now c.as_slice-patterns.result.now
+    (batch_in c.args.rows.now c.in-Ok.batch.items) (batch_in c.args.rows.now c.as_slice-tuples.result.now)
+    (ap (batch_in c.args.rows.now) c.as_slice-tuples.ensures.value) c.in-Ok.ensures in
+    let gains = all_gains c.args.relation.at c.args.rows.now c.atoms-atoms.result.now c.as_slice-patterns.result.now
+    (batch_in c.args.rows.now c.as_slice-tuples.result.now) c.add_all_to_leaves-done.result c.self.inside.reducts
+    c.add_all_to_leaves-done.new.reducts of c.add_all_to_leaves-done.ensures.gained in
+    let all = below_at (λ p old new. GainsAll p c.args.rows.now old new) c.args.relation.at c.atoms-atoms.result.now
+    c.as_slice-patterns.result.now c.add_all_to_leaves-done.result (length c.atoms-atoms.result.now)
+    c.self.inside.reducts c.add_all_to_leaves-done.new.reducts (let e = c.if-done-atoms.true in omega arith)
+    (let e = c.if-done-atoms.true in omega arith) gains in
+    follows_came l c.args.self.now c.add_all_to_leaves-done.new.reducts c.args.relation.at c.args.rows.now
+    c.atoms-atoms.result.now c.as_slice-patterns.result.now c.self.view_is c.atoms-atoms.ensures
+    c.as_slice-patterns.ensures.value all
 
 pub returns-then-done-atoms-clause-same : goal.returns-then-done-atoms-clause-same
 returns-then-done-atoms-clause-same g c =
@@ -98,7 +112,8 @@ returns-then-done-atoms-clause-same g c =
       reducts = c.self.inside.reducts;
       cursors = c.self.inside.cursors;
     } in
-    same_query l c.args.self.now c.add_all_to_leaves-done.new.reducts c.self.view_is c.add_all_to_leaves-done.ensures.gained.tree
+    same_query l c.args.self.now c.add_all_to_leaves-done.new.reducts c.self.view_is
+    c.add_all_to_leaves-done.ensures.gained.tree
 
 pub returns-then-done-atoms-clause-log : goal.returns-then-done-atoms-clause-log
 returns-then-done-atoms-clause-log g c =
@@ -109,10 +124,22 @@ returns-then-done-atoms-clause-log g c =
       reducts = c.self.inside.reducts;
       cursors = c.self.inside.cursors;
     } in
-    let of = tuples_as c.args.relation.at c.args.rows.now c.atoms-atoms.result.now c.as_slice-patterns.result.now (batch_in c.args.rows.now c.in-Ok.batch.items) (batch_in c.args.rows.now c.as_slice-tuples.result.now) (ap (batch_in c.args.rows.now) c.as_slice-tuples.ensures.value) c.in-Ok.ensures in
-    let gains = all_gains c.args.relation.at c.args.rows.now c.atoms-atoms.result.now c.as_slice-patterns.result.now (batch_in c.args.rows.now c.as_slice-tuples.result.now) c.add_all_to_leaves-done.result c.self.inside.reducts c.add_all_to_leaves-done.new.reducts of c.add_all_to_leaves-done.ensures.gained in
-    let all = below_at (λ p old new. GainsAll p c.args.rows.now old new) c.args.relation.at c.atoms-atoms.result.now c.as_slice-patterns.result.now c.add_all_to_leaves-done.result (length c.atoms-atoms.result.now) c.self.inside.reducts c.add_all_to_leaves-done.new.reducts (let e = c.if-done-atoms.true in omega arith) (let e = c.if-done-atoms.true in omega arith) gains in
-    logs_came c.args.wanted l c.args.self.now c.add_all_to_leaves-done.new.reducts c.args.relation.at c.args.rows.now c.atoms-atoms.result.now c.as_slice-patterns.result.now (length c.self.inside.reducts.tree.head) _ c.args.log.now c.add_all_to_leaves-done.new.log c.args.steps.now.listing c.add_all_to_leaves-done.new.steps.listing c.self.view_is c.atoms-atoms.ensures c.as_slice-patterns.ensures.value c.add_all_to_leaves-done.ensures.more all c.add_all_to_leaves-done.ensures.listed
+    let of = tuples_as c.args.relation.at c.args.rows.now c.atoms-atoms.result.now c.as_slice-patterns.result.now
+    (batch_in c.args.rows.now c.in-Ok.batch.items) (batch_in c.args.rows.now c.as_slice-tuples.result.now)
+    (ap (batch_in c.args.rows.now) c.as_slice-tuples.ensures.value) c.in-Ok.ensures in
+    let gains = all_gains c.args.relation.at c.args.rows.now c.atoms-atoms.result.now c.as_slice-patterns.result.now
+    (batch_in c.args.rows.now c.as_slice-tuples.result.now) c.add_all_to_leaves-done.result c.self.inside.reducts
+    c.add_all_to_leaves-done.new.reducts of c.add_all_to_leaves-done.ensures.gained in
+    let all = below_at (λ p old new. GainsAll p c.args.rows.now old new) c.args.relation.at c.atoms-atoms.result.now
+    c.as_slice-patterns.result.now c.add_all_to_leaves-done.result (length c.atoms-atoms.result.now)
+    c.self.inside.reducts c.add_all_to_leaves-done.new.reducts (let e = c.if-done-atoms.true in omega arith)
+    (let e = c.if-done-atoms.true in omega arith) gains in
+    logs_came c.args.wanted l c.args.self.now c.add_all_to_leaves-done.new.reducts c.args.relation.at c.args.rows.now
+    c.atoms-atoms.result.now c.as_slice-patterns.result.now (length c.self.inside.reducts.tree.head) _
+    c.args.log.now c.add_all_to_leaves-done.new.log c.args.steps.now.listing
+    c.add_all_to_leaves-done.new.steps.listing c.self.view_is c.atoms-atoms.ensures
+    c.as_slice-patterns.ensures.value c.add_all_to_leaves-done.ensures.more all
+    c.add_all_to_leaves-done.ensures.listed
 
 pub returns-then-done-atoms-clause-counted : goal.returns-then-done-atoms-clause-counted
 returns-then-done-atoms-clause-counted g c =
@@ -123,9 +150,17 @@ returns-then-done-atoms-clause-counted g c =
       reducts = c.self.inside.reducts;
       cursors = c.self.inside.cursors;
     } in
-    let of = tuples_as c.args.relation.at c.args.rows.now c.atoms-atoms.result.now c.as_slice-patterns.result.now (batch_in c.args.rows.now c.in-Ok.batch.items) (batch_in c.args.rows.now c.as_slice-tuples.result.now) (ap (batch_in c.args.rows.now) c.as_slice-tuples.ensures.value) c.in-Ok.ensures in
-    let gains = all_gains c.args.relation.at c.args.rows.now c.atoms-atoms.result.now c.as_slice-patterns.result.now (batch_in c.args.rows.now c.as_slice-tuples.result.now) c.add_all_to_leaves-done.result c.self.inside.reducts c.add_all_to_leaves-done.new.reducts of c.add_all_to_leaves-done.ensures.gained in
-    counts_came c.args.wanted l c.args.self.now c.add_all_to_leaves-done.new.reducts c.args.relation.at c.args.rows.now c.atoms-atoms.result.now c.as_slice-patterns.result.now c.add_all_to_leaves-done.result c.args.log.now c.add_all_to_leaves-done.new.log c.args.steps.now.listing c.add_all_to_leaves-done.new.steps.listing c.self.view_is c.atoms-atoms.ensures c.as_slice-patterns.ensures.value c.add_all_to_leaves-done.ensures.more gains c.add_all_to_leaves-done.ensures.listed
+    let of = tuples_as c.args.relation.at c.args.rows.now c.atoms-atoms.result.now c.as_slice-patterns.result.now
+    (batch_in c.args.rows.now c.in-Ok.batch.items) (batch_in c.args.rows.now c.as_slice-tuples.result.now)
+    (ap (batch_in c.args.rows.now) c.as_slice-tuples.ensures.value) c.in-Ok.ensures in
+    let gains = all_gains c.args.relation.at c.args.rows.now c.atoms-atoms.result.now c.as_slice-patterns.result.now
+    (batch_in c.args.rows.now c.as_slice-tuples.result.now) c.add_all_to_leaves-done.result c.self.inside.reducts
+    c.add_all_to_leaves-done.new.reducts of c.add_all_to_leaves-done.ensures.gained in
+    counts_came c.args.wanted l c.args.self.now c.add_all_to_leaves-done.new.reducts c.args.relation.at c.args.rows.now
+    c.atoms-atoms.result.now c.as_slice-patterns.result.now c.add_all_to_leaves-done.result c.args.log.now
+    c.add_all_to_leaves-done.new.log c.args.steps.now.listing c.add_all_to_leaves-done.new.steps.listing
+    c.self.view_is c.atoms-atoms.ensures c.as_slice-patterns.ensures.value c.add_all_to_leaves-done.ensures.more
+    gains c.add_all_to_leaves-done.ensures.listed
 
 pub returns-then-done-atoms-clause-grows : goal.returns-then-done-atoms-clause-grows
 returns-then-done-atoms-clause-grows g c =
@@ -136,8 +171,11 @@ returns-then-done-atoms-clause-grows g c =
       reducts = c.self.inside.reducts;
       cursors = c.self.inside.cursors;
     } in
-    let of = tuples_as c.args.relation.at c.args.rows.now c.atoms-atoms.result.now c.as_slice-patterns.result.now (batch_in c.args.rows.now c.in-Ok.batch.items) (batch_in c.args.rows.now c.as_slice-tuples.result.now) (ap (batch_in c.args.rows.now) c.as_slice-tuples.ensures.value) c.in-Ok.ensures in
-    subst (λ (x : Live). GrowsBy (length c.args.rows.now) x.reducts c.add_all_to_leaves-done.new.reducts) c.self.view_is (c.add_all_to_leaves-done.ensures.grows (length c.args.rows.now) of.few)
+    let of = tuples_as c.args.relation.at c.args.rows.now c.atoms-atoms.result.now c.as_slice-patterns.result.now
+    (batch_in c.args.rows.now c.in-Ok.batch.items) (batch_in c.args.rows.now c.as_slice-tuples.result.now)
+    (ap (batch_in c.args.rows.now) c.as_slice-tuples.ensures.value) c.in-Ok.ensures in
+    subst (λ (x : Live). GrowsBy (length c.args.rows.now) x.reducts c.add_all_to_leaves-done.new.reducts) c.self.view_is
+    (c.add_all_to_leaves-done.ensures.grows (length c.args.rows.now) of.few)
 
 pub returns-then-done-atoms-clause-updates : goal.returns-then-done-atoms-clause-updates
 returns-then-done-atoms-clause-updates g c =
@@ -149,8 +187,14 @@ returns-then-done-atoms-clause-updates g c =
       cursors = c.self.inside.cursors;
     } in
     let can = can_add_all l c.args.self.now c.args.relation.at c.args.rows.now c.self.view_is c.requires in
-    let of = tuples_as c.args.relation.at c.args.rows.now c.atoms-atoms.result.now c.as_slice-patterns.result.now (batch_in c.args.rows.now c.in-Ok.batch.items) (batch_in c.args.rows.now c.as_slice-tuples.result.now) (ap (batch_in c.args.rows.now) c.as_slice-tuples.ensures.value) c.in-Ok.ensures in
-    counts_batch l c.args.self.now c.args.relation.at c.atoms-atoms.result.now c.add_all_to_leaves-done.result (length c.args.rows.now) c.args.steps.now.update c.add_all_to_leaves-done.new.steps.update c.self.view_is c.atoms-atoms.ensures (can.before, can.kept) (c.add_all_to_leaves-done.ensures.updates (let e = c.if-done-atoms.true in omega arith) (length c.args.rows.now) of.few)
+    let of = tuples_as c.args.relation.at c.args.rows.now c.atoms-atoms.result.now c.as_slice-patterns.result.now
+    (batch_in c.args.rows.now c.in-Ok.batch.items) (batch_in c.args.rows.now c.as_slice-tuples.result.now)
+    (ap (batch_in c.args.rows.now) c.as_slice-tuples.ensures.value) c.in-Ok.ensures in
+    counts_batch l c.args.self.now c.args.relation.at c.atoms-atoms.result.now c.add_all_to_leaves-done.result
+    (length c.args.rows.now) c.args.steps.now.update c.add_all_to_leaves-done.new.steps.update c.self.view_is
+    c.atoms-atoms.ensures (can.before, can.kept)
+    (c.add_all_to_leaves-done.ensures.updates (let e = c.if-done-atoms.true in omega arith) (length c.args.rows.now)
+    of.few)
 
 pub give_all_from_leaves-requires-clause-leaves : goal.give_all_from_leaves-requires-clause-leaves
 give_all_from_leaves-requires-clause-leaves g c =
@@ -162,8 +206,11 @@ give_all_from_leaves-requires-clause-leaves g c =
       cursors = c.self.inside.cursors;
     } in
     let can = can_add_all l c.args.self.now c.args.relation.at c.args.rows.now c.self.view_is c.requires in
-    let hand = in_hand l c.args.relation.at c.args.rows.now c.atoms-atoms.result.now c.as_slice-patterns.result.now c.atoms-atoms.ensures c.as_slice-patterns.ensures.value can in
-    let of = tuples_as c.args.relation.at c.args.rows.now c.atoms-atoms.result.now c.as_slice-patterns.result.now (batch_in c.args.rows.now c.in-Ok.batch.items) (batch_in c.args.rows.now c.as_slice-tuples.result.now) (ap (batch_in c.args.rows.now) c.as_slice-tuples.ensures.value) c.in-Ok.ensures in
+    let hand = in_hand l c.args.relation.at c.args.rows.now c.atoms-atoms.result.now c.as_slice-patterns.result.now
+    c.atoms-atoms.ensures c.as_slice-patterns.ensures.value can in
+    let of = tuples_as c.args.relation.at c.args.rows.now c.atoms-atoms.result.now c.as_slice-patterns.result.now
+    (batch_in c.args.rows.now c.in-Ok.batch.items) (batch_in c.args.rows.now c.as_slice-tuples.result.now)
+    (ap (batch_in c.args.rows.now) c.as_slice-tuples.ensures.value) c.in-Ok.ensures in
     let take = hand.takes (batch_in c.args.rows.now c.as_slice-tuples.result.now) of in
     ap (λ (t : Tree). t.leaves) c.add_all_to_leaves-done.ensures.gained.tree ∙ take.leaves
 
@@ -177,8 +224,11 @@ give_all_from_leaves-requires-clause-long g c =
       cursors = c.self.inside.cursors;
     } in
     let can = can_add_all l c.args.self.now c.args.relation.at c.args.rows.now c.self.view_is c.requires in
-    let hand = in_hand l c.args.relation.at c.args.rows.now c.atoms-atoms.result.now c.as_slice-patterns.result.now c.atoms-atoms.ensures c.as_slice-patterns.ensures.value can in
-    let of = tuples_as c.args.relation.at c.args.rows.now c.atoms-atoms.result.now c.as_slice-patterns.result.now (batch_in c.args.rows.now c.in-Ok.batch.items) (batch_in c.args.rows.now c.as_slice-tuples.result.now) (ap (batch_in c.args.rows.now) c.as_slice-tuples.ensures.value) c.in-Ok.ensures in
+    let hand = in_hand l c.args.relation.at c.args.rows.now c.atoms-atoms.result.now c.as_slice-patterns.result.now
+    c.atoms-atoms.ensures c.as_slice-patterns.ensures.value can in
+    let of = tuples_as c.args.relation.at c.args.rows.now c.atoms-atoms.result.now c.as_slice-patterns.result.now
+    (batch_in c.args.rows.now c.in-Ok.batch.items) (batch_in c.args.rows.now c.as_slice-tuples.result.now)
+    (ap (batch_in c.args.rows.now) c.as_slice-tuples.ensures.value) c.in-Ok.ensures in
     let take = hand.takes (batch_in c.args.rows.now c.as_slice-tuples.result.now) of in
     take.long
 
@@ -188,7 +238,9 @@ give_all_from_leaves-requires-clause-end g c =
 
 pub give_all_from_leaves-requires-clause-there : goal.give_all_from_leaves-requires-clause-there
 give_all_from_leaves-requires-clause-there g c =
-    all_there c.args.relation.at c.atoms-atoms.result.now (batch_in c.args.rows.now c.as_slice-tuples.result.now) c.add_all_to_leaves-done.result c.self.inside.reducts c.add_all_to_leaves-done.new.reducts c.add_all_to_leaves-done.ensures.gained
+    all_there c.args.relation.at c.atoms-atoms.result.now (batch_in c.args.rows.now c.as_slice-tuples.result.now)
+    c.add_all_to_leaves-done.result c.self.inside.reducts c.add_all_to_leaves-done.new.reducts
+    c.add_all_to_leaves-done.ensures.gained
 
 pub give_all_from_leaves-requires-clause-bare : goal.give_all_from_leaves-requires-clause-bare
 give_all_from_leaves-requires-clause-bare g c =
@@ -204,10 +256,16 @@ returns-clause-refused g c =
       cursors = c.self.inside.cursors;
     } in
     let can = can_add_all l c.args.self.now c.args.relation.at c.args.rows.now c.self.view_is c.requires in
-    let hand = in_hand l c.args.relation.at c.args.rows.now c.atoms-atoms.result.now c.as_slice-patterns.result.now c.atoms-atoms.ensures c.as_slice-patterns.ensures.value can in
-    let of = tuples_as c.args.relation.at c.args.rows.now c.atoms-atoms.result.now c.as_slice-patterns.result.now (batch_in c.args.rows.now c.in-Ok.batch.items) (batch_in c.args.rows.now c.as_slice-tuples.result.now) (ap (batch_in c.args.rows.now) c.as_slice-tuples.ensures.value) c.in-Ok.ensures in
+    let hand = in_hand l c.args.relation.at c.args.rows.now c.atoms-atoms.result.now c.as_slice-patterns.result.now
+    c.atoms-atoms.ensures c.as_slice-patterns.ensures.value can in
+    let of = tuples_as c.args.relation.at c.args.rows.now c.atoms-atoms.result.now c.as_slice-patterns.result.now
+    (batch_in c.args.rows.now c.in-Ok.batch.items) (batch_in c.args.rows.now c.as_slice-tuples.result.now)
+    (ap (batch_in c.args.rows.now) c.as_slice-tuples.ensures.value) c.in-Ok.ensures in
     let take = hand.takes (batch_in c.args.rows.now c.as_slice-tuples.result.now) of in
-    batch_kept l c.args.self.now c.add_all_to_leaves-done.new.reducts c.give_all_from_leaves.new.reducts c.args.relation.at c.atoms-atoms.result.now (batch_in c.args.rows.now c.as_slice-tuples.result.now) c.add_all_to_leaves-done.result c.self.view_is can.kept.over.reducts take c.add_all_to_leaves-done.ensures.gained c.give_all_from_leaves.ensures.lost
+    batch_kept l c.args.self.now c.add_all_to_leaves-done.new.reducts c.give_all_from_leaves.new.reducts
+    c.args.relation.at c.atoms-atoms.result.now (batch_in c.args.rows.now c.as_slice-tuples.result.now)
+    c.add_all_to_leaves-done.result c.self.view_is can.kept.over.reducts take
+    c.add_all_to_leaves-done.ensures.gained c.give_all_from_leaves.ensures.lost
 
 pub returns-clause-tables : goal.returns-clause-tables
 returns-clause-tables g c =
@@ -219,10 +277,16 @@ returns-clause-tables g c =
       cursors = c.self.inside.cursors;
     } in
     let can = can_add_all l c.args.self.now c.args.relation.at c.args.rows.now c.self.view_is c.requires in
-    let hand = in_hand l c.args.relation.at c.args.rows.now c.atoms-atoms.result.now c.as_slice-patterns.result.now c.atoms-atoms.ensures c.as_slice-patterns.ensures.value can in
-    let of = tuples_as c.args.relation.at c.args.rows.now c.atoms-atoms.result.now c.as_slice-patterns.result.now (batch_in c.args.rows.now c.in-Ok.batch.items) (batch_in c.args.rows.now c.as_slice-tuples.result.now) (ap (batch_in c.args.rows.now) c.as_slice-tuples.ensures.value) c.in-Ok.ensures in
+    let hand = in_hand l c.args.relation.at c.args.rows.now c.atoms-atoms.result.now c.as_slice-patterns.result.now
+    c.atoms-atoms.ensures c.as_slice-patterns.ensures.value can in
+    let of = tuples_as c.args.relation.at c.args.rows.now c.atoms-atoms.result.now c.as_slice-patterns.result.now
+    (batch_in c.args.rows.now c.in-Ok.batch.items) (batch_in c.args.rows.now c.as_slice-tuples.result.now)
+    (ap (batch_in c.args.rows.now) c.as_slice-tuples.ensures.value) c.in-Ok.ensures in
     let take = hand.takes (batch_in c.args.rows.now c.as_slice-tuples.result.now) of in
-    batch_same l c.args.self.now c.add_all_to_leaves-done.new.reducts c.give_all_from_leaves.new.reducts c.args.relation.at c.atoms-atoms.result.now (batch_in c.args.rows.now c.as_slice-tuples.result.now) c.add_all_to_leaves-done.result c.self.view_is can.kept.over.reducts take c.add_all_to_leaves-done.ensures.gained c.give_all_from_leaves.ensures.lost
+    batch_same l c.args.self.now c.add_all_to_leaves-done.new.reducts c.give_all_from_leaves.new.reducts
+    c.args.relation.at c.atoms-atoms.result.now (batch_in c.args.rows.now c.as_slice-tuples.result.now)
+    c.add_all_to_leaves-done.result c.self.view_is can.kept.over.reducts take
+    c.add_all_to_leaves-done.ensures.gained c.give_all_from_leaves.ensures.lost
 
 pub returns-clause-same : goal.returns-clause-same
 returns-clause-same g c =
@@ -233,7 +297,8 @@ returns-clause-same g c =
       reducts = c.self.inside.reducts;
       cursors = c.self.inside.cursors;
     } in
-    same_query l c.args.self.now c.give_all_from_leaves.new.reducts c.self.view_is (c.give_all_from_leaves.ensures.lost.tree ∙ c.add_all_to_leaves-done.ensures.gained.tree)
+    same_query l c.args.self.now c.give_all_from_leaves.new.reducts c.self.view_is
+    (c.give_all_from_leaves.ensures.lost.tree ∙ c.add_all_to_leaves-done.ensures.gained.tree)
 
 pub returns-clause-counted : goal.returns-clause-counted
 returns-clause-counted g c =
@@ -244,10 +309,19 @@ returns-clause-counted g c =
       reducts = c.self.inside.reducts;
       cursors = c.self.inside.cursors;
     } in
-    let of = tuples_as c.args.relation.at c.args.rows.now c.atoms-atoms.result.now c.as_slice-patterns.result.now (batch_in c.args.rows.now c.in-Ok.batch.items) (batch_in c.args.rows.now c.as_slice-tuples.result.now) (ap (batch_in c.args.rows.now) c.as_slice-tuples.ensures.value) c.in-Ok.ensures in
-    let gains = all_gains c.args.relation.at c.args.rows.now c.atoms-atoms.result.now c.as_slice-patterns.result.now (batch_in c.args.rows.now c.as_slice-tuples.result.now) c.add_all_to_leaves-done.result c.self.inside.reducts c.add_all_to_leaves-done.new.reducts of c.add_all_to_leaves-done.ensures.gained in
-    subst (λ (n : ℕ). CountsDelta c.args.wanted (λ x y. CameAll x y c.args.relation.at c.args.rows.now) c.args.self.now c.args.relation.at c.args.steps.now.listing n) (sym c.give_all_from_leaves.ensures.listing)
-    (counts_came c.args.wanted l c.args.self.now c.add_all_to_leaves-done.new.reducts c.args.relation.at c.args.rows.now c.atoms-atoms.result.now c.as_slice-patterns.result.now c.add_all_to_leaves-done.result c.args.log.now c.add_all_to_leaves-done.new.log c.args.steps.now.listing c.add_all_to_leaves-done.new.steps.listing c.self.view_is c.atoms-atoms.ensures c.as_slice-patterns.ensures.value c.add_all_to_leaves-done.ensures.more gains c.add_all_to_leaves-done.ensures.listed)
+    let of = tuples_as c.args.relation.at c.args.rows.now c.atoms-atoms.result.now c.as_slice-patterns.result.now
+    (batch_in c.args.rows.now c.in-Ok.batch.items) (batch_in c.args.rows.now c.as_slice-tuples.result.now)
+    (ap (batch_in c.args.rows.now) c.as_slice-tuples.ensures.value) c.in-Ok.ensures in
+    let gains = all_gains c.args.relation.at c.args.rows.now c.atoms-atoms.result.now c.as_slice-patterns.result.now
+    (batch_in c.args.rows.now c.as_slice-tuples.result.now) c.add_all_to_leaves-done.result c.self.inside.reducts
+    c.add_all_to_leaves-done.new.reducts of c.add_all_to_leaves-done.ensures.gained in
+    subst (λ (n : ℕ). CountsDelta c.args.wanted (λ x y. CameAll x y c.args.relation.at c.args.rows.now) c.args.self.now
+    c.args.relation.at c.args.steps.now.listing n) (sym c.give_all_from_leaves.ensures.listing)
+    (counts_came c.args.wanted l c.args.self.now c.add_all_to_leaves-done.new.reducts c.args.relation.at c.args.rows.now
+    c.atoms-atoms.result.now c.as_slice-patterns.result.now c.add_all_to_leaves-done.result c.args.log.now
+    c.add_all_to_leaves-done.new.log c.args.steps.now.listing c.add_all_to_leaves-done.new.steps.listing
+    c.self.view_is c.atoms-atoms.ensures c.as_slice-patterns.ensures.value c.add_all_to_leaves-done.ensures.more
+    gains c.add_all_to_leaves-done.ensures.listed)
 
 pub returns-clause-refusal : goal.returns-clause-refusal
 returns-clause-refusal g c =
@@ -259,7 +333,16 @@ returns-clause-refusal g c =
       cursors = c.self.inside.cursors;
     } in
     let can = can_add_all l c.args.self.now c.args.relation.at c.args.rows.now c.self.view_is c.requires in
-    let of = tuples_as c.args.relation.at c.args.rows.now c.atoms-atoms.result.now c.as_slice-patterns.result.now (batch_in c.args.rows.now c.in-Ok.batch.items) (batch_in c.args.rows.now c.as_slice-tuples.result.now) (ap (batch_in c.args.rows.now) c.as_slice-tuples.ensures.value) c.in-Ok.ensures in
-    let stopped : c.add_all_to_leaves-done.result < length c.atoms-atoms.result.now = (let e = c.if-done-atoms.false in let d = c.add_all_to_leaves-done.ensures.done in omega arith) in
-    batch_back l c.args.self.now c.add_all_to_leaves-done.new.reducts c.args.relation.at c.atoms-atoms.result.now c.add_all_to_leaves-done.result (length c.args.rows.now) c.args.steps.now.update c.add_all_to_leaves-done.new.steps.update c.give_all_from_leaves.new.steps.update c.self.view_is c.atoms-atoms.ensures (can.before, can.kept) c.add_all_to_leaves-done.ensures.gained.tree
-    (c.add_all_to_leaves-done.ensures.grows (length c.args.rows.now) of.few) (c.add_all_to_leaves-done.ensures.left stopped) (c.add_all_to_leaves-done.ensures.refusal stopped (length c.args.rows.now) of.few) c.give_all_from_leaves.ensures.updates
+    let of = tuples_as c.args.relation.at c.args.rows.now c.atoms-atoms.result.now c.as_slice-patterns.result.now
+    (batch_in c.args.rows.now c.in-Ok.batch.items) (batch_in c.args.rows.now c.as_slice-tuples.result.now)
+    (ap (batch_in c.args.rows.now) c.as_slice-tuples.ensures.value) c.in-Ok.ensures in
+    let stopped : c.add_all_to_leaves-done.result < length c.atoms-atoms.result.now =
+    (let e = c.if-done-atoms.false in let d = c.add_all_to_leaves-done.ensures.done in omega arith) in
+    batch_back l c.args.self.now c.add_all_to_leaves-done.new.reducts c.args.relation.at c.atoms-atoms.result.now
+    c.add_all_to_leaves-done.result (length c.args.rows.now) c.args.steps.now.update
+    c.add_all_to_leaves-done.new.steps.update c.give_all_from_leaves.new.steps.update c.self.view_is
+    c.atoms-atoms.ensures (can.before, can.kept) c.add_all_to_leaves-done.ensures.gained.tree
+    (c.add_all_to_leaves-done.ensures.grows (length c.args.rows.now) of.few)
+    (c.add_all_to_leaves-done.ensures.left stopped)
+    (c.add_all_to_leaves-done.ensures.refusal stopped (length c.args.rows.now) of.few)
+    c.give_all_from_leaves.ensures.updates

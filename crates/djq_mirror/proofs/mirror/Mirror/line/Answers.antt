@@ -6,7 +6,8 @@ use Rattle.djq_mirror.proofs.mirror.Mirror.line.Goals as goal
 pub returns-in-Ok-Some : goal.returns-in-Ok-Some
 returns-in-Ok-Some c =
     let said = rw c.in-Ok-Some.field-0-is at c.in-Ok-Some.ensures in
-    line_ends c.args.self.now c.take.new.self c.args.line.now (news_by c.in-Ok-Some.told) c.take.result (sym said) (omega arith) c.take.ensures
+    line_ends c.args.self.now c.take.new.self c.args.line.now (news_by c.in-Ok-Some.told) c.take.result (sym said)
+    (omega arith) c.take.ensures
 
 pub returns-in-Ok-None : goal.returns-in-Ok-None
 returns-in-Ok-None c =

@@ -4,7 +4,8 @@ use Rattle.djq_model.specs.Padded.{zeros_after}
 use Rattle.djq_model.proofs.name.Name.new.Goals as goal
 
 -- what is copied over the front of 32 zeros is a name with zeros behind it
-filled : (xs from : List ℕ) → xs ≡ from → length from ≤ 32 → xs ++ drop (length from) (replicate 32 0) ≡ zeros_after (take (length from) (xs ++ drop (length from) (replicate 32 0)))
+filled : (xs from : List ℕ) → xs ≡ from → length from ≤ 32 → xs ++ drop (length from) (replicate 32 0)
+    ≡ zeros_after (take (length from) (xs ++ drop (length from) (replicate 32 0)))
 filled xs from e h = rw (e, take_at, drop-replicate) refl
 
 pub invariant_of-result : goal.invariant_of-result

@@ -8,7 +8,8 @@ use Rattle.djq_net.proofs.tcp_hub.TcpHub.look.Goals as goal
 pub returns-in-Bytes-clause-ids : goal.returns-in-Bytes-clause-ids
 returns-in-Bytes-clause-ids g c =
     let id = c.index_mut-conn.result.now.id in
-    let running = subst (λ (s : Shown). IsRunning s.ids id) c.self.view_is (holds_by c.is_running.result c.is_running.ensures (search rules)) in
+    let running = subst (λ (s : Shown). IsRunning s.ids id) c.self.view_is
+    (holds_by c.is_running.result c.is_running.ensures (search rules)) in
     let fits = c.in-Bytes.ensures in
     (fits.0, fits.1, running, ap (λ (s : Shown). s.ids) c.self.view_is)
 
@@ -16,11 +17,13 @@ returns-in-Bytes-clause-ids g c =
 pub returns-in-End-clause-ids : goal.returns-in-End-clause-ids
 returns-in-End-clause-ids g c =
     let id = c.index_mut-conn.result.now.id in
-    let running = subst (λ (s : Shown). IsRunning s.ids id) c.self.view_is (holds_by c.is_running.result c.is_running.ensures (search rules)) in
+    let running = subst (λ (s : Shown). IsRunning s.ids id) c.self.view_is
+    (holds_by c.is_running.result c.is_running.ensures (search rules)) in
     (running, rw (ap (λ (s : Shown). s.ids) c.self.view_is) at c.end.ensures.ids)
 
 pub returns-in-Broken-clause-ids : goal.returns-in-Broken-clause-ids
 returns-in-Broken-clause-ids g c =
     let id = c.index_mut-conn.result.now.id in
-    let running = subst (λ (s : Shown). IsRunning s.ids id) c.self.view_is (holds_by c.is_running.result c.is_running.ensures (search rules)) in
+    let running = subst (λ (s : Shown). IsRunning s.ids id) c.self.view_is
+    (holds_by c.is_running.result c.is_running.ensures (search rules)) in
     (running, rw (c.count_fault.ensures.ids, ap (λ (s : Shown). s.ids) c.self.view_is) at c.end-in-Broken.ensures.ids)

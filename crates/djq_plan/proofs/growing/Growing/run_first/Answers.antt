@@ -8,10 +8,12 @@ first-init c = ran_none (are_within c.args.head) c.args.head c.args.self.now
 
 pub first-smaller : goal.first-smaller
 first-smaller c =
-    (turn (are_within c.args.head) c.args.head c.args.head c.args.self.now c.first.self _ c.take_step.new.self c.deref.result.now c.in_ok-take_step.field-0 c.first.invariant c.self.view_is
+    (turn (are_within c.args.head) c.args.head c.args.head c.args.self.now c.first.self _ c.take_step.new.self
+    c.deref.result.now c.in_ok-take_step.field-0 c.first.invariant c.self.view_is
     c.deref.ensures.value c.first-test.ensures refl c.in_ok-take_step.ensures c.if-not-branch.false).1
 
 pub first-preserved : goal.first-preserved
 first-preserved c =
-    (turn (are_within c.args.head) c.args.head c.args.head c.args.self.now c.first.self _ c.take_step.new.self c.deref.result.now c.in_ok-take_step.field-0 c.first.invariant c.self.view_is
+    (turn (are_within c.args.head) c.args.head c.args.head c.args.self.now c.first.self _ c.take_step.new.self
+    c.deref.result.now c.in_ok-take_step.field-0 c.first.invariant c.self.view_is
     c.deref.ensures.value c.first-test.ensures refl c.in_ok-take_step.ensures c.if-not-branch.false).0

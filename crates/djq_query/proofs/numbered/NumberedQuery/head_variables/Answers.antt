@@ -3,4 +3,5 @@ use Rattle.djq_query.proofs.numbered.NumberedQuery.head_variables.Goals as goal
 
 pub head-preserved : goal.head-preserved
 head-preserved c =
-    head_on c.args.self.now.head c.head-head.result.now c.head.variables c.insert-variables.result c.head.i 0 c.head-head.ensures c.head-test.true c.insert-variables.ensures c.head.invariant
+    head_on c.args.self.now.head c.head-head.result.now c.head.variables c.insert-variables.result c.head.i 0
+    c.head-head.ensures c.head-test.true c.insert-variables.ensures c.head.invariant

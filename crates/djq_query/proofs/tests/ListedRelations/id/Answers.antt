@@ -10,4 +10,5 @@ pub returns : goal.returns
 returns c =
     let told : c.find.result ≡ position (λ (r : Relation). bytes_eq r.name c.args.name.now) c.args.self.now.relations =
     c.find.ensures ∙ ap (position (λ (r : Relation). bytes_eq r.name c.args.name.now)) c.as_slice.ensures in
-    subst (λ (o : Option ℕ). IsId c.args.self.now.relations c.args.name.now o) (sym told) (is_found c.args.self.now.relations c.args.name.now)
+    subst (λ (o : Option ℕ). IsId c.args.self.now.relations c.args.name.now o) (sym told)
+    (is_found c.args.self.now.relations c.args.name.now)

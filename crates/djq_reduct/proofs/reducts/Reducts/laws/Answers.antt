@@ -4,4 +4,5 @@ use Rattle.djq_reduct.proofs.Family.{one_family}
 use Rattle.djq_reduct.proofs.reducts.Reducts.laws.Goals as goal
 
 pub returns-clause-only : goal.returns-clause-only
-returns-clause-only c other h same = one_family c.args.self.now other (subst IsReducts c.self.view_is c.self.invariant.0) h same
+returns-clause-only c other h same = one_family c.args.self.now other
+    (subst IsReducts c.self.view_is c.self.invariant.0) h same

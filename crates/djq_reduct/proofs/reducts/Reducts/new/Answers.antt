@@ -23,11 +23,13 @@ invariant_of-result c =
     let test = c.loop-node-test.false in
     let low = c.loop-node.auto.node-end in
     let all : c.loop-node.node ≡ length c.args.tree.nodes = omega arith in (
-      subst (λ (ts : List Table). IsReducts (record { tree = c.args.tree; tables = ts })) (sym (c.loop-node.invariant ∙ ap (λ (n : ℕ). empty_tables c.args.tree n) all))
+      subst (λ (ts : List Table). IsReducts (record { tree = c.args.tree; tables = ts }))
+          (sym (c.loop-node.invariant ∙ ap (λ (n : ℕ). empty_tables c.args.tree n) all))
           (made_reducts c.args.tree c.len-node-end.ensures.tree c.requires),
       c.in_ok-columns.ensures,
       c.in_ok-places.ensures ∙ ap (λ (F : List ℕ). head_places F VARIABLES) c.head.ensures,
     )
 
 pub returns-clause-empty : goal.returns-clause-empty
-returns-clause-empty c k = ap (λ (ts : List Table). entries_at ts k) c.loop-node.invariant ∙ made_entries c.args.tree c.loop-node.node k
+returns-clause-empty c k = ap (λ (ts : List Table). entries_at ts k) c.loop-node.invariant
+    ∙ made_entries c.args.tree c.loop-node.node k

@@ -2,7 +2,9 @@ use Rattle.djq_session.proofs.Finding.{placed_any, placed_there}
 use Rattle.djq_session.proofs.session.watches.place_near.Goals as goal
 
 pub returns-clause-watched : goal.returns-clause-watched
-returns-clause-watched g c = placed_any (λ q. g.Q.PartialEq.eq q c.args.query) c.args.watches.now c.place_of.result c.place_of.ensures
+returns-clause-watched g c = placed_any (λ q. g.Q.PartialEq.eq q c.args.query) c.args.watches.now c.place_of.result
+    c.place_of.ensures
 
 pub returns-clause-place : goal.returns-clause-place
-returns-clause-place g c = placed_there (λ q. g.Q.PartialEq.eq q c.args.query) c.args.watches.now c.place_of.result c.place_of.ensures
+returns-clause-place g c = placed_there (λ q. g.Q.PartialEq.eq q c.args.query) c.args.watches.now c.place_of.result
+    c.place_of.ensures

@@ -79,7 +79,8 @@ invariant_of-self g c =
     let is = c.add_turn-turn.ensures ∙ add_turns change r in
     let comes = turn_comes p c.follow_one.new.parts e' true names outcome turn is c.args.steps.now.listing
     c.add-outcome.new.steps.listing c.follow_one.new.listing c.self.invariant c.engine_laws.ensures.staying did a.tells
-    (add_known p.engine e' c.args.name.now c.args.row.now r a.adds) c.follow_one.ensures.follows c.follow_one.ensures.counted in
+    (add_known p.engine e' c.args.name.now c.args.row.now r a.adds) c.follow_one.ensures.follows
+    c.follow_one.ensures.counted in
     comes.whole
 
 pub returns-clause-adds : goal.returns-clause-adds
@@ -98,8 +99,10 @@ returns-clause-adds g c =
     let is = c.add_turn-turn.ensures ∙ add_turns change r in
     let comes = turn_comes p c.follow_one.new.parts e' true names outcome turn is c.args.steps.now.listing
     c.add-outcome.new.steps.listing c.follow_one.new.listing c.self.invariant c.engine_laws.ensures.staying did a.tells
-    (add_known p.engine e' c.args.name.now c.args.row.now r a.adds) c.follow_one.ensures.follows c.follow_one.ensures.counted in
-    subst (λ (k : Kept). AddsRow k.store c.args.name.now c.args.row.now r (kept_in c.follow_one.new.parts).store) c.self.view_is
+    (add_known p.engine e' c.args.name.now c.args.row.now r a.adds) c.follow_one.ensures.follows
+    c.follow_one.ensures.counted in
+    subst (λ (k : Kept). AddsRow k.store c.args.name.now c.args.row.now r (kept_in c.follow_one.new.parts).store)
+    c.self.view_is
     (store_adds p c.follow_one.new.parts e' c.args.name.now c.args.row.now r a.adds comes.store)
 
 pub returns-clause-outdates : goal.returns-clause-outdates
@@ -118,7 +121,8 @@ returns-clause-outdates g c =
     let is = c.add_turn-turn.ensures ∙ add_turns change r in
     let comes = turn_comes p c.follow_one.new.parts e' true names outcome turn is c.args.steps.now.listing
     c.add-outcome.new.steps.listing c.follow_one.new.listing c.self.invariant c.engine_laws.ensures.staying did a.tells
-    (add_known p.engine e' c.args.name.now c.args.row.now r a.adds) c.follow_one.ensures.follows c.follow_one.ensures.counted in
+    (add_known p.engine e' c.args.name.now c.args.row.now r a.adds) c.follow_one.ensures.follows
+    c.follow_one.ensures.counted in
     subst (λ (k : Kept). Outdates k (tried (add_outcome (row_in (k.store).relations c.args.name.now c.args.row.now) r))
     (kept_in c.follow_one.new.parts)) c.self.view_is comes.outdates
 
@@ -138,7 +142,8 @@ returns-clause-watches g c =
     let is = c.add_turn-turn.ensures ∙ add_turns change r in
     let comes = turn_comes p c.follow_one.new.parts e' true names outcome turn is c.args.steps.now.listing
     c.add-outcome.new.steps.listing c.follow_one.new.listing c.self.invariant c.engine_laws.ensures.staying did a.tells
-    (add_known p.engine e' c.args.name.now c.args.row.now r a.adds) c.follow_one.ensures.follows c.follow_one.ensures.counted in
+    (add_known p.engine e' c.args.name.now c.args.row.now r a.adds) c.follow_one.ensures.follows
+    c.follow_one.ensures.counted in
     subst (λ (k : Kept). (kept_in c.follow_one.new.parts).registered ≡ k.registered) c.self.view_is comes.registered
 
 pub returns-clause-tells : goal.returns-clause-tells
@@ -157,7 +162,8 @@ returns-clause-tells g c =
     let is = c.add_turn-turn.ensures ∙ add_turns change r in
     let comes = turn_comes p c.follow_one.new.parts e' true names outcome turn is c.args.steps.now.listing
     c.add-outcome.new.steps.listing c.follow_one.new.listing c.self.invariant c.engine_laws.ensures.staying did a.tells
-    (add_known p.engine e' c.args.name.now c.args.row.now r a.adds) c.follow_one.ensures.follows c.follow_one.ensures.counted in
+    (add_known p.engine e' c.args.name.now c.args.row.now r a.adds) c.follow_one.ensures.follows
+    c.follow_one.ensures.counted in
     subst (λ (k : Kept). TellsChange k (add_outcome (row_in (k.store).relations c.args.name.now c.args.row.now) r)
     (kept_in c.follow_one.new.parts) c.args.steps.now.listing c.follow_one.new.listing) c.self.view_is comes.tells
 
@@ -177,6 +183,7 @@ returns-clause-updates g c =
     subst (λ (k : Kept). CountsUpdates (add_times r) k
     (row_in (k.store).relations c.args.name.now c.args.row.now) c.args.steps.now.update c.add-outcome.new.steps.update)
     c.self.view_is
-    (counts_seen p.engine c.engine_laws.ensures.engine p.unions.items p.order.items c.self.invariant.listed p.sessions.items
+    (counts_seen p.engine c.engine_laws.ensures.engine p.unions.items p.order.items c.self.invariant.listed
+    p.sessions.items
     (add_times r) change (kept_in p) c.args.steps.now.update c.add-outcome.new.steps.update
     refl refl c.add-outcome.ensures.updates)

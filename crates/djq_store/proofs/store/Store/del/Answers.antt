@@ -58,7 +58,8 @@ follow_one-requires-clause-few g c =
     (delete_grows (p.engine).store e'.store c.args.name.now c.args.row.now r a.deletes) in
     let turn = c.delete_turn-turn.result in
     let is = c.delete_turn-turn.ensures ∙ delete_turns change r in
-    turn_few p e' c.self.invariant false outcome turn is c.args.steps.now.listing c.del-outcome.new.steps.listing a.tells
+    turn_few p e' c.self.invariant false outcome turn is c.args.steps.now.listing c.del-outcome.new.steps.listing
+    a.tells
 
 pub follow_one-requires-clause-room : goal.follow_one-requires-clause-room
 follow_one-requires-clause-room g c = order_few c.self.inside.parts c.self.invariant
@@ -79,7 +80,8 @@ invariant_of-self g c =
     let is = c.delete_turn-turn.ensures ∙ delete_turns change r in
     let comes = turn_comes p c.follow_one.new.parts e' false names outcome turn is c.args.steps.now.listing
     c.del-outcome.new.steps.listing c.follow_one.new.listing c.self.invariant c.engine_laws.ensures.staying did a.tells
-    (delete_known p.engine e' c.args.name.now c.args.row.now r a.deletes) c.follow_one.ensures.follows c.follow_one.ensures.counted in
+    (delete_known p.engine e' c.args.name.now c.args.row.now r a.deletes) c.follow_one.ensures.follows
+    c.follow_one.ensures.counted in
     comes.whole
 
 pub returns-clause-deletes : goal.returns-clause-deletes
@@ -98,8 +100,10 @@ returns-clause-deletes g c =
     let is = c.delete_turn-turn.ensures ∙ delete_turns change r in
     let comes = turn_comes p c.follow_one.new.parts e' false names outcome turn is c.args.steps.now.listing
     c.del-outcome.new.steps.listing c.follow_one.new.listing c.self.invariant c.engine_laws.ensures.staying did a.tells
-    (delete_known p.engine e' c.args.name.now c.args.row.now r a.deletes) c.follow_one.ensures.follows c.follow_one.ensures.counted in
-    subst (λ (k : Kept). DeletesRow k.store c.args.name.now c.args.row.now r (kept_in c.follow_one.new.parts).store) c.self.view_is
+    (delete_known p.engine e' c.args.name.now c.args.row.now r a.deletes) c.follow_one.ensures.follows
+    c.follow_one.ensures.counted in
+    subst (λ (k : Kept). DeletesRow k.store c.args.name.now c.args.row.now r (kept_in c.follow_one.new.parts).store)
+    c.self.view_is
     (store_deletes p c.follow_one.new.parts e' c.args.name.now c.args.row.now r a.deletes comes.store)
 
 pub returns-clause-outdates : goal.returns-clause-outdates
@@ -118,8 +122,10 @@ returns-clause-outdates g c =
     let is = c.delete_turn-turn.ensures ∙ delete_turns change r in
     let comes = turn_comes p c.follow_one.new.parts e' false names outcome turn is c.args.steps.now.listing
     c.del-outcome.new.steps.listing c.follow_one.new.listing c.self.invariant c.engine_laws.ensures.staying did a.tells
-    (delete_known p.engine e' c.args.name.now c.args.row.now r a.deletes) c.follow_one.ensures.follows c.follow_one.ensures.counted in
-    subst (λ (k : Kept). Outdates k (tried (delete_outcome (row_out (k.store).relations c.args.name.now c.args.row.now) r))
+    (delete_known p.engine e' c.args.name.now c.args.row.now r a.deletes) c.follow_one.ensures.follows
+    c.follow_one.ensures.counted in
+    subst (λ (k : Kept). Outdates k
+    (tried (delete_outcome (row_out (k.store).relations c.args.name.now c.args.row.now) r))
     (kept_in c.follow_one.new.parts)) c.self.view_is comes.outdates
 
 pub returns-clause-watches : goal.returns-clause-watches
@@ -138,7 +144,8 @@ returns-clause-watches g c =
     let is = c.delete_turn-turn.ensures ∙ delete_turns change r in
     let comes = turn_comes p c.follow_one.new.parts e' false names outcome turn is c.args.steps.now.listing
     c.del-outcome.new.steps.listing c.follow_one.new.listing c.self.invariant c.engine_laws.ensures.staying did a.tells
-    (delete_known p.engine e' c.args.name.now c.args.row.now r a.deletes) c.follow_one.ensures.follows c.follow_one.ensures.counted in
+    (delete_known p.engine e' c.args.name.now c.args.row.now r a.deletes) c.follow_one.ensures.follows
+    c.follow_one.ensures.counted in
     subst (λ (k : Kept). (kept_in c.follow_one.new.parts).registered ≡ k.registered) c.self.view_is comes.registered
 
 pub returns-clause-tells : goal.returns-clause-tells
@@ -157,7 +164,8 @@ returns-clause-tells g c =
     let is = c.delete_turn-turn.ensures ∙ delete_turns change r in
     let comes = turn_comes p c.follow_one.new.parts e' false names outcome turn is c.args.steps.now.listing
     c.del-outcome.new.steps.listing c.follow_one.new.listing c.self.invariant c.engine_laws.ensures.staying did a.tells
-    (delete_known p.engine e' c.args.name.now c.args.row.now r a.deletes) c.follow_one.ensures.follows c.follow_one.ensures.counted in
+    (delete_known p.engine e' c.args.name.now c.args.row.now r a.deletes) c.follow_one.ensures.follows
+    c.follow_one.ensures.counted in
     subst (λ (k : Kept). TellsChange k (delete_outcome (row_out (k.store).relations c.args.name.now c.args.row.now) r)
     (kept_in c.follow_one.new.parts) c.args.steps.now.listing c.follow_one.new.listing) c.self.view_is comes.tells
 
@@ -177,6 +185,7 @@ returns-clause-updates g c =
     subst (λ (k : Kept). CountsUpdates (delete_times r) k
     (row_out (k.store).relations c.args.name.now c.args.row.now) c.args.steps.now.update c.del-outcome.new.steps.update)
     c.self.view_is
-    (counts_seen p.engine c.engine_laws.ensures.engine p.unions.items p.order.items c.self.invariant.listed p.sessions.items
+    (counts_seen p.engine c.engine_laws.ensures.engine p.unions.items p.order.items c.self.invariant.listed
+    p.sessions.items
     (delete_times r) change (kept_in p) c.args.steps.now.update c.del-outcome.new.steps.update
     refl refl c.del-outcome.ensures.updates)

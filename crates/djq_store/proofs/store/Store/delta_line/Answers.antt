@@ -13,8 +13,10 @@ use Rattle.djq_store.proofs.store.Store.delta_line.Goals as goal
 pub delta_line-requires-clause-registered : goal.delta_line-requires-clause-registered
 delta_line-requires-clause-registered c =
     let p = c.self.inside.parts in
-    engine_registered p.engine c.engine_laws.ensures.engine p.unions.items p.order.items p.sessions.items p.affected.items
-    c.self.invariant.listed c.args.id (subst (λ (k : Kept). IsRegistered k c.args.id) (sym c.self.view_is) c.requires.registered)
+    engine_registered p.engine c.engine_laws.ensures.engine p.unions.items p.order.items p.sessions.items
+    p.affected.items
+    c.self.invariant.listed c.args.id
+    (subst (λ (k : Kept). IsRegistered k c.args.id) (sym c.self.view_is) c.requires.registered)
     c.if-id-lt-QUERIES.true
 
 pub delta_line-requires-clause-within : goal.delta_line-requires-clause-within
@@ -33,16 +35,19 @@ returns-then-id-lt-QUERIES c =
     (λ d. (c.delta_line.result.0 ≡ d.sign) × (c.delta_line.result.1 ≡ d.answer)))) c.self.view_is
     (subst (λ (o : Option (List Change)). IsSomeAnd o (λ changes. IsSomeAnd (slice_get changes c.args.nth)
     (λ d. (c.delta_line.result.0 ≡ d.sign) × (c.delta_line.result.1 ≡ d.answer))))
-    (sym (told_query p.engine c.engine_laws.ensures.engine p.unions.items p.order.items p.sessions.items p.affected.items
+    (sym (told_query p.engine c.engine_laws.ensures.engine p.unions.items p.order.items p.sessions.items
+    p.affected.items
     c.self.invariant.listed c.args.id c.if-id-lt-QUERIES.true))
     c.delta_line.ensures)
 
 pub joined_in-joined-requires : goal.joined_in-joined-requires
 joined_in-joined-requires c =
     let p = c.self.inside.parts in
-    subst (λ (us : List (Option Joined)). IsSomeAnd (joined_at us (c.args.id.at - 256)) (λ j. ⊤)) (sym c.as_slice.ensures.value)
+    subst (λ (us : List (Option Joined)). IsSomeAnd (joined_at us (c.args.id.at - 256)) (λ j. ⊤))
+    (sym c.as_slice.ensures.value)
     (joined_some p.engine c.engine_laws.ensures.engine p.unions.items p.order.items p.sessions.items p.affected.items
-    c.self.invariant.listed c.args.id (subst (λ (k : Kept). IsRegistered k c.args.id) (sym c.self.view_is) c.requires.registered)
+    c.self.invariant.listed c.args.id
+    (subst (λ (k : Kept). IsRegistered k c.args.id) (sym c.self.view_is) c.requires.registered)
     c.if-id-lt-QUERIES.false)
 
 pub told_line-line-requires : goal.told_line-line-requires
@@ -63,7 +68,8 @@ answer-requires c =
     let found = subst (λ (us : List (Option Joined)). joined_at us (c.args.id.at - 256) ≡ Some j)
     c.as_slice.ensures.value c.joined_in-joined.ensures in
     let line = c.told_line-line.result.now in
-    subst (λ (ks : List ℕ). AtPlace p.engine (id_at (get_or ks 0 0)) (λ l. IsShowable (p.engine.store).texts l line.answer))
+    subst (λ (ks : List ℕ). AtPlace p.engine (id_at (get_or ks 0 0))
+    (λ l. IsShowable (p.engine.store).texts l line.answer))
     (sym c.members.ensures)
     (line_shown p.engine c.engine_laws.ensures.engine p.unions.items p.order.items p.sessions.items p.affected.items
     c.self.invariant.listed c.args.id c.if-id-lt-QUERIES.false j found c.args.nth

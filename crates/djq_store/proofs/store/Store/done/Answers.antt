@@ -58,7 +58,8 @@ follow_batch-requires-clause-few g c =
     (batch_grows c.texts_stay.ensures (p.engine).store e'.store held r a.adds) in
     let turn = c.batch_turn-turn.result in
     let is = c.batch_turn-turn.ensures ∙ batch_turns (p.engine).store held r in
-    turn_few p e' c.self.invariant true outcome turn is c.args.steps.now.listing c.done-outcome.new.steps.listing a.tells
+    turn_few p e' c.self.invariant true outcome turn is c.args.steps.now.listing c.done-outcome.new.steps.listing
+    a.tells
 
 pub invariant_of-self : goal.invariant_of-self
 invariant_of-self g c =
@@ -77,9 +78,11 @@ invariant_of-self g c =
     (subst (λ (k : Kept). SuitAll k.store held) (sym c.self.view_is) c.requires.suit) in
     let names = grown_of turn ((p.engine).store).relations (e'.store).relations held in
     let known = batch_known p.engine e' held r names suit a.adds
-    (ap (λ (t : Option Turn). grown_of t ((p.engine).store).relations (e'.store).relations held) c.batch_turn-turn.ensures) in
+    (ap (λ (t : Option Turn). grown_of t ((p.engine).store).relations (e'.store).relations held)
+    c.batch_turn-turn.ensures) in
     let comes = turn_comes p c.follow_batch.new.parts e' true names outcome turn is c.args.steps.now.listing
-    c.done-outcome.new.steps.listing c.follow_batch.new.listing c.self.invariant c.engine_laws.ensures.staying did a.tells
+    c.done-outcome.new.steps.listing c.follow_batch.new.listing c.self.invariant c.engine_laws.ensures.staying did
+    a.tells
     known
     (c.follow_batch.ensures.follows ((p.engine).store).relations c.count_rows-counts.ensures)
     (c.follow_batch.ensures.counted ((p.engine).store).relations c.count_rows-counts.ensures) in
@@ -103,9 +106,11 @@ returns-clause-adds g c =
     (subst (λ (k : Kept). SuitAll k.store held) (sym c.self.view_is) c.requires.suit) in
     let names = grown_of turn ((p.engine).store).relations (e'.store).relations held in
     let known = batch_known p.engine e' held r names suit a.adds
-    (ap (λ (t : Option Turn). grown_of t ((p.engine).store).relations (e'.store).relations held) c.batch_turn-turn.ensures) in
+    (ap (λ (t : Option Turn). grown_of t ((p.engine).store).relations (e'.store).relations held)
+    c.batch_turn-turn.ensures) in
     let comes = turn_comes p c.follow_batch.new.parts e' true names outcome turn is c.args.steps.now.listing
-    c.done-outcome.new.steps.listing c.follow_batch.new.listing c.self.invariant c.engine_laws.ensures.staying did a.tells
+    c.done-outcome.new.steps.listing c.follow_batch.new.listing c.self.invariant c.engine_laws.ensures.staying did
+    a.tells
     known
     (c.follow_batch.ensures.follows ((p.engine).store).relations c.count_rows-counts.ensures)
     (c.follow_batch.ensures.counted ((p.engine).store).relations c.count_rows-counts.ensures) in
@@ -130,14 +135,17 @@ returns-clause-outdates g c =
     (subst (λ (k : Kept). SuitAll k.store held) (sym c.self.view_is) c.requires.suit) in
     let names = grown_of turn ((p.engine).store).relations (e'.store).relations held in
     let known = batch_known p.engine e' held r names suit a.adds
-    (ap (λ (t : Option Turn). grown_of t ((p.engine).store).relations (e'.store).relations held) c.batch_turn-turn.ensures) in
+    (ap (λ (t : Option Turn). grown_of t ((p.engine).store).relations (e'.store).relations held)
+    c.batch_turn-turn.ensures) in
     let comes = turn_comes p c.follow_batch.new.parts e' true names outcome turn is c.args.steps.now.listing
-    c.done-outcome.new.steps.listing c.follow_batch.new.listing c.self.invariant c.engine_laws.ensures.staying did a.tells
+    c.done-outcome.new.steps.listing c.follow_batch.new.listing c.self.invariant c.engine_laws.ensures.staying did
+    a.tells
     known
     (c.follow_batch.ensures.follows ((p.engine).store).relations c.count_rows-counts.ensures)
     (c.follow_batch.ensures.counted ((p.engine).store).relations c.count_rows-counts.ensures) in
     let same = sym (outcome_lifted ((kept_in p).store).queries (p.engine).store held r) in
-    subst (λ (k : Kept). Outdates k (tried (batch_outcome k.store held r)) (kept_in c.follow_batch.new.parts)) c.self.view_is
+    subst (λ (k : Kept). Outdates k (tried (batch_outcome k.store held r)) (kept_in c.follow_batch.new.parts))
+    c.self.view_is
     (subst (λ (o : RowsOutcome). Outdates (kept_in p) (tried o) (kept_in c.follow_batch.new.parts)) same comes.outdates)
 
 pub returns-clause-watches : goal.returns-clause-watches
@@ -157,9 +165,11 @@ returns-clause-watches g c =
     (subst (λ (k : Kept). SuitAll k.store held) (sym c.self.view_is) c.requires.suit) in
     let names = grown_of turn ((p.engine).store).relations (e'.store).relations held in
     let known = batch_known p.engine e' held r names suit a.adds
-    (ap (λ (t : Option Turn). grown_of t ((p.engine).store).relations (e'.store).relations held) c.batch_turn-turn.ensures) in
+    (ap (λ (t : Option Turn). grown_of t ((p.engine).store).relations (e'.store).relations held)
+    c.batch_turn-turn.ensures) in
     let comes = turn_comes p c.follow_batch.new.parts e' true names outcome turn is c.args.steps.now.listing
-    c.done-outcome.new.steps.listing c.follow_batch.new.listing c.self.invariant c.engine_laws.ensures.staying did a.tells
+    c.done-outcome.new.steps.listing c.follow_batch.new.listing c.self.invariant c.engine_laws.ensures.staying did
+    a.tells
     known
     (c.follow_batch.ensures.follows ((p.engine).store).relations c.count_rows-counts.ensures)
     (c.follow_batch.ensures.counted ((p.engine).store).relations c.count_rows-counts.ensures) in
@@ -183,9 +193,11 @@ returns-clause-tells g c =
     (subst (λ (k : Kept). SuitAll k.store held) (sym c.self.view_is) c.requires.suit) in
     let names = grown_of turn ((p.engine).store).relations (e'.store).relations held in
     let known = batch_known p.engine e' held r names suit a.adds
-    (ap (λ (t : Option Turn). grown_of t ((p.engine).store).relations (e'.store).relations held) c.batch_turn-turn.ensures) in
+    (ap (λ (t : Option Turn). grown_of t ((p.engine).store).relations (e'.store).relations held)
+    c.batch_turn-turn.ensures) in
     let comes = turn_comes p c.follow_batch.new.parts e' true names outcome turn is c.args.steps.now.listing
-    c.done-outcome.new.steps.listing c.follow_batch.new.listing c.self.invariant c.engine_laws.ensures.staying did a.tells
+    c.done-outcome.new.steps.listing c.follow_batch.new.listing c.self.invariant c.engine_laws.ensures.staying did
+    a.tells
     known
     (c.follow_batch.ensures.follows ((p.engine).store).relations c.count_rows-counts.ensures)
     (c.follow_batch.ensures.counted ((p.engine).store).relations c.count_rows-counts.ensures) in
@@ -208,8 +220,10 @@ returns-clause-updates g c =
     let p = c.self.inside.parts in
     let r = c.done-outcome.result in
     let held = c.args.held.now in
-    subst (λ (k : Kept). CountsBatch (batch_times held r) k held c.args.steps.now.update c.done-outcome.new.steps.update)
+    subst (λ (k : Kept). CountsBatch (batch_times held r) k held c.args.steps.now.update
+    c.done-outcome.new.steps.update)
     c.self.view_is
-    (counts_batch_seen p.engine c.engine_laws.ensures.engine p.unions.items p.order.items c.self.invariant.listed p.sessions.items
+    (counts_batch_seen p.engine c.engine_laws.ensures.engine p.unions.items p.order.items c.self.invariant.listed
+    p.sessions.items
     (batch_times held r) held (kept_in p) c.args.steps.now.update c.done-outcome.new.steps.update
     refl refl (rows_lifted ((kept_in p).store).queries (p.engine).store held) c.done-outcome.ensures.updates)

@@ -11,7 +11,8 @@ use Rattle.djq_store.specs.declared.joined.Joined.{Joined}
 use Rattle.djq_store.specs.Places.{joined_at, seen}
 use Rattle.djq_store.specs.Whole.{IsListed}
 use Rattle.djq_store.proofs.Named.{no_union, found_union}
-use Rattle.djq_store.proofs.Dropping.{named_seat, unknown_name, member_slot, no_member_slot, was_dropped, was_refused, same_joined}
+use Rattle.djq_store.proofs.Dropping.{named_seat, unknown_name, member_slot, no_member_slot}
+use Rattle.djq_store.proofs.Dropping.{was_dropped, was_refused, same_joined}
 use Rattle.djq_store.proofs.Staying.{listed_over, counts_stay}
 use Rattle.djq_store.proofs.Undone.{drop_watched, drop_held, undone_listed, undone_counted, undone_gives}
 use Rattle.djq_store.proofs.Used.{drop_unknown, drop_member, drop_done, drop_gives, drop_refused, drop_rests}
@@ -25,8 +26,10 @@ joined_in-joined-requires c =
     let b = c.engine_laws.ensures.engine in
     let w = c.self.invariant.listed in
     let name = c.args.name.now in
-    let f = found_union old.unions.items c.as_slice.result.now name c.in-Some.slot c.as_slice.ensures.value c.in-Some.ensures in
-    subst (λ (us : List (Option Joined)). IsSomeAnd (joined_at us c.in-Some.slot) (λ j. ⊤)) (sym c.as_slice-in-Some.ensures.value)
+    let f = found_union old.unions.items c.as_slice.result.now name c.in-Some.slot c.as_slice.ensures.value
+    c.in-Some.ensures in
+    subst (λ (us : List (Option Joined)). IsSomeAnd (joined_at us c.in-Some.slot) (λ j. ⊤))
+    (sym c.as_slice-in-Some.ensures.value)
     (subst (λ (o : Option Joined). IsSomeAnd o (λ j. ⊤)) (sym f.there) tt)
 
 pub returns-then-joined-gt0 : goal.returns-then-joined-gt0
@@ -36,10 +39,16 @@ returns-then-joined-gt0 c =
     let b = c.engine_laws.ensures.engine in
     let w = c.self.invariant.listed in
     let name = c.args.name.now in
-    let f = found_union old.unions.items c.as_slice.result.now name c.in-Some.slot c.as_slice.ensures.value c.in-Some.ensures in
-    let some : 0 < f.union.watchers = subst (λ (j : Joined). 0 < j.watchers) (same_joined old.unions.items c.as_slice-in-Some.result.now c.in-Some.slot f.union c.joined_in-joined.result.now f.there c.joined_in-joined.ensures c.as_slice-in-Some.ensures.value) c.if-joined-gt0.true in
+    let f = found_union old.unions.items c.as_slice.result.now name c.in-Some.slot c.as_slice.ensures.value
+    c.in-Some.ensures in
+    let some : 0 < f.union.watchers = subst (λ (j : Joined). 0 < j.watchers)
+    (same_joined old.unions.items c.as_slice-in-Some.result.now c.in-Some.slot f.union c.joined_in-joined.result.now
+    f.there c.joined_in-joined.ensures c.as_slice-in-Some.ensures.value) c.if-joined-gt0.true in
     subst (λ (k : Kept). DropGives k name (Err InUse) k) c.self.view_is
-    (subst (λ (n : Bytes). DropGives (seen e old.unions.items old.order.items old.sessions.items old.affected.items) n (Err InUse) (seen e old.unions.items old.order.items old.sessions.items old.affected.items)) f.called (drop_watched e b old.unions.items old.order.items old.sessions.items old.affected.items w c.in-Some.slot f.union f.there some))
+    (subst (λ (n : Bytes). DropGives (seen e old.unions.items old.order.items old.sessions.items old.affected.items) n
+    (Err InUse) (seen e old.unions.items old.order.items old.sessions.items old.affected.items)) f.called
+    (drop_watched e b old.unions.items old.order.items old.sessions.items old.affected.items w c.in-Some.slot
+    f.union f.there some))
 
 pub returns-then-not-is_idle : goal.returns-then-not-is_idle
 returns-then-not-is_idle c =
@@ -48,10 +57,17 @@ returns-then-not-is_idle c =
     let b = c.engine_laws.ensures.engine in
     let w = c.self.invariant.listed in
     let name = c.args.name.now in
-    let f = found_union old.unions.items c.as_slice.result.now name c.in-Some.slot c.as_slice.ensures.value c.in-Some.ensures in
-    let some = sym (ap (λ (j : Joined). are_vacant j.union.cursors) ((same_joined old.unions.items c.as_slice-in-Some.result.now c.in-Some.slot f.union c.joined_in-joined.result.now f.there c.joined_in-joined.ensures c.as_slice-in-Some.ensures.value))) ∙ sym c.is_idle.ensures ∙ c.if-not-is_idle.true in
+    let f = found_union old.unions.items c.as_slice.result.now name c.in-Some.slot c.as_slice.ensures.value
+    c.in-Some.ensures in
+    let some = sym (ap (λ (j : Joined). are_vacant j.union.cursors)
+    ((same_joined old.unions.items c.as_slice-in-Some.result.now c.in-Some.slot f.union
+    c.joined_in-joined.result.now f.there c.joined_in-joined.ensures c.as_slice-in-Some.ensures.value)))
+    ∙ sym c.is_idle.ensures ∙ c.if-not-is_idle.true in
     subst (λ (k : Kept). DropGives k name (Err InUse) k) c.self.view_is
-    (subst (λ (n : Bytes). DropGives (seen e old.unions.items old.order.items old.sessions.items old.affected.items) n (Err InUse) (seen e old.unions.items old.order.items old.sessions.items old.affected.items)) f.called (drop_held e b old.unions.items old.order.items old.sessions.items old.affected.items w c.in-Some.slot f.union f.there some))
+    (subst (λ (n : Bytes). DropGives (seen e old.unions.items old.order.items old.sessions.items old.affected.items) n
+    (Err InUse) (seen e old.unions.items old.order.items old.sessions.items old.affected.items)) f.called
+    (drop_held e b old.unions.items old.order.items old.sessions.items old.affected.items w c.in-Some.slot f.union
+    f.there some))
 
 pub invariant_of-self : goal.invariant_of-self
 invariant_of-self c =
@@ -60,13 +76,28 @@ invariant_of-self c =
     let b = c.engine_laws.ensures.engine in
     let w = c.self.invariant.listed in
     let name = c.args.name.now in
-    let f = found_union old.unions.items c.as_slice.result.now name c.in-Some.slot c.as_slice.ensures.value c.in-Some.ensures in
-    let unwatched : f.union.watchers ≡ 0 = subst (λ (j : Joined). j.watchers ≡ 0) (same_joined old.unions.items c.as_slice-in-Some.result.now c.in-Some.slot f.union c.joined_in-joined.result.now f.there c.joined_in-joined.ensures c.as_slice-in-Some.ensures.value) (omega (arith, c.if-joined-gt0.false)) in
-    let idle = sym (ap (λ (j : Joined). are_vacant j.union.cursors) ((same_joined old.unions.items c.as_slice-in-Some.result.now c.in-Some.slot f.union c.joined_in-joined.result.now f.there c.joined_in-joined.ensures c.as_slice-in-Some.ensures.value))) ∙ sym c.is_idle.ensures ∙ c.if-not-is_idle.false in
+    let f = found_union old.unions.items c.as_slice.result.now name c.in-Some.slot c.as_slice.ensures.value
+    c.in-Some.ensures in
+    let unwatched : f.union.watchers
+    ≡ 0 = subst (λ (j : Joined). j.watchers ≡ 0)
+    (same_joined old.unions.items c.as_slice-in-Some.result.now c.in-Some.slot f.union c.joined_in-joined.result.now
+    f.there c.joined_in-joined.ensures c.as_slice-in-Some.ensures.value) (omega (arith, c.if-joined-gt0.false)) in
+    let idle = sym (ap (λ (j : Joined). are_vacant j.union.cursors)
+    ((same_joined old.unions.items c.as_slice-in-Some.result.now c.in-Some.slot f.union
+    c.joined_in-joined.result.now f.there c.joined_in-joined.ensures c.as_slice-in-Some.ensures.value)))
+    ∙ sym c.is_idle.ensures ∙ c.if-not-is_idle.false in
     record {
-      listed = subst (λ (xs : List ℕ). IsListed e (set old.unions.items c.in-Some.slot None) xs) (sym c.leave_out.ensures.items) (undone_listed e b old.unions.items old.order.items old.sessions.items old.affected.items w c.in-Some.slot f.union f.there unwatched idle);
-      counted = undone_counted e b old.unions.items old.order.items old.sessions.items old.affected.items w c.in-Some.slot f.union f.there unwatched idle c.self.invariant.counted;
-      roomy = record { order = omega (arith, c.leave_out.ensures.room, c.self.invariant.roomy.order); affected = omega (arith, c.leave_out-in-Some.ensures.room, c.self.invariant.roomy.affected) };
+      listed = subst (λ (xs : List ℕ). IsListed e (set old.unions.items c.in-Some.slot None) xs)
+          (sym c.leave_out.ensures.items)
+          (undone_listed e b old.unions.items old.order.items old.sessions.items old.affected.items w c.in-Some.slot
+          f.union f.there unwatched idle);
+      counted = undone_counted e b old.unions.items old.order.items old.sessions.items old.affected.items w
+          c.in-Some.slot f.union f.there unwatched idle c.self.invariant.counted;
+      roomy = record {
+        order = omega (arith, c.leave_out.ensures.room, c.self.invariant.roomy.order);
+        affected = omega
+            (arith, c.leave_out-in-Some.ensures.room, c.self.invariant.roomy.affected);
+      };
     }
 
 pub returns-in-Some : goal.returns-in-Some
@@ -76,15 +107,31 @@ returns-in-Some c =
     let b = c.engine_laws.ensures.engine in
     let w = c.self.invariant.listed in
     let name = c.args.name.now in
-    let f = found_union old.unions.items c.as_slice.result.now name c.in-Some.slot c.as_slice.ensures.value c.in-Some.ensures in
-    let unwatched : f.union.watchers ≡ 0 = subst (λ (j : Joined). j.watchers ≡ 0) (same_joined old.unions.items c.as_slice-in-Some.result.now c.in-Some.slot f.union c.joined_in-joined.result.now f.there c.joined_in-joined.ensures c.as_slice-in-Some.ensures.value) (omega (arith, c.if-joined-gt0.false)) in
-    let idle = sym (ap (λ (j : Joined). are_vacant j.union.cursors) ((same_joined old.unions.items c.as_slice-in-Some.result.now c.in-Some.slot f.union c.joined_in-joined.result.now f.there c.joined_in-joined.ensures c.as_slice-in-Some.ensures.value))) ∙ sym c.is_idle.ensures ∙ c.if-not-is_idle.false in
+    let f = found_union old.unions.items c.as_slice.result.now name c.in-Some.slot c.as_slice.ensures.value
+    c.in-Some.ensures in
+    let unwatched : f.union.watchers
+    ≡ 0 = subst (λ (j : Joined). j.watchers ≡ 0)
+    (same_joined old.unions.items c.as_slice-in-Some.result.now c.in-Some.slot f.union c.joined_in-joined.result.now
+    f.there c.joined_in-joined.ensures c.as_slice-in-Some.ensures.value) (omega (arith, c.if-joined-gt0.false)) in
+    let idle = sym (ap (λ (j : Joined). are_vacant j.union.cursors)
+    ((same_joined old.unions.items c.as_slice-in-Some.result.now c.in-Some.slot f.union
+    c.joined_in-joined.result.now f.there c.joined_in-joined.ensures c.as_slice-in-Some.ensures.value)))
+    ∙ sym c.is_idle.ensures ∙ c.if-not-is_idle.false in
     let us' = set old.unions.items c.in-Some.slot None in
-    subst (λ (k : Kept). DropGives k name (Ok tt) (seen e us' c.leave_out.new.places.items old.sessions.items c.leave_out-in-Some.new.places.items)) c.self.view_is
-    (subst (λ (xs : List ℕ). DropGives (seen e old.unions.items old.order.items old.sessions.items old.affected.items) name (Ok tt) (seen e us' xs old.sessions.items c.leave_out-in-Some.new.places.items)) (sym c.leave_out.ensures.items)
-    (subst (λ (xs : List ℕ). DropGives (seen e old.unions.items old.order.items old.sessions.items old.affected.items) name (Ok tt) (seen e us' (left (QUERIES + c.in-Some.slot) old.order.items) old.sessions.items xs)) (sym c.leave_out-in-Some.ensures.items)
-    (subst (λ (n : Bytes). DropGives (seen e old.unions.items old.order.items old.sessions.items old.affected.items) n (Ok tt) (seen e us' (left (QUERIES + c.in-Some.slot) old.order.items) old.sessions.items (left (QUERIES + c.in-Some.slot) old.affected.items))) f.called
-    (undone_gives e b old.unions.items old.order.items old.sessions.items old.affected.items w c.in-Some.slot f.union f.there unwatched idle))))
+    subst (λ (k : Kept). DropGives k name (Ok tt)
+    (seen e us' c.leave_out.new.places.items old.sessions.items c.leave_out-in-Some.new.places.items))
+    c.self.view_is
+    (subst (λ (xs : List ℕ). DropGives (seen e old.unions.items old.order.items old.sessions.items old.affected.items)
+    name (Ok tt) (seen e us' xs old.sessions.items c.leave_out-in-Some.new.places.items))
+    (sym c.leave_out.ensures.items)
+    (subst (λ (xs : List ℕ). DropGives (seen e old.unions.items old.order.items old.sessions.items old.affected.items)
+    name (Ok tt) (seen e us' (left (QUERIES + c.in-Some.slot) old.order.items) old.sessions.items xs))
+    (sym c.leave_out-in-Some.ensures.items)
+    (subst (λ (n : Bytes). DropGives (seen e old.unions.items old.order.items old.sessions.items old.affected.items) n
+    (Ok tt) (seen e us' (left (QUERIES + c.in-Some.slot) old.order.items) old.sessions.items
+    (left (QUERIES + c.in-Some.slot) old.affected.items))) f.called
+    (undone_gives e b old.unions.items old.order.items old.sessions.items old.affected.items w c.in-Some.slot f.union
+    f.there unwatched idle))))
 
 pub returns-in_default-query_id : goal.returns-in_default-query_id
 returns-in_default-query_id c =
@@ -95,7 +142,8 @@ returns-in_default-query_id c =
     let name = c.args.name.now in
     let none = no_union old.unions.items c.as_slice.result.now name c.as_slice.ensures.value c.in_default.ensures in
     subst (λ (k : Kept). DropGives k name (Err NoQuery) k) c.self.view_is
-    (drop_unknown e b old.unions.items old.order.items old.sessions.items old.affected.items w c.self.invariant.counted name none (unknown_name e b name c.in_default-query_id.ensures))
+    (drop_unknown e b old.unions.items old.order.items old.sessions.items old.affected.items w c.self.invariant.counted
+    name none (unknown_name e b name c.in_default-query_id.ensures))
 
 pub returns-then-is_member : goal.returns-then-is_member
 returns-then-is_member c =
@@ -105,9 +153,13 @@ returns-then-is_member c =
     let w = c.self.invariant.listed in
     let name = c.args.name.now in
     let none = no_union old.unions.items c.as_slice.result.now name c.as_slice.ensures.value c.in_default.ensures in
-    let s = named_seat e b old.unions.items old.order.items w name none c.in-Some-query_id.id c.in-Some-query_id.ensures in
-    let m = member_slot old.unions.items c.as_slice-2.result.now c.in-Some-query_id.id.at c.as_slice-2.ensures.value (sym c.is_member.ensures ∙ c.if-is_member.true) in
-    subst (λ (k : Kept). DropGives k name (Err InUse) k) c.self.view_is (drop_member e b old.unions.items old.order.items old.sessions.items old.affected.items w c.self.invariant.counted name none c.in-Some-query_id.id.at s.seat s.called m.slot m.union m.there m.among)
+    let s = named_seat e b old.unions.items old.order.items w name none c.in-Some-query_id.id c.in-Some-query_id.ensures
+    in
+    let m = member_slot old.unions.items c.as_slice-2.result.now c.in-Some-query_id.id.at c.as_slice-2.ensures.value
+    (sym c.is_member.ensures ∙ c.if-is_member.true) in
+    subst (λ (k : Kept). DropGives k name (Err InUse) k) c.self.view_is
+    (drop_member e b old.unions.items old.order.items old.sessions.items old.affected.items w
+    c.self.invariant.counted name none c.in-Some-query_id.id.at s.seat s.called m.slot m.union m.there m.among)
 
 pub invariant_of-self-then-is_ok : goal.invariant_of-self-then-is_ok
 invariant_of-self-then-is_ok c =
@@ -117,18 +169,28 @@ invariant_of-self-then-is_ok c =
     let w = c.self.invariant.listed in
     let name = c.args.name.now in
     let none = no_union old.unions.items c.as_slice.result.now name c.as_slice.ensures.value c.in_default.ensures in
-    let s = named_seat e b old.unions.items old.order.items w name none c.in-Some-query_id.id c.in-Some-query_id.ensures in
-    let alone = no_member_slot old.unions.items c.as_slice-2.result.now c.in-Some-query_id.id.at c.as_slice-2.ensures.value (sym c.is_member.ensures ∙ c.if-is_member.false) in
+    let s = named_seat e b old.unions.items old.order.items w name none c.in-Some-query_id.id c.in-Some-query_id.ensures
+    in
+    let alone = no_member_slot old.unions.items c.as_slice-2.result.now c.in-Some-query_id.id.at
+    c.as_slice-2.ensures.value (sym c.is_member.ensures ∙ c.if-is_member.false) in
     let e' = c.drop_query-dropped.new.self in
     let result = c.drop_query-dropped.result in
     let is : result ≡ Ok tt = was_dropped result (sym c.is_ok.ensures.value ∙ c.if-is_ok.true) in
     let g = subst (λ (x : Result ⊤ Refusal). DropGives e name x e') is c.drop_query-dropped.ensures.gives in
     let p = subst (λ (x : Result ⊤ Refusal). DropsPlace e name x e') is c.drop_query-dropped.ensures.places in
-    let v = drop_done e b old.unions.items old.order.items old.sessions.items old.affected.items w c.self.invariant.counted name none c.in-Some-query_id.id.at s.seat s.called alone e' c.engine_laws-2.ensures.engine g p in
+    let v = drop_done e b old.unions.items old.order.items old.sessions.items old.affected.items w
+    c.self.invariant.counted name none c.in-Some-query_id.id.at s.seat s.called alone e'
+    c.engine_laws-2.ensures.engine g p in
     record {
-      listed = subst (λ (xs : List ℕ). IsListed e' old.unions.items xs) (sym c.leave_out-then-is_ok.ensures.items) (vacated_listed e e' old.unions.items old.order.items old.sessions.items old.affected.items w name c.in-Some-query_id.id.at v);
-      counted = vacated_counted e e' old.unions.items old.order.items old.sessions.items old.affected.items w name c.in-Some-query_id.id.at v c.self.invariant.counted;
-      roomy = record { order = omega (arith, c.leave_out-then-is_ok.ensures.room, c.self.invariant.roomy.order); affected = omega (arith, c.leave_out-then-is_ok-2.ensures.room, c.self.invariant.roomy.affected) };
+      listed = subst (λ (xs : List ℕ). IsListed e' old.unions.items xs) (sym c.leave_out-then-is_ok.ensures.items)
+          (vacated_listed e e' old.unions.items old.order.items old.sessions.items old.affected.items w name
+          c.in-Some-query_id.id.at v);
+      counted = vacated_counted e e' old.unions.items old.order.items old.sessions.items old.affected.items w name
+          c.in-Some-query_id.id.at v c.self.invariant.counted;
+      roomy = record {
+        order = omega (arith, c.leave_out-then-is_ok.ensures.room, c.self.invariant.roomy.order);
+        affected = omega (arith, c.leave_out-then-is_ok-2.ensures.room, c.self.invariant.roomy.affected);
+      };
     }
 
 pub invariant_of-self-else-is_ok : goal.invariant_of-self-else-is_ok
@@ -158,20 +220,33 @@ returns-then-is_ok c =
     let w = c.self.invariant.listed in
     let name = c.args.name.now in
     let none = no_union old.unions.items c.as_slice.result.now name c.as_slice.ensures.value c.in_default.ensures in
-    let s = named_seat e b old.unions.items old.order.items w name none c.in-Some-query_id.id c.in-Some-query_id.ensures in
-    let alone = no_member_slot old.unions.items c.as_slice-2.result.now c.in-Some-query_id.id.at c.as_slice-2.ensures.value (sym c.is_member.ensures ∙ c.if-is_member.false) in
+    let s = named_seat e b old.unions.items old.order.items w name none c.in-Some-query_id.id c.in-Some-query_id.ensures
+    in
+    let alone = no_member_slot old.unions.items c.as_slice-2.result.now c.in-Some-query_id.id.at
+    c.as_slice-2.ensures.value (sym c.is_member.ensures ∙ c.if-is_member.false) in
     let e' = c.drop_query-dropped.new.self in
     let result = c.drop_query-dropped.result in
     let is : result ≡ Ok tt = was_dropped result (sym c.is_ok.ensures.value ∙ c.if-is_ok.true) in
     let g = subst (λ (x : Result ⊤ Refusal). DropGives e name x e') is c.drop_query-dropped.ensures.gives in
     let p = subst (λ (x : Result ⊤ Refusal). DropsPlace e name x e') is c.drop_query-dropped.ensures.places in
-    let v = drop_done e b old.unions.items old.order.items old.sessions.items old.affected.items w c.self.invariant.counted name none c.in-Some-query_id.id.at s.seat s.called alone e' c.engine_laws-2.ensures.engine g p in
+    let v = drop_done e b old.unions.items old.order.items old.sessions.items old.affected.items w
+    c.self.invariant.counted name none c.in-Some-query_id.id.at s.seat s.called alone e'
+    c.engine_laws-2.ensures.engine g p in
     let at = c.in-Some-query_id.id.at in
-    subst (λ (k : Kept). DropGives k name result (seen e' old.unions.items c.leave_out-then-is_ok.new.places.items old.sessions.items c.leave_out-then-is_ok-2.new.places.items)) c.self.view_is
-    (subst (λ (xs : List ℕ). DropGives (seen e old.unions.items old.order.items old.sessions.items old.affected.items) name result (seen e' old.unions.items xs old.sessions.items c.leave_out-then-is_ok-2.new.places.items)) (sym c.leave_out-then-is_ok.ensures.items)
-    (subst (λ (xs : List ℕ). DropGives (seen e old.unions.items old.order.items old.sessions.items old.affected.items) name result (seen e' old.unions.items (left at old.order.items) old.sessions.items xs)) (sym c.leave_out-then-is_ok-2.ensures.items)
-    (subst (λ (y : Result ⊤ Refusal). DropGives (seen e old.unions.items old.order.items old.sessions.items old.affected.items) name y (seen e' old.unions.items (left at old.order.items) old.sessions.items (left at old.affected.items))) (sym is)
-    (drop_gives e b old.unions.items old.order.items old.sessions.items old.affected.items w c.self.invariant.counted name none c.in-Some-query_id.id.at s.seat s.called alone e' v g))))
+    subst (λ (k : Kept). DropGives k name result
+    (seen e' old.unions.items c.leave_out-then-is_ok.new.places.items old.sessions.items
+    c.leave_out-then-is_ok-2.new.places.items)) c.self.view_is
+    (subst (λ (xs : List ℕ). DropGives (seen e old.unions.items old.order.items old.sessions.items old.affected.items)
+    name result (seen e' old.unions.items xs old.sessions.items c.leave_out-then-is_ok-2.new.places.items))
+    (sym c.leave_out-then-is_ok.ensures.items)
+    (subst (λ (xs : List ℕ). DropGives (seen e old.unions.items old.order.items old.sessions.items old.affected.items)
+    name result (seen e' old.unions.items (left at old.order.items) old.sessions.items xs))
+    (sym c.leave_out-then-is_ok-2.ensures.items)
+    (subst (λ (y : Result ⊤ Refusal). DropGives
+    (seen e old.unions.items old.order.items old.sessions.items old.affected.items) name y
+    (seen e' old.unions.items (left at old.order.items) old.sessions.items (left at old.affected.items))) (sym is)
+    (drop_gives e b old.unions.items old.order.items old.sessions.items old.affected.items w c.self.invariant.counted
+    name none c.in-Some-query_id.id.at s.seat s.called alone e' v g))))
 
 pub returns-else-is_ok : goal.returns-else-is_ok
 returns-else-is_ok c =
@@ -181,13 +256,20 @@ returns-else-is_ok c =
     let w = c.self.invariant.listed in
     let name = c.args.name.now in
     let none = no_union old.unions.items c.as_slice.result.now name c.as_slice.ensures.value c.in_default.ensures in
-    let s = named_seat e b old.unions.items old.order.items w name none c.in-Some-query_id.id c.in-Some-query_id.ensures in
-    let alone = no_member_slot old.unions.items c.as_slice-2.result.now c.in-Some-query_id.id.at c.as_slice-2.ensures.value (sym c.is_member.ensures ∙ c.if-is_member.false) in
+    let s = named_seat e b old.unions.items old.order.items w name none c.in-Some-query_id.id c.in-Some-query_id.ensures
+    in
+    let alone = no_member_slot old.unions.items c.as_slice-2.result.now c.in-Some-query_id.id.at
+    c.as_slice-2.ensures.value (sym c.is_member.ensures ∙ c.if-is_member.false) in
     let e' = c.drop_query-dropped.new.self in
     let result = c.drop_query-dropped.result in
     let x = was_refused result (sym c.is_ok.ensures.value ∙ c.if-is_ok.false) in
     let g = subst (λ (y : Result ⊤ Refusal). DropGives e name y e') x.is c.drop_query-dropped.ensures.gives in
     let p = subst (λ (y : Result ⊤ Refusal). DropsPlace e name y e') x.is c.drop_query-dropped.ensures.places in
     let r = drop_rests e e' b c.engine_laws-2.ensures.engine c.engine_laws.ensures.staying name x.refusal g p in
-    subst (λ (k : Kept). DropGives k name result (seen e' old.unions.items old.order.items old.sessions.items old.affected.items)) c.self.view_is
-    (subst (λ (y : Result ⊤ Refusal). DropGives (seen e old.unions.items old.order.items old.sessions.items old.affected.items) name y (seen e' old.unions.items old.order.items old.sessions.items old.affected.items)) (sym x.is) (drop_refused e b old.unions.items old.order.items old.sessions.items old.affected.items w c.self.invariant.counted name none c.in-Some-query_id.id.at s.seat s.called alone e' x.refusal r g))
+    subst (λ (k : Kept). DropGives k name result
+    (seen e' old.unions.items old.order.items old.sessions.items old.affected.items)) c.self.view_is
+    (subst (λ (y : Result ⊤ Refusal). DropGives
+    (seen e old.unions.items old.order.items old.sessions.items old.affected.items) name y
+    (seen e' old.unions.items old.order.items old.sessions.items old.affected.items)) (sym x.is)
+    (drop_refused e b old.unions.items old.order.items old.sessions.items old.affected.items w
+    c.self.invariant.counted name none c.in-Some-query_id.id.at s.seat s.called alone e' x.refusal r g))

@@ -7,4 +7,6 @@ use Rattle.djq_store.proofs.store.Store.engine.Goals as goal
 pub returns : goal.returns
 returns c =
     let old = c.self.inside.parts in
-    subst (λ (k : Kept). LendsEngine k old.engine) c.self.view_is (lends old.engine c.engine_laws.ensures.engine old.unions.items old.order.items old.sessions.items old.affected.items c.self.invariant.listed)
+    subst (λ (k : Kept). LendsEngine k old.engine) c.self.view_is
+    (lends old.engine c.engine_laws.ensures.engine old.unions.items old.order.items old.sessions.items
+    old.affected.items c.self.invariant.listed)

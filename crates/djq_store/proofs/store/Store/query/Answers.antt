@@ -9,7 +9,11 @@ use Rattle.djq_engine.specs.Kept.{Kept, SameCursors}
 use Rattle.djq_engine.specs.Watching.{Enrols, EnrolsTelling}
 use Rattle.djq_store.specs.Places.{seen, cursors_in}
 use Rattle.djq_store.specs.Whole.{IsListed}
-use Rattle.djq_store.proofs.Registered.{query_rests, full_unwraps, taken_refusal, refused, outcome_of, registered_listed, registered_counted, registered_registers, registered_enrols, registered_tells, unregistered, unregistered_same, unregistered_enrols, unregistered_tells}
+use Rattle.djq_store.proofs.Registered.{query_rests, full_unwraps, taken_refusal, refused}
+use Rattle.djq_store.proofs.Registered.{outcome_of, registered_listed, registered_counted}
+use Rattle.djq_store.proofs.Registered.{registered_registers, registered_enrols, registered_tells}
+use Rattle.djq_store.proofs.Registered.{unregistered, unregistered_same, unregistered_enrols}
+use Rattle.djq_store.proofs.Registered.{unregistered_tells}
 use Rattle.djq_store.proofs.Sought.{sought_none, sought_some}
 use Rattle.djq_store.proofs.Staying.{listed_over, counts_stay, cursors_over}
 use Rattle.djq_store.proofs.store.Store.query.Goals as goal
@@ -19,40 +23,59 @@ returns-then-is_some-clause-registers g c =
     let old = c.self.inside.parts in
     let e = old.engine in
     let w = c.self.invariant.listed in
-    let f = sought_some old.unions.items c.as_slice.result.now c.args.query.name c.as_slice.ensures.value c.find_union.result c.find_union.ensures (sym c.is_some.ensures ∙ c.if-is_some.true) in
+    let f = sought_some old.unions.items c.as_slice.result.now c.args.query.name c.as_slice.ensures.value
+    c.find_union.result c.find_union.ensures (sym c.is_some.ensures ∙ c.if-is_some.true) in
     subst (λ (k : Kept). RegistersQuery k.store c.args.query (Err Taken) k.store) c.self.view_is
-    (refused e c.engine_laws.ensures.engine old.unions.items old.order.items old.sessions.items old.affected.items w c.args.query Taken (taken_refusal e c.engine_laws.ensures.engine old.unions.items old.order.items old.sessions.items old.affected.items w c.args.query f.0 f.1))
+    (refused e c.engine_laws.ensures.engine old.unions.items old.order.items old.sessions.items old.affected.items w
+    c.args.query Taken (taken_refusal e c.engine_laws.ensures.engine old.unions.items old.order.items
+    old.sessions.items old.affected.items w c.args.query f.0 f.1))
 
 pub returns-then-len-ge-QUERIES-clause-registers : goal.returns-then-len-ge-QUERIES-clause-registers
 returns-then-len-ge-QUERIES-clause-registers g c =
     let old = c.self.inside.parts in
     let e = old.engine in
     let w = c.self.invariant.listed in
-    let none = sought_none old.unions.items c.as_slice.result.now c.args.query.name c.as_slice.ensures.value c.find_union.result c.find_union.ensures (sym c.is_some.ensures ∙ c.if-is_some.false) in
+    let none = sought_none old.unions.items c.as_slice.result.now c.args.query.name c.as_slice.ensures.value
+    c.find_union.result c.find_union.ensures (sym c.is_some.ensures ∙ c.if-is_some.false) in
     let full : QUERIES ≤ length old.order.items = omega (arith, c.if-len-ge-QUERIES.true, c.len.ensures) in
-    subst (λ (x : Refusal). RegistersQuery c.args.self.now.store c.args.query (Err x) c.args.self.now.store) (sym c.unwrap_or.ensures)
-    (subst (λ (k : Kept). RegistersQuery k.store c.args.query (Err (unwrap_or c.query_fault-fault.result Limit)) k.store) c.self.view_is
-    (refused e c.engine_laws.ensures.engine old.unions.items old.order.items old.sessions.items old.affected.items w c.args.query (unwrap_or c.query_fault-fault.result Limit)
-    (full_unwraps e c.engine_laws.ensures.engine old.unions.items old.order.items old.sessions.items old.affected.items w c.args.query none full c.query_fault-fault.result c.query_fault-fault.ensures)))
+    subst (λ (x : Refusal). RegistersQuery c.args.self.now.store c.args.query (Err x) c.args.self.now.store)
+    (sym c.unwrap_or.ensures)
+    (subst (λ (k : Kept). RegistersQuery k.store c.args.query (Err (unwrap_or c.query_fault-fault.result Limit))
+    k.store) c.self.view_is
+    (refused e c.engine_laws.ensures.engine old.unions.items old.order.items old.sessions.items old.affected.items w
+    c.args.query (unwrap_or c.query_fault-fault.result Limit)
+    (full_unwraps e c.engine_laws.ensures.engine old.unions.items old.order.items old.sessions.items old.affected.items
+    w c.args.query none full c.query_fault-fault.result c.query_fault-fault.ensures)))
 
 pub invariant_of-self : goal.invariant_of-self
 invariant_of-self met c =
     let old = c.self.inside.parts in
     let e = old.engine in
     let w = c.self.invariant.listed in
-    let none = sought_none old.unions.items c.as_slice.result.now c.args.query.name c.as_slice.ensures.value c.find_union.result c.find_union.ensures (sym c.is_some.ensures ∙ c.if-is_some.false) in
+    let none = sought_none old.unions.items c.as_slice.result.now c.args.query.name c.as_slice.ensures.value
+    c.find_union.result c.find_union.ensures (sym c.is_some.ensures ∙ c.if-is_some.false) in
     let less : length old.order.items < QUERIES = omega (arith, c.if-len-ge-QUERIES.false, c.len.ensures) in
     let e' = c.query-outcome.new.self in
     let q = c.args.query in
     let result = c.query-outcome.result in
-    let r = query_rests e e' c.engine_laws.ensures.engine c.engine_laws-2.ensures.engine c.engine_laws.ensures.staying c.query-outcome.ensures.places q result c.query-outcome.ensures.registers in
+    let r = query_rests e e' c.engine_laws.ensures.engine c.engine_laws-2.ensures.engine c.engine_laws.ensures.staying
+    c.query-outcome.ensures.places q result c.query-outcome.ensures.registers in
     let o = outcome_of result (sym c.is_registered.ensures ∙ c.if-is_registered.true) in
-    let g = subst (λ (x : Result QueryOutcome Refusal). RegistersQuery e.store q x e'.store) o.is c.query-outcome.ensures.registers in
-    let en = subst (λ (x : Result QueryOutcome Refusal). Enrols e.registered q x e'.registered) o.is c.query-outcome.ensures.enrols in
+    let g = subst (λ (x : Result QueryOutcome Refusal). RegistersQuery e.store q x e'.store) o.is
+    c.query-outcome.ensures.registers in
+    let en = subst (λ (x : Result QueryOutcome Refusal). Enrols e.registered q x e'.registered) o.is
+    c.query-outcome.ensures.enrols in
     record {
-      listed = subst (λ (xs : List ℕ). IsListed e' old.unions.items xs) (sym c.push_reserved.ensures.items) (registered_listed e e' r old.unions.items old.order.items old.sessions.items old.affected.items w q none less o.most g en c.in-Some.id c.in-Some.ensures);
-      counted = registered_counted e e' r old.unions.items old.order.items old.sessions.items old.affected.items w q none less o.most g en c.in-Some.id c.in-Some.ensures c.self.invariant.counted;
-      roomy = record { order = omega (arith, c.push_reserved.ensures.capacity, c.self.invariant.roomy.order); affected = c.self.invariant.roomy.affected };
+      listed = subst (λ (xs : List ℕ). IsListed e' old.unions.items xs) (sym c.push_reserved.ensures.items)
+          (registered_listed e e' r old.unions.items old.order.items old.sessions.items old.affected.items w q none less
+          o.most g en c.in-Some.id c.in-Some.ensures);
+      counted = registered_counted e e' r old.unions.items old.order.items old.sessions.items old.affected.items w q
+          none less o.most g en c.in-Some.id c.in-Some.ensures c.self.invariant.counted;
+      roomy = record {
+        order = omega (arith, c.push_reserved.ensures.capacity, c.self.invariant.roomy.order);
+        affected =
+            c.self.invariant.roomy.affected;
+      };
     }
 
 pub returns-in-Some-clause-registers : goal.returns-in-Some-clause-registers
@@ -60,85 +83,131 @@ returns-in-Some-clause-registers met c =
     let old = c.self.inside.parts in
     let e = old.engine in
     let w = c.self.invariant.listed in
-    let none = sought_none old.unions.items c.as_slice.result.now c.args.query.name c.as_slice.ensures.value c.find_union.result c.find_union.ensures (sym c.is_some.ensures ∙ c.if-is_some.false) in
+    let none = sought_none old.unions.items c.as_slice.result.now c.args.query.name c.as_slice.ensures.value
+    c.find_union.result c.find_union.ensures (sym c.is_some.ensures ∙ c.if-is_some.false) in
     let less : length old.order.items < QUERIES = omega (arith, c.if-len-ge-QUERIES.false, c.len.ensures) in
     let e' = c.query-outcome.new.self in
     let q = c.args.query in
     let result = c.query-outcome.result in
-    let r = query_rests e e' c.engine_laws.ensures.engine c.engine_laws-2.ensures.engine c.engine_laws.ensures.staying c.query-outcome.ensures.places q result c.query-outcome.ensures.registers in
+    let r = query_rests e e' c.engine_laws.ensures.engine c.engine_laws-2.ensures.engine c.engine_laws.ensures.staying
+    c.query-outcome.ensures.places q result c.query-outcome.ensures.registers in
     let o = outcome_of result (sym c.is_registered.ensures ∙ c.if-is_registered.true) in
-    let g = subst (λ (x : Result QueryOutcome Refusal). RegistersQuery e.store q x e'.store) o.is c.query-outcome.ensures.registers in
-    let en = subst (λ (x : Result QueryOutcome Refusal). Enrols e.registered q x e'.registered) o.is c.query-outcome.ensures.enrols in
-    subst (λ (k : Kept). RegistersQuery k.store q result (seen e' old.unions.items c.push_reserved.new.self.items (set old.sessions.items c.in-Some.id.at 0) old.affected.items).store) c.self.view_is
-    (subst (λ (xs : List ℕ). RegistersQuery (seen e old.unions.items old.order.items old.sessions.items old.affected.items).store q result (seen e' old.unions.items xs (set old.sessions.items c.in-Some.id.at 0) old.affected.items).store) (sym c.push_reserved.ensures.items)
-    (subst (λ (x : Result QueryOutcome Refusal). RegistersQuery (seen e old.unions.items old.order.items old.sessions.items old.affected.items).store q x (seen e' old.unions.items (old.order.items ++ c.in-Some.id.at ∷ []) (set old.sessions.items c.in-Some.id.at 0) old.affected.items).store) (sym o.is)
-    (registered_registers e e' r old.unions.items old.order.items old.sessions.items old.affected.items w q none less o.most g en c.in-Some.id c.in-Some.ensures)))
+    let g = subst (λ (x : Result QueryOutcome Refusal). RegistersQuery e.store q x e'.store) o.is
+    c.query-outcome.ensures.registers in
+    let en = subst (λ (x : Result QueryOutcome Refusal). Enrols e.registered q x e'.registered) o.is
+    c.query-outcome.ensures.enrols in
+    subst (λ (k : Kept). RegistersQuery k.store q result
+    (seen e' old.unions.items c.push_reserved.new.self.items (set old.sessions.items c.in-Some.id.at 0)
+    old.affected.items).store) c.self.view_is
+    (subst (λ (xs : List ℕ). RegistersQuery
+    (seen e old.unions.items old.order.items old.sessions.items old.affected.items).store q result
+    (seen e' old.unions.items xs (set old.sessions.items c.in-Some.id.at 0) old.affected.items).store)
+    (sym c.push_reserved.ensures.items)
+    (subst (λ (x : Result QueryOutcome Refusal). RegistersQuery
+    (seen e old.unions.items old.order.items old.sessions.items old.affected.items).store q x
+    (seen e' old.unions.items (old.order.items ++ c.in-Some.id.at ∷ []) (set old.sessions.items c.in-Some.id.at 0)
+    old.affected.items).store) (sym o.is)
+    (registered_registers e e' r old.unions.items old.order.items old.sessions.items old.affected.items w q none less
+    o.most g en c.in-Some.id c.in-Some.ensures)))
 
 pub returns-in-Some-clause-cursors : goal.returns-in-Some-clause-cursors
 returns-in-Some-clause-cursors met c =
     let old = c.self.inside.parts in
     let e = old.engine in
     let w = c.self.invariant.listed in
-    let none = sought_none old.unions.items c.as_slice.result.now c.args.query.name c.as_slice.ensures.value c.find_union.result c.find_union.ensures (sym c.is_some.ensures ∙ c.if-is_some.false) in
+    let none = sought_none old.unions.items c.as_slice.result.now c.args.query.name c.as_slice.ensures.value
+    c.find_union.result c.find_union.ensures (sym c.is_some.ensures ∙ c.if-is_some.false) in
     let less : length old.order.items < QUERIES = omega (arith, c.if-len-ge-QUERIES.false, c.len.ensures) in
     let e' = c.query-outcome.new.self in
     let q = c.args.query in
     let result = c.query-outcome.result in
-    let r = query_rests e e' c.engine_laws.ensures.engine c.engine_laws-2.ensures.engine c.engine_laws.ensures.staying c.query-outcome.ensures.places q result c.query-outcome.ensures.registers in
-    subst (λ (k : Kept). SameCursors k.cursors (cursors_in e' old.unions.items)) c.self.view_is (cursors_over e e' r old.unions.items old.order.items old.sessions.items old.affected.items w c.query-outcome.ensures.cursors)
+    let r = query_rests e e' c.engine_laws.ensures.engine c.engine_laws-2.ensures.engine c.engine_laws.ensures.staying
+    c.query-outcome.ensures.places q result c.query-outcome.ensures.registers in
+    subst (λ (k : Kept). SameCursors k.cursors (cursors_in e' old.unions.items)) c.self.view_is
+    (cursors_over e e' r old.unions.items old.order.items old.sessions.items old.affected.items w
+    c.query-outcome.ensures.cursors)
 
 pub returns-in-Some-clause-enrols : goal.returns-in-Some-clause-enrols
 returns-in-Some-clause-enrols met c =
     let old = c.self.inside.parts in
     let e = old.engine in
     let w = c.self.invariant.listed in
-    let none = sought_none old.unions.items c.as_slice.result.now c.args.query.name c.as_slice.ensures.value c.find_union.result c.find_union.ensures (sym c.is_some.ensures ∙ c.if-is_some.false) in
+    let none = sought_none old.unions.items c.as_slice.result.now c.args.query.name c.as_slice.ensures.value
+    c.find_union.result c.find_union.ensures (sym c.is_some.ensures ∙ c.if-is_some.false) in
     let less : length old.order.items < QUERIES = omega (arith, c.if-len-ge-QUERIES.false, c.len.ensures) in
     let e' = c.query-outcome.new.self in
     let q = c.args.query in
     let result = c.query-outcome.result in
-    let r = query_rests e e' c.engine_laws.ensures.engine c.engine_laws-2.ensures.engine c.engine_laws.ensures.staying c.query-outcome.ensures.places q result c.query-outcome.ensures.registers in
+    let r = query_rests e e' c.engine_laws.ensures.engine c.engine_laws-2.ensures.engine c.engine_laws.ensures.staying
+    c.query-outcome.ensures.places q result c.query-outcome.ensures.registers in
     let o = outcome_of result (sym c.is_registered.ensures ∙ c.if-is_registered.true) in
-    let g = subst (λ (x : Result QueryOutcome Refusal). RegistersQuery e.store q x e'.store) o.is c.query-outcome.ensures.registers in
-    let en = subst (λ (x : Result QueryOutcome Refusal). Enrols e.registered q x e'.registered) o.is c.query-outcome.ensures.enrols in
-    subst (λ (k : Kept). Enrols k.registered q result (seen e' old.unions.items c.push_reserved.new.self.items (set old.sessions.items c.in-Some.id.at 0) old.affected.items).registered) c.self.view_is
-    (subst (λ (xs : List ℕ). Enrols (seen e old.unions.items old.order.items old.sessions.items old.affected.items).registered q result (seen e' old.unions.items xs (set old.sessions.items c.in-Some.id.at 0) old.affected.items).registered) (sym c.push_reserved.ensures.items)
-    (subst (λ (x : Result QueryOutcome Refusal). Enrols (seen e old.unions.items old.order.items old.sessions.items old.affected.items).registered q x (seen e' old.unions.items (old.order.items ++ c.in-Some.id.at ∷ []) (set old.sessions.items c.in-Some.id.at 0) old.affected.items).registered) (sym o.is)
-    (registered_enrols e e' r old.unions.items old.order.items old.sessions.items old.affected.items w q none less o.most g en c.in-Some.id c.in-Some.ensures c.self.invariant.counted.long)))
+    let g = subst (λ (x : Result QueryOutcome Refusal). RegistersQuery e.store q x e'.store) o.is
+    c.query-outcome.ensures.registers in
+    let en = subst (λ (x : Result QueryOutcome Refusal). Enrols e.registered q x e'.registered) o.is
+    c.query-outcome.ensures.enrols in
+    subst (λ (k : Kept). Enrols k.registered q result
+    (seen e' old.unions.items c.push_reserved.new.self.items (set old.sessions.items c.in-Some.id.at 0)
+    old.affected.items).registered) c.self.view_is
+    (subst (λ (xs : List ℕ). Enrols
+    (seen e old.unions.items old.order.items old.sessions.items old.affected.items).registered q result
+    (seen e' old.unions.items xs (set old.sessions.items c.in-Some.id.at 0) old.affected.items).registered)
+    (sym c.push_reserved.ensures.items)
+    (subst (λ (x : Result QueryOutcome Refusal). Enrols
+    (seen e old.unions.items old.order.items old.sessions.items old.affected.items).registered q x
+    (seen e' old.unions.items (old.order.items ++ c.in-Some.id.at ∷ []) (set old.sessions.items c.in-Some.id.at 0)
+    old.affected.items).registered) (sym o.is)
+    (registered_enrols e e' r old.unions.items old.order.items old.sessions.items old.affected.items w q none less
+    o.most g en c.in-Some.id c.in-Some.ensures c.self.invariant.counted.long)))
 
 pub returns-in-Some-clause-tellings : goal.returns-in-Some-clause-tellings
 returns-in-Some-clause-tellings met c =
     let old = c.self.inside.parts in
     let e = old.engine in
     let w = c.self.invariant.listed in
-    let none = sought_none old.unions.items c.as_slice.result.now c.args.query.name c.as_slice.ensures.value c.find_union.result c.find_union.ensures (sym c.is_some.ensures ∙ c.if-is_some.false) in
+    let none = sought_none old.unions.items c.as_slice.result.now c.args.query.name c.as_slice.ensures.value
+    c.find_union.result c.find_union.ensures (sym c.is_some.ensures ∙ c.if-is_some.false) in
     let less : length old.order.items < QUERIES = omega (arith, c.if-len-ge-QUERIES.false, c.len.ensures) in
     let e' = c.query-outcome.new.self in
     let q = c.args.query in
     let result = c.query-outcome.result in
-    let r = query_rests e e' c.engine_laws.ensures.engine c.engine_laws-2.ensures.engine c.engine_laws.ensures.staying c.query-outcome.ensures.places q result c.query-outcome.ensures.registers in
+    let r = query_rests e e' c.engine_laws.ensures.engine c.engine_laws-2.ensures.engine c.engine_laws.ensures.staying
+    c.query-outcome.ensures.places q result c.query-outcome.ensures.registers in
     let o = outcome_of result (sym c.is_registered.ensures ∙ c.if-is_registered.true) in
-    let g = subst (λ (x : Result QueryOutcome Refusal). RegistersQuery e.store q x e'.store) o.is c.query-outcome.ensures.registers in
-    let en = subst (λ (x : Result QueryOutcome Refusal). Enrols e.registered q x e'.registered) o.is c.query-outcome.ensures.enrols in
+    let g = subst (λ (x : Result QueryOutcome Refusal). RegistersQuery e.store q x e'.store) o.is
+    c.query-outcome.ensures.registers in
+    let en = subst (λ (x : Result QueryOutcome Refusal). Enrols e.registered q x e'.registered) o.is
+    c.query-outcome.ensures.enrols in
     let t = subst (λ (x : Result QueryOutcome Refusal). EnrolsTelling e q x e') o.is c.query-outcome.ensures.tellings in
-    subst (λ (k : Kept). EnrolsTelling k q result (seen e' old.unions.items c.push_reserved.new.self.items (set old.sessions.items c.in-Some.id.at 0) old.affected.items)) c.self.view_is
-    (subst (λ (xs : List ℕ). EnrolsTelling (seen e old.unions.items old.order.items old.sessions.items old.affected.items) q result (seen e' old.unions.items xs (set old.sessions.items c.in-Some.id.at 0) old.affected.items)) (sym c.push_reserved.ensures.items)
-    (subst (λ (x : Result QueryOutcome Refusal). EnrolsTelling (seen e old.unions.items old.order.items old.sessions.items old.affected.items) q x (seen e' old.unions.items (old.order.items ++ c.in-Some.id.at ∷ []) (set old.sessions.items c.in-Some.id.at 0) old.affected.items)) (sym o.is)
-    (registered_tells e e' r old.unions.items old.order.items old.sessions.items old.affected.items w q none less o.most g en c.in-Some.id c.in-Some.ensures c.self.invariant.counted.long t)))
+    subst (λ (k : Kept). EnrolsTelling k q result
+    (seen e' old.unions.items c.push_reserved.new.self.items (set old.sessions.items c.in-Some.id.at 0)
+    old.affected.items)) c.self.view_is
+    (subst (λ (xs : List ℕ). EnrolsTelling
+    (seen e old.unions.items old.order.items old.sessions.items old.affected.items) q result
+    (seen e' old.unions.items xs (set old.sessions.items c.in-Some.id.at 0) old.affected.items))
+    (sym c.push_reserved.ensures.items)
+    (subst (λ (x : Result QueryOutcome Refusal). EnrolsTelling
+    (seen e old.unions.items old.order.items old.sessions.items old.affected.items) q x
+    (seen e' old.unions.items (old.order.items ++ c.in-Some.id.at ∷ []) (set old.sessions.items c.in-Some.id.at 0)
+    old.affected.items)) (sym o.is)
+    (registered_tells e e' r old.unions.items old.order.items old.sessions.items old.affected.items w q none less o.most
+    g en c.in-Some.id c.in-Some.ensures c.self.invariant.counted.long t)))
 
 pub invariant_of-self-else-is_registered : goal.invariant_of-self-else-is_registered
 invariant_of-self-else-is_registered met c =
     let old = c.self.inside.parts in
     let e = old.engine in
     let w = c.self.invariant.listed in
-    let none = sought_none old.unions.items c.as_slice.result.now c.args.query.name c.as_slice.ensures.value c.find_union.result c.find_union.ensures (sym c.is_some.ensures ∙ c.if-is_some.false) in
+    let none = sought_none old.unions.items c.as_slice.result.now c.args.query.name c.as_slice.ensures.value
+    c.find_union.result c.find_union.ensures (sym c.is_some.ensures ∙ c.if-is_some.false) in
     let less : length old.order.items < QUERIES = omega (arith, c.if-len-ge-QUERIES.false, c.len.ensures) in
     let e' = c.query-outcome.new.self in
     let q = c.args.query in
     let result = c.query-outcome.result in
-    let r = query_rests e e' c.engine_laws.ensures.engine c.engine_laws-2.ensures.engine c.engine_laws.ensures.staying c.query-outcome.ensures.places q result c.query-outcome.ensures.registers in
+    let r = query_rests e e' c.engine_laws.ensures.engine c.engine_laws-2.ensures.engine c.engine_laws.ensures.staying
+    c.query-outcome.ensures.places q result c.query-outcome.ensures.registers in
     let not_registered = sym c.is_registered.ensures ∙ c.if-is_registered.false in
-    let same = unregistered_same e e' r old.unions.items old.order.items old.sessions.items old.affected.items w q none less old.sessions.items old.affected.items result not_registered c.query-outcome.ensures.enrols in
+    let same = unregistered_same e e' r old.unions.items old.order.items old.sessions.items old.affected.items w q none
+    less old.sessions.items old.affected.items result not_registered c.query-outcome.ensures.enrols in
     record {
       listed = listed_over e e' r old.unions.items old.order.items old.sessions.items old.affected.items w same;
       counted = counts_stay e e' old.unions.items old.sessions.items same c.self.invariant.counted;
@@ -150,17 +219,30 @@ returns-else-is_registered met c =
     let old = c.self.inside.parts in
     let e = old.engine in
     let w = c.self.invariant.listed in
-    let none = sought_none old.unions.items c.as_slice.result.now c.args.query.name c.as_slice.ensures.value c.find_union.result c.find_union.ensures (sym c.is_some.ensures ∙ c.if-is_some.false) in
+    let none = sought_none old.unions.items c.as_slice.result.now c.args.query.name c.as_slice.ensures.value
+    c.find_union.result c.find_union.ensures (sym c.is_some.ensures ∙ c.if-is_some.false) in
     let less : length old.order.items < QUERIES = omega (arith, c.if-len-ge-QUERIES.false, c.len.ensures) in
     let e' = c.query-outcome.new.self in
     let q = c.args.query in
     let result = c.query-outcome.result in
-    let r = query_rests e e' c.engine_laws.ensures.engine c.engine_laws-2.ensures.engine c.engine_laws.ensures.staying c.query-outcome.ensures.places q result c.query-outcome.ensures.registers in
+    let r = query_rests e e' c.engine_laws.ensures.engine c.engine_laws-2.ensures.engine c.engine_laws.ensures.staying
+    c.query-outcome.ensures.places q result c.query-outcome.ensures.registers in
     let not_registered = sym c.is_registered.ensures ∙ c.if-is_registered.false in
     record {
-      registers = subst (λ (k : Kept). RegistersQuery k.store q result (seen e' old.unions.items old.order.items old.sessions.items old.affected.items).store) c.self.view_is (unregistered e e' r old.unions.items old.order.items old.sessions.items old.affected.items w q none less old.sessions.items old.affected.items result not_registered c.query-outcome.ensures.registers);
-      cursors = subst (λ (k : Kept). SameCursors k.cursors (cursors_in e' old.unions.items)) c.self.view_is (cursors_over e e' r old.unions.items old.order.items old.sessions.items old.affected.items w c.query-outcome.ensures.cursors);
-      enrols = subst (λ (k : Kept). Enrols k.registered q result (seen e' old.unions.items old.order.items old.sessions.items old.affected.items).registered) c.self.view_is (unregistered_enrols e e' r old.unions.items old.order.items old.sessions.items old.affected.items w q none less old.sessions.items old.affected.items result not_registered);
-      tellings = subst (λ (k : Kept). EnrolsTelling k q result (seen e' old.unions.items old.order.items old.sessions.items old.affected.items)) c.self.view_is (unregistered_tells e e' r old.unions.items old.order.items old.sessions.items old.affected.items w q none less old.sessions.items old.affected.items result not_registered c.query-outcome.ensures.tellings);
+      registers = subst (λ (k : Kept). RegistersQuery k.store q result
+          (seen e' old.unions.items old.order.items old.sessions.items old.affected.items).store) c.self.view_is
+          (unregistered e e' r old.unions.items old.order.items old.sessions.items old.affected.items w q none less
+          old.sessions.items old.affected.items result not_registered c.query-outcome.ensures.registers);
+      cursors = subst (λ (k : Kept). SameCursors k.cursors (cursors_in e' old.unions.items)) c.self.view_is
+          (cursors_over e e' r old.unions.items old.order.items old.sessions.items old.affected.items w
+          c.query-outcome.ensures.cursors);
+      enrols = subst (λ (k : Kept). Enrols k.registered q result
+          (seen e' old.unions.items old.order.items old.sessions.items old.affected.items).registered) c.self.view_is
+          (unregistered_enrols e e' r old.unions.items old.order.items old.sessions.items old.affected.items w q none
+          less old.sessions.items old.affected.items result not_registered);
+      tellings = subst (λ (k : Kept). EnrolsTelling k q result
+          (seen e' old.unions.items old.order.items old.sessions.items old.affected.items)) c.self.view_is
+          (unregistered_tells e e' r old.unions.items old.order.items old.sessions.items old.affected.items w q none
+          less old.sessions.items old.affected.items result not_registered c.query-outcome.ensures.tellings);
       counted = c.query-outcome.ensures.counted;
     }

@@ -14,11 +14,13 @@ get-requires-in-Some-pop c = (popped _ _ _ _ c.in-Some-pop.ensures.taken c.loop-
 pub loop-variable-preserved : goal.loop-variable-preserved
 loop-variable-preserved c = record {
   named = (popped _ _ _ _ c.in-Some-pop.ensures.taken c.loop-variable.invariant.named).1;
-  so_far = listed_more _ _ _ _ _ _ _ _ _ c.in_ok-push_text-in-Some-2.ensures c.in_ok-push_text-in-Some-3.ensures c.get-in-Some-pop.ensures c.in-Some-pop.ensures.taken c.loop-variable.invariant.so_far;
+  so_far = listed_more _ _ _ _ _ _ _ _ _ c.in_ok-push_text-in-Some-2.ensures c.in_ok-push_text-in-Some-3.ensures
+      c.get-in-Some-pop.ensures c.in-Some-pop.ensures.taken c.loop-variable.invariant.so_far;
 }
 
 pub returns-in-None : goal.returns-in-None
 returns-in-None c = rw c.in-None.ensures.none c.push_text.ensures
 
 pub returns-in_default : goal.returns-in_default
-returns-in_default c = labelled _ _ _ _ _ _ _ _ _ c.in_ok-push_text-in-Some.ensures c.get.ensures c.in-Some.ensures.taken c.in_default.ensures.none c.loop-variable.invariant.so_far
+returns-in_default c = labelled _ _ _ _ _ _ _ _ _ c.in_ok-push_text-in-Some.ensures c.get.ensures
+    c.in-Some.ensures.taken c.in_default.ensures.none c.loop-variable.invariant.so_far

@@ -8,14 +8,19 @@ parent_of-requires-clause-rising c = rw c.deref.ensures.value (rising_of _ c.sel
 
 pub loop-self-smaller : goal.loop-self-smaller
 loop-self-smaller c =
-    let m = frontier_step _ c.args.self.now c.deref.result.now c.parent_of.result c.loop-self.node c.unwrap-node.result c.self.view_is c.self.invariant c.deref.ensures.value (search rules) c.parent_of.ensures c.unwrap-node.ensures in
+    let m = frontier_step _ c.args.self.now c.deref.result.now c.parent_of.result c.loop-self.node c.unwrap-node.result
+    c.self.view_is c.self.invariant c.deref.ensures.value (search rules) c.parent_of.ensures c.unwrap-node.ensures
+    in
     omega arith
 
 pub loop-self-preserved : goal.loop-self-preserved
 loop-self-preserved c =
-    let m = frontier_step _ c.args.self.now c.deref.result.now c.parent_of.result c.loop-self.node c.unwrap-node.result c.self.view_is c.self.invariant c.deref.ensures.value (search rules) c.parent_of.ensures c.unwrap-node.ensures in
+    let m = frontier_step _ c.args.self.now c.deref.result.now c.parent_of.result c.loop-self.node c.unwrap-node.result
+    c.self.view_is c.self.invariant c.deref.ensures.value (search rules) c.parent_of.ensures c.unwrap-node.ensures
+    in
     record { within = m.1; same = c.loop-self.invariant.same ∙ m.2 }
 
 pub returns-clause-split : goal.returns-clause-split
 returns-clause-split c =
-    walk_splits _ c.args.self.now c.args.leaf c.loop-self.node c.index.result.now c.self.view_is c.self.invariant c.loop-self.invariant.within c.index.ensures c.loop-self-test.false c.loop-self.invariant.same
+    walk_splits _ c.args.self.now c.args.leaf c.loop-self.node c.index.result.now c.self.view_is c.self.invariant
+    c.loop-self.invariant.within c.index.ensures c.loop-self-test.false c.loop-self.invariant.same

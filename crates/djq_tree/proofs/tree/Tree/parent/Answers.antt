@@ -9,9 +9,11 @@ pub parent_of-requires-clause-rising : goal.parent_of-requires-clause-rising
 parent_of-requires-clause-rising c = rw c.deref.ensures.value (rising_of _ c.self.invariant)
 
 pub returns-in-Some-clause-above : goal.returns-in-Some-clause-above
-returns-in-Some-clause-above c = parent_within c.args.self.now c.args.at c.in-Some.up (subst IsTree c.self.view_is c.self.invariant) c.in-Some.ensures
+returns-in-Some-clause-above c = parent_within c.args.self.now c.args.at c.in-Some.up
+    (subst IsTree c.self.view_is c.self.invariant) c.in-Some.ensures
 
 pub returns-in-None-clause-above : goal.returns-in-None-clause-above
 returns-in-None-clause-above c =
     parent_read c.args.self.now c.args.at c.parent_of.result (subst IsTree c.self.view_is c.self.invariant)
-    (c.parent_of.ensures ∙ ap (λ (ns : List Node). parent ns c.args.at) c.deref.ensures.value ∙ ap (λ (t : Tree). parent t.nodes c.args.at) c.self.view_is)
+    (c.parent_of.ensures ∙ ap (λ (ns : List Node). parent ns c.args.at) c.deref.ensures.value
+    ∙ ap (λ (t : Tree). parent t.nodes c.args.at) c.self.view_is)

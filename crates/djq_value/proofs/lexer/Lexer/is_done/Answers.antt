@@ -8,5 +8,6 @@ returns c =
     let rest = c.self.inside.rest.now in
     let spaces = c.space_count.result in (
       λ all. sym c.self.view_is ∙ tokens-empty rest spaces (eqb-true _ _ all) c.space_count.ensures.behind,
-      λ none. eq-eqb _ _ (tokens-done rest spaces c.space_count.ensures.within c.space_count.ensures.behind (c.self.view_is ∙ none)),
+      λ none. eq-eqb _ _ (tokens-done rest spaces c.space_count.ensures.within c.space_count.ensures.behind
+          (c.self.view_is ∙ none)),
     )

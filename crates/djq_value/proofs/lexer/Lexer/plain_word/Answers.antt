@@ -12,6 +12,7 @@ returns c =
     let bytes = take (length rest - spaces) (drop spaces rest) in
     let len = c.word_len-len.result in
     sym c.self.view_is
-    ∙ word_taken rest bytes len (take_rest rest spaces ∙ c.space_count.ensures.behind) c.word_len-len.ensures.within c.word_len-len.ensures.word c.word_len-len.ensures.behind
+    ∙ word_taken rest bytes len (take_rest rest spaces ∙ c.space_count.ensures.behind) c.word_len-len.ensures.within
+    c.word_len-len.ensures.word c.word_len-len.ensures.behind
     (omega (arith, c.if-len-eq0.false)) (ne_eqb (get_or bytes 0 0) 34 c.if-bytes-eq34.false)
     ∙ ap (λ xs. word (take len bytes) ∷ tokens xs) (sym (take_rest bytes len))

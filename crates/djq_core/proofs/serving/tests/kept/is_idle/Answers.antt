@@ -4,4 +4,5 @@ use Rattle.djq_core.proofs.Seen.{none_listed}
 use Rattle.djq_core.proofs.serving.tests.kept.is_idle.Goals as goal
 
 pub returns : goal.returns
-returns c = λ e. none_listed ((c.args.core.now).state).sessions c.ids.result.now c.ids.ensures (eqb-true _ _ (sym c.is_empty.ensures ∙ e))
+returns c = λ e. none_listed ((c.args.core.now).state).sessions c.ids.result.now c.ids.ensures
+    (eqb-true _ _ (sym c.is_empty.ensures ∙ e))
