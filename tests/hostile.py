@@ -19,25 +19,12 @@ import sys
 import termios
 import threading
 import time
-import traceback
 
 sys.dont_write_bytecode = True
+from harness import expect, run_tests, test  # noqa: E402
 from reasons import fits  # noqa: E402
 
 PATIENCE = 20
-
-TESTS = []
-
-
-def test(function):
-    TESTS.append(function)
-    return function
-
-
-def expect(got, want, what=""):
-    if got != want:
-        raise AssertionError(f"{what}: got {got!r}, want {want!r}")
-
 
 # ---------------------------------------------------------------- hostile bytes
 
@@ -401,20 +388,8 @@ def signals_between_calls_are_harmless():
     program.stdout.close()
 
 
-def main():
-    failed = 0
-    for function in TESTS:
-        try:
-            function()
-        except Exception:
-            failed += 1
-            print(f"{function.__name__}: {traceback.format_exc(limit=-1)}")
-    print(f"{len(TESTS) - failed} passed, {failed} failed")
-    return 1 if failed else 0
-
-
 if __name__ == "__main__":
     if len(sys.argv) != 2:
         raise SystemExit(__doc__)
     PROGRAM = os.path.abspath(sys.argv[1])
-    sys.exit(main())
+    sys.exit(run_tests())

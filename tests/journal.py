@@ -21,22 +21,12 @@ import subprocess
 import sys
 import tempfile
 import time
-import traceback
 
 sys.dont_write_bytecode = True
+from harness import expect, run_tests, test  # noqa: E402
+
 PATIENCE = 20
 HEADER = b"DJQLOG1\n"
-TESTS = []
-
-
-def test(function):
-    TESTS.append(function)
-    return function
-
-
-def expect(got, want, what=""):
-    if got != want:
-        raise AssertionError(f"{what}: got {got!r}, want {want!r}")
 
 
 def run(program, words, said=b"", **settings):
@@ -447,16 +437,13 @@ def main():
     parser.add_argument("--kills", type=int, default=200)
     parser.add_argument("--seed", type=int, default=1)
     options = parser.parse_args()
-    program, failed = os.path.abspath(options.program), 0
-    for function in TESTS:
+    program = os.path.abspath(options.program)
+
+    def call(function):
         with tempfile.TemporaryDirectory() as folder:
-            try:
-                function(program, folder, options)
-            except Exception:  # noqa: BLE001
-                failed += 1
-                print(f"{function.__name__}: {traceback.format_exc()}")
-    print(f"{len(TESTS) - failed} passed, {failed} failed")
-    return 1 if failed else 0
+            function(program, folder, options)
+
+    return run_tests(call, limit=None)
 
 
 if __name__ == "__main__":

@@ -16,10 +16,10 @@ import struct
 import subprocess
 import sys
 import tempfile
-import traceback
 
 sys.dont_write_bytecode = True
 import model  # noqa: E402
+from harness import expect, run_tests, test  # noqa: E402
 from reasons import fits  # noqa: E402
 
 PATIENCE = 60
@@ -27,21 +27,9 @@ PATIENCE = 60
 # a run of one session never asks for so many growths
 MOST_GROWTHS = 5000
 
-TESTS = []
-
-
-def test(function):
-    TESTS.append(function)
-    return function
-
 
 def lines(text):
     return b"".join(line.strip() + b"\n" for line in text.strip().split(b"\n"))
-
-
-def expect(got, want, what=""):
-    if got != want:
-        raise AssertionError(f"{what}: got {got!r}, want {want!r}")
 
 
 # ---------------------------------------------------------------- sessions
@@ -672,20 +660,8 @@ def exactly_the_accepted_rows_are_listed_where_memory_ends():
     print(f"{refused} of {MILLION} rows are refused in 60 MiB, and {len(rows)} are listed in the end")
 
 
-def main():
-    failed = 0
-    for function in TESTS:
-        try:
-            function()
-        except Exception:
-            failed += 1
-            print(f"{function.__name__}: {traceback.format_exc(limit=-1)}")
-    print(f"{len(TESTS) - failed} passed, {failed} failed")
-    return 1 if failed else 0
-
-
 if __name__ == "__main__":
     if len(sys.argv) != 2:
         raise SystemExit(__doc__)
     PROGRAM = os.path.abspath(sys.argv[1])
-    sys.exit(main())
+    sys.exit(run_tests())

@@ -15,21 +15,11 @@ import random
 import subprocess
 import sys
 import time
-import traceback
 
 sys.dont_write_bytecode = True
+from harness import expect, run_tests, test  # noqa: E402
+
 PATIENCE = 60
-TESTS = []
-
-
-def test(function):
-    TESTS.append(function)
-    return function
-
-
-def expect(got, want, what=""):
-    if got != want:
-        raise AssertionError(f"{what}: got {got!r}, want {want!r}")
 
 
 def mirror(program, sent, query="q"):
@@ -182,15 +172,7 @@ def main():
     parser.add_argument("--rounds", type=int, default=200)
     parser.add_argument("--seed", type=int, default=1)
     options = parser.parse_args()
-    failed = 0
-    for function in TESTS:
-        try:
-            function(options.program, options)
-        except Exception:  # pylint: disable=broad-except
-            failed += 1
-            print(f"{function.__name__} FAILED\n{traceback.format_exc()}")
-    print(f"{len(TESTS) - failed} passed, {failed} failed")
-    return 1 if failed else 0
+    return run_tests(lambda function: function(options.program, options), limit=None)
 
 
 if __name__ == "__main__":

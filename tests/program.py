@@ -16,9 +16,9 @@ import struct
 import subprocess
 import sys
 import time
-import traceback
 
 sys.dont_write_bytecode = True
+from harness import expect, run_tests, test  # noqa: E402
 from reasons import fits  # noqa: E402
 
 # the most seconds that a reply or an end is waited for
@@ -49,13 +49,6 @@ SESSION = [
     (b"has q 2 1", [b"yes"]),
 ]
 
-TESTS = []
-
-
-def test(function):
-    TESTS.append(function)
-    return function
-
 
 def lines_of(session, end=b"\n"):
     return b"".join(line + end for line, _ in session)
@@ -63,11 +56,6 @@ def lines_of(session, end=b"\n"):
 
 def replies_of(session):
     return b"".join(reply + b"\n" for _, replies in session for reply in replies)
-
-
-def expect(got, want, what=""):
-    if got != want:
-        raise AssertionError(f"{what}: got {got!r}, want {want!r}")
 
 
 def run(text, words=("run",)):
@@ -1870,20 +1858,8 @@ def a_load_has_a_number_of_changes_and_a_seed():
         expect(run(b"", ("gen", *words)), (USAGE, 1), words)
 
 
-def main():
-    failed = 0
-    for function in TESTS:
-        try:
-            function()
-        except Exception:
-            failed += 1
-            print(f"{function.__name__}: {traceback.format_exc(limit=-1)}")
-    print(f"{len(TESTS) - failed} passed, {failed} failed")
-    return 1 if failed else 0
-
-
 if __name__ == "__main__":
     if len(sys.argv) != 2:
         raise SystemExit(__doc__)
     PROGRAM = os.path.abspath(sys.argv[1])
-    sys.exit(main())
+    sys.exit(run_tests())

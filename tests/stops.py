@@ -15,24 +15,18 @@ import os
 import subprocess
 import sys
 import tempfile
-import traceback
 
 sys.dont_write_bytecode = True
+from harness import run_tests, test  # noqa: E402
 
 PATIENCE = 20
 STOPPED = 99
 PARTS = (0, 1, 2, 3, 4)  # quarters of a write at which it is stopped
 SEEDS = range(8)  # ways to lose what wasn't synced, the first of which loses nothing
 MOST_CALLS = 200
-TESTS = []
 
 BEGIN = [b"rel r int int", b"query q(x,y) <- r(x,y)", b"query p(x,y) <- r(y,x)", b"add r 9 9"]
 ASK = [b"open c q", b"next c 1000", b"explain u", b"watch q"]
-
-
-def test(function):
-    TESTS.append(function)
-    return function
 
 
 def replay(log, lines, preload=None, **told):
@@ -141,20 +135,8 @@ def a_file_that_ends_within_a_batch_is_stopped_as_it_is_mended():
                 break
 
 
-def main():
-    failed = 0
-    for function in TESTS:
-        try:
-            function()
-        except Exception:  # noqa: BLE001
-            failed += 1
-            print(f"{function.__name__}: {traceback.format_exc(limit=-2)}")
-    print(f"{len(TESTS) - failed} passed, {failed} failed")
-    return 1 if failed else 0
-
-
 if __name__ == "__main__":
     if len(sys.argv) != 2:
         raise SystemExit(__doc__)
     PROGRAM = os.path.abspath(sys.argv[1])
-    sys.exit(main())
+    sys.exit(run_tests(limit=-2))
