@@ -1,5 +1,5 @@
 #!/usr/bin/env python3
-"""What djq costs in instructions: python3 bench/count.py PROGRAM [--beside BY_HAND] [--only A ..] [--write].
+"""What djq costs in instructions: python3 bench/count.py PROGRAM [--beside BY_HAND] [--only A ..] [--write] [--time].
 
 Each kind of work of `workloads.py` is run with N rows and with 4N under `valgrind --tool=callgrind`, which counts the
 instructions of the operations alone. They hardly depend on the machine, nor on what else it does. `--write` keeps the
@@ -7,6 +7,8 @@ counts in counted.json and in the table of docs/PERFORMANCE.md; `tests/counted.p
 
 `--beside` counts the program by hand on the same streams (README.md says which it is). Without it the counts of that
 program stand beside that are kept in counted_by_hand.json, where `--write` keeps them.
+
+`--time` counts nothing, and tells instead how much processor time two kinds of work take in both programs.
 """
 
 import argparse
@@ -15,6 +17,7 @@ import json
 import os
 import re
 import shutil
+import statistics
 import subprocess
 import tempfile
 
@@ -28,6 +31,8 @@ PAGE = os.path.join(HERE, "..", "docs", "PERFORMANCE.md")
 TABLE = re.compile(r"(?<=<!-- begin: bench/count.py --write -->\n).*?(?=<!-- end -->)", re.DOTALL)
 NO_CHANGE = re.compile(r"err |no |stale |ok absent|ok added \d+ (?!1$)|ok removed \d+ (?!0$)|ok done \d+ 0$")
 AT_ONCE = 3  # streams that are run side by side
+TIMED = {"F": 20_000, "J": 10_000}  # kinds of work that `--time` times, with so many rows
+RUNS = 9  # how often it runs each
 
 
 def can_count():
@@ -68,6 +73,31 @@ def count(program, names=tuple(WORKLOADS)):
     with concurrent.futures.ThreadPoolExecutor(AT_ONCE) as pool:
         counts = list(pool.map(lambda one: per_operation(program, WORKLOADS[one[0]].make(one[1])), sizes))
     return {name: [round(counts[2 * at]), round(counts[2 * at + 1])] for at, name in enumerate(names)}
+
+
+def seconds(program, stream):
+    """The processor time of a stream's operations, of the program and of the system for it."""
+    with Session(program) as session:
+        run(session, stream.before, 0)
+        before = processor(session)
+        run(session, stream.counted, stream.told)
+        return processor(session) - before
+
+
+def processor(session):
+    """The seconds that the program was on a processor."""
+    with open(f"/proc/{session.process.pid}/schedstat", encoding="ascii") as file:
+        return int(file.read().split()[0]) / 1e9
+
+
+def tell_times(program, by_hand):
+    """The times of both programs, in turns, and the median of the quotients of each turn."""
+    for name, rows in TIMED.items():
+        stream = WORKLOADS[name].make(rows)
+        turns = [(seconds(program, stream), seconds(by_hand, stream)) for _ in range(RUNS)]
+        ours, theirs = (statistics.median(times) / stream.operations * 1e6 for times in zip(*turns))
+        times = statistics.median(one / other for one, other in turns)
+        print(f"{name} with {rows:,} rows: {ours:,.1f} us an operation, by hand {theirs:,.1f} us: {times:.2f} times")
 
 
 def table(counts, by_hand):
@@ -111,7 +141,10 @@ def main():
     words.add_argument("--beside", metavar="BY_HAND", help="the program by hand, counted on the same streams")
     words.add_argument("--only", nargs="*", choices=[*WORKLOADS], default=[*WORKLOADS])
     words.add_argument("--write", action="store_true", help="keep the counts")
+    words.add_argument("--time", action="store_true", help="tell times, of PROGRAM and BY_HAND")
     given = words.parse_args()
+    if given.time:
+        return tell_times(given.program, given.beside or words.error("--time needs --beside"))
     if not can_count():
         raise SystemExit("valgrind isn't there: on Debian, apt-get install valgrind")
     counts, by_hand = count(given.program, given.only), {}

@@ -458,6 +458,8 @@ static inline Entry *small_entry(const Edge *edge, const cell *cells)
 {
     Node *view = edge->small;
     unsigned width = view->table.width;
+    if (!width && view->table.count) /* a root, or a part of the query that has no variables left */
+        return (Entry *)view->table.heads[0];
     cell key[VARIABLES];
     for (unsigned i = 0; i < width; i++)
         key[i] = cells[edge->taken[i]];
@@ -844,11 +846,12 @@ static void change_leaves(Relation *relation, Row *row, bool comes)
     }
 }
 
-static void say_row(const char *words, uint64_t copies)
+static const char ADDED[16] = "ok added ", REMOVED[16] = "ok removed ";
+
+static void say_row(const char *words, size_t length, uint64_t copies)
 {
-    size_t length = strlen(words);
     need_out(64);
-    memcpy(said, words, length);
+    memcpy(said, words, sizeof ADDED);
     said = put_natural(said + length, changes);
     *said++ = ' ';
     said = put_natural(said, copies);
@@ -868,7 +871,7 @@ static void add_row(Relation *relation, const cell *cells)
         put_in(&relation->table, &row->item, hash);
         change_leaves(relation, row, true);
     }
-    say_row("ok added ", ++row->copies);
+    say_row(ADDED, 9, ++row->copies);
 }
 
 static void delete_row(Relation *relation, const cell *cells)
@@ -885,7 +888,7 @@ static void delete_row(Relation *relation, const cell *cells)
         take_out(&relation->table, &row->item, hash);
         give_block(&relation->rows, row);
     }
-    say_row("ok removed ", copies);
+    say_row(REMOVED, 11, copies);
 }
 
 /* Reading. A line ends with LF, before which no reader goes; bytes behind it may be read. */
