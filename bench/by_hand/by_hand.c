@@ -23,16 +23,16 @@
 #include <unistd.h>
 
 enum {
-    LINE = 4096,      /* bytes of a line */
-    NAME = 32,        /* bytes of a name */
-    TEXT = 255,       /* bytes of a text */
-    NAMES = 1024,     /* places for names, of which a quarter is used at most */
-    COLUMNS = 16,     /* of a relation */
-    LIMIT = 256,      /* relations, and queries */
+    LINE = 4096,  /* bytes of a line */
+    NAME = 32,    /* bytes of a name */
+    TEXT = 255,   /* bytes of a text */
+    NAMES = 1024, /* places for names, of which a quarter is used at most */
+    COLUMNS = 16, /* of a relation */
+    LIMIT = 256,  /* relations, and queries */
     CURSORS = 16,
     ATOMS = 32,
-    VARIABLES = 64,   /* of a query, as they stand in a mask */
-    HEAD = 16,        /* variables of a head */
+    VARIABLES = 64, /* of a query, as they stand in a mask */
+    HEAD = 16,      /* variables of a head */
     EDGES = VARIABLES + 2 * ATOMS,
     STEPS = 64,       /* of a listing */
     TERMS = LINE / 2, /* that a line has at most */
@@ -257,8 +257,9 @@ static Text *find_text(Slice slice, uint64_t hash)
     if (!texts.heads)
         grow_texts();
     Text *text = texts.heads[hash & texts.mask];
-    while (text && (text->hash != hash || text->length != slice.length || memcmp(text->spelled, slice.at, slice.length)))
-        text = text->next;
+    for (; text; text = text->next)
+        if (text->hash == hash && text->length == slice.length && !memcmp(text->spelled, slice.at, text->length))
+            break;
     return text;
 }
 
@@ -292,9 +293,9 @@ typedef struct Entry Entry;
 
 typedef struct {
     Node *big, *small;
-    bool feeds;           /* the big one feeds the small one; else that is its side */
-    bool listed;          /* its entries are kept as a list, since answers are listed through it */
-    unsigned link, slot;  /* where the big one's entry has its Link, and the small one's its Slot */
+    bool feeds;               /* the big one feeds the small one; else that is its side */
+    bool listed;              /* its entries are kept as a list, since answers are listed through it */
+    unsigned link, slot;      /* where the big one's entry has its Link, and the small one's its Slot */
     uint8_t taken[VARIABLES]; /* which cells of the big one's are the small one's */
 } Edge;
 
@@ -344,8 +345,8 @@ struct Node {
     Query *query;
     uint64_t label; /* its variables, as a mask */
     bool is_leaf;
-    bool is_out;    /* answers are listed from the nodes that are, from the root down */
-    Edge *parent;   /* the edge that it feeds, or whose side it is */
+    bool is_out;  /* answers are listed from the nodes that are, from the root down */
+    Edge *parent; /* the edge that it feeds, or whose side it is */
     Edge *sides[ATOMS], *feeds[EDGES];
     unsigned side_count, feed_count, slots;
     uint8_t places[VARIABLES]; /* which cell is a variable's */
@@ -396,10 +397,10 @@ static Name *relations[NAMES], *queries[NAMES];
 static unsigned relation_count, query_count;
 static Cursor cursors[CURSORS];
 static unsigned cursor_count;
-static uint64_t changes;       /* SEQ */
-static uint64_t marked;        /* the number of the change of a leaf that is under way */
-static bool is_told;           /* whether somebody watches its query */
-static Entry **dying;          /* entries that a change takes, before it is told */
+static uint64_t changes; /* SEQ */
+static uint64_t marked;  /* the number of the change of a leaf that is under way */
+static bool is_told;     /* whether somebody watches its query */
+static Entry **dying;    /* entries that a change takes, before it is told */
 static size_t dying_count, dying_room;
 
 static inline Link *link_of(const Entry *entry, const Edge *edge)
@@ -625,15 +626,19 @@ static inline void need_out(size_t room)
         more_out(room);
 }
 
-static const char PAIRS[] = "00010203040506070809101112131415161718192021222324252627282930313233343536373839404142434445464748"
-                            "495051525354555657585960616263646566676869707172737475767778798081828384858687888990919293949596"
-                            "979899";
+static const char PAIRS[] =
+    "0001020304050607080910111213141516171819202122232425262728293031323334353637383940414243444546474849"
+    "5051525354555657585960616263646566676869707172737475767778798081828384858687888990919293949596979899";
 
+/* clang-format off */
 static const uint64_t POWERS[] = {
-    0, 10, 100, 1000, 10000, 100000, 1000000, 10000000, 100000000, 1000000000, 10000000000, 100000000000,
-    1000000000000, 10000000000000, 100000000000000, 1000000000000000, 10000000000000000, 100000000000000000,
-    1000000000000000000, 10000000000000000000u,
+    0, 10, 100, 1000,
+    10000, 100000, 1000000, 10000000,
+    100000000, 1000000000, 10000000000, 100000000000,
+    1000000000000, 10000000000000, 100000000000000, 1000000000000000,
+    10000000000000000, 100000000000000000, 1000000000000000000, 10000000000000000000u,
 };
+/* clang-format on */
 
 static inline char *put_natural(char *at, uint64_t number)
 {
@@ -969,8 +974,8 @@ static bool is_utf8(const uint8_t *at, const uint8_t *end)
 {
     while (at < end) {
         uint32_t first = *at++, point = first;
-        unsigned more = first < 0x80 ? 0 : first < 0xc2 ? 4 : first < 0xe0 ? 1 : first < 0xf0 ? 2 : first < 0xf5 ? 3 : 4;
-        if (more == 4)
+        unsigned more = (first >= 0xc2) + (first >= 0xe0) + (first >= 0xf0);
+        if ((first >= 0x80 && !more) || first >= 0xf5)
             return false;
         if (more)
             point &= 0x3fu >> more;
@@ -979,7 +984,9 @@ static bool is_utf8(const uint8_t *at, const uint8_t *end)
                 return false;
             point = point << 6 | (*at & 0x3fu);
         }
-        if ((more == 2 && (point < 0x800 || point >> 11 == 27)) || (more == 3 && (point < 0x10000 || point > 0x10ffff)))
+        if (more == 2 && (point < 0x800 || point >> 11 == 27))
+            return false;
+        if (more == 3 && (point < 0x10000 || point > 0x10ffff))
             return false;
     }
     return true;
@@ -1212,8 +1219,8 @@ static unsigned judge_atoms(void)
     for (unsigned kind = INTEGER; kind <= TEXT_SPELLED; kind++)
         for (unsigned i = 0; i < line.atom_count; i++)
             for (unsigned column = 0; column < line.atoms[i].count; column++)
-                if (line.terms[line.atoms[i].first + column].kind == kind
-                    && (line.atoms[i].relation->texts >> column & 1) != (kind == TEXT_SPELLED))
+                if (line.terms[line.atoms[i].first + column].kind == kind &&
+                    (line.atoms[i].relation->texts >> column & 1) != (kind == TEXT_SPELLED))
                     return 7;
     return 0;
 }
@@ -1241,8 +1248,8 @@ static unsigned judge_head(void)
     unsigned count = line.variable_count;
     for (unsigned i = 0; i < line.head_count; i++)
         for (unsigned other = 0; other < i; other++)
-            if (line.head[i].length == line.head[other].length
-                && memcmp(line.head[i].at, line.head[other].at, line.head[i].length) == 0)
+            if (line.head[i].length == line.head[other].length &&
+                memcmp(line.head[i].at, line.head[other].at, line.head[i].length) == 0)
                 return 9;
     for (unsigned i = 0; i < line.head_count; i++, line.variable_count = count)
         if ((line.shown[i] = variable_of(line.head[i])) == count)
@@ -1553,32 +1560,18 @@ static void read_by(Relation *relation, Node *leaf)
     load(leaf, relation);
 }
 
-/* Whether a query would be admitted that had all variables in its head. */
-static bool is_acyclic(const Plan *leaves)
+static void make_leaves(Plan *plan)
 {
-    uint64_t labels[ATOMS];
-    unsigned count = leaves->count;
-    for (unsigned i = 0; i < count; i++)
-        labels[i] = leaves->current[i]->label;
-    for (bool has_changed = true; has_changed;) {
-        has_changed = false;
-        for (unsigned i = 0; i < count; i++) {
-            uint64_t others = 0;
-            bool is_within = false;
-            for (unsigned other = 0; other < count; other++)
-                if (other != i)
-                    others |= labels[other];
-            has_changed |= (labels[i] & ~others) != 0;
-            labels[i] &= others;
-            for (unsigned other = 0; other < count; other++)
-                is_within |= other != i && !(labels[i] & ~labels[other]);
-            if (is_within) {
-                labels[i] = labels[--count];
-                has_changed = true;
-            }
-        }
-    }
-    return count == 1 && !labels[0];
+    for (unsigned i = 0; i < line.atom_count; i++)
+        plan->current[plan->count++] = new_leaf(plan, &line.atoms[i]);
+}
+
+/* Whether the query would be admitted if it had all variables in its head. */
+static bool is_acyclic(void)
+{
+    Plan plan = {.query = some(sizeof(Query)), .may = ~(uint64_t)0, .is_second = true};
+    make_leaves(&plan);
+    return is_stepped(&plan);
 }
 
 /* Builds the query of the line; none where it isn't admitted, which is said. */
@@ -1588,11 +1581,10 @@ static Query *new_query(Node **leaves)
     uint64_t head = 0;
     for (unsigned i = 0; i < line.head_count; i++)
         head |= bit(line.shown[i]);
-    for (unsigned i = 0; i < line.atom_count; i++)
-        leaves[i] = plan.current[plan.count++] = new_leaf(&plan, &line.atoms[i]);
-    bool would_do = is_acyclic(&plan);
+    make_leaves(&plan);
+    memcpy(leaves, plan.current, sizeof plan.current);
     if (!make_tree(&plan, head)) {
-        say(would_do ? "no connex\n" : "no cyclic\n");
+        say(is_acyclic() ? "no connex\n" : "no cyclic\n");
         return NULL;
     }
     Query *query = plan.query;
@@ -1755,7 +1747,7 @@ static void run_other(const char *at)
         const char *word;
         void (*run)(const char *);
     } COMMANDS[] = {
-        {"next", run_next},   {"open", run_open}, {"close", run_close}, {"rel", run_rel},
+        {"next", run_next},   {"open", run_open},   {"close", run_close}, {"rel", run_rel},
         {"query", run_query}, {"watch", run_watch}, {"quit", run_quit},
     };
     Slice word;

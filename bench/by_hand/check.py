@@ -40,17 +40,72 @@ SHAPES = [
     "(x,y) <- u(x), u(y)",
     "(c,d,e) <- r(a,b), s(b,c), t(c,d), r(d,e)",
 ]
-REFUSED = [
-    "foo", "rel", "rel r flt", "rel r int", "rel R int", "add", "add r", "add r 1", "add r 1 2 3", 'add r 1 "a"', "add nor 1",
-    "add r 1,2", 'add r 1"a"', 'add v 1 "a', 'add v 1 "a\\x"', 'add v 1 "\\"\\\\\\n"', 'del v 1 "\\"\\\\\\n"', "add r 9223372036854775808 1",
-    "add nor 9223372036854775808", "add r -9223372036854775808 9223372036854775807", "add  r -0   007 ", "del r 0 7", "del r 0 7",
-    'del v 1 "none"', f'add v 1 "{"a" * 255}"', f'add v 1 "{"a" * 256}"', 'add v 1 "ä€😀"', "  ", "", "query q", "query q(x) <-",
-    "query q(x) <- nor(x)", "query q(x) <- r(x)", "query q(x) <- r(x,_", 'query q(x) <- r(x,"a")', "query q(x) <- v(x,1)",
-    "query q(x) <- r(x,y), v(_,y)", "query q(z) <- r(x,y)", "query q(x,x) <- r(x,y)", "query q(x) <- r(x,99999999999999999999)",
-    "query p(x) <- r(x,_)", "query  k ( x )<-r( x ,_ ),s(x , 3)", "open c nor", "open c", "open c p q", "open c p", "open c p",
-    "next", "next c", "next c 0", "next c 1001", "next c 0001", "next c -1", "next d 1", "next c1", "close", "close d", "close c x",
-    "add r 5 5", "next c 1", "close c", "close c", "watch", "watch nor", "watch p q", "watch p", "del r 5 5", "quit now", "watch p",
-]  # fmt: skip
+REFUSED = r"""foo
+rel
+rel r flt
+rel r int
+rel R int
+add
+add r
+add r 1
+add r 1 2 3
+add r 1 "a"
+add nor 1
+add r 1,2
+add r 1"a"
+add v 1 "a
+add v 1 "a\x"
+add v 1 "\"\\\n"
+del v 1 "\"\\\n"
+add r 9223372036854775808 1
+add nor 9223372036854775808
+add r -9223372036854775808 9223372036854775807
+add  r -0   007
+del r 0 7
+del r 0 7
+del v 1 "none"
+add v 1 "ä€😀"
+query q
+query q(x) <-
+query q(x) <- nor(x)
+query q(x) <- r(x)
+query q(x) <- r(x,_
+query q(x) <- r(x,"a")
+query q(x) <- v(x,1)
+query q(x) <- r(x,y), v(_,y)
+query q(z) <- r(x,y)
+query q(x,x) <- r(x,y)
+query q(x) <- r(x,99999999999999999999)
+query p(x) <- r(x,_)
+query  k ( x )<-r( x ,_ ),s(x , 3)
+open c nor
+open c
+open c p q
+open c p
+open c p
+next
+next c
+next c 0
+next c 1001
+next c 0001
+next c -1
+next d 1
+next c1
+close
+close d
+close c x
+add r 5 5
+next c 1
+close c
+close c
+watch
+watch nor
+watch p q
+watch p
+del r 5 5
+quit now
+watch p
+"""
 
 
 def replies(program, lines):
@@ -66,7 +121,7 @@ def whole(query):
 
 
 def settled(told):
-    """The lines with each delta in order, and without the answers of listings; and these, a listing each, whole or not."""
+    """The lines with each delta in order and without the answers of listings, and these; a whole listing has `end`."""
     lines, delta, listings = [], [], []
     for line in told:
         if line.startswith(("+ ", "- ")):
@@ -131,7 +186,8 @@ def streams():
     for shape in SHAPES:
         for seed in range(20):
             yield f"q{shape}, {seed}", random_stream(seed, shape)
-    yield "refusals", [*relations("rst"), "rel v int text", *REFUSED]
+    texts = [f'add v 1 "{"a" * length}" ' for length in (255, 256)]
+    yield "refusals", [*relations("rst"), "rel v int text", "", "   ", *texts, *REFUSED.splitlines()]
 
 
 def main():
