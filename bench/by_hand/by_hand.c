@@ -124,10 +124,10 @@ static inline uint64_t hash_of(const cell *cells, unsigned width)
     return hash;
 }
 
-static inline bool are_same(const cell *some, const cell *others, unsigned width)
+static inline bool are_same(const cell *ones, const cell *others, unsigned width)
 {
     for (unsigned i = 0; i < width; i++)
-        if (some[i] != others[i])
+        if (ones[i] != others[i])
             return false;
     return true;
 }
@@ -191,9 +191,14 @@ typedef struct {
     size_t length;
 } Slice;
 
+static inline bool is_spelled(Slice slice, const char *bytes, size_t length)
+{
+    return slice.length == length && memcmp(slice.at, bytes, length) == 0;
+}
+
 static inline bool is_named(const Name *name, Slice slice)
 {
-    return name->length == slice.length && memcmp(name->bytes, slice.at, slice.length) == 0;
+    return is_spelled(slice, name->bytes, name->length);
 }
 
 static inline Name **place_of(Name **names, Slice slice)
@@ -258,7 +263,7 @@ static Text *find_text(Slice slice, uint64_t hash)
         grow_texts();
     Text *text = texts.heads[hash & texts.mask];
     for (; text; text = text->next)
-        if (text->hash == hash && text->length == slice.length && !memcmp(text->spelled, slice.at, text->length))
+        if (text->hash == hash && is_spelled(slice, text->spelled, text->length))
             break;
     return text;
 }
@@ -1088,8 +1093,8 @@ static void run_rel(const char *at)
     while (at && *(at = skip(at)) != '\n') {
         if (!(at = read_name(at, &type)))
             break;
-        bool is_text = type.length == 4 && memcmp(type.at, "text", 4) == 0;
-        if (!is_text && (type.length != 3 || memcmp(type.at, "int", 3)))
+        bool is_text = is_spelled(type, "text", 4);
+        if (!is_text && !is_spelled(type, "int", 3))
             return refuse(1);
         if (columns < COLUMNS)
             text_columns |= (unsigned)is_text << columns;
@@ -1141,7 +1146,7 @@ static struct {
 static unsigned variable_of(Slice name)
 {
     for (unsigned i = 0; i < line.variable_count; i++)
-        if (line.variables[i].length == name.length && memcmp(line.variables[i].at, name.at, name.length) == 0)
+        if (is_spelled(name, line.variables[i].at, line.variables[i].length))
             return i;
     line.variables[line.variable_count] = name;
     return line.variable_count++;
@@ -1176,7 +1181,7 @@ static const char *read_head_variable(const char *at)
     return read_name(at, &line.head[line.head_count++]);
 }
 
-/* A name, and in brackets what `read_one` reads, with commas between; none only where that is allowed. */
+/* A name, and in brackets, with commas between, what `read_one` reads; there may be none. */
 static const char *read_list(const char *at, Slice *name, const char *(*read_one)(const char *))
 {
     at = read_name(skip(at), name);
@@ -1216,12 +1221,13 @@ static unsigned judge_atoms(void)
     for (unsigned i = 0; i < line.atom_count; i++)
         if (line.atoms[i].count != line.atoms[i].relation->columns)
             return 6;
-    for (unsigned kind = INTEGER; kind <= TEXT_SPELLED; kind++)
-        for (unsigned i = 0; i < line.atom_count; i++)
-            for (unsigned column = 0; column < line.atoms[i].count; column++)
-                if (line.terms[line.atoms[i].first + column].kind == kind &&
-                    (line.atoms[i].relation->texts >> column & 1) != (kind == TEXT_SPELLED))
-                    return 7;
+    for (unsigned i = 0; i < line.atom_count; i++)
+        for (unsigned column = 0; column < line.atoms[i].count; column++) {
+            const Term *term = &line.terms[line.atoms[i].first + column];
+            bool is_text = line.atoms[i].relation->texts >> column & 1;
+            if (term->kind != VARIABLE && is_text != (term->kind == TEXT_SPELLED))
+                return 7;
+        }
     return 0;
 }
 
@@ -1248,8 +1254,7 @@ static unsigned judge_head(void)
     unsigned count = line.variable_count;
     for (unsigned i = 0; i < line.head_count; i++)
         for (unsigned other = 0; other < i; other++)
-            if (line.head[i].length == line.head[other].length &&
-                memcmp(line.head[i].at, line.head[other].at, line.head[i].length) == 0)
+            if (is_spelled(line.head[i], line.head[other].at, line.head[other].length))
                 return 9;
     for (unsigned i = 0; i < line.head_count; i++, line.variable_count = count)
         if ((line.shown[i] = variable_of(line.head[i])) == count)
@@ -1753,7 +1758,7 @@ static void run_other(const char *at)
     Slice word;
     const char *behind = read_name(at, &word);
     for (size_t i = 0; behind && i < sizeof COMMANDS / sizeof *COMMANDS; i++)
-        if (strlen(COMMANDS[i].word) == word.length && memcmp(COMMANDS[i].word, at, word.length) == 0)
+        if (is_spelled(word, COMMANDS[i].word, strlen(COMMANDS[i].word)))
             return COMMANDS[i].run(behind);
     refuse(1);
 }
