@@ -28,7 +28,7 @@ import djq  # noqa: E402
 HELD = 1000  # rows of a batch
 LOGGED = 200  # rows that are added alone to a server with a log
 REGISTERED = 2_000_000  # rows over which a query is registered while another session waits
-SENTINEL = b"has nothing_is_named_so"  # a line that is answered by LAST alone
+SENTINEL = b"watch nothing_is_named_so"  # a line that is answered by LAST alone
 LAST = b"err 4 no query\n"
 
 
