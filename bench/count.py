@@ -22,7 +22,7 @@ import subprocess
 import tempfile
 
 from bench import Session
-from workloads import BY_HAND, WORKLOADS
+from workloads import ALIKE, BY_HAND, WORKLOADS
 
 HERE = os.path.dirname(os.path.abspath(__file__))
 KEPT = os.path.join(HERE, "counted.json")
@@ -101,12 +101,13 @@ def tell_times(program, by_hand):
 
 
 def table(counts, by_hand):
-    """The counts as a page shows them, and beside them those of the program by hand."""
-    lines = ["| | | N | instructions | with 4N | by hand | times |", "|---|---|---|---|---|---|---|"]
+    """The counts as a page shows them, and beside them those of the program by hand and of one with tables like djq's."""
+    lines = ["| | | N | instructions | with 4N | by hand | times | alike | times |", "|---|---|---|---|---|---|---|---|---|"]
     for name, (small, large) in counts.items():
         work = WORKLOADS[name]
         cells = [name, work.what, f"{work.rows:,}", f"{small:,}", f"{large:,}"]
-        cells += [f"{by_hand[name][0]:,}", f"{small / by_hand[name][0]:.2f}"] if name in by_hand else ["", ""]
+        for other in (by_hand[name][0] if name in by_hand else None, ALIKE.get(name)):
+            cells += [f"{other:,}", f"{small / other:.2f}"] if other else ["", ""]
         lines.append(f"| {' | '.join(cells)} |")
     return "\n".join(lines) + "\n"
 

@@ -262,3 +262,21 @@ WORKLOADS = {
 }
 
 BY_HAND = ["A", "B", "B2", "C", "D", "E", "F", "Fu", "G", "H", "I", "I2", "J"]  # those that the program by hand has
+
+# The instructions of an operation in a program by hand that has hash tables as djq has them, by estimate: it was counted
+# on other streams of these kinds, and each count is scaled by what djq of 27 November 2026 took on these and on those.
+ALIKE = {
+    "A": 1_322,
+    "B": 8_078,
+    "B2": 10_046,
+    "C": 389,
+    "D": 11_572,
+    "E": 1_483,
+    "F": 217_434,
+    "Fu": 56_217,
+    "G": 1_480,
+    "H": 2_225,
+    "I": 2_454,
+    "I2": 838,
+    "J": 382_993,
+}
