@@ -1,6 +1,6 @@
 ghost use Rattle.std.specs.Prelude.{◌≡◌, ◌≢◌, ◌+◌, ◌*◌, ◌<◌, ◌≤◌, ◌++◌, ◌∷◌, [], length, take, drop, Some, None, ℕ, IfOk, OnErr, slice_set, replicate, IsTrue, ◌↔◌, MatchOption, List, max, vec_len, vec_capacity};
 ghost use Rattle.djq_arena.specs.Rows.{Row, slots, IsAbsent, IsRow, IsHeld};
-ghost use Rattle.djq_arena.specs.Store.{mixed, hash, class, cells_at, AreListed, IsPrepared, IsPut, IsTaken, IsRenewed, IsSound, IsLoose, IsLinked, IsUnlinked, IsSame, IsReleased, IsTidy, Holds, SameRows, live_of, rows_of};
+ghost use Rattle.djq_arena.specs.Store.{mixed, hash, class, cells_at, AreListed, IsPrepared, IsPut, IsTaken, IsRenewed, IsSound, IsLoose, IsLinked, IsUnlinked, IsSame, IsReleased, IsTidy, HasRoom, Holds, SameRows, live_of, rows_of};
 ghost use Rattle.djq_arena.specs.Chains.{first_of, last_of};
 ghost use Rattle.djq_arena.specs.Buckets.{link_at, Stands, IsBehind, IsUnlisted};
 
@@ -299,13 +299,11 @@ fn append_all(cells: &mut Vec<u64>, more: &[u64])
     }
 }
 
-/// Puts cells behind others. Where there is no memory, all stays as it was. Most rows have one cell or two, and
-/// need no loop.
-fn append(cells: &mut Vec<u64>, more: &[u64]) -> Result<(), AllocError>
-    ensures behind { IfOk result (λ _. cells.new.items ≡ cells.old.items ++ more.now) }
-    ensures refused { OnErr result (cells.new.items ≡ cells.old.items) }
+/// Puts cells behind others, where there is room for them. Most rows have one cell or two, and need no loop.
+fn append(cells: &mut Vec<u64>, more: &[u64])
+    requires { vec_len cells.old + length more.now ≤ vec_capacity cells.old }
+    ensures { cells.new.items ≡ cells.old.items ++ more.now }
 {
-    cells.reserve(more.len())?;
     match more {
         [only] => cells.push_reserved(*only),
         [first, second] => {
@@ -314,27 +312,24 @@ fn append(cells: &mut Vec<u64>, more: &[u64]) -> Result<(), AllocError>
         }
         _ => append_all(cells, more),
     }
-    Ok(())
 }
 
-/// Writes a row into a new slot, which is loose. Where there is no memory, all stays as it was.
-fn fresh(store: &mut Store, cells: &[u64]) -> Result<u32, AllocError>
+/// Writes a row into a new slot, which is loose and for which there is room.
+fn fresh(store: &mut Store, cells: &[u64]) -> u32
     requires sound { IsSound store.old }
     requires wide { length cells.now ≡ store.old.width }
     requires few { length store.old.order.items < 4294967295 }
-    ensures prepared { IfOk result (λ slot. IsPrepared store.old store.new slot cells.now) }
-    ensures refused { OnErr result (IsSame store.old store.new) }
+    requires room { HasRoom store.old (length cells.now) }
+    ensures { IsPrepared store.old store.new result cells.now }
 {
     let slot = store.order.len();
-    store.order.reserve(1)?;
-    store.bucket.reserve(1)?;
-    append(&mut store.cells, cells)?;
+    append(&mut store.cells, cells);
     store.order.push_reserved(Pair {
         prev: Link::none(),
         next: Link::none(),
     });
     store.bucket.push_reserved(Link::none());
-    Ok(slot as u32)
+    slot as u32
 }
 
 /// The cells in a slot, of rows of this width.
@@ -413,7 +408,7 @@ fn grow(store: &mut Store, alloc: Global) -> Result<(), AllocError>
 }
 
 /// Twice as many buckets, where there are no more of them than rows.
-fn make_room(store: &mut Store, alloc: Global) -> Result<(), AllocError>
+fn grow_full(store: &mut Store, alloc: Global) -> Result<(), AllocError>
     requires sound { IsSound store.old }
     requires full { length store.old.order.items ≡ store.old.len }
     ensures same { IsSame store.old store.new }
@@ -423,6 +418,57 @@ fn make_room(store: &mut Store, alloc: Global) -> Result<(), AllocError>
     } else {
         Ok(())
     }
+}
+
+/// Room for one more slot with so many cells. Where there is no memory, all stays as it was.
+fn reserve(store: &mut Store, cells: usize) -> Result<(), AllocError>
+    requires sound { IsSound store.old }
+    ensures same { IsSame store.old store.new }
+    ensures room { IfOk result (λ _. HasRoom store.new cells) }
+{
+    store.order.reserve(1)?;
+    store.bucket.reserve(1)?;
+    store.cells.reserve(cells)
+}
+
+/// Whether there is room for one more slot with so many cells, and a bucket for each row.
+fn is_roomy(store: &Store, cells: usize) -> bool
+    ensures { IsTrue result → HasRoom store.now cells }
+{
+    store.heads.len() > store.len as usize
+        && store.order.len() < store.order.capacity()
+        && store.bucket.len() < store.bucket.capacity()
+        && cells <= store.cells.capacity() - store.cells.len()
+}
+
+/// Puts in a row behind all others, into a new slot for which there is room.
+#[inline(always)]
+fn put_ready(store: &mut Store, cells: &[u64]) -> u32
+    requires sound { IsSound store.old }
+    requires wide { length cells.now ≡ store.old.width }
+    requires few { length store.old.order.items < 4294967295 }
+    requires room { HasRoom store.old (length cells.now) }
+    ensures { IsPut store.old store.new result cells.now }
+{
+    let slot = fresh(store, cells);
+    link(store, slot, cells);
+    slot
+}
+
+/// Puts in a row behind all others, into a new slot, where there may be no room for it yet. Where there is no memory,
+/// all stays as it was. It stands apart, so that a row for which there is room saves no registers.
+#[inline(never)]
+fn put_growing(store: &mut Store, alloc: Global, cells: &[u64]) -> Result<u32, AllocError>
+    requires sound { IsSound store.old }
+    requires full { length store.old.order.items ≡ store.old.len }
+    requires wide { length cells.now ≡ store.old.width }
+    requires few { store.old.len < 4294967295 }
+    ensures put { IfOk result (λ slot. IsPut store.old store.new slot cells.now) }
+    ensures refused { OnErr result (IsSame store.old store.new) }
+{
+    grow_full(store, alloc)?;
+    reserve(store, cells.len())?;
+    Ok(put_ready(store, cells))
 }
 
 /// Puts in a row behind all others, into a new slot, where no slot is free. Where there is no memory, all stays as it
@@ -436,10 +482,11 @@ fn put_fresh(store: &mut Store, alloc: Global, cells: &[u64]) -> Result<u32, All
     ensures put { IfOk result (λ slot. IsPut store.old store.new slot cells.now) }
     ensures refused { OnErr result (IsSame store.old store.new) }
 {
-    make_room(store, alloc)?;
-    let slot = fresh(store, cells)?;
-    link(store, slot, cells);
-    Ok(slot)
+    if is_roomy(store, cells.len()) {
+        Ok(put_ready(store, cells))
+    } else {
+        put_growing(store, alloc, cells)
+    }
 }
 
 /// Puts in a row behind all others: into a free slot, if there is one. Where there is no memory, all stays as it was.
