@@ -8,10 +8,10 @@ ghost use Rattle.djq_index.specs.Changes.{InsertedAs, Removed, Touched, Supporte
 ghost use Rattle.djq_index.specs.Raw.{IsRaw, IsBare, AreHeads, IsNoted, IsMarked, entries_of, slots_at, place_of, note_at, ends_at, IsSeat, IsSettled, passed, entries_in, AreTrailing, without_mark, HasNoRoom, HasNoRoomForHead};
 ghost use Rattle.djq_arena.specs.Store.{ends_of, beside};
 
-use crate::heads::{found, join, part, project, prune};
+use crate::heads::{cell_at, found, join, part, project, prune};
 use crate::kind::{Kind, kind_of};
 use crate::place::Place;
-use djq_arena::{Arena, Ends, Link, Pair};
+use djq_arena::{Arena, Ends, Link, Pair, hash_of};
 use djq_steps::Tally;
 use std::alloc::{AllocError, Global};
 use std::sync::ledger::Ledger;
@@ -150,6 +150,24 @@ fn cover_links(links: &mut Vec<Pair>, slot: u32)
     }
 }
 
+/// Room for one more note. It stands apart, so that a tuple for which there is room saves fewer registers.
+#[inline(never)]
+fn grow_notes(notes: &mut Vec<Note>) -> Result<(), AllocError>
+    ensures room { IfOk result (λ _. vec_len notes.new < vec_capacity notes.new) }
+    ensures same { notes.new.items ≡ notes.old.items }
+{
+    notes.reserve(1)
+}
+
+/// Room for the neighbours of one more slot, which stands apart, too.
+#[inline(never)]
+fn grow_links(links: &mut Vec<Pair>) -> Result<(), AllocError>
+    ensures room { IfOk result (λ _. vec_len links.new < vec_capacity links.new) }
+    ensures same { links.new.items ≡ links.old.items }
+{
+    links.reserve(1)
+}
+
 /// Lays a tuple into a slot, behind all others. Where there is no memory, the rows stay as they
 /// were.
 fn lay(rows: &mut Arena, notes: &mut Vec<Note>, tuple: &[u64]) -> Result<u32, AllocError>
@@ -169,8 +187,8 @@ fn lay(rows: &mut Arena, notes: &mut Vec<Note>, tuple: &[u64]) -> Result<u32, Al
     ensures reused { IfOk result (λ slot. ¬ IsFull rows.old → slot < rows.old.room) }
     ensures full { OnErr result (IsFull rows.old) }
 {
-    if rows.is_full() {
-        notes.reserve(1)?;
+    if rows.is_full() && notes.len() == notes.capacity() {
+        grow_notes(notes)?;
     }
     let slot = rows.push(tuple)?;
     rows.laws();
@@ -201,12 +219,59 @@ fn lay_linked(
     ensures longer { length links.old.items ≤ length links.new.items }
     ensures full { OnErr result (IsFull rows.old) }
 {
-    if rows.is_full() {
-        links.reserve(1)?;
+    if rows.is_full() && links.len() == links.capacity() {
+        grow_links(links)?;
     }
     let slot = lay(rows, notes, tuple)?;
     cover_links(links, slot);
     Ok(slot)
+}
+
+/// The head of the group with these cells, which is made where there is none.
+fn head_of(keys: &mut Arena, ends: &mut Vec<Ends>, cells: &[u64]) -> Result<u32, AllocError>
+    requires rows { AreRows keys.old }
+    requires width { keys.old.width ≡ length cells.now }
+    requires few { length keys.old.rows < 4294967295 }
+    requires ends { keys.old.room ≤ length ends.old.items }
+    ensures rows { AreRows keys.new }
+    ensures width { keys.new.width ≡ keys.old.width }
+    ensures ends { keys.new.room ≤ length ends.new.items }
+    ensures seated { IfOk result (λ head. IsSeat keys.old.rows keys.new.rows ends.old.items ends.new.items head cells.now) }
+    ensures refused { OnErr result (keys.new.rows ≡ keys.old.rows) }
+    ensures refused_ends { OnErr result ((k : ℕ) → ends_at ends.new.items k ≡ ends_at ends.old.items k) }
+    ensures full { OnErr result (IsFull keys.old) }
+{
+    let code = hash_of(cells);
+    match keys.find_hashed(cells, code) {
+        Some(head) => Ok(head),
+        None => found(keys, ends, cells, code),
+    }
+}
+
+/// The head of a tuple's group, by a key of any columns. It stands apart: most keys have one column.
+#[inline(never)]
+fn seat_wide(
+    keys: &mut Arena,
+    ends: &mut Vec<Ends>,
+    cells: &mut Vec<u64>,
+    key: &[usize],
+    tuple: &[u64],
+) -> Result<u32, AllocError>
+    requires rows { AreRows keys.old }
+    requires width { keys.old.width ≡ length key.now }
+    requires few { length keys.old.rows < 4294967295 }
+    requires ends { keys.old.room ≤ length ends.old.items }
+    requires columns { AreColumns (length tuple.now) key.now }
+    ensures rows { AreRows keys.new }
+    ensures width { keys.new.width ≡ keys.old.width }
+    ensures ends { keys.new.room ≤ length ends.new.items }
+    ensures seated { IfOk result (λ head. IsSeat keys.old.rows keys.new.rows ends.old.items ends.new.items head (pick key.now tuple.now)) }
+    ensures refused { OnErr result (keys.new.rows ≡ keys.old.rows) }
+    ensures refused_ends { OnErr result ((k : ℕ) → ends_at ends.new.items k ≡ ends_at ends.old.items k) }
+    ensures full { OnErr result (IsFull keys.old ⊎ vec_capacity cells.old < length key.now) }
+{
+    project(cells, key, tuple)?;
+    head_of(keys, ends, cells.as_slice())
 }
 
 /// The head of a tuple's group, which is made where there is none.
@@ -230,10 +295,9 @@ fn seat(
     ensures refused_ends { OnErr result ((k : ℕ) → ends_at ends.new.items k ≡ ends_at ends.old.items k) }
     ensures full { OnErr result (IsFull keys.old ⊎ vec_capacity cells.old < length key.now) }
 {
-    project(cells, key, tuple)?;
-    match keys.find(cells.as_slice()) {
-        Some(head) => Ok(head),
-        None => found(keys, ends, cells.as_slice()),
+    match key {
+        [column] => head_of(keys, ends, &[cell_at(tuple, *column)]),
+        _ => seat_wide(keys, ends, cells, key, tuple),
     }
 }
 
