@@ -173,7 +173,17 @@ fn find_from(store: &Store, head: Link, cells: &[u64]) -> Option<u32>
     None
 }
 
-/// The slot of a row with these cells, whose hash is known. Most rows that are looked for have one cell.
+/// The same for cells of any number. It stands apart, so that a search for one or two cells saves no registers.
+#[inline(never)]
+fn find_any(store: &Store, head: Link, cells: &[u64]) -> Option<u32>
+    requires sound { IsSound store.now }
+    requires head { head ≡ link_at store.now.heads.items (class (length store.now.heads.items) cells.now) }
+    ensures { MatchOption result (IsAbsent (rows_of store.now) cells.now) (λ slot. IsRow (rows_of store.now) slot cells.now) }
+{
+    find_from(store, head, cells)
+}
+
+/// The slot of a row with these cells, whose hash is known. Most rows that are looked for have one cell or two.
 pub fn find(store: &Store, cells: &[u64], code: u64) -> Option<u32>
     requires sound { IsSound store.now }
     requires coded { code ≡ hash cells.now }
@@ -182,7 +192,8 @@ pub fn find(store: &Store, cells: &[u64], code: u64) -> Option<u32>
     let head = head_of(store, code);
     match cells {
         [only] if store.width == 1 => find_from(store, head, &[*only]),
-        _ => find_from(store, head, cells),
+        [first, second] if store.width == 2 => find_from(store, head, &[*first, *second]),
+        _ => find_any(store, head, cells),
     }
 }
 
@@ -604,10 +615,7 @@ pub fn push_row(
     ensures full { OnErr result (length (rows_of store.old) ≡ length store.old.order.items) }
     ensures width { store.new.width ≡ store.old.width }
 {
-    match put(store, alloc, cells, code) {
-        Ok(slot) => Ok(slot),
-        Err(e) => Err(e),
-    }
+    put(store, alloc, cells, code)
 }
 
 /// Takes a row out; the rows' account of [`take`].
