@@ -207,3 +207,12 @@ pub only_one : (ks : List ℕ) → length ks ≡ 1 → ks ≡ slice_index_or ks 
 only_one [] h = absurd (omega (arith, h))
 only_one (k ∷ []) h = refl
 only_one (k ∷ j ∷ ks) h = absurd (omega (arith, h))
+
+-- the part of a tuple at no column
+pub part_none : (key : List ℕ) (u : List ℕ) → key ≡ [] → [] ≡ pick key u
+unfolding pick
+part_none key u is = rw is refl
+
+pub is_none : (ks : List ℕ) → length ks ≡ 0 → ks ≡ []
+is_none [] h = refl
+is_none (k ∷ ks) h = absurd (omega (arith, h))

@@ -10,8 +10,8 @@ ghost use Rattle.djq_propagate.specs.Sizes.{size};
 ghost use Rattle.djq_propagate.specs.Walks.{Ready, Died, Losing, Righted, Fewer, IsUnder, IsEmptied, IsFull};
 
 use crate::tables::{
-    column_of, find_at, first_at, is_shared_at, len_at, lower_at, next_at, part_of, read_at,
-    remove_at,
+    column_of, find_at, first_at, has_no_column, is_shared_at, len_at, lower_at, next_at, part_of,
+    read_at, remove_at,
 };
 use djq_index::{Place, Table};
 use djq_reduct::Cells;
@@ -71,8 +71,8 @@ fn fall<L: Ledger>(
     }
 }
 
-/// From a trim a tuple takes a support of its projection, and the last one with it. Most projections are one cell,
-/// and need no room.
+/// From a trim a tuple takes a support of its projection, and the last one with it. Most projections have one cell
+/// or none, and need no room.
 #[cycle(kill)]
 fn fall_trim<L: Ledger>(
     tree: &Tree,
@@ -91,7 +91,13 @@ fn fall_trim<L: Ledger>(
 {
     match column_of(tables, at) {
         Some(column) => fall_part(tree, tables, at, up, tuple, &[tuple[column]], tally),
-        None => fall_wide(tree, tables, at, up, tuple, tally),
+        None => {
+            if has_no_column(tables, at) {
+                fall_part(tree, tables, at, up, tuple, &[], tally);
+            } else {
+                fall_wide(tree, tables, at, up, tuple, tally);
+            }
+        }
     }
 }
 

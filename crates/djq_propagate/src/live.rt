@@ -12,8 +12,8 @@ ghost use Rattle.djq_propagate.specs.Walks.{Ready, Lived, Refused, Gaining, Righ
 
 use crate::kill::empty_group;
 use crate::tables::{
-    column_of, find_at, find_part, first_at, insert_at, is_small_at, len_at, next_at, part_of,
-    raise_at, read_at, remove_at,
+    column_of, find_at, find_part, first_at, has_no_column, insert_at, is_small_at, len_at,
+    next_at, part_of, raise_at, read_at, remove_at,
 };
 use djq_index::Table;
 use djq_reduct::Cells;
@@ -91,8 +91,8 @@ fn rise<L: Ledger>(
     }
 }
 
-/// To a trim a tuple brings its projection, or one support more of it. Most projections are one cell, and need no
-/// room.
+/// To a trim a tuple brings its projection, or one support more of it. Most projections have one cell or none,
+/// and need no room.
 #[cycle(live)]
 fn rise_trim<L: Ledger>(
     tree: &Tree,
@@ -116,7 +116,13 @@ fn rise_trim<L: Ledger>(
 {
     match column_of(tables, at) {
         Some(column) => { rise_part(tree, tables, at, up, tuple, &[tuple[column]], marked, tally) }
-        None => rise_wide(tree, tables, at, up, tuple, marked, tally),
+        None => {
+            if has_no_column(tables, at) {
+                rise_part(tree, tables, at, up, tuple, &[], marked, tally)
+            } else {
+                rise_wide(tree, tables, at, up, tuple, marked, tally)
+            }
+        }
     }
 }
 

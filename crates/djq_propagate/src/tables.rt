@@ -1,6 +1,6 @@
 //! Calls on the table of one node, among the tables of all.
 
-ghost use Rattle.std.specs.Prelude.{◌≡◌, ℕ, ◌+◌, ◌-◌, ◌<◌, ◌≤◌, false, List, [], ◌∷◌, ◌++◌, length, nat_lt, IfOk, IfSome, OnErr, MatchOption};
+ghost use Rattle.std.specs.Prelude.{◌≡◌, ℕ, ◌+◌, ◌-◌, ◌<◌, ◌≤◌, false, List, [], ◌∷◌, ◌++◌, length, nat_lt, IsTrue, IfOk, IfSome, OnErr, MatchOption};
 ghost use Rattle.djq_index.specs.Tuple.{pick};
 ghost use Rattle.djq_index.specs.Entries.{Entry, supp, cnt, grp, marks, is_marked, unmarked, head_at};
 ghost use Rattle.djq_index.specs.Table.{IsTable, IsAt, IsLive, IsUnmarked, IsRaisable};
@@ -139,6 +139,14 @@ pub(crate) fn column_of(tables: &Vec<Table>, at: usize) -> Option<usize>
         [column] => Some(*column),
         _ => None,
     }
+}
+
+/// Whether a node's key has no column.
+pub(crate) fn has_no_column(tables: &Vec<Table>, at: usize) -> bool
+    requires { at < length tables.now.items }
+    ensures { IsTrue result → key_at tables.now.items at ≡ [] }
+{
+    table_of(tables, at).key().is_empty()
 }
 
 /// Where the part of a tuple at the columns of a node's key lies in the table of another node. Most keys have one

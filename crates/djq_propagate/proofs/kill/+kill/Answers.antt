@@ -1,4 +1,4 @@
-use Rattle.std.proofs.Common.{◌≡◌, ℕ, ◌+◌, ◌-◌, ◌<◌, List, take, drop, subst, sym, ◌∙◌, arith}
+use Rattle.std.proofs.Common.{rules, ◌≡◌, ℕ, ◌+◌, ◌-◌, ◌<◌, List, take, drop, subst, sym, ◌∙◌, arith}
 use Rattle.djq_index.specs.Entries.{supp, cnt, grp}
 use Rattle.djq_index.proofs.Changing.{removed_length, supported_length}
 use Rattle.djq_tree.specs.declared.node.Node.TheVariants.{Trim, Meet}
@@ -15,7 +15,7 @@ use Rattle.djq_propagate.proofs.Going.{has_table, wide_now, under_leaf, under_tr
 use Rattle.djq_propagate.proofs.Going.{under_side, shared_more, shared_less, cut_of, cut_at}
 use Rattle.djq_propagate.proofs.Going.{as_live, moved_at, group_still}
 use Rattle.djq_propagate.proofs.Tabling.{wide_family}
-use Rattle.djq_propagate.proofs.Tabling.{part_one}
+use Rattle.djq_propagate.proofs.Tabling.{part_none, part_one}
 use Rattle.djq_propagate.proofs.kill.+kill.Goals as goal
 
 pub kill-remove_at-requires-clause-within : goal.kill-remove_at-requires-clause-within
@@ -316,6 +316,31 @@ fall_trim-fall_part-requires g t c κs hκ =
               c.requires.under,
               part_one (key_at c.args.tables.now.items c.args.at) c.in-Some.column c.args.tuple.now
                   c.in-Some.ensures.key,
+            ),
+          ),
+        ),
+      ),
+    )
+
+pub fall_trim-has_no_column-requires : goal.fall_trim-has_no_column-requires
+fall_trim-has_no_column-requires g t c =
+    has_table c.args.tree.now c.args.tables.now.items c.args.at
+    (now_family c.args.tree.now c.requires.losing.was c.args.tables.now.items c.args.at c.requires.losing.began)
+    c.requires.losing.began.ready.within
+
+pub fall_trim-fall_part-requires-then-has_no_column : goal.fall_trim-fall_part-requires-then-has_no_column
+fall_trim-fall_part-requires-then-has_no_column g t c κs hκ =
+    let d = c.decreases in (
+      omega arith,
+      (
+        hκ,
+        (
+          c.requires.losing,
+          (
+            c.requires.wide,
+            (
+              c.requires.under,
+              part_none (key_at c.args.tables.now.items c.args.at) c.args.tuple.now (search rules),
             ),
           ),
         ),

@@ -21,7 +21,7 @@ use Rattle.djq_propagate.proofs.Going.{has_table, wide_now, under_leaf, under_tr
 use Rattle.djq_propagate.proofs.Going.{under_side, guard_under, cut_of, cut_at, as_live, moved_at}
 use Rattle.djq_propagate.proofs.Going.{group_still, on_err, ok_map, err_map, refused_none}
 use Rattle.djq_propagate.proofs.Going.{plain_none}
-use Rattle.djq_propagate.proofs.Tabling.{part_one}
+use Rattle.djq_propagate.proofs.Tabling.{part_none, part_one}
 use Rattle.djq_propagate.proofs.Rooms.{room_size, most_more, trim_fits, guard_fits, next_fits, side_fits, side_bounded}
 use Rattle.djq_propagate.proofs.Refusing.{side_flat}
 use Rattle.djq_propagate.proofs.live.+live.Goals as goal
@@ -492,6 +492,34 @@ rise_trim-rise_part-requires g t c κs hκ =
               (
                 part_one (key_at c.args.tables.now.items c.args.at) c.in-Some.column c.args.tuple.now
                     c.in-Some.ensures.key,
+                c.requires.bare,
+              ),
+            ),
+          ),
+        ),
+      ),
+    )
+
+pub rise_trim-has_no_column-requires : goal.rise_trim-has_no_column-requires
+rise_trim-has_no_column-requires g t c =
+    has_table c.args.tree.now c.args.tables.now.items c.args.at
+    (now_family c.args.tree.now c.requires.gaining.was c.args.tables.now.items c.args.at c.requires.gaining.began)
+    c.requires.gaining.began.ready.within
+
+pub rise_trim-rise_part-requires-then-has_no_column : goal.rise_trim-rise_part-requires-then-has_no_column
+rise_trim-rise_part-requires-then-has_no_column g t c κs hκ =
+    let d = c.decreases in (
+      omega arith,
+      (
+        hκ,
+        (
+          c.requires.gaining,
+          (
+            c.requires.wide,
+            (
+              c.requires.under,
+              (
+                part_none (key_at c.args.tables.now.items c.args.at) c.args.tuple.now (search rules),
                 c.requires.bare,
               ),
             ),
