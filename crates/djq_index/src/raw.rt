@@ -150,16 +150,8 @@ fn cover_links(links: &mut Vec<Pair>, slot: u32)
     }
 }
 
-/// Room for one more note. It stands apart, so that a tuple for which there is room saves fewer registers.
-#[inline(never)]
-fn grow_notes(notes: &mut Vec<Note>) -> Result<(), AllocError>
-    ensures room { IfOk result (λ _. vec_len notes.new < vec_capacity notes.new) }
-    ensures same { notes.new.items ≡ notes.old.items }
-{
-    notes.reserve(1)
-}
-
-/// Room for the neighbours of one more slot, which stands apart, too.
+/// Room for the neighbours of one more slot. It stands apart, so that a tuple for which there is room saves fewer
+/// registers.
 #[inline(never)]
 fn grow_links(links: &mut Vec<Pair>) -> Result<(), AllocError>
     ensures room { IfOk result (λ _. vec_len links.new < vec_capacity links.new) }
@@ -168,8 +160,59 @@ fn grow_links(links: &mut Vec<Pair>) -> Result<(), AllocError>
     links.reserve(1)
 }
 
-/// Lays a tuple into a slot, behind all others. Where there is no memory, the rows stay as they
-/// were.
+/// Lays a tuple into a slot, behind all others. A new slot finds room for its note. Where there is no memory, the rows
+/// stay as they were.
+#[inline(always)]
+fn lay_ready(rows: &mut Arena, notes: &mut Vec<Note>, tuple: &[u64]) -> Result<u32, AllocError>
+    requires rows { AreRows rows.old }
+    requires wide { length tuple.now ≡ rows.old.width }
+    requires few { length rows.old.rows < 4294967295 }
+    requires notes { rows.old.room ≤ length notes.old.items }
+    requires room { IsFull rows.old → vec_len notes.old < vec_capacity notes.old }
+    ensures rows { AreRows rows.new }
+    ensures width { rows.new.width ≡ rows.old.width }
+    ensures notes { rows.new.room ≤ length notes.new.items }
+    ensures room { IfOk result (λ slot. rows.new.room ≡ max rows.old.room (slot + 1)) }
+    ensures slot { IfOk result (λ slot. slot ≤ rows.old.room) }
+    ensures kept { OnErr result (rows.new.room ≡ rows.old.room) }
+    ensures refused { OnErr result (rows.new.rows ≡ rows.old.rows) }
+    ensures laid { IfOk result (λ slot. rows.new.rows ≡ rows.old.rows ++ record { slot = slot; cells = tuple.now } ∷ []) }
+    ensures same_notes { (k : ℕ) → note_at notes.new.items k ≡ note_at notes.old.items k }
+    ensures reused { IfOk result (λ slot. ¬ IsFull rows.old → slot < rows.old.room) }
+    ensures full { OnErr result (IsFull rows.old) }
+{
+    let slot = rows.push(tuple)?;
+    rows.laws();
+    cover_notes(notes, slot);
+    Ok(slot)
+}
+
+/// The same where a new slot may find no room for its note. It stands apart, so that a tuple for which there is room
+/// saves fewer registers.
+#[inline(never)]
+fn lay_growing(rows: &mut Arena, notes: &mut Vec<Note>, tuple: &[u64]) -> Result<u32, AllocError>
+    requires full { IsFull rows.old }
+    requires rows { AreRows rows.old }
+    requires wide { length tuple.now ≡ rows.old.width }
+    requires few { length rows.old.rows < 4294967295 }
+    requires notes { rows.old.room ≤ length notes.old.items }
+    ensures rows { AreRows rows.new }
+    ensures width { rows.new.width ≡ rows.old.width }
+    ensures notes { rows.new.room ≤ length notes.new.items }
+    ensures room { IfOk result (λ slot. rows.new.room ≡ max rows.old.room (slot + 1)) }
+    ensures slot { IfOk result (λ slot. slot ≤ rows.old.room) }
+    ensures kept { OnErr result (rows.new.room ≡ rows.old.room) }
+    ensures refused { OnErr result (rows.new.rows ≡ rows.old.rows) }
+    ensures laid { IfOk result (λ slot. rows.new.rows ≡ rows.old.rows ++ record { slot = slot; cells = tuple.now } ∷ []) }
+    ensures same_notes { (k : ℕ) → note_at notes.new.items k ≡ note_at notes.old.items k }
+    ensures reused { IfOk result (λ slot. ¬ IsFull rows.old → slot < rows.old.room) }
+    ensures full { OnErr result (IsFull rows.old) }
+{
+    notes.reserve(1)?;
+    lay_ready(rows, notes, tuple)
+}
+
+/// Lays a tuple into a slot, behind all others. Where there is no memory, the rows stay as they were.
 fn lay(rows: &mut Arena, notes: &mut Vec<Note>, tuple: &[u64]) -> Result<u32, AllocError>
     requires rows { AreRows rows.old }
     requires wide { length tuple.now ≡ rows.old.width }
@@ -188,12 +231,10 @@ fn lay(rows: &mut Arena, notes: &mut Vec<Note>, tuple: &[u64]) -> Result<u32, Al
     ensures full { OnErr result (IsFull rows.old) }
 {
     if rows.is_full() && notes.len() == notes.capacity() {
-        grow_notes(notes)?;
+        lay_growing(rows, notes, tuple)
+    } else {
+        lay_ready(rows, notes, tuple)
     }
-    let slot = rows.push(tuple)?;
-    rows.laws();
-    cover_notes(notes, slot);
-    Ok(slot)
 }
 
 /// Lays a tuple into a slot that has neighbours.
