@@ -1,4 +1,3 @@
-use Rattle.std.proofs.Common.{arith}
 use Rattle.djq_arena.proofs.RowLemmas.{puts_after, same_twice}
 use Rattle.djq_arena.proofs.store.put_growing.Goals as goal
 

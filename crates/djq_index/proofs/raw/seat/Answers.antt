@@ -1,4 +1,4 @@
-use Rattle.std.proofs.Common.{◌≡◌, [], ◌∷◌, sym, ◌∙◌, ap, subst, length, List, ℕ, arith}
+use Rattle.std.proofs.Common.{[], ◌∷◌, sym, ◌∙◌, ap, subst, length, List, ℕ, arith}
 use Rattle.std.specs.Result.{IfOk}
 use Rattle.djq_index.specs.Raw.{IsSeat}
 use Rattle.djq_index.proofs.Columns.{column_below, pick_one}

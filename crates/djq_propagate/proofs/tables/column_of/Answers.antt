@@ -1,4 +1,4 @@
-use Rattle.std.proofs.Common.{ℕ, List, length, subst, sym, ◌∙◌, arith}
+use Rattle.std.proofs.Common.{ℕ, List, subst, sym, ◌∙◌, arith}
 use Rattle.djq_index.specs.Table.{AreColumns}
 use Rattle.djq_index.proofs.Columns.{column_below}
 use Rattle.djq_reduct.specs.Tables.{width_at}

@@ -1,4 +1,4 @@
-use Rattle.std.proofs.Common.{ℕ, List, length, sym, ◌∙◌, rules}
+use Rattle.std.proofs.Common.{sym, ◌∙◌, rules}
 use Rattle.djq_propagate.proofs.Tabling.{key_of, is_none}
 use Rattle.djq_propagate.proofs.tables.has_no_column.Goals as goal
 
