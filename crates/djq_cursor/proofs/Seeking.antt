@@ -29,6 +29,8 @@ use Rattle.std.proofs.lemmas.Bool.{false≢true, le-leb, lt-leb}
 use Rattle.std.proofs.lemmas.List.{drop_more, drop_all, length-map}
 use Rattle.djq_hyper.specs.Hypergraph.{subset}
 use Rattle.djq_index.specs.Table.{AreColumns}
+use Rattle.djq_index.specs.Tuple.{pick}
+use Rattle.djq_index.proofs.Columns.{column_below}
 use Rattle.djq_tree.specs.declared.node.Node.{Node}
 use Rattle.djq_tree.specs.declared.node.Node.TheVariants.{Leaf, Trim, Meet}
 use Rattle.djq_tree.specs.Tree.{Tree, node_at}
@@ -97,12 +99,54 @@ put_next cs tuple s at c u low also here value =
 pub put_end : (cs us s : List ℕ) (at : ℕ) → length cs ≤ at → put (drop at cs) us s ≡ s
 put_end cs us s at past = ap (λ (ds : List ℕ). put ds us s) (drop_all at cs past)
 
+-- so are one and two, which take no loop
+pub put_one : (cs us s : List ℕ) → length cs ≡ 1 → length us ≡ length cs
+    → slice_set s (slice_index_or cs 0 0) (slice_index_or us 0 0) ≡ put cs us s
+put_one [] us s one long = absurd cc
+put_one (c ∷ []) [] s one long = absurd cc
+put_one (c ∷ []) (u ∷ []) s one long = refl
+put_one (c ∷ []) (u ∷ v ∷ us) s one long = absurd cc
+put_one (c ∷ d ∷ cs) us s one long = absurd cc
+
+pub put_two : (cs us s : List ℕ) → length cs ≡ 2 → length us ≡ length cs
+    → slice_set (slice_set s (slice_index_or cs 0 0) (slice_index_or us 0 0)) (slice_index_or cs 1 0)
+    (slice_index_or us 1 0) ≡ put cs us s
+put_two [] us s two long = absurd cc
+put_two (c ∷ []) us s two long = absurd cc
+put_two (c ∷ d ∷ []) [] s two long = absurd cc
+put_two (c ∷ d ∷ []) (u ∷ []) s two long = absurd cc
+put_two (c ∷ d ∷ []) (u ∷ v ∷ []) s two long = refl
+put_two (c ∷ d ∷ []) (u ∷ v ∷ w ∷ us) s two long = absurd cc
+put_two (c ∷ d ∷ e ∷ cs) us s two long = absurd cc
+
 -- so is a tuple over a label
 pub written_put : (F l us s : List ℕ) → written F l us s ≡ put (columns F l) us s
 unfolding columns
 written_put F [] us s = refl
 written_put F (x ∷ l) [] s = refl
 written_put F (x ∷ l) (u ∷ us) s = written_put F l us (slice_set s (column F x) u)
+
+pub first_below : (n : ℕ) (cs : List ℕ) → AreColumns n cs → 0 < length cs
+    → slice_index_or cs 0 0 < n
+first_below n cs within some = column_below n cs 0 within some
+
+pub second_below : (n : ℕ) (cs : List ℕ) → AreColumns n cs → 1 < length cs
+    → slice_index_or cs 1 0 < n
+second_below n cs within more = column_below n cs 1 within more
+
+-- ---- a projection on no column and on one
+
+pub pick_none : (cs u : List ℕ) → length cs ≡ 0 → pick cs u ≡ []
+unfolding pick
+pick_none [] u none = refl
+pick_none (c ∷ cs) u none = absurd cc
+
+pub pick_one : (cs u : List ℕ) → length cs ≡ 1
+    → pick cs u ≡ slice_index_or u (slice_index_or cs 0 0) 0 ∷ []
+unfolding pick
+pick_one [] u one = absurd cc
+pick_one (c ∷ []) u one = refl
+pick_one (c ∷ d ∷ cs) u one = absurd cc
 
 -- ---- the columns of a label in the head
 

@@ -4,7 +4,7 @@ ghost use Rattle.djq_tree.specs.Counts.{is_trim};
 ghost use Rattle.djq_tree.specs.Levels.{levels_below};
 ghost use Rattle.djq_tree.specs.Tree.{is_out};
 ghost use Rattle.djq_reduct.specs.Answers.{on_node};
-ghost use Rattle.djq_cursor.specs.Levels.{IsLevel, IsNextLevel, child_of, put, source, step};
+ghost use Rattle.djq_cursor.specs.Levels.{IsLevel, IsNextLevel, put, source, step};
 ghost use Rattle.djq_cursor.specs.Walk.{IsAlive, chosen};
 
 use crate::places::Choice;
@@ -17,16 +17,6 @@ fn is_trim(node: Node) -> bool
     match node {
         Node::Trim { .. } => true,
         _ => false,
-    }
-}
-
-fn child_of(node: Node) -> usize
-    ensures { result ≡ child_of node }
-{
-    match node {
-        Node::Leaf { .. } => 0,
-        Node::Trim { child } => child,
-        Node::Meet { guard, .. } => guard,
     }
 }
 
@@ -56,7 +46,10 @@ pub fn source(tree: &Tree, level: usize) -> usize
     ensures within { result < length tree.now.nodes }
 {
     let _nodes = tree.len();
-    child_of(tree.node(level))
+    match tree.node(level) {
+        Node::Trim { child } => child,
+        Node::Leaf { .. } | Node::Meet { .. } => unreachable!(),
+    }
 }
 
 /// Puts the projection of an answer on a node of `out` into cells.
@@ -69,8 +62,27 @@ pub(crate) fn project(reducts: &Reducts, node: usize, answer: &Answer, cells: &m
     cells.take_part(answer.as_slice(), reducts.columns(node));
 }
 
-/// Writes cells at these columns of an answer.
+/// Writes cells at these columns of an answer. They are few, so that one or two cost no loop.
+#[inline(always)]
+#[tactic(auto, using(crate::proofs::Seeking::first_below, crate::proofs::Seeking::second_below))]
 fn write_tuple(columns: &[usize], tuple: &[u64], answer: &mut Answer)
+    requires long { length tuple.now ≡ length columns.now }
+    requires within { AreColumns (length answer.old) columns.now }
+    ensures { answer.new ≡ put columns.now tuple.now answer.old }
+{
+    match columns.len() {
+        1 => answer.set(columns[0], tuple[0]),
+        2 => {
+            answer.set(columns[0], tuple[0]);
+            answer.set(columns[1], tuple[1]);
+        }
+        _ => write_each(columns, tuple, answer),
+    }
+}
+
+/// The same cell by cell.
+#[inline(never)]
+fn write_each(columns: &[usize], tuple: &[u64], answer: &mut Answer)
     requires long { length tuple.now ≡ length columns.now }
     requires within { AreColumns (length answer.old) columns.now }
     ensures { answer.new ≡ put columns.now tuple.now answer.old }

@@ -1,12 +1,17 @@
-ghost use Rattle.std.specs.Prelude.{◌≡◌, ◌+◌, ◌*◌, ◌≤◌, [], ◌∷◌, ◌++◌, length, ℕ, List};
+ghost use Rattle.std.specs.Prelude.{◌≡◌, ◌+◌, ◌*◌, ◌≤◌, [], ◌∷◌, ◌++◌, length, ℕ, List, IfSome, IfNone};
 ghost use Rattle.std.specs.Bool.{OnTrue, OnFalse};
+ghost use Rattle.djq_tree.specs.Labels.{label_at};
 ghost use Rattle.djq_tree.specs.Levels.{levels, levels_below};
+ghost use Rattle.djq_reduct.specs.Answers.{on_node};
+ghost use Rattle.djq_reduct.specs.Columns.{columns};
+ghost use Rattle.djq_cursor.specs.Levels.{IsLevel};
 ghost use Rattle.djq_cursor.specs.Menus.{AreOnce};
 ghost use Rattle.djq_cursor.specs.Walk.{
   AreGroups,
   FitsBy,
   IsClear,
   IsComplete,
+  IsFirstAt,
   IsOpen,
   Stands,
   ahead_of,
@@ -22,11 +27,81 @@ use crate::choices::Choices;
 use crate::cursor::{Cursor, State};
 use crate::levels::{level_below, project, write_choice};
 use crate::places::{Choice, Places};
+use djq_index::Place;
 use djq_reduct::{Answer, Cells, Reducts};
 use djq_steps::Tally;
 use std::sync::ledger::Ledger;
 
+/// The cell of an answer that is a level's key, where that has one column.
+fn cell_at(reducts: &Reducts, level: usize, answer: &Answer) -> u64
+    requires level { IsLevel reducts.now.tree level }
+    requires wide { length answer.now ≡ length reducts.now.tree.head }
+    requires one { length (columns reducts.now.tree.head (label_at reducts.now.tree.labels level)) ≡ 1 }
+    ensures { on_node reducts.now.tree level answer.now ≡ result ∷ [] }
+{
+    reducts.laws();
+    answer.as_slice()[reducts.columns(level)[0]]
+}
+
+/// The first tuple to choose at a level below those that an answer has; none exactly where there is
+/// none.
+#[inline(always)]
+fn first_at<C: Choices, L: Ledger>(
+    choices: &C,
+    reducts: &Reducts,
+    level: usize,
+    answer: &Answer,
+    listing: &mut Tally<L>,
+) -> Option<Place>
+    requires level { IsLevel reducts.now.tree level }
+    requires wide { length answer.now ≡ length reducts.now.tree.head }
+    ensures some { IfSome result
+        (λ p. IsFirstAt reducts.now
+        (C.menu choices.now reducts.now level (on_node reducts.now.tree level answer.now))
+        (record { level = level; place = p })) }
+    ensures none { IfNone result
+        (C.menu choices.now reducts.now level (on_node reducts.now.tree level answer.now) ≡ []) }
+    ensures counted { listing.new ≡ listing.old + 1 }
+{
+    reducts.laws();
+    let columns = reducts.columns(level);
+    match columns.len() {
+        0 => choices.first(reducts, level, &[], listing),
+        1 => {
+            let cell = cell_at(reducts, level, answer);
+            choices.first(reducts, level, &[cell], listing)
+        }
+        _ => first_by_cells(choices, reducts, level, answer, listing),
+    }
+}
+
+/// The same by a key that is copied, which one of several columns is.
+#[inline(never)]
+fn first_by_cells<C: Choices, L: Ledger>(
+    choices: &C,
+    reducts: &Reducts,
+    level: usize,
+    answer: &Answer,
+    listing: &mut Tally<L>,
+) -> Option<Place>
+    requires level { IsLevel reducts.now.tree level }
+    requires wide { length answer.now ≡ length reducts.now.tree.head }
+    ensures some { IfSome result
+        (λ p. IsFirstAt reducts.now
+        (C.menu choices.now reducts.now level (on_node reducts.now.tree level answer.now))
+        (record { level = level; place = p })) }
+    ensures none { IfNone result
+        (C.menu choices.now reducts.now level (on_node reducts.now.tree level answer.now) ≡ []) }
+    ensures counted { listing.new ≡ listing.old + 1 }
+{
+    reducts.laws();
+    let mut key = Cells::new(0);
+    project(reducts, level, answer, &mut key);
+    choices.first(reducts, level, key.as_slice(), listing)
+}
+
 /// Chooses the first tuple at each level below a number.
+#[inline(always)]
 fn fill<C: Choices, L: Ledger>(
     choices: &C,
     reducts: &Reducts,
@@ -47,11 +122,9 @@ fn fill<C: Choices, L: Ledger>(
 {
     reducts.laws();
     reducts.tree().is_small();
-    let mut key = Cells::new(0);
     let mut number = from;
     while let Some(level) = level_below(reducts.tree(), number) {
-        project(reducts, level, answer, &mut key);
-        let Some(place) = choices.first(reducts, level, key.as_slice(), listing) else {
+        let Some(place) = first_at(choices, reducts, level, answer, listing) else {
             return;
         };
         let choice = Choice { level, place };

@@ -1,7 +1,5 @@
-use Rattle.std.proofs.Common.{◌∙◌, List, ℕ, length, ap, sym, subst, arith, refl}
+use Rattle.std.proofs.Common.{◌∙◌, length, arith, refl}
 use Rattle.djq_cursor.specs.declared.places.Choice.{Choice}
-use Rattle.djq_cursor.specs.Walk.{IsFirstAt}
-use Rattle.djq_cursor.proofs.Outs.{late_out}
 use Rattle.djq_cursor.proofs.Filling.{
   reached_within,
   room_for,
@@ -28,18 +26,16 @@ loop-level-init g c =
       counted = omega arith;
     }
 
-pub project-requires-clause-out : goal.project-requires-clause-out
-project-requires-clause-out g c =
-    let r = c.args.reducts.now in
-    let l = level_in r.tree c.tree-in-loop-level.result.now c.in-Some.level
-    c.tree-in-loop-level.ensures c.in-Some.ensures.level in
-    late_out r.tree c.in-Some.level c.laws.ensures.sound.family.is_tree l.late l.within
+pub first_at-requires-clause-level : goal.first_at-requires-clause-level
+first_at-requires-clause-level g c =
+    level_in c.args.reducts.now.tree c.tree-in-loop-level.result.now c.in-Some.level
+    c.tree-in-loop-level.ensures c.in-Some.ensures.level
 
-pub project-requires-clause-wide : goal.project-requires-clause-wide
-project-requires-clause-wide g c = c.loop-level.invariant.stands.wide
+pub first_at-requires-clause-wide : goal.first_at-requires-clause-wide
+first_at-requires-clause-wide g c = c.loop-level.invariant.stands.wide
 
-pub returns-in_default-first-clause-whole : goal.returns-in_default-first-clause-whole
-returns-in_default-first-clause-whole g c =
+pub returns-in_default-first_at-clause-whole : goal.returns-in_default-first_at-clause-whole
+returns-in_default-first_at-clause-whole g c =
     let r = c.args.reducts.now in
     let menu = g.C.Choices.menu c.args.choices.now r in
     let k = c.in-Some.level in
@@ -49,11 +45,10 @@ returns-in_default-first-clause-whole g c =
     c.loop-level.invariant.stands c.loop-level.invariant.is c.requires.opened
     (next_in r.tree c.tree-in-loop-level.result.now c.loop-level.number k
     c.tree-in-loop-level.ensures c.in-Some.ensures.next)
-    (ap (λ (w : List ℕ). menu k w) (sym (c.as_slice.ensures ∙ c.project.ensures))
-    ∙ c.in_default-first.ensures.none))
+    c.in_default-first_at.ensures.none)
 
-pub returns-in_default-first-clause-counted : goal.returns-in_default-first-clause-counted
-returns-in_default-first-clause-counted g c =
+pub returns-in_default-first_at-clause-counted : goal.returns-in_default-first_at-clause-counted
+returns-in_default-first_at-clause-counted g c =
     let r = c.args.reducts.now in
     let menu = g.C.Choices.menu c.args.choices.now r in
     let k = c.in-Some.level in
@@ -63,8 +58,7 @@ returns-in_default-first-clause-counted g c =
     c.loop-level.invariant.stands c.loop-level.invariant.is c.requires.opened
     (next_in r.tree c.tree-in-loop-level.result.now c.loop-level.number k
     c.tree-in-loop-level.ensures c.in-Some.ensures.next)
-    (ap (λ (w : List ℕ). menu k w) (sym (c.as_slice.ensures ∙ c.project.ensures))
-    ∙ c.in_default-first.ensures.none))
+    c.in_default-first_at.ensures.none)
 
 pub write_choice-requires-clause-wide : goal.write_choice-requires-clause-wide
 write_choice-requires-clause-wide g c = c.loop-level.invariant.stands.wide
@@ -84,13 +78,12 @@ loop-level-preserved g c =
     let r = c.args.reducts.now in
     let menu = g.C.Choices.menu c.args.choices.now r in
     let k = c.in-Some.level in
-    let choice : Choice = record { level = k; place = c.in-Some-first.place } in
+    let choice : Choice = record { level = k; place = c.in-Some-first_at.place } in
     let next = next_in r.tree c.tree-in-loop-level.result.now c.loop-level.number k
     c.tree-in-loop-level.ensures c.in-Some.ensures.next in
     let level = level_in r.tree c.tree-in-loop-level.result.now k c.tree-in-loop-level.ensures
     c.in-Some.ensures.level in
-    let first = subst (λ (w : List ℕ). IsFirstAt r (menu k w) choice)
-    (c.as_slice.ensures ∙ c.project.ensures) c.in-Some-first.ensures.some in
+    let first = c.in-Some-first_at.ensures.some in
     let made = chosen_first r menu c.loop-level.number c.loop-level.places c.push.new.self
     c.loop-level.answer c.write_choice.new.answer choice c.laws.ensures.sound
     c.loop-level.invariant.stands
@@ -98,7 +91,7 @@ loop-level-preserved g c =
     let count = next_count r.tree c.loop-level.number k next in
     let within = level.within in
     let counted = c.loop-level.invariant.counted in
-    let look = c.first.ensures.counted in
+    let look = c.first_at.ensures.counted in
     record {
       within = omega arith;
       is = made.reached;
