@@ -1,89 +1,15 @@
--- Levels are found going down the nodes, and cells are read and written variable by variable.
-use Rattle.std.proofs.Common.{
-  ◌≡◌,
-  ℕ,
-  zero,
-  suc,
-  ◌+◌,
-  ◌-◌,
-  ◌<◌,
-  ◌≤◌,
-  Bool,
-  true,
-  false,
-  List,
-  [],
-  ◌∷◌,
-  length,
-  drop,
-  refl,
-  ap,
-  ap₂,
-  sym,
-  subst,
-  ◌∙◌,
-  arith,
-}
+-- Cells are read and written variable by variable.
+use Rattle.std.proofs.Common.{◌≡◌, ℕ, ◌+◌, ◌<◌, ◌≤◌, true, List, [], ◌∷◌, length, drop, refl}
+use Rattle.std.proofs.Common.{ap, ap₂, sym, subst, ◌∙◌}
 use Rattle.std.specs.Prelude.{slice_index_or, slice_set}
-use Rattle.std.proofs.lemmas.Bool.{false≢true, le-leb, lt-leb}
 use Rattle.std.proofs.lemmas.List.{drop_more, drop_all, length-map}
 use Rattle.djq_hyper.specs.Hypergraph.{subset}
 use Rattle.djq_index.specs.Table.{AreColumns}
 use Rattle.djq_index.specs.Tuple.{pick}
 use Rattle.djq_index.proofs.Columns.{column_below}
-use Rattle.djq_tree.specs.declared.node.Node.{Node}
-use Rattle.djq_tree.specs.declared.node.Node.TheVariants.{Leaf, Trim, Meet}
-use Rattle.djq_tree.specs.Tree.{Tree, node_at}
-use Rattle.djq_tree.specs.Levels.{levels_below, level_on}
-use Rattle.djq_tree.specs.Counts.{is_trim}
 use Rattle.djq_reduct.specs.Columns.{column, columns}
 use Rattle.djq_reduct.proofs.Placing.{columns_within}
-use Rattle.djq_cursor.specs.Levels.{IsNextLevel, written, put}
-
--- ---- the next level
-
-level_at : (t : Tree) (k : ℕ) (n : Node) → t.second_stage ≤ k → node_at t.nodes k ≡ n
-    → levels_below t (suc k) ≡ level_on k n (levels_below t k)
-level_at t k n late e = rw (le-leb t.second_stage k late)
-    (ap (λ (m : Node). level_on k m (levels_below t k)) e)
-
-on_trim : (k : ℕ) (n : Node) (ks : List ℕ) → is_trim n ≡ true → level_on k n ks ≡ k ∷ ks
-on_trim k (Leaf a) ks h = absurd (false≢true h)
-on_trim k (Trim c) ks h = refl
-on_trim k (Meet g s) ks h = absurd (false≢true h)
-
-on_other : (k : ℕ) (n : Node) (ks : List ℕ) → is_trim n ≡ false → level_on k n ks ≡ ks
-on_other k (Leaf a) ks h = refl
-on_other k (Trim c) ks h = absurd (false≢true (sym h))
-on_other k (Meet g s) ks h = refl
-
-just_below : (t : Tree) (n k : ℕ) (m : Node) → t.second_stage < n → k ≡ n - 1
-    → m ≡ node_at t.nodes k → levels_below t n ≡ level_on k m (levels_below t k)
-just_below t zero k m low e is = absurd (omega arith)
-just_below t (suc n) k m low e is =
-    let same : n ≡ k = omega arith in
-    subst (λ (i : ℕ). levels_below t (suc i) ≡ level_on k m (levels_below t k)) (sym same)
-    (level_at t k m (omega arith) (sym is))
-
-pub level_found : (t : Tree) (number n k : ℕ) (m : Node) (b : Bool)
-    → levels_below t number ≡ levels_below t n → t.second_stage < n → k ≡ n - 1
-    → m ≡ node_at t.nodes k → b ≡ is_trim m → b ≡ true → IsNextLevel t number k
-level_found t number n k m b same low e is test yes_trim = same ∙ just_below t n k m low e is
-    ∙ on_trim k m (levels_below t k) (sym test ∙ yes_trim)
-
-pub level_not : (t : Tree) (number n k : ℕ) (m : Node) (b : Bool)
-    → levels_below t number ≡ levels_below t n → t.second_stage < n → k ≡ n - 1
-    → m ≡ node_at t.nodes k → b ≡ is_trim m → b ≡ false → levels_below t number ≡ levels_below t k
-level_not t number n k m b same low e is test no_trim = same ∙ just_below t n k m low e is
-    ∙ on_other k m (levels_below t k) (sym test ∙ no_trim)
-
-pub no_level : (t : Tree) (number n : ℕ) → levels_below t number ≡ levels_below t n
-    → n ≤ t.second_stage → levels_below t number ≡ []
-no_level t number n same low = same ∙ none t n low
-  where
-    none : (t : Tree) (k : ℕ) → k ≤ t.second_stage → levels_below t k ≡ []
-    none t zero low = refl
-    none t (suc k) low = rw (lt-leb t.second_stage k (omega arith)) refl
+use Rattle.djq_cursor.specs.Levels.{written, put}
 
 -- ---- cells are written at columns, one after another
 

@@ -1,43 +1,13 @@
-ghost use Rattle.std.specs.Prelude.{◌≡◌, ◌<◌, ◌≤◌, true, [], length, IfSome, IfNone};
+ghost use Rattle.std.specs.Prelude.{◌≡◌, ◌<◌, true, length};
 ghost use Rattle.djq_index.specs.Table.{AreColumns};
-ghost use Rattle.djq_tree.specs.Counts.{is_trim};
-ghost use Rattle.djq_tree.specs.Levels.{levels_below};
 ghost use Rattle.djq_tree.specs.Tree.{is_out};
 ghost use Rattle.djq_reduct.specs.Answers.{on_node};
-ghost use Rattle.djq_cursor.specs.Levels.{IsLevel, IsNextLevel, put, source, step};
+ghost use Rattle.djq_cursor.specs.Levels.{IsLevel, put, source, step};
 ghost use Rattle.djq_cursor.specs.Walk.{IsAlive, chosen};
 
 use crate::places::Choice;
 use djq_reduct::{Answer, Cells, Reducts};
 use djq_tree::{Node, Tree};
-
-fn is_trim(node: Node) -> bool
-    ensures { result ≡ is_trim node }
-{
-    match node {
-        Node::Trim { .. } => true,
-        _ => false,
-    }
-}
-
-/// The next level below a number; none exactly where there is none.
-pub(crate) fn level_below(tree: &Tree, number: usize) -> Option<usize>
-    requires { number ≤ length tree.now.nodes }
-    ensures lower { IfSome result (λ k. k < number) }
-    ensures next { IfSome result (λ k. IsNextLevel tree.now number k) }
-    ensures level { IfSome result (λ k. IsLevel tree.now k) }
-    ensures none { IfNone result (levels_below tree.now number ≡ []) }
-{
-    let second_stage = tree.second_stage();
-    let mut at = number;
-    while second_stage < at {
-        at -= 1;
-        if is_trim(tree.node(at)) {
-            return Some(at);
-        }
-    }
-    None
-}
 
 /// The node from whose table the tuple of a level is chosen.
 pub fn source(tree: &Tree, level: usize) -> usize

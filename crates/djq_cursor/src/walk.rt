@@ -1,7 +1,7 @@
 ghost use Rattle.std.specs.Prelude.{◌≡◌, ◌+◌, ◌*◌, ◌≤◌, [], ◌∷◌, ◌++◌, length, ℕ, List, IfSome, IfNone};
 ghost use Rattle.std.specs.Bool.{OnTrue, OnFalse};
 ghost use Rattle.djq_tree.specs.Labels.{label_at};
-ghost use Rattle.djq_tree.specs.Levels.{levels, levels_below};
+ghost use Rattle.djq_tree.specs.Levels.{levels};
 ghost use Rattle.djq_reduct.specs.Answers.{on_node};
 ghost use Rattle.djq_reduct.specs.Columns.{columns};
 ghost use Rattle.djq_cursor.specs.Levels.{IsLevel};
@@ -20,12 +20,11 @@ ghost use Rattle.djq_cursor.specs.Walk.{
   blank,
   given_by,
   made_by,
-  reached,
 };
 
 use crate::choices::Choices;
 use crate::cursor::{Cursor, State};
-use crate::levels::{level_below, project, write_choice};
+use crate::levels::{project, write_choice};
 use crate::places::{Choice, Places};
 use djq_index::Place;
 use djq_reduct::{Answer, Cells, Reducts};
@@ -100,37 +99,37 @@ fn first_by_cells<C: Choices, L: Ledger>(
     choices.first(reducts, level, key.as_slice(), listing)
 }
 
-/// Chooses the first tuple at each level below a number.
+/// Chooses the first tuple at each level that has no choice yet. Most often there is none, so that a
+/// call would cost more than what it does.
 #[inline(always)]
 fn fill<C: Choices, L: Ledger>(
     choices: &C,
     reducts: &Reducts,
-    from: usize,
     places: &mut Places,
     answer: &mut Answer,
     listing: &mut Tally<L>,
 )
     requires opened { IsOpen reducts.now.tree (C.menu choices.now reducts.now)
         (levels reducts.now.tree) (blank reducts.now.tree) }
-    requires from { from ≡ reached (length reducts.now.tree.nodes) places.old }
     requires stands { Stands reducts.now (C.menu choices.now reducts.now) places.old answer.old }
     ensures stands { Stands reducts.now (C.menu choices.now reducts.now) places.new answer.new }
     ensures whole { IsComplete reducts.now places.new }
     ensures before { ahead_of reducts.now (C.menu choices.now reducts.now) places.new
         ≡ ahead_of reducts.now (C.menu choices.now reducts.now) places.old }
-    ensures counted { listing.new ≡ listing.old + length (levels_below reducts.now.tree from) }
+    ensures counted { listing.new + length places.old
+        ≡ listing.old + length (levels reducts.now.tree) }
 {
     reducts.laws();
     reducts.tree().is_small();
-    let mut number = from;
-    while let Some(level) = level_below(reducts.tree(), number) {
+    let levels = reducts.levels();
+    for at in places.len()..levels.len() {
+        let level = levels[at];
         let Some(place) = first_at(choices, reducts, level, answer, listing) else {
             return;
         };
         let choice = Choice { level, place };
         write_choice(reducts, choice, answer);
         places.push(choice);
-        number = level;
     }
 }
 
@@ -170,7 +169,7 @@ fn go_on<C: Choices, L: Ledger>(
             };
             write_choice(reducts, next, answer);
             places.push(next);
-            fill(choices, reducts, next.level, places, answer, listing);
+            fill(choices, reducts, places, answer, listing);
             return true;
         }
     }
@@ -208,7 +207,6 @@ fn begin<C: Choices, L: Ledger>(
     fill(
         choices,
         reducts,
-        reducts.tree().len(),
         &mut cursor.places,
         &mut cursor.answer,
         listing,
