@@ -107,7 +107,7 @@ fn negative(size: u64) -> Number
 
 // The integer of few digits in front, behind spaces, and how many bytes both take. Most often one
 // space is there, and no sign.
-#[inline]
+#[inline(always)]
 pub(crate) fn small_front(bytes: &[u8]) -> Option<(i64, usize)>
     ensures { IsSmallInFront bytes.now result }
 {
@@ -132,7 +132,7 @@ fn spaced_digits(bytes: &[u8]) -> Option<(u64, usize)>
 }
 
 // The integer in front, however many spaces there are, and with a sign or without.
-#[inline]
+#[inline(never)]
 fn small_behind(bytes: &[u8]) -> Option<(i64, usize)>
     ensures { IsSmallInFront bytes.now result }
 {
