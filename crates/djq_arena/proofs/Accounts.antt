@@ -1,6 +1,8 @@
 -- What a store's rows say of it.
 use Rattle.std.proofs.Common.{◌≡◌, ℕ, suc, ◌*◌, ◌<◌, List, [], ◌∷◌, ◌++◌, length, None, refl, ap}
 use Rattle.std.proofs.Common.{subst, sym, ◌∙◌, arith, length-take, length-drop}
+use Rattle.std.proofs.Common.{Result, Ok, Err}
+use Rattle.std.specs.Result.{IfOk, OnErr}
 use Rattle.djq_arena.specs.declared.store.Store.{Store}
 use Rattle.djq_arena.specs.declared.chain.Ends.{Ends}
 use Rattle.djq_arena.specs.Chains.{AreBelow, first_of, last_of, Linked, pair_at}
@@ -82,3 +84,9 @@ same_account a b h = record {
   rows = same_rows a b h;
   tidy = λ tidy. omega (arith, tidy, h.alike.slots, h.len, h.spare);
 }
+
+-- what holds on either way out
+pub either : {T E : Type 0} (r : Result T E) (P : T → Type 0) (Q R : Type 0) → IfOk r P → OnErr r Q
+    → ((x : T) → P x → R) → (Q → R) → R
+either (Ok x) P Q R ok err f g = f x ok
+either (Err e) P Q R ok err f g = g err

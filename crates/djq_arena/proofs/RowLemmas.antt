@@ -56,6 +56,29 @@ puts a m d e i u same p l = record {
   );
 }
 
+pub puts_after : (a m e : Store) (i : ℕ) (u : List ℕ) → IsSame a m → IsPut m e i u → IsPut a e i u
+puts_after a m e i u same p = record {
+  sound = p.sound;
+  width = p.width ∙ same.alike.width;
+  rows = p.rows ∙ ap (λ (rs : List Row). rs ++ record { slot = i; cells = u } ∷ []) (same_rows a m same);
+  slots = p.slots ∙ ap (λ (n : ℕ). max n (i + 1)) same.alike.slots;
+  fits = omega (arith, p.fits, same.alike.slots);
+  tidy = λ tidy. p.tidy (omega (arith, tidy, same.alike.slots, same.len, same.spare));
+}
+
+pub same_twice : (a m b : Store) → IsSame a m → IsSame m b → IsSame a b
+same_twice a m b h k = record {
+  alike = record {
+    sound = k.alike.sound;
+    width = k.alike.width ∙ h.alike.width;
+    cells = k.alike.cells ∙ h.alike.cells;
+    slots = k.alike.slots ∙ h.alike.slots;
+  };
+  live = k.live ∙ h.live;
+  len = k.len ∙ h.len;
+  spare = k.spare ∙ h.spare;
+}
+
 -- a slot that holds a row
 pub holds_row : (a : Store) (i : ℕ) (u : List ℕ) → Holds (live_of a) i → cells_at a.width a.cells.items i ≡ u
     → IsRow (rows_of a) i u

@@ -1,6 +1,6 @@
 -- The walk through a bucket.
 use Rattle.std.proofs.Common.{◌≡◌, ◌≢◌, ℕ, ◌+◌, ◌≤◌, ◌<◌, List, [], ◌∷◌, length, Option, Some, None}
-use Rattle.std.proofs.Common.{refl, ap, subst, sym, ◌-◌, arith, inl, inr}
+use Rattle.std.proofs.Common.{refl, ap, subst, sym, ◌-◌, arith, inl, inr, zero, suc}
 use Rattle.std.proofs.lemmas.Bool.{cases_eq}
 use Rattle.std.proofs.lemmas.Nat.{and_le_r}
 use Rattle.djq_arena.specs.declared.store.Store.{Store}
@@ -47,6 +47,28 @@ seeking a u at h inside head =
       );
     }
 
+-- how many slots stand in the chain from a slot on, up to n
+unfoldable pub chain_length : ℕ → List (Option ℕ) → Option ℕ → ℕ
+chain_length zero links at = 0
+chain_length (suc n) links None = 0
+chain_length (suc n) links (Some i) = chain_length n links (link_at links i) + 1
+
+chain_is : (n : ℕ) (links : List (Option ℕ)) (at : Option ℕ) (xs : List ℕ) → Chained links at xs → length xs ≤ n
+    → chain_length n links at ≡ length xs
+unfolding Chained chain_length
+chain_is zero links at [] h few = refl
+chain_is zero links at (x ∷ xs) h few = absurd (omega (arith, few))
+chain_is (suc n) links None [] h few = refl
+chain_is (suc n) links (Some i) [] h few = absurd cc
+chain_is (suc n) links None (x ∷ xs) h few = absurd cc
+chain_is (suc n) links (Some i) (x ∷ xs) h few =
+    let same : i ≡ x = cc in
+    omega (
+      arith,
+      chain_is n links (link_at links i) xs (subst (λ m. Chained links (link_at links m) xs) (sym same) h.1)
+          (omega (arith, few)),
+    )
+
 out_nil : (i : ℕ) → IsOut i []
 unfolding IsOut
 out_nil i = tt
@@ -58,17 +80,6 @@ over a u at step s none =
     let empty = chained_over a.bucket.items s.ahead
     (subst (λ (o : Option ℕ). Chained a.bucket.items o s.ahead) none s.chained) in
     missed a.width a.cells.items u (live_of a) (λ i held. s.misses i (subst (IsOut i) (sym empty) (out_nil i)) held)
-
-pub over_steps : (a : Store) (u : List ℕ) (at : Option ℕ) (step : ℕ) → Seeking a u at step → a.len ≤ step
-    → IsAbsent (rows_of a) u
-unfolding rows_of
-over_steps a u at step s h =
-    let none = empty s.ahead (omega (arith, s.room, h)) in
-    missed a.width a.cells.items u (live_of a) (λ i held. s.misses i (subst (IsOut i) (sym none) (out_nil i)) held)
-  where
-    empty : (xs : List ℕ) → length xs ≤ 0 → xs ≡ []
-    empty [] h = refl
-    empty (x ∷ xs) h = absurd (omega (arith, h))
 
 -- the walk has come to slot i
 pub record Stop (a : Store) (u : List ℕ) (i : ℕ) (step : ℕ) : Type 0 where
@@ -112,6 +123,27 @@ further a u i step next s other is = record {
   ];
   room = omega (arith, s.room);
 }
+
+-- the walk goes on, and less is ahead
+pub onward : (a : Store) (u : List ℕ) (i : ℕ) (next : Option ℕ) → Stop a u i 0 → cells_at a.width a.cells.items i ≢ u
+    → next ≡ link_at a.bucket.items i → Seeking a u next 0
+onward a u i next s other is =
+    let f = further a u i 0 next s other is in
+    record { ahead = f.ahead; chained = f.chained; only = f.only; misses = f.misses; room = omega (arith, f.room) }
+
+pub nearer : (a : Store) (u : List ℕ) (i : ℕ) (at next : Option ℕ) → Seeking a u at 0 → at ≡ Some i
+    → next ≡ link_at a.bucket.items i → chain_length a.len a.bucket.items next < chain_length a.len a.bucket.items at
+nearer a u i at next s here is =
+    let f = ahead a.bucket.items i s.ahead
+    (subst (λ (o : Option ℕ). Chained a.bucket.items o s.ahead) here s.chained) in
+    let long = ap (λ (xs : List ℕ). length xs) f.is in
+    omega (
+      arith,
+      s.room,
+      long,
+      chain_is a.len a.bucket.items at s.ahead s.chained (omega (arith, s.room)),
+      chain_is a.len a.bucket.items next f.rest (rw is f.chained) (omega (arith, s.room, long)),
+    )
 
 pub class_inside : (m : ℕ) (u : List ℕ) → 0 < m → class m u < m
 unfolding class

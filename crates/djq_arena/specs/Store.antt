@@ -2,7 +2,7 @@
 -- those of one bucket in any order.
 use Rattle.std.specs.Prelude.{◌≡◌, ℕ, ◌+◌, ◌-◌, ◌*◌, ◌/◌, ◌%◌, ◌^◌, ◌<◌, ◌≤◌, List, [], ◌∷◌, ◌++◌}
 use Rattle.std.specs.Prelude.{map, take, drop, length, fold, bit_and, bit_xor, max, Option, Some}
-use Rattle.std.specs.Prelude.{None}
+use Rattle.std.specs.Prelude.{None, vec_len, vec_capacity}
 use Rattle.djq_arena.specs.declared.chain.Pair.{Pair}
 use Rattle.djq_arena.specs.declared.chain.Ends.{Ends}
 use Rattle.djq_arena.specs.declared.store.Store.{Store}
@@ -92,6 +92,11 @@ pub record IsSound (s : Store) : Type 0 where
 -- each slot holds a row, or is free
 abbrev pub IsTidy : Store → Type 0
 IsTidy s = length s.order.items ≡ s.len + s.spare
+
+-- there is room for one more slot with n cells
+abbrev pub HasRoom : Store → ℕ → Type 0
+HasRoom s n = (vec_len s.order < vec_capacity s.order) × (vec_len s.bucket < vec_capacity s.bucket)
+    × (vec_len s.cells + n ≤ vec_capacity s.cells)
 
 -- slot i holds no row, and isn't free
 pub record IsLoose (s : Store) (i : ℕ) : Type 0 where

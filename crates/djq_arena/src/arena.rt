@@ -1,8 +1,11 @@
 ghost use Rattle.std.specs.Prelude.{◌≡◌, ◌↔◌, IsTrue, ℕ, ◌+◌, ◌<◌, ◌≤◌, ◌==◌, max, List, [], ◌∷◌, ◌++◌, length, IfOk, OnErr, MatchOption};
 ghost use Rattle.djq_arena.specs.Chains.{first_of, last_of};
 ghost use Rattle.djq_arena.specs.Rows.{Row, slots, IsAbsent, IsRow, IsHeld, IsFull, AreRows};
+ghost use Rattle.djq_arena.specs.Store.{hash};
 
-use crate::store::{Store, cells_in, empty, find, newer, older, push_row, remove_row, renew_row};
+use crate::store::{
+    Store, cells_in, empty, find, hash_of, newer, older, push_row, remove_row, renew_row,
+};
 use std::alloc::{AllocError, Global};
 use std::marker::Model;
 
@@ -82,7 +85,15 @@ impl Arena {
     pub fn find(&self, cells: &[u64]) -> Option<u32>
         ensures { MatchOption result (IsAbsent self.now.rows cells.now) (λ slot. IsRow self.now.rows slot cells.now) }
     {
-        find(&self.store, cells)
+        find(&self.store, cells, hash_of(cells))
+    }
+
+    /// The same as `find`, for cells whose hash is known.
+    pub fn find_hashed(&self, cells: &[u64], code: u64) -> Option<u32>
+        requires { code ≡ hash cells.now }
+        ensures { MatchOption result (IsAbsent self.now.rows cells.now) (λ slot. IsRow self.now.rows slot cells.now) }
+    {
+        find(&self.store, cells, code)
     }
 
     /// Puts in a row behind all others, into a free slot if there is one. It fails only out of memory and
@@ -98,7 +109,23 @@ impl Arena {
         ensures full { OnErr result (IsFull self.old) }
         ensures width { self.new.width ≡ self.old.width }
     {
-        push_row(&mut self.store, self.alloc, cells)
+        self.push_hashed(cells, hash_of(cells))
+    }
+
+    /// The same as `push`, for cells whose hash is known.
+    pub fn push_hashed(&mut self, cells: &[u64], code: u64) -> Result<u32, AllocError>
+        requires wide { length cells.now ≡ self.old.width }
+        requires coded { code ≡ hash cells.now }
+        requires few { length self.old.rows < 4294967295 }
+        ensures pushed { IfOk result (λ slot. self.new.rows ≡ self.old.rows ++ record { slot = slot; cells = cells.now } ∷ []) }
+        ensures room { IfOk result (λ slot. self.new.room ≡ max self.old.room (slot + 1)) }
+        ensures slot { IfOk result (λ slot. slot ≤ self.old.room) }
+        ensures reused { IfOk result (λ slot. ¬ IsFull self.old → slot < self.old.room) }
+        ensures refused { OnErr result (self.new ≡ self.old) }
+        ensures full { OnErr result (IsFull self.old) }
+        ensures width { self.new.width ≡ self.old.width }
+    {
+        push_row(&mut self.store, self.alloc, cells, code)
     }
 
     /// Takes the row in a slot out.

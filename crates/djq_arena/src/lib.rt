@@ -34,6 +34,7 @@ mod store;
 pub use arena::Arena;
 pub use chain::{Ends, Pair, enter, grown, leave, pair_of};
 pub use link::Link;
+pub use store::hash_of;
 
 #[cfg(test)]
 mod tests;

@@ -1,6 +1,6 @@
 ghost use Rattle.std.specs.Prelude.{◌≡◌, ◌≢◌, ◌+◌, ◌*◌, ◌<◌, ◌≤◌, ◌++◌, ◌∷◌, [], length, take, drop, Some, None, ℕ, IfOk, OnErr, slice_set, replicate, IsTrue, ◌↔◌, MatchOption, List, max, vec_len, vec_capacity};
 ghost use Rattle.djq_arena.specs.Rows.{Row, slots, IsAbsent, IsRow, IsHeld};
-ghost use Rattle.djq_arena.specs.Store.{mixed, hash, class, cells_at, AreListed, IsPrepared, IsPut, IsTaken, IsRenewed, IsSound, IsLoose, IsLinked, IsUnlinked, IsSame, IsReleased, IsTidy, Holds, SameRows, live_of, rows_of};
+ghost use Rattle.djq_arena.specs.Store.{mixed, hash, class, cells_at, AreListed, IsPrepared, IsPut, IsTaken, IsRenewed, IsSound, IsLoose, IsLinked, IsUnlinked, IsSame, IsReleased, IsTidy, HasRoom, Holds, SameRows, live_of, rows_of};
 ghost use Rattle.djq_arena.specs.Chains.{first_of, last_of};
 ghost use Rattle.djq_arena.specs.Buckets.{link_at, Stands, IsBehind, IsUnlisted};
 
@@ -44,7 +44,7 @@ fn hash_all(cells: &[u64]) -> u64
 
 /// The hash of a row: a few instructions a cell. Most rows have one cell or two, and need no loop.
 #[tactic(auto, unfolding(crate::specs::Store::hash))]
-fn hash_of(cells: &[u64]) -> u64
+pub fn hash_of(cells: &[u64]) -> u64
     ensures { result ≡ hash cells.now }
 {
     match cells {
@@ -54,14 +54,23 @@ fn hash_of(cells: &[u64]) -> u64
     }
 }
 
-/// The bucket of a row, of so many.
+/// The bucket of a row with this hash, of so many.
 #[tactic(auto, unfolding(crate::specs::Store::class))]
+fn class_by(buckets: usize, code: u64) -> usize
+    requires { 0 < buckets }
+    ensures class { (u : List ℕ) → code ≡ hash u → result ≡ class buckets u }
+    ensures within { result < buckets }
+{
+    code as usize & (buckets - 1)
+}
+
+/// The bucket of a row, of so many.
 fn class_of(buckets: usize, cells: &[u64]) -> usize
     requires { 0 < buckets }
     ensures class { result ≡ class buckets cells.now }
     ensures within { result < buckets }
 {
-    hash_of(cells) as usize & (buckets - 1)
+    class_by(buckets, hash_of(cells))
 }
 
 /// The cells in a slot.
@@ -75,13 +84,13 @@ pub fn cells_of(store: &Store, slot: u32) -> &[u64]
     &store.cells[from..from + store.width]
 }
 
-/// The bucket of a row with these cells.
-fn class_in(store: &Store, cells: &[u64]) -> usize
-    requires some { 0 < length store.now.heads.items }
-    ensures class { result ≡ class (length store.now.heads.items) cells.now }
+/// The bucket of a row with this hash.
+fn class_in(store: &Store, code: u64) -> usize
+    requires { 0 < length store.now.heads.items }
+    ensures class { (u : List ℕ) → code ≡ hash u → result ≡ class (length store.now.heads.items) u }
     ensures within { result < length store.now.heads.items }
 {
-    class_of(store.heads.len(), cells)
+    class_by(store.heads.len(), code)
 }
 
 /// The bucket of the row in a slot.
@@ -92,7 +101,7 @@ fn class_at(store: &Store, slot: u32) -> usize
     ensures class { result ≡ class (length store.now.heads.items) (cells_at store.now.width store.now.cells.items slot) }
     ensures within { result < length store.now.heads.items }
 {
-    class_in(store, cells_of(store, slot))
+    class_in(store, hash_of(cells_of(store, slot)))
 }
 
 /// Whether these cells are the same. Rows are short, so that a loop costs less than a call.
@@ -138,32 +147,54 @@ fn link_of(links: &Vec<Link>, at: usize) -> Link
     links[at]
 }
 
-/// The head of the bucket that a row with these cells is in.
-fn head_of(store: &Store, cells: &[u64]) -> Link
+/// The head of the bucket that a row with this hash is in.
+fn head_of(store: &Store, code: u64) -> Link
     requires { 0 < length store.now.heads.items }
-    ensures { result ≡ link_at store.now.heads.items (class (length store.now.heads.items) cells.now) }
+    ensures { (u : List ℕ) → code ≡ hash u → result ≡ link_at store.now.heads.items (class (length store.now.heads.items) u) }
 {
-    link_of(&store.heads, class_in(store, cells))
+    link_of(&store.heads, class_in(store, code))
 }
 
-/// The slot of a row with these cells: a walk through one bucket.
-pub fn find(store: &Store, cells: &[u64]) -> Option<u32>
-    requires { IsSound store.now }
+/// The slot of a row with these cells: a walk through its bucket, from the head on. It is laid out wherever it is
+/// called, so that what is known there of the cells isn't asked again at each step.
+#[inline(always)]
+fn find_from(store: &Store, head: Link, cells: &[u64]) -> Option<u32>
+    requires sound { IsSound store.now }
+    requires head { head ≡ link_at store.now.heads.items (class (length store.now.heads.items) cells.now) }
     ensures { MatchOption result (IsAbsent (rows_of store.now) cells.now) (λ slot. IsRow (rows_of store.now) slot cells.now) }
 {
-    let mut at = head_of(store, cells);
-    for _step in 0..store.len {
-        match at.get() {
-            None => return None,
-            Some(slot) => {
-                if reads(store, slot, cells) {
-                    return Some(slot);
-                }
-                at = link_of(&store.bucket, slot as usize);
-            }
+    let mut at = head;
+    while let Some(slot) = at.get() {
+        if reads(store, slot, cells) {
+            return Some(slot);
         }
+        at = link_of(&store.bucket, slot as usize);
     }
     None
+}
+
+/// The same for cells of any number. It stands apart, so that a search for one or two cells saves no registers.
+#[inline(never)]
+fn find_any(store: &Store, head: Link, cells: &[u64]) -> Option<u32>
+    requires sound { IsSound store.now }
+    requires head { head ≡ link_at store.now.heads.items (class (length store.now.heads.items) cells.now) }
+    ensures { MatchOption result (IsAbsent (rows_of store.now) cells.now) (λ slot. IsRow (rows_of store.now) slot cells.now) }
+{
+    find_from(store, head, cells)
+}
+
+/// The slot of a row with these cells, whose hash is known. Most rows that are looked for have one cell or two.
+pub fn find(store: &Store, cells: &[u64], code: u64) -> Option<u32>
+    requires sound { IsSound store.now }
+    requires coded { code ≡ hash cells.now }
+    ensures { MatchOption result (IsAbsent (rows_of store.now) cells.now) (λ slot. IsRow (rows_of store.now) slot cells.now) }
+{
+    let head = head_of(store, code);
+    match cells {
+        [only] if store.width == 1 => find_from(store, head, &[*only]),
+        [first, second] if store.width == 2 => find_from(store, head, &[*first, *second]),
+        _ => find_any(store, head, cells),
+    }
 }
 
 /// Puts a slot at the head of its bucket.
@@ -214,14 +245,14 @@ fn unlist(bucket: &mut Vec<Link>, heads: &mut Vec<Link>, class: usize, slot: u32
     }
 }
 
-/// Puts a loose slot behind all rows: these cells, which lie in it, are a row now.
-pub fn link(store: &mut Store, slot: u32, cells: &[u64])
+/// Puts a loose slot behind all rows: the cells that lie in it, of this hash, are a row now.
+pub fn link(store: &mut Store, slot: u32, code: u64)
     requires sound { IsSound store.old }
     requires loose { IsLoose store.old slot }
-    requires here { cells_at store.old.width store.old.cells.items slot ≡ cells.now }
+    requires here { code ≡ hash (cells_at store.old.width store.old.cells.items slot) }
     ensures linked { IsLinked store.old store.new slot }
 {
-    let class = class_in(store, cells);
+    let class = class_in(store, code);
     enlist(&mut store.bucket, &mut store.heads, class, slot);
     enter(&mut store.order, store.live.last, slot);
     store.live = grown(&store.live, slot);
@@ -299,13 +330,11 @@ fn append_all(cells: &mut Vec<u64>, more: &[u64])
     }
 }
 
-/// Puts cells behind others. Where there is no memory, all stays as it was. Most rows have one cell or two, and
-/// need no loop.
-fn append(cells: &mut Vec<u64>, more: &[u64]) -> Result<(), AllocError>
-    ensures behind { IfOk result (λ _. cells.new.items ≡ cells.old.items ++ more.now) }
-    ensures refused { OnErr result (cells.new.items ≡ cells.old.items) }
+/// Puts cells behind others, where there is room for them. Most rows have one cell or two, and need no loop.
+fn append(cells: &mut Vec<u64>, more: &[u64])
+    requires { vec_len cells.old + length more.now ≤ vec_capacity cells.old }
+    ensures { cells.new.items ≡ cells.old.items ++ more.now }
 {
-    cells.reserve(more.len())?;
     match more {
         [only] => cells.push_reserved(*only),
         [first, second] => {
@@ -314,27 +343,24 @@ fn append(cells: &mut Vec<u64>, more: &[u64]) -> Result<(), AllocError>
         }
         _ => append_all(cells, more),
     }
-    Ok(())
 }
 
-/// Writes a row into a new slot, which is loose. Where there is no memory, all stays as it was.
-fn fresh(store: &mut Store, cells: &[u64]) -> Result<u32, AllocError>
+/// Writes a row into a new slot, which is loose and for which there is room.
+fn fresh(store: &mut Store, cells: &[u64]) -> u32
     requires sound { IsSound store.old }
     requires wide { length cells.now ≡ store.old.width }
     requires few { length store.old.order.items < 4294967295 }
-    ensures prepared { IfOk result (λ slot. IsPrepared store.old store.new slot cells.now) }
-    ensures refused { OnErr result (IsSame store.old store.new) }
+    requires room { HasRoom store.old (length cells.now) }
+    ensures { IsPrepared store.old store.new result cells.now }
 {
     let slot = store.order.len();
-    store.order.reserve(1)?;
-    store.bucket.reserve(1)?;
-    append(&mut store.cells, cells)?;
+    append(&mut store.cells, cells);
     store.order.push_reserved(Pair {
         prev: Link::none(),
         next: Link::none(),
     });
     store.bucket.push_reserved(Link::none());
-    Ok(slot as u32)
+    slot as u32
 }
 
 /// The cells in a slot, of rows of this width.
@@ -413,7 +439,7 @@ fn grow(store: &mut Store, alloc: Global) -> Result<(), AllocError>
 }
 
 /// Twice as many buckets, where there are no more of them than rows.
-fn make_room(store: &mut Store, alloc: Global) -> Result<(), AllocError>
+fn grow_full(store: &mut Store, alloc: Global) -> Result<(), AllocError>
     requires sound { IsSound store.old }
     requires full { length store.old.order.items ≡ store.old.len }
     ensures same { IsSame store.old store.new }
@@ -425,28 +451,89 @@ fn make_room(store: &mut Store, alloc: Global) -> Result<(), AllocError>
     }
 }
 
-/// Puts in a row behind all others, into a new slot, where no slot is free. Where there is no memory, all stays as it
-/// was. It stands apart, so that a row which comes into a free slot saves no registers.
+/// Room for one more slot with so many cells. Where there is no memory, all stays as it was.
+fn reserve(store: &mut Store, cells: usize) -> Result<(), AllocError>
+    requires sound { IsSound store.old }
+    ensures same { IsSame store.old store.new }
+    ensures room { IfOk result (λ _. HasRoom store.new cells) }
+{
+    store.order.reserve(1)?;
+    store.bucket.reserve(1)?;
+    store.cells.reserve(cells)
+}
+
+/// Whether there is room for one more slot with so many cells, and a bucket for each row.
+fn is_roomy(store: &Store, cells: usize) -> bool
+    ensures { IsTrue result → HasRoom store.now cells }
+{
+    store.heads.len() > store.len as usize
+        && store.order.len() < store.order.capacity()
+        && store.bucket.len() < store.bucket.capacity()
+        && cells <= store.cells.capacity() - store.cells.len()
+}
+
+/// Puts in a row behind all others, into a new slot for which there is room.
+#[inline(always)]
+fn put_ready(store: &mut Store, cells: &[u64], code: u64) -> u32
+    requires sound { IsSound store.old }
+    requires wide { length cells.now ≡ store.old.width }
+    requires coded { code ≡ hash cells.now }
+    requires few { length store.old.order.items < 4294967295 }
+    requires room { HasRoom store.old (length cells.now) }
+    ensures { IsPut store.old store.new result cells.now }
+{
+    let slot = fresh(store, cells);
+    link(store, slot, code);
+    slot
+}
+
+/// Puts in a row behind all others, into a new slot, where there may be no room for it yet. Where there is no memory,
+/// all stays as it was. It stands apart, so that a row for which there is room saves no registers.
 #[inline(never)]
-fn put_fresh(store: &mut Store, alloc: Global, cells: &[u64]) -> Result<u32, AllocError>
+fn put_growing(
+    store: &mut Store,
+    alloc: Global,
+    cells: &[u64],
+    code: u64,
+) -> Result<u32, AllocError>
     requires sound { IsSound store.old }
     requires full { length store.old.order.items ≡ store.old.len }
     requires wide { length cells.now ≡ store.old.width }
+    requires coded { code ≡ hash cells.now }
     requires few { store.old.len < 4294967295 }
     ensures put { IfOk result (λ slot. IsPut store.old store.new slot cells.now) }
     ensures refused { OnErr result (IsSame store.old store.new) }
 {
-    make_room(store, alloc)?;
-    let slot = fresh(store, cells)?;
-    link(store, slot, cells);
-    Ok(slot)
+    grow_full(store, alloc)?;
+    reserve(store, cells.len())?;
+    Ok(put_ready(store, cells, code))
+}
+
+/// Puts in a row behind all others, into a new slot, where no slot is free. Where there is no memory, all stays as it
+/// was. It stands apart, so that a row which comes into a free slot saves no registers.
+#[inline(never)]
+fn put_fresh(store: &mut Store, alloc: Global, cells: &[u64], code: u64) -> Result<u32, AllocError>
+    requires sound { IsSound store.old }
+    requires full { length store.old.order.items ≡ store.old.len }
+    requires wide { length cells.now ≡ store.old.width }
+    requires coded { code ≡ hash cells.now }
+    requires few { store.old.len < 4294967295 }
+    ensures put { IfOk result (λ slot. IsPut store.old store.new slot cells.now) }
+    ensures refused { OnErr result (IsSame store.old store.new) }
+{
+    if is_roomy(store, cells.len()) {
+        Ok(put_ready(store, cells, code))
+    } else {
+        put_growing(store, alloc, cells, code)
+    }
 }
 
 /// Puts in a row behind all others: into a free slot, if there is one. Where there is no memory, all stays as it was.
-pub fn put(store: &mut Store, alloc: Global, cells: &[u64]) -> Result<u32, AllocError>
+pub fn put(store: &mut Store, alloc: Global, cells: &[u64], code: u64) -> Result<u32, AllocError>
     requires sound { IsSound store.old }
     requires tidy { IsTidy store.old }
     requires wide { length cells.now ≡ store.old.width }
+    requires coded { code ≡ hash cells.now }
     requires few { store.old.len < 4294967295 }
     ensures put { IfOk result (λ slot. IsPut store.old store.new slot cells.now) }
     ensures reused { IfOk result (λ slot. store.old.spare ≢ 0 → slot < length store.old.order.items) }
@@ -456,10 +543,10 @@ pub fn put(store: &mut Store, alloc: Global, cells: &[u64]) -> Result<u32, Alloc
     match store.free.get() {
         Some(slot) => {
             reuse(store, slot, cells);
-            link(store, slot, cells);
+            link(store, slot, code);
             Ok(slot)
         }
-        None => put_fresh(store, alloc, cells),
+        None => put_fresh(store, alloc, cells, code),
     }
 }
 
@@ -507,10 +594,16 @@ pub fn empty(alloc: Global, width: usize) -> Result<Store, AllocError>
 }
 
 /// Puts in a row behind all others; the rows' account of [`put`].
-pub fn push_row(store: &mut Store, alloc: Global, cells: &[u64]) -> Result<u32, AllocError>
+pub fn push_row(
+    store: &mut Store,
+    alloc: Global,
+    cells: &[u64],
+    code: u64,
+) -> Result<u32, AllocError>
     requires sound { IsSound store.old }
     requires tidy { IsTidy store.old }
     requires wide { length cells.now ≡ store.old.width }
+    requires coded { code ≡ hash cells.now }
     requires few { length (rows_of store.old) < 4294967295 }
     ensures sound { IsSound store.new }
     ensures tidy { IsTidy store.new }
@@ -522,10 +615,7 @@ pub fn push_row(store: &mut Store, alloc: Global, cells: &[u64]) -> Result<u32, 
     ensures full { OnErr result (length (rows_of store.old) ≡ length store.old.order.items) }
     ensures width { store.new.width ≡ store.old.width }
 {
-    match put(store, alloc, cells) {
-        Ok(slot) => Ok(slot),
-        Err(e) => Err(e),
-    }
+    put(store, alloc, cells, code)
 }
 
 /// Takes a row out; the rows' account of [`take`].

@@ -27,6 +27,7 @@ pub mod Hearing
 pub mod Printing
 pub mod Spreading
 pub mod Affecting
+pub mod Unwatched
 pub mod Closing
 pub mod Suiting
 pub mod Suited

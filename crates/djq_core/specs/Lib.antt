@@ -11,3 +11,4 @@ pub mod Telling
 pub mod Stepping
 pub mod Batching
 pub mod Explaining
+pub mod Unwatched

@@ -49,7 +49,9 @@ pub(crate) fn run_next<L: Ledgers>(
     }
 }
 
-// Reads a cursor, and queues its answers and the last line, as long as there is room.
+// Reads a cursor, and queues its answers and the last line, as long as there is room. It is kept apart
+// from the other commands, so that its loop has the registers for itself.
+#[inline(never)]
 fn list_answers<L: Ledgers>(
     engine: &mut Store,
     session: &mut Session<CursorId, Name>,

@@ -16,6 +16,7 @@ ghost use Rattle.djq_core.specs.Telling.{
   TellsQuery,
   WatchesOn,
 };
+ghost use Rattle.djq_core.specs.Unwatched.{AffectsUnwatched};
 
 use crate::change::Outcome;
 use crate::ending::{cut_off, end_by};
@@ -121,7 +122,22 @@ fn tell_query(
     next
 }
 
-// The deltas of the queries that a change affected are told, in order of registration.
+// Whether a session watches one of the queries that a change affected.
+fn some_watched(engine: &Store) -> bool
+    requires { All (IsRegistered engine.now) engine.now.affected }
+    ensures { result ≡ false → AffectsUnwatched engine.now }
+{
+    for nth in 0..engine.affected_count() {
+        if engine.watchers(engine.affected(nth)) > 0 {
+            return true;
+        }
+    }
+    false
+}
+
+// The deltas of the queries that a change affected are told, in order of registration. It stands apart
+// from the way of a change that nobody watches.
+#[inline(never)]
 fn tell_affected(engine: &mut Store, sessions: &mut Vec<OpenSession>, text: &mut BytesMut)
     requires sound { IsSound engine.old sessions.old.items }
     requires registered { All (IsRegistered engine.old) engine.old.affected }
@@ -132,6 +148,18 @@ fn tell_affected(engine: &mut Store, sessions: &mut Vec<OpenSession>, text: &mut
     for nth in 0..engine.affected_count() {
         let id = engine.affected(nth);
         near = tell_query(engine, sessions, id, near, text);
+    }
+}
+
+// So they are, where somebody watches one.
+fn tell_watched(engine: &mut Store, sessions: &mut Vec<OpenSession>, text: &mut BytesMut)
+    requires sound { IsSound engine.old sessions.old.items }
+    requires registered { All (IsRegistered engine.old) engine.old.affected }
+    ensures tells { TellsAffected engine.old sessions.old.items engine.new sessions.new.items }
+    ensures cap { sessions.new.cap ≡ sessions.old.cap }
+{
+    if some_watched(engine) {
+        tell_affected(engine, sessions, text);
     }
 }
 
@@ -175,7 +203,7 @@ pub(crate) fn tell_change(
     ensures cap { sessions.new.cap ≡ sessions.old.cap }
 {
     if is_accepted(outcome) {
-        tell_affected(engine, sessions, text);
+        tell_watched(engine, sessions, text);
     }
     answer_last(engine, &mut sessions[at].session, outcome);
 }

@@ -1,17 +1,18 @@
 -- What the walk meets on its way.
 use Rattle.std.proofs.Common.{◌≡◌, ℕ, zero, suc, ◌<◌, ◌≤◌, Bool, true, false, cond, List, [], ◌∷◌}
-use Rattle.std.proofs.Common.{length, refl, ap, sym, subst, ◌∙◌, arith}
-use Rattle.std.specs.Prelude.{nat_le}
+use Rattle.std.proofs.Common.{length, drop, refl, ap, ap₂, sym, subst, ◌∙◌, ◌+◌, arith}
+use Rattle.std.specs.Prelude.{nat_le, slice_index_or}
+use Rattle.std.proofs.lemmas.List.{drop_more}
 use Rattle.std.proofs.lemmas.Bool.{leb-true}
 use Rattle.djq_tree.specs.declared.node.Node.{Node}
 use Rattle.djq_tree.specs.declared.node.Node.TheVariants.{Leaf, Trim, Meet}
 use Rattle.djq_tree.specs.Counts.{is_trim, IsSmall}
 use Rattle.djq_tree.specs.Tree.{Tree, node_at}
-use Rattle.djq_tree.specs.Levels.{levels_below, level_on}
+use Rattle.djq_tree.specs.Levels.{levels, levels_below, level_on}
 use Rattle.djq_reduct.specs.Reducts.{Reducts, IsReducts}
 use Rattle.djq_cursor.specs.declared.places.Choice.{Choice}
 use Rattle.djq_cursor.specs.Levels.{IsLevel, IsNextLevel, step}
-use Rattle.djq_cursor.specs.Walk.{Menu, chosen, here, reached, Follows, Stands, blank}
+use Rattle.djq_cursor.specs.Walk.{Menu, chosen, here, reached, Follows, Descends, IsComplete, Stands, blank}
 use Rattle.djq_cursor.proofs.Stepping.{step_wide}
 use Rattle.djq_cursor.proofs.Walking.{length_levels}
 
@@ -54,6 +55,74 @@ reached_within r menu n s (c ∷ cs) high f =
     f.3 in
     omega arith
 
+-- the levels that have no choice yet, as the list of all levels tells them
+left_below : (r : Reducts) (menu : Menu) (n : ℕ) (s : List ℕ) (cs : List Choice)
+    → Follows r menu n s cs
+    → drop (length cs) (levels_below r.tree n) ≡ levels_below r.tree (reached n cs)
+left_below r menu n s [] f = refl
+left_below r menu n s (c ∷ cs) f =
+    ap (λ (ks : List ℕ). drop (suc (length cs)) ks) f.0
+    ∙ left_below r menu c.level (step r.tree c.level s (chosen r c)) cs f.3
+
+down_kind : (t : Tree) (n k : ℕ) (m : Node) (ks : List ℕ)
+    → level_on n m (levels_below t n) ≡ k ∷ ks
+    → (levels_below t n ≡ k ∷ ks → levels_below t n ≡ k ∷ levels_below t k)
+    → level_on n m (levels_below t n) ≡ k ∷ levels_below t k
+down_kind t n k (Leaf a) ks h deeper = deeper h
+down_kind t n k (Trim c) ks h deeper =
+    let same : n ≡ k = cc in
+    ap (λ (i : ℕ). i ∷ levels_below t i) same
+down_kind t n k (Meet g s) ks h deeper = deeper h
+
+down_test : (t : Tree) (n k : ℕ) (b : Bool) (ks : List ℕ)
+    → cond b (level_on n (node_at t.nodes n) (levels_below t n)) [] ≡ k ∷ ks
+    → (levels_below t n ≡ k ∷ ks → levels_below t n ≡ k ∷ levels_below t k)
+    → cond b (level_on n (node_at t.nodes n) (levels_below t n)) [] ≡ k ∷ levels_below t k
+down_test t n k true ks h deeper = down_kind t n k (node_at t.nodes n) ks h deeper
+down_test t n k false ks h deeper = absurd cc
+
+next_down : (t : Tree) (n k : ℕ) (ks : List ℕ) → levels_below t n ≡ k ∷ ks → IsNextLevel t n k
+next_down t zero k ks h = absurd cc
+next_down t (suc n) k ks h = down_test t n k (nat_le t.second_stage n) ks h
+    (λ deeper. next_down t n k ks deeper)
+
+-- the first of them is the next level
+pub next_listed : (r : Reducts) (menu : Menu) (cs : List Choice) (ls : List ℕ) (at : ℕ)
+    → Descends r menu cs → ls ≡ levels r.tree → at ≡ length cs → at < length ls
+    → IsNextLevel r.tree (reached (length r.tree.nodes) cs) (slice_index_or ls at 0)
+next_listed r menu cs ls at f all is low =
+    next_down r.tree (reached (length r.tree.nodes) cs) (slice_index_or ls at 0) (drop (at + 1) ls)
+    (sym (left_below r menu (length r.tree.nodes) (blank r.tree) cs f)
+    ∙ ap₂ (λ (i : ℕ) (ks : List ℕ). drop i ks) (sym is) (sym all)
+    ∙ drop_more ls at 0 low)
+
+pub level_listed : (r : Reducts) (menu : Menu) (cs : List Choice) (ls : List ℕ) (at : ℕ)
+    → Descends r menu cs → ls ≡ levels r.tree → at ≡ length cs → at < length ls
+    → IsLevel r.tree (slice_index_or ls at 0)
+level_listed r menu cs ls at f all is low =
+    (next_is r.tree (reached (length r.tree.nodes) cs) (slice_index_or ls at 0)
+    (levels_below r.tree (slice_index_or ls at 0))
+    (reached_within r menu (length r.tree.nodes) (blank r.tree) cs (omega arith) f)
+    (next_listed r menu cs ls at f all is low)).1
+
+no_more : (ks : List ℕ) → length ks ≡ 0 → ks ≡ []
+no_more [] none = refl
+no_more (k ∷ ks) none = absurd cc
+
+-- where each level has a choice, none is left
+pub all_chosen : (r : Reducts) (menu : Menu) (cs : List Choice) → Descends r menu cs
+    → length (levels r.tree) ≤ length cs → IsComplete r cs
+all_chosen r menu cs f many =
+    let l = length_levels r menu (length r.tree.nodes) (blank r.tree) cs f in
+    no_more (levels_below r.tree (reached (length r.tree.nodes) cs)) (omega arith)
+
+-- and no level has two
+pub few_chosen : (r : Reducts) (menu : Menu) (cs : List Choice) → Descends r menu cs
+    → length cs ≤ length (levels r.tree)
+few_chosen r menu cs f =
+    let l = length_levels r menu (length r.tree.nodes) (blank r.tree) cs f in
+    omega arith
+
 pub here_wide : (r : Reducts) (s : List ℕ) (cs : List Choice) → length (here r s cs) ≡ length s
 here_wide r s [] = refl
 here_wide r s (c ∷ cs) = here_wide r (step r.tree c.level s (chosen r c)) cs
@@ -76,15 +145,5 @@ room_for r menu n k cs a h small st is next =
 
 -- ---- the same in the words of the code, which reads a tree of its own
 
-pub next_in : (t u : Tree) (n k : ℕ) → u ≡ t → IsNextLevel u n k → IsNextLevel t n k
-next_in t u n k e h = subst (λ (v : Tree). IsNextLevel v n k) e h
-
-pub level_in : (t u : Tree) (k : ℕ) → u ≡ t → IsLevel u k → IsLevel t k
-level_in t u k e h = subst (λ (v : Tree). IsLevel v k) e h
-
 pub small_in : (t u : Tree) → u ≡ t → IsSmall u → IsSmall t
 small_in t u e h = subst IsSmall e h
-
-pub next_count : (t : Tree) (n k : ℕ) → IsNextLevel t n k
-    → length (levels_below t n) ≡ suc (length (levels_below t k))
-next_count t n k h = ap (λ (ks : List ℕ). length ks) h

@@ -1,53 +1,13 @@
-ghost use Rattle.std.specs.Prelude.{◌≡◌, ◌<◌, ◌≤◌, true, [], length, IfSome, IfNone};
+ghost use Rattle.std.specs.Prelude.{◌≡◌, ◌<◌, true, length};
 ghost use Rattle.djq_index.specs.Table.{AreColumns};
-ghost use Rattle.djq_tree.specs.Counts.{is_trim};
-ghost use Rattle.djq_tree.specs.Levels.{levels_below};
 ghost use Rattle.djq_tree.specs.Tree.{is_out};
 ghost use Rattle.djq_reduct.specs.Answers.{on_node};
-ghost use Rattle.djq_cursor.specs.Levels.{IsLevel, IsNextLevel, child_of, put, source, step};
+ghost use Rattle.djq_cursor.specs.Levels.{IsLevel, put, source, step};
 ghost use Rattle.djq_cursor.specs.Walk.{IsAlive, chosen};
 
 use crate::places::Choice;
 use djq_reduct::{Answer, Cells, Reducts};
 use djq_tree::{Node, Tree};
-
-fn is_trim(node: Node) -> bool
-    ensures { result ≡ is_trim node }
-{
-    match node {
-        Node::Trim { .. } => true,
-        _ => false,
-    }
-}
-
-fn child_of(node: Node) -> usize
-    ensures { result ≡ child_of node }
-{
-    match node {
-        Node::Leaf { .. } => 0,
-        Node::Trim { child } => child,
-        Node::Meet { guard, .. } => guard,
-    }
-}
-
-/// The next level below a number; none exactly where there is none.
-pub(crate) fn level_below(tree: &Tree, number: usize) -> Option<usize>
-    requires { number ≤ length tree.now.nodes }
-    ensures lower { IfSome result (λ k. k < number) }
-    ensures next { IfSome result (λ k. IsNextLevel tree.now number k) }
-    ensures level { IfSome result (λ k. IsLevel tree.now k) }
-    ensures none { IfNone result (levels_below tree.now number ≡ []) }
-{
-    let second_stage = tree.second_stage();
-    let mut at = number;
-    while second_stage < at {
-        at -= 1;
-        if is_trim(tree.node(at)) {
-            return Some(at);
-        }
-    }
-    None
-}
 
 /// The node from whose table the tuple of a level is chosen.
 pub fn source(tree: &Tree, level: usize) -> usize
@@ -56,7 +16,10 @@ pub fn source(tree: &Tree, level: usize) -> usize
     ensures within { result < length tree.now.nodes }
 {
     let _nodes = tree.len();
-    child_of(tree.node(level))
+    match tree.node(level) {
+        Node::Trim { child } => child,
+        Node::Leaf { .. } | Node::Meet { .. } => unreachable!(),
+    }
 }
 
 /// Puts the projection of an answer on a node of `out` into cells.
@@ -69,8 +32,27 @@ pub(crate) fn project(reducts: &Reducts, node: usize, answer: &Answer, cells: &m
     cells.take_part(answer.as_slice(), reducts.columns(node));
 }
 
-/// Writes cells at these columns of an answer.
+/// Writes cells at these columns of an answer. They are few, so that one or two cost no loop.
+#[inline(always)]
+#[tactic(auto, using(crate::proofs::Seeking::first_below, crate::proofs::Seeking::second_below))]
 fn write_tuple(columns: &[usize], tuple: &[u64], answer: &mut Answer)
+    requires long { length tuple.now ≡ length columns.now }
+    requires within { AreColumns (length answer.old) columns.now }
+    ensures { answer.new ≡ put columns.now tuple.now answer.old }
+{
+    match columns.len() {
+        1 => answer.set(columns[0], tuple[0]),
+        2 => {
+            answer.set(columns[0], tuple[0]);
+            answer.set(columns[1], tuple[1]);
+        }
+        _ => write_each(columns, tuple, answer),
+    }
+}
+
+/// The same cell by cell.
+#[inline(never)]
+fn write_each(columns: &[usize], tuple: &[u64], answer: &mut Answer)
     requires long { length tuple.now ≡ length columns.now }
     requires within { AreColumns (length answer.old) columns.now }
     ensures { answer.new ≡ put columns.now tuple.now answer.old }

@@ -1,12 +1,17 @@
-ghost use Rattle.std.specs.Prelude.{◌≡◌, ◌+◌, ◌*◌, ◌≤◌, [], ◌∷◌, ◌++◌, length, ℕ, List};
+ghost use Rattle.std.specs.Prelude.{◌≡◌, ◌+◌, ◌*◌, ◌≤◌, [], ◌∷◌, ◌++◌, length, ℕ, List, IfSome, IfNone};
 ghost use Rattle.std.specs.Bool.{OnTrue, OnFalse};
-ghost use Rattle.djq_tree.specs.Levels.{levels, levels_below};
+ghost use Rattle.djq_tree.specs.Labels.{label_at};
+ghost use Rattle.djq_tree.specs.Levels.{levels};
+ghost use Rattle.djq_reduct.specs.Answers.{on_node};
+ghost use Rattle.djq_reduct.specs.Columns.{columns};
+ghost use Rattle.djq_cursor.specs.Levels.{IsLevel};
 ghost use Rattle.djq_cursor.specs.Menus.{AreOnce};
 ghost use Rattle.djq_cursor.specs.Walk.{
   AreGroups,
   FitsBy,
   IsClear,
   IsComplete,
+  IsFirstAt,
   IsOpen,
   Stands,
   ahead_of,
@@ -15,49 +20,116 @@ ghost use Rattle.djq_cursor.specs.Walk.{
   blank,
   given_by,
   made_by,
-  reached,
 };
 
 use crate::choices::Choices;
 use crate::cursor::{Cursor, State};
-use crate::levels::{level_below, project, write_choice};
+use crate::levels::{project, write_choice};
 use crate::places::{Choice, Places};
+use djq_index::Place;
 use djq_reduct::{Answer, Cells, Reducts};
 use djq_steps::Tally;
 use std::sync::ledger::Ledger;
 
-/// Chooses the first tuple at each level below a number.
+/// The cell of an answer that is a level's key, where that has one column.
+fn cell_at(reducts: &Reducts, level: usize, answer: &Answer) -> u64
+    requires level { IsLevel reducts.now.tree level }
+    requires wide { length answer.now ≡ length reducts.now.tree.head }
+    requires one { length (columns reducts.now.tree.head (label_at reducts.now.tree.labels level)) ≡ 1 }
+    ensures { on_node reducts.now.tree level answer.now ≡ result ∷ [] }
+{
+    reducts.laws();
+    answer.as_slice()[reducts.columns(level)[0]]
+}
+
+/// The first tuple to choose at a level below those that an answer has; none exactly where there is
+/// none.
+#[inline(always)]
+fn first_at<C: Choices, L: Ledger>(
+    choices: &C,
+    reducts: &Reducts,
+    level: usize,
+    answer: &Answer,
+    listing: &mut Tally<L>,
+) -> Option<Place>
+    requires level { IsLevel reducts.now.tree level }
+    requires wide { length answer.now ≡ length reducts.now.tree.head }
+    ensures some { IfSome result
+        (λ p. IsFirstAt reducts.now
+        (C.menu choices.now reducts.now level (on_node reducts.now.tree level answer.now))
+        (record { level = level; place = p })) }
+    ensures none { IfNone result
+        (C.menu choices.now reducts.now level (on_node reducts.now.tree level answer.now) ≡ []) }
+    ensures counted { listing.new ≡ listing.old + 1 }
+{
+    reducts.laws();
+    let columns = reducts.columns(level);
+    match columns.len() {
+        0 => choices.first(reducts, level, &[], listing),
+        1 => {
+            let cell = cell_at(reducts, level, answer);
+            choices.first(reducts, level, &[cell], listing)
+        }
+        _ => first_by_cells(choices, reducts, level, answer, listing),
+    }
+}
+
+/// The same by a key that is copied, which one of several columns is.
+#[inline(never)]
+fn first_by_cells<C: Choices, L: Ledger>(
+    choices: &C,
+    reducts: &Reducts,
+    level: usize,
+    answer: &Answer,
+    listing: &mut Tally<L>,
+) -> Option<Place>
+    requires level { IsLevel reducts.now.tree level }
+    requires wide { length answer.now ≡ length reducts.now.tree.head }
+    ensures some { IfSome result
+        (λ p. IsFirstAt reducts.now
+        (C.menu choices.now reducts.now level (on_node reducts.now.tree level answer.now))
+        (record { level = level; place = p })) }
+    ensures none { IfNone result
+        (C.menu choices.now reducts.now level (on_node reducts.now.tree level answer.now) ≡ []) }
+    ensures counted { listing.new ≡ listing.old + 1 }
+{
+    reducts.laws();
+    let mut key = Cells::new(0);
+    project(reducts, level, answer, &mut key);
+    choices.first(reducts, level, key.as_slice(), listing)
+}
+
+/// Chooses the first tuple at each level that has no choice yet. Most often there is none, so that a
+/// call would cost more than what it does.
+#[inline(always)]
 fn fill<C: Choices, L: Ledger>(
     choices: &C,
     reducts: &Reducts,
-    from: usize,
     places: &mut Places,
     answer: &mut Answer,
     listing: &mut Tally<L>,
 )
     requires opened { IsOpen reducts.now.tree (C.menu choices.now reducts.now)
         (levels reducts.now.tree) (blank reducts.now.tree) }
-    requires from { from ≡ reached (length reducts.now.tree.nodes) places.old }
     requires stands { Stands reducts.now (C.menu choices.now reducts.now) places.old answer.old }
     ensures stands { Stands reducts.now (C.menu choices.now reducts.now) places.new answer.new }
     ensures whole { IsComplete reducts.now places.new }
     ensures before { ahead_of reducts.now (C.menu choices.now reducts.now) places.new
         ≡ ahead_of reducts.now (C.menu choices.now reducts.now) places.old }
-    ensures counted { listing.new ≡ listing.old + length (levels_below reducts.now.tree from) }
+    ensures counted { listing.new + length places.old
+        ≡ listing.old + length (levels reducts.now.tree) }
 {
     reducts.laws();
     reducts.tree().is_small();
-    let mut key = Cells::new(0);
-    let mut number = from;
-    while let Some(level) = level_below(reducts.tree(), number) {
-        project(reducts, level, answer, &mut key);
-        let Some(place) = choices.first(reducts, level, key.as_slice(), listing) else {
+    let levels = reducts.levels();
+    for at in places.len()..levels.len() {
+        let level = levels[at];
+        let Some(place) = first_at(choices, reducts, level, answer, listing) else {
             return;
         };
         let choice = Choice { level, place };
         write_choice(reducts, choice, answer);
         places.push(choice);
-        number = level;
     }
 }
 
@@ -97,7 +169,7 @@ fn go_on<C: Choices, L: Ledger>(
             };
             write_choice(reducts, next, answer);
             places.push(next);
-            fill(choices, reducts, next.level, places, answer, listing);
+            fill(choices, reducts, places, answer, listing);
             return true;
         }
     }
@@ -135,7 +207,6 @@ fn begin<C: Choices, L: Ledger>(
     fill(
         choices,
         reducts,
-        reducts.tree().len(),
         &mut cursor.places,
         &mut cursor.answer,
         listing,

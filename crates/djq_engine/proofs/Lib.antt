@@ -15,6 +15,7 @@ pub mod Storing
 pub mod Adding
 pub mod Making
 pub mod Enrolling
+pub mod Idle
 pub mod Telling
 pub mod Lasting
 pub mod Refusing

@@ -13,3 +13,4 @@ pub mod Watching
 pub mod Lending
 pub mod Putting
 pub mod Taking
+pub mod Cursors

@@ -1,13 +1,15 @@
 //! Rows that are added and deleted, and relations that are made.
 ghost use Rattle.std.specs.Prelude.{◌≡◌, ◌<◌, ◌≤◌, [], ◌∷◌, ◌++◌, ⊤, length, vec_capacity};
+ghost use Rattle.std.specs.List.{list_any};
 ghost use Rattle.djq_model.specs.Data.{rows_of, without_row};
 ghost use Rattle.djq_machine.specs.Store.{MakesRelation, AddsRow, DeletesRow};
 ghost use Rattle.djq_machine.specs.Changes.{row_in, row_out, add_outcome, delete_outcome, tried};
 ghost use Rattle.djq_engine.specs.Kept.{IsUnwatched, Outdates, SameCursors, SameTellings};
 ghost use Rattle.djq_engine.specs.Kept.{KeepsPlaces, is_tried};
-ghost use Rattle.djq_reach.specs.Places.{readers_at, AreOnce};
+ghost use Rattle.djq_reach.specs.Places.{place_at, readers_at, AreOnce};
 ghost use Rattle.djq_reach.specs.Reaching.{AllAt};
 ghost use Rattle.djq_engine.specs.Changing.{AgesReaders};
+ghost use Rattle.djq_engine.specs.Cursors.{has_cursor};
 ghost use Rattle.djq_engine.specs.Watching.{TellsChange, CountsUpdates, add_times, delete_times};
 ghost use Rattle.djq_engine.specs.Whole.{kept_in, IsWhole, IsTended};
 
@@ -19,7 +21,7 @@ use djq_dict::InternRefusal;
 use djq_index::Cells;
 use djq_lines::limits::{COLUMNS, RELATIONS};
 use djq_lines::{AddOutcome, DeleteOutcome, Refusal};
-use djq_live::{heads_are_bound, leaves_are_small, live_stays, showable_stays};
+use djq_live::{LiveQuery, heads_are_bound, leaves_are_small, live_stays, showable_stays};
 use djq_model::{Name, Sequence, Types, Value};
 use djq_reach::{age, empty_logs};
 use djq_rows::{RelationId, names_tell, texts_stay};
@@ -39,8 +41,27 @@ fn affect(affected: &mut Vec<usize>, readers: &Vec<Sequence<usize>>, id: Relatio
     }
 }
 
-// The open cursors over a relation become stale, by a change of the present number.
-fn age_readers(parts: &mut Parts, id: RelationId, name: &Name)
+// Whether a cursor is over the query in a place, stale or not.
+fn has_cursor(queries: &[Option<LiveQuery>], place: usize) -> bool
+    ensures { result ≡ has_cursor (place_at queries.now place) }
+{
+    match queries.get(place) {
+        Some(Some(query)) => !query.is_idle(),
+        _ => false,
+    }
+}
+
+// Whether one is over a query in these places.
+fn some_cursor(queries: &[Option<LiveQuery>], places: &[usize]) -> bool
+    ensures { result ≡ list_any (λ i. has_cursor (place_at queries.now i)) places.now }
+{
+    places.iter().any(|place| has_cursor(queries, *place))
+}
+
+// The open cursors over a relation become stale, by a change of the present number. Its name is copied
+// here alone.
+#[inline(never)]
+fn age_open(parts: &mut Parts, id: RelationId, name: &Name)
     requires within { id.at < length parts.old.readers.items }
     requires once { AreOnce (readers_at parts.old.readers.items id.at) }
     requires there { AllAt (readers_at parts.old.readers.items id.at) parts.old.queries.items
@@ -49,6 +70,19 @@ fn age_readers(parts: &mut Parts, id: RelationId, name: &Name)
 {
     let places = parts.readers[id.at].as_slice();
     age(&mut parts.queries, places, *name, parts.seq);
+}
+
+// They do, where there is one.
+fn age_readers(parts: &mut Parts, id: RelationId, name: &Name)
+    requires within { id.at < length parts.old.readers.items }
+    requires once { AreOnce (readers_at parts.old.readers.items id.at) }
+    requires there { AllAt (readers_at parts.old.readers.items id.at) parts.old.queries.items
+        (λ l. ⊤) }
+    ensures { AgesReaders id.at name.now parts.old parts.new }
+{
+    if some_cursor(parts.queries.as_slice(), parts.readers[id.at].as_slice()) {
+        age_open(parts, id, name);
+    }
 }
 
 /// Adds a row to a relation, or a further copy of it where it is there.

@@ -14,6 +14,13 @@ unfolding pick
 length_pick [] u = refl
 length_pick (c ∷ cs) u = ap suc (length_pick cs u)
 
+pub pick_one : (columns u : List ℕ) → length columns ≡ 1 → pick columns u
+    ≡ slice_index_or u (slice_index_or columns 0 0) 0 ∷ []
+unfolding pick
+pick_one [] u h = absurd (omega (arith, h))
+pick_one (c ∷ []) u h = refl
+pick_one (c ∷ d ∷ cs) u h = absurd (omega (arith, h))
+
 take_suc : (xs : List ℕ) (i : ℕ) → i < length xs → take (suc i) xs ≡ take i xs ++ slice_index_or xs i 0 ∷ []
 take_suc [] i h = absurd (omega (arith, h))
 take_suc (x ∷ xs) zero h = refl

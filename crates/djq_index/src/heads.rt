@@ -1,6 +1,6 @@
-ghost use Rattle.std.specs.Prelude.{◌≡◌, ◌≢◌, ℕ, ◌+◌, ◌<◌, ◌≤◌, List, [], ◌∷◌, ◌++◌, length, slice_set, slice_index, vec_capacity, IfOk, OnErr, Some, None};
+ghost use Rattle.std.specs.Prelude.{◌≡◌, ◌≢◌, ℕ, ◌+◌, ◌<◌, ◌≤◌, List, [], ◌∷◌, ◌++◌, length, slice_set, slice_index, vec_len, vec_capacity, IfOk, OnErr, Some, None};
 ghost use Rattle.djq_arena.specs.Chains.{pair_at, entered, left, IsWithin};
-ghost use Rattle.djq_arena.specs.Store.{extended, shrunk};
+ghost use Rattle.djq_arena.specs.Store.{extended, hash, shrunk};
 ghost use Rattle.djq_arena.specs.Rows.{Row, AreRows, IsHeld, IsFull};
 ghost use Rattle.djq_index.specs.Tuple.{pick};
 ghost use Rattle.djq_index.specs.Table.{AreColumns};
@@ -65,7 +65,7 @@ pub fn prune(keys: &mut Arena, ends: &Vec<Ends>, head: u32)
 }
 
 /// One cell of a tuple.
-fn cell_at(tuple: &[u64], column: usize) -> u64
+pub fn cell_at(tuple: &[u64], column: usize) -> u64
     requires { column < length tuple.now }
     ensures { result ≡ slice_index tuple.now column }
 {
@@ -96,10 +96,25 @@ pub fn project(cells: &mut Vec<u64>, key: &[usize], tuple: &[u64]) -> Result<(),
     Ok(())
 }
 
-/// A new head, of an empty group.
-pub fn found(keys: &mut Arena, ends: &mut Vec<Ends>, cells: &[u64]) -> Result<u32, AllocError>
+/// Room for the ends of one more group. It stands apart, so that a head for which there is room saves fewer registers.
+#[inline(never)]
+fn grow_ends(ends: &mut Vec<Ends>) -> Result<(), AllocError>
+    ensures room { IfOk result (λ _. vec_len ends.new < vec_capacity ends.new) }
+    ensures same { ends.new.items ≡ ends.old.items }
+{
+    ends.reserve(1)
+}
+
+/// A new head, of an empty group, with these cells of this hash.
+pub fn found(
+    keys: &mut Arena,
+    ends: &mut Vec<Ends>,
+    cells: &[u64],
+    code: u64,
+) -> Result<u32, AllocError>
     requires rows { AreRows keys.old }
     requires wide { length cells.now ≡ keys.old.width }
+    requires coded { code ≡ hash cells.now }
     requires few { length keys.old.rows < 4294967295 }
     requires ends { keys.old.room ≤ length ends.old.items }
     ensures rows { AreRows keys.new }
@@ -112,10 +127,10 @@ pub fn found(keys: &mut Arena, ends: &mut Vec<Ends>, cells: &[u64]) -> Result<u3
     ensures others { IfOk result (λ head. (k : ℕ) → k ≢ head → ends_at ends.new.items k ≡ ends_at ends.old.items k) }
     ensures full { OnErr result (IsFull keys.old) }
 {
-    if keys.is_full() {
-        ends.reserve(1)?;
+    if keys.is_full() && ends.len() == ends.capacity() {
+        grow_ends(ends)?;
     }
-    let head = keys.push(cells)?;
+    let head = keys.push_hashed(cells, code)?;
     keys.laws();
     if head as usize >= ends.len() {
         ends.push_reserved(none());

@@ -8,10 +8,10 @@ ghost use Rattle.djq_index.specs.Changes.{InsertedAs, Removed, Touched, Supporte
 ghost use Rattle.djq_index.specs.Raw.{IsRaw, IsBare, AreHeads, IsNoted, IsMarked, entries_of, slots_at, place_of, note_at, ends_at, IsSeat, IsSettled, passed, entries_in, AreTrailing, without_mark, HasNoRoom, HasNoRoomForHead};
 ghost use Rattle.djq_arena.specs.Store.{ends_of, beside};
 
-use crate::heads::{found, join, part, project, prune};
+use crate::heads::{cell_at, found, join, part, project, prune};
 use crate::kind::{Kind, kind_of};
 use crate::place::Place;
-use djq_arena::{Arena, Ends, Link, Pair};
+use djq_arena::{Arena, Ends, Link, Pair, hash_of};
 use djq_steps::Tally;
 use std::alloc::{AllocError, Global};
 use std::sync::ledger::Ledger;
@@ -150,8 +150,69 @@ fn cover_links(links: &mut Vec<Pair>, slot: u32)
     }
 }
 
-/// Lays a tuple into a slot, behind all others. Where there is no memory, the rows stay as they
-/// were.
+/// Room for the neighbours of one more slot. It stands apart, so that a tuple for which there is room saves fewer
+/// registers.
+#[inline(never)]
+fn grow_links(links: &mut Vec<Pair>) -> Result<(), AllocError>
+    ensures room { IfOk result (λ _. vec_len links.new < vec_capacity links.new) }
+    ensures same { links.new.items ≡ links.old.items }
+{
+    links.reserve(1)
+}
+
+/// Lays a tuple into a slot, behind all others. A new slot finds room for its note. Where there is no memory, the rows
+/// stay as they were.
+#[inline(always)]
+fn lay_ready(rows: &mut Arena, notes: &mut Vec<Note>, tuple: &[u64]) -> Result<u32, AllocError>
+    requires rows { AreRows rows.old }
+    requires wide { length tuple.now ≡ rows.old.width }
+    requires few { length rows.old.rows < 4294967295 }
+    requires notes { rows.old.room ≤ length notes.old.items }
+    requires room { IsFull rows.old → vec_len notes.old < vec_capacity notes.old }
+    ensures rows { AreRows rows.new }
+    ensures width { rows.new.width ≡ rows.old.width }
+    ensures notes { rows.new.room ≤ length notes.new.items }
+    ensures room { IfOk result (λ slot. rows.new.room ≡ max rows.old.room (slot + 1)) }
+    ensures slot { IfOk result (λ slot. slot ≤ rows.old.room) }
+    ensures kept { OnErr result (rows.new.room ≡ rows.old.room) }
+    ensures refused { OnErr result (rows.new.rows ≡ rows.old.rows) }
+    ensures laid { IfOk result (λ slot. rows.new.rows ≡ rows.old.rows ++ record { slot = slot; cells = tuple.now } ∷ []) }
+    ensures same_notes { (k : ℕ) → note_at notes.new.items k ≡ note_at notes.old.items k }
+    ensures reused { IfOk result (λ slot. ¬ IsFull rows.old → slot < rows.old.room) }
+    ensures full { OnErr result (IsFull rows.old) }
+{
+    let slot = rows.push(tuple)?;
+    rows.laws();
+    cover_notes(notes, slot);
+    Ok(slot)
+}
+
+/// The same where a new slot may find no room for its note. It stands apart, so that a tuple for which there is room
+/// saves fewer registers.
+#[inline(never)]
+fn lay_growing(rows: &mut Arena, notes: &mut Vec<Note>, tuple: &[u64]) -> Result<u32, AllocError>
+    requires full { IsFull rows.old }
+    requires rows { AreRows rows.old }
+    requires wide { length tuple.now ≡ rows.old.width }
+    requires few { length rows.old.rows < 4294967295 }
+    requires notes { rows.old.room ≤ length notes.old.items }
+    ensures rows { AreRows rows.new }
+    ensures width { rows.new.width ≡ rows.old.width }
+    ensures notes { rows.new.room ≤ length notes.new.items }
+    ensures room { IfOk result (λ slot. rows.new.room ≡ max rows.old.room (slot + 1)) }
+    ensures slot { IfOk result (λ slot. slot ≤ rows.old.room) }
+    ensures kept { OnErr result (rows.new.room ≡ rows.old.room) }
+    ensures refused { OnErr result (rows.new.rows ≡ rows.old.rows) }
+    ensures laid { IfOk result (λ slot. rows.new.rows ≡ rows.old.rows ++ record { slot = slot; cells = tuple.now } ∷ []) }
+    ensures same_notes { (k : ℕ) → note_at notes.new.items k ≡ note_at notes.old.items k }
+    ensures reused { IfOk result (λ slot. ¬ IsFull rows.old → slot < rows.old.room) }
+    ensures full { OnErr result (IsFull rows.old) }
+{
+    notes.reserve(1)?;
+    lay_ready(rows, notes, tuple)
+}
+
+/// Lays a tuple into a slot, behind all others. Where there is no memory, the rows stay as they were.
 fn lay(rows: &mut Arena, notes: &mut Vec<Note>, tuple: &[u64]) -> Result<u32, AllocError>
     requires rows { AreRows rows.old }
     requires wide { length tuple.now ≡ rows.old.width }
@@ -169,13 +230,11 @@ fn lay(rows: &mut Arena, notes: &mut Vec<Note>, tuple: &[u64]) -> Result<u32, Al
     ensures reused { IfOk result (λ slot. ¬ IsFull rows.old → slot < rows.old.room) }
     ensures full { OnErr result (IsFull rows.old) }
 {
-    if rows.is_full() {
-        notes.reserve(1)?;
+    if rows.is_full() && notes.len() == notes.capacity() {
+        lay_growing(rows, notes, tuple)
+    } else {
+        lay_ready(rows, notes, tuple)
     }
-    let slot = rows.push(tuple)?;
-    rows.laws();
-    cover_notes(notes, slot);
-    Ok(slot)
 }
 
 /// Lays a tuple into a slot that has neighbours.
@@ -201,12 +260,59 @@ fn lay_linked(
     ensures longer { length links.old.items ≤ length links.new.items }
     ensures full { OnErr result (IsFull rows.old) }
 {
-    if rows.is_full() {
-        links.reserve(1)?;
+    if rows.is_full() && links.len() == links.capacity() {
+        grow_links(links)?;
     }
     let slot = lay(rows, notes, tuple)?;
     cover_links(links, slot);
     Ok(slot)
+}
+
+/// The head of the group with these cells, which is made where there is none.
+fn head_of(keys: &mut Arena, ends: &mut Vec<Ends>, cells: &[u64]) -> Result<u32, AllocError>
+    requires rows { AreRows keys.old }
+    requires width { keys.old.width ≡ length cells.now }
+    requires few { length keys.old.rows < 4294967295 }
+    requires ends { keys.old.room ≤ length ends.old.items }
+    ensures rows { AreRows keys.new }
+    ensures width { keys.new.width ≡ keys.old.width }
+    ensures ends { keys.new.room ≤ length ends.new.items }
+    ensures seated { IfOk result (λ head. IsSeat keys.old.rows keys.new.rows ends.old.items ends.new.items head cells.now) }
+    ensures refused { OnErr result (keys.new.rows ≡ keys.old.rows) }
+    ensures refused_ends { OnErr result ((k : ℕ) → ends_at ends.new.items k ≡ ends_at ends.old.items k) }
+    ensures full { OnErr result (IsFull keys.old) }
+{
+    let code = hash_of(cells);
+    match keys.find_hashed(cells, code) {
+        Some(head) => Ok(head),
+        None => found(keys, ends, cells, code),
+    }
+}
+
+/// The head of a tuple's group, by a key of any columns. It stands apart: most keys have one column.
+#[inline(never)]
+fn seat_wide(
+    keys: &mut Arena,
+    ends: &mut Vec<Ends>,
+    cells: &mut Vec<u64>,
+    key: &[usize],
+    tuple: &[u64],
+) -> Result<u32, AllocError>
+    requires rows { AreRows keys.old }
+    requires width { keys.old.width ≡ length key.now }
+    requires few { length keys.old.rows < 4294967295 }
+    requires ends { keys.old.room ≤ length ends.old.items }
+    requires columns { AreColumns (length tuple.now) key.now }
+    ensures rows { AreRows keys.new }
+    ensures width { keys.new.width ≡ keys.old.width }
+    ensures ends { keys.new.room ≤ length ends.new.items }
+    ensures seated { IfOk result (λ head. IsSeat keys.old.rows keys.new.rows ends.old.items ends.new.items head (pick key.now tuple.now)) }
+    ensures refused { OnErr result (keys.new.rows ≡ keys.old.rows) }
+    ensures refused_ends { OnErr result ((k : ℕ) → ends_at ends.new.items k ≡ ends_at ends.old.items k) }
+    ensures full { OnErr result (IsFull keys.old ⊎ vec_capacity cells.old < length key.now) }
+{
+    project(cells, key, tuple)?;
+    head_of(keys, ends, cells.as_slice())
 }
 
 /// The head of a tuple's group, which is made where there is none.
@@ -230,10 +336,9 @@ fn seat(
     ensures refused_ends { OnErr result ((k : ℕ) → ends_at ends.new.items k ≡ ends_at ends.old.items k) }
     ensures full { OnErr result (IsFull keys.old ⊎ vec_capacity cells.old < length key.now) }
 {
-    project(cells, key, tuple)?;
-    match keys.find(cells.as_slice()) {
-        Some(head) => Ok(head),
-        None => found(keys, ends, cells.as_slice()),
+    match key {
+        [column] => head_of(keys, ends, &[cell_at(tuple, *column)]),
+        _ => seat_wide(keys, ends, cells, key, tuple),
     }
 }
 

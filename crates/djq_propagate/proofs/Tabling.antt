@@ -1,5 +1,7 @@
 -- One table changes among many.
 use Rattle.std.proofs.Common.{◌≡◌, ◌≢◌, ℕ, ◌+◌, ◌<◌, Bool, List, [], ◌∷◌, length, ap, subst, sym, ◌∙◌, arith, inl, inr}
+use Rattle.std.proofs.Common.{refl, slice_index}
+use Rattle.djq_index.specs.Tuple.{pick}
 use Rattle.std.specs.Prelude.{slice_index_or, slice_set}
 use Rattle.std.proofs.lemmas.Bool.{cases_eq}
 use Rattle.std.specs.Prelude.{◌++◌}
@@ -194,3 +196,23 @@ pub wide_family : (t : Tree) (ts : List Table) (k : ℕ) (p : Place) (u : List �
     → IsAt (entries_at ts k) p u → length u ≡ width_at ts k
 unfolding entries_at width_at
 wide_family t ts k p u f a = wide_at (table_at ts k).width (table_at ts k).entries p u (f.sound k).wide a
+
+-- the part of a tuple at one column
+pub part_one : (key : List ℕ) (c : ℕ) (u : List ℕ) → key ≡ c ∷ [] → slice_index u c ∷ [] ≡ pick key u
+unfolding pick
+part_one key c u is = rw is refl
+
+-- a list of one number
+pub only_one : (ks : List ℕ) → length ks ≡ 1 → ks ≡ slice_index_or ks 0 0 ∷ []
+only_one [] h = absurd (omega (arith, h))
+only_one (k ∷ []) h = refl
+only_one (k ∷ j ∷ ks) h = absurd (omega (arith, h))
+
+-- the part of a tuple at no column
+pub part_none : (key : List ℕ) (u : List ℕ) → key ≡ [] → [] ≡ pick key u
+unfolding pick
+part_none key u is = rw is refl
+
+pub is_none : (ks : List ℕ) → length ks ≡ 0 → ks ≡ []
+is_none [] h = refl
+is_none (k ∷ ks) h = absurd (omega (arith, h))

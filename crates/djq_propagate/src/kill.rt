@@ -2,6 +2,7 @@
 
 ghost use Rattle.std.specs.Prelude.{◌≡◌, ◌+◌, ◌*◌, ◌<◌, ◌≤◌, length, take};
 ghost use Rattle.djq_index.specs.Entries.{cnt, grp};
+ghost use Rattle.djq_index.specs.Tuple.{pick};
 ghost use Rattle.djq_index.specs.Table.{IsAt};
 ghost use Rattle.djq_tree.specs.declared.node.Node.TheVariants.{Trim, Meet};
 ghost use Rattle.djq_reduct.specs.Tables.{entries_at, key_at, width_at};
@@ -9,7 +10,8 @@ ghost use Rattle.djq_propagate.specs.Sizes.{size};
 ghost use Rattle.djq_propagate.specs.Walks.{Ready, Died, Losing, Righted, Fewer, IsUnder, IsEmptied, IsFull};
 
 use crate::tables::{
-    find_at, first_at, is_shared_at, len_at, lower_at, next_at, part_of, read_at, remove_at,
+    column_of, find_at, first_at, has_no_column, is_shared_at, len_at, lower_at, next_at, part_of,
+    read_at, remove_at,
 };
 use djq_index::{Place, Table};
 use djq_reduct::Cells;
@@ -69,7 +71,8 @@ fn fall<L: Ledger>(
     }
 }
 
-/// From a trim a tuple takes a support of its projection, and the last one with it.
+/// From a trim a tuple takes a support of its projection, and the last one with it. Most projections have one cell
+/// or none, and need no room.
 #[cycle(kill)]
 fn fall_trim<L: Ledger>(
     tree: &Tree,
@@ -86,9 +89,61 @@ fn fall_trim<L: Ledger>(
     ensures fewer { Fewer tables.old.items tables.new.items }
     ensures counted { tally.new + 5 * size tables.new.items ≤ tally.old + 2 + 5 * size tables.old.items }
 {
+    match column_of(tables, at) {
+        Some(column) => fall_part(tree, tables, at, up, tuple, &[tuple[column]], tally),
+        None => {
+            if has_no_column(tables, at) {
+                fall_part(tree, tables, at, up, tuple, &[], tally);
+            } else {
+                fall_wide(tree, tables, at, up, tuple, tally);
+            }
+        }
+    }
+}
+
+/// The same for a projection to any columns.
+#[cycle(kill)]
+#[inline(never)]
+fn fall_wide<L: Ledger>(
+    tree: &Tree,
+    tables: &mut Vec<Table>,
+    at: usize,
+    up: usize,
+    tuple: &[u64],
+    tally: &mut Tally<L>,
+)
+    requires losing { Losing tree.now tables.old.items at tuple.now }
+    requires wide { length tuple.now ≡ width_at tables.old.items at }
+    requires under { IsUnder tree.now up (Trim at) at }
+    ensures righted { Righted tree.now tables.old.items tables.new.items at }
+    ensures fewer { Fewer tables.old.items tables.new.items }
+    ensures counted { tally.new + 5 * size tables.new.items ≤ tally.old + 2 + 5 * size tables.old.items }
+{
     let mut part = Cells::new(0);
     part_of(tables, at, tuple, &mut part);
-    let cells = part.as_slice();
+    fall_part(tree, tables, at, up, tuple, part.as_slice(), tally);
+}
+
+/// The same for a tuple whose projection is known.
+#[cycle(kill)]
+#[inline(always)]
+fn fall_part<L: Ledger>(
+    tree: &Tree,
+    tables: &mut Vec<Table>,
+    at: usize,
+    up: usize,
+    tuple: &[u64],
+    cells: &[u64],
+    tally: &mut Tally<L>,
+)
+    requires losing { Losing tree.now tables.old.items at tuple.now }
+    requires wide { length tuple.now ≡ width_at tables.old.items at }
+    requires under { IsUnder tree.now up (Trim at) at }
+    requires part { cells.now ≡ pick (key_at tables.old.items at) tuple.now }
+    ensures righted { Righted tree.now tables.old.items tables.new.items at }
+    ensures fewer { Fewer tables.old.items tables.new.items }
+    ensures counted { tally.new + 5 * size tables.new.items ≤ tally.old + 2 + 5 * size tables.old.items }
+{
     match find_at(tables, up, cells, tally) {
         Some(place) => {
             if is_shared_at(tables, up, place) {

@@ -2,6 +2,7 @@
 
 ghost use Rattle.std.specs.Prelude.{◌≡◌, ℕ, ◌+◌, ◌-◌, ◌*◌, ◌<◌, ◌≤◌, false, length, IfOk, OnErr};
 ghost use Rattle.djq_index.specs.Entries.{cnt};
+ghost use Rattle.djq_index.specs.Tuple.{pick};
 ghost use Rattle.djq_tree.specs.declared.node.Node.TheVariants.{Trim, Meet};
 ghost use Rattle.djq_tree.specs.Flat.{HasEqualMeets};
 ghost use Rattle.djq_reduct.specs.Tables.{entries_at, key_at, width_at};
@@ -11,8 +12,8 @@ ghost use Rattle.djq_propagate.specs.Walks.{Ready, Lived, Refused, Gaining, Righ
 
 use crate::kill::empty_group;
 use crate::tables::{
-    find_at, first_at, insert_at, is_small_at, len_at, next_at, part_of, raise_at, read_at,
-    remove_at,
+    column_of, find_at, find_part, first_at, has_no_column, insert_at, is_small_at, len_at,
+    next_at, part_of, raise_at, read_at, remove_at,
 };
 use djq_index::Table;
 use djq_reduct::Cells;
@@ -90,7 +91,8 @@ fn rise<L: Ledger>(
     }
 }
 
-/// To a trim a tuple brings its projection, or one support more of it.
+/// To a trim a tuple brings its projection, or one support more of it. Most projections have one cell or none,
+/// and need no room.
 #[cycle(live)]
 fn rise_trim<L: Ledger>(
     tree: &Tree,
@@ -112,10 +114,72 @@ fn rise_trim<L: Ledger>(
     ensures bounded { OnErr result ((n : ℕ) → AreAtMost tables.old.items n → tally.new + 9 * size tables.old.items ≤ tally.old + 7 + 9 * (n * length tree.now.nodes)) }
     ensures flat { OnErr result (HasEqualMeets tree.now → tally.new + 2 ≤ tally.old + 5 * (length tree.now.nodes - at)) }
 {
-    is_small_at(tables, at);
+    match column_of(tables, at) {
+        Some(column) => { rise_part(tree, tables, at, up, tuple, &[tuple[column]], marked, tally) }
+        None => {
+            if has_no_column(tables, at) {
+                rise_part(tree, tables, at, up, tuple, &[], marked, tally)
+            } else {
+                rise_wide(tree, tables, at, up, tuple, marked, tally)
+            }
+        }
+    }
+}
+
+/// The same for a projection to any columns.
+#[cycle(live)]
+#[inline(never)]
+fn rise_wide<L: Ledger>(
+    tree: &Tree,
+    tables: &mut Vec<Table>,
+    at: usize,
+    up: usize,
+    tuple: &[u64],
+    marked: bool,
+    tally: &mut Tally<L>,
+) -> Result<(), AllocError>
+    requires gaining { Gaining tree.now tables.old.items at tuple.now }
+    requires wide { length tuple.now ≡ width_at tables.old.items at }
+    requires under { IsUnder tree.now up (Trim at) at }
+    requires bare { marked ≡ false → IsBare tables.old.items }
+    ensures ok { IfOk result (λ _. Righted tree.now tables.old.items tables.new.items at) }
+    ensures refused { OnErr result (Stayed tree.now tables.old.items tables.new.items at) }
+    ensures plain { CameAs marked tables.old.items tables.new.items }
+    ensures counted { IfOk result (λ _. tally.new + 4 * size tables.old.items ≤ tally.old + 2 + 4 * size tables.new.items) }
+    ensures bounded { OnErr result ((n : ℕ) → AreAtMost tables.old.items n → tally.new + 9 * size tables.old.items ≤ tally.old + 7 + 9 * (n * length tree.now.nodes)) }
+    ensures flat { OnErr result (HasEqualMeets tree.now → tally.new + 2 ≤ tally.old + 5 * (length tree.now.nodes - at)) }
+{
     let mut part = Cells::new(0);
     part_of(tables, at, tuple, &mut part);
-    let cells = part.as_slice();
+    rise_part(tree, tables, at, up, tuple, part.as_slice(), marked, tally)
+}
+
+/// The same for a tuple whose projection is known.
+#[cycle(live)]
+#[inline(always)]
+fn rise_part<L: Ledger>(
+    tree: &Tree,
+    tables: &mut Vec<Table>,
+    at: usize,
+    up: usize,
+    tuple: &[u64],
+    cells: &[u64],
+    marked: bool,
+    tally: &mut Tally<L>,
+) -> Result<(), AllocError>
+    requires gaining { Gaining tree.now tables.old.items at tuple.now }
+    requires wide { length tuple.now ≡ width_at tables.old.items at }
+    requires under { IsUnder tree.now up (Trim at) at }
+    requires part { cells.now ≡ pick (key_at tables.old.items at) tuple.now }
+    requires bare { marked ≡ false → IsBare tables.old.items }
+    ensures ok { IfOk result (λ _. Righted tree.now tables.old.items tables.new.items at) }
+    ensures refused { OnErr result (Stayed tree.now tables.old.items tables.new.items at) }
+    ensures plain { CameAs marked tables.old.items tables.new.items }
+    ensures counted { IfOk result (λ _. tally.new + 4 * size tables.old.items ≤ tally.old + 2 + 4 * size tables.new.items) }
+    ensures bounded { OnErr result ((n : ℕ) → AreAtMost tables.old.items n → tally.new + 9 * size tables.old.items ≤ tally.old + 7 + 9 * (n * length tree.now.nodes)) }
+    ensures flat { OnErr result (HasEqualMeets tree.now → tally.new + 2 ≤ tally.old + 5 * (length tree.now.nodes - at)) }
+{
+    is_small_at(tables, at);
     match find_at(tables, up, cells, tally) {
         Some(place) => {
             raise_at(tables, up, place, tally);
@@ -149,9 +213,7 @@ fn rise_guard<L: Ledger>(
     ensures flat { OnErr result (HasEqualMeets tree.now → tally.new + 2 ≤ tally.old + 5 * (length tree.now.nodes - at)) }
 {
     is_small_at(tables, at);
-    let mut part = Cells::new(0);
-    part_of(tables, at, tuple, &mut part);
-    match find_at(tables, side, part.as_slice(), tally) {
+    match find_part(tables, at, side, tuple, tally) {
         Some(_place) => live(tree, tables, up, tuple, marked, tally),
         None => Ok(()),
     }

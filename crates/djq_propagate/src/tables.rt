@@ -1,6 +1,6 @@
 //! Calls on the table of one node, among the tables of all.
 
-ghost use Rattle.std.specs.Prelude.{◌≡◌, ℕ, ◌+◌, ◌-◌, ◌<◌, ◌≤◌, false, List, [], ◌∷◌, ◌++◌, length, nat_lt, IfOk, OnErr, MatchOption};
+ghost use Rattle.std.specs.Prelude.{◌≡◌, ℕ, ◌+◌, ◌-◌, ◌<◌, ◌≤◌, false, List, [], ◌∷◌, ◌++◌, length, nat_lt, IsTrue, IfOk, IfSome, OnErr, MatchOption};
 ghost use Rattle.djq_index.specs.Tuple.{pick};
 ghost use Rattle.djq_index.specs.Entries.{Entry, supp, cnt, grp, marks, is_marked, unmarked, head_at};
 ghost use Rattle.djq_index.specs.Table.{IsTable, IsAt, IsLive, IsUnmarked, IsRaisable};
@@ -125,6 +125,73 @@ pub(crate) fn part_of(tables: &Vec<Table>, at: usize, tuple: &[u64], cells: &mut
     let table = table_of(tables, at);
     table.laws();
     cells.take_part(tuple, table.key());
+}
+
+/// The column of a node's key, where it has one alone.
+pub(crate) fn column_of(tables: &Vec<Table>, at: usize) -> Option<usize>
+    requires { at < length tables.now.items }
+    ensures key { IfSome result (λ column. key_at tables.now.items at ≡ column ∷ []) }
+    ensures within { IfSome result (λ column. column < width_at tables.now.items at) }
+{
+    let table = table_of(tables, at);
+    table.laws();
+    match table.key() {
+        [column] => Some(*column),
+        _ => None,
+    }
+}
+
+/// Whether a node's key has no column.
+pub(crate) fn has_no_column(tables: &Vec<Table>, at: usize) -> bool
+    requires { at < length tables.now.items }
+    ensures { IsTrue result → key_at tables.now.items at ≡ [] }
+{
+    table_of(tables, at).key().is_empty()
+}
+
+/// Where the part of a tuple at the columns of a node's key lies in the table of another node. Most keys have one
+/// column, and need no room for their cells.
+pub(crate) fn find_part<L: Ledger>(
+    tables: &Vec<Table>,
+    at: usize,
+    to: usize,
+    tuple: &[u64],
+    tally: &mut Tally<L>,
+) -> Option<Place>
+    requires within { at < length tables.now.items }
+    requires there { to < length tables.now.items }
+    requires narrow { width_at tables.now.items at ≤ 16 }
+    requires few { length (key_at tables.now.items at) ≤ 16 }
+    requires wide { length tuple.now ≡ width_at tables.now.items at }
+    ensures found { MatchOption result (cnt (entries_at tables.now.items to) (pick (key_at tables.now.items at) tuple.now) ≡ 0) (λ p. IsAt (entries_at tables.now.items to) p (pick (key_at tables.now.items at) tuple.now)) }
+    ensures counted { tally.new ≡ tally.old + 1 }
+{
+    match column_of(tables, at) {
+        Some(column) => find_at(tables, to, &[tuple[column]], tally),
+        None => find_wide(tables, at, to, tuple, tally),
+    }
+}
+
+/// The same for a key of any columns.
+#[inline(never)]
+fn find_wide<L: Ledger>(
+    tables: &Vec<Table>,
+    at: usize,
+    to: usize,
+    tuple: &[u64],
+    tally: &mut Tally<L>,
+) -> Option<Place>
+    requires within { at < length tables.now.items }
+    requires there { to < length tables.now.items }
+    requires narrow { width_at tables.now.items at ≤ 16 }
+    requires few { length (key_at tables.now.items at) ≤ 16 }
+    requires wide { length tuple.now ≡ width_at tables.now.items at }
+    ensures found { MatchOption result (cnt (entries_at tables.now.items to) (pick (key_at tables.now.items at) tuple.now) ≡ 0) (λ p. IsAt (entries_at tables.now.items to) p (pick (key_at tables.now.items at) tuple.now)) }
+    ensures counted { tally.new ≡ tally.old + 1 }
+{
+    let mut part = Cells::new(0);
+    part_of(tables, at, tuple, &mut part);
+    find_at(tables, to, part.as_slice(), tally)
 }
 
 /// Whether the tuple at a place of the table of a node has more than one support.

@@ -39,7 +39,8 @@ use Rattle.djq_value.specs.Token.{
 use Rattle.djq_value.proofs.Lexes.{tokens-none, tokens-step}
 use Rattle.djq_lines.specs.Grammar.{keyword_of}
 use Rattle.djq_lines.specs.declared.keyword.Keyword.{Keyword}
-use Rattle.djq_proto.specs.RowReading.{begins_row, may_begin, row_word_of}
+use Rattle.djq_proto.specs.RowReading.{begins_row, may_begin, row_word_in, row_word_of}
+use Rattle.djq_proto.specs.declared.row.RowWord.{RowWord}
 
 neither : (p q : Bool) → (p || q) ≡ false → (p ≡ false) × (q ≡ false)
 neither true q e = absurd (cc)
@@ -115,7 +116,7 @@ front_other b bs a d =
     other_word (b ∷ word_front bs) (other_first b 97 (word_front bs) (100 ∷ 100 ∷ []) a)
     (other_first b 100 (word_front bs) (101 ∷ 108 ∷ []) d)))))))))
 
-pub begins_other : (line : Bytes) → may_begin line ≡ false → begins_row (tokens line) ≡ false
+begins_other : (line : Bytes) → may_begin line ≡ false → begins_row (tokens line) ≡ false
 begins_other [] e = ap begins_row (tokens-none [] refl)
 begins_other (b ∷ bs) e =
     let last = neither (eqb b 32 || eqb b 97) (eqb b 100) e in
@@ -123,3 +124,10 @@ begins_other (b ∷ bs) e =
     ap begins_row (tokens-step (b ∷ bs))
     ∙ ap (λ (cs : Bytes). begins_row (and_then tokens (token_front cs))) (cond-false _ _ _ some.0)
     ∙ front_other b bs some.1 last.1
+
+pub begins_none : (line : Bytes) → may_begin line ≡ false → row_word_in (tokens line) ≡ None
+begins_none line e = none (row_word_in (tokens line)) (begins_other line e)
+  where
+    none : (o : Option RowWord) → is_some o ≡ false → o ≡ None
+    none None e = refl
+    none (Some verb) e = absurd (cc)

@@ -1,5 +1,5 @@
 -- What reading a row's line, or a part of it, answers.
-use Rattle.std.specs.Prelude.{◌≡◌, ◌==◌, ◌||◌, ◌++◌, List, [], ◌∷◌, Bool, false, true, Option, None}
+use Rattle.std.specs.Prelude.{◌≡◌, ◌≤◌, ◌==◌, ◌||◌, ◌++◌, List, [], ◌∷◌, Bool, false, true, Option, None, drop, length}
 use Rattle.std.specs.Prelude.{Some, is_some, Result, Ok, Err, if◌then◌else◌, codes}
 use Rattle.std.specs.List.{list_all}
 use Rattle.std.specs.Str.{is_utf8}
@@ -10,7 +10,8 @@ use Rattle.djq_lines.specs.declared.keyword.Keyword.{Keyword}
 use Rattle.djq_lines.specs.declared.keyword.Keyword.TheVariants.{Add as AddWord, Del as DelWord}
 use Rattle.djq_model.specs.declared.value.Value.{Value}
 use Rattle.djq_model.specs.declared.value.Value.TheVariants.{Int, Text}
-use Rattle.djq_value.specs.Literal.{is_small_value, literal_of}
+use Rattle.djq_value.specs.Lexing.{has_name_first}
+use Rattle.djq_value.specs.Literal.{is_name, is_small_value, literal_of}
 use Rattle.djq_value.specs.Token.{Token, word, tokens}
 use Rattle.djq_lines.specs.Grammar.{all_of, keyword_of, named_some}
 use Rattle.djq_proto.specs.Reading.{Reads, ReadsAs, onto}
@@ -46,6 +47,22 @@ TakesRowWord old None new = row_word_in old ≡ None
 TakesRowWord old (Some Adds) new = old ≡ word (codes "add") ∷ new
 TakesRowWord old (Some Deletes) new = old ≡ word (codes "del") ∷ new
 
+-- the same, with what is left as a part of the answer
+abbrev pub BeginsRow : List Token → Option (RowWord × List Token) → Type 0
+BeginsRow old None = row_word_in old ≡ None
+BeginsRow old (Some r) = TakesRowWord old (Some r.0) r.1
+
+-- Such a keyword is the first bytes of a line, and a space is behind it. Where none is given, the line may begin in
+-- another way.
+abbrev pub IsCloseRowWord : Bytes → Option RowWord → Type 0
+IsCloseRowWord line None = Unit {0}
+IsCloseRowWord line (Some verb) = (4 ≤ length line) × TakesRowWord (tokens line) (Some verb) (tokens (drop 4 line))
+
+-- The name in front is taken; none is given where no name is in front.
+abbrev pub TakesNameInFront : List Token → Option (Bor Bytes × List Token) → Type 0
+TakesNameInFront old None = has_name_first old ≡ false
+TakesNameInFront old (Some r) = (old ≡ word r.0.now ∷ r.1) × (is_name r.0.now ≡ true)
+
 -- whether a value is an integer
 abbrev pub is_number : Value → Bool
 is_number (Int i) = true
@@ -80,6 +97,19 @@ values_read (Err refusal) row = Err refusal
 abbrev pub named_read : Result (Bor Bytes) LineRefusal → Tuple → Result (Bytes × Tuple) LineRefusal
 named_read (Ok name) row = Ok (name.now, row)
 named_read (Err refusal) row = Err refusal
+
+-- the same, of a name that was read before
+abbrev pub named_with : {A : Type 0} → Bytes → Result A LineRefusal → Tuple → Result (Bytes × Tuple) LineRefusal
+named_with name (Ok a) row = Ok (name, row)
+named_with name (Err refusal) row = Err refusal
+
+-- Where a keyword and a name are in front of a line, and then the integers of a row, the row is completed by what is
+-- behind them.
+abbrev pub ReadsOthers : {A : Type 0} → Bytes → List Token → Tuple → Result A LineRefusal → Tuple → Type 0
+ReadsOthers line ts row result new =
+    (verb : RowWord) (named values : List Token) (name : Bytes) → TakesRowWord (tokens line) (Some verb) named
+    → named ≡ word name ∷ values → is_name name ≡ true → ReadsNumbers values [] ts row
+    → ReadsAs (λ p. list_all is_small_value p.1) (named_in line named) (named_with name result new)
 
 -- What reading the line of a row answers, where these values are left: it is read as any line is. Of
 -- a line that is refused it is told with which keyword it begins. A line that begins with another word

@@ -1,5 +1,5 @@
 //! Lines of a row, read into room that the caller keeps.
-ghost use Rattle.std.specs.Prelude.{◌≡◌, ◌≤◌, ◌++◌, ◌∷◌, [], Some, length, true};
+ghost use Rattle.std.specs.Prelude.{◌≡◌, ◌≤◌, ◌++◌, ◌∷◌, [], Some, length, take, true};
 ghost use Rattle.std.specs.List.{list_all};
 ghost use Rattle.djq_model.specs.Data.{Tuple};
 ghost use Rattle.djq_model.specs.declared.value.Value.{Value as Datum};
@@ -7,7 +7,8 @@ ghost use Rattle.djq_value.specs.Literal.{is_small_value, literal_of};
 ghost use Rattle.djq_value.specs.Token.{tokens};
 ghost use Rattle.djq_lines.specs.Grammar.{all_of};
 ghost use Rattle.djq_proto.specs.Reading.{ReadsAs, onto};
-ghost use Rattle.djq_proto.specs.RowReading.{IsRefused, ReadsNumbers, ReadsRow, RefusesOn};
+ghost use Rattle.djq_proto.specs.RowReading.{BeginsRow, IsCloseRowWord, IsRefused, ReadsNumbers};
+ghost use Rattle.djq_proto.specs.RowReading.{ReadsOthers, ReadsRow, RefusesOn, TakesNameInFront};
 ghost use Rattle.djq_proto.specs.RowReading.{TakesRowWord, may_begin, named_in, named_read};
 ghost use Rattle.djq_proto.specs.RowReading.{values_read};
 ghost use Rattle.djq_proto.specs.declared.row.RowWord.{RowWord as Verb};
@@ -19,6 +20,9 @@ use crate::refusal::LineRefusal;
 use djq_model::Value;
 use djq_value::{Lexer, is_name, is_text, next_word};
 use std::alloc::Global;
+
+// How many bytes a row's keyword has, with the space behind it.
+const WORD_BYTES: usize = 4;
 
 /// What a line is to who reads rows. A name is bytes of the line.
 #[derive(Clone, Copy, Debug)]
@@ -47,19 +51,54 @@ pub enum RowWord {
 pub fn read_row<'a>(alloc: Global, line: &'a [u8], row: &mut Vec<Value>) -> RowLine<'a>
     ensures { ReadsRow line.now result row.old.items row.new.items }
 {
-    if !may_begin_row(line) {
-        return RowLine::Other;
-    }
-    let mut lexer = Lexer::new(line);
-    let Some(verb) = read_row_word(&mut lexer) else {
+    let Some((verb, lexer)) = begin_row(line) else {
         return RowLine::Other;
     };
-    match read_named(alloc, line, &mut lexer, row) {
+    match read_named(alloc, line, lexer, row) {
         Ok(name) => match verb {
             RowWord::Add => RowLine::Add(name),
             RowWord::Del => RowLine::Del(name),
         },
         Err(refusal) => RowLine::Refused(verb, refusal),
+    }
+}
+
+// What the keyword in front does with a row, where it is such a keyword, and what is behind it.
+#[inline]
+fn begin_row<'a>(line: &'a [u8]) -> Option<(RowWord, Lexer<'a>)>
+    ensures { BeginsRow (tokens line.now) result }
+{
+    match close_row_word(line) {
+        Some(verb) => Some((verb, Lexer::new(&line[WORD_BYTES..]))),
+        None => find_row_word(line),
+    }
+}
+
+// What the keyword does that is a line's first bytes, where a space is behind it.
+#[inline]
+fn close_row_word(line: &[u8]) -> Option<RowWord>
+    ensures { IsCloseRowWord line.now result }
+{
+    if line.starts_with(b"add ") {
+        Some(RowWord::Add)
+    } else if line.starts_with(b"del ") {
+        Some(RowWord::Del)
+    } else {
+        None
+    }
+}
+
+// The keyword in front and what is behind it, of any line.
+fn find_row_word<'a>(line: &'a [u8]) -> Option<(RowWord, Lexer<'a>)>
+    ensures { BeginsRow (tokens line.now) result }
+{
+    if !may_begin_row(line) {
+        return None;
+    }
+    let mut lexer = Lexer::new(line);
+    match read_row_word(&mut lexer) {
+        Some(verb) => Some((verb, lexer)),
+        None => None,
     }
 }
 
@@ -89,34 +128,108 @@ fn read_row_word(lexer: &mut Lexer<'_>) -> Option<RowWord>
     }
 }
 
-// A name, and values to the line's end, one at least. Where these are integers of few digits the line
-// has no byte that isn't ASCII, so only others are asked whether the line is UTF-8.
+// A name, and values to the line's end, one at least. Most rows are as wide as the one before, and of
+// integers of few digits as that was: these are written over its own, without memory.
+#[inline]
 fn read_named<'a>(
     alloc: Global,
     line: &[u8],
-    lexer: &mut Lexer<'a>,
+    lexer: Lexer<'a>,
     row: &mut Vec<Value>,
 ) -> Result<&'a [u8], LineRefusal>
-    requires { (verb : Verb) × TakesRowWord (tokens line.now) (Some verb) lexer.old }
+    requires { (verb : Verb) × TakesRowWord (tokens line.now) (Some verb) lexer }
     ensures { ReadsAs (λ p. list_all is_small_value p.1)
-        (named_in line.now lexer.old) (named_read result row.new.items) }
+        (named_in line.now lexer.entry) (named_read result row.new.items) }
 {
-    let Some(name) = next_word(lexer) else {
+    let Some((name, values)) = take_name(lexer) else {
         return Err(LineRefusal::Syntax);
     };
-    if !is_name(name) || lexer.is_done() {
-        return Err(LineRefusal::Syntax);
-    }
-    row.clear();
-    read_numbers(lexer, row);
-    if lexer.is_done() {
+    let (count, behind) = overwrite_numbers(values, row.as_mut_slice());
+    if count > 0 && count == row.len() && behind.is_done() {
         return Ok(name);
+    }
+    row.truncate(count);
+    match read_others(alloc, line, behind, row) {
+        Ok(()) => Ok(name),
+        Err(refusal) => Err(refusal),
+    }
+}
+
+// The values behind integers that were read, one at least with them. Where each is an integer of few
+// digits the line has no byte that isn't ASCII, so only others are asked whether it is UTF-8.
+#[inline(never)]
+fn read_others(
+    alloc: Global,
+    line: &[u8],
+    lexer: Lexer<'_>,
+    row: &mut Vec<Value>,
+) -> Result<(), LineRefusal>
+    requires { list_all is_small_value row.old.items ≡ true }
+    ensures { ReadsOthers line.now lexer.entry row.old.items result row.new.items }
+{
+    let mut rest = lexer;
+    read_numbers(&mut rest, row);
+    if rest.is_done() {
+        if row.is_empty() {
+            return Err(LineRefusal::Syntax);
+        }
+        return Ok(());
     }
     if !is_utf8(line) {
         return Err(LineRefusal::Syntax);
     }
-    read_values(alloc, lexer, row)?;
-    Ok(name)
+    read_values(alloc, &mut rest, row)
+}
+
+// The name in front, where one is there, and what is behind it.
+#[inline]
+fn take_name<'a>(lexer: Lexer<'a>) -> Option<(&'a [u8], Lexer<'a>)>
+    ensures { TakesNameInFront lexer.entry result }
+{
+    let mut ahead = lexer;
+    match ahead.next_close_name() {
+        Some(name) => Some((name, ahead)),
+        None => find_name(ahead),
+    }
+}
+
+// The same, however it stands there.
+fn find_name<'a>(lexer: Lexer<'a>) -> Option<(&'a [u8], Lexer<'a>)>
+    ensures { TakesNameInFront lexer.entry result }
+{
+    let mut ahead = lexer;
+    match next_word(&mut ahead) {
+        Some(word) => {
+            if is_name(word) {
+                Some((word, ahead))
+            } else {
+                None
+            }
+        }
+        None => None,
+    }
+}
+
+// The integers of few digits in front, written over those with which a row begins: how many, and
+// what is behind them.
+#[inline]
+fn overwrite_numbers<'a>(lexer: Lexer<'a>, row: &mut [Value]) -> (usize, Lexer<'a>)
+    ensures read { ReadsNumbers lexer.entry [] result.1 (take result.0 row.new) }
+    ensures within { result.0 ≤ length row.new }
+{
+    let mut ahead = lexer;
+    let mut count = 0;
+    'numbers: while count < row.len() {
+        let Value::Int(place) = &mut row[count] else {
+            break 'numbers;
+        };
+        let Some(number) = ahead.next_small() else {
+            break 'numbers;
+        };
+        *place = number;
+        count += 1;
+    }
+    (count, ahead)
 }
 
 // The integers of few digits in front, as far as there is memory for them.

@@ -30,6 +30,7 @@
 
 mod columns;
 mod heads;
+mod levels;
 mod narrow;
 mod reducts;
 

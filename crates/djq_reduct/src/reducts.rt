@@ -1,6 +1,7 @@
 ghost use Rattle.std.specs.Prelude.{◌≡◌, ℕ, ◌<◌, [], length, IfOk};
 ghost use Rattle.djq_index.specs.Table.{IsTable};
 ghost use Rattle.djq_tree.specs.Labels.{label_at};
+ghost use Rattle.djq_tree.specs.Levels.{levels};
 ghost use Rattle.djq_tree.specs.Tree.{node_at};
 ghost use Rattle.djq_reduct.specs.Columns.{column, columns};
 ghost use Rattle.djq_reduct.specs.Tables.{entries_at, key_at, width_at};
@@ -15,6 +16,7 @@ ghost use Rattle.djq_reduct.specs.Reducts.{
 
 use crate::columns::{column_of, empty_table};
 use crate::heads::{HeadColumns, head_columns, head_places};
+use crate::levels::levels_of;
 use djq_index::Table;
 use djq_tree::Tree;
 use std::alloc::{AllocError, Global};
@@ -32,6 +34,8 @@ pub struct Reducts {
     pub(crate) columns: Vec<HeadColumns>,
     // for each variable, its place in an answer
     pub(crate) places: Vec<usize>,
+    // the levels of a listing, from the highest one on
+    pub(crate) descent: Vec<usize>,
 }
 
 impl Model for Reducts {
@@ -44,10 +48,12 @@ impl Model for Reducts {
     ghost use Rattle.std.specs.Prelude.{◌≡◌, length};
     ghost use Rattle.djq_hyper.specs.declared.var_set.TheConstants.{VARIABLES};
     ghost use Rattle.djq_reduct.specs.Heads.{head_columns, head_places};
+    ghost use Rattle.djq_tree.specs.Levels.{levels};
 
     ghost invariant = { λ r. spec.IsReducts (record { tree = r.tree; tables = r.tables.items })
         × (r.columns.items ≡ head_columns r.tree (length r.tree.nodes))
-        × (r.places.items ≡ head_places r.tree.head VARIABLES) };
+        × (r.places.items ≡ head_places r.tree.head VARIABLES)
+        × (r.descent.items ≡ levels r.tree) };
 }
 
 impl Reducts {
@@ -63,11 +69,13 @@ impl Reducts {
         }
         let columns = head_columns(alloc, &tree)?;
         let places = head_places(alloc, tree.head())?;
+        let descent = levels_of(alloc, &tree)?;
         Ok(Reducts {
             tree,
             tables,
             columns,
             places,
+            descent,
         })
     }
 
@@ -106,6 +114,13 @@ impl Reducts {
             return self.places[variable];
         }
         column_of(self.tree.head(), variable)
+    }
+
+    /// The levels of a listing, from the highest one on. They were found once, as the reducts were made.
+    pub fn levels(&self) -> &[usize]
+        ensures { result.now ≡ levels self.now.tree }
+    {
+        &self.descent
     }
 
     /// What holds of all reducts; and that tables with these laws are known once the leaves' tuples are.

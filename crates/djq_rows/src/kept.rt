@@ -6,6 +6,7 @@ ghost use Rattle.djq_rows.specs.Tuples.{HasTuple, AddsTuple, DeletesTuple};
 
 use crate::refusal::RowsRefusal;
 use crate::rows::Rows;
+use djq_arena::hash_of;
 use djq_lines::limits::{COPIES, ROWS};
 use djq_lines::{AddOutcome, DeleteOutcome};
 use djq_model::{Name, Types};
@@ -53,7 +54,8 @@ impl Kept {
         ensures counted { tally.new ≤ tally.old + 2 }
     {
         self.rows.laws();
-        match self.rows.find(cells, tally) {
+        let code = hash_of(cells);
+        match self.rows.find_hashed(cells, code, tally) {
             Some(slot) => {
                 let copies = self.rows.copies(slot);
                 if copies >= COPIES {
@@ -66,7 +68,7 @@ impl Kept {
                 if self.rows.len() >= ROWS {
                     return Err(RowsRefusal::Full);
                 }
-                match self.rows.push(cells, tally) {
+                match self.rows.push(cells, code, tally) {
                     Ok(()) => Ok(AddOutcome::First),
                     Err(_error) => Err(RowsRefusal::NoMem),
                 }

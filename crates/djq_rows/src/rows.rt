@@ -18,6 +18,7 @@ ghost use Rattle.std.specs.Prelude.{
   OnErr,
   MatchOption,
 };
+ghost use Rattle.djq_arena.specs.Store.{hash};
 ghost use Rattle.djq_index.specs.Entries.{Entry, cnt, supp, head_at};
 ghost use Rattle.djq_index.specs.Table.{AreApart, IsAt, IsLive};
 ghost use Rattle.djq_index.specs.Changes.{Supported};
@@ -89,6 +90,22 @@ impl Rows {
         self.arena.find(cells)
     }
 
+    /// The same as `find`, for cells whose hash is known.
+    pub fn find_hashed<L: Ledger>(
+        &self,
+        cells: &[u64],
+        code: u64,
+        tally: &mut Tally<L>,
+    ) -> Option<u32>
+        requires { code ≡ hash cells.now }
+        ensures found { MatchOption result (cnt self.now.entries cells.now ≡ 0)
+            (λ slot. IsAt self.now.entries (place slot) cells.now) }
+        ensures counted { tally.new ≡ tally.old + 1 }
+    {
+        tally.lookup();
+        self.arena.find_hashed(cells, code)
+    }
+
     /// The slot of the oldest row. It counts one look-up.
     pub fn first<L: Ledger>(&self, tally: &mut Tally<L>) -> Option<u32>
         ensures first { place_of result ≡ head_at self.now.entries }
@@ -125,9 +142,15 @@ impl Rows {
         self.copies[slot as usize]
     }
 
-    /// Puts in a row that isn't there, behind all others and with one copy. Where there is no memory,
-    /// all stays as it was. It counts one edit, as both calls below do.
-    pub fn push<L: Ledger>(&mut self, cells: &[u64], tally: &mut Tally<L>) -> Result<(), AllocError>
+    /// Puts in a row that isn't there, with this hash, behind all others and with one copy. Where there is
+    /// no memory, all stays as it was. It counts one edit, as both calls below do.
+    pub fn push<L: Ledger>(
+        &mut self,
+        cells: &[u64],
+        code: u64,
+        tally: &mut Tally<L>,
+    ) -> Result<(), AllocError>
+        requires coded { code ≡ hash cells.now }
         requires absent { cnt self.old.entries cells.now ≡ 0 }
         requires wide { length cells.now ≡ self.old.width }
         requires few { length self.old.entries < 4294967295 }
@@ -138,7 +161,7 @@ impl Rows {
         ensures counted { tally.new ≡ tally.old + 1 }
     {
         tally.edit();
-        push_in(&mut self.arena, &mut self.copies, cells)
+        push_in(&mut self.arena, &mut self.copies, cells, code)
     }
 
     /// Takes the row in a slot out. Other slots stay.
@@ -170,7 +193,13 @@ impl Rows {
 }
 
 /// Puts in a row with one copy.
-fn push_in(arena: &mut Arena, copies: &mut Vec<u32>, cells: &[u64]) -> Result<(), AllocError>
+fn push_in(
+    arena: &mut Arena,
+    copies: &mut Vec<u32>,
+    cells: &[u64],
+    code: u64,
+) -> Result<(), AllocError>
+    requires coded { code ≡ hash cells.now }
     requires kept { AreKept arena.old copies.old.items }
     requires absent { cnt (entries_in copies.old.items arena.old.rows) cells.now ≡ 0 }
     requires wide { length cells.now ≡ arena.old.width }
@@ -183,7 +212,7 @@ fn push_in(arena: &mut Arena, copies: &mut Vec<u32>, cells: &[u64]) -> Result<()
     ensures width { arena.new.width ≡ arena.old.width }
 {
     make_room(copies, arena.is_full())?;
-    let slot = arena.push(cells)?;
+    let slot = arena.push_hashed(cells, code)?;
     arena.laws();
     count_one(copies, slot);
     Ok(())
@@ -194,7 +223,20 @@ fn make_room(copies: &mut Vec<u32>, full: bool) -> Result<(), AllocError>
     ensures room { IfOk result (λ _. full ≡ true → vec_len copies.new < vec_capacity copies.new) }
     ensures same { copies.new.items ≡ copies.old.items }
 {
-    if full { copies.reserve(1) } else { Ok(()) }
+    if full && copies.len() == copies.capacity() {
+        grow(copies)
+    } else {
+        Ok(())
+    }
+}
+
+/// Room for the copies of one more slot. It stands apart, so that a row for which there is room saves fewer registers.
+#[inline(never)]
+fn grow(copies: &mut Vec<u32>) -> Result<(), AllocError>
+    ensures room { IfOk result (λ _. vec_len copies.new < vec_capacity copies.new) }
+    ensures same { copies.new.items ≡ copies.old.items }
+{
+    copies.reserve(1)
 }
 
 /// Gives a slot one copy. There is room for one more slot where it is a new one.

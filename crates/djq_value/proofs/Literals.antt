@@ -85,7 +85,7 @@ signed_read (pos n) h =
 signed_read (negsuc n) h = ap (option_map minus) (natural_written (suc n) (small_neg n h))
     ∙ ap (λ z. Some z) (minus-suc n)
 
-digit_inner : (b : ℕ) → is_digit b ≡ true → ends_word b ≡ false
+pub digit_inner : (b : ℕ) → is_digit b ≡ true → ends_word b ≡ false
 digit_inner b h =
     let low = digit_bounds b h in
     let until_bang : (eqb b 32 || eqb b 33)

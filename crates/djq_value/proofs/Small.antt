@@ -1,19 +1,22 @@
 -- Words, and integers of few digits, in front of bytes.
 use Rattle.std.proofs.Common.{◌≡◌, ℕ, ℤ, pos, zero, suc, ◌+◌, ◌<◌, ◌≤◌, Bool, true, false, cond, []}
 use Rattle.std.proofs.Common.{◌∷◌, length, get_or, take, drop, Some, None, option_map, refl, sym}
-use Rattle.std.proofs.Common.{ap, ◌∙◌, arith, eqb, inl, inr, add-one, ap₂, length-take}
+use Rattle.std.proofs.Common.{ap, ◌∙◌, ◌++◌, arith, eqb, leb, inl, inr, add-one, ap₂, length-take, All, drop-cons}
 use Rattle.std.specs.List.{list_all}
-use Rattle.std.proofs.lemmas.Bool.{cases_Bool, cond-true, cond-false, eqb-true, false_from_ne_true, le-leb}
-use Rattle.std.proofs.lemmas.List.{take-append-drop}
-use Rattle.std.proofs.lemmas.List.Elements.{All-cons}
+use Rattle.std.proofs.lemmas.Bool.{and_from, and_parts, cases_Bool, cond-true, cond-false, eqb-true}
+use Rattle.std.proofs.lemmas.Bool.{false_from_ne_true, le-leb, leb-true, or_from}
+use Rattle.std.proofs.lemmas.List.{drop-drop, length-drop, take-append-drop}
+use Rattle.std.proofs.lemmas.List.Elements.{All-cons, All-nil}
 use Rattle.djq_model.specs.Data.{Bytes}
-use Rattle.djq_value.specs.Literal.{integer_of, is_digit, is_small, minus, natural_of}
-use Rattle.djq_value.specs.Small.{AreDigitsAt, IsSmallAt, TakesSmall}
+use Rattle.djq_value.specs.Literal.{integer_of, is_digit, is_lower, is_name, is_small, minus, natural_of}
+use Rattle.djq_value.specs.Small.{AreDigitsAt, IsNameAt, IsSmallAt, IsSmallInFront, IsTailAt, TakesSmall}
 use Rattle.djq_value.specs.Spelling.{IsToken}
 use Rattle.djq_value.specs.Token.{behind_spaces, behind_word, ends_word, may_end, token_front, tokens, word, word_front}
-use Rattle.djq_value.proofs.Lexes.{next_some}
-use Rattle.djq_value.proofs.Literals.{digits_inner, digits_token, integer_digits, map_some, minus-suc}
-use Rattle.djq_value.proofs.Spellings.{front_go, front_stop, inner, token_read}
+use Rattle.djq_value.specs.Word.{is_tail_of, may_follow_of}
+use Rattle.djq_value.proofs.Lexes.{next_some, tokens-some, tokens-step}
+use Rattle.djq_value.proofs.Literals.{digit_inner, digits_inner, digits_token, integer_digits, map_some, minus-suc}
+use Rattle.djq_value.proofs.Spellings.{front_go, front_stop, inner, no_space, token_read}
+use Rattle.djq_value.proofs.Words.{inner_above}
 
 some_true : (b : Bool) (m n : ℕ) → cond b (Some m) None ≡ Some n → b ≡ true
 some_true true m n e = refl
@@ -101,3 +104,97 @@ word_taken rest bytes n e h front behind some no_quote =
     let long : 0 < length (word_front bytes) = omega (arith, some, h, length-take n bytes, ap length front) in
     next_some rest bytes (word (take n bytes)) (drop n bytes) e
     (front_word bytes long no_quote ∙ ap₂ (λ (xs ys : Bytes). Some (word xs, ys)) (sym front) (sym behind))
+
+-- The bytes of a name end no word.
+
+follow_inner : (c : ℕ) → may_follow_of c ≡ true → ends_word c ≡ false
+follow_inner c h = elim (cases_Bool (is_lower c)) [
+  | inl lower ↦ inner_above c (omega (arith, leb-true 97 c (and_parts (leb 97 c) (leb c 122) lower).0))
+  | inr no_letter ↦ elim (cases_Bool (is_digit c)) [
+    | inl digit ↦ digit_inner c digit
+    | inr no_digit ↦ elim (cases_Bool (eqb c 95)) [
+      | inl is ↦ ap ends_word (eqb-true c 95 is)
+      | inr other ↦ absurd (cc (h, or_from _ _ (or_from _ _ no_letter no_digit) other))
+    ]
+  ]
+]
+
+tail_inner : (bs : Bytes) → list_all may_follow_of bs ≡ true → All (λ b. ends_word b ≡ false) bs
+tail_inner [] h = All-nil (λ b. ends_word b ≡ false)
+tail_inner (c ∷ cs) h =
+    let parts = and_parts (may_follow_of c) (list_all may_follow_of cs) h in
+    All-cons (λ b. ends_word b ≡ false) c cs (follow_inner c parts.0) (tail_inner cs parts.1)
+
+-- a name is a word
+pub name_token : (w : Bytes) → is_name w ≡ true → IsToken (word w)
+name_token [] h = absurd (cc)
+name_token (b ∷ bs) h =
+    let parts = and_parts (is_lower b) (is_tail_of bs) h in
+    let more = and_parts (list_all may_follow_of bs) (leb (length bs) 31) parts.1 in
+    let low : 97 ≤ b = leb-true 97 b (and_parts (leb 97 b) (leb b 122) parts.0).0 in (
+      omega arith,
+      All-cons (λ x. ends_word x ≡ false) b bs (inner_above b (omega (arith, low))) (tail_inner bs more.0),
+      λ quote. absurd (omega (arith, quote, low)),
+    )
+
+-- a letter in front of the other bytes of a name
+pub letter_first : (bs : Bytes) (n : ℕ) → 0 < length bs → is_lower (get_or bs 0 0) ≡ true
+    → IsTailAt (drop 1 bs) (Some n) → IsNameAt bs (Some (n + 1))
+letter_first [] n some letter h = absurd (omega (arith, some))
+letter_first (b ∷ bs) n some letter h = (
+  omega (arith, h.0),
+  ap (λ m. is_name (take m (b ∷ bs))) (add-one n) ∙ and_from _ _ letter h.1,
+  ap (λ m. may_end (drop m (b ∷ bs))) (add-one n) ∙ h.2,
+)
+
+-- the bytes of a name behind its first, up to a space
+pub tail_ends : (bs : Bytes) (n : ℕ) → n < length bs → n ≤ 31 → list_all may_follow_of (take n bs) ≡ true
+    → get_or bs n 0 ≡ 32 → IsTailAt bs (Some n)
+tail_ends bs n within few follow blank = (
+  omega (arith, within),
+  and_from _ _ follow (le-leb (length (take n bs)) 31 (omega (arith, length-take n bs, few, within))),
+  ap may_end (drop-cons bs n 0 within) ∙ ap ends_word blank,
+)
+
+-- A word is in front where it may end in front of what is behind it.
+pub word_before : (w behind : Bytes) → IsToken (word w) → may_end behind ≡ true
+    → tokens (w ++ behind) ≡ word w ∷ tokens behind
+word_before w behind is ends = tokens-some (w ++ behind) (word w) behind
+    (ap token_front (no_space (word w) behind is) ∙ token_read (word w) behind is ends)
+
+word_at : (rest : Bytes) (n : ℕ) → IsToken (word (take n rest)) → may_end (drop n rest) ≡ true
+    → tokens rest ≡ word (take n rest) ∷ tokens (drop n rest)
+word_at rest n is ends = ap tokens (sym (take-append-drop n rest)) ∙ word_before (take n rest) (drop n rest) is ends
+
+-- the name that begins the bytes
+pub name_taken : (rest : Bytes) (n : ℕ) → IsNameAt rest (Some n)
+    → tokens rest ≡ word (take n rest) ∷ tokens (drop n rest)
+name_taken rest n h = word_at rest n (name_token (take n rest) h.1) h.2
+
+-- a space in front
+pub tokens-blank : (bs : Bytes) → tokens (32 ∷ bs) ≡ tokens bs
+tokens-blank bs = tokens-step (32 ∷ bs) ∙ sym (tokens-step bs)
+
+-- the integer with which bytes begin
+small_word : (bs : Bytes) (n : ℕ) (i : ℤ) → IsSmallAt bs (Some (i, n))
+    → TakesSmall (tokens bs) (Some i) (tokens (drop n bs))
+small_word bs n i h =
+    let w = take n bs in (w, word_at bs n (integer_token w i h.1) h.3, h.1, h.2)
+
+-- digits behind one space
+pub near_small : (bs : Bytes) (size len : ℕ) → 0 < length bs → get_or bs 0 0 ≡ 32
+    → AreDigitsAt (drop 1 bs) (Some (size, len)) → IsSmallInFront bs (Some (pos size, len + 1))
+near_small [] size len some blank h = absurd (omega (arith, some))
+near_small (b ∷ bs) size len some blank h =
+    let taken = small_word bs len (pos size) (positive_at bs size len h) in
+    let blanks : tokens (b ∷ bs) ≡ tokens bs = ap (λ c. tokens (c ∷ bs)) blank ∙ tokens-blank bs in
+    let front = blanks ∙ taken.1 ∙ ap (λ m. word taken.0 ∷ tokens (drop m (b ∷ bs))) (sym (add-one len)) in
+    (omega (arith, h.0), (taken.0, front, taken.2, taken.3))
+
+-- an integer behind so many spaces
+pub far_small : (bs : Bytes) (spaces n : ℕ) (i : ℤ) → spaces ≤ length bs → drop spaces bs ≡ behind_spaces bs
+    → IsSmallAt (drop spaces bs) (Some (i, n)) → IsSmallInFront bs (Some (i, spaces + n))
+far_small bs spaces n i within behind h =
+    let taken = small_taken bs (drop spaces bs) n i behind h in
+    let front = taken.1 ∙ ap (λ xs. word taken.0 ∷ tokens xs) (drop-drop n spaces bs) in
+    (omega (arith, within, h.0, length-drop spaces bs), (taken.0, front, taken.2, taken.3))

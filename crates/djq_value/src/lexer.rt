@@ -5,10 +5,11 @@ ghost use Rattle.djq_value.specs.Token.{less_front, greater_front, not_front, be
 ghost use Rattle.djq_value.specs.Token.{ends_word as ends_word_of, may_end as may_end_of};
 ghost use Rattle.djq_value.specs.Token.{text_front, text_in, token_front, tokens, word_front};
 ghost use Rattle.djq_value.specs.Lexing.{Takes, lexeme_of, word_of};
-ghost use Rattle.djq_value.specs.Small.{TakesPlainWord, TakesSmall};
+ghost use Rattle.djq_value.specs.Small.{TakesCloseName, TakesPlainWord, TakesSmall};
 
-use crate::number::small_at;
+use crate::number::small_front;
 use crate::quoted::{Quoted, text_end};
+use crate::word::spaced_name_len;
 use djq_model::Operator;
 use std::marker::Model;
 
@@ -113,15 +114,31 @@ impl<'a> Lexer<'a> {
 
     /// The integer in front, where it has at most 18 digits, without its token. Where none is given,
     /// the lexer stays where it is.
-    #[inline]
+    #[inline(always)]
     pub fn next_small(&mut self) -> Option<i64>
         ensures { TakesSmall self.old result self.new }
     {
-        let bytes = &self.rest[space_count(self.rest)..];
-        match small_at(bytes) {
+        let bytes = self.rest;
+        match small_front(bytes) {
             Some((value, len)) => {
                 self.rest = &bytes[len..];
                 Some(value)
+            }
+            None => None,
+        }
+    }
+
+    /// The name in front, where no space is before it and one is behind it, without its token. Where
+    /// none is given, the lexer stays where it is, and a name may stand there in another way.
+    #[inline]
+    pub fn next_close_name(&mut self) -> Option<&'a [u8]>
+        ensures { TakesCloseName self.old result self.new }
+    {
+        let bytes = self.rest;
+        match spaced_name_len(bytes) {
+            Some(len) => {
+                self.rest = &bytes[len..];
+                Some(&bytes[..len])
             }
             None => None,
         }
@@ -201,7 +218,7 @@ pub(crate) fn may_end(behind: &[u8]) -> bool
     ensures { result ≡ may_end_of behind.now }
 {
     match behind.first() {
-        Some(byte) => ends_word(*byte),
+        Some(byte) => *byte == b' ' || ends_word(*byte),
         None => true,
     }
 }

@@ -13,7 +13,7 @@
 //! ```
 //!
 //! An integer of at most 18 digits can be taken without a token: [`Lexer::next_small`] is for rows,
-//! of which most values are such.
+//! of which most values are such. So can a name that a space follows: [`Lexer::next_close_name`].
 //!
 //! Nothing here knows of commands, replies, relations or types of columns.
 //!

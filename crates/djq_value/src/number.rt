@@ -2,9 +2,9 @@
 ghost use Rattle.std.specs.Prelude.{◌≡◌, ◌<◌, ◌≤◌, Some, length, pos, option_map};
 ghost use Rattle.djq_value.specs.Literal.{integer_of, minus, natural_of};
 ghost use Rattle.djq_value.specs.Number.{capped, number_of};
-ghost use Rattle.djq_value.specs.Small.{AreDigitsAt, IsSmallAt};
+ghost use Rattle.djq_value.specs.Small.{AreDigitsAt, AreDigitsInFront, IsSmallAt, IsSmallInFront};
 
-use crate::lexer::may_end;
+use crate::lexer::{may_end, space_count};
 
 // The most digits that any number of them is within 64 bits with.
 const FEW_DIGITS: usize = 18;
@@ -105,10 +105,48 @@ fn negative(size: u64) -> Number
     }
 }
 
+// The integer of few digits in front, behind spaces, and how many bytes both take. Most often one
+// space is there, and no sign.
+#[inline(always)]
+pub(crate) fn small_front(bytes: &[u8]) -> Option<(i64, usize)>
+    ensures { IsSmallInFront bytes.now result }
+{
+    match spaced_digits(bytes) {
+        Some((size, len)) => Some((size as i64, len)),
+        None => small_behind(bytes),
+    }
+}
+
+// The number of few digits in front, behind one space, and how many bytes both take.
+#[inline]
+fn spaced_digits(bytes: &[u8]) -> Option<(u64, usize)>
+    ensures { AreDigitsInFront bytes.now result }
+{
+    if bytes.is_empty() || bytes[0] != b' ' {
+        return None;
+    }
+    match digits_at(&bytes[1..]) {
+        Some((size, len)) => Some((size, len + 1)),
+        None => None,
+    }
+}
+
+// The integer in front, however many spaces there are, and with a sign or without.
+#[inline(never)]
+fn small_behind(bytes: &[u8]) -> Option<(i64, usize)>
+    ensures { IsSmallInFront bytes.now result }
+{
+    let spaces = space_count(bytes);
+    match small_at(&bytes[spaces..]) {
+        Some((value, len)) => Some((value, spaces + len)),
+        None => None,
+    }
+}
+
 // The integer of few digits that bytes begin with, and how many bytes it takes. It needs no care of
 // 64 bits; where none is given, another one may stand there.
 #[inline]
-pub(crate) fn small_at(bytes: &[u8]) -> Option<(i64, usize)>
+fn small_at(bytes: &[u8]) -> Option<(i64, usize)>
     ensures { IsSmallAt bytes.now result }
 {
     if !bytes.is_empty() && bytes[0] == b'-' {

@@ -4,6 +4,7 @@ ghost use Rattle.std.specs.List.{list_all};
 ghost use Rattle.djq_model.specs.Data.{bytes_eq};
 ghost use Rattle.djq_value.specs.Literal.{is_lower, is_name as is_name_of};
 ghost use Rattle.djq_value.specs.Lexing.{TakesName, TakesWord};
+ghost use Rattle.djq_value.specs.Small.{IsNameAt, IsTailAt};
 ghost use Rattle.djq_value.specs.Word.{is_tail_of, may_follow_of};
 
 use crate::lexer::{Lexer, Token};
@@ -64,6 +65,40 @@ fn may_follow(byte: u8) -> bool
     ensures { result ≡ may_follow_of byte }
 {
     is_letter(byte) || (byte >= b'0' && byte <= b'9') || byte == b'_'
+}
+
+// How many bytes the name has with which bytes begin, where a space is behind it; none where it ends
+// in another way, or isn't there.
+#[inline]
+pub(crate) fn spaced_name_len(bytes: &[u8]) -> Option<usize>
+    ensures { IsNameAt bytes.now result }
+{
+    if bytes.is_empty() || !is_letter(bytes[0]) {
+        return None;
+    }
+    match spaced_tail_len(&bytes[1..]) {
+        Some(len) => Some(len + 1),
+        None => None,
+    }
+}
+
+// The same of the bytes behind a name's first.
+#[inline]
+fn spaced_tail_len(bytes: &[u8]) -> Option<usize>
+    ensures { IsTailAt bytes.now result }
+{
+    let mut len = 0;
+    'tail: while len < bytes.len() && bytes[len] != b' ' {
+        if !may_follow(bytes[len]) {
+            return None;
+        }
+        len += 1;
+    }
+    if len < bytes.len() && len <= MORE_BYTES {
+        Some(len)
+    } else {
+        None
+    }
 }
 
 // The word in front, where one is there. The token in front is passed over in any case.

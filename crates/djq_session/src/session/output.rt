@@ -18,7 +18,12 @@ impl<C: Copy, Q: Copy + PartialEq> Session<C, Q> {
         ensures others { self.new ≡ record self.old { room = self.new.room } }
         ensures room { KeepsFor count self.old.room self.new.room result }
     {
-        self.output.reserve(count + LAST_LINE_BYTES)?;
+        let wanted = count + LAST_LINE_BYTES;
+        // Mostly there is room, so that a look costs less than the call.
+        if self.output.capacity() - self.output.len() >= wanted {
+            return Ok(());
+        }
+        self.output.reserve(wanted)?;
         Ok(())
     }
 

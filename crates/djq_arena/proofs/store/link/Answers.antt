@@ -1,5 +1,5 @@
-use Rattle.std.proofs.Common.{refl, sym, ap, ◌∙◌, length}
-use Rattle.djq_arena.specs.Store.{class}
+use Rattle.std.proofs.Common.{refl}
+use Rattle.djq_arena.specs.Store.{cells_at}
 use Rattle.djq_arena.proofs.Storing.{last_in_order, links}
 use Rattle.djq_arena.proofs.store.link.Goals as goal
 
@@ -24,5 +24,6 @@ returns c = record {
         spare = refl;
       })
       c.class_in-class.ensures.within
-      (c.class_in-class.ensures.class ∙ ap (class (length c.args.store.now.heads.items)) (sym c.requires.here));
+      (c.class_in-class.ensures.class (cells_at c.args.store.now.width c.args.store.now.cells.items c.args.slot)
+      c.requires.here);
 }

@@ -22,10 +22,10 @@ answer_last-requires c =
           subst (λ (k : Kept). Spread accepted c.args.engine.now c.args.sessions.now.items k
           c.if-is_accepted.sessions.items) (sym w.engine-is)
           (subst (λ (ys : List OpenSession). Spread accepted c.args.engine.now c.args.sessions.now.items
-          w.tell_affected.new.engine ys) (sym (ap (λ v. v.items) w.sessions-is))
-          (spread_all accepted c.args.engine.now c.args.sessions.now.items w.tell_affected.new.engine
-          w.tell_affected.new.sessions.items (sym c.is_accepted.ensures ∙ w.if-is_accepted.true)
-          w.tell_affected.ensures.tells))
+          w.tell_watched.new.engine ys) (sym (ap (λ v. v.items) w.sessions-is))
+          (spread_all accepted c.args.engine.now c.args.sessions.now.items w.tell_watched.new.engine
+          w.tell_watched.new.sessions.items (sym c.is_accepted.ensures ∙ w.if-is_accepted.true)
+          w.tell_watched.ensures.tells))
       | else-is_accepted w ↦
           subst (λ (k : Kept). Spread accepted c.args.engine.now c.args.sessions.now.items k
           c.if-is_accepted.sessions.items) (sym w.engine-is)
@@ -51,10 +51,10 @@ returns-clause-tells c =
           subst (λ (k : Kept). Spread accepted c.args.engine.now c.args.sessions.now.items k
           c.if-is_accepted.sessions.items) (sym w.engine-is)
           (subst (λ (ys : List OpenSession). Spread accepted c.args.engine.now c.args.sessions.now.items
-          w.tell_affected.new.engine ys) (sym (ap (λ v. v.items) w.sessions-is))
-          (spread_all accepted c.args.engine.now c.args.sessions.now.items w.tell_affected.new.engine
-          w.tell_affected.new.sessions.items (sym c.is_accepted.ensures ∙ w.if-is_accepted.true)
-          w.tell_affected.ensures.tells))
+          w.tell_watched.new.engine ys) (sym (ap (λ v. v.items) w.sessions-is))
+          (spread_all accepted c.args.engine.now c.args.sessions.now.items w.tell_watched.new.engine
+          w.tell_watched.new.sessions.items (sym c.is_accepted.ensures ∙ w.if-is_accepted.true)
+          w.tell_watched.ensures.tells))
       | else-is_accepted w ↦
           subst (λ (k : Kept). Spread accepted c.args.engine.now c.args.sessions.now.items k
           c.if-is_accepted.sessions.items) (sym w.engine-is)

@@ -5,11 +5,11 @@ use Rattle.djq_cursor.proofs.levels.source.Goals as goal
 
 pub returns-clause-source : goal.returns-clause-source
 unfolding source
-returns-clause-source c = c.child_of.ensures ∙ ap child_of c.node.ensures
+returns-clause-source c = sym (ap child_of (sym c.node.ensures ∙ c.in-Trim.is))
 
 pub returns-clause-within : goal.returns-clause-within
 unfolding source
 returns-clause-within c =
     subst (λ (n : ℕ). n < length c.args.tree.now.nodes)
-    (sym (c.child_of.ensures ∙ ap child_of c.node.ensures))
+    (ap child_of (sym c.node.ensures ∙ c.in-Trim.is))
     (source_within c.args.tree.now c.args.level c.len-nodes.ensures.tree c.requires)

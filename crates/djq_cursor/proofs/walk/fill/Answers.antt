@@ -1,109 +1,122 @@
-use Rattle.std.proofs.Common.{◌∙◌, List, ℕ, length, ap, sym, subst, arith, refl}
+use Rattle.std.proofs.Common.{◌∙◌, [], ◌∷◌, length, slice_index_or, refl, ap, arith}
+use Rattle.std.proofs.lemmas.List.{length-append}
 use Rattle.djq_cursor.specs.declared.places.Choice.{Choice}
-use Rattle.djq_cursor.specs.Walk.{IsFirstAt}
-use Rattle.djq_cursor.proofs.Outs.{late_out}
+use Rattle.djq_cursor.specs.Walk.{reached}
 use Rattle.djq_cursor.proofs.Filling.{
-  reached_within,
   room_for,
-  next_in,
-  level_in,
   small_in,
-  next_count,
+  next_listed,
+  level_listed,
+  all_chosen,
+  few_chosen,
 }
 use Rattle.djq_cursor.proofs.Keeping.{some_first, chosen_first}
 use Rattle.djq_cursor.proofs.walk.fill.Goals as goal
 
-pub loop-level-init : goal.loop-level-init
-loop-level-init g c =
+pub first_at-requires-clause-level : goal.first_at-requires-clause-level
+first_at-requires-clause-level g c =
     let r = c.args.reducts.now in
-    let n = length r.tree.nodes in
-    let low = reached_within r (g.C.Choices.menu c.args.choices.now r) n _ c.args.places.now
-    (omega arith) c.requires.stands.follows in
-    let is = c.requires.from in
+    level_listed r (g.C.Choices.menu c.args.choices.now r) c.loop-at.places
+    c.levels-levels.result.now c.loop-at.at c.loop-at.invariant.stands.follows
+    c.levels-levels.ensures c.loop-at.invariant.is c.loop-at-test.true
+
+pub first_at-requires-clause-wide : goal.first_at-requires-clause-wide
+first_at-requires-clause-wide g c = c.loop-at.invariant.stands.wide
+
+pub returns-in_default-clause-whole : goal.returns-in_default-clause-whole
+returns-in_default-clause-whole g c =
+    let r = c.args.reducts.now in
+    let menu = g.C.Choices.menu c.args.choices.now r in
+    let ls = c.levels-levels.result.now in
+    let st = c.loop-at.invariant.stands in
+    absurd
+    (some_first r menu (reached (length r.tree.nodes) c.loop-at.places)
+    (slice_index_or ls c.loop-at.at 0) c.loop-at.places c.loop-at.answer c.laws.ensures.sound st refl
+    c.requires.opened
+    (next_listed r menu c.loop-at.places ls c.loop-at.at st.follows c.levels-levels.ensures
+    c.loop-at.invariant.is c.loop-at-test.true) c.in_default.ensures.none)
+
+pub returns-in_default-clause-counted : goal.returns-in_default-clause-counted
+returns-in_default-clause-counted g c =
+    let r = c.args.reducts.now in
+    let menu = g.C.Choices.menu c.args.choices.now r in
+    let ls = c.levels-levels.result.now in
+    let st = c.loop-at.invariant.stands in
+    absurd
+    (some_first r menu (reached (length r.tree.nodes) c.loop-at.places)
+    (slice_index_or ls c.loop-at.at 0) c.loop-at.places c.loop-at.answer c.laws.ensures.sound st refl
+    c.requires.opened
+    (next_listed r menu c.loop-at.places ls c.loop-at.at st.follows c.levels-levels.ensures
+    c.loop-at.invariant.is c.loop-at-test.true) c.in_default.ensures.none)
+
+pub write_choice-requires-clause-alive : goal.write_choice-requires-clause-alive
+write_choice-requires-clause-alive g c =
+    let r = c.args.reducts.now in
     record {
-      within = omega arith;
-      is = c.requires.from;
-      stands = c.requires.stands;
-      ahead = refl;
-      counted = omega arith;
+      level = level_listed r (g.C.Choices.menu c.args.choices.now r) c.loop-at.places
+          c.levels-levels.result.now c.loop-at.at c.loop-at.invariant.stands.follows
+          c.levels-levels.ensures c.loop-at.invariant.is c.loop-at-test.true;
+      live = c.in-Some.ensures.some.live;
     }
 
-pub project-requires-clause-out : goal.project-requires-clause-out
-project-requires-clause-out g c =
-    let r = c.args.reducts.now in
-    let l = level_in r.tree c.tree-in-loop-level.result.now c.in-Some.level
-    c.tree-in-loop-level.ensures c.in-Some.ensures.level in
-    late_out r.tree c.in-Some.level c.laws.ensures.sound.family.is_tree l.late l.within
-
-pub project-requires-clause-wide : goal.project-requires-clause-wide
-project-requires-clause-wide g c = c.loop-level.invariant.stands.wide
-
-pub returns-in_default-first-clause-whole : goal.returns-in_default-first-clause-whole
-returns-in_default-first-clause-whole g c =
-    let r = c.args.reducts.now in
-    let menu = g.C.Choices.menu c.args.choices.now r in
-    let k = c.in-Some.level in
-    absurd
-    (some_first r menu c.loop-level.number k c.loop-level.places c.loop-level.answer
-    c.laws.ensures.sound
-    c.loop-level.invariant.stands c.loop-level.invariant.is c.requires.opened
-    (next_in r.tree c.tree-in-loop-level.result.now c.loop-level.number k
-    c.tree-in-loop-level.ensures c.in-Some.ensures.next)
-    (ap (λ (w : List ℕ). menu k w) (sym (c.as_slice.ensures ∙ c.project.ensures))
-    ∙ c.in_default-first.ensures.none))
-
-pub returns-in_default-first-clause-counted : goal.returns-in_default-first-clause-counted
-returns-in_default-first-clause-counted g c =
-    let r = c.args.reducts.now in
-    let menu = g.C.Choices.menu c.args.choices.now r in
-    let k = c.in-Some.level in
-    absurd
-    (some_first r menu c.loop-level.number k c.loop-level.places c.loop-level.answer
-    c.laws.ensures.sound
-    c.loop-level.invariant.stands c.loop-level.invariant.is c.requires.opened
-    (next_in r.tree c.tree-in-loop-level.result.now c.loop-level.number k
-    c.tree-in-loop-level.ensures c.in-Some.ensures.next)
-    (ap (λ (w : List ℕ). menu k w) (sym (c.as_slice.ensures ∙ c.project.ensures))
-    ∙ c.in_default-first.ensures.none))
-
 pub write_choice-requires-clause-wide : goal.write_choice-requires-clause-wide
-write_choice-requires-clause-wide g c = c.loop-level.invariant.stands.wide
+write_choice-requires-clause-wide g c = c.loop-at.invariant.stands.wide
 
 pub push-requires : goal.push-requires
 push-requires g c =
     let r = c.args.reducts.now in
-    room_for r (g.C.Choices.menu c.args.choices.now r) c.loop-level.number c.in-Some.level
-    c.loop-level.places c.loop-level.answer c.laws.ensures.sound
-    (small_in r.tree c.tree.result.now c.tree.ensures c.is_small.ensures)
-    c.loop-level.invariant.stands c.loop-level.invariant.is
-    (next_in r.tree c.tree-in-loop-level.result.now c.loop-level.number c.in-Some.level
-    c.tree-in-loop-level.ensures c.in-Some.ensures.next)
+    let menu = g.C.Choices.menu c.args.choices.now r in
+    let ls = c.levels-levels.result.now in
+    let st = c.loop-at.invariant.stands in
+    room_for r menu (reached (length r.tree.nodes) c.loop-at.places)
+    (slice_index_or ls c.loop-at.at 0) c.loop-at.places c.loop-at.answer c.laws.ensures.sound
+    (small_in r.tree c.tree.result.now c.tree.ensures c.is_small.ensures) st refl
+    (next_listed r menu c.loop-at.places ls c.loop-at.at st.follows c.levels-levels.ensures
+    c.loop-at.invariant.is c.loop-at-test.true)
 
-pub loop-level-preserved : goal.loop-level-preserved
-loop-level-preserved g c =
+pub loop-at-preserved : goal.loop-at-preserved
+loop-at-preserved g c =
     let r = c.args.reducts.now in
     let menu = g.C.Choices.menu c.args.choices.now r in
-    let k = c.in-Some.level in
-    let choice : Choice = record { level = k; place = c.in-Some-first.place } in
-    let next = next_in r.tree c.tree-in-loop-level.result.now c.loop-level.number k
-    c.tree-in-loop-level.ensures c.in-Some.ensures.next in
-    let level = level_in r.tree c.tree-in-loop-level.result.now k c.tree-in-loop-level.ensures
-    c.in-Some.ensures.level in
-    let first = subst (λ (w : List ℕ). IsFirstAt r (menu k w) choice)
-    (c.as_slice.ensures ∙ c.project.ensures) c.in-Some-first.ensures.some in
-    let made = chosen_first r menu c.loop-level.number c.loop-level.places c.push.new.self
-    c.loop-level.answer c.write_choice.new.answer choice c.laws.ensures.sound
-    c.loop-level.invariant.stands
-    c.loop-level.invariant.is next first c.write_choice.ensures c.push.ensures in
-    let count = next_count r.tree c.loop-level.number k next in
-    let within = level.within in
-    let counted = c.loop-level.invariant.counted in
-    let look = c.first.ensures.counted in
+    let ls = c.levels-levels.result.now in
+    let st = c.loop-at.invariant.stands in
+    let choice : Choice = record {
+      level = slice_index_or ls c.loop-at.at 0;
+      place = c.in-Some.place;
+    } in
+    let made = chosen_first r menu (reached (length r.tree.nodes) c.loop-at.places)
+    c.loop-at.places c.push.new.self c.loop-at.answer c.write_choice.new.answer choice
+    c.laws.ensures.sound st refl
+    (next_listed r menu c.loop-at.places ls c.loop-at.at st.follows c.levels-levels.ensures
+    c.loop-at.invariant.is c.loop-at-test.true) c.in-Some.ensures.some c.write_choice.ensures
+    c.push.ensures in
+    let long = ap length c.push.ensures ∙ length-append c.loop-at.places (choice ∷ []) in
+    let is = c.loop-at.invariant.is in
+    let counted = c.loop-at.invariant.counted in
+    let look = c.first_at.ensures.counted in
     record {
-      within = omega arith;
-      is = made.reached;
+      is = omega arith;
       stands = made.stands;
-      ahead = made.before
-          ∙ c.loop-level.invariant.ahead;
+      ahead = made.before ∙ c.loop-at.invariant.ahead;
       counted = omega arith;
     }
+
+pub returns-clause-whole : goal.returns-clause-whole
+returns-clause-whole g c =
+    let r = c.args.reducts.now in
+    let test = c.loop-at-test.false in
+    let is = c.loop-at.invariant.is in
+    let all = ap length c.levels-levels.ensures in
+    all_chosen r (g.C.Choices.menu c.args.choices.now r) c.loop-at.places
+    c.loop-at.invariant.stands.follows (omega arith)
+
+pub returns-clause-counted : goal.returns-clause-counted
+returns-clause-counted g c =
+    let r = c.args.reducts.now in
+    let test = c.loop-at-test.false in
+    let is = c.loop-at.invariant.is in
+    let all = ap length c.levels-levels.ensures in
+    let few = few_chosen r (g.C.Choices.menu c.args.choices.now r) c.loop-at.places
+    c.loop-at.invariant.stands.follows in
+    let counted = c.loop-at.invariant.counted in
+    omega arith

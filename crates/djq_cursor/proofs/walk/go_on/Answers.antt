@@ -1,4 +1,5 @@
-use Rattle.std.proofs.Common.{◌∙◌, [], ◌∷◌, ◌++◌, length, refl, arith}
+use Rattle.std.proofs.Common.{◌∙◌, [], ◌∷◌, ◌++◌, length, refl, ap, arith}
+use Rattle.std.proofs.lemmas.List.{length-append}
 use Rattle.djq_cursor.specs.declared.places.Choice.{Choice}
 use Rattle.djq_cursor.specs.Walk.{before, here, blank}
 use Rattle.djq_cursor.proofs.Walking.{given_whole}
@@ -62,23 +63,6 @@ push-requires g c =
     let shorter = t.shorter in
     omega arith
 
-pub fill-requires-clause-from : goal.fill-requires-clause-from
-fill-requires-clause-from g c =
-    let r = c.args.reducts.now in
-    let menu = g.C.Choices.menu c.args.choices.now r in
-    let d : Choice = record { level = c.in-Some.choice.level; place = c.in-Some-next.place } in
-    let all = before r menu (blank r.tree) c.args.places.now ++ here r (blank r.tree)
-    c.args.places.now ∷ [] in
-    let e = pop_is c.loop-choice.places c.pop.new.self c.pop.result c.in-Some.choice
-    c.pop.ensures.taken c.in-Some.is in
-    let t = retreat r menu c.loop-choice.places c.pop.new.self c.in-Some.choice
-    c.loop-choice.invariant.stands.follows e in
-    (advances r menu c.loop-choice.places c.pop.new.self c.push.new.self c.in-Some.choice d
-    c.loop-choice.answer c.write_choice.new.answer all c.laws.ensures.sound c.requires.group
-    c.loop-choice.invariant.stands t e c.requires.once refl c.in-Some-next.ensures.some
-    c.write_choice.ensures c.push.ensures
-    c.loop-choice.invariant.given).reached
-
 pub fill-requires-clause-stands : goal.fill-requires-clause-stands
 fill-requires-clause-stands g c =
     let r = c.args.reducts.now in
@@ -119,21 +103,14 @@ returns-in-Some-next-clause-counted g c =
     let r = c.args.reducts.now in
     let menu = g.C.Choices.menu c.args.choices.now r in
     let d : Choice = record { level = c.in-Some.choice.level; place = c.in-Some-next.place } in
-    let all = before r menu (blank r.tree) c.args.places.now ++ here r (blank r.tree)
-    c.args.places.now ∷ [] in
     let e = pop_is c.loop-choice.places c.pop.new.self c.pop.result c.in-Some.choice
     c.pop.ensures.taken c.in-Some.is in
     let t = retreat r menu c.loop-choice.places c.pop.new.self c.in-Some.choice
     c.loop-choice.invariant.stands.follows e in
-    let a = advances r menu c.loop-choice.places c.pop.new.self c.push.new.self c.in-Some.choice d
-    c.loop-choice.answer c.write_choice.new.answer all c.laws.ensures.sound c.requires.group
-    c.loop-choice.invariant.stands t e c.requires.once refl c.in-Some-next.ensures.some
-    c.write_choice.ensures c.push.ensures
-    c.loop-choice.invariant.given in
-    let long = a.long in
     let shorter = t.shorter in
     let counted = c.loop-choice.invariant.counted in
     let link = c.next.ensures.counted in
+    let long = ap length c.push.ensures ∙ length-append c.pop.new.self (d ∷ []) in
     let filled = c.fill.ensures.counted in
     omega arith
 

@@ -1,4 +1,4 @@
-use Rattle.std.proofs.Common.{◌≡◌, ℕ, ◌+◌, ◌-◌, ◌<◌, List, take, drop, subst, sym, ◌∙◌, arith}
+use Rattle.std.proofs.Common.{rules, ◌≡◌, ℕ, ◌+◌, ◌-◌, ◌<◌, List, take, drop, subst, sym, ◌∙◌, arith}
 use Rattle.djq_index.specs.Entries.{supp, cnt, grp}
 use Rattle.djq_index.proofs.Changing.{removed_length, supported_length}
 use Rattle.djq_tree.specs.declared.node.Node.TheVariants.{Trim, Meet}
@@ -15,6 +15,7 @@ use Rattle.djq_propagate.proofs.Going.{has_table, wide_now, under_leaf, under_tr
 use Rattle.djq_propagate.proofs.Going.{under_side, shared_more, shared_less, cut_of, cut_at}
 use Rattle.djq_propagate.proofs.Going.{as_live, moved_at, group_still}
 use Rattle.djq_propagate.proofs.Tabling.{wide_family}
+use Rattle.djq_propagate.proofs.Tabling.{part_none, part_one}
 use Rattle.djq_propagate.proofs.kill.+kill.Goals as goal
 
 pub kill-remove_at-requires-clause-within : goal.kill-remove_at-requires-clause-within
@@ -295,63 +296,134 @@ pub fall_side-returns-clause-counted : goal.fall_side-returns-clause-counted
 fall_side-returns-clause-counted g t c =
     omega (arith, c.empty_group.ensures.counted)
 
-pub fall_trim-part_of-requires-clause-within : goal.fall_trim-part_of-requires-clause-within
-fall_trim-part_of-requires-clause-within g t c =
+pub fall_trim-column_of-requires : goal.fall_trim-column_of-requires
+fall_trim-column_of-requires g t c =
     has_table c.args.tree.now c.args.tables.now.items c.args.at
     (now_family c.args.tree.now c.requires.losing.was c.args.tables.now.items c.args.at c.requires.losing.began)
     c.requires.losing.began.ready.within
 
-pub fall_trim-part_of-requires-clause-narrow : goal.fall_trim-part_of-requires-clause-narrow
-fall_trim-part_of-requires-clause-narrow g t c =
+pub fall_trim-fall_part-requires : goal.fall_trim-fall_part-requires
+fall_trim-fall_part-requires g t c κs hκ =
+    let d = c.decreases in (
+      omega arith,
+      (
+        hκ,
+        (
+          c.requires.losing,
+          (
+            c.requires.wide,
+            (
+              c.requires.under,
+              part_one (key_at c.args.tables.now.items c.args.at) c.in-Some.column c.args.tuple.now
+                  c.in-Some.ensures.key,
+            ),
+          ),
+        ),
+      ),
+    )
+
+pub fall_trim-has_no_column-requires : goal.fall_trim-has_no_column-requires
+fall_trim-has_no_column-requires g t c =
+    has_table c.args.tree.now c.args.tables.now.items c.args.at
+    (now_family c.args.tree.now c.requires.losing.was c.args.tables.now.items c.args.at c.requires.losing.began)
+    c.requires.losing.began.ready.within
+
+pub fall_trim-fall_part-requires-then-has_no_column : goal.fall_trim-fall_part-requires-then-has_no_column
+fall_trim-fall_part-requires-then-has_no_column g t c κs hκ =
+    let d = c.decreases in (
+      omega arith,
+      (
+        hκ,
+        (
+          c.requires.losing,
+          (
+            c.requires.wide,
+            (
+              c.requires.under,
+              part_none (key_at c.args.tables.now.items c.args.at) c.args.tuple.now (search rules),
+            ),
+          ),
+        ),
+      ),
+    )
+
+pub fall_trim-fall_wide-requires : goal.fall_trim-fall_wide-requires
+fall_trim-fall_wide-requires g t c κs hκ =
+    let d = c.decreases in (
+      omega arith,
+      (hκ, (c.requires.losing, (c.requires.wide, c.requires.under))),
+    )
+
+pub fall_wide-fall_part-requires : goal.fall_wide-fall_part-requires
+fall_wide-fall_part-requires g t c κs hκ =
+    let d = c.decreases in (
+      omega arith,
+      (
+        hκ,
+        (
+          c.requires.losing,
+          (c.requires.wide, (c.requires.under, c.as_slice.ensures ∙ c.part_of.ensures)),
+        ),
+      ),
+    )
+
+pub fall_wide-part_of-requires-clause-within : goal.fall_wide-part_of-requires-clause-within
+fall_wide-part_of-requires-clause-within g t c =
+    has_table c.args.tree.now c.args.tables.now.items c.args.at
+    (now_family c.args.tree.now c.requires.losing.was c.args.tables.now.items c.args.at c.requires.losing.began)
+    c.requires.losing.began.ready.within
+
+pub fall_wide-part_of-requires-clause-narrow : goal.fall_wide-part_of-requires-clause-narrow
+fall_wide-part_of-requires-clause-narrow g t c =
     width_narrow c.args.tree.now c.args.tables.now.items c.args.at
     (now_family c.args.tree.now c.requires.losing.was c.args.tables.now.items c.args.at c.requires.losing.began)
     c.requires.losing.began.ready.within
 
-pub fall_trim-part_of-requires-clause-few : goal.fall_trim-part_of-requires-clause-few
-fall_trim-part_of-requires-clause-few g t c =
+pub fall_wide-part_of-requires-clause-few : goal.fall_wide-part_of-requires-clause-few
+fall_wide-part_of-requires-clause-few g t c =
     trim_few c.args.tree.now c.args.tables.now.items c.args.at c.args.up
     (now_family c.args.tree.now c.requires.losing.was c.args.tables.now.items c.args.at c.requires.losing.began)
     c.requires.losing.began.ready.within c.requires.under
 
-pub fall_trim-part_of-requires-clause-wide : goal.fall_trim-part_of-requires-clause-wide
-fall_trim-part_of-requires-clause-wide g t c =
+pub fall_wide-part_of-requires-clause-wide : goal.fall_wide-part_of-requires-clause-wide
+fall_wide-part_of-requires-clause-wide g t c =
     c.requires.wide
 
-pub fall_trim-find_at-requires : goal.fall_trim-find_at-requires
-fall_trim-find_at-requires g t c =
+pub fall_part-find_at-requires : goal.fall_part-find_at-requires
+fall_part-find_at-requires g t c =
     has_table c.args.tree.now c.args.tables.now.items c.args.up
     (now_family c.args.tree.now c.requires.losing.was c.args.tables.now.items c.args.at c.requires.losing.began)
     c.requires.under.within
 
-pub fall_trim-is_shared_at-requires-clause-within : goal.fall_trim-is_shared_at-requires-clause-within
-fall_trim-is_shared_at-requires-clause-within g t c =
+pub fall_part-is_shared_at-requires-clause-within : goal.fall_part-is_shared_at-requires-clause-within
+fall_part-is_shared_at-requires-clause-within g t c =
     has_table c.args.tree.now c.args.tables.now.items c.args.up
     (now_family c.args.tree.now c.requires.losing.was c.args.tables.now.items c.args.at c.requires.losing.began)
     c.requires.under.within
 
-pub fall_trim-is_shared_at-requires-clause-live : goal.fall_trim-is_shared_at-requires-clause-live
-fall_trim-is_shared_at-requires-clause-live g t c =
-    as_live (entries_at c.args.tables.now.items c.args.up) c.in-Some.place c.as_slice-cells.result.now
+pub fall_part-is_shared_at-requires-clause-live : goal.fall_part-is_shared_at-requires-clause-live
+fall_part-is_shared_at-requires-clause-live g t c =
+    as_live (entries_at c.args.tables.now.items c.args.up) c.in-Some.place c.args.cells.now
     c.in-Some.ensures.found
 
-pub fall_trim-lower_at-requires-clause-within : goal.fall_trim-lower_at-requires-clause-within
-fall_trim-lower_at-requires-clause-within g t c =
+pub fall_part-lower_at-requires-clause-within : goal.fall_part-lower_at-requires-clause-within
+fall_part-lower_at-requires-clause-within g t c =
     has_table c.args.tree.now c.args.tables.now.items c.args.up
     (now_family c.args.tree.now c.requires.losing.was c.args.tables.now.items c.args.at c.requires.losing.began)
     c.requires.under.within
 
-pub fall_trim-lower_at-requires-clause-shared : goal.fall_trim-lower_at-requires-clause-shared
-fall_trim-lower_at-requires-clause-shared g t c =
+pub fall_part-lower_at-requires-clause-shared : goal.fall_part-lower_at-requires-clause-shared
+fall_part-lower_at-requires-clause-shared g t c =
     record {
-      tuple = c.as_slice-cells.result.now;
+      tuple = c.args.cells.now;
       is_at = c.in-Some.ensures.found;
       more = shared_more
-          c.is_shared_at.result (supp (entries_at c.args.tables.now.items c.args.up) c.as_slice-cells.result.now)
-          (c.is_shared_at.ensures c.as_slice-cells.result.now c.in-Some.ensures.found) c.if-is_shared_at.true;
+          c.is_shared_at.result (supp (entries_at c.args.tables.now.items c.args.up) c.args.cells.now)
+          (c.is_shared_at.ensures c.args.cells.now c.in-Some.ensures.found) c.if-is_shared_at.true;
     }
 
-pub fall_trim-kill-requires : goal.fall_trim-kill-requires
-fall_trim-kill-requires g t c κs hκ =
+pub fall_part-kill-requires : goal.fall_part-kill-requires
+fall_part-kill-requires g t c κs hκ =
     let low = lower_of c.args.tree.now c.args.up (Trim c.args.at) c.args.at c.requires.losing.began.ready.family.is_tree
     c.requires.under in
     let within = c.requires.under.within in
@@ -367,64 +439,64 @@ fall_trim-kill-requires g t c κs hκ =
       ),
     )
 
-pub fall_trim-returns-then-is_shared_at-clause-righted : goal.fall_trim-returns-then-is_shared_at-clause-righted
-fall_trim-returns-then-is_shared_at-clause-righted g t c =
+pub fall_part-returns-then-is_shared_at-clause-righted : goal.fall_part-returns-then-is_shared_at-clause-righted
+fall_part-returns-then-is_shared_at-clause-righted g t c =
     trim_lowered c.args.tree.now c.requires.losing.was c.args.tables.now.items c.lower_at.new.tables.items c.args.at
-    c.args.up c.args.tuple.now c.as_slice-cells.result.now c.requires.losing.began c.requires.losing.loses
+    c.args.up c.args.tuple.now c.args.cells.now c.requires.losing.began c.requires.losing.loses
     c.requires.under c.lower_at.ensures.changed
-    (c.lower_at.ensures.lowered c.as_slice-cells.result.now c.in-Some.ensures.found)
-    (c.as_slice-cells.ensures ∙ c.part_of.ensures)
+    (c.lower_at.ensures.lowered c.args.cells.now c.in-Some.ensures.found)
+    c.requires.part
 
-pub fall_trim-returns-then-is_shared_at-clause-fewer : goal.fall_trim-returns-then-is_shared_at-clause-fewer
-fall_trim-returns-then-is_shared_at-clause-fewer g t c =
-    lowered_fewer c.args.tables.now.items c.lower_at.new.tables.items c.args.up c.as_slice-cells.result.now
-    (supp (entries_at c.args.tables.now.items c.args.up) c.as_slice-cells.result.now)
-    ((supp (entries_at c.args.tables.now.items c.args.up) c.as_slice-cells.result.now) - 1)
-    c.lower_at.ensures.changed (c.lower_at.ensures.lowered c.as_slice-cells.result.now c.in-Some.ensures.found)
+pub fall_part-returns-then-is_shared_at-clause-fewer : goal.fall_part-returns-then-is_shared_at-clause-fewer
+fall_part-returns-then-is_shared_at-clause-fewer g t c =
+    lowered_fewer c.args.tables.now.items c.lower_at.new.tables.items c.args.up c.args.cells.now
+    (supp (entries_at c.args.tables.now.items c.args.up) c.args.cells.now)
+    ((supp (entries_at c.args.tables.now.items c.args.up) c.args.cells.now) - 1)
+    c.lower_at.ensures.changed (c.lower_at.ensures.lowered c.args.cells.now c.in-Some.ensures.found)
 
-pub fall_trim-returns-then-is_shared_at-clause-counted : goal.fall_trim-returns-then-is_shared_at-clause-counted
-fall_trim-returns-then-is_shared_at-clause-counted g t c =
+pub fall_part-returns-then-is_shared_at-clause-counted : goal.fall_part-returns-then-is_shared_at-clause-counted
+fall_part-returns-then-is_shared_at-clause-counted g t c =
     omega (
       arith,
       c.find_at.ensures.counted,
       c.lower_at.ensures.counted,
       c.lower_at.ensures.changed.size,
       supported_length (entries_at c.args.tables.now.items c.args.up)
-          (entries_at c.lower_at.new.tables.items c.args.up) c.as_slice-cells.result.now
-          (supp (entries_at c.args.tables.now.items c.args.up) c.as_slice-cells.result.now)
-          ((supp (entries_at c.args.tables.now.items c.args.up) c.as_slice-cells.result.now) - 1)
-          (c.lower_at.ensures.lowered c.as_slice-cells.result.now c.in-Some.ensures.found),
+          (entries_at c.lower_at.new.tables.items c.args.up) c.args.cells.now
+          (supp (entries_at c.args.tables.now.items c.args.up) c.args.cells.now)
+          ((supp (entries_at c.args.tables.now.items c.args.up) c.args.cells.now) - 1)
+          (c.lower_at.ensures.lowered c.args.cells.now c.in-Some.ensures.found),
     )
 
-pub fall_trim-returns-else-is_shared_at-clause-righted : goal.fall_trim-returns-else-is_shared_at-clause-righted
-fall_trim-returns-else-is_shared_at-clause-righted g t c =
+pub fall_part-returns-else-is_shared_at-clause-righted : goal.fall_part-returns-else-is_shared_at-clause-righted
+fall_part-returns-else-is_shared_at-clause-righted g t c =
     trim_died c.args.tree.now c.requires.losing.was c.args.tables.now.items c.kill.new.tables.items c.args.at c.args.up
-    c.args.tuple.now c.as_slice-cells.result.now c.requires.losing.began c.requires.losing.loses c.requires.under
-    c.kill.ensures.died (c.as_slice-cells.ensures ∙ c.part_of.ensures)
+    c.args.tuple.now c.args.cells.now c.requires.losing.began c.requires.losing.loses c.requires.under
+    c.kill.ensures.died c.requires.part
     (shared_less c.is_shared_at.result
-    (supp (entries_at c.args.tables.now.items c.args.up) c.as_slice-cells.result.now)
-    (c.is_shared_at.ensures c.as_slice-cells.result.now c.in-Some.ensures.found) c.if-is_shared_at.false)
+    (supp (entries_at c.args.tables.now.items c.args.up) c.args.cells.now)
+    (c.is_shared_at.ensures c.args.cells.now c.in-Some.ensures.found) c.if-is_shared_at.false)
 
-pub fall_trim-returns-else-is_shared_at-clause-fewer : goal.fall_trim-returns-else-is_shared_at-clause-fewer
-fall_trim-returns-else-is_shared_at-clause-fewer g t c =
+pub fall_part-returns-else-is_shared_at-clause-fewer : goal.fall_part-returns-else-is_shared_at-clause-fewer
+fall_part-returns-else-is_shared_at-clause-fewer g t c =
     c.kill.ensures.fewer
 
-pub fall_trim-returns-else-is_shared_at-clause-counted : goal.fall_trim-returns-else-is_shared_at-clause-counted
-fall_trim-returns-else-is_shared_at-clause-counted g t c =
+pub fall_part-returns-else-is_shared_at-clause-counted : goal.fall_part-returns-else-is_shared_at-clause-counted
+fall_part-returns-else-is_shared_at-clause-counted g t c =
     omega (arith, c.find_at.ensures.counted, c.kill.ensures.counted)
 
-pub fall_trim-returns-in-None-clause-righted : goal.fall_trim-returns-in-None-clause-righted
-fall_trim-returns-in-None-clause-righted g t c =
+pub fall_part-returns-in-None-clause-righted : goal.fall_part-returns-in-None-clause-righted
+fall_part-returns-in-None-clause-righted g t c =
     absurd (trim_missing c.args.tree.now c.requires.losing.was c.args.tables.now.items c.args.at c.args.up
-    c.args.tuple.now c.as_slice-cells.result.now c.requires.losing.began c.requires.losing.loses c.requires.under
-    (c.as_slice-cells.ensures ∙ c.part_of.ensures) c.in-None.ensures.found)
+    c.args.tuple.now c.args.cells.now c.requires.losing.began c.requires.losing.loses c.requires.under
+    c.requires.part c.in-None.ensures.found)
 
-pub fall_trim-returns-in-None-clause-fewer : goal.fall_trim-returns-in-None-clause-fewer
-fall_trim-returns-in-None-clause-fewer g t c =
+pub fall_part-returns-in-None-clause-fewer : goal.fall_part-returns-in-None-clause-fewer
+fall_part-returns-in-None-clause-fewer g t c =
     fewer_refl c.args.tables.now.items
 
-pub fall_trim-returns-in-None-clause-counted : goal.fall_trim-returns-in-None-clause-counted
-fall_trim-returns-in-None-clause-counted g t c =
+pub fall_part-returns-in-None-clause-counted : goal.fall_part-returns-in-None-clause-counted
+fall_part-returns-in-None-clause-counted g t c =
     omega (arith, c.find_at.ensures.counted)
 
 pub kill_tuple-find_at-requires : goal.kill_tuple-find_at-requires

@@ -6,25 +6,31 @@ use Rattle.djq_propagate.specs.Walks.{IsEmptied, Fewer}
 use Rattle.djq_propagate.proofs.kill.+kill.Given as goal
 
 abbrev pub decreases-empty_group : goal.decreases-empty_group
-decreases-empty_group g l = 5 * (length l.tree.now.nodes - l.up) + 4
+decreases-empty_group g l = 7 * (length l.tree.now.nodes - l.up) + 6
 
 abbrev pub decreases-fall : goal.decreases-fall
-decreases-fall g l = 5 * (length l.tree.now.nodes - l.at) + 1
+decreases-fall g l = 7 * (length l.tree.now.nodes - l.at) + 3
 
 abbrev pub decreases-fall_guard : goal.decreases-fall_guard
-decreases-fall_guard g l = 5 * (length l.tree.now.nodes - l.at)
+decreases-fall_guard g l = 7 * (length l.tree.now.nodes - l.at)
 
 abbrev pub decreases-fall_side : goal.decreases-fall_side
-decreases-fall_side g l = 5 * (length l.tree.now.nodes - l.at)
+decreases-fall_side g l = 7 * (length l.tree.now.nodes - l.at)
 
 abbrev pub decreases-fall_trim : goal.decreases-fall_trim
-decreases-fall_trim g l = 5 * (length l.tree.now.nodes - l.at)
+decreases-fall_trim g l = 7 * (length l.tree.now.nodes - l.at) + 2
+
+abbrev pub decreases-fall_wide : goal.decreases-fall_wide
+decreases-fall_wide g l = 7 * (length l.tree.now.nodes - l.at) + 1
+
+abbrev pub decreases-fall_part : goal.decreases-fall_part
+decreases-fall_part g l = 7 * (length l.tree.now.nodes - l.at)
 
 abbrev pub decreases-kill : goal.decreases-kill
-decreases-kill g l = 5 * (length l.tree.now.nodes - l.at) + 2
+decreases-kill g l = 7 * (length l.tree.now.nodes - l.at) + 4
 
 abbrev pub decreases-kill_tuple : goal.decreases-kill_tuple
-decreases-kill_tuple g l = 5 * (length l.tree.now.nodes - l.at) + 3
+decreases-kill_tuple g l = 7 * (length l.tree.now.nodes - l.at) + 5
 
 abbrev pub invariant-empty_group-loop-done : goal.invariant-empty_group-loop-done
 invariant-empty_group-loop-done g l = record {

@@ -1,6 +1,5 @@
 use Rattle.std.proofs.Common.{◌≡◌, ℕ, ◌+◌, ◌-◌, ◌*◌, ◌<◌, ◌≤◌, List, length, take, drop, ap, subst, sym, ◌∙◌, arith}
 use Rattle.djq_index.specs.Entries.{Entry, supp, cnt, grp}
-use Rattle.djq_index.specs.Table.{IsAt}
 use Rattle.djq_index.proofs.Changing.{inserted_length, supported_length}
 use Rattle.djq_tree.specs.declared.node.Node.TheVariants.{Trim, Meet}
 use Rattle.djq_tree.specs.Flat.{HasEqualMeets}
@@ -21,6 +20,7 @@ use Rattle.djq_propagate.proofs.Going.{has_table, wide_now, under_leaf, under_tr
 use Rattle.djq_propagate.proofs.Going.{under_side, guard_under, cut_of, cut_at, as_live, moved_at}
 use Rattle.djq_propagate.proofs.Going.{group_still, on_err, ok_map, err_map, refused_none}
 use Rattle.djq_propagate.proofs.Going.{plain_none}
+use Rattle.djq_propagate.proofs.Tabling.{part_none, part_one}
 use Rattle.djq_propagate.proofs.Rooms.{room_size, most_more, trim_fits, guard_fits, next_fits, side_fits, side_bounded}
 use Rattle.djq_propagate.proofs.Refusing.{side_flat}
 use Rattle.djq_propagate.proofs.live.+live.Goals as goal
@@ -345,30 +345,30 @@ rise_guard-is_small_at-requires g t c =
     (now_family c.args.tree.now c.requires.gaining.was c.args.tables.now.items c.args.at c.requires.gaining.began)
     c.requires.gaining.began.ready.within
 
-pub rise_guard-part_of-requires-clause-within : goal.rise_guard-part_of-requires-clause-within
-rise_guard-part_of-requires-clause-within g t c =
+pub rise_guard-find_part-requires-clause-within : goal.rise_guard-find_part-requires-clause-within
+rise_guard-find_part-requires-clause-within g t c =
     has_table c.args.tree.now c.args.tables.now.items c.args.at
     (now_family c.args.tree.now c.requires.gaining.was c.args.tables.now.items c.args.at c.requires.gaining.began)
     c.requires.gaining.began.ready.within
 
-pub rise_guard-part_of-requires-clause-narrow : goal.rise_guard-part_of-requires-clause-narrow
-rise_guard-part_of-requires-clause-narrow g t c =
+pub rise_guard-find_part-requires-clause-narrow : goal.rise_guard-find_part-requires-clause-narrow
+rise_guard-find_part-requires-clause-narrow g t c =
     width_narrow c.args.tree.now c.args.tables.now.items c.args.at
     (now_family c.args.tree.now c.requires.gaining.was c.args.tables.now.items c.args.at c.requires.gaining.began)
     c.requires.gaining.began.ready.within
 
-pub rise_guard-part_of-requires-clause-few : goal.rise_guard-part_of-requires-clause-few
-rise_guard-part_of-requires-clause-few g t c =
+pub rise_guard-find_part-requires-clause-few : goal.rise_guard-find_part-requires-clause-few
+rise_guard-find_part-requires-clause-few g t c =
     guard_few c.args.tree.now c.args.tables.now.items c.args.at c.args.side c.args.up
     (now_family c.args.tree.now c.requires.gaining.was c.args.tables.now.items c.args.at c.requires.gaining.began)
     c.requires.gaining.began.ready.within c.requires.under
 
-pub rise_guard-part_of-requires-clause-wide : goal.rise_guard-part_of-requires-clause-wide
-rise_guard-part_of-requires-clause-wide g t c =
+pub rise_guard-find_part-requires-clause-wide : goal.rise_guard-find_part-requires-clause-wide
+rise_guard-find_part-requires-clause-wide g t c =
     c.requires.wide
 
-pub rise_guard-find_at-requires : goal.rise_guard-find_at-requires
-rise_guard-find_at-requires g t c =
+pub rise_guard-find_part-requires-clause-there : goal.rise_guard-find_part-requires-clause-there
+rise_guard-find_part-requires-clause-there g t c =
     let m = c.requires.gaining.began.ready.family.is_tree.meet c.args.up c.args.at c.args.side c.requires.under.node in
     let ms = m.side_lower in
     let within = c.requires.under.within in
@@ -417,8 +417,7 @@ rise_guard-returns-in-Some-clause-ok g t c =
     (λ l. guard_lived c.args.tree.now c.requires.gaining.was c.args.tables.now.items c.live.new.tables.items
     c.args.at c.args.side c.args.up c.args.tuple.now c.in-Some._place c.requires.gaining.began
     c.requires.gaining.gains c.requires.under l
-    (subst (λ (w : List ℕ). IsAt (entries_at c.args.tables.now.items c.args.side) c.in-Some._place w)
-    (c.as_slice.ensures ∙ c.part_of.ensures) c.in-Some.ensures.found)) c.live.ensures.ok
+    c.in-Some.ensures.found) c.live.ensures.ok
 
 pub rise_guard-returns-in-Some-clause-refused : goal.rise_guard-returns-in-Some-clause-refused
 rise_guard-returns-in-Some-clause-refused g t c =
@@ -434,23 +433,23 @@ rise_guard-returns-in-Some-clause-plain g t c =
 
 pub rise_guard-returns-in-Some-clause-counted : goal.rise_guard-returns-in-Some-clause-counted
 rise_guard-returns-in-Some-clause-counted g t c =
-    ok_map c.live.result (c.live.new.tally + 1 + 4 * size c.args.tables.now.items ≤ c.find_at.new.tally + 4 * size
+    ok_map c.live.result (c.live.new.tally + 1 + 4 * size c.args.tables.now.items ≤ c.find_part.new.tally + 4 * size
     c.live.new.tables.items)
     (c.live.new.tally + 4 * size c.args.tables.now.items ≤ c.args.tally.now + 2 + 4 * size c.live.new.tables.items)
-    (λ h. omega (arith, h, c.find_at.ensures.counted)) c.live.ensures.counted
+    (λ h. omega (arith, h, c.find_part.ensures.counted)) c.live.ensures.counted
 
 pub rise_guard-returns-in-Some-clause-bounded : goal.rise_guard-returns-in-Some-clause-bounded
 rise_guard-returns-in-Some-clause-bounded g t c =
     err_map c.live.result
     ((n : ℕ) → AreAtMost c.args.tables.now.items n → length (entries_at c.args.tables.now.items c.args.up) < n
-    → c.live.new.tally + 9 * size c.args.tables.now.items ≤ c.find_at.new.tally + 9 *
+    → c.live.new.tally + 9 * size c.args.tables.now.items ≤ c.find_part.new.tally + 9 *
     (n * length c.args.tree.now.nodes))
     ((n : ℕ) → AreAtMost c.args.tables.now.items n
     → c.live.new.tally + 9 * size c.args.tables.now.items ≤ c.args.tally.now + 7 + 9 *
     (n * length c.args.tree.now.nodes))
     (λ h n few. omega (
       arith,
-      c.find_at.ensures.counted,
+      c.find_part.ensures.counted,
       h n few
           (guard_fits c.args.tree.now c.requires.gaining.was c.args.tables.now.items c.args.at c.args.side c.args.up n
           c.args.tuple.now c.requires.gaining.began c.requires.gaining.gains c.requires.under (few.each c.args.at)),
@@ -461,8 +460,7 @@ pub rise_guard-returns-in-None-clause-ok : goal.rise_guard-returns-in-None-claus
 rise_guard-returns-in-None-clause-ok g t c =
     guard_idle c.args.tree.now c.requires.gaining.was c.args.tables.now.items c.args.at c.args.side c.args.up
     c.args.tuple.now c.requires.gaining.began c.requires.gaining.gains c.requires.under
-    (subst (λ (w : List ℕ). cnt (entries_at c.args.tables.now.items c.args.side) w ≡ 0)
-    (c.as_slice.ensures ∙ c.part_of.ensures) c.in-None.ensures.found)
+    c.in-None.ensures.found
 
 pub rise_guard-returns-in-None-clause-plain : goal.rise_guard-returns-in-None-clause-plain
 rise_guard-returns-in-None-clause-plain g t c =
@@ -470,61 +468,141 @@ rise_guard-returns-in-None-clause-plain g t c =
 
 pub rise_guard-returns-in-None-clause-counted : goal.rise_guard-returns-in-None-clause-counted
 rise_guard-returns-in-None-clause-counted g t c =
-    omega (arith, c.find_at.ensures.counted)
+    omega (arith, c.find_part.ensures.counted)
 
-pub rise_trim-part_of-requires-clause-within : goal.rise_trim-part_of-requires-clause-within
-rise_trim-part_of-requires-clause-within g t c =
+pub rise_trim-column_of-requires : goal.rise_trim-column_of-requires
+rise_trim-column_of-requires g t c =
     has_table c.args.tree.now c.args.tables.now.items c.args.at
     (now_family c.args.tree.now c.requires.gaining.was c.args.tables.now.items c.args.at c.requires.gaining.began)
     c.requires.gaining.began.ready.within
 
-pub rise_trim-part_of-requires-clause-narrow : goal.rise_trim-part_of-requires-clause-narrow
-rise_trim-part_of-requires-clause-narrow g t c =
+pub rise_trim-rise_part-requires : goal.rise_trim-rise_part-requires
+rise_trim-rise_part-requires g t c κs hκ =
+    let d = c.decreases in (
+      omega arith,
+      (
+        hκ,
+        (
+          c.requires.gaining,
+          (
+            c.requires.wide,
+            (
+              c.requires.under,
+              (
+                part_one (key_at c.args.tables.now.items c.args.at) c.in-Some.column c.args.tuple.now
+                    c.in-Some.ensures.key,
+                c.requires.bare,
+              ),
+            ),
+          ),
+        ),
+      ),
+    )
+
+pub rise_trim-has_no_column-requires : goal.rise_trim-has_no_column-requires
+rise_trim-has_no_column-requires g t c =
+    has_table c.args.tree.now c.args.tables.now.items c.args.at
+    (now_family c.args.tree.now c.requires.gaining.was c.args.tables.now.items c.args.at c.requires.gaining.began)
+    c.requires.gaining.began.ready.within
+
+pub rise_trim-rise_part-requires-then-has_no_column : goal.rise_trim-rise_part-requires-then-has_no_column
+rise_trim-rise_part-requires-then-has_no_column g t c κs hκ =
+    let d = c.decreases in (
+      omega arith,
+      (
+        hκ,
+        (
+          c.requires.gaining,
+          (
+            c.requires.wide,
+            (
+              c.requires.under,
+              (
+                part_none (key_at c.args.tables.now.items c.args.at) c.args.tuple.now (search rules),
+                c.requires.bare,
+              ),
+            ),
+          ),
+        ),
+      ),
+    )
+
+pub rise_trim-rise_wide-requires : goal.rise_trim-rise_wide-requires
+rise_trim-rise_wide-requires g t c κs hκ =
+    let d = c.decreases in (
+      omega arith,
+      (hκ, (c.requires.gaining, (c.requires.wide, (c.requires.under, c.requires.bare)))),
+    )
+
+pub rise_wide-rise_part-requires : goal.rise_wide-rise_part-requires
+rise_wide-rise_part-requires g t c κs hκ =
+    let d = c.decreases in (
+      omega arith,
+      (
+        hκ,
+        (
+          c.requires.gaining,
+          (
+            c.requires.wide,
+            (c.requires.under, (c.as_slice.ensures ∙ c.part_of.ensures, c.requires.bare)),
+          ),
+        ),
+      ),
+    )
+
+pub rise_wide-part_of-requires-clause-within : goal.rise_wide-part_of-requires-clause-within
+rise_wide-part_of-requires-clause-within g t c =
+    has_table c.args.tree.now c.args.tables.now.items c.args.at
+    (now_family c.args.tree.now c.requires.gaining.was c.args.tables.now.items c.args.at c.requires.gaining.began)
+    c.requires.gaining.began.ready.within
+
+pub rise_wide-part_of-requires-clause-narrow : goal.rise_wide-part_of-requires-clause-narrow
+rise_wide-part_of-requires-clause-narrow g t c =
     width_narrow c.args.tree.now c.args.tables.now.items c.args.at
     (now_family c.args.tree.now c.requires.gaining.was c.args.tables.now.items c.args.at c.requires.gaining.began)
     c.requires.gaining.began.ready.within
 
-pub rise_trim-part_of-requires-clause-few : goal.rise_trim-part_of-requires-clause-few
-rise_trim-part_of-requires-clause-few g t c =
+pub rise_wide-part_of-requires-clause-few : goal.rise_wide-part_of-requires-clause-few
+rise_wide-part_of-requires-clause-few g t c =
     trim_few c.args.tree.now c.args.tables.now.items c.args.at c.args.up
     (now_family c.args.tree.now c.requires.gaining.was c.args.tables.now.items c.args.at c.requires.gaining.began)
     c.requires.gaining.began.ready.within c.requires.under
 
-pub rise_trim-part_of-requires-clause-wide : goal.rise_trim-part_of-requires-clause-wide
-rise_trim-part_of-requires-clause-wide g t c =
+pub rise_wide-part_of-requires-clause-wide : goal.rise_wide-part_of-requires-clause-wide
+rise_wide-part_of-requires-clause-wide g t c =
     c.requires.wide
 
-pub rise_trim-find_at-requires : goal.rise_trim-find_at-requires
-rise_trim-find_at-requires g t c =
+pub rise_part-find_at-requires : goal.rise_part-find_at-requires
+rise_part-find_at-requires g t c =
     has_table c.args.tree.now c.args.tables.now.items c.args.up
     (now_family c.args.tree.now c.requires.gaining.was c.args.tables.now.items c.args.at c.requires.gaining.began)
     c.requires.under.within
 
-pub rise_trim-is_small_at-requires : goal.rise_trim-is_small_at-requires
-rise_trim-is_small_at-requires g t c =
+pub rise_part-is_small_at-requires : goal.rise_part-is_small_at-requires
+rise_part-is_small_at-requires g t c =
     has_table c.args.tree.now c.args.tables.now.items c.args.at
     (now_family c.args.tree.now c.requires.gaining.was c.args.tables.now.items c.args.at c.requires.gaining.began)
     c.requires.gaining.began.ready.within
 
-pub rise_trim-raise_at-requires-clause-within : goal.rise_trim-raise_at-requires-clause-within
-rise_trim-raise_at-requires-clause-within g t c =
+pub rise_part-raise_at-requires-clause-within : goal.rise_part-raise_at-requires-clause-within
+rise_part-raise_at-requires-clause-within g t c =
     has_table c.args.tree.now c.args.tables.now.items c.args.up
     (now_family c.args.tree.now c.requires.gaining.was c.args.tables.now.items c.args.at c.requires.gaining.began)
     c.requires.under.within
 
-pub rise_trim-raise_at-requires-clause-room : goal.rise_trim-raise_at-requires-clause-room
-rise_trim-raise_at-requires-clause-room g t c =
+pub rise_part-raise_at-requires-clause-room : goal.rise_part-raise_at-requires-clause-room
+rise_part-raise_at-requires-clause-room g t c =
     record {
-      tuple = c.as_slice-cells.result.now;
+      tuple = c.args.cells.now;
       is_at = c.in-Some.ensures.found;
       room = trim_room c.args.tree.now
           c.requires.gaining.was c.args.tables.now.items c.args.at c.args.up c.args.tuple.now
-          c.as_slice-cells.result.now
+          c.args.cells.now
           c.requires.gaining.began c.requires.gaining.gains c.requires.under c.is_small_at.ensures;
     }
 
-pub rise_trim-live-requires : goal.rise_trim-live-requires
-rise_trim-live-requires g t c κs hκ =
+pub rise_part-live-requires : goal.rise_part-live-requires
+rise_part-live-requires g t c κs hκ =
     let low = lower_of c.args.tree.now c.args.up (Trim c.args.at) c.args.at
     c.requires.gaining.began.ready.family.is_tree c.requires.under in
     let within = c.requires.under.within in
@@ -539,10 +617,10 @@ rise_trim-live-requires g t c κs hκ =
             c.in-None.ensures.found,
             (
               trim_wide c.args.tree.now c.args.tables.now.items c.args.at c.args.up c.args.tuple.now
-                  c.as_slice-cells.result.now
+                  c.args.cells.now
                   (now_family c.args.tree.now c.requires.gaining.was c.args.tables.now.items c.args.at
                   c.requires.gaining.began)
-                  c.requires.gaining.began.ready.within c.requires.under (c.as_slice-cells.ensures ∙ c.part_of.ensures),
+                  c.requires.gaining.began.ready.within c.requires.under c.requires.part,
               (
                 trim_fits c.args.tree.now c.requires.gaining.was c.args.tables.now.items c.args.at c.args.up 4294967295
                     c.args.tuple.now c.requires.gaining.began c.requires.gaining.gains c.requires.under
@@ -555,63 +633,63 @@ rise_trim-live-requires g t c κs hκ =
       ),
     )
 
-pub rise_trim-returns-in-Some-clause-ok : goal.rise_trim-returns-in-Some-clause-ok
-rise_trim-returns-in-Some-clause-ok g t c =
+pub rise_part-returns-in-Some-clause-ok : goal.rise_part-returns-in-Some-clause-ok
+rise_part-returns-in-Some-clause-ok g t c =
     trim_raised c.args.tree.now c.requires.gaining.was c.args.tables.now.items c.raise_at.new.tables.items c.args.at
-    c.args.up c.args.tuple.now c.as_slice-cells.result.now c.requires.gaining.began c.requires.gaining.gains
+    c.args.up c.args.tuple.now c.args.cells.now c.requires.gaining.began c.requires.gaining.gains
     c.requires.under c.raise_at.ensures.changed
-    (c.raise_at.ensures.raised c.as_slice-cells.result.now c.in-Some.ensures.found)
-    (c.as_slice-cells.ensures ∙ c.part_of.ensures)
+    (c.raise_at.ensures.raised c.args.cells.now c.in-Some.ensures.found)
+    c.requires.part
 
-pub rise_trim-returns-in-Some-clause-plain : goal.rise_trim-returns-in-Some-clause-plain
-rise_trim-returns-in-Some-clause-plain g t c =
-    raised_same c.args.tables.now.items c.raise_at.new.tables.items c.args.up c.as_slice-cells.result.now
-    (supp (entries_at c.args.tables.now.items c.args.up) c.as_slice-cells.result.now)
-    ((supp (entries_at c.args.tables.now.items c.args.up) c.as_slice-cells.result.now) + 1)
-    c.raise_at.ensures.changed (c.raise_at.ensures.raised c.as_slice-cells.result.now c.in-Some.ensures.found)
+pub rise_part-returns-in-Some-clause-plain : goal.rise_part-returns-in-Some-clause-plain
+rise_part-returns-in-Some-clause-plain g t c =
+    raised_same c.args.tables.now.items c.raise_at.new.tables.items c.args.up c.args.cells.now
+    (supp (entries_at c.args.tables.now.items c.args.up) c.args.cells.now)
+    ((supp (entries_at c.args.tables.now.items c.args.up) c.args.cells.now) + 1)
+    c.raise_at.ensures.changed (c.raise_at.ensures.raised c.args.cells.now c.in-Some.ensures.found)
 
-pub rise_trim-returns-in-Some-clause-counted : goal.rise_trim-returns-in-Some-clause-counted
-rise_trim-returns-in-Some-clause-counted g t c =
+pub rise_part-returns-in-Some-clause-counted : goal.rise_part-returns-in-Some-clause-counted
+rise_part-returns-in-Some-clause-counted g t c =
     omega (
       arith,
       c.find_at.ensures.counted,
       c.raise_at.ensures.counted,
       c.raise_at.ensures.changed.size,
       supported_length (entries_at c.args.tables.now.items c.args.up)
-          (entries_at c.raise_at.new.tables.items c.args.up) c.as_slice-cells.result.now
-          (supp (entries_at c.args.tables.now.items c.args.up) c.as_slice-cells.result.now)
-          ((supp (entries_at c.args.tables.now.items c.args.up) c.as_slice-cells.result.now) + 1)
-          (c.raise_at.ensures.raised c.as_slice-cells.result.now c.in-Some.ensures.found),
+          (entries_at c.raise_at.new.tables.items c.args.up) c.args.cells.now
+          (supp (entries_at c.args.tables.now.items c.args.up) c.args.cells.now)
+          ((supp (entries_at c.args.tables.now.items c.args.up) c.args.cells.now) + 1)
+          (c.raise_at.ensures.raised c.args.cells.now c.in-Some.ensures.found),
     )
 
-pub rise_trim-returns-in-None-clause-ok : goal.rise_trim-returns-in-None-clause-ok
-rise_trim-returns-in-None-clause-ok g t c =
+pub rise_part-returns-in-None-clause-ok : goal.rise_part-returns-in-None-clause-ok
+rise_part-returns-in-None-clause-ok g t c =
     ok_map c.live.result (Lived c.args.tree.now c.args.tables.now.items c.live.new.tables.items c.args.up
-    c.as_slice-cells.result.now) (Righted c.args.tree.now c.args.tables.now.items c.live.new.tables.items c.args.at)
+    c.args.cells.now) (Righted c.args.tree.now c.args.tables.now.items c.live.new.tables.items c.args.at)
     (λ l. trim_lived c.args.tree.now c.requires.gaining.was c.args.tables.now.items c.live.new.tables.items
-    c.args.at c.args.up c.args.tuple.now c.as_slice-cells.result.now c.requires.gaining.began
-    c.requires.gaining.gains c.requires.under l (c.as_slice-cells.ensures ∙ c.part_of.ensures)) c.live.ensures.ok
+    c.args.at c.args.up c.args.tuple.now c.args.cells.now c.requires.gaining.began
+    c.requires.gaining.gains c.requires.under l c.requires.part) c.live.ensures.ok
 
-pub rise_trim-returns-in-None-clause-refused : goal.rise_trim-returns-in-None-clause-refused
-rise_trim-returns-in-None-clause-refused g t c =
+pub rise_part-returns-in-None-clause-refused : goal.rise_part-returns-in-None-clause-refused
+rise_part-returns-in-None-clause-refused g t c =
     err_map c.live.result (Refused c.args.tree.now c.args.tables.now.items c.live.new.tables.items c.args.up)
     (Stayed c.args.tree.now c.args.tables.now.items c.live.new.tables.items c.args.at)
     (λ r. stayed c.args.tree.now c.args.tables.now.items c.live.new.tables.items c.args.at c.args.up
     (Trim c.args.at) c.requires.gaining.began.ready.family.is_tree c.requires.under r) c.live.ensures.refused
 
-pub rise_trim-returns-in-None-clause-plain : goal.rise_trim-returns-in-None-clause-plain
-rise_trim-returns-in-None-clause-plain g t c =
+pub rise_part-returns-in-None-clause-plain : goal.rise_part-returns-in-None-clause-plain
+rise_part-returns-in-None-clause-plain g t c =
     c.live.ensures.plain
 
-pub rise_trim-returns-in-None-clause-counted : goal.rise_trim-returns-in-None-clause-counted
-rise_trim-returns-in-None-clause-counted g t c =
+pub rise_part-returns-in-None-clause-counted : goal.rise_part-returns-in-None-clause-counted
+rise_part-returns-in-None-clause-counted g t c =
     ok_map c.live.result (c.live.new.tally + 1 + 4 * size c.args.tables.now.items ≤ c.find_at.new.tally + 4 * size
     c.live.new.tables.items)
     (c.live.new.tally + 4 * size c.args.tables.now.items ≤ c.args.tally.now + 2 + 4 * size c.live.new.tables.items)
     (λ h. omega (arith, h, c.find_at.ensures.counted)) c.live.ensures.counted
 
-pub rise_trim-returns-in-None-clause-bounded : goal.rise_trim-returns-in-None-clause-bounded
-rise_trim-returns-in-None-clause-bounded g t c =
+pub rise_part-returns-in-None-clause-bounded : goal.rise_part-returns-in-None-clause-bounded
+rise_part-returns-in-None-clause-bounded g t c =
     err_map c.live.result
     ((n : ℕ) → AreAtMost c.args.tables.now.items n → length (entries_at c.args.tables.now.items c.args.up) < n
     → c.live.new.tally + 9 * size c.args.tables.now.items ≤ c.find_at.new.tally + 9 *
@@ -952,15 +1030,15 @@ pub rise_guard-returns-in-Some-clause-flat : goal.rise_guard-returns-in-Some-cla
 rise_guard-returns-in-Some-clause-flat g t c =
     err_map c.live.result
     (HasEqualMeets c.args.tree.now
-    → c.live.new.tally ≤ c.find_at.new.tally + 5 * (length c.args.tree.now.nodes - c.args.up))
+    → c.live.new.tally ≤ c.find_part.new.tally + 5 * (length c.args.tree.now.nodes - c.args.up))
     (HasEqualMeets c.args.tree.now
     → c.live.new.tally + 2 ≤ c.args.tally.now + 5 * (length c.args.tree.now.nodes - c.args.at))
     (λ h meets. let low = lower_of c.args.tree.now c.args.up (Meet c.args.at c.args.side) c.args.at
     c.requires.gaining.began.ready.family.is_tree c.requires.under in let within = c.requires.under.within in omega
-    (arith, c.find_at.ensures.counted, h meets)) c.live.ensures.flat
+    (arith, c.find_part.ensures.counted, h meets)) c.live.ensures.flat
 
-pub rise_trim-returns-in-None-clause-flat : goal.rise_trim-returns-in-None-clause-flat
-rise_trim-returns-in-None-clause-flat g t c =
+pub rise_part-returns-in-None-clause-flat : goal.rise_part-returns-in-None-clause-flat
+rise_part-returns-in-None-clause-flat g t c =
     err_map c.live.result
     (HasEqualMeets c.args.tree.now
     → c.live.new.tally ≤ c.find_at.new.tally + 5 * (length c.args.tree.now.nodes - c.args.up))

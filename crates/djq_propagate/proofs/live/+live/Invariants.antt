@@ -6,19 +6,25 @@ use Rattle.djq_propagate.specs.Walks.{IsGrown, CameAs}
 use Rattle.djq_propagate.proofs.live.+live.Given as goal
 
 abbrev pub decreases-live : goal.decreases-live
-decreases-live g l = 3 * (length l.tree.now.nodes - l.at) + 2
+decreases-live g l = 5 * (length l.tree.now.nodes - l.at) + 4
 
 abbrev pub decreases-rise : goal.decreases-rise
-decreases-rise g l = 3 * (length l.tree.now.nodes - l.at) + 1
+decreases-rise g l = 5 * (length l.tree.now.nodes - l.at) + 3
 
 abbrev pub decreases-rise_guard : goal.decreases-rise_guard
-decreases-rise_guard g l = 3 * (length l.tree.now.nodes - l.at)
+decreases-rise_guard g l = 5 * (length l.tree.now.nodes - l.at)
 
 abbrev pub decreases-rise_side : goal.decreases-rise_side
-decreases-rise_side g l = 3 * (length l.tree.now.nodes - l.at)
+decreases-rise_side g l = 5 * (length l.tree.now.nodes - l.at)
 
 abbrev pub decreases-rise_trim : goal.decreases-rise_trim
-decreases-rise_trim g l = 3 * (length l.tree.now.nodes - l.at)
+decreases-rise_trim g l = 5 * (length l.tree.now.nodes - l.at) + 2
+
+abbrev pub decreases-rise_wide : goal.decreases-rise_wide
+decreases-rise_wide g l = 5 * (length l.tree.now.nodes - l.at) + 1
+
+abbrev pub decreases-rise_part : goal.decreases-rise_part
+decreases-rise_part g l = 5 * (length l.tree.now.nodes - l.at)
 
 abbrev pub invariant-rise_side-loop-done : goal.invariant-rise_side-loop-done
 invariant-rise_side-loop-done g l = record {

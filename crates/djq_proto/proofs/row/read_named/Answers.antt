@@ -1,16 +1,41 @@
-use Rattle.std.proofs.Common.{◌∙◌, subst, sym}
+use Rattle.std.proofs.Common.{◌≤◌, ◌<◌, ◌∙◌, [], Ok, ap, arith, length, subst, sym, take}
+use Rattle.std.proofs.lemmas.List.{take_all}
 use Rattle.djq_model.specs.Data.{Tuple}
 use Rattle.djq_proto.specs.RowReading.{ReadsNumbers}
-use Rattle.djq_proto.proofs.Rows.{numbers_named}
+use Rattle.djq_proto.proofs.Rows.{ReadsNamed, numbers_named, overwritten}
 use Rattle.djq_proto.proofs.row.read_named.Goals as goal
 
-pub returns-then-is_done-2 : goal.returns-then-is_done-2
-returns-then-is_done-2 c =
-    let ts = c.next_word.new.lexer in
-    let read = subst (λ (row : Tuple). ReadsNumbers ts row c.read_numbers.new.lexer c.read_numbers.new.row.items)
-    c.clear.ensures.items c.read_numbers.ensures.read in
-    numbers_named c.args.line.now c.requires.0 c.args.lexer.now ts c.read_numbers.new.lexer c.in-Some.name.now
-    c.read_numbers.new.row.items c.requires.1 c.in-Some.ensures
-    (sym c.is_name.ensures ∙ c.if-not-is_name.false)
-    (λ none. absurd (cc (c.is_done.ensures.1 none, c.if-is_done.false))) read
-    (c.is_done-2.ensures.0 c.if-is_done-2.true)
+pub returns-then-is_done : goal.returns-then-is_done
+returns-then-is_done c =
+    let w = c.overwrite_numbers-count in
+    let name = c.in-Some.name.now in
+    let new = w.new.row in
+    let wide = w.auto.row ∙ c.as_mut_slice.ensures.len in
+    let full : length new ≤ w.result.0 = omega (arith, wide, c.if-count-len.true, c.len.ensures) in
+    let all = take_all w.result.0 new full in
+    let read = subst (λ (row : Tuple). ReadsNumbers c.in-Some.values [] w.result.1 row) all w.ensures.read in
+    let some : 0 < length new = omega (arith, w.ensures.within, c.if-count-gt0.true) in
+    subst (λ (row : Tuple). ReadsNamed c.args.line.now c.args.lexer (Ok (name, row)))
+    (sym (overwritten new c.args.row.now.items c.args.row.now.len wide))
+    (numbers_named c.args.line.now c.requires.0 c.args.lexer c.in-Some.values w.result.1 name new c.requires.1
+    c.in-Some.ensures.0 c.in-Some.ensures.1 some read (c.is_done.ensures.0 c.if-is_done.true))
+
+pub returns-in-Ok : goal.returns-in-Ok
+returns-in-Ok c =
+    let w = c.overwrite_numbers-count in
+    let wide = w.auto.row ∙ c.as_mut_slice.ensures.len in
+    let whole = overwritten w.new.row c.args.row.now.items c.args.row.now.len wide in
+    let read = subst (λ (row : Tuple). ReadsNumbers c.in-Some.values [] w.result.1 row)
+    (sym (c.truncate.ensures.items ∙ ap (take w.result.0) whole)) w.ensures.read in
+    c.in-Ok.ensures c.requires.0 c.args.lexer c.in-Some.values c.in-Some.name.now c.requires.1 c.in-Some.ensures.0
+    c.in-Some.ensures.1 read
+
+pub returns-in-Err : goal.returns-in-Err
+returns-in-Err c =
+    let w = c.overwrite_numbers-count in
+    let wide = w.auto.row ∙ c.as_mut_slice.ensures.len in
+    let whole = overwritten w.new.row c.args.row.now.items c.args.row.now.len wide in
+    let read = subst (λ (row : Tuple). ReadsNumbers c.in-Some.values [] w.result.1 row)
+    (sym (c.truncate.ensures.items ∙ ap (take w.result.0) whole)) w.ensures.read in
+    c.in-Err.ensures c.requires.0 c.args.lexer c.in-Some.values c.in-Some.name.now c.requires.1 c.in-Some.ensures.0
+    c.in-Some.ensures.1 read

@@ -28,6 +28,7 @@ invariant_of-result c =
           (made_reducts c.args.tree c.len-node-end.ensures.tree c.requires),
       c.in_ok-columns.ensures,
       c.in_ok-places.ensures ∙ ap (λ (F : List ℕ). head_places F VARIABLES) c.head.ensures,
+      c.in_ok-descent.ensures,
     )
 
 pub returns-clause-empty : goal.returns-clause-empty

@@ -1,6 +1,6 @@
 use Rattle.std.proofs.Common.{◌≡◌, length, drop}
 use Rattle.djq_cursor.specs.Levels.{put}
-use Rattle.djq_cursor.proofs.levels.write_tuple.Given as goal
+use Rattle.djq_cursor.proofs.levels.write_each.Given as goal
 
 abbrev pub invariant-loop-at : goal.invariant-loop-at
 invariant-loop-at l = record {
