@@ -8,7 +8,8 @@
 //! the list of rows; how they are hashed and chained stays inside.
 //!
 //! What surprises: the slot of a removed row is used for the next one that comes. The hash has no
-//! seed: it spreads rows well, and doesn't resist one who chooses rows that fall into one bucket.
+//! seed: it spreads rows well, and doesn't resist one who chooses rows that fall into one bucket. Whoever
+//! looks for a row and then puts it in hashes it once: by [`hash_of`], for the calls that take the hash.
 //!
 //! ```text
 //! push 7 7   slot 0      rows, the oldest first    7 7   8 8   9 9
