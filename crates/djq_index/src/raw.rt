@@ -1,11 +1,11 @@
-ghost use Rattle.std.specs.Prelude.{◌≡◌, ℕ, ◌+◌, ◌-◌, ◌<◌, ◌≤◌, ◌⊎◌, false, cond, List, [], ◌∷◌, ◌++◌, length, max, slice_set, vec_len, vec_capacity, IfOk, OnErr, Some, None};
+ghost use Rattle.std.specs.Prelude.{◌≡◌, ℕ, ◌+◌, ◌-◌, ◌<◌, ◌≤◌, ◌⊎◌, false, cond, List, [], ◌∷◌, ◌++◌, length, slice_set, vec_len, vec_capacity, IfOk, OnErr, Some, None};
 ghost use Rattle.djq_arena.specs.Chains.{pair_at, IsWithin, first_of};
 ghost use Rattle.djq_arena.specs.Rows.{Row, AreRows, IsHeld, IsFull};
 ghost use Rattle.djq_index.specs.Tuple.{pick};
 ghost use Rattle.djq_index.specs.Entries.{cnt, marks, unmarked};
 ghost use Rattle.djq_index.specs.Table.{IsAt, IsLive, IsUnmarked, AreColumns};
 ghost use Rattle.djq_index.specs.Changes.{InsertedAs, Removed, Touched};
-ghost use Rattle.djq_index.specs.Raw.{IsBare, AreHeads, IsNoted, IsMarked, entries_of, slots_at, place_of, note_at, ends_at, IsSeat, IsSettled, passed, entries_in, AreTrailing, without_mark, HasNoRoomForHead};
+ghost use Rattle.djq_index.specs.Raw.{IsBare, AreHeads, CanTake, IsLaid, IsSlotFor, IsUnlaid, IsNoted, IsMarked, entries_of, slots_at, place_of, note_at, ends_at, IsSeat, IsSettled, passed, entries_in, AreTrailing, without_mark, HasNoRoomForHead};
 ghost use Rattle.djq_arena.specs.Store.{beside};
 
 use crate::heads::{cell_at, found, join, part, project, prune};
@@ -111,22 +111,11 @@ fn grow_links(links: &mut Vec<Pair>) -> Result<(), AllocError>
 /// stay as they were.
 #[inline(always)]
 fn lay_ready(rows: &mut Arena, notes: &mut Vec<Note>, tuple: &[u64]) -> Result<u32, AllocError>
-    requires rows { AreRows rows.old }
-    requires wide { length tuple.now ≡ rows.old.width }
-    requires few { length rows.old.rows < 4294967295 }
-    requires notes { rows.old.room ≤ length notes.old.items }
+    requires ready { CanTake rows.old notes.old.items tuple.now }
     requires room { IsFull rows.old → vec_len notes.old < vec_capacity notes.old }
-    ensures rows { AreRows rows.new }
-    ensures width { rows.new.width ≡ rows.old.width }
-    ensures notes { rows.new.room ≤ length notes.new.items }
-    ensures room { IfOk result (λ slot. rows.new.room ≡ max rows.old.room (slot + 1)) }
-    ensures slot { IfOk result (λ slot. slot ≤ rows.old.room) }
-    ensures kept { OnErr result (rows.new.room ≡ rows.old.room) }
-    ensures refused { OnErr result (rows.new.rows ≡ rows.old.rows) }
-    ensures laid { IfOk result (λ slot. rows.new.rows ≡ rows.old.rows ++ record { slot = slot; cells = tuple.now } ∷ []) }
-    ensures same_notes { (k : ℕ) → note_at notes.new.items k ≡ note_at notes.old.items k }
-    ensures reused { IfOk result (λ slot. ¬ IsFull rows.old → slot < rows.old.room) }
-    ensures full { OnErr result (IsFull rows.old) }
+    ensures laid { IfOk result (λ slot. IsLaid rows.old rows.new notes.old.items notes.new.items slot tuple.now) }
+    ensures slot { IfOk result (λ slot. IsSlotFor rows.old rows.new slot) }
+    ensures refused { OnErr result (IsUnlaid rows.old rows.new notes.old.items notes.new.items) }
 {
     let slot = rows.push(tuple)?;
     rows.laws();
@@ -139,21 +128,10 @@ fn lay_ready(rows: &mut Arena, notes: &mut Vec<Note>, tuple: &[u64]) -> Result<u
 #[inline(never)]
 fn lay_growing(rows: &mut Arena, notes: &mut Vec<Note>, tuple: &[u64]) -> Result<u32, AllocError>
     requires full { IsFull rows.old }
-    requires rows { AreRows rows.old }
-    requires wide { length tuple.now ≡ rows.old.width }
-    requires few { length rows.old.rows < 4294967295 }
-    requires notes { rows.old.room ≤ length notes.old.items }
-    ensures rows { AreRows rows.new }
-    ensures width { rows.new.width ≡ rows.old.width }
-    ensures notes { rows.new.room ≤ length notes.new.items }
-    ensures room { IfOk result (λ slot. rows.new.room ≡ max rows.old.room (slot + 1)) }
-    ensures slot { IfOk result (λ slot. slot ≤ rows.old.room) }
-    ensures kept { OnErr result (rows.new.room ≡ rows.old.room) }
-    ensures refused { OnErr result (rows.new.rows ≡ rows.old.rows) }
-    ensures laid { IfOk result (λ slot. rows.new.rows ≡ rows.old.rows ++ record { slot = slot; cells = tuple.now } ∷ []) }
-    ensures same_notes { (k : ℕ) → note_at notes.new.items k ≡ note_at notes.old.items k }
-    ensures reused { IfOk result (λ slot. ¬ IsFull rows.old → slot < rows.old.room) }
-    ensures full { OnErr result (IsFull rows.old) }
+    requires ready { CanTake rows.old notes.old.items tuple.now }
+    ensures laid { IfOk result (λ slot. IsLaid rows.old rows.new notes.old.items notes.new.items slot tuple.now) }
+    ensures slot { IfOk result (λ slot. IsSlotFor rows.old rows.new slot) }
+    ensures refused { OnErr result (IsUnlaid rows.old rows.new notes.old.items notes.new.items) }
 {
     notes.reserve(1)?;
     lay_ready(rows, notes, tuple)
@@ -161,21 +139,10 @@ fn lay_growing(rows: &mut Arena, notes: &mut Vec<Note>, tuple: &[u64]) -> Result
 
 /// Lays a tuple into a slot, behind all others. Where there is no memory, the rows stay as they were.
 fn lay(rows: &mut Arena, notes: &mut Vec<Note>, tuple: &[u64]) -> Result<u32, AllocError>
-    requires rows { AreRows rows.old }
-    requires wide { length tuple.now ≡ rows.old.width }
-    requires few { length rows.old.rows < 4294967295 }
-    requires notes { rows.old.room ≤ length notes.old.items }
-    ensures rows { AreRows rows.new }
-    ensures width { rows.new.width ≡ rows.old.width }
-    ensures notes { rows.new.room ≤ length notes.new.items }
-    ensures room { IfOk result (λ slot. rows.new.room ≡ max rows.old.room (slot + 1)) }
-    ensures slot { IfOk result (λ slot. slot ≤ rows.old.room) }
-    ensures kept { OnErr result (rows.new.room ≡ rows.old.room) }
-    ensures refused { OnErr result (rows.new.rows ≡ rows.old.rows) }
-    ensures laid { IfOk result (λ slot. rows.new.rows ≡ rows.old.rows ++ record { slot = slot; cells = tuple.now } ∷ []) }
-    ensures same_notes { (k : ℕ) → note_at notes.new.items k ≡ note_at notes.old.items k }
-    ensures reused { IfOk result (λ slot. ¬ IsFull rows.old → slot < rows.old.room) }
-    ensures full { OnErr result (IsFull rows.old) }
+    requires ready { CanTake rows.old notes.old.items tuple.now }
+    ensures laid { IfOk result (λ slot. IsLaid rows.old rows.new notes.old.items notes.new.items slot tuple.now) }
+    ensures slot { IfOk result (λ slot. IsSlotFor rows.old rows.new slot) }
+    ensures refused { OnErr result (IsUnlaid rows.old rows.new notes.old.items notes.new.items) }
 {
     if rows.is_full() && notes.len() == notes.capacity() {
         lay_growing(rows, notes, tuple)
@@ -191,21 +158,13 @@ fn lay_linked(
     links: &mut Vec<Pair>,
     tuple: &[u64],
 ) -> Result<u32, AllocError>
-    requires rows { AreRows rows.old }
-    requires wide { length tuple.now ≡ rows.old.width }
-    requires few { length rows.old.rows < 4294967295 }
-    requires notes { rows.old.room ≤ length notes.old.items }
+    requires ready { CanTake rows.old notes.old.items tuple.now }
     requires links { rows.old.room ≤ length links.old.items }
-    ensures rows { AreRows rows.new }
-    ensures width { rows.new.width ≡ rows.old.width }
-    ensures notes { rows.new.room ≤ length notes.new.items }
+    ensures laid { IfOk result (λ slot. IsLaid rows.old rows.new notes.old.items notes.new.items slot tuple.now) }
+    ensures refused { OnErr result (IsUnlaid rows.old rows.new notes.old.items notes.new.items) }
     ensures links { rows.new.room ≤ length links.new.items }
-    ensures refused { OnErr result (rows.new.rows ≡ rows.old.rows) }
-    ensures laid { IfOk result (λ slot. rows.new.rows ≡ rows.old.rows ++ record { slot = slot; cells = tuple.now } ∷ []) }
-    ensures same_notes { (k : ℕ) → note_at notes.new.items k ≡ note_at notes.old.items k }
     ensures same_links { (k : ℕ) → pair_at links.new.items k ≡ pair_at links.old.items k }
     ensures longer { length links.old.items ≤ length links.new.items }
-    ensures full { OnErr result (IsFull rows.old) }
 {
     if rows.is_full() && links.len() == links.capacity() {
         grow_links(links)?;
