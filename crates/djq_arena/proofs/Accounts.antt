@@ -6,8 +6,8 @@ use Rattle.std.specs.Result.{IfOk, OnErr}
 use Rattle.djq_arena.specs.declared.store.Store.{Store}
 use Rattle.djq_arena.specs.declared.chain.Ends.{Ends}
 use Rattle.djq_arena.specs.Chains.{AreBelow, first_of, last_of, Linked, pair_at}
-use Rattle.djq_arena.specs.Store.{cells_at, live_of, free_of, IsSound, rows_in, rows_of, IsSame, SameRows}
-use Rattle.djq_arena.specs.Rows.{Row, slots, IsHeld, AreWide, AreRows}
+use Rattle.djq_arena.specs.Store.{cells_at, live_of, free_of, IsSound, rows_in, rows_of, IsSame, IsTidy}
+use Rattle.djq_arena.specs.Rows.{Row, Rows, slots, IsHeld, AreWide, AreRows}
 use Rattle.djq_arena.proofs.Lists.{different_front, below_front}
 use Rattle.djq_arena.proofs.Chaining.{prev_here, next_here}
 use Rattle.djq_arena.proofs.Storing.{held_within}
@@ -68,8 +68,11 @@ unfolding rows_of
 all_wide a h = rows_wide a.width (length a.order.items) a.cells.items (live_of a) h.store.cells
     (below_front (length a.order.items) (live_of a) (free_of a) h.store.below)
 
-pub rows_law : (a : Store) → IsSound a
-    → AreRows (record { width = a.width; room = length a.order.items; rows = rows_of a })
+-- what an arena shows of its store
+abbrev pub value : Store → Rows
+value a = record { width = a.width; room = length a.order.items; rows = rows_of a }
+
+pub rows_law : (a : Store) → IsSound a → AreRows (value a)
 rows_law a h = record {
   different = rw slots_of (different_front (live_of a) (free_of a) h.store.apart);
   below = rw slots_of (below_front (length a.order.items) (live_of a) (free_of a) h.store.below);
@@ -77,13 +80,12 @@ rows_law a h = record {
   wide = all_wide a h;
 }
 
-pub same_account : (a b : Store) → IsSame a b → SameRows a b
-same_account a b h = record {
-  width = h.alike.width;
-  room = h.alike.slots;
-  rows = same_rows a b h;
-  tidy = λ tidy. omega (arith, tidy, h.alike.slots, h.len, h.spare);
-}
+-- where a row found no memory
+pub same_tidy : (a b : Store) → IsSame a b → IsTidy a → IsTidy b
+same_tidy a b h tidy = omega (arith, tidy, h.alike.slots, h.len, h.spare)
+
+pub same_value : (a b : Store) → IsSame a b → value b ≡ value a
+same_value a b h = rw (same_rows a b h, h.alike.width, h.alike.slots) refl
 
 -- what holds on either way out
 pub either : {T E : Type 0} (r : Result T E) (P : T → Type 0) (Q R : Type 0) → IfOk r P → OnErr r Q

@@ -182,10 +182,3 @@ pub record IsRenewed (old new : Store) (i : ℕ) : Type 0 where
   pub alike : IsAlike old new
   pub live : (xs ys : List ℕ) → live_of old ≡ xs ++ i ∷ ys → live_of new ≡ (xs ++ ys) ++ i ∷ []
   pub tidy : IsTidy old → IsTidy new
-
--- the same rows in the same slots
-pub record SameRows (old new : Store) : Type 0 where
-  pub width : new.width ≡ old.width
-  pub room : length new.order.items ≡ length old.order.items
-  pub rows : rows_of new ≡ rows_of old
-  pub tidy : IsTidy old → IsTidy new

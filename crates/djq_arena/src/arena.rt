@@ -3,9 +3,8 @@ ghost use Rattle.djq_arena.specs.Chains.{first_of, last_of};
 ghost use Rattle.djq_arena.specs.Rows.{Row, slots, IsAbsent, IsRow, IsHeld, IsFull, AreRows};
 ghost use Rattle.djq_arena.specs.Store.{hash};
 
-use crate::store::{
-    Store, cells_in, empty, find, hash_of, newer, older, push_row, remove_row, renew_row,
-};
+use crate::chain::pair_of;
+use crate::store::{Store, cells_of, empty, find, hash_of, put, renew, take};
 use std::alloc::{AllocError, Global};
 use std::marker::Model;
 
@@ -125,7 +124,7 @@ impl Arena {
         ensures full { OnErr result (IsFull self.old) }
         ensures width { self.new.width ≡ self.old.width }
     {
-        push_row(&mut self.store, self.alloc, cells, code)
+        put(&mut self.store, self.alloc, cells, code)
     }
 
     /// Takes the row in a slot out.
@@ -135,7 +134,7 @@ impl Arena {
         ensures room { self.new.room ≡ self.old.room }
         ensures width { self.new.width ≡ self.old.width }
     {
-        remove_row(&mut self.store, slot);
+        take(&mut self.store, slot);
     }
 
     /// Puts the row in a slot behind all others. It keeps its slot.
@@ -145,7 +144,7 @@ impl Arena {
         ensures room { self.new.room ≡ self.old.room }
         ensures width { self.new.width ≡ self.old.width }
     {
-        renew_row(&mut self.store, slot);
+        renew(&mut self.store, slot);
     }
 
     /// The cells of the row in a slot.
@@ -153,7 +152,7 @@ impl Arena {
         requires { IsHeld self.now.rows slot }
         ensures { (xs : List Row) (r : Row) (ys : List Row) → self.now.rows ≡ xs ++ r ∷ ys → r.slot ≡ slot → result.now ≡ r.cells }
     {
-        cells_in(&self.store, slot)
+        cells_of(&self.store, slot)
     }
 
     /// The slot of the oldest row.
@@ -175,7 +174,7 @@ impl Arena {
         requires { IsHeld self.now.rows slot }
         ensures { (xs : List Row) (r : Row) (ys : List Row) → self.now.rows ≡ xs ++ r ∷ ys → r.slot ≡ slot → result ≡ first_of (slots ys) }
     {
-        newer(&self.store, slot)
+        pair_of(&self.store.order, slot).next.get()
     }
 
     /// The slot of the row that came before the one in a slot.
@@ -183,6 +182,6 @@ impl Arena {
         requires { IsHeld self.now.rows slot }
         ensures { (xs : List Row) (r : Row) (ys : List Row) → self.now.rows ≡ xs ++ r ∷ ys → r.slot ≡ slot → result ≡ last_of (slots xs) }
     {
-        older(&self.store, slot)
+        pair_of(&self.store.order, slot).prev.get()
     }
 }

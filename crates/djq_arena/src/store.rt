@@ -1,7 +1,6 @@
-ghost use Rattle.std.specs.Prelude.{◌≡◌, ◌≢◌, ◌+◌, ◌*◌, ◌<◌, ◌≤◌, ◌++◌, ◌∷◌, [], length, take, drop, Some, None, ℕ, IfOk, OnErr, slice_set, replicate, IsTrue, ◌↔◌, MatchOption, List, max, vec_len, vec_capacity};
-ghost use Rattle.djq_arena.specs.Rows.{Row, slots, IsAbsent, IsRow, IsHeld};
-ghost use Rattle.djq_arena.specs.Store.{mixed, hash, class, cells_at, AreListed, IsPrepared, IsPut, IsTaken, IsRenewed, IsSound, IsLoose, IsLinked, IsUnlinked, IsSame, IsReleased, IsTidy, HasRoom, Holds, SameRows, live_of, rows_of};
-ghost use Rattle.djq_arena.specs.Chains.{first_of, last_of};
+ghost use Rattle.std.specs.Prelude.{◌≡◌, ◌≢◌, ◌+◌, ◌*◌, ◌<◌, ◌≤◌, ◌++◌, [], length, take, drop, Some, None, ℕ, IfOk, OnErr, slice_set, replicate, IsTrue, ◌↔◌, MatchOption, List, vec_len, vec_capacity};
+ghost use Rattle.djq_arena.specs.Rows.{slots, IsAbsent, IsRow};
+ghost use Rattle.djq_arena.specs.Store.{mixed, hash, class, cells_at, AreListed, IsPrepared, IsPut, IsTaken, IsRenewed, IsSound, IsLoose, IsLinked, IsUnlinked, IsSame, IsReleased, IsTidy, HasRoom, Holds, live_of, rows_of};
 ghost use Rattle.djq_arena.specs.Buckets.{link_at, Stands, IsBehind, IsUnlisted};
 
 use crate::chain::{Ends, Pair, enter, follow, grown, leave, pair_of};
@@ -591,84 +590,4 @@ pub fn empty(alloc: Global, width: usize) -> Result<Store, AllocError>
         len: 0,
         spare: 0,
     })
-}
-
-/// Puts in a row behind all others; the rows' account of [`put`].
-pub fn push_row(
-    store: &mut Store,
-    alloc: Global,
-    cells: &[u64],
-    code: u64,
-) -> Result<u32, AllocError>
-    requires sound { IsSound store.old }
-    requires tidy { IsTidy store.old }
-    requires wide { length cells.now ≡ store.old.width }
-    requires coded { code ≡ hash cells.now }
-    requires few { length (rows_of store.old) < 4294967295 }
-    ensures sound { IsSound store.new }
-    ensures tidy { IsTidy store.new }
-    ensures pushed { IfOk result (λ slot. rows_of store.new ≡ rows_of store.old ++ record { slot = slot; cells = cells.now } ∷ []) }
-    ensures room { IfOk result (λ slot. length store.new.order.items ≡ max (length store.old.order.items) (slot + 1)) }
-    ensures slot { IfOk result (λ slot. slot ≤ length store.old.order.items) }
-    ensures reused { IfOk result (λ slot. length (rows_of store.old) ≢ length store.old.order.items → slot < length store.old.order.items) }
-    ensures refused { OnErr result (SameRows store.old store.new) }
-    ensures full { OnErr result (length (rows_of store.old) ≡ length store.old.order.items) }
-    ensures width { store.new.width ≡ store.old.width }
-{
-    put(store, alloc, cells, code)
-}
-
-/// Takes a row out; the rows' account of [`take`].
-pub fn remove_row(store: &mut Store, slot: u32)
-    requires sound { IsSound store.old }
-    requires tidy { IsTidy store.old }
-    requires held { IsHeld (rows_of store.old) slot }
-    ensures sound { IsSound store.new }
-    ensures tidy { IsTidy store.new }
-    ensures removed { (xs : List Row) (r : Row) (ys : List Row) → rows_of store.old ≡ xs ++ r ∷ ys → r.slot ≡ slot → rows_of store.new ≡ xs ++ ys }
-    ensures room { length store.new.order.items ≡ length store.old.order.items }
-    ensures width { store.new.width ≡ store.old.width }
-{
-    take(store, slot);
-}
-
-/// Puts a row behind all others; the rows' account of [`renew`].
-pub fn renew_row(store: &mut Store, slot: u32)
-    requires sound { IsSound store.old }
-    requires tidy { IsTidy store.old }
-    requires held { IsHeld (rows_of store.old) slot }
-    ensures sound { IsSound store.new }
-    ensures tidy { IsTidy store.new }
-    ensures renewed { (xs : List Row) (r : Row) (ys : List Row) → rows_of store.old ≡ xs ++ r ∷ ys → r.slot ≡ slot → rows_of store.new ≡ (xs ++ ys) ++ r ∷ [] }
-    ensures room { length store.new.order.items ≡ length store.old.order.items }
-    ensures width { store.new.width ≡ store.old.width }
-{
-    renew(store, slot);
-}
-
-/// The cells of the row in a slot.
-pub fn cells_in(store: &Store, slot: u32) -> &[u64]
-    requires sound { IsSound store.now }
-    requires held { IsHeld (rows_of store.now) slot }
-    ensures { (xs : List Row) (r : Row) (ys : List Row) → rows_of store.now ≡ xs ++ r ∷ ys → r.slot ≡ slot → result.now ≡ r.cells }
-{
-    cells_of(store, slot)
-}
-
-/// The slot of the row that came next.
-pub fn newer(store: &Store, slot: u32) -> Option<u32>
-    requires sound { IsSound store.now }
-    requires held { IsHeld (rows_of store.now) slot }
-    ensures { (xs : List Row) (r : Row) (ys : List Row) → rows_of store.now ≡ xs ++ r ∷ ys → r.slot ≡ slot → result ≡ first_of (slots ys) }
-{
-    pair_of(&store.order, slot).next.get()
-}
-
-/// The slot of the row that came before.
-pub fn older(store: &Store, slot: u32) -> Option<u32>
-    requires sound { IsSound store.now }
-    requires held { IsHeld (rows_of store.now) slot }
-    ensures { (xs : List Row) (r : Row) (ys : List Row) → rows_of store.now ≡ xs ++ r ∷ ys → r.slot ≡ slot → result ≡ last_of (slots xs) }
-{
-    pair_of(&store.order, slot).prev.get()
 }

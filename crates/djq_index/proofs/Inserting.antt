@@ -18,7 +18,7 @@ use Rattle.djq_index.specs.Entries.{Entry, cnt, many, grp, marks}
 use Rattle.djq_index.specs.Table.{AreApart, IsAt}
 use Rattle.djq_index.specs.Changes.{InsertedAs}
 use Rattle.djq_index.specs.Raw.{note_at, entries_in, entries_of, slots_at, ends_at, AreGroups}
-use Rattle.djq_index.specs.Raw.{IsBare, AreHeads, IsSeat, IsLaid, IsReady, IsNoted, IsSettled}
+use Rattle.djq_index.specs.Raw.{IsBare, AreHeads, IsSeat, IsLaid, IsUnlaid, IsReady, IsNoted, IsSettled}
 use Rattle.djq_index.proofs.Apart.{apart_in}
 use Rattle.djq_index.proofs.Parts.{slots_are, row_at_row, row_below, entries_nil}
 use Rattle.djq_index.proofs.Grouping.{AreGroupsBut, but, join_groups, founded, group_below}
@@ -33,7 +33,7 @@ many_zero : (key : List ℕ) (w : List ℕ) → many key [] w ≡ 0
 unfolding many
 many_zero key w = refl
 
-module _ (a : Raw) (rows : Rows) (notes : List Note) (i : ℕ) (u : List ℕ) (r : IsLaid a rows notes i u) where
+module _ (a : Raw) (rows : Rows) (notes : List Note) (i : ℕ) (u : List ℕ) (r : IsLaid a.rows rows a.notes.items notes i u) where
   laid_slots : slots rows.rows ≡ slots_at (entries_of a) ++ i ∷ []
   laid_slots = ap slots r.laid ∙ slots_row a.rows.rows (record { slot = i; cells = u }) []
       ∙ ap₂ (λ (xs ys : List ℕ). xs ++ i ∷ ys) (sym (slots_are a.notes.items a.rows.rows)) slots_none
@@ -59,7 +59,7 @@ module _ (a : Raw) (rows : Rows) (notes : List Note) (i : ℕ) (u : List ℕ) (r
 
 -- the tuple is there
 module _ (m : Bool) (a b : Raw) (rows : Rows) (notes : List Note) (i h : ℕ) (u : List ℕ) (raw : IsBare a)
-    (plain : m ≡ false → marks (entries_of a) ≡ []) (absent : cnt (entries_of a) u ≡ 0) (r : IsLaid a rows notes i u)
+    (plain : m ≡ false → marks (entries_of a) ≡ []) (absent : cnt (entries_of a) u ≡ 0) (r : IsLaid a.rows rows a.notes.items notes i u)
     (f : IsNoted m a b rows notes i h) where
   pub came_entries : entries_of b
       ≡ entries_of a ++ (record { at = record { slot = i }; tuple = u; supports = 1; marked = m }) ∷ []
@@ -216,6 +216,20 @@ pub record RefusesHead (a b : Raw) : Type 0 where
   pub keys : b.keys.rows ≡ a.keys.rows
   pub room_ends : b.keys.room ≤ length b.ends.items
   pub same_ends : (k : ℕ) → ends_at b.ends.items k ≡ ends_at a.ends.items k
+
+-- where a tuple found no memory
+pub unlaid_refuses : (a b : Raw) → IsUnlaid a.rows b.rows a.notes.items b.notes.items → b.kind ≡ a.kind
+    → b.key.items ≡ a.key.items → b.marked ≡ a.marked → Refuses a b
+unlaid_refuses a b r kind key marked = record {
+  kind = kind;
+  key = key;
+  rows_law = r.rows_law;
+  width = r.width;
+  rows = r.same_rows;
+  room_notes = r.room_notes;
+  same_notes = r.same_notes;
+  marked = marked;
+}
 
 pub refused_entries : (a b : Raw) → Refuses a b → entries_of b ≡ entries_of a
 refused_entries a b r = ap (entries_in b.notes.items) r.rows

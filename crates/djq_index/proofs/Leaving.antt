@@ -359,6 +359,23 @@ pub record Renotes (a b : Raw) (i : ℕ) (note : Note) : Type 0 where
   pub head : note.head ≡ (note_at a.notes.items i).head
   pub mark : note.marked ≡ (note_at a.notes.items i).marked
 
+-- as where its supports alone change
+pub supports_changed : (a b : Raw) (i j : ℕ) (m note : Note) → b ≡ record a { notes = b.notes }
+    → m ≡ note_at a.notes.items i → i ≡ j → note.head ≡ m.head → note.marked ≡ m.marked
+    → b.notes.items ≡ slice_set a.notes.items i note → Renotes a b j note
+supports_changed a b i j m note same was at head mark set = record {
+  kind = ap (λ (r : Raw). r.kind) same;
+  key = ap (λ (r : Raw). r.key.items) same;
+  rows = ap (λ (r : Raw). r.rows) same;
+  notes = set ∙ ap (λ (k : ℕ). slice_set a.notes.items k note) at;
+  links = ap (λ (r : Raw). r.links.items) same;
+  keys = ap (λ (r : Raw). r.keys) same;
+  ends = ap (λ (r : Raw). r.ends.items) same;
+  marked = ap (λ (r : Raw). r.marked) same;
+  head = head ∙ ap (λ (n : Note). n.head) was ∙ ap (λ (k : ℕ). (note_at a.notes.items k).head) at;
+  mark = mark ∙ ap (λ (n : Note). n.marked) was ∙ ap (λ (k : ℕ). (note_at a.notes.items k).marked) at;
+}
+
 module _ (a b : Raw) (p : Place) (u : List ℕ) (note : Note) (raw : IsBare a) (f : Found a p u)
     (r : Renotes a b p.slot note) where
   after : Entry

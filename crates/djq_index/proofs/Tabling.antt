@@ -8,7 +8,7 @@ use Rattle.djq_index.specs.declared.place.Place.{Place}
 use Rattle.djq_index.specs.declared.raw.Note.{Note}
 use Rattle.djq_index.specs.declared.raw.Raw.{Raw}
 use Rattle.djq_index.specs.Entries.{Entry, grp, many, marks}
-use Rattle.djq_index.specs.Table.{AreApart, ArePlaced, IsElsewhere, AreWide, AreColumns, IsTable}
+use Rattle.djq_index.specs.Table.{Table, AreApart, ArePlaced, IsElsewhere, AreWide, AreColumns, IsTable}
 use Rattle.djq_index.specs.Raw.{entry_of, entries_in, entries_of, slots_at, row_at, AreSeated}
 use Rattle.djq_index.specs.Raw.{AreGroups, AreTrailing, IsRaw, IsBare, AreHeads, IsKind}
 use Rattle.djq_index.proofs.Parts.{entries_nil}
@@ -124,3 +124,11 @@ empty_raw b width key key_is rows keys law heads columns kind marked = record {
   bare = empty_bare b width key key_is rows law columns kind marked;
   heads = λ k. empty_heads b width key key_is rows keys heads;
 }
+
+abbrev table_with : ℕ → List ℕ → List Entry → Table
+table_with width key entries = record { width = width; key = key; entries = entries }
+
+pub new_table : (notes : List Note) (rows : Rows) (width : ℕ) (key held : List ℕ) → held ≡ key → rows
+    ≡ record { width = width; room = 0; rows = [] }
+    → table_with rows.width held (entries_in notes rows.rows) ≡ table_with width key []
+new_table notes rows width key held key_is is = rw (is, key_is, entries_nil notes) refl

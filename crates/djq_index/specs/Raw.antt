@@ -1,6 +1,6 @@
 -- A table's parts: its tuples as the rows of an arena, a note for each slot, and for each group a head.
-use Rattle.std.specs.Prelude.{◌≡◌, ◌≢◌, ◌⊎◌, ⊤, ℕ, ◌<◌, ◌≤◌, ◌==◌, Bool, true, false, cond, List}
-use Rattle.std.specs.Prelude.{[], ◌∷◌, ◌++◌, map, length, slice_index, slice_index_or, slice_set}
+use Rattle.std.specs.Prelude.{◌≡◌, ◌≢◌, ◌⊎◌, ⊤, ℕ, ◌+◌, ◌<◌, ◌≤◌, ◌==◌, Bool, true, false, cond, List}
+use Rattle.std.specs.Prelude.{[], ◌∷◌, ◌++◌, map, length, slice_index, slice_index_or, slice_set, max}
 use Rattle.std.specs.Prelude.{vec_capacity, Option, Some, None}
 use Rattle.djq_arena.specs.declared.chain.Pair.{Pair}
 use Rattle.djq_arena.specs.declared.chain.Ends.{Ends}
@@ -112,10 +112,6 @@ pub record IsRaw (r : Raw) : Type 0 where
 abbrev pub HasNoRoomForHead : Raw → Type 0
 HasNoRoomForHead r = IsFull r.keys ⊎ (vec_capacity r.cells < length r.key.items)
 
--- no slot is free for a tuple, or none for the head of its group
-abbrev pub HasNoRoom : Raw → Type 0
-HasNoRoom r = IsFull r.rows ⊎ ((r.kind ≡ Keyed) × HasNoRoomForHead r)
-
 -- the place of a slot, if any
 abbrev pub place_of : Option ℕ → Option Place
 place_of None = None
@@ -133,18 +129,41 @@ abbrev pub passed : Option ℕ → ℕ → Option ℕ → Option ℕ
 passed None i next = None
 passed (Some m) i next = cond (m == i) next (Some m)
 
--- the tuple is laid
-pub record IsLaid (a : Raw) (rows : Rows) (notes : List Note) (i : ℕ) (u : List ℕ) : Type 0 where
+-- rows, with the notes beside them, take the tuple u
+pub record CanTake (rows : Rows) (notes : List Note) (u : List ℕ) : Type 0 where
   pub rows_law : AreRows rows
-  pub width : rows.width ≡ a.rows.width
-  pub laid : rows.rows ≡ a.rows.rows ++ record { slot = i; cells = u } ∷ []
+  pub wide : length u ≡ rows.width
+  pub few : length rows.rows < 4294967295
   pub room_notes : rows.room ≤ length notes
-  pub same_notes : (k : ℕ) → note_at notes k ≡ note_at a.notes.items k
+
+-- the tuple u is laid into the slot i, behind all others
+pub record IsLaid (old rows : Rows) (before notes : List Note) (i : ℕ) (u : List ℕ) : Type 0 where
+  pub rows_law : AreRows rows
+  pub width : rows.width ≡ old.width
+  pub laid : rows.rows ≡ old.rows ++ record { slot = i; cells = u } ∷ []
+  pub room_notes : rows.room ≤ length notes
+  pub same_notes : (k : ℕ) → note_at notes k ≡ note_at before k
+
+-- the slot i is one that was free, or the next where none was
+pub record IsSlotFor (old rows : Rows) (i : ℕ) : Type 0 where
+  pub room : rows.room ≡ max old.room (i + 1)
+  pub fits : i ≤ old.room
+  pub reused : ¬ IsFull old → i < old.room
+
+-- a tuple found no memory, since no slot was free: the rows stay
+pub record IsUnlaid (old rows : Rows) (before notes : List Note) : Type 0 where
+  pub rows_law : AreRows rows
+  pub width : rows.width ≡ old.width
+  pub same_rows : rows.rows ≡ old.rows
+  pub room : rows.room ≡ old.room
+  pub room_notes : rows.room ≤ length notes
+  pub same_notes : (k : ℕ) → note_at notes k ≡ note_at before k
+  pub full : IsFull old
 
 -- and has a head
 pub record IsReady (a : Raw) (rows : Rows) (notes : List Note) (links : List Pair) (keys : Rows) (ends : List Ends)
     (i h : ℕ) (u : List ℕ) : Type 0 where
-  pub laid : IsLaid a rows notes i u
+  pub laid : IsLaid a.rows rows a.notes.items notes i u
   pub room_links : rows.room ≤ length links
   pub same_links : (k : ℕ) → pair_at links k ≡ pair_at a.links.items k
   pub longer : length a.links.items ≤ length links

@@ -1,19 +1,19 @@
-ghost use Rattle.std.specs.Prelude.{◌≡◌, ℕ, ◌+◌, ◌-◌, ◌<◌, ◌≤◌, ◌⊎◌, false, cond, List, [], ◌∷◌, ◌++◌, length, max, slice_set, vec_len, vec_capacity, IfOk, OnErr, MatchOption, Some, None};
+ghost use Rattle.std.specs.Prelude.{◌≡◌, ℕ, ◌+◌, ◌-◌, ◌<◌, ◌≤◌, ◌⊎◌, false, cond, List, [], ◌∷◌, ◌++◌, length, slice_set, vec_len, vec_capacity, IfOk, OnErr, Some, None};
 ghost use Rattle.djq_arena.specs.Chains.{pair_at, IsWithin, first_of};
 ghost use Rattle.djq_arena.specs.Rows.{Row, AreRows, IsHeld, IsFull};
 ghost use Rattle.djq_index.specs.Tuple.{pick};
-ghost use Rattle.djq_index.specs.Entries.{Entry, supp, cnt, grp, marks, is_marked, unmarked, head_at, last_at};
-ghost use Rattle.djq_index.specs.Table.{IsAt, IsLive, IsUnmarked, IsRaisable, IsLowerable, AreColumns};
-ghost use Rattle.djq_index.specs.Changes.{InsertedAs, Removed, Touched, Supported};
-ghost use Rattle.djq_index.specs.Raw.{IsRaw, IsBare, AreHeads, IsNoted, IsMarked, entries_of, slots_at, place_of, note_at, ends_at, IsSeat, IsSettled, passed, entries_in, AreTrailing, without_mark, HasNoRoom, HasNoRoomForHead};
-ghost use Rattle.djq_arena.specs.Store.{ends_of, beside};
+ghost use Rattle.djq_index.specs.Entries.{cnt, marks, unmarked};
+ghost use Rattle.djq_index.specs.Table.{IsAt, IsLive, IsUnmarked, AreColumns};
+ghost use Rattle.djq_index.specs.Changes.{InsertedAs, Removed, Touched};
+ghost use Rattle.djq_index.specs.Raw.{IsBare, AreHeads, CanTake, IsLaid, IsSlotFor, IsUnlaid, IsNoted, IsMarked, entries_of, slots_at, place_of, note_at, ends_at, IsSeat, IsSettled, passed, entries_in, AreTrailing, without_mark, HasNoRoomForHead};
+ghost use Rattle.djq_arena.specs.Store.{beside};
 
 use crate::heads::{cell_at, found, join, part, project, prune};
-use crate::kind::{Kind, kind_of};
+use crate::kind::Kind;
 use crate::place::Place;
 use djq_arena::{Arena, Ends, Link, Pair, hash_of};
 use djq_steps::Tally;
-use std::alloc::{AllocError, Global};
+use std::alloc::AllocError;
 use std::sync::ledger::Ledger;
 
 /// What a slot's tuple has besides its cells.
@@ -39,7 +39,7 @@ pub struct Raw {
 }
 
 /// The note of a slot.
-fn note_of(notes: &Vec<Note>, slot: u32) -> Note
+pub fn note_of(notes: &Vec<Note>, slot: u32) -> Note
     requires { slot < length notes.now.items }
     ensures { result ≡ note_at notes.now.items slot }
 {
@@ -56,61 +56,8 @@ pub fn placed(slot: Option<u32>) -> Option<Place>
     }
 }
 
-/// Where this tuple lies.
-pub fn find_in(raw: &Raw, tuple: &[u64]) -> Option<Place>
-    ensures { MatchOption result (cnt (entries_of raw.now) tuple.now ≡ 0) (λ p. IsAt (entries_of raw.now) p tuple.now) }
-{
-    match raw.rows.find(tuple) {
-        None => None,
-        Some(slot) => Some(Place::new(slot)),
-    }
-}
-
-/// The first marked one.
-pub fn first_marked_in(raw: &Raw) -> Option<Place>
-    requires { IsBare raw.now }
-    ensures { result ≡ head_at (marks (entries_of raw.now)) }
-{
-    placed(raw.marked)
-}
-
-/// The next marked one after a marked one.
-pub fn next_marked_in(raw: &Raw, place: Place) -> Option<Place>
-    requires raw { IsBare raw.now }
-    requires live { IsLive (entries_of raw.now) place }
-    ensures { (xs : List Entry) (e : Entry) (ys : List Entry) → marks (entries_of raw.now) ≡ xs ++ e ∷ ys → e.at ≡ place → result ≡ head_at ys }
-{
-    placed(raw.rows.next(place.slot()))
-}
-
-/// The tuple at a place.
-pub fn tuple_in(raw: &Raw, place: Place) -> &[u64]
-    requires { IsLive (entries_of raw.now) place }
-    ensures { (u : List ℕ) → IsAt (entries_of raw.now) place u → result.now ≡ u }
-{
-    raw.rows.cells(place.slot())
-}
-
-/// The supports of the tuple at a place.
-pub fn supports_in(raw: &Raw, place: Place) -> u32
-    requires raw { IsBare raw.now }
-    requires live { IsLive (entries_of raw.now) place }
-    ensures { (u : List ℕ) → IsAt (entries_of raw.now) place u → result ≡ supp (entries_of raw.now) u }
-{
-    note_of(&raw.notes, place.slot()).supports
-}
-
-/// Whether the tuple at a place is marked.
-pub fn marked_in(raw: &Raw, place: Place) -> bool
-    requires raw { IsBare raw.now }
-    requires live { IsLive (entries_of raw.now) place }
-    ensures { (u : List ℕ) → IsAt (entries_of raw.now) place u → result ≡ is_marked (entries_of raw.now) u }
-{
-    note_of(&raw.notes, place.slot()).marked
-}
-
 /// Writes the note of a slot.
-fn set_note(notes: &mut Vec<Note>, slot: u32, note: Note)
+pub fn set_note(notes: &mut Vec<Note>, slot: u32, note: Note)
     requires { slot < length notes.old.items }
     ensures { notes.new.items ≡ slice_set notes.old.items slot note }
 {
@@ -164,22 +111,11 @@ fn grow_links(links: &mut Vec<Pair>) -> Result<(), AllocError>
 /// stay as they were.
 #[inline(always)]
 fn lay_ready(rows: &mut Arena, notes: &mut Vec<Note>, tuple: &[u64]) -> Result<u32, AllocError>
-    requires rows { AreRows rows.old }
-    requires wide { length tuple.now ≡ rows.old.width }
-    requires few { length rows.old.rows < 4294967295 }
-    requires notes { rows.old.room ≤ length notes.old.items }
+    requires ready { CanTake rows.old notes.old.items tuple.now }
     requires room { IsFull rows.old → vec_len notes.old < vec_capacity notes.old }
-    ensures rows { AreRows rows.new }
-    ensures width { rows.new.width ≡ rows.old.width }
-    ensures notes { rows.new.room ≤ length notes.new.items }
-    ensures room { IfOk result (λ slot. rows.new.room ≡ max rows.old.room (slot + 1)) }
-    ensures slot { IfOk result (λ slot. slot ≤ rows.old.room) }
-    ensures kept { OnErr result (rows.new.room ≡ rows.old.room) }
-    ensures refused { OnErr result (rows.new.rows ≡ rows.old.rows) }
-    ensures laid { IfOk result (λ slot. rows.new.rows ≡ rows.old.rows ++ record { slot = slot; cells = tuple.now } ∷ []) }
-    ensures same_notes { (k : ℕ) → note_at notes.new.items k ≡ note_at notes.old.items k }
-    ensures reused { IfOk result (λ slot. ¬ IsFull rows.old → slot < rows.old.room) }
-    ensures full { OnErr result (IsFull rows.old) }
+    ensures laid { IfOk result (λ slot. IsLaid rows.old rows.new notes.old.items notes.new.items slot tuple.now) }
+    ensures slot { IfOk result (λ slot. IsSlotFor rows.old rows.new slot) }
+    ensures refused { OnErr result (IsUnlaid rows.old rows.new notes.old.items notes.new.items) }
 {
     let slot = rows.push(tuple)?;
     rows.laws();
@@ -192,21 +128,10 @@ fn lay_ready(rows: &mut Arena, notes: &mut Vec<Note>, tuple: &[u64]) -> Result<u
 #[inline(never)]
 fn lay_growing(rows: &mut Arena, notes: &mut Vec<Note>, tuple: &[u64]) -> Result<u32, AllocError>
     requires full { IsFull rows.old }
-    requires rows { AreRows rows.old }
-    requires wide { length tuple.now ≡ rows.old.width }
-    requires few { length rows.old.rows < 4294967295 }
-    requires notes { rows.old.room ≤ length notes.old.items }
-    ensures rows { AreRows rows.new }
-    ensures width { rows.new.width ≡ rows.old.width }
-    ensures notes { rows.new.room ≤ length notes.new.items }
-    ensures room { IfOk result (λ slot. rows.new.room ≡ max rows.old.room (slot + 1)) }
-    ensures slot { IfOk result (λ slot. slot ≤ rows.old.room) }
-    ensures kept { OnErr result (rows.new.room ≡ rows.old.room) }
-    ensures refused { OnErr result (rows.new.rows ≡ rows.old.rows) }
-    ensures laid { IfOk result (λ slot. rows.new.rows ≡ rows.old.rows ++ record { slot = slot; cells = tuple.now } ∷ []) }
-    ensures same_notes { (k : ℕ) → note_at notes.new.items k ≡ note_at notes.old.items k }
-    ensures reused { IfOk result (λ slot. ¬ IsFull rows.old → slot < rows.old.room) }
-    ensures full { OnErr result (IsFull rows.old) }
+    requires ready { CanTake rows.old notes.old.items tuple.now }
+    ensures laid { IfOk result (λ slot. IsLaid rows.old rows.new notes.old.items notes.new.items slot tuple.now) }
+    ensures slot { IfOk result (λ slot. IsSlotFor rows.old rows.new slot) }
+    ensures refused { OnErr result (IsUnlaid rows.old rows.new notes.old.items notes.new.items) }
 {
     notes.reserve(1)?;
     lay_ready(rows, notes, tuple)
@@ -214,21 +139,10 @@ fn lay_growing(rows: &mut Arena, notes: &mut Vec<Note>, tuple: &[u64]) -> Result
 
 /// Lays a tuple into a slot, behind all others. Where there is no memory, the rows stay as they were.
 fn lay(rows: &mut Arena, notes: &mut Vec<Note>, tuple: &[u64]) -> Result<u32, AllocError>
-    requires rows { AreRows rows.old }
-    requires wide { length tuple.now ≡ rows.old.width }
-    requires few { length rows.old.rows < 4294967295 }
-    requires notes { rows.old.room ≤ length notes.old.items }
-    ensures rows { AreRows rows.new }
-    ensures width { rows.new.width ≡ rows.old.width }
-    ensures notes { rows.new.room ≤ length notes.new.items }
-    ensures room { IfOk result (λ slot. rows.new.room ≡ max rows.old.room (slot + 1)) }
-    ensures slot { IfOk result (λ slot. slot ≤ rows.old.room) }
-    ensures kept { OnErr result (rows.new.room ≡ rows.old.room) }
-    ensures refused { OnErr result (rows.new.rows ≡ rows.old.rows) }
-    ensures laid { IfOk result (λ slot. rows.new.rows ≡ rows.old.rows ++ record { slot = slot; cells = tuple.now } ∷ []) }
-    ensures same_notes { (k : ℕ) → note_at notes.new.items k ≡ note_at notes.old.items k }
-    ensures reused { IfOk result (λ slot. ¬ IsFull rows.old → slot < rows.old.room) }
-    ensures full { OnErr result (IsFull rows.old) }
+    requires ready { CanTake rows.old notes.old.items tuple.now }
+    ensures laid { IfOk result (λ slot. IsLaid rows.old rows.new notes.old.items notes.new.items slot tuple.now) }
+    ensures slot { IfOk result (λ slot. IsSlotFor rows.old rows.new slot) }
+    ensures refused { OnErr result (IsUnlaid rows.old rows.new notes.old.items notes.new.items) }
 {
     if rows.is_full() && notes.len() == notes.capacity() {
         lay_growing(rows, notes, tuple)
@@ -244,21 +158,13 @@ fn lay_linked(
     links: &mut Vec<Pair>,
     tuple: &[u64],
 ) -> Result<u32, AllocError>
-    requires rows { AreRows rows.old }
-    requires wide { length tuple.now ≡ rows.old.width }
-    requires few { length rows.old.rows < 4294967295 }
-    requires notes { rows.old.room ≤ length notes.old.items }
+    requires ready { CanTake rows.old notes.old.items tuple.now }
     requires links { rows.old.room ≤ length links.old.items }
-    ensures rows { AreRows rows.new }
-    ensures width { rows.new.width ≡ rows.old.width }
-    ensures notes { rows.new.room ≤ length notes.new.items }
+    ensures laid { IfOk result (λ slot. IsLaid rows.old rows.new notes.old.items notes.new.items slot tuple.now) }
+    ensures refused { OnErr result (IsUnlaid rows.old rows.new notes.old.items notes.new.items) }
     ensures links { rows.new.room ≤ length links.new.items }
-    ensures refused { OnErr result (rows.new.rows ≡ rows.old.rows) }
-    ensures laid { IfOk result (λ slot. rows.new.rows ≡ rows.old.rows ++ record { slot = slot; cells = tuple.now } ∷ []) }
-    ensures same_notes { (k : ℕ) → note_at notes.new.items k ≡ note_at notes.old.items k }
     ensures same_links { (k : ℕ) → pair_at links.new.items k ≡ pair_at links.old.items k }
     ensures longer { length links.old.items ≤ length links.new.items }
-    ensures full { OnErr result (IsFull rows.old) }
 {
     if rows.is_full() && links.len() == links.capacity() {
         grow_links(links)?;
@@ -439,7 +345,7 @@ fn settle(raw: &mut Raw, slot: u32, head: u32, marked: bool)
 }
 
 /// Puts a tuple that isn't there behind the group of its head.
-fn insert_keyed(raw: &mut Raw, tuple: &[u64], marked: bool) -> Result<Place, AllocError>
+pub fn insert_keyed(raw: &mut Raw, tuple: &[u64], marked: bool) -> Result<Place, AllocError>
     requires raw { IsBare raw.old }
     requires heads { AreHeads raw.old }
     requires absent { cnt (entries_of raw.old) tuple.now ≡ 0 }
@@ -476,7 +382,7 @@ fn insert_keyed(raw: &mut Raw, tuple: &[u64], marked: bool) -> Result<Place, All
 }
 
 /// Puts a tuple that isn't there behind all others: its group needs nothing.
-fn insert_bare(raw: &mut Raw, tuple: &[u64], marked: bool) -> Result<Place, AllocError>
+pub fn insert_bare(raw: &mut Raw, tuple: &[u64], marked: bool) -> Result<Place, AllocError>
     requires raw { IsBare raw.old }
     requires absent { cnt (entries_of raw.old) tuple.now ≡ 0 }
     requires wide { length tuple.now ≡ raw.old.rows.width }
@@ -496,30 +402,8 @@ fn insert_bare(raw: &mut Raw, tuple: &[u64], marked: bool) -> Result<Place, Allo
     Ok(Place::new(slot))
 }
 
-/// Puts in a tuple that isn't there, unmarked only where no tuple is marked. Where there is no memory, the
-/// entries stay as they were.
-pub fn insert_in(raw: &mut Raw, tuple: &[u64], marked: bool) -> Result<Place, AllocError>
-    requires raw { IsRaw raw.old }
-    requires absent { cnt (entries_of raw.old) tuple.now ≡ 0 }
-    requires wide { length tuple.now ≡ raw.old.rows.width }
-    requires few { length (entries_of raw.old) < 4294967295 }
-    requires plain { marked ≡ false → marks (entries_of raw.old) ≡ [] }
-    ensures raw { IsRaw raw.new }
-    ensures inserted { IfOk result (λ p. InsertedAs marked raw.old.key.items (entries_of raw.old) (entries_of raw.new) tuple.now) }
-    ensures at { IfOk result (λ p. IsAt (entries_of raw.new) p tuple.now) }
-    ensures refused { OnErr result (entries_of raw.new ≡ entries_of raw.old) }
-    ensures full { OnErr result (HasNoRoom raw.old) }
-    ensures key { raw.new.key.items ≡ raw.old.key.items }
-    ensures width { raw.new.rows.width ≡ raw.old.rows.width }
-{
-    match raw.kind {
-        Kind::Keyed => insert_keyed(raw, tuple, marked),
-        _ => insert_bare(raw, tuple, marked),
-    }
-}
-
 /// Takes the tuple at a place out, and its group's head with the last of the group.
-fn remove_keyed(raw: &mut Raw, place: Place)
+pub fn remove_keyed(raw: &mut Raw, place: Place)
     requires raw { IsBare raw.old }
     requires heads { AreHeads raw.old }
     requires live { IsLive (entries_of raw.old) place }
@@ -539,7 +423,7 @@ fn remove_keyed(raw: &mut Raw, place: Place)
 }
 
 /// Takes the tuple at a place out, whose group needs nothing.
-fn remove_bare(raw: &mut Raw, place: Place)
+pub fn remove_bare(raw: &mut Raw, place: Place)
     requires raw { IsBare raw.old }
     requires live { IsLive (entries_of raw.old) place }
     ensures raw { IsBare raw.new }
@@ -553,23 +437,8 @@ fn remove_bare(raw: &mut Raw, place: Place)
     withdraw(&mut raw.rows, slot);
 }
 
-/// Takes the tuple at a place out, and its group's head with the last of the group.
-pub fn remove_in(raw: &mut Raw, place: Place)
-    requires raw { IsRaw raw.old }
-    requires live { IsLive (entries_of raw.old) place }
-    ensures raw { IsRaw raw.new }
-    ensures removed { (u : List ℕ) → IsAt (entries_of raw.old) place u → Removed (entries_of raw.old) (entries_of raw.new) u }
-    ensures key { raw.new.key.items ≡ raw.old.key.items }
-    ensures width { raw.new.rows.width ≡ raw.old.rows.width }
-{
-    match raw.kind {
-        Kind::Keyed => remove_keyed(raw, place),
-        _ => remove_bare(raw, place),
-    }
-}
-
 /// Marks the tuple at a place, and puts it behind the group of its head.
-fn touch_keyed(raw: &mut Raw, place: Place)
+pub fn touch_keyed(raw: &mut Raw, place: Place)
     requires raw { IsBare raw.old }
     requires heads { AreHeads raw.old }
     requires unmarked { IsUnmarked (entries_of raw.old) place }
@@ -589,7 +458,7 @@ fn touch_keyed(raw: &mut Raw, place: Place)
 }
 
 /// Marks the tuple at a place, and puts it behind all others.
-fn touch_bare(raw: &mut Raw, place: Place)
+pub fn touch_bare(raw: &mut Raw, place: Place)
     requires raw { IsBare raw.old }
     requires unmarked { IsUnmarked (entries_of raw.old) place }
     ensures raw { IsBare raw.new }
@@ -601,59 +470,6 @@ fn touch_bare(raw: &mut Raw, place: Place)
     let slot = place.slot();
     renew(&mut raw.rows, slot);
     mark(raw, slot);
-}
-
-/// Marks the tuple at a place, and puts it behind its group.
-pub fn touch_in(raw: &mut Raw, place: Place)
-    requires raw { IsRaw raw.old }
-    requires unmarked { IsUnmarked (entries_of raw.old) place }
-    ensures raw { IsRaw raw.new }
-    ensures touched { (u : List ℕ) → IsAt (entries_of raw.old) place u → Touched raw.old.key.items (entries_of raw.old) (entries_of raw.new) u }
-    ensures key { raw.new.key.items ≡ raw.old.key.items }
-    ensures width { raw.new.rows.width ≡ raw.old.rows.width }
-{
-    match raw.kind {
-        Kind::Keyed => touch_keyed(raw, place),
-        _ => touch_bare(raw, place),
-    }
-}
-
-/// Gives the tuple at a place one support more.
-pub fn raise_in(raw: &mut Raw, place: Place)
-    requires raw { IsRaw raw.old }
-    requires raisable { IsRaisable (entries_of raw.old) place }
-    ensures raw { IsRaw raw.new }
-    ensures raised { (u : List ℕ) → IsAt (entries_of raw.old) place u → Supported (entries_of raw.old) (entries_of raw.new) u (supp (entries_of raw.old) u) (supp (entries_of raw.old) u + 1) }
-    ensures key { raw.new.key.items ≡ raw.old.key.items }
-    ensures width { raw.new.rows.width ≡ raw.old.rows.width }
-{
-    let slot = place.slot();
-    let note = note_of(&raw.notes, slot);
-    let raised = Note {
-        supports: note.supports + 1,
-        head: note.head,
-        marked: note.marked,
-    };
-    set_note(&mut raw.notes, slot, raised);
-}
-
-/// Takes one support of the tuple at a place away.
-pub fn lower_in(raw: &mut Raw, place: Place)
-    requires raw { IsRaw raw.old }
-    requires lowerable { IsLowerable (entries_of raw.old) place }
-    ensures raw { IsRaw raw.new }
-    ensures lowered { (u : List ℕ) → IsAt (entries_of raw.old) place u → Supported (entries_of raw.old) (entries_of raw.new) u (supp (entries_of raw.old) u) (supp (entries_of raw.old) u - 1) }
-    ensures key { raw.new.key.items ≡ raw.old.key.items }
-    ensures width { raw.new.rows.width ≡ raw.old.rows.width }
-{
-    let slot = place.slot();
-    let note = note_of(&raw.notes, slot);
-    let lowered = Note {
-        supports: note.supports - 1,
-        head: note.head,
-        marked: note.marked,
-    };
-    set_note(&mut raw.notes, slot, lowered);
 }
 
 /// Takes the mark of a slot's note away.
@@ -671,7 +487,7 @@ fn unmark(notes: &mut Vec<Note>, slot: u32)
 }
 
 /// Takes all marks away, from the first marked slot on.
-fn unmark_all<L: Ledger>(
+pub fn unmark_all<L: Ledger>(
     notes: &mut Vec<Note>,
     rows: &Arena,
     first: Option<u32>,
@@ -697,43 +513,4 @@ fn unmark_all<L: Ledger>(
             }
         }
     }
-}
-
-/// Takes all marks away. It counts a link for each.
-pub fn clear_in<L: Ledger>(raw: &mut Raw, tally: &mut Tally<L>)
-    requires { IsRaw raw.old }
-    ensures raw { IsRaw raw.new }
-    ensures cleared { entries_of raw.new ≡ unmarked (entries_of raw.old) }
-    ensures key { raw.new.key.items ≡ raw.old.key.items }
-    ensures width { raw.new.rows.width ≡ raw.old.rows.width }
-    ensures counted { tally.new ≡ tally.old + length (marks (entries_of raw.old)) }
-{
-    unmark_all(&mut raw.notes, &raw.rows, raw.marked, tally);
-    raw.marked = None;
-}
-
-/// The parts of a table without tuples. It fails only out of memory.
-pub fn empty_in(alloc: Global, width: usize, key: &[usize]) -> Result<Raw, AllocError>
-    requires { AreColumns width key.now }
-    ensures raw { IfOk result (λ r. IsRaw r) }
-    ensures width { IfOk result (λ r. r.rows.width ≡ width) }
-    ensures key { IfOk result (λ r. r.key.items ≡ key.now) }
-    ensures empty { IfOk result (λ r. entries_of r ≡ []) }
-{
-    let columns = Vec::from_slice(alloc, key)?;
-    let rows = Arena::new(alloc, width)?;
-    rows.laws();
-    let keys = Arena::new(alloc, key.len())?;
-    keys.laws();
-    Ok(Raw {
-        kind: kind_of(width, key),
-        key: columns,
-        rows,
-        notes: Vec::new(alloc),
-        links: Vec::new(alloc),
-        keys,
-        ends: Vec::new(alloc),
-        marked: None,
-        cells: Vec::new(alloc),
-    })
 }

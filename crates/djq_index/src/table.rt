@@ -3,12 +3,14 @@ ghost use Rattle.djq_index.specs.Entries.{Entry, supp, cnt, grp, marks, is_marke
 ghost use Rattle.djq_index.specs.Table.{IsTable, IsAt, IsLive, IsUnmarked, IsRaisable, IsLowerable, AreColumns};
 ghost use Rattle.djq_index.specs.Changes.{Inserted, InsertedAs, Removed, Touched, Supported};
 
+use crate::kind::{Kind, kind_of};
 use crate::place::Place;
 use crate::raw::{
-    Raw, clear_in, empty_in, find_in, first_marked_in, insert_in, lower_in, marked_in,
-    next_marked_in, raise_in, remove_in, supports_in, touch_in, tuple_in,
+    Note, Raw, insert_bare, insert_keyed, note_of, placed, remove_bare, remove_keyed, set_note,
+    touch_bare, touch_keyed, unmark_all,
 };
-use crate::walk::{first_in, last_in, next_in, prev_in};
+use crate::walk::{ends_in, newest, oldest};
+use djq_arena::{Arena, pair_of};
 use djq_steps::Tally;
 use std::alloc::{AllocError, Global};
 use std::marker::Model;
@@ -44,7 +46,22 @@ impl Table {
         requires { AreColumns width key.now }
         ensures { IfOk result (λ t. t ≡ record { width = width; key = key.now; entries = [] }) }
     {
-        let raw = empty_in(alloc, width, key)?;
+        let columns = Vec::from_slice(alloc, key)?;
+        let rows = Arena::new(alloc, width)?;
+        rows.laws();
+        let keys = Arena::new(alloc, key.len())?;
+        keys.laws();
+        let raw = Raw {
+            kind: kind_of(width, key),
+            key: columns,
+            rows,
+            notes: Vec::new(alloc),
+            links: Vec::new(alloc),
+            keys,
+            ends: Vec::new(alloc),
+            marked: None,
+            cells: Vec::new(alloc),
+        };
         Ok(Table { raw })
     }
 
@@ -96,7 +113,10 @@ impl Table {
         ensures counted { tally.new ≡ tally.old + 1 }
     {
         tally.lookup();
-        find_in(&self.raw, tuple)
+        match self.raw.rows.find(tuple) {
+            None => None,
+            Some(slot) => Some(Place::new(slot)),
+        }
     }
 
     /// The first of the group with these cells; none exactly where there is no such group. It counts
@@ -106,7 +126,11 @@ impl Table {
         ensures counted { tally.new ≡ tally.old + 1 }
     {
         tally.lookup();
-        first_in(&self.raw, cells)
+        match self.raw.kind {
+            Kind::One => placed(oldest(&self.raw.rows, cells)),
+            Kind::Keyed => placed(ends_in(&self.raw, cells).first.get()),
+            Kind::Each => placed(self.raw.rows.find(cells)),
+        }
     }
 
     /// The last of the group with these cells.
@@ -115,7 +139,11 @@ impl Table {
         ensures counted { tally.new ≡ tally.old + 1 }
     {
         tally.lookup();
-        last_in(&self.raw, cells)
+        match self.raw.kind {
+            Kind::One => placed(newest(&self.raw.rows, cells)),
+            Kind::Keyed => placed(ends_in(&self.raw, cells).last.get()),
+            Kind::Each => placed(self.raw.rows.find(cells)),
+        }
     }
 
     /// The next one of its group; none exactly at the group's end. It counts one link, as `prev` does.
@@ -125,7 +153,12 @@ impl Table {
         ensures counted { tally.new ≡ tally.old + 1 }
     {
         tally.link();
-        next_in(&self.raw, place)
+        let slot = place.slot();
+        match self.raw.kind {
+            Kind::One => placed(self.raw.rows.next(slot)),
+            Kind::Keyed => placed(pair_of(&self.raw.links, slot).next.get()),
+            Kind::Each => None,
+        }
     }
 
     /// The one before it in its group; none exactly at the group's start.
@@ -135,7 +168,12 @@ impl Table {
         ensures counted { tally.new ≡ tally.old + 1 }
     {
         tally.link();
-        prev_in(&self.raw, place)
+        let slot = place.slot();
+        match self.raw.kind {
+            Kind::One => placed(self.raw.rows.prev(slot)),
+            Kind::Keyed => placed(pair_of(&self.raw.links, slot).prev.get()),
+            Kind::Each => None,
+        }
     }
 
     /// The first marked tuple; none exactly where there are no marks. It counts one link, as
@@ -145,7 +183,7 @@ impl Table {
         ensures counted { tally.new ≡ tally.old + 1 }
     {
         tally.link();
-        first_marked_in(&self.raw)
+        placed(self.raw.marked)
     }
 
     /// The next marked tuple after a marked one; none exactly behind the last.
@@ -155,7 +193,7 @@ impl Table {
         ensures counted { tally.new ≡ tally.old + 1 }
     {
         tally.link();
-        next_marked_in(&self.raw, place)
+        placed(self.raw.rows.next(place.slot()))
     }
 
     /// The tuple at a place.
@@ -163,7 +201,7 @@ impl Table {
         requires { IsLive self.now.entries place }
         ensures { (u : List ℕ) → IsAt self.now.entries place u → result.now ≡ u }
     {
-        tuple_in(&self.raw, place)
+        self.raw.rows.cells(place.slot())
     }
 
     /// How many supports the tuple at a place has.
@@ -171,7 +209,7 @@ impl Table {
         requires { IsLive self.now.entries place }
         ensures { (u : List ℕ) → IsAt self.now.entries place u → result ≡ supp self.now.entries u }
     {
-        supports_in(&self.raw, place)
+        note_of(&self.raw.notes, place.slot()).supports
     }
 
     /// Whether the tuple at a place is marked.
@@ -179,7 +217,7 @@ impl Table {
         requires { IsLive self.now.entries place }
         ensures { (u : List ℕ) → IsAt self.now.entries place u → result ≡ is_marked self.now.entries u }
     {
-        marked_in(&self.raw, place)
+        note_of(&self.raw.notes, place.slot()).marked
     }
 
     /// Puts in a tuple that isn't there: last in its group, marked, with one support. Where there is no
@@ -224,7 +262,10 @@ impl Table {
         ensures table { IsTable self.new }
     {
         tally.edit();
-        insert_in(&mut self.raw, tuple, marked)
+        match self.raw.kind {
+            Kind::Keyed => insert_keyed(&mut self.raw, tuple, marked),
+            _ => insert_bare(&mut self.raw, tuple, marked),
+        }
     }
 
     /// Takes the tuple at a place out. Other places stay valid.
@@ -237,7 +278,10 @@ impl Table {
         ensures table { IsTable self.new }
     {
         tally.edit();
-        remove_in(&mut self.raw, place);
+        match self.raw.kind {
+            Kind::Keyed => remove_keyed(&mut self.raw, place),
+            _ => remove_bare(&mut self.raw, place),
+        }
     }
 
     /// Marks the unmarked tuple at a place, and moves it to the end of its group.
@@ -250,7 +294,10 @@ impl Table {
         ensures table { IsTable self.new }
     {
         tally.edit();
-        touch_in(&mut self.raw, place);
+        match self.raw.kind {
+            Kind::Keyed => touch_keyed(&mut self.raw, place),
+            _ => touch_bare(&mut self.raw, place),
+        }
     }
 
     /// Takes all marks away. It counts a link for each mark besides.
@@ -262,7 +309,8 @@ impl Table {
         ensures table { IsTable self.new }
     {
         tally.edit();
-        clear_in(&mut self.raw, tally);
+        unmark_all(&mut self.raw.notes, &self.raw.rows, self.raw.marked, tally);
+        self.raw.marked = None;
     }
 
     /// Gives the tuple at a place one support more.
@@ -275,7 +323,14 @@ impl Table {
         ensures table { IsTable self.new }
     {
         tally.edit();
-        raise_in(&mut self.raw, place);
+        let slot = place.slot();
+        let note = note_of(&self.raw.notes, slot);
+        let raised = Note {
+            supports: note.supports + 1,
+            head: note.head,
+            marked: note.marked,
+        };
+        set_note(&mut self.raw.notes, slot, raised);
     }
 
     /// Takes one support of the tuple at a place away.
@@ -288,6 +343,13 @@ impl Table {
         ensures table { IsTable self.new }
     {
         tally.edit();
-        lower_in(&mut self.raw, place);
+        let slot = place.slot();
+        let note = note_of(&self.raw.notes, slot);
+        let lowered = Note {
+            supports: note.supports - 1,
+            head: note.head,
+            marked: note.marked,
+        };
+        set_note(&mut self.raw.notes, slot, lowered);
     }
 }

@@ -34,6 +34,10 @@ use Rattle.djq_tree.proofs.Climbing.{rising_of}
 abbrev pub both : Tree → List Table → Reducts
 both t ts = record { tree = t; tables = ts }
 
+-- what else holds of reducts speaks of the tree alone
+pub rest_kept : {A B C D E : Type 0} → A × B × C × D → E → E × B × C × D
+rest_kept held e = (e, held.1, held.2, held.3)
+
 pub leaf_within : (t : Tree) (a : ℕ) → IsTree t → a < t.leaves → a < length t.nodes
 leaf_within t a s h = let f = s.fits in omega arith
 

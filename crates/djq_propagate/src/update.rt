@@ -17,7 +17,6 @@ use crate::kill::kill_tuple;
 use crate::live::live;
 use crate::path::{clear_path, take_marked, touch_path};
 use crate::touch::touch_tuple;
-use djq_index::Table;
 use djq_reduct::Reducts;
 use djq_steps::Tally;
 use djq_tree::Tree;
@@ -46,33 +45,8 @@ pub fn insert_leaf<L: Ledger>(
     ensures flat { IfOk result (λ _. HasEqualMeets reducts.old.tree → tally.new ≤ after_insert reducts.old.tree 1 tally.old) }
     ensures flat_refused { OnErr result (HasEqualMeets reducts.old.tree → tally.new ≤ after_refusal reducts.old.tree 1 tally.old) }
 {
-    let _tables = &reducts.tables;
-    put(&reducts.tree, &mut reducts.tables, leaf, tuple, tally)
-}
-
-fn put<L: Ledger>(
-    tree: &Tree,
-    tables: &mut Vec<Table>,
-    leaf: usize,
-    tuple: &[u64],
-    tally: &mut Tally<L>,
-) -> Result<(), AllocError>
-    requires reducts { IsReducts (record { tree = tree.now; tables = tables.old.items }) }
-    requires leaf { leaf < tree.now.leaves }
-    requires wide { length tuple.now ≡ length (label_at tree.now.labels leaf) }
-    requires absent { cnt (entries_at tables.old.items leaf) tuple.now ≡ 0 }
-    requires few { length (entries_at tables.old.items leaf) < 4294967295 }
-    requires bare { IsBare tables.old.items }
-    ensures inserted { IfOk result (λ _. HasInserted (record { tree = tree.now; tables = tables.old.items }) (record { tree = tree.now; tables = tables.new.items }) leaf tuple.now) }
-    ensures refused { OnErr result (HasKept (record { tree = tree.now; tables = tables.old.items }) (record { tree = tree.now; tables = tables.new.items })) }
-    ensures counted { IfOk result (λ _. (n : ℕ) → HasAtMost (record { tree = tree.now; tables = tables.new.items }) n → tally.new ≤ after_insert tree.now n tally.old) }
-    ensures bounded { OnErr result ((n : ℕ) → HasAtMost (record { tree = tree.now; tables = tables.old.items }) n → length (entries_at tables.old.items leaf) < n → tally.new ≤ after_refusal tree.now n tally.old) }
-    ensures few { IfOk result (λ _. HasEqualMeets tree.now → HaveFew tables.new.items) }
-    ensures flat { IfOk result (λ _. HasEqualMeets tree.now → tally.new ≤ after_insert tree.now 1 tally.old) }
-    ensures flat_refused { OnErr result (HasEqualMeets tree.now → tally.new ≤ after_refusal tree.now 1 tally.old) }
-{
-    live(tree, tables, leaf, tuple, true, tally)?;
-    touch_path(tree, tables, leaf, false, tally);
+    live(&reducts.tree, &mut reducts.tables, leaf, tuple, true, tally)?;
+    touch_path(&reducts.tree, &mut reducts.tables, leaf, false, tally);
     Ok(())
 }
 
@@ -96,31 +70,14 @@ pub fn add_leaf<L: Ledger>(
     ensures flat { IfOk result (λ _. HasEqualMeets reducts.old.tree → tally.new ≤ after_add reducts.old.tree 1 tally.old) }
     ensures flat_refused { OnErr result (HasEqualMeets reducts.old.tree → tally.new ≤ after_refusal reducts.old.tree 1 tally.old) }
 {
-    let _tables = &reducts.tables;
-    put_plain(&reducts.tree, &mut reducts.tables, leaf, tuple, tally)
-}
-
-fn put_plain<L: Ledger>(
-    tree: &Tree,
-    tables: &mut Vec<Table>,
-    leaf: usize,
-    tuple: &[u64],
-    tally: &mut Tally<L>,
-) -> Result<(), AllocError>
-    requires reducts { IsReducts (record { tree = tree.now; tables = tables.old.items }) }
-    requires leaf { leaf < tree.now.leaves }
-    requires wide { length tuple.now ≡ length (label_at tree.now.labels leaf) }
-    requires absent { cnt (entries_at tables.old.items leaf) tuple.now ≡ 0 }
-    requires few { length (entries_at tables.old.items leaf) < 4294967295 }
-    requires bare { IsBare tables.old.items }
-    ensures gained { IfOk result (λ _. HasGained (record { tree = tree.now; tables = tables.old.items }) (record { tree = tree.now; tables = tables.new.items }) leaf tuple.now) }
-    ensures refused { OnErr result (HasKept (record { tree = tree.now; tables = tables.old.items }) (record { tree = tree.now; tables = tables.new.items })) }
-    ensures counted { IfOk result (λ _. (n : ℕ) → HasAtMost (record { tree = tree.now; tables = tables.new.items }) n → tally.new ≤ after_add tree.now n tally.old) }
-    ensures bounded { OnErr result ((n : ℕ) → HasAtMost (record { tree = tree.now; tables = tables.old.items }) n → length (entries_at tables.old.items leaf) < n → tally.new ≤ after_refusal tree.now n tally.old) }
-    ensures flat { IfOk result (λ _. HasEqualMeets tree.now → tally.new ≤ after_add tree.now 1 tally.old) }
-    ensures flat_refused { OnErr result (HasEqualMeets tree.now → tally.new ≤ after_refusal tree.now 1 tally.old) }
-{
-    live(tree, tables, leaf, tuple, false, tally)?;
+    live(
+        &reducts.tree,
+        &mut reducts.tables,
+        leaf,
+        tuple,
+        false,
+        tally,
+    )?;
     Ok(())
 }
 
@@ -134,26 +91,7 @@ pub fn drop_leaf<L: Ledger>(reducts: &mut Reducts, leaf: usize, tuple: &[u64], t
     ensures counted { (n : ℕ) → HasAtMost reducts.old n → tally.new ≤ after_take reducts.old.tree n tally.old }
     ensures flat { HasEqualMeets reducts.old.tree → tally.new ≤ after_take reducts.old.tree 1 tally.old }
 {
-    let _tables = &reducts.tables;
-    take_plain(&reducts.tree, &mut reducts.tables, leaf, tuple, tally);
-}
-
-fn take_plain<L: Ledger>(
-    tree: &Tree,
-    tables: &mut Vec<Table>,
-    leaf: usize,
-    tuple: &[u64],
-    tally: &mut Tally<L>,
-)
-    requires reducts { IsReducts (record { tree = tree.now; tables = tables.old.items }) }
-    requires leaf { leaf < tree.now.leaves }
-    requires there { 0 < cnt (entries_at tables.old.items leaf) tuple.now }
-    requires bare { IsBare tables.old.items }
-    ensures lost { HasLost (record { tree = tree.now; tables = tables.old.items }) (record { tree = tree.now; tables = tables.new.items }) leaf tuple.now }
-    ensures counted { (n : ℕ) → HasAtMost (record { tree = tree.now; tables = tables.old.items }) n → tally.new ≤ after_take tree.now n tally.old }
-    ensures flat { HasEqualMeets tree.now → tally.new ≤ after_take tree.now 1 tally.old }
-{
-    kill_tuple(tree, tables, leaf, tuple, tally);
+    kill_tuple(&reducts.tree, &mut reducts.tables, leaf, tuple, tally);
 }
 
 /// Marks a tuple of a leaf, and what goes with it, for a removal that [`finish_removal`] ends. It takes no
@@ -172,28 +110,8 @@ pub fn mark_removal<L: Ledger>(
     ensures few { HasEqualMeets reducts.old.tree → HaveFew reducts.new.tables }
     ensures flat { HasEqualMeets reducts.old.tree → tally.new ≤ after_mark reducts.old.tree 1 tally.old }
 {
-    let _tables = &reducts.tables;
-    mark(&reducts.tree, &mut reducts.tables, leaf, tuple, tally);
-}
-
-fn mark<L: Ledger>(
-    tree: &Tree,
-    tables: &mut Vec<Table>,
-    leaf: usize,
-    tuple: &[u64],
-    tally: &mut Tally<L>,
-)
-    requires reducts { IsReducts (record { tree = tree.now; tables = tables.old.items }) }
-    requires leaf { leaf < tree.now.leaves }
-    requires there { 0 < cnt (entries_at tables.old.items leaf) tuple.now }
-    requires bare { IsBare tables.old.items }
-    ensures marked { HasMarked (record { tree = tree.now; tables = tables.old.items }) (record { tree = tree.now; tables = tables.new.items }) leaf tuple.now }
-    ensures counted { (n : ℕ) → HasAtMost (record { tree = tree.now; tables = tables.old.items }) n → tally.new ≤ after_mark tree.now n tally.old }
-    ensures few { HasEqualMeets tree.now → HaveFew tables.new.items }
-    ensures flat { HasEqualMeets tree.now → tally.new ≤ after_mark tree.now 1 tally.old }
-{
-    touch_tuple(tree, tables, leaf, tuple, tally);
-    touch_path(tree, tables, leaf, true, tally);
+    touch_tuple(&reducts.tree, &mut reducts.tables, leaf, tuple, tally);
+    touch_path(&reducts.tree, &mut reducts.tables, leaf, true, tally);
 }
 
 /// Ends an insertion into a leaf: the marks are cleared. It takes no memory.
@@ -204,19 +122,7 @@ pub fn finish_insertion<L: Ledger>(reducts: &mut Reducts, leaf: usize, tally: &m
     ensures counted { (n : ℕ) → HasAtMost reducts.old n → tally.new ≤ after_keep reducts.old.tree n tally.old }
     ensures flat { HaveFew reducts.old.tables → tally.new ≤ after_keep reducts.old.tree 1 tally.old }
 {
-    let _tables = &reducts.tables;
-    keep(&reducts.tree, &mut reducts.tables, leaf, tally);
-}
-
-fn keep<L: Ledger>(tree: &Tree, tables: &mut Vec<Table>, leaf: usize, tally: &mut Tally<L>)
-    requires reducts { IsReducts (record { tree = tree.now; tables = tables.old.items }) }
-    requires leaf { leaf < tree.now.leaves }
-    requires path { AreOnPath tree.now tables.old.items leaf }
-    ensures kept { HasKept (record { tree = tree.now; tables = tables.old.items }) (record { tree = tree.now; tables = tables.new.items }) }
-    ensures counted { (n : ℕ) → HasAtMost (record { tree = tree.now; tables = tables.old.items }) n → tally.new ≤ after_keep tree.now n tally.old }
-    ensures flat { HaveFew tables.old.items → tally.new ≤ after_keep tree.now 1 tally.old }
-{
-    clear_path(tree, tables, leaf, tally);
+    clear_path(&reducts.tree, &mut reducts.tables, leaf, tally);
 }
 
 /// Ends a removal from a leaf: its marked tuples go, and what stood by them. It takes no memory.
@@ -227,8 +133,8 @@ pub fn finish_removal<L: Ledger>(reducts: &mut Reducts, leaf: usize, tally: &mut
     ensures counted { (n : ℕ) → HasAtMost reducts.old n → tally.new ≤ after_drop reducts.old.tree n tally.old }
     ensures flat { HasEqualMeets reducts.old.tree → HaveFew reducts.old.tables → tally.new ≤ after_drop reducts.old.tree 1 tally.old }
 {
-    let _tables = &reducts.tables;
-    take_out(&reducts.tree, &mut reducts.tables, leaf, tally);
+    take_marked(&reducts.tree, &mut reducts.tables, leaf, tally);
+    clear_path(&reducts.tree, &mut reducts.tables, leaf, tally);
 }
 
 /// Takes an insertion into a leaf back, and ends the update: all tables hold what they held before it. It
@@ -241,21 +147,7 @@ pub fn undo_insertion<L: Ledger>(reducts: &mut Reducts, leaf: usize, tally: &mut
     ensures counted { (n : ℕ) → HasAtMost reducts.old n → tally.new ≤ after_drop reducts.old.tree n tally.old }
     ensures flat { HasEqualMeets reducts.old.tree → HaveFew reducts.old.tables → tally.new ≤ after_drop reducts.old.tree 1 tally.old }
 {
-    let _tables = &reducts.tables;
-    take_out(&reducts.tree, &mut reducts.tables, leaf, tally);
-}
-
-fn take_out<L: Ledger>(tree: &Tree, tables: &mut Vec<Table>, leaf: usize, tally: &mut Tally<L>)
-    requires reducts { IsReducts (record { tree = tree.now; tables = tables.old.items }) }
-    requires leaf { leaf < tree.now.leaves }
-    requires path { AreOnPath tree.now tables.old.items leaf }
-    ensures dropped { HasDropped (record { tree = tree.now; tables = tables.old.items }) (record { tree = tree.now; tables = tables.new.items }) leaf }
-    ensures back { (before : spec.Reducts) → IsReducts before → IsWithout (record { tree = tree.now; tables = tables.old.items }) before leaf → SameTables before (record { tree = tree.now; tables = tables.new.items }) }
-    ensures counted { (n : ℕ) → HasAtMost (record { tree = tree.now; tables = tables.old.items }) n → tally.new ≤ after_drop tree.now n tally.old }
-    ensures flat { HasEqualMeets tree.now → HaveFew tables.old.items → tally.new ≤ after_drop tree.now 1 tally.old }
-{
-    take_marked(tree, tables, leaf, tally);
-    clear_path(tree, tables, leaf, tally);
+    finish_removal(reducts, leaf, tally);
 }
 
 /// The law that the calls of an update of one leaf add up. With at most `n` tuples in each leaf, the one

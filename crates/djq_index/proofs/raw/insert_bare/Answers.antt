@@ -2,13 +2,13 @@ use Rattle.std.proofs.Common.{◌<◌, refl, sym, subst, ℕ}
 use Rattle.djq_index.specs.declared.place.Place.{Place}
 use Rattle.djq_index.specs.declared.raw.Raw.{Raw}
 use Rattle.djq_index.specs.Table.{IsAt}
-use Rattle.djq_index.specs.Raw.{entries_of, IsLaid, IsNoted}
+use Rattle.djq_index.specs.Raw.{entries_of, IsNoted}
 use Rattle.djq_index.proofs.Inserting.{
   slot_notes,
   came_bare,
   came_inserted,
   came_at,
-  Refuses,
+  unlaid_refuses,
   refused_bare,
   refused_entries,
   on_err_of,
@@ -16,82 +16,35 @@ use Rattle.djq_index.proofs.Inserting.{
 use Rattle.djq_index.proofs.Bounding.{entries_length}
 use Rattle.djq_index.proofs.raw.insert_bare.Goals as goal
 
-pub lay-requires-clause-few : goal.lay-requires-clause-few
-lay-requires-clause-few c = subst (λ (n : ℕ). n < 4294967295) (entries_length c.args.raw.now) c.requires.few
+pub lay-requires : goal.lay-requires
+lay-requires c = record {
+  ready = record {
+    rows_law = c.requires.raw.rows;
+    wide = c.requires.wide;
+    few = subst (λ (n : ℕ). n < 4294967295) (entries_length c.args.raw.now) c.requires.few;
+    room_notes = c.requires.raw.notes;
+  };
+}
 
 pub returns-in_err-slot-clause-raw : goal.returns-in_err-slot-clause-raw
 returns-in_err-slot-clause-raw c =
-    let b : Raw = record {
-      kind = c.args.raw.now.kind;
-      key = c.args.raw.now.key;
-      rows = c.lay.new.rows;
-      notes = c.lay.new.notes;
-      links = c.args.raw.now.links;
-      keys = c.args.raw.now.keys;
-      ends = c.args.raw.now.ends;
-      marked = c.args.raw.now.marked;
-      cells = c.args.raw.now.cells;
-    } in
-    let r : Refuses c.args.raw.now b = record {
-      kind = refl;
-      key = refl;
-      rows_law = c.in_err-slot.ensures.rows;
-      width = c.in_err-slot.ensures.width;
-      rows = c.in_err-slot.ensures.refused;
-      room_notes = c.in_err-slot.ensures.notes;
-      same_notes = c.in_err-slot.ensures.same_notes;
-      marked = refl;
-    } in
+    let b : Raw = record c.args.raw.now { rows = c.lay.new.rows; notes = c.lay.new.notes } in
+    let r = unlaid_refuses c.args.raw.now b c.in_err-slot.ensures.refused refl refl refl in
     refused_bare c.args.raw.now b c.requires.raw r
 
 pub returns-in_err-slot-clause-refused : goal.returns-in_err-slot-clause-refused
 returns-in_err-slot-clause-refused c =
-    let b : Raw = record {
-      kind = c.args.raw.now.kind;
-      key = c.args.raw.now.key;
-      rows = c.lay.new.rows;
-      notes = c.lay.new.notes;
-      links = c.args.raw.now.links;
-      keys = c.args.raw.now.keys;
-      ends = c.args.raw.now.ends;
-      marked = c.args.raw.now.marked;
-      cells = c.args.raw.now.cells;
-    } in
-    let r : Refuses c.args.raw.now b = record {
-      kind = refl;
-      key = refl;
-      rows_law = c.in_err-slot.ensures.rows;
-      width = c.in_err-slot.ensures.width;
-      rows = c.in_err-slot.ensures.refused;
-      room_notes = c.in_err-slot.ensures.notes;
-      same_notes = c.in_err-slot.ensures.same_notes;
-      marked = refl;
-    } in
+    let b : Raw = record c.args.raw.now { rows = c.lay.new.rows; notes = c.lay.new.notes } in
+    let r = unlaid_refuses c.args.raw.now b c.in_err-slot.ensures.refused refl refl refl in
     on_err_of c.from_residual.result _ (refused_entries c.args.raw.now b r)
 
 pub sign-requires : goal.sign-requires
 sign-requires c =
-    let l : IsLaid c.args.raw.now c.lay.new.rows c.lay.new.notes.items c.in_ok-slot.slot
-    c.args.tuple.now = record {
-      rows_law = c.in_ok-slot.ensures.rows;
-      width = c.in_ok-slot.ensures.width;
-      laid = c.in_ok-slot.ensures.laid;
-      room_notes = c.in_ok-slot.ensures.notes;
-      same_notes = c.in_ok-slot.ensures.same_notes;
-    } in
     slot_notes c.args.raw.now c.lay.new.rows c.lay.new.notes.items c.in_ok-slot.slot
-    c.args.tuple.now l
+    c.args.tuple.now c.in_ok-slot.ensures.laid
 
 pub returns-clause-raw : goal.returns-clause-raw
 returns-clause-raw c =
-    let l : IsLaid c.args.raw.now c.lay.new.rows c.lay.new.notes.items c.in_ok-slot.slot
-    c.args.tuple.now = record {
-      rows_law = c.in_ok-slot.ensures.rows;
-      width = c.in_ok-slot.ensures.width;
-      laid = c.in_ok-slot.ensures.laid;
-      room_notes = c.in_ok-slot.ensures.notes;
-      same_notes = c.in_ok-slot.ensures.same_notes;
-    } in
     let s = c.sign.ensures.noted in
     let n : IsNoted c.args.marked c.args.raw.now c.sign.new.raw c.lay.new.rows c.lay.new.notes.items
     c.in_ok-slot.slot 0 = record {
@@ -102,18 +55,10 @@ returns-clause-raw c =
       marked = s.marked;
     } in
     came_bare c.args.marked c.args.raw.now c.sign.new.raw c.lay.new.rows c.lay.new.notes.items
-    c.in_ok-slot.slot 0 c.args.tuple.now c.requires.raw c.requires.plain c.requires.absent l n
+    c.in_ok-slot.slot 0 c.args.tuple.now c.requires.raw c.requires.plain c.requires.absent c.in_ok-slot.ensures.laid n
 
 pub returns-clause-inserted : goal.returns-clause-inserted
 returns-clause-inserted c =
-    let l : IsLaid c.args.raw.now c.lay.new.rows c.lay.new.notes.items c.in_ok-slot.slot
-    c.args.tuple.now = record {
-      rows_law = c.in_ok-slot.ensures.rows;
-      width = c.in_ok-slot.ensures.width;
-      laid = c.in_ok-slot.ensures.laid;
-      room_notes = c.in_ok-slot.ensures.notes;
-      same_notes = c.in_ok-slot.ensures.same_notes;
-    } in
     let s = c.sign.ensures.noted in
     let n : IsNoted c.args.marked c.args.raw.now c.sign.new.raw c.lay.new.rows c.lay.new.notes.items
     c.in_ok-slot.slot 0 = record {
@@ -124,18 +69,10 @@ returns-clause-inserted c =
       marked = s.marked;
     } in
     came_inserted c.args.marked c.args.raw.now c.sign.new.raw c.lay.new.rows c.lay.new.notes.items
-    c.in_ok-slot.slot 0 c.args.tuple.now c.requires.raw c.requires.plain c.requires.absent l n
+    c.in_ok-slot.slot 0 c.args.tuple.now c.requires.raw c.requires.plain c.requires.absent c.in_ok-slot.ensures.laid n
 
 pub returns-clause-at : goal.returns-clause-at
 returns-clause-at c =
-    let l : IsLaid c.args.raw.now c.lay.new.rows c.lay.new.notes.items c.in_ok-slot.slot
-    c.args.tuple.now = record {
-      rows_law = c.in_ok-slot.ensures.rows;
-      width = c.in_ok-slot.ensures.width;
-      laid = c.in_ok-slot.ensures.laid;
-      room_notes = c.in_ok-slot.ensures.notes;
-      same_notes = c.in_ok-slot.ensures.same_notes;
-    } in
     let s = c.sign.ensures.noted in
     let n : IsNoted c.args.marked c.args.raw.now c.sign.new.raw c.lay.new.rows c.lay.new.notes.items
     c.in_ok-slot.slot 0 = record {
@@ -147,4 +84,4 @@ returns-clause-at c =
     } in
     subst (λ (p : Place). IsAt (entries_of c.sign.new.raw) p c.args.tuple.now) (sym c.new.ensures)
     (came_at c.args.marked c.args.raw.now c.sign.new.raw c.lay.new.rows c.lay.new.notes.items
-    c.in_ok-slot.slot 0 c.args.tuple.now c.requires.raw c.requires.plain c.requires.absent l n)
+    c.in_ok-slot.slot 0 c.args.tuple.now c.requires.raw c.requires.plain c.requires.absent c.in_ok-slot.ensures.laid n)

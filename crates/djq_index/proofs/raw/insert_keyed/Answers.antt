@@ -4,7 +4,7 @@ use Rattle.djq_index.specs.declared.place.Place.{Place}
 use Rattle.djq_index.specs.declared.raw.Raw.{Raw}
 use Rattle.djq_index.specs.Tuple.{pick}
 use Rattle.djq_index.specs.Table.{IsAt}
-use Rattle.djq_index.specs.Raw.{entries_of, IsLaid, IsReady, IsNoted, IsSeat}
+use Rattle.djq_index.specs.Raw.{entries_of, IsReady, IsNoted, IsSeat}
 use Rattle.djq_index.proofs.Inserting.{
   slot_notes,
   slot_links,
@@ -16,6 +16,7 @@ use Rattle.djq_index.proofs.Inserting.{
   came_inserted,
   came_at,
   Refuses,
+  unlaid_refuses,
   RefusesHead,
   refused_bare,
   refused_heads,
@@ -26,60 +27,35 @@ use Rattle.djq_index.proofs.Bounding.{entries_length}
 use Rattle.djq_index.proofs.Heading.{few_heads}
 use Rattle.djq_index.proofs.raw.insert_keyed.Goals as goal
 
-pub lay_linked-requires-clause-few : goal.lay_linked-requires-clause-few
-lay_linked-requires-clause-few c = subst (λ (n : ℕ). n < 4294967295) (entries_length c.args.raw.now) c.requires.few
+pub lay_linked-requires-clause-ready : goal.lay_linked-requires-clause-ready
+lay_linked-requires-clause-ready c = record {
+  rows_law = c.requires.raw.rows;
+  wide = c.requires.wide;
+  few = subst (λ (n : ℕ). n < 4294967295) (entries_length c.args.raw.now) c.requires.few;
+  room_notes = c.requires.raw.notes;
+}
 
 pub seat-requires-clause-few : goal.seat-requires-clause-few
 seat-requires-clause-few c = omega (arith, few_heads c.args.raw.now c.requires.heads, c.requires.few)
 
 pub returns-in_err-slot-clause-raw : goal.returns-in_err-slot-clause-raw
 returns-in_err-slot-clause-raw c =
-    let b : Raw = record {
-      kind = c.args.raw.now.kind;
-      key = c.args.raw.now.key;
+    let b : Raw = record c.args.raw.now {
       rows = c.lay_linked.new.rows;
       notes = c.lay_linked.new.notes;
       links = c.lay_linked.new.links;
-      keys = c.args.raw.now.keys;
-      ends = c.args.raw.now.ends;
-      marked = c.args.raw.now.marked;
-      cells = c.args.raw.now.cells;
     } in
-    let r : Refuses c.args.raw.now b = record {
-      kind = refl;
-      key = refl;
-      rows_law = c.in_err-slot.ensures.rows;
-      width = c.in_err-slot.ensures.width;
-      rows = c.in_err-slot.ensures.refused;
-      room_notes = c.in_err-slot.ensures.notes;
-      same_notes = c.in_err-slot.ensures.same_notes;
-      marked = refl;
-    } in
+    let r = unlaid_refuses c.args.raw.now b c.in_err-slot.ensures.refused refl refl refl in
     refused_bare c.args.raw.now b c.requires.raw r
 
 pub returns-in_err-slot-clause-heads : goal.returns-in_err-slot-clause-heads
 returns-in_err-slot-clause-heads c =
-    let b : Raw = record {
-      kind = c.args.raw.now.kind;
-      key = c.args.raw.now.key;
+    let b : Raw = record c.args.raw.now {
       rows = c.lay_linked.new.rows;
       notes = c.lay_linked.new.notes;
       links = c.lay_linked.new.links;
-      keys = c.args.raw.now.keys;
-      ends = c.args.raw.now.ends;
-      marked = c.args.raw.now.marked;
-      cells = c.args.raw.now.cells;
     } in
-    let r : Refuses c.args.raw.now b = record {
-      kind = refl;
-      key = refl;
-      rows_law = c.in_err-slot.ensures.rows;
-      width = c.in_err-slot.ensures.width;
-      rows = c.in_err-slot.ensures.refused;
-      room_notes = c.in_err-slot.ensures.notes;
-      same_notes = c.in_err-slot.ensures.same_notes;
-      marked = refl;
-    } in
+    let r = unlaid_refuses c.args.raw.now b c.in_err-slot.ensures.refused refl refl refl in
     let h : RefusesHead c.args.raw.now b = record {
       room_links = c.in_err-slot.ensures.links;
       same_links = c.in_err-slot.ensures.same_links;
@@ -94,40 +70,22 @@ returns-in_err-slot-clause-heads c =
 
 pub returns-in_err-slot-clause-refused : goal.returns-in_err-slot-clause-refused
 returns-in_err-slot-clause-refused c =
-    let b : Raw = record {
-      kind = c.args.raw.now.kind;
-      key = c.args.raw.now.key;
+    let b : Raw = record c.args.raw.now {
       rows = c.lay_linked.new.rows;
       notes = c.lay_linked.new.notes;
       links = c.lay_linked.new.links;
-      keys = c.args.raw.now.keys;
-      ends = c.args.raw.now.ends;
-      marked = c.args.raw.now.marked;
-      cells = c.args.raw.now.cells;
     } in
-    let r : Refuses c.args.raw.now b = record {
-      kind = refl;
-      key = refl;
-      rows_law = c.in_err-slot.ensures.rows;
-      width = c.in_err-slot.ensures.width;
-      rows = c.in_err-slot.ensures.refused;
-      room_notes = c.in_err-slot.ensures.notes;
-      same_notes = c.in_err-slot.ensures.same_notes;
-      marked = refl;
-    } in
+    let r = unlaid_refuses c.args.raw.now b c.in_err-slot.ensures.refused refl refl refl in
     on_err_of c.from_residual.result _ (refused_entries c.args.raw.now b r)
 
 pub returns-in-Err-clause-raw : goal.returns-in-Err-clause-raw
 returns-in-Err-clause-raw c =
-    let b : Raw = record {
-      kind = c.args.raw.now.kind;
-      key = c.args.raw.now.key;
+    let b : Raw = record c.args.raw.now {
       rows = c.withdraw.new.rows;
       notes = c.lay_linked.new.notes;
       links = c.lay_linked.new.links;
       keys = c.seat.new.keys;
       ends = c.seat.new.ends;
-      marked = c.args.raw.now.marked;
       cells = c.seat.new.cells;
     } in
     let r : Refuses c.args.raw.now b = record {
@@ -135,30 +93,27 @@ returns-in-Err-clause-raw c =
       key = refl;
       rows_law = c.withdraw.ensures.rows;
       width = c.withdraw.ensures.width
-          ∙ c.in_ok-slot.ensures.width;
+          ∙ c.in_ok-slot.ensures.laid.width;
       rows = c.withdraw.ensures.removed c.args.raw.now.rows.rows
           (record {
             slot = c.in_ok-slot.slot;
             cells = c.args.tuple.now;
-          }) [] c.in_ok-slot.ensures.laid refl
+          }) [] c.in_ok-slot.ensures.laid.laid refl
           ∙ append-nil c.args.raw.now.rows.rows;
-      room_notes = rw c.withdraw.ensures.room c.in_ok-slot.ensures.notes;
-      same_notes = c.in_ok-slot.ensures.same_notes;
+      room_notes = rw c.withdraw.ensures.room c.in_ok-slot.ensures.laid.room_notes;
+      same_notes = c.in_ok-slot.ensures.laid.same_notes;
       marked = refl;
     } in
     refused_bare c.args.raw.now b c.requires.raw r
 
 pub returns-in-Err-clause-heads : goal.returns-in-Err-clause-heads
 returns-in-Err-clause-heads c =
-    let b : Raw = record {
-      kind = c.args.raw.now.kind;
-      key = c.args.raw.now.key;
+    let b : Raw = record c.args.raw.now {
       rows = c.withdraw.new.rows;
       notes = c.lay_linked.new.notes;
       links = c.lay_linked.new.links;
       keys = c.seat.new.keys;
       ends = c.seat.new.ends;
-      marked = c.args.raw.now.marked;
       cells = c.seat.new.cells;
     } in
     let r : Refuses c.args.raw.now b = record {
@@ -166,15 +121,15 @@ returns-in-Err-clause-heads c =
       key = refl;
       rows_law = c.withdraw.ensures.rows;
       width = c.withdraw.ensures.width
-          ∙ c.in_ok-slot.ensures.width;
+          ∙ c.in_ok-slot.ensures.laid.width;
       rows = c.withdraw.ensures.removed c.args.raw.now.rows.rows
           (record {
             slot = c.in_ok-slot.slot;
             cells = c.args.tuple.now;
-          }) [] c.in_ok-slot.ensures.laid refl
+          }) [] c.in_ok-slot.ensures.laid.laid refl
           ∙ append-nil c.args.raw.now.rows.rows;
-      room_notes = rw c.withdraw.ensures.room c.in_ok-slot.ensures.notes;
-      same_notes = c.in_ok-slot.ensures.same_notes;
+      room_notes = rw c.withdraw.ensures.room c.in_ok-slot.ensures.laid.room_notes;
+      same_notes = c.in_ok-slot.ensures.laid.same_notes;
       marked = refl;
     } in
     let h : RefusesHead c.args.raw.now b = record {
@@ -191,15 +146,12 @@ returns-in-Err-clause-heads c =
 
 pub returns-in-Err-clause-refused : goal.returns-in-Err-clause-refused
 returns-in-Err-clause-refused c =
-    let b : Raw = record {
-      kind = c.args.raw.now.kind;
-      key = c.args.raw.now.key;
+    let b : Raw = record c.args.raw.now {
       rows = c.withdraw.new.rows;
       notes = c.lay_linked.new.notes;
       links = c.lay_linked.new.links;
       keys = c.seat.new.keys;
       ends = c.seat.new.ends;
-      marked = c.args.raw.now.marked;
       cells = c.seat.new.cells;
     } in
     let r : Refuses c.args.raw.now b = record {
@@ -207,46 +159,30 @@ returns-in-Err-clause-refused c =
       key = refl;
       rows_law = c.withdraw.ensures.rows;
       width = c.withdraw.ensures.width
-          ∙ c.in_ok-slot.ensures.width;
+          ∙ c.in_ok-slot.ensures.laid.width;
       rows = c.withdraw.ensures.removed c.args.raw.now.rows.rows
           (record {
             slot = c.in_ok-slot.slot;
             cells = c.args.tuple.now;
-          }) [] c.in_ok-slot.ensures.laid refl
+          }) [] c.in_ok-slot.ensures.laid.laid refl
           ∙ append-nil c.args.raw.now.rows.rows;
-      room_notes = rw c.withdraw.ensures.room c.in_ok-slot.ensures.notes;
-      same_notes = c.in_ok-slot.ensures.same_notes;
+      room_notes = rw c.withdraw.ensures.room c.in_ok-slot.ensures.laid.room_notes;
+      same_notes = c.in_ok-slot.ensures.laid.same_notes;
       marked = refl;
     } in
     refused_entries c.args.raw.now b r
 
 pub settle-requires-clause-notes : goal.settle-requires-clause-notes
 settle-requires-clause-notes c =
-    let l : IsLaid c.args.raw.now c.lay_linked.new.rows c.lay_linked.new.notes.items
-    c.in_ok-slot.slot c.args.tuple.now = record {
-      rows_law = c.in_ok-slot.ensures.rows;
-      width = c.in_ok-slot.ensures.width;
-      laid = c.in_ok-slot.ensures.laid;
-      room_notes = c.in_ok-slot.ensures.notes;
-      same_notes = c.in_ok-slot.ensures.same_notes;
-    } in
     slot_notes c.args.raw.now c.lay_linked.new.rows c.lay_linked.new.notes.items c.in_ok-slot.slot
-    c.args.tuple.now l
+    c.args.tuple.now c.in_ok-slot.ensures.laid
 
 pub settle-requires-clause-links : goal.settle-requires-clause-links
 settle-requires-clause-links c =
-    let l : IsLaid c.args.raw.now c.lay_linked.new.rows c.lay_linked.new.notes.items
-    c.in_ok-slot.slot c.args.tuple.now = record {
-      rows_law = c.in_ok-slot.ensures.rows;
-      width = c.in_ok-slot.ensures.width;
-      laid = c.in_ok-slot.ensures.laid;
-      room_notes = c.in_ok-slot.ensures.notes;
-      same_notes = c.in_ok-slot.ensures.same_notes;
-    } in
     let r : IsReady c.args.raw.now c.lay_linked.new.rows c.lay_linked.new.notes.items
     c.lay_linked.new.links.items c.seat.new.keys c.seat.new.ends.items c.in_ok-slot.slot
     c.in-Ok.head c.args.tuple.now = record {
-      laid = l;
+      laid = c.in_ok-slot.ensures.laid;
       room_links = c.in_ok-slot.ensures.links;
       same_links = c.in_ok-slot.ensures.same_links;
       longer = c.in_ok-slot.ensures.longer;
@@ -263,31 +199,15 @@ settle-requires-clause-links c =
 
 pub settle-requires-clause-number : goal.settle-requires-clause-number
 settle-requires-clause-number c =
-    let l : IsLaid c.args.raw.now c.lay_linked.new.rows c.lay_linked.new.notes.items
-    c.in_ok-slot.slot c.args.tuple.now = record {
-      rows_law = c.in_ok-slot.ensures.rows;
-      width = c.in_ok-slot.ensures.width;
-      laid = c.in_ok-slot.ensures.laid;
-      room_notes = c.in_ok-slot.ensures.notes;
-      same_notes = c.in_ok-slot.ensures.same_notes;
-    } in
     slot_number c.args.raw.now c.lay_linked.new.rows c.lay_linked.new.notes.items
-    c.in_ok-slot.slot c.args.tuple.now l
+    c.in_ok-slot.slot c.args.tuple.now c.in_ok-slot.ensures.laid
 
 pub settle-requires-clause-head : goal.settle-requires-clause-head
 settle-requires-clause-head c =
-    let l : IsLaid c.args.raw.now c.lay_linked.new.rows c.lay_linked.new.notes.items
-    c.in_ok-slot.slot c.args.tuple.now = record {
-      rows_law = c.in_ok-slot.ensures.rows;
-      width = c.in_ok-slot.ensures.width;
-      laid = c.in_ok-slot.ensures.laid;
-      room_notes = c.in_ok-slot.ensures.notes;
-      same_notes = c.in_ok-slot.ensures.same_notes;
-    } in
     let r : IsReady c.args.raw.now c.lay_linked.new.rows c.lay_linked.new.notes.items
     c.lay_linked.new.links.items c.seat.new.keys c.seat.new.ends.items c.in_ok-slot.slot
     c.in-Ok.head c.args.tuple.now = record {
-      laid = l;
+      laid = c.in_ok-slot.ensures.laid;
       room_links = c.in_ok-slot.ensures.links;
       same_links = c.in_ok-slot.ensures.same_links;
       longer = c.in_ok-slot.ensures.longer;
@@ -304,18 +224,10 @@ settle-requires-clause-head c =
 
 pub settle-requires-clause-last : goal.settle-requires-clause-last
 settle-requires-clause-last c =
-    let l : IsLaid c.args.raw.now c.lay_linked.new.rows c.lay_linked.new.notes.items
-    c.in_ok-slot.slot c.args.tuple.now = record {
-      rows_law = c.in_ok-slot.ensures.rows;
-      width = c.in_ok-slot.ensures.width;
-      laid = c.in_ok-slot.ensures.laid;
-      room_notes = c.in_ok-slot.ensures.notes;
-      same_notes = c.in_ok-slot.ensures.same_notes;
-    } in
     let r : IsReady c.args.raw.now c.lay_linked.new.rows c.lay_linked.new.notes.items
     c.lay_linked.new.links.items c.seat.new.keys c.seat.new.ends.items c.in_ok-slot.slot
     c.in-Ok.head c.args.tuple.now = record {
-      laid = l;
+      laid = c.in_ok-slot.ensures.laid;
       room_links = c.in_ok-slot.ensures.links;
       same_links = c.in_ok-slot.ensures.same_links;
       longer = c.in_ok-slot.ensures.longer;
@@ -332,14 +244,6 @@ settle-requires-clause-last c =
 
 pub returns-in-Ok-clause-raw : goal.returns-in-Ok-clause-raw
 returns-in-Ok-clause-raw c =
-    let l : IsLaid c.args.raw.now c.lay_linked.new.rows c.lay_linked.new.notes.items
-    c.in_ok-slot.slot c.args.tuple.now = record {
-      rows_law = c.in_ok-slot.ensures.rows;
-      width = c.in_ok-slot.ensures.width;
-      laid = c.in_ok-slot.ensures.laid;
-      room_notes = c.in_ok-slot.ensures.notes;
-      same_notes = c.in_ok-slot.ensures.same_notes;
-    } in
     let s = c.settle.ensures.settled in
     let n : IsNoted c.args.marked c.args.raw.now c.settle.new.raw c.lay_linked.new.rows
     c.lay_linked.new.notes.items c.in_ok-slot.slot c.in-Ok.head =
@@ -351,22 +255,14 @@ returns-in-Ok-clause-raw c =
       marked = s.noted.marked;
     } in
     came_bare c.args.marked c.args.raw.now c.settle.new.raw c.lay_linked.new.rows c.lay_linked.new.notes.items
-    c.in_ok-slot.slot c.in-Ok.head c.args.tuple.now c.requires.raw c.requires.plain c.requires.absent l n
+    c.in_ok-slot.slot c.in-Ok.head c.args.tuple.now c.requires.raw c.requires.plain c.requires.absent c.in_ok-slot.ensures.laid n
 
 pub returns-in-Ok-clause-heads : goal.returns-in-Ok-clause-heads
 returns-in-Ok-clause-heads c =
-    let l : IsLaid c.args.raw.now c.lay_linked.new.rows c.lay_linked.new.notes.items
-    c.in_ok-slot.slot c.args.tuple.now = record {
-      rows_law = c.in_ok-slot.ensures.rows;
-      width = c.in_ok-slot.ensures.width;
-      laid = c.in_ok-slot.ensures.laid;
-      room_notes = c.in_ok-slot.ensures.notes;
-      same_notes = c.in_ok-slot.ensures.same_notes;
-    } in
     let r : IsReady c.args.raw.now c.lay_linked.new.rows c.lay_linked.new.notes.items
     c.lay_linked.new.links.items c.seat.new.keys c.seat.new.ends.items c.in_ok-slot.slot
     c.in-Ok.head c.args.tuple.now = record {
-      laid = l;
+      laid = c.in_ok-slot.ensures.laid;
       room_links = c.in_ok-slot.ensures.links;
       same_links = c.in_ok-slot.ensures.same_links;
       longer = c.in_ok-slot.ensures.longer;
@@ -399,14 +295,6 @@ returns-in-Ok-clause-heads c =
 
 pub returns-in-Ok-clause-inserted : goal.returns-in-Ok-clause-inserted
 returns-in-Ok-clause-inserted c =
-    let l : IsLaid c.args.raw.now c.lay_linked.new.rows c.lay_linked.new.notes.items
-    c.in_ok-slot.slot c.args.tuple.now = record {
-      rows_law = c.in_ok-slot.ensures.rows;
-      width = c.in_ok-slot.ensures.width;
-      laid = c.in_ok-slot.ensures.laid;
-      room_notes = c.in_ok-slot.ensures.notes;
-      same_notes = c.in_ok-slot.ensures.same_notes;
-    } in
     let s = c.settle.ensures.settled in
     let n : IsNoted c.args.marked c.args.raw.now c.settle.new.raw c.lay_linked.new.rows
     c.lay_linked.new.notes.items c.in_ok-slot.slot c.in-Ok.head =
@@ -419,18 +307,10 @@ returns-in-Ok-clause-inserted c =
     } in
     came_inserted c.args.marked c.args.raw.now c.settle.new.raw c.lay_linked.new.rows
     c.lay_linked.new.notes.items c.in_ok-slot.slot c.in-Ok.head c.args.tuple.now
-    c.requires.raw c.requires.plain c.requires.absent l n
+    c.requires.raw c.requires.plain c.requires.absent c.in_ok-slot.ensures.laid n
 
 pub returns-in-Ok-clause-at : goal.returns-in-Ok-clause-at
 returns-in-Ok-clause-at c =
-    let l : IsLaid c.args.raw.now c.lay_linked.new.rows c.lay_linked.new.notes.items
-    c.in_ok-slot.slot c.args.tuple.now = record {
-      rows_law = c.in_ok-slot.ensures.rows;
-      width = c.in_ok-slot.ensures.width;
-      laid = c.in_ok-slot.ensures.laid;
-      room_notes = c.in_ok-slot.ensures.notes;
-      same_notes = c.in_ok-slot.ensures.same_notes;
-    } in
     let s = c.settle.ensures.settled in
     let n : IsNoted c.args.marked c.args.raw.now c.settle.new.raw c.lay_linked.new.rows
     c.lay_linked.new.notes.items c.in_ok-slot.slot c.in-Ok.head =
@@ -445,4 +325,4 @@ returns-in-Ok-clause-at c =
     (sym c.new.ensures)
     (came_at c.args.marked c.args.raw.now c.settle.new.raw c.lay_linked.new.rows
     c.lay_linked.new.notes.items c.in_ok-slot.slot c.in-Ok.head c.args.tuple.now
-    c.requires.raw c.requires.plain c.requires.absent l n)
+    c.requires.raw c.requires.plain c.requires.absent c.in_ok-slot.ensures.laid n)

@@ -25,17 +25,7 @@ withdraw-requires c =
 pub returns-clause-raw : goal.returns-clause-raw
 returns-clause-raw c =
     let f = find_row c.args.raw.now c.args.place c.requires.live.tuple c.requires.live.is_at in
-    let b : Raw = record {
-      kind = c.args.raw.now.kind;
-      key = c.args.raw.now.key;
-      rows = c.withdraw.new.rows;
-      notes = c.args.raw.now.notes;
-      links = c.args.raw.now.links;
-      keys = c.args.raw.now.keys;
-      ends = c.args.raw.now.ends;
-      marked = c.pass-raw.result;
-      cells = c.args.raw.now.cells;
-    } in
+    let b : Raw = record c.args.raw.now { rows = c.withdraw.new.rows; marked = c.pass-raw.result } in
     let l : Leaves c.args.raw.now b c.args.place.slot c.next.result = leaves_from c.args.raw.now b
     c.args.place.slot c.slot-slot.result c.next.result c.slot-slot.ensures refl refl
     c.withdraw.ensures.rows c.withdraw.ensures.width c.withdraw.ensures.room
@@ -45,17 +35,7 @@ returns-clause-raw c =
 pub returns-clause-removed : goal.returns-clause-removed
 returns-clause-removed c = λ u at.
     let f = find_row c.args.raw.now c.args.place u at in
-    let b : Raw = record {
-      kind = c.args.raw.now.kind;
-      key = c.args.raw.now.key;
-      rows = c.withdraw.new.rows;
-      notes = c.args.raw.now.notes;
-      links = c.args.raw.now.links;
-      keys = c.args.raw.now.keys;
-      ends = c.args.raw.now.ends;
-      marked = c.pass-raw.result;
-      cells = c.args.raw.now.cells;
-    } in
+    let b : Raw = record c.args.raw.now { rows = c.withdraw.new.rows; marked = c.pass-raw.result } in
     let l : Leaves c.args.raw.now b c.args.place.slot c.next.result = leaves_from c.args.raw.now b
     c.args.place.slot c.slot-slot.result c.next.result c.slot-slot.ensures refl refl
     c.withdraw.ensures.rows c.withdraw.ensures.width c.withdraw.ensures.room

@@ -97,16 +97,12 @@ returns-clause-raw c =
     let h : c.note_of-head.result.head ≡
     (note_at c.args.raw.now.notes.items c.args.place.slot).head = ap (λ (n : Note). n.head)
     (c.note_of-head.ensures ∙ ap (note_at c.args.raw.now.notes.items) c.slot-slot.ensures) in
-    let b : Raw = record {
-      kind = c.args.raw.now.kind;
-      key = c.args.raw.now.key;
+    let b : Raw = record c.args.raw.now {
       rows = c.withdraw.new.rows;
-      notes = c.args.raw.now.notes;
       links = c.part.new.links;
       keys = c.prune.new.keys;
       ends = c.part.new.ends;
       marked = c.pass-raw.result;
-      cells = c.args.raw.now.cells;
     } in
     let l : Leaves c.args.raw.now b c.args.place.slot c.next.result = leaves_from c.args.raw.now b
     c.args.place.slot c.slot-slot.result c.next.result c.slot-slot.ensures refl refl
@@ -120,16 +116,12 @@ returns-clause-heads c =
     let h : c.note_of-head.result.head ≡
     (note_at c.args.raw.now.notes.items c.args.place.slot).head = ap (λ (n : Note). n.head)
     (c.note_of-head.ensures ∙ ap (note_at c.args.raw.now.notes.items) c.slot-slot.ensures) in
-    let b : Raw = record {
-      kind = c.args.raw.now.kind;
-      key = c.args.raw.now.key;
+    let b : Raw = record c.args.raw.now {
       rows = c.withdraw.new.rows;
-      notes = c.args.raw.now.notes;
       links = c.part.new.links;
       keys = c.prune.new.keys;
       ends = c.part.new.ends;
       marked = c.pass-raw.result;
-      cells = c.args.raw.now.cells;
     } in
     let l : Leaves c.args.raw.now b c.args.place.slot c.next.result = leaves_from c.args.raw.now b
     c.args.place.slot c.slot-slot.result c.next.result c.slot-slot.ensures refl refl
@@ -145,16 +137,12 @@ returns-clause-heads c =
 pub returns-clause-removed : goal.returns-clause-removed
 returns-clause-removed c = λ u at.
     let f = find_row c.args.raw.now c.args.place u at in
-    let b : Raw = record {
-      kind = c.args.raw.now.kind;
-      key = c.args.raw.now.key;
+    let b : Raw = record c.args.raw.now {
       rows = c.withdraw.new.rows;
-      notes = c.args.raw.now.notes;
       links = c.part.new.links;
       keys = c.prune.new.keys;
       ends = c.part.new.ends;
       marked = c.pass-raw.result;
-      cells = c.args.raw.now.cells;
     } in
     let l : Leaves c.args.raw.now b c.args.place.slot c.next.result = leaves_from c.args.raw.now b
     c.args.place.slot c.slot-slot.result c.next.result c.slot-slot.ensures refl refl
