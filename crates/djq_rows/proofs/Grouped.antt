@@ -24,7 +24,7 @@ use Rattle.std.proofs.Common.{
 use Rattle.std.specs.Prelude.{map, Option, Some, None, is_some, MatchOption}
 use Rattle.std.specs.List.{AllByRecursion}
 use Rattle.std.proofs.lemmas.Bool.{cases_Bool}
-use Rattle.std.proofs.lemmas.List.{length-map, map-append}
+use Rattle.std.proofs.lemmas.List.{length-map}
 use Rattle.std.proofs.lemmas.List.Elements.{All-from_recursion}
 use Rattle.std.proofs.lemmas.List.Kept.{AllPairs-cons}
 use Rattle.djq_model.specs.declared.relation.ColumnType.{ColumnType}
@@ -78,23 +78,9 @@ pub within_rest : (texts : List Bytes) (ts : List ColumnType) (e : Entry) (es : 
 unfolding tuples_of
 within_rest texts ts e es h = h.1
 
-pub within_cons : (texts : List Bytes) (ts : List ColumnType) (e : Entry) (es : List Entry) →
-    AreWithin texts ts e.tuple → Within texts ts es → Within texts ts (e ∷ es)
-unfolding tuples_of
-within_cons texts ts e es h k = (h, k)
-
 rows_nil : (texts : List Bytes) (ts : List ColumnType) → rows_in texts ts [] ≡ []
 unfolding tuples_of
 rows_nil texts ts = refl
-
-pub tuples-append : (xs ys : List Entry) → tuples_of (xs ++ ys) ≡ tuples_of xs ++ tuples_of ys
-unfolding tuples_of
-tuples-append xs ys = map-append (λ (e : Entry). e.tuple) xs ys
-
-pub rows-append : (texts : List Bytes) (ts : List ColumnType) (xs ys : List Entry) → rows_in texts
-    ts (xs ++ ys) ≡ rows_in texts ts xs ++ rows_in texts ts ys
-rows-append texts ts xs ys = ap (map (row_of texts ts)) (tuples-append xs ys) ∙ map-append (row_of
-    texts ts) (tuples_of xs) (tuples_of ys)
 
 pub rows_long : (texts : List Bytes) (ts : List ColumnType) (es : List Entry) → length (rows_in
     texts ts es) ≡ length es

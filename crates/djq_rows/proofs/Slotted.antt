@@ -4,6 +4,7 @@ use Rattle.std.proofs.Common.{
   ℕ,
   suc,
   ◌<◌,
+  ◌≤◌,
   false,
   List,
   [],
@@ -279,12 +280,21 @@ came old new copies more slot u law is one others =
           (entries_nil copies);
     }
 
-pub came_apart : (old new : List Entry) (u : List ℕ) → Appended old new u → AreApart old
+came_apart : (old new : List Entry) (u : List ℕ) → Appended old new u → AreApart old
     → cnt old u ≡ 0 → AreApart new
 came_apart old new u a h none =
     let all : old ++ [] ≡ old = append-nil old in
     subst AreApart (sym a.is) (apart_in old a.entry [] (subst AreApart (sym all) h)
     (ap (λ (es : List Entry). cnt es a.entry.tuple) all ∙ ap (cnt old) a.tuple ∙ none))
+
+pub came_kept : (old new : Slots) (copies more : List ℕ) (u : List ℕ) → AreKept old copies
+    → AreRows new → Appended (entries_in copies old.rows) (entries_in more new.rows) u
+    → new.room ≤ length more → cnt (entries_in copies old.rows) u ≡ 0 → AreKept new more
+came_kept old new copies more u h law a room none = record {
+  rows = law;
+  copied = room;
+  apart = came_apart (entries_in copies old.rows) (entries_in more new.rows) u a h.apart none;
+}
 
 -- a row goes
 
