@@ -36,7 +36,7 @@ use Rattle.djq_index.specs.Tuple.{same}
 use Rattle.djq_index.specs.Entries.{Entry, cnt}
 use Rattle.djq_index.specs.Table.{IsAt, AreApart}
 use Rattle.djq_index.proofs.Tuples.{same_is, is_same, one_true, one_false}
-use Rattle.djq_index.proofs.Counts.{cnt_cons}
+use Rattle.djq_index.proofs.Counts.{cnt_cons, cnt_length}
 use Rattle.djq_index.proofs.Apart.{there}
 use Rattle.djq_rows.specs.Parts.{row_of, tuples_of, AreWithin}
 use Rattle.djq_rows.specs.Rows.{place}
@@ -145,14 +145,10 @@ absent_row texts ts (e ∷ es) u d h k n =
     rw (row_no texts ts e.tuple u d h.0 k (none_first e es u n)) (absent_row texts ts es u d h.1 k
     (none_rest e es u n))
 
-none_there : (u : List ℕ) → 0 < cnt [] u → ⊥
-unfolding cnt
-none_there u n = omega (arith, n)
-
 pub present_row : (texts : List Bytes) (ts : List ColumnType) (es : List Entry) (u : List ℕ) → 0 <
     cnt es u → has_row (rows_in texts ts es) (row_of texts ts u) ≡ true
 unfolding tuples_of
-present_row texts ts [] u n = absurd (none_there u n)
+present_row texts ts [] u n = absurd (omega (arith, n, cnt_length [] u))
 present_row texts ts (e ∷ es) u n = elim (cases_Bool (same e.tuple u)) [
   | inl s ↦ rw (row_yes texts ts e.tuple u (same_is e.tuple u s)) refl
   | inr s ↦ by_test (tuple_eq (row_of texts ts e.tuple) (row_of texts ts u)) (present_row texts ts

@@ -39,7 +39,7 @@ use Rattle.std.specs.Prelude.{
   AllPairs,
 }
 use Rattle.std.specs.List.{AllByRecursion, list_all, zip}
-use Rattle.std.proofs.lemmas.Bool.{false≢true}
+use Rattle.std.proofs.lemmas.Bool.{and_right, false≢true}
 use Rattle.std.proofs.lemmas.List.{get_or-map, length-map, length-set, map-append, get_or_default}
 use Rattle.std.proofs.lemmas.List.Elements.{
   All-from_recursion,
@@ -59,7 +59,6 @@ use Rattle.djq_lines.specs.declared.answer.DeleteOutcome.{DeleteOutcome}
 use Rattle.djq_dict.specs.declared.dict.TheConstants.{MOST_TEXTS}
 use Rattle.djq_dict.specs.Known.{AllDifferent, IsUnknown, Learns}
 use Rattle.djq_index.specs.Entries.{supp}
-use Rattle.djq_index.specs.Table.{AreApart}
 use Rattle.djq_rows.specs.declared.refusal.RowsRefusal.{RowsRefusal}
 use Rattle.djq_rows.specs.declared.relation_id.RelationId.{RelationId}
 use Rattle.djq_rows.specs.declared.kept.Kept.{Kept}
@@ -99,6 +98,7 @@ use Rattle.djq_rows.proofs.Learning.{
 }
 use Rattle.djq_rows.proofs.Encoding.{are_within, within_long, unknown_row, lacking}
 use Rattle.djq_rows.proofs.Grouped.{rows_long}
+use Rattle.djq_rows.proofs.Slotted.{no_apart}
 use Rattle.djq_rows.proofs.Relations.{
   rows_is,
   types_is,
@@ -334,10 +334,6 @@ empty_relation : (texts : List Bytes) (name : Bytes) (types : List ColumnType) �
 unfolding relation_in
 empty_relation texts name types = refl
 
-no_apart : AreApart []
-unfolding AreApart
-no_apart = tt
-
 -- a name that wasn't known comes behind the others
 named_new : (p q : Parts) (name : Bytes) → IsParts p → relation_of (relations_of p.texts
     p.kept.items) name ≡ None → Learns p.names name q.names → q.names ≡ p.names ++ name ∷ []
@@ -475,23 +471,16 @@ count_seen p c at j e low r =
 pub types_fit : (ts : List ColumnType) (row : Tuple) → length row ≡ length ts → list_all (λ p. is_of
     p.0 p.1) (zip ts row) ≡ fits ts row
 types_fit [] [] h = refl
-types_fit (t ∷ ts) (v ∷ vs) h = by_test (is_of t v) (types_fit ts vs (omega (arith, h)))
-  where
-    by_test : (b : Bool) → list_all (λ p. is_of p.0 p.1) (zip ts vs) ≡ fits ts vs → (b && list_all
-        (λ p. is_of p.0 p.1) (zip ts vs)) ≡ (b && fits ts vs)
-    by_test true e = e
-    by_test false e = refl
+types_fit (t ∷ ts) (v ∷ vs) h =
+    ap (λ (b : Bool). is_of t v && b) (types_fit ts vs (omega (arith, h)))
 types_fit [] (v ∷ vs) h = absurd (omega (arith, h))
 types_fit (t ∷ ts) [] h = absurd (omega (arith, h))
 
 pub no_fit : (ts : List ColumnType) (row : Tuple) → (length row ≡ length ts → ⊥) → fits ts row ≡
     false
 no_fit [] [] h = absurd (h refl)
-no_fit (t ∷ ts) (v ∷ vs) h = by_test (is_of t v) (no_fit ts vs (λ e. h (ap suc e)))
-  where
-    by_test : (b : Bool) → fits ts vs ≡ false → (b && fits ts vs) ≡ false
-    by_test true e = e
-    by_test false e = refl
+no_fit (t ∷ ts) (v ∷ vs) h =
+    and_right (is_of t v) (fits ts vs) (no_fit ts vs (λ e. h (ap suc e)))
 no_fit [] (v ∷ vs) h = refl
 no_fit (t ∷ ts) [] h = refl
 
