@@ -3,7 +3,6 @@ use Rattle.std.proofs.Common.{
   ◌≡◌,
   ℕ,
   suc,
-  Bool,
   true,
   false,
   List,
@@ -22,10 +21,10 @@ use Rattle.std.proofs.Common.{
   arith,
   length-append,
 }
-use Rattle.std.specs.Prelude.{slice_index_or, ◌&&◌}
+use Rattle.std.specs.Prelude.{slice_index_or}
 use Rattle.std.specs.Int.{w64}
 use Rattle.std.specs.List.{AllByRecursion}
-use Rattle.std.proofs.lemmas.Bool.{cases_Bool}
+use Rattle.std.proofs.lemmas.Bool.{and_parts, cases_Bool}
 use Rattle.std.proofs.lemmas.Int.{of_z-to_z, to_z-of_z}
 use Rattle.std.proofs.Math.Facts.{Fits-of_z, sfits_to_z}
 use Rattle.std.proofs.lemmas.List.{get_or_append_left, length-map, map-append}
@@ -121,17 +120,12 @@ cell_more texts us (Text t) h = place_more texts us t h
 
 -- the cells of a row
 
-both : (a b : Bool) → (a && b) ≡ true → (a ≡ true) × (b ≡ true)
-both true true h = (refl, refl)
-both true false h = absurd cc
-both false b h = absurd cc
-
 pub row_back : (texts : List Bytes) (ts : List ColumnType) (row : Tuple) → fits ts row ≡ true →
     HaveCells texts row → row_of texts ts (cells_of texts row) ≡ row
 unfolding row_of
 row_back texts [] [] f h = refl
 row_back texts (t ∷ ts) (v ∷ vs) f h =
-    let p = both (is_of t v) (fits ts vs) f in
+    let p = and_parts (is_of t v) (fits ts vs) f in
     ap₂ (λ (w : Value) (ws : Tuple). w ∷ ws) (value_back texts t v p.0 h.0) (row_back texts ts vs
     p.1 h.1)
 row_back texts [] (v ∷ vs) f h = absurd cc
@@ -142,7 +136,7 @@ pub row_within : (texts : List Bytes) (ts : List ColumnType) (row : Tuple) → f
 unfolding AreWithin
 row_within texts [] [] f h = tt
 row_within texts (t ∷ ts) (v ∷ vs) f h =
-    let p = both (is_of t v) (fits ts vs) f in (
+    let p = and_parts (is_of t v) (fits ts vs) f in (
       value_within texts t v p.0 h.0,
       row_within texts ts
           vs p.1 h.1,

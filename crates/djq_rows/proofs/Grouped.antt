@@ -24,7 +24,7 @@ use Rattle.std.proofs.Common.{
 use Rattle.std.specs.Prelude.{map, Option, Some, None, is_some, MatchOption}
 use Rattle.std.specs.List.{AllByRecursion}
 use Rattle.std.proofs.lemmas.Bool.{cases_Bool}
-use Rattle.std.proofs.lemmas.List.{length-map, map-append}
+use Rattle.std.proofs.lemmas.List.{length-map}
 use Rattle.std.proofs.lemmas.List.Elements.{All-from_recursion}
 use Rattle.std.proofs.lemmas.List.Kept.{AllPairs-cons}
 use Rattle.djq_model.specs.declared.relation.ColumnType.{ColumnType}
@@ -36,7 +36,7 @@ use Rattle.djq_index.specs.Tuple.{same}
 use Rattle.djq_index.specs.Entries.{Entry, cnt}
 use Rattle.djq_index.specs.Table.{IsAt, AreApart}
 use Rattle.djq_index.proofs.Tuples.{same_is, is_same, one_true, one_false}
-use Rattle.djq_index.proofs.Counts.{cnt_cons}
+use Rattle.djq_index.proofs.Counts.{cnt_cons, cnt_length}
 use Rattle.djq_index.proofs.Apart.{there}
 use Rattle.djq_rows.specs.Parts.{row_of, tuples_of, AreWithin}
 use Rattle.djq_rows.specs.Rows.{place}
@@ -78,23 +78,9 @@ pub within_rest : (texts : List Bytes) (ts : List ColumnType) (e : Entry) (es : 
 unfolding tuples_of
 within_rest texts ts e es h = h.1
 
-pub within_cons : (texts : List Bytes) (ts : List ColumnType) (e : Entry) (es : List Entry) →
-    AreWithin texts ts e.tuple → Within texts ts es → Within texts ts (e ∷ es)
-unfolding tuples_of
-within_cons texts ts e es h k = (h, k)
-
 rows_nil : (texts : List Bytes) (ts : List ColumnType) → rows_in texts ts [] ≡ []
 unfolding tuples_of
 rows_nil texts ts = refl
-
-pub tuples-append : (xs ys : List Entry) → tuples_of (xs ++ ys) ≡ tuples_of xs ++ tuples_of ys
-unfolding tuples_of
-tuples-append xs ys = map-append (λ (e : Entry). e.tuple) xs ys
-
-pub rows-append : (texts : List Bytes) (ts : List ColumnType) (xs ys : List Entry) → rows_in texts
-    ts (xs ++ ys) ≡ rows_in texts ts xs ++ rows_in texts ts ys
-rows-append texts ts xs ys = ap (map (row_of texts ts)) (tuples-append xs ys) ∙ map-append (row_of
-    texts ts) (tuples_of xs) (tuples_of ys)
 
 pub rows_long : (texts : List Bytes) (ts : List ColumnType) (es : List Entry) → length (rows_in
     texts ts es) ≡ length es
@@ -159,14 +145,10 @@ absent_row texts ts (e ∷ es) u d h k n =
     rw (row_no texts ts e.tuple u d h.0 k (none_first e es u n)) (absent_row texts ts es u d h.1 k
     (none_rest e es u n))
 
-none_there : (u : List ℕ) → 0 < cnt [] u → ⊥
-unfolding cnt
-none_there u n = omega (arith, n)
-
 pub present_row : (texts : List Bytes) (ts : List ColumnType) (es : List Entry) (u : List ℕ) → 0 <
     cnt es u → has_row (rows_in texts ts es) (row_of texts ts u) ≡ true
 unfolding tuples_of
-present_row texts ts [] u n = absurd (none_there u n)
+present_row texts ts [] u n = absurd (omega (arith, n, cnt_length [] u))
 present_row texts ts (e ∷ es) u n = elim (cases_Bool (same e.tuple u)) [
   | inl s ↦ rw (row_yes texts ts e.tuple u (same_is e.tuple u s)) refl
   | inr s ↦ by_test (tuple_eq (row_of texts ts e.tuple) (row_of texts ts u)) (present_row texts ts

@@ -24,7 +24,7 @@ use Rattle.std.proofs.Common.{
 }
 use Rattle.std.specs.Prelude.{slice_index_or, slice_get, Some, Err, ◌&&◌, Contains}
 use Rattle.std.proofs.lemmas.Bool.{false≢true}
-use Rattle.std.proofs.lemmas.List.{take_more, take-append-drop, get_or_default}
+use Rattle.std.proofs.lemmas.List.{append-nil, take_more, take-append-drop, get_or_default}
 use Rattle.std.proofs.lemmas.Option.{get_or_from_slice_get}
 use Rattle.djq_model.specs.declared.value.Value.{Value}
 use Rattle.djq_model.specs.declared.value.Value.TheVariants.{Int, Text}
@@ -80,12 +80,8 @@ texts_cut : (row : Tuple) (at : ℕ) (v : Value) (c : Cut row at v) → texts_in
 texts_cut row at v c =
     ap texts_in c.is ∙ texts_in-append (take at row ++ v ∷ []) c.rest ∙ ap (λ (l : List Bytes). l ++
     texts_in c.rest) (texts_in-append (take at row) (v ∷ []) ∙ ap (λ (l : List Bytes). texts_in
-    (take at row) ++ l) (append_nil_of v))
+    (take at row) ++ l) (append-nil (texts_of v)))
     ∙ append_assoc (texts_in (take at row)) (texts_of v) (texts_in c.rest)
-  where
-    append_nil_of : (v : Value) → texts_in (v ∷ []) ≡ texts_of v
-    append_nil_of (Int i) = refl
-    append_nil_of (Text t) = refl
 
 -- telling cells
 
@@ -118,12 +114,8 @@ pub learned_upto : (old now new : List Bytes) (row : Tuple) (at : ℕ) (v : Valu
 learned_upto old now new row at v c was is =
     is ∙ ap (λ (l : List Bytes). all_learned l (texts_of v)) was ∙ one_more old (texts_in (take at
     row)) v
-    ∙ ap (all_learned old) (ap (λ (l : List Bytes). texts_in (take at row) ++ l) (sym (last_of v)) ∙
+    ∙ ap (all_learned old) (ap (λ (l : List Bytes). texts_in (take at row) ++ l) (sym (append-nil (texts_of v))) ∙
     sym (texts_in-append (take at row) (v ∷ [])) ∙ sym (ap texts_in c.upto))
-  where
-    last_of : (v : Value) → texts_in (v ∷ []) ≡ texts_of v
-    last_of (Int i) = refl
-    last_of (Text t) = refl
 
 pub now_grown : (old now new : List Bytes) (v : Value) → new ≡ all_learned now (texts_of v) → Grown
     now new
@@ -137,6 +129,10 @@ pub cells_upto : (now new : List Bytes) (row : Tuple) (at : ℕ) (v : Value) (ce
 cells_upto now new row at v cells cell c g h e k =
     ap (λ n. cells ++ n ∷ []) k ∙ told_more new row at v cells c (e ∙ sym (cells_grown now new (take
     at row) g h))
+
+alone : (b : Bool) → (b && true) ≡ false → b ≡ false
+alone true k = absurd cc
+alone false k = refl
 
 some_text : (known : List Bytes) (v : Value) (more : List Bytes) → knows_all known (texts_of v) ≡
     false → 0 < length (texts_of v ++ more)
@@ -167,10 +163,6 @@ finds_no_place old now new row at (Text t) c was unknown many is = record {
   unknown = ap (λ (l : List Bytes). knows l t) is ∙ alone (knows now t) unknown;
   full = ap length is ∙ many;
 }
-  where
-    alone : (b : Bool) → (b && true) ≡ false → b ≡ false
-    alone true k = absurd cc
-    alone false k = refl
 
 -- one more than there may be
 beyond : (now : List Bytes) (v : Value) (more : List Bytes) → knows_all now (texts_of v) ≡ false →
@@ -183,10 +175,6 @@ beyond now (Text t) more h =
           (learned now t) more),
       learned_longer now t (alone (knows now t) h),
     )
-  where
-    alone : (b : Bool) → (b && true) ≡ false → b ≡ false
-    alone true k = absurd cc
-    alone false k = refl
 
 pub too_many : (old now : List Bytes) (row : Tuple) (at : ℕ) (v : Value) → Cut row at v → now ≡
     all_learned old (texts_in (take at row)) → knows_all now (texts_of v) ≡ false → length now ≡

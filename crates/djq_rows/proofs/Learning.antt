@@ -27,8 +27,14 @@ use Rattle.std.proofs.Common.{
   append_assoc,
   length-append,
 }
-use Rattle.std.specs.Prelude.{slice_get, Some, ◌&&◌, All, Contains}
-use Rattle.std.proofs.lemmas.Bool.{cases_Bool, false≢true}
+use Rattle.std.specs.Prelude.{slice_get, Some, All, Contains}
+use Rattle.std.proofs.lemmas.Bool.{
+  and_cases,
+  and_left,
+  and_right,
+  false_from_ne_true,
+  false≢true,
+}
 use Rattle.std.proofs.lemmas.List.Quantifiers.{all_pairs_push}
 use Rattle.std.proofs.lemmas.List.{append-nil}
 use Rattle.std.proofs.lemmas.List.Elements.{All-head, All-tail}
@@ -43,10 +49,7 @@ pub eq_refl : (t : Bytes) → bytes_eq t t ≡ true
 eq_refl t = (bytes_eq-decides t t).1 refl
 
 pub eq_other : (s t : Bytes) → (s ≡ t → ⊥) → bytes_eq s t ≡ false
-eq_other s t h = elim (cases_Bool (bytes_eq s t)) [
-  | inl e ↦ absurd (h ((bytes_eq-decides s t).0 e))
-  | inr e ↦ e
-]
+eq_other s t h = false_from_ne_true (bytes_eq s t) (λ e. h ((bytes_eq-decides s t).0 e))
 
 -- a list of different texts
 
@@ -202,19 +205,13 @@ texts_in-append (v ∷ vs) ws = ap (λ (l : List Bytes). texts_of v ++ l) (texts
 pub knows_all-append : (known ss ts : List Bytes) → knows_all known ts ≡ false → knows_all known (ss
     ++ ts) ≡ false
 knows_all-append known [] ts h = h
-knows_all-append known (s ∷ ss) ts h = by_test (knows known s) (knows_all-append known ss ts h)
-  where
-    by_test : (b : Bool) → knows_all known (ss ++ ts) ≡ false → (b && knows_all known (ss ++ ts)) ≡
-        false
-    by_test true k = k
-    by_test false k = refl
+knows_all-append known (s ∷ ss) ts h =
+    and_right (knows known s) (knows_all known (ss ++ ts)) (knows_all-append known ss ts h)
 
 pub knows_all-front : (known ss ts : List Bytes) → knows_all known ss ≡ false → knows_all known (ss
     ++ ts) ≡ false
 knows_all-front known [] ts h = absurd cc
-knows_all-front known (s ∷ ss) ts h = by_test (knows known s) (knows_all-front known ss ts) h
-  where
-    by_test : (b : Bool) → (knows_all known ss ≡ false → knows_all known (ss ++ ts) ≡ false) → (b &&
-        knows_all known ss) ≡ false → (b && knows_all known (ss ++ ts)) ≡ false
-    by_test true rest k = rest k
-    by_test false rest k = refl
+knows_all-front known (s ∷ ss) ts h = elim (and_cases (knows known s) (knows_all known ss) h) [
+  | inl e ↦ and_left (knows known s) (knows_all known (ss ++ ts)) e
+  | inr e ↦ and_right (knows known s) (knows_all known (ss ++ ts)) (knows_all-front known ss ts e)
+]

@@ -2,8 +2,8 @@
 use Rattle.std.proofs.Common.{
   ◌≡◌,
   ℕ,
-  suc,
   ◌<◌,
+  ◌≤◌,
   false,
   List,
   [],
@@ -23,18 +23,19 @@ use Rattle.std.proofs.Common.{
   arith,
 }
 use Rattle.std.specs.Prelude.{MatchOption}
-use Rattle.std.proofs.lemmas.List.{append-nil, map-append, length-set, get_or-set_same, get_or-set_other}
+use Rattle.std.proofs.lemmas.List.{append-nil, length-map, map-append, length-set, get_or-set_same, get_or-set_other}
 use Rattle.djq_arena.specs.Rows.{Row, Rows as Slots, AreRows, IsAbsent, IsRow, IsHeld, slots}
 use Rattle.djq_arena.specs.Chains.{first_of, AreDifferent, AreBelow, IsOut}
 use Rattle.djq_arena.proofs.Lists.{below_here, different_here, out_front, out_back}
-use Rattle.djq_arena.proofs.RowLemmas.{slots-append}
 use Rattle.djq_index.specs.declared.place.Place.{Place}
 use Rattle.djq_index.specs.Tuple.{same}
 use Rattle.djq_index.specs.Entries.{Entry, supp, cnt, head_at}
 use Rattle.djq_index.specs.Table.{AreApart, IsAt, IsLive}
 use Rattle.djq_index.specs.Changes.{Supported}
 use Rattle.djq_index.proofs.Tuples.{same_other, one_false}
-use Rattle.djq_index.proofs.Apart.{supp_at, apart_in, apart_out, apart_same}
+use Rattle.djq_index.proofs.Apart.{supp_at, apart_in, apart_out}
+use Rattle.djq_index.proofs.Changing.{supported_apart}
+use Rattle.djq_index.proofs.Keeping.{slots_row}
 use Rattle.djq_rows.specs.Rows.{copies_at, entry_of, entries_in, place, place_of, AreKept}
 use Rattle.djq_rows.specs.Tuples.{Appended, Dropped}
 
@@ -64,8 +65,7 @@ entries_middle copies rs r ss =
 pub entries_long : (copies : List ℕ) (rows : List Row)
     → length rows ≡ length (entries_in copies rows)
 unfolding entries_in
-entries_long copies [] = refl
-entries_long copies (r ∷ rs) = ap suc (entries_long copies rs)
+entries_long copies rows = sym (length-map rows (entry_of copies))
 
 -- an entry
 
@@ -187,15 +187,6 @@ pub finds : (copies : List ℕ) (rows : List Row) (u : List ℕ) (result : Optio
 finds copies rows u None h = absent copies rows u h
 finds copies rows u (Some slot) h = row_at copies rows slot u h
 
-slots_cons : (r : Row) (rs : List Row) → slots (r ∷ rs) ≡ r.slot ∷ slots rs
-unfolding slots
-slots_cons r rs = refl
-
-slots_middle : (rs : List Row) (r : Row) (ss : List Row)
-    → slots (rs ++ r ∷ ss) ≡ slots rs ++ r.slot ∷ slots ss
-slots_middle rs r ss =
-    slots-append rs (r ∷ ss) ∙ ap (λ (xs : List ℕ). slots rs ++ xs) (slots_cons r ss)
-
 pub first_place : (copies : List ℕ) (rows : List Row)
     → place_of (first_of (slots rows)) ≡ head_at (entries_in copies rows)
 unfolding head_at slots entries_in entry_of
@@ -221,7 +212,7 @@ live_below rows copies slot h l =
       arith,
       h.copied,
       below_here rows.room (slots r.front) slot (slots r.back) (subst (AreBelow rows.room)
-          (ap slots r.is ∙ slots_middle r.front (record { slot = slot; cells = l.tuple }) r.back)
+          (ap slots r.is ∙ slots_row r.front (record { slot = slot; cells = l.tuple }) r.back)
           h.rows.below),
     )
 
@@ -253,7 +244,7 @@ changed : (old new : List ℕ) (rs : List Row) (r : Row) (ss : List Row)
     ≡ entries_in old rs ++ entry_of new r ∷ entries_in old ss
 changed old new rs r ss d h =
     let out = different_here (slots rs) r.slot (slots ss)
-    (subst AreDifferent (slots_middle rs r ss) d) in
+    (subst AreDifferent (slots_row rs r ss) d) in
     entries_middle new rs r ss
     ∙ ap₂ (λ (xs ys : List Entry). xs ++ entry_of new r ∷ ys)
     (same_entries old new r.slot rs (out_front r.slot (slots rs) (slots ss) out) h)
@@ -279,12 +270,21 @@ came old new copies more slot u law is one others =
           (entries_nil copies);
     }
 
-pub came_apart : (old new : List Entry) (u : List ℕ) → Appended old new u → AreApart old
+came_apart : (old new : List Entry) (u : List ℕ) → Appended old new u → AreApart old
     → cnt old u ≡ 0 → AreApart new
 came_apart old new u a h none =
     let all : old ++ [] ≡ old = append-nil old in
     subst AreApart (sym a.is) (apart_in old a.entry [] (subst AreApart (sym all) h)
     (ap (λ (es : List Entry). cnt es a.entry.tuple) all ∙ ap (cnt old) a.tuple ∙ none))
+
+pub came_kept : (old new : Slots) (copies more : List ℕ) (u : List ℕ) → AreKept old copies
+    → AreRows new → Appended (entries_in copies old.rows) (entries_in more new.rows) u
+    → new.room ≤ length more → cnt (entries_in copies old.rows) u ≡ 0 → AreKept new more
+came_kept old new copies more u h law a room none = record {
+  rows = law;
+  copied = room;
+  apart = came_apart (entries_in copies old.rows) (entries_in more new.rows) u a h.apart none;
+}
 
 -- a row goes
 
@@ -346,18 +346,12 @@ recounted rows copies slot n u h below at =
       has = entry_supports more r ∙ set_here copies slot n below;
     }
 
-recounted_apart : (old new : List Entry) (u : List ℕ) (from to : ℕ)
-    → Supported old new u from to → AreApart old → AreApart new
-recounted_apart old new u from to s h =
-    subst AreApart (sym s.is) (apart_same s.front s.before s.after s.back
-    (s.same_tuple ∙ sym s.tuple) (subst AreApart s.was h))
-
 pub recounted_kept : (rows : Slots) (copies : List ℕ) (slot n : ℕ) → AreKept rows copies
     → IsLive (entries_in copies rows.rows) (place slot) → AreKept rows (slice_set copies slot n)
 recounted_kept rows copies slot n h l = record {
   rows = h.rows;
   copied = omega (arith, h.copied, length-set copies slot n);
-  apart = recounted_apart (entries_in copies rows.rows)
+  apart = supported_apart (entries_in copies rows.rows)
       (entries_in (slice_set copies slot n) rows.rows) l.tuple
       (supp (entries_in copies rows.rows) l.tuple) n
       (recounted rows copies slot n l.tuple h (live_below rows copies slot h l) l.is_at) h.apart;
@@ -365,7 +359,7 @@ recounted_kept rows copies slot n h l = record {
 
 -- no rows
 
-no_apart : AreApart []
+pub no_apart : AreApart []
 unfolding AreApart
 no_apart = tt
 

@@ -4,7 +4,6 @@ use Rattle.std.proofs.Common.{
   ◌≢◌,
   ℕ,
   suc,
-  ◌+◌,
   ◌<◌,
   ◌≤◌,
   Bool,
@@ -33,18 +32,14 @@ use Rattle.std.specs.Prelude.{
   Some,
   None,
   is_some,
-  IfNone,
-  OnErr,
   ◌&&◌,
   ◌==◌,
   not,
   Result,
-  Ok,
-  Err,
   AllPairs,
 }
 use Rattle.std.specs.List.{AllByRecursion, list_all, zip}
-use Rattle.std.proofs.lemmas.Bool.{false≢true}
+use Rattle.std.proofs.lemmas.Bool.{and_right, false≢true}
 use Rattle.std.proofs.lemmas.List.{get_or-map, length-map, length-set, map-append, get_or_default}
 use Rattle.std.proofs.lemmas.List.Elements.{
   All-from_recursion,
@@ -53,29 +48,21 @@ use Rattle.std.proofs.lemmas.List.Elements.{
   All-get_or,
 }
 use Rattle.std.proofs.lemmas.Option.{slice_get_within, get_or_from_slice_get}
-use Rattle.djq_model.specs.declared.value.Value.{Value}
 use Rattle.djq_model.specs.declared.relation.ColumnType.{ColumnType}
 use Rattle.djq_model.specs.declared.relation.Relation.{Relation}
 use Rattle.djq_model.specs.Data.{Bytes, Tuple, bytes_eq, relation_of, has_row, copies_among}
 use Rattle.djq_model.specs.Typed.{is_of, fits}
-use Rattle.djq_model.specs.Known.{texts_of, texts_in, knows_all, all_learned}
+use Rattle.djq_model.specs.Known.{texts_in, knows_all, all_learned}
 use Rattle.djq_lines.specs.declared.limits.TheConstants.{COLUMNS, RELATIONS}
 use Rattle.djq_lines.specs.declared.answer.AddOutcome.{AddOutcome}
 use Rattle.djq_lines.specs.declared.answer.DeleteOutcome.{DeleteOutcome}
 use Rattle.djq_dict.specs.declared.dict.TheConstants.{MOST_TEXTS}
-use Rattle.djq_dict.specs.declared.refusal.InternRefusal.{InternRefusal}
-use Rattle.djq_dict.specs.declared.refusal.InternRefusal.TheVariants.{
-  Full as TextsFull,
-  NoMem as
-      NoMemForTexts,
-}
-use Rattle.djq_dict.specs.Known.{AllDifferent, IsUnknown}
+use Rattle.djq_dict.specs.Known.{AllDifferent, IsUnknown, Learns}
 use Rattle.djq_index.specs.Entries.{supp}
-use Rattle.djq_index.specs.Table.{AreApart}
 use Rattle.djq_rows.specs.declared.refusal.RowsRefusal.{RowsRefusal}
 use Rattle.djq_rows.specs.declared.relation_id.RelationId.{RelationId}
 use Rattle.djq_rows.specs.declared.kept.Kept.{Kept}
-use Rattle.djq_rows.specs.declared.parts.Parts.{Parts}
+use Rattle.djq_rows.specs.declared.catalog.Catalog.TheInside.{Inside as Parts}
 use Rattle.djq_rows.specs.Cells.{HaveCells, StandFor, AreCells}
 use Rattle.djq_rows.specs.Catalog.{
   Catalog,
@@ -83,17 +70,11 @@ use Rattle.djq_rows.specs.Catalog.{
   relation_at,
   counted_at,
   rows_at,
+  AreCellsOf,
   IsKept,
   IsCatalog,
 }
-use Rattle.djq_rows.specs.Changes.{
-  FindsRelation,
-  AddsRow,
-  DeletesRow,
-  InternsValue,
-  InternsRow,
-  TellsCells,
-}
+use Rattle.djq_rows.specs.Changes.{FindsRelation, AddsRow, DeletesRow}
 use Rattle.djq_rows.specs.Parts.{
   tuples_of,
   relation_in,
@@ -104,12 +85,20 @@ use Rattle.djq_rows.specs.Parts.{
   AreWithin,
   IsSound,
   IsParts,
-  Pushes,
 }
 use Rattle.djq_rows.specs.Tuples.{HasTuple, AddsTuple, DeletesTuple}
-use Rattle.djq_rows.proofs.Learning.{Grown, grown_is, all_grown, all_different, eq_refl}
+use Rattle.djq_rows.proofs.Learning.{
+  Grown,
+  grown_is,
+  all_grown,
+  all_different,
+  eq_refl,
+  learns_is,
+  unknown,
+}
 use Rattle.djq_rows.proofs.Encoding.{are_within, within_long, unknown_row, lacking}
 use Rattle.djq_rows.proofs.Grouped.{rows_long}
+use Rattle.djq_rows.proofs.Slotted.{no_apart}
 use Rattle.djq_rows.proofs.Relations.{
   rows_is,
   types_is,
@@ -248,39 +237,23 @@ delete_parts p q at j k u r h low e texts names kept n t a = changed_parts p q a
 
 -- texts become known
 
-pub record Learned (old new : List Bytes) : Type 0 where
-  pub texts : List Bytes
-  pub is : new ≡ all_learned old texts
+learned_grown : (old new ts : List Bytes) → new ≡ all_learned old ts → Grown old new
+learned_grown old new ts is = grown_is old new (all_learned old ts) is (all_grown old ts)
 
-pub value_learned : (old new : List Bytes) (v : Value) (r : Result ℕ InternRefusal) → InternsValue
-    old v r new → Learned old new
-value_learned old new v (Ok cell) h = record { texts = texts_of v; is = h.0 }
-value_learned old new v (Err TextsFull) h = record { texts = []; is = h.2 }
-value_learned old new v (Err NoMemForTexts) h = record { texts = []; is = h.1 }
-
-pub row_learned : (old new : List Bytes) (row : Tuple) (r : Result (List ℕ) InternRefusal) →
-    InternsRow old row r new → Learned old new
-row_learned old new row (Ok cells) h = record { texts = texts_in row; is = h.0 }
-row_learned old new row (Err TextsFull) h = record { texts = h.1.first; is = h.1.learned }
-row_learned old new row (Err NoMemForTexts) h = record { texts = h.first; is = h.learned }
-
-learned_grown : (old new : List Bytes) → Learned old new → Grown old new
-learned_grown old new l = grown_is old new (all_learned old l.texts) l.is (all_grown old l.texts)
-
-pub learned_parts : (p q : Parts) → IsParts p → Learned p.texts q.texts → q.names ≡ p.names →
-    q.kept.items ≡ p.kept.items → IsParts q
-learned_parts p q h l names kept = record {
+pub learned_parts : (p q : Parts) (ts : List Bytes) → IsParts p → q.texts ≡ all_learned p.texts ts
+    → q.names ≡ p.names → q.kept.items ≡ p.kept.items → IsParts q
+learned_parts p q ts h is names kept = record {
   few = rw kept h.few;
   names = names ∙ h.names ∙ ap (map (λ (x : Kept). x.name)) (sym kept);
   named = subst AllDifferent (sym names) h.named;
-  different = subst AllDifferent (sym l.is) (all_different p.texts l.texts h.different);
+  different = subst AllDifferent (sym is) (all_different p.texts ts h.different);
   sound = subst (AllByRecursion (IsSound q.texts)) (sym kept) (sounds_grown p.texts q.texts
-      p.kept.items (learned_grown p.texts q.texts l) h.sound);
+      p.kept.items (learned_grown p.texts q.texts ts is) h.sound);
 }
 
-pub learned_relations : (old new : List Bytes) (ks : List Kept) → AllByRecursion (IsSound old) ks →
-    Learned old new → relations_of new ks ≡ relations_of old ks
-learned_relations old new ks s l = relations_grown old new ks (learned_grown old new l) s
+pub learned_relations : (old new ts : List Bytes) (ks : List Kept) → AllByRecursion (IsSound old) ks
+    → new ≡ all_learned old ts → relations_of new ks ≡ relations_of old ks
+learned_relations old new ts ks s is = relations_grown old new ks (learned_grown old new ts is) s
 
 -- finding
 
@@ -316,11 +289,6 @@ pub not_found : (rs : List Relation) (name : Bytes) (r : Option RelationId) → 
 not_found rs name None h e = h
 not_found rs name (Some id) h e = absurd cc
 
-pub is_found : (rs : List Relation) (name : Bytes) (r : Option RelationId) → FindsRelation rs name r
-    → is_some r ≡ true → is_some (relation_of rs name) ≡ true
-is_found rs name None h e = absurd cc
-is_found rs name (Some id) h e = ap is_some h.2
-
 other_name : (r : Relation) (rs : List Relation) (name : Bytes) → relation_of (r ∷ rs) name ≡ None →
     ((r.name ≡ name) → ⊥) × (relation_of rs name ≡ None)
 other_name r rs name h = by_test (bytes_eq r.name name) refl h
@@ -354,7 +322,7 @@ unfolding tuples_of
 no_within texts ts = tt
 
 -- a relation without rows
-abbrev fresh : Bytes → List ColumnType → Kept
+abbrev pub fresh : Bytes → List ColumnType → Kept
 fresh name types = record {
   name = name;
   types = types;
@@ -366,14 +334,19 @@ empty_relation : (texts : List Bytes) (name : Bytes) (types : List ColumnType) �
 unfolding relation_in
 empty_relation texts name types = refl
 
-no_apart : AreApart []
-unfolding AreApart
-no_apart = tt
+-- a name that wasn't known comes behind the others
+named_new : (p q : Parts) (name : Bytes) → IsParts p → relation_of (relations_of p.texts
+    p.kept.items) name ≡ None → Learns p.names name q.names → q.names ≡ p.names ++ name ∷ []
+named_new p q name h none l =
+    learns_is p.names q.names name l
+    ∙ ap (λ (b : Bool). cond b p.names (p.names ++ name ∷ [])) (unknown p.names name
+    (unknown_in p name h none))
 
-pub pushed_parts : (p q : Parts) (name : Bytes) (types : List ColumnType) → IsParts p → Pushes p
-    name types q → q.texts ≡ p.texts → length p.kept.items < RELATIONS → 0 < length types → length types
-    ≤ COLUMNS → IsParts q
-pushed_parts p q name types h u texts few some narrow =
+pub pushed_parts : (p q : Parts) (name : Bytes) (types : List ColumnType) → IsParts p →
+    relation_of (relations_of p.texts p.kept.items) name ≡ None → Learns p.names name q.names →
+    AllDifferent q.names → q.kept.items ≡ p.kept.items ++ fresh name types ∷ [] → q.texts ≡ p.texts
+    → length p.kept.items < RELATIONS → 0 < length types → length types ≤ COLUMNS → IsParts q
+pushed_parts p q name types h none learns named kept texts few some narrow =
     let new : IsSound p.texts (fresh name types) = record {
       some = some;
       narrow = narrow;
@@ -384,38 +357,31 @@ pushed_parts p q name types h u texts few some narrow =
       copied = tt;
     } in
     record {
-      few = rw u.kept (omega (
+      few = rw kept (omega (
         arith,
         few,
         length-append p.kept.items (fresh name types ∷ []),
       ));
-      names = u.names ∙ ap (λ (l : List Bytes). l ++ name ∷ []) h.names ∙ sym (ap (map (λ (x :
-          Kept). x.name)) u.kept ∙ map-append (λ (x : Kept). x.name) p.kept.items (fresh name types
-          ∷ []));
-      named = u.named;
+      names = named_new p q name h none learns ∙ ap (λ (l : List Bytes). l ++ name ∷ []) h.names ∙
+          sym (ap (map (λ (x : Kept). x.name)) kept ∙ map-append (λ (x : Kept). x.name) p.kept.items
+          (fresh name types ∷ []));
+      named = named;
       different = subst AllDifferent (sym texts) h.different;
       sound = subst (λ l. AllByRecursion (IsSound l) q.kept.items) (sym texts)
-          (subst (AllByRecursion (IsSound p.texts)) (sym u.kept) (sound_push p.texts p.kept.items
+          (subst (AllByRecursion (IsSound p.texts)) (sym kept) (sound_push p.texts p.kept.items
           (fresh name types) h.sound new));
     }
 
-pub pushed_relations : (p q : Parts) (name : Bytes) (types : List ColumnType) → Pushes p name types
-    q → q.texts ≡ p.texts
-    → relations_of q.texts q.kept.items ≡ relations_of p.texts p.kept.items ++ record {
+pub pushed_relations : (texts : List Bytes) (old new : List Kept) (name : Bytes) (types : List
+    ColumnType) → new ≡ old ++ fresh name types ∷ []
+    → relations_of texts new ≡ relations_of texts old ++ record {
       name = name;
       types = types;
       rows = [];
     } ∷ []
-pushed_relations p q name types u texts =
-    ap (λ (l : List Bytes). relations_of l q.kept.items) texts ∙ ap (relations_of p.texts) u.kept
-    ∙ map-append (relation_in p.texts) p.kept.items (fresh name types ∷ [])
-    ∙ ap (λ (r : Relation). relations_of p.texts p.kept.items ++ r ∷ []) (empty_relation p.texts
-    name types)
-
-pub pushed_long : (p q : Parts) (name : Bytes) (types : List ColumnType) → Pushes p name types q →
-    length q.kept.items ≡ length p.kept.items + 1
-pushed_long p q name types u = ap (λ (l : List Kept). length l) u.kept ∙ length-append p.kept.items
-    (fresh name types ∷ [])
+pushed_relations texts old new name types kept =
+    ap (relations_of texts) kept ∙ map-append (relation_in texts) old (fresh name types ∷ [])
+    ∙ ap (λ (r : Relation). relations_of texts old ++ r ∷ []) (empty_relation texts name types)
 
 -- what holds of the catalog
 
@@ -453,21 +419,14 @@ have_at texts ks at d s low =
     (All-get_or (IsKept texts) (relations_of texts ks) at no_relation low (All-from_recursion
     (IsKept texts) (relations_of texts ks) (all_kept texts ks d s))).cells
 
-pub nowhere : (p : Parts) (c : Catalog) (row : Tuple) (r : Option (List ℕ)) → IsParts p → catalog_of
-    p ≡ c → TellsCells p.texts row r → IfNone r ((at : ℕ) → at < length c.relations → has_row
-    (rows_at c.relations at) row ≡ false)
-nowhere p c row (Some cells) h e t = tt
-nowhere p c row None h e t = subst (λ (k : Catalog). (at : ℕ) → at < length k.relations → has_row
+pub nowhere : (p : Parts) (c : Catalog) (row : Tuple) → IsParts p → catalog_of p ≡ c → knows_all
+    c.texts (texts_in row) ≡ false → (at : ℕ) → at < length c.relations → has_row (rows_at
+    c.relations at) row ≡ false
+nowhere p c row h e unknown = subst (λ (k : Catalog). (at : ℕ) → at < length k.relations → has_row
     (rows_at k.relations at) row ≡ false) e
     (λ at low. lacking p.texts (rows_at (relations_of p.texts p.kept.items) at) row (have_at p.texts
-    p.kept.items at h.different h.sound low) (unknown_row p.texts row t))
-
--- nor is a row that is refused, since a text of it isn't known
-pub refused_nowhere : {A : Type 0} (p : Parts) (c : Catalog) (row : Tuple) (r : Result A
-    InternRefusal) → IsParts p → catalog_of p ≡ c → OnErr r (knows_all p.texts (texts_in row) ≡ false) → OnErr r ((at
-    : ℕ) → at < length c.relations → has_row (rows_at c.relations at) row ≡ false)
-refused_nowhere {A} p c row (Ok a) h e t = tt
-refused_nowhere {A} p c row (Err r) h e t = nowhere p c row None h e t
+    p.kept.items at h.different h.sound low) (unknown_row p.texts row (subst (λ (k : Catalog).
+    knows_all k.texts (texts_in row) ≡ false) (sym e) unknown)))
 
 -- what a method reads
 
@@ -475,6 +434,11 @@ pub seen_at : (p : Parts) (c : Catalog) (at : ℕ) → catalog_of p ≡ c → at
     length p.kept.items
 seen_at p c at e low = below p.texts p.kept.items at (subst (λ (k : Catalog). at < length
     k.relations) (sym e) low)
+
+-- what may be read of the catalog may be read of its parts
+pub cells_seen : (p : Parts) (c : Catalog) (at : ℕ) (cells : List ℕ) → catalog_of p ≡ c → AreCellsOf
+    c at cells → AreCellsOf (catalog_of p) at cells
+cells_seen p c at cells e h = subst (λ (k : Catalog). AreCellsOf k at cells) (sym e) h
 
 pub name_seen : (p : Parts) (c : Catalog) (at : ℕ) (j : Kept) → catalog_of p ≡ c → at < length
     c.relations → j ≡ slice_index_or p.kept.items at j → j.name ≡ (relation_at c.relations at).name
@@ -502,72 +466,21 @@ count_seen p c at j e low r =
     ∙ ap (λ (l : List Tuple). length l) (sym (rows_is p.texts p.kept.items at here)) ∙ ap (λ (k :
     Catalog). length (rows_at k.relations at)) e
 
-pub add_seen : (c d : Catalog) (at : ℕ) (cells : List ℕ) (r : Result AddOutcome RowsRefusal) (new :
-    List Relation) → d ≡ c
-    → ((row : Tuple) → StandFor d.texts (relation_at d.relations at).types cells row → AddsRow
-    d.relations at row r new)
-    → (row : Tuple) → StandFor c.texts (relation_at c.relations at).types cells row → AddsRow
-    c.relations at row r new
-add_seen c d at cells r new e h = subst (λ (k : Catalog). (row : Tuple) → StandFor k.texts
-    (relation_at k.relations at).types cells row → AddsRow k.relations at row r new) e h
-
-pub delete_seen : (c d : Catalog) (at : ℕ) (cells : List ℕ) (r : DeleteOutcome) (new : List
-    Relation) → d ≡ c
-    → ((row : Tuple) → StandFor d.texts (relation_at d.relations at).types cells row → DeletesRow
-    d.relations at row r new)
-    → (row : Tuple) → StandFor c.texts (relation_at c.relations at).types cells row → DeletesRow
-    c.relations at row r new
-delete_seen c d at cells r new e h = subst (λ (k : Catalog). (row : Tuple) → StandFor k.texts
-    (relation_at k.relations at).types cells row → DeletesRow k.relations at row r new) e h
-
-pub copies_seen : (c d : Catalog) (at : ℕ) (cells : List ℕ) (n : ℕ) → d ≡ c
-    → ((row : Tuple) → StandFor d.texts (relation_at d.relations at).types cells row → n ≡
-    copies_among (counted_at d.relations at) row)
-    → (row : Tuple) → StandFor c.texts (relation_at c.relations at).types cells row → n ≡
-    copies_among (counted_at c.relations at) row
-copies_seen c d at cells n e h = subst (λ (k : Catalog). (row : Tuple) → StandFor k.texts
-    (relation_at k.relations at).types cells row → n ≡ copies_among (counted_at k.relations at) row)
-    e h
-
-pub copies_has_seen : (c d : Catalog) (at : ℕ) (cells : List ℕ) (n : ℕ) → d ≡ c
-    → ((row : Tuple) → StandFor d.texts (relation_at d.relations at).types cells row → has_row
-    (rows_at d.relations at) row ≡ not (n == 0))
-    → (row : Tuple) → StandFor c.texts (relation_at c.relations at).types cells row → has_row
-    (rows_at c.relations at) row ≡ not (n == 0)
-copies_has_seen c d at cells n e h = subst (λ (k : Catalog). (row : Tuple) → StandFor k.texts
-    (relation_at k.relations at).types cells row → has_row (rows_at k.relations at) row ≡
-    not (n == 0)) e h
-
-pub has_seen : (c d : Catalog) (at : ℕ) (cells : List ℕ) (b : Bool) → d ≡ c
-    → ((row : Tuple) → StandFor d.texts (relation_at d.relations at).types cells row → b ≡ has_row
-    (rows_at d.relations at) row)
-    → (row : Tuple) → StandFor c.texts (relation_at c.relations at).types cells row → b ≡ has_row
-    (rows_at c.relations at) row
-has_seen c d at cells b e h = subst (λ (k : Catalog). (row : Tuple) → StandFor k.texts (relation_at
-    k.relations at).types cells row → b ≡ has_row (rows_at k.relations at) row) e h
-
 -- values of their columns' types
 
 pub types_fit : (ts : List ColumnType) (row : Tuple) → length row ≡ length ts → list_all (λ p. is_of
     p.0 p.1) (zip ts row) ≡ fits ts row
 types_fit [] [] h = refl
-types_fit (t ∷ ts) (v ∷ vs) h = by_test (is_of t v) (types_fit ts vs (omega (arith, h)))
-  where
-    by_test : (b : Bool) → list_all (λ p. is_of p.0 p.1) (zip ts vs) ≡ fits ts vs → (b && list_all
-        (λ p. is_of p.0 p.1) (zip ts vs)) ≡ (b && fits ts vs)
-    by_test true e = e
-    by_test false e = refl
+types_fit (t ∷ ts) (v ∷ vs) h =
+    ap (λ (b : Bool). is_of t v && b) (types_fit ts vs (omega (arith, h)))
 types_fit [] (v ∷ vs) h = absurd (omega (arith, h))
 types_fit (t ∷ ts) [] h = absurd (omega (arith, h))
 
 pub no_fit : (ts : List ColumnType) (row : Tuple) → (length row ≡ length ts → ⊥) → fits ts row ≡
     false
 no_fit [] [] h = absurd (h refl)
-no_fit (t ∷ ts) (v ∷ vs) h = by_test (is_of t v) (no_fit ts vs (λ e. h (ap suc e)))
-  where
-    by_test : (b : Bool) → fits ts vs ≡ false → (b && fits ts vs) ≡ false
-    by_test true e = e
-    by_test false e = refl
+no_fit (t ∷ ts) (v ∷ vs) h =
+    and_right (is_of t v) (fits ts vs) (no_fit ts vs (λ e. h (ap suc e)))
 no_fit [] (v ∷ vs) h = refl
 no_fit (t ∷ ts) [] h = refl
 

@@ -2,8 +2,6 @@
 use Rattle.std.proofs.Common.{
   ◌≡◌,
   ℕ,
-  zero,
-  suc,
   ◌+◌,
   ◌-◌,
   ◌<◌,
@@ -20,14 +18,18 @@ use Rattle.std.proofs.Common.{
   ap,
   ◌∙◌,
   arith,
+  drop_at,
+  length-append,
   length-drop,
-  add-one,
+  length-take-le,
+  take-append-drop,
 }
 use Rattle.std.specs.Prelude.{Option, Some, None, map}
 use Rattle.std.proofs.lemmas.List.{length-map}
 use Rattle.djq_index.specs.declared.place.Place.{Place}
 use Rattle.djq_index.specs.Entries.{Entry, head_at}
 use Rattle.djq_index.specs.Table.{IsAt, IsLive}
+use Rattle.djq_index.proofs.Walking.{walk_cut}
 use Rattle.djq_rows.specs.Rows.{Rows, place, place_of}
 use Rattle.djq_rows.specs.Parts.{tuples_of}
 use Rattle.djq_rows.specs.Walking.{entries_left, tuples_left, IsWalk}
@@ -40,30 +42,26 @@ pub record Ahead (g : List Entry) (j : ℕ) (p : Place) : Type 0 where
   pub is : g ≡ take j g ++ entry ∷ drop (j + 1) g
   pub left : drop j g ≡ entry ∷ drop (j + 1) g
 
-ahead_suc : (g : List Entry) (j : ℕ) (p : Place) → head_at (drop j g) ≡ Some p → (e : Entry) × (e.at
-    ≡ p) × (j < length g) × (g ≡ take j g ++ e ∷ drop (suc j) g) × (drop j g ≡ e ∷ drop (suc j) g)
-unfolding head_at
-ahead_suc [] zero p h = absurd cc
-ahead_suc [] (suc j) p h = absurd cc
-ahead_suc (e ∷ g) zero p h = let s : e.at ≡ p = cc in (e, s, omega arith, refl, refl)
-ahead_suc (x ∷ g) (suc j) p h = let c = ahead_suc g j p h in (
-  c.0,
-  c.1,
-  omega (arith, c.2),
-  ap (λ
-      (es : List Entry). x ∷ es) c.3,
-  c.4,
-)
-
 pub ahead : (g : List Entry) (j : ℕ) (p : Place) → head_at (drop j g) ≡ Some p → Ahead g j p
-ahead g j p h = let c = ahead_suc g j p h in record {
-  entry = c.0;
-  at = c.1;
-  low = c.2;
-  is = rw
-      add-one c.3;
-  left = rw add-one c.4;
-}
+ahead g j p h =
+    let c = walk_cut g j p h in
+    let low : j < length g = omega (
+      arith,
+      ap (λ (es : List Entry). length es) c.is,
+      length-append (take j g) (c.entry ∷ drop (j + 1) g),
+      ap (λ (es : List Entry). length es) (take-append-drop j g),
+      length-append (take j g) (drop j g),
+      length-drop j g,
+      length-drop (j + 1) g,
+    ) in
+    record {
+      entry = c.entry;
+      at = c.at;
+      low = low;
+      is = c.is;
+      left = ap (drop j) c.is ∙ drop_at (take j g) (c.entry ∷ drop (j + 1) g) j
+          (length-take-le j g (omega (arith, low)));
+    }
 
 pub all_left : (t : Rows) (n : ℕ) → n ≡ length t.entries → entries_left t n ≡ t.entries
 all_left t n e = let none : length t.entries - n ≡ 0 = omega arith in ap (λ k. drop k t.entries)

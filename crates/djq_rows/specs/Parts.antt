@@ -9,7 +9,6 @@ use Rattle.std.specs.Prelude.{
   List,
   [],
   ◌∷◌,
-  ◌++◌,
   map,
   length,
   slice_index_or,
@@ -32,7 +31,7 @@ use Rattle.djq_dict.specs.Known.{AllDifferent}
 use Rattle.djq_index.specs.Entries.{Entry}
 use Rattle.djq_index.specs.Table.{AreApart}
 use Rattle.djq_rows.specs.declared.kept.Kept.{Kept}
-use Rattle.djq_rows.specs.declared.parts.Parts.{Parts}
+use Rattle.djq_rows.specs.declared.catalog.Catalog.TheInside.{Inside as Parts}
 use Rattle.djq_rows.specs.Catalog.{Catalog}
 
 -- the value that a cell of a column stands for
@@ -111,15 +110,3 @@ pub record IsParts (p : Parts) : Type 0 where
   pub named : AllDifferent p.names
   pub different : AllDifferent p.texts
   pub sound : AllByRecursion (IsSound p.texts) p.kept.items
-
--- a relation without rows came behind the others
-pub record Pushes (old : Parts) (name : Bytes) (types : List ColumnType) (new : Parts) : Type 0
-  where
-    pub names : new.names ≡ old.names ++ name ∷ []
-    pub named : AllDifferent new.names
-    pub kept : new.kept.items
-        ≡ old.kept.items ++ record {
-          name = name;
-          types = types;
-          rows = record { width = length types; entries = [] };
-        } ∷ []

@@ -14,8 +14,9 @@ ghost use Rattle.std.specs.Prelude.{
   OnErr,
   false,
 };
-ghost use Rattle.djq_model.specs.Data.{Tuple, Bytes, has_row, copies_among};
-ghost use Rattle.djq_model.specs.Typed.{fits};
+ghost use Rattle.std.specs.List.{list_all, zip};
+ghost use Rattle.djq_model.specs.Data.{Tuple, has_row, copies_among};
+ghost use Rattle.djq_model.specs.Typed.{is_of, fits};
 ghost use Rattle.djq_model.specs.Lent.{value_lent};
 ghost use Rattle.djq_model.specs.declared.value.Value.{Value as Datum};
 ghost use Rattle.djq_rows.specs.Cells.{cells_of, StandsFor, IsCell};
@@ -33,17 +34,14 @@ ghost use Rattle.djq_rows.specs.Changes.{
   given,
 };
 
-use crate::coding::{cell_in, cells_in, fits_in, value_in, write_in};
-use crate::parts::{
-    Parts, add_in, copies_in, delete_in, empty_in, find_in, has_in, intern_all_in, intern_into,
-    intern_value_in, laws_in, make_in, walk_in,
-};
+use crate::kept::Kept;
 use crate::refusal::RowsRefusal;
 use crate::relation_id::RelationId;
+use crate::rows::Rows;
 use crate::walk::Walk;
-use djq_dict::InternRefusal;
+use djq_dict::{Dict, InternRefusal};
 use djq_index::{CELLS, Cells};
-use djq_lines::limits::COLUMNS;
+use djq_lines::limits::{COLUMNS, RELATIONS};
 use djq_lines::{AddOutcome, DeleteOutcome};
 use djq_model::{ColumnType, Lent, Name, NoMem, Types, Value};
 use djq_steps::Tally;
@@ -57,7 +55,12 @@ use std::sync::ledger::Ledger;
 /// a text's number is its place.
 #[derive(Drop)]
 pub struct Catalog {
-    parts: Parts,
+    alloc: Global,
+    /// The texts, with their numbers.
+    texts: Dict,
+    /// The relations' names: the number of each is the relation's place.
+    names: Dict,
+    kept: Vec<Kept>,
 }
 
 impl Model for Catalog {
@@ -67,9 +70,9 @@ impl Model for Catalog {
 
     ghost use Rattle.djq_rows.specs.Parts.{catalog_of, IsParts};
 
-    ghost view = { λ c. catalog_of c.parts };
+    ghost view = { catalog_of };
 
-    ghost invariant = { λ c. IsParts c.parts };
+    ghost invariant = { IsParts };
 }
 
 impl Catalog {
@@ -77,31 +80,44 @@ impl Catalog {
     pub fn new(alloc: Global) -> Result<Catalog, NoMem>
         ensures { IfOk result (λ c. c ≡ record { relations = []; texts = [] }) }
     {
-        match empty_in(alloc) {
-            Ok(parts) => Ok(Catalog { parts }),
-            Err(error) => Err(error),
-        }
+        let Ok(texts) = Dict::new(alloc) else {
+            return Err(NoMem);
+        };
+        let Ok(names) = Dict::new(alloc) else {
+            return Err(NoMem);
+        };
+        Ok(Catalog {
+            alloc,
+            texts,
+            names,
+            kept: Vec::new(alloc),
+        })
     }
 
     /// What holds of every catalog. It does nothing.
     pub fn laws(&self)
         ensures { IsCatalog self.now }
     {
-        laws_in(&self.parts);
+        let _count = self.texts.len();
     }
 
     /// How many relations there are. The places below are theirs.
     pub fn len(&self) -> usize
         ensures { result ≡ length self.now.relations }
     {
-        self.parts.kept.len()
+        self.kept.len()
     }
 
     /// The relation of a name; none exactly where no relation has it. No other is looked at.
     pub fn id(&self, name: &Name) -> Option<RelationId>
         ensures { FindsRelation self.now.relations name.now result }
     {
-        find_in(&self.parts, name)
+        match self.names.find(name.as_bytes()) {
+            Some(number) => Some(RelationId {
+                at: number as usize,
+            }),
+            None => None,
+        }
     }
 
     /// Makes a relation of one column at least, without rows, behind the others.
@@ -117,7 +133,24 @@ impl Catalog {
         ensures makes { MakesRelation self.old.relations name types result self.new.relations }
         ensures texts { self.new.texts ≡ self.old.texts }
     {
-        make_in(&mut self.parts, name, types)
+        if self.id(&name).is_some() {
+            return Err(RowsRefusal::NameTaken);
+        }
+        let at = self.kept.len();
+        if at >= RELATIONS {
+            return Err(RowsRefusal::Full);
+        }
+        let Ok(rows) = Rows::new(self.alloc, types.len()) else {
+            return Err(RowsRefusal::NoMem);
+        };
+        let Ok(()) = self.kept.reserve(1) else {
+            return Err(RowsRefusal::NoMem);
+        };
+        let Ok(_number) = self.names.intern(name.as_bytes()) else {
+            return Err(RowsRefusal::NoMem);
+        };
+        self.kept.push_reserved(Kept { name, types, rows });
+        Ok(RelationId { at })
     }
 
     /// The name of a relation.
@@ -125,7 +158,7 @@ impl Catalog {
         requires { id.at < length self.now.relations }
         ensures { result ≡ (relation_at self.now.relations id.at).name }
     {
-        self.parts.kept[id.at].name
+        self.kept[id.at].name
     }
 
     /// The types of its columns.
@@ -133,7 +166,7 @@ impl Catalog {
         requires { id.at < length self.now.relations }
         ensures { result.now ≡ (relation_at self.now.relations id.at).types }
     {
-        self.parts.kept[id.at].types.as_slice()
+        self.kept[id.at].types.as_slice()
     }
 
     /// Whether a row has a value of each column's type, and no more.
@@ -141,7 +174,11 @@ impl Catalog {
         requires { id.at < length self.now.relations }
         ensures { result ≡ fits (relation_at self.now.relations id.at).types row.now }
     {
-        fits_in(self.parts.kept[id.at].types.as_slice(), row)
+        let types = self.kept[id.at].types.as_slice();
+        if row.len() != types.len() {
+            return false;
+        }
+        are_typed(types, row)
     }
 
     /// How many rows it has.
@@ -149,7 +186,7 @@ impl Catalog {
         requires { id.at < length self.now.relations }
         ensures { result ≡ length (rows_at self.now.relations id.at) }
     {
-        self.parts.kept[id.at].rows.len()
+        self.kept[id.at].rows.len()
     }
 
     /// A walk over its rows, in the order in which they came. It takes no memory, and counts one
@@ -159,14 +196,20 @@ impl Catalog {
         ensures rest { result ≡ map (cells_of self.now.texts) (rows_at self.now.relations id.at) }
         ensures counted { tally.new ≡ tally.old + 1 }
     {
-        walk_in(&self.parts, id, tally)
+        Walk::new(&self.kept[id.at].rows, tally)
     }
 
     /// The cell of a value; none exactly where it is a text that isn't known. It takes no memory.
     pub fn cell(&self, value: &Value) -> Option<u64>
         ensures { TellsCell self.now.texts value.now result }
     {
-        cell_in(&self.parts.texts, value)
+        match value {
+            Value::Int(number) => Some(number.cast_unsigned()),
+            Value::Text(text) => match self.texts.find(text.as_bytes()) {
+                Some(number) => Some(number as u64),
+                None => None,
+            },
+        }
     }
 
     /// The cells of a row; none exactly where a text of it isn't known, and then the row is in no
@@ -177,7 +220,12 @@ impl Catalog {
         ensures absent { IfNone result ((at : ℕ) → at < length self.now.relations
             → has_row (rows_at self.now.relations at) row.now ≡ false) }
     {
-        cells_in(&self.parts.texts, row)
+        let mut cells = Cells::new(0);
+        if self.write_cells(row, &mut cells) {
+            Some(cells)
+        } else {
+            None
+        }
     }
 
     /// Writes the cells of a row, and tells whether they are: false exactly where a text of it isn't
@@ -188,7 +236,16 @@ impl Catalog {
         ensures absent { IfNone (told result cells.new) ((at : ℕ) → at < length self.now.relations
             → has_row (rows_at self.now.relations at) row.now ≡ false) }
     {
-        write_in(&self.parts.texts, row, cells)
+        // read for what holds of the rows: all their texts are known
+        let _texts = &self.texts;
+        cells.clear();
+        for at in 0..row.len() {
+            match self.cell(&row[at]) {
+                Some(cell) => cells.push(cell),
+                None => return false,
+            }
+        }
+        true
     }
 
     /// The cell of a value, which becomes known if it is a text that isn't.
@@ -202,7 +259,16 @@ impl Catalog {
         ensures interns { InternsValue self.old.texts value.now result self.new.texts }
         ensures relations { self.new.relations ≡ self.old.relations }
     {
-        intern_value_in(&mut self.parts, value)
+        match value {
+            Value::Int(number) => Ok(number.cast_unsigned()),
+            Value::Text(text) => {
+                let number = match self.texts.intern(text.as_bytes()) {
+                    Ok(number) => number,
+                    Err(refusal) => return Err(refusal),
+                };
+                Ok(number as u64)
+            }
+        }
     }
 
     /// The cells of a row, whose unknown texts become known, in order.
@@ -220,7 +286,9 @@ impl Catalog {
             → has_row (rows_at self.old.relations at) row.now ≡ false) }
         ensures relations { self.new.relations ≡ self.old.relations }
     {
-        intern_all_in(&mut self.parts, row)
+        let mut cells = Cells::new(0);
+        self.intern_cells(row, &mut cells)?;
+        Ok(cells)
     }
 
     /// Writes the cells of a row, whose unknown texts become known, in order.
@@ -235,7 +303,16 @@ impl Catalog {
             → has_row (rows_at self.old.relations at) row.now ≡ false) }
         ensures relations { self.new.relations ≡ self.old.relations }
     {
-        intern_into(&mut self.parts, row, cells)
+        // read for what holds of the rows: all their texts are known
+        let _texts = &self.texts;
+        cells.clear();
+        for at in 0..row.len() {
+            match self.intern(&row[at]) {
+                Ok(cell) => cells.push(cell),
+                Err(refusal) => return Err(refusal),
+            }
+        }
+        Ok(())
     }
 
     /// Whether the row that cells stand for is there. It counts one look-up.
@@ -245,7 +322,7 @@ impl Catalog {
             → result ≡ has_row (rows_at self.now.relations id.at) row }
         ensures counted { tally.new ≡ tally.old + 1 }
     {
-        has_in(&self.parts, id, cells, tally)
+        self.kept[id.at].has(cells, tally)
     }
 
     /// How many copies of the row that cells stand for are there; 0 exactly where the row isn't. It
@@ -258,7 +335,7 @@ impl Catalog {
             → has_row (rows_at self.now.relations id.at) row ≡ not (result == 0) }
         ensures counted { tally.new ≡ tally.old + 1 }
     {
-        copies_in(&self.parts, id, cells, tally)
+        self.kept[id.at].copies(cells, tally)
     }
 
     /// Adds the row that cells stand for, or a copy of it where it is there, which takes no memory.
@@ -283,7 +360,7 @@ impl Catalog {
         ensures texts { self.new.texts ≡ self.old.texts }
         ensures counted { tally.new ≤ tally.old + 2 }
     {
-        add_in(&mut self.parts, id, cells, tally)
+        self.kept[id.at].add(cells, tally)
     }
 
     /// Deletes a copy of the row that cells stand for, where it is there, and the row with its last
@@ -301,7 +378,7 @@ impl Catalog {
         ensures texts { self.new.texts ≡ self.old.texts }
         ensures counted { tally.new ≤ tally.old + 2 }
     {
-        delete_in(&mut self.parts, id, cells, tally)
+        self.kept[id.at].delete(cells, tally)
     }
 
     /// The value that a cell of a column stands for. Its text is lent, so it takes no memory.
@@ -310,6 +387,34 @@ impl Catalog {
         ensures { (value : Datum) → StandsFor self.now.texts column cell value
             → value_lent result ≡ value }
     {
-        value_in(&self.parts.texts, column, cell)
+        match column {
+            ColumnType::Int => Lent::Int(cell.cast_signed()),
+            ColumnType::Text => {
+                // a number is below the count of texts, which fits
+                let _count = self.texts.len();
+                Lent::Text(self.texts.text(cell as u32))
+            }
+        }
+    }
+}
+
+/// Whether each value is of its column's type.
+fn are_typed(types: &[ColumnType], row: &[Value]) -> bool
+    ensures { result ≡ list_all (λ p. is_of p.0 p.1) (zip types.now row.now) }
+{
+    types
+        .iter()
+        .zip(row.iter())
+        .all(|(column, value)| is_typed(*column, value))
+}
+
+/// Whether a value is of a column's type.
+fn is_typed(column: ColumnType, value: &Value) -> bool
+    ensures { result ≡ is_of column value.now }
+{
+    match (column, value) {
+        (ColumnType::Int, Value::Int(_)) => true,
+        (ColumnType::Text, Value::Text(_)) => true,
+        _ => false,
     }
 }

@@ -27,10 +27,8 @@
 #![tactic(auto)]
 
 mod catalog;
-mod coding;
 mod kept;
 mod laws;
-mod parts;
 mod refusal;
 mod relation_id;
 mod rows;

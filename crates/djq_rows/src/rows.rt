@@ -161,7 +161,11 @@ impl Rows {
         ensures counted { tally.new ≡ tally.old + 1 }
     {
         tally.edit();
-        push_in(&mut self.arena, &mut self.copies, cells, code)
+        make_room(&mut self.copies, self.arena.is_full())?;
+        let slot = self.arena.push_hashed(cells, code)?;
+        self.arena.laws();
+        count_one(&mut self.copies, slot);
+        Ok(())
     }
 
     /// Takes the row in a slot out. Other slots stay.
@@ -190,32 +194,6 @@ impl Rows {
         tally.edit();
         self.copies[slot as usize] = copies;
     }
-}
-
-/// Puts in a row with one copy.
-fn push_in(
-    arena: &mut Arena,
-    copies: &mut Vec<u32>,
-    cells: &[u64],
-    code: u64,
-) -> Result<(), AllocError>
-    requires coded { code ≡ hash cells.now }
-    requires kept { AreKept arena.old copies.old.items }
-    requires absent { cnt (entries_in copies.old.items arena.old.rows) cells.now ≡ 0 }
-    requires wide { length cells.now ≡ arena.old.width }
-    requires few { length arena.old.rows < 4294967295 }
-    ensures kept { AreKept arena.new copies.new.items }
-    ensures came { IfOk result (λ _. Appended (entries_in copies.old.items arena.old.rows)
-        (entries_in copies.new.items arena.new.rows) cells.now) }
-    ensures refused { OnErr result (entries_in copies.new.items arena.new.rows
-        ≡ entries_in copies.old.items arena.old.rows) }
-    ensures width { arena.new.width ≡ arena.old.width }
-{
-    make_room(copies, arena.is_full())?;
-    let slot = arena.push_hashed(cells, code)?;
-    arena.laws();
-    count_one(copies, slot);
-    Ok(())
 }
 
 /// Makes room for the copies of one more slot, where no slot is free.

@@ -1,11 +1,20 @@
-use Rattle.djq_rows.specs.Parts.{catalog_of}
-use Rattle.djq_rows.proofs.Standing.{copies_seen, copies_has_seen}
+use Rattle.djq_rows.proofs.Standing.{seen_at, read_kept, copies_done, copies_has}
 use Rattle.djq_rows.proofs.catalog.Catalog.copies.Goals as goal
 
 pub returns-clause-copies : goal.returns-clause-copies
-returns-clause-copies g c = copies_seen c.args.self.now (catalog_of c.self.inside.parts)
-    c.args.id.at c.args.cells.now c.copies_in.result c.self.view_is c.copies_in.ensures.copies
+returns-clause-copies g c =
+    let p = c.self.inside in
+    let at = c.args.id.at in
+    let low = seen_at p c.args.self.now at c.self.view_is c.requires in
+    rw (← c.self.view_is) (copies_done p.texts p.kept.items at c.index.result.now c.args.cells.now
+    c.copies.result c.self.invariant.different c.self.invariant.sound low
+    (read_kept p.kept.items at c.index.result.now low c.index.ensures) c.copies.ensures.copies)
 
 pub returns-clause-has : goal.returns-clause-has
-returns-clause-has g c = copies_has_seen c.args.self.now (catalog_of c.self.inside.parts)
-    c.args.id.at c.args.cells.now c.copies_in.result c.self.view_is c.copies_in.ensures.has
+returns-clause-has g c =
+    let p = c.self.inside in
+    let at = c.args.id.at in
+    let low = seen_at p c.args.self.now at c.self.view_is c.requires in
+    rw (← c.self.view_is) (copies_has p.texts p.kept.items at c.index.result.now c.args.cells.now
+    c.copies.result c.self.invariant.different c.self.invariant.sound low
+    (read_kept p.kept.items at c.index.result.now low c.index.ensures) c.copies.ensures.copies)

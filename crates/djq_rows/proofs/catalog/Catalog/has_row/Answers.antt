@@ -1,7 +1,11 @@
-use Rattle.djq_rows.specs.Parts.{catalog_of}
-use Rattle.djq_rows.proofs.Standing.{has_seen}
+use Rattle.djq_rows.proofs.Standing.{seen_at, read_kept, has_done}
 use Rattle.djq_rows.proofs.catalog.Catalog.has_row.Goals as goal
 
 pub returns-clause-has : goal.returns-clause-has
-returns-clause-has g c = has_seen c.args.self.now (catalog_of c.self.inside.parts) c.args.id.at
-    c.args.cells.now c.has_in.result c.self.view_is c.has_in.ensures.has
+returns-clause-has g c =
+    let p = c.self.inside in
+    let at = c.args.id.at in
+    let low = seen_at p c.args.self.now at c.self.view_is c.requires in
+    rw (← c.self.view_is) (has_done p.texts p.kept.items at c.index.result.now c.args.cells.now
+    c.has.result c.self.invariant.different c.self.invariant.sound low
+    (read_kept p.kept.items at c.index.result.now low c.index.ensures) c.has.ensures.has)

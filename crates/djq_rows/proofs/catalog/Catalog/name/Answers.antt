@@ -2,5 +2,5 @@ use Rattle.djq_rows.proofs.Standing.{name_seen}
 use Rattle.djq_rows.proofs.catalog.Catalog.name.Goals as goal
 
 pub returns : goal.returns
-returns c = name_seen c.self.inside.parts c.args.self.now c.args.id.at c.index.result.now
+returns c = name_seen c.self.inside c.args.self.now c.args.id.at c.index.result.now
     c.self.view_is c.requires c.index.ensures

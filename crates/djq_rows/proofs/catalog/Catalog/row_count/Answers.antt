@@ -3,5 +3,5 @@ use Rattle.djq_rows.proofs.Standing.{count_seen}
 use Rattle.djq_rows.proofs.catalog.Catalog.row_count.Goals as goal
 
 pub returns : goal.returns
-returns c = c.len.ensures ∙ count_seen c.self.inside.parts c.args.self.now c.args.id.at
+returns c = c.len.ensures ∙ count_seen c.self.inside c.args.self.now c.args.id.at
     c.index.result.now c.self.view_is c.requires c.index.ensures

@@ -1,0 +1,15 @@
+use Rattle.std.proofs.Common.{◌∙◌, ap}
+use Rattle.djq_rows.specs.declared.kept.Kept.{Kept}
+use Rattle.djq_rows.specs.Parts.{tuples_of}
+use Rattle.djq_rows.proofs.Relations.{tuples_are}
+use Rattle.djq_rows.proofs.Standing.{seen_at, read_kept}
+use Rattle.djq_rows.proofs.catalog.Catalog.rows.Goals as goal
+
+pub returns-clause-rest : goal.returns-clause-rest
+returns-clause-rest g c =
+    let p = c.self.inside in
+    let at = c.args.id.at in
+    let low = seen_at p c.args.self.now at c.self.view_is c.requires in
+    rw (← c.self.view_is) (c.new.ensures.rest ∙ ap (λ (k : Kept). tuples_of k.rows.entries)
+    (read_kept p.kept.items at c.index.result.now low c.index.ensures)
+    ∙ tuples_are p.texts p.kept.items at c.self.invariant.different c.self.invariant.sound low)
