@@ -1,43 +1,28 @@
-ghost use Rattle.std.specs.Prelude.{◌≡◌, ◌≤◌, ◌+◌, ◌-◌, ◌<◌, ◌∷◌, ◌++◌, false, [], length, map, option_map, slice_get, IfOk, IsSomeAnd, AllPairs};
-ghost use Rattle.djq_model.specs.Data.{bytes_eq, rows_of, without_row};
-ghost use Rattle.djq_model.specs.Listed.{listed_name, listed_of};
-ghost use Rattle.djq_lines.specs.declared.limits.TheConstants.{HELD, QUERIES};
+ghost use Rattle.std.specs.Prelude.{◌≡◌, ◌≤◌, ◌<◌, [], length, IfOk};
+ghost use Rattle.djq_model.specs.Data.{rows_of};
+ghost use Rattle.djq_lines.specs.declared.limits.TheConstants.{HELD};
 ghost use Rattle.djq_machine.specs.State.{opening};
-ghost use Rattle.djq_machine.specs.Store.{MakesRelation, AddsRow, DeletesRow, RegistersQuery};
-ghost use Rattle.djq_machine.specs.Store.{TellsShape, TellsWhether, has_steps, query_refusal};
+ghost use Rattle.djq_machine.specs.Store.{MakesRelation, AddsRow, DeletesRow, RegistersQuery, query_refusal};
 ghost use Rattle.djq_machine.specs.Changes.{row_in, row_out, add_outcome, delete_outcome, tried};
 ghost use Rattle.djq_machine.specs.Batch.{TellsSuits, SuitAll, AddsBatch, batch_outcome};
 ghost use Rattle.djq_engine.specs.Kept.{SameCursors, SameTellings, Outdates, DropGives, OpenGives, NextGives};
-ghost use Rattle.djq_engine.specs.Kept.{MoreGives, ClosesCursor, IsHeld, IsFresh, IsShown};
-ghost use Rattle.djq_engine.specs.Kept.{AnswerIs, ExplainGives, IsUnwatched};
-ghost use Rattle.djq_engine.specs.Kept.{KeepsPlaces, KeepsTables, DropsPlace, is_tried, TellsCells};
-ghost use Rattle.djq_engine.specs.Kept.{IsOver, ArePlaced, AreListed, AreHeld, AreTold};
-ghost use Rattle.djq_engine.specs.Kept.{registered_of, registered_at, same_query, IsRegistered};
-ghost use Rattle.djq_engine.specs.Kept.{with_watchers, told_at};
-ghost use Rattle.djq_engine.specs.Lending.{LendsQuery, sign_of};
-ghost use Rattle.djq_engine.specs.Watching.{TellsChange, Enrols, EnrolsTelling};
-ghost use Rattle.djq_engine.specs.Watching.{CountsUpdates, CountsBatch};
-ghost use Rattle.djq_engine.specs.Watching.{add_times, batch_times, delete_times};
+ghost use Rattle.djq_engine.specs.Kept.{MoreGives, ClosesCursor, IsHeld, IsFresh, IsUnwatched, KeepsPlaces};
+ghost use Rattle.djq_engine.specs.Kept.{KeepsTables, DropsPlace, is_tried};
+ghost use Rattle.djq_engine.specs.Watching.{TellsChange, Enrols, EnrolsTelling, CountsUpdates, CountsBatch, add_times};
+ghost use Rattle.djq_engine.specs.Watching.{batch_times, delete_times};
 
-use crate::asking::{answer_in, explain_in, has_in, live_in, shape_in};
 use crate::batch::{done_in, held_ok_in};
-use crate::cursor::{CursorId, QueryId};
-use crate::lent::LentAnswer;
+use crate::cursor::CursorId;
 use crate::parts::Parts;
 use crate::reading::{close_in, more_in, next_in, open_in};
 use crate::registering::{drop_in, judge_query, query_in};
 use crate::rows::{add_in, del_in, rel_in};
-use crate::watching::{
-    affected_count_in, affected_in, delta_cells_in, delta_len_in, delta_line_in, laws_in,
-    query_id_in, query_name_in, unwatch_in, watch_in, watchers_in,
-};
-use djq_lines::{AddOutcome, DeleteOutcome, HeldRow, QueryOutcome, Refusal, Shape, Sign};
+use djq_lines::{AddOutcome, DeleteOutcome, HeldRow, QueryOutcome, Refusal};
 use djq_live::{LiveQuery, Next};
 use djq_model::{Name, NoMem, Query, Sequence, Types, Value};
-use djq_reduct::{Answer, Cells};
+use djq_reduct::Answer;
 use djq_rows::Catalog;
 use djq_steps::{Ledgers, Listing, Steps, Tally};
-use djq_tree::Lines;
 use std::alloc::Global;
 use std::marker::Model;
 
@@ -45,7 +30,7 @@ use std::marker::Model;
 /// changes.
 #[derive(Drop)]
 pub struct Engine {
-    parts: Parts,
+    pub(crate) parts: Parts,
 }
 
 impl Model for Engine {
@@ -109,128 +94,12 @@ impl Engine {
         }
     }
 
-    /// The id of a query. `None` exactly where no query has the name.
-    pub fn query_id(&self, name: &Name) -> Option<QueryId>
-        ensures { result ≡ option_map (λ r. r.id) (registered_of self.now.registered name.now) }
-    {
-        query_id_in(&self.parts, name)
-    }
-
-    /// The name of a registered query.
-    pub fn query_name(&self, id: QueryId) -> Name
-        requires { IsRegistered self.now id }
-        ensures { IsSomeAnd (registered_at self.now.registered id) (λ r. result ≡ listed_name r.query) }
-    {
-        query_name_in(&self.parts, id)
-    }
-
-    /// A registered query. Its tables are those of its tree over the rows as they are: they say which
-    /// tuples are its answers. Its cursors stand where those of the engine do.
-    pub fn live(&self, id: QueryId) -> &LiveQuery
-        requires { IsRegistered self.now id }
-        ensures { LendsQuery self.now id result.now }
-    {
-        live_in(&self.parts, id)
-    }
-
     /// The queries in their places: that of an id stands in its place, and a place without one is
     /// vacant.
     pub fn places(&self) -> &[Option<LiveQuery>]
         ensures { result.now ≡ self.now.places }
     {
         self.parts.queries.as_slice()
-    }
-
-    /// What holds of an engine between any two calls. It does nothing.
-    pub fn laws(&self)
-        ensures queries { map (λ r. r.query) self.now.registered ≡ self.now.store.queries }
-        ensures apart { AllPairs (λ r s. same_query r.id s.id ≡ false) self.now.registered }
-        ensures named { AllPairs (λ r s. bytes_eq (listed_name r.query) (listed_name s.query) ≡ false)
-            self.now.registered }
-        ensures few { length self.now.places ≤ QUERIES }
-        ensures long { length self.now.told ≡ length self.now.places }
-        ensures over { IsOver self.now }
-        ensures placed { ArePlaced self.now }
-        ensures listed { AreListed self.now }
-        ensures held { AreHeld self.now }
-        ensures shown { AreTold self.now }
-    {
-        laws_in(&self.parts);
-    }
-
-    /// One more watches a query: a session, or a union for those that watch it. Its changes are told
-    /// from now on. It takes no memory.
-    pub fn watch(&mut self, id: QueryId)
-        requires registered { IsRegistered self.old id }
-        requires few { IsSomeAnd (registered_at self.old.registered id)
-            (λ r. r.watchers < 4294967295) }
-        ensures { self.new ≡ record self.old {
-          registered = with_watchers id (λ n. n + 1) self.old.registered;
-        } }
-    {
-        watch_in(&mut self.parts, id);
-    }
-
-    /// One that watched a query does so no more. It takes no memory.
-    pub fn unwatch(&mut self, id: QueryId)
-        requires { IsSomeAnd (registered_at self.old.registered id) (λ r. 0 < r.watchers) }
-        ensures { self.new ≡ record self.old {
-          registered = with_watchers id (λ n. n - 1) self.old.registered;
-        } }
-    {
-        unwatch_in(&mut self.parts, id);
-    }
-
-    /// How many watch a query.
-    pub fn watchers(&self, id: QueryId) -> u32
-        requires { IsRegistered self.now id }
-        ensures { IsSomeAnd (registered_at self.now.registered id) (λ r. result ≡ r.watchers) }
-    {
-        watchers_in(&self.parts, id)
-    }
-
-    /// How many queries read a relation that the last accepted change changed.
-    pub fn affected_count(&self) -> usize
-        ensures { result ≡ length self.now.affected }
-    {
-        affected_count_in(&self.parts)
-    }
-
-    /// The nth of them, in order of registration.
-    pub fn affected(&self, nth: usize) -> QueryId
-        requires { nth < length self.now.affected }
-        ensures { slice_get self.now.affected nth ≡ Some result }
-    {
-        affected_in(&self.parts, nth)
-    }
-
-    /// How many answers of a query came or went with the last change of a relation that it reads,
-    /// while it was watched; 0 once a row was refused there for want of memory. `None` where that
-    /// was lost for want of memory.
-    pub fn delta_len(&self, id: QueryId) -> Option<usize>
-        requires { IsRegistered self.now id }
-        ensures { result ≡ option_map (λ changes. length changes) (told_at self.now id) }
-    {
-        delta_len_in(&self.parts, id)
-    }
-
-    /// One of them: whether it came or went, and the answer, lent.
-    pub fn delta_line(&self, id: QueryId, nth: usize) -> (Sign, LentAnswer<'_>)
-        requires registered { IsRegistered self.now id }
-        requires within { IsSomeAnd (told_at self.now id) (λ changes. nth < length changes) }
-        ensures { IsSomeAnd (told_at self.now id) (λ changes. IsSomeAnd (slice_get changes nth)
-            (λ c. (result.0 ≡ c.sign) × (result.1 ≡ c.answer))) }
-    {
-        delta_line_in(&self.parts, id, nth)
-    }
-
-    /// One of them, as cells in the order of the query's head: whether it came.
-    pub fn delta_cells(&self, id: QueryId, nth: usize, cells: &mut Cells) -> bool
-        requires registered { IsRegistered self.now id }
-        requires within { IsSomeAnd (told_at self.now id) (λ changes. nth < length changes) }
-        ensures { TellsCells self.now id nth (sign_of result) cells.new }
-    {
-        delta_cells_in(&self.parts, id, nth, cells)
     }
 
     /// Makes a relation without rows, of one column at least.
@@ -457,26 +326,6 @@ impl Engine {
         more_in(&mut self.parts, id, listing)
     }
 
-    /// Whether a tuple is an answer of a query. It takes no memory, and counts at most one lookup
-    /// for each atom.
-    ///
-    /// # Errors
-    ///
-    /// `NoQuery` where none has the name; `Arity` and `WrongType` where the tuple doesn't suit the
-    /// query's answers.
-    pub fn has<L: Ledgers>(
-        &self,
-        query: &Name,
-        tuple: &[Value],
-        listing: &mut Tally<Listing<L>>,
-    ) -> Result<bool, Refusal>
-        ensures tells { TellsWhether self.now.store query.now tuple.now result }
-        ensures counted { listing.new ≤ listing.old
-            + has_steps (listed_of self.now.store.queries query.now) }
-    {
-        has_in(&self.parts, query, tuple, listing)
-    }
-
     /// Gives up an open cursor. Its id may come again from [`open`](Engine::open).
     pub fn close(&mut self, id: CursorId)
         requires { IsHeld self.old id }
@@ -484,37 +333,5 @@ impl Engine {
         ensures places { KeepsTables self.old self.new }
     {
         close_in(&mut self.parts, id);
-    }
-
-    /// Lends an answer that an open cursor gave, or another tuple that can be shown by the query that
-    /// the cursor is over.
-    pub fn answer<'a>(&'a self, id: CursorId, answer: &'a Answer) -> LentAnswer<'a>
-        requires { IsShown self.now id answer.now }
-        ensures { AnswerIs self.now id answer.now result }
-    {
-        answer_in(&self.parts, id, answer)
-    }
-
-    /// The lines that explain a query's tree, each with its line end.
-    ///
-    /// # Errors
-    ///
-    /// `NoQuery` where none has the name; `NoMemory` out of memory.
-    pub fn explain(&self, query: &Name) -> Result<Lines, Refusal>
-        ensures { ExplainGives self.now.store query.now result }
-    {
-        explain_in(&self.parts, query)
-    }
-
-    /// What bounds an update of a query: `Flat` exactly where the query is flat, and then it is the
-    /// same whatever the rows.
-    ///
-    /// # Errors
-    ///
-    /// `NoQuery` where none has the name. It takes no memory.
-    pub fn shape(&self, query: &Name) -> Result<Shape, Refusal>
-        ensures { TellsShape self.now.store query.now result }
-    {
-        shape_in(&self.parts, query)
     }
 }
