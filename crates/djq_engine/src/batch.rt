@@ -11,8 +11,8 @@ ghost use Rattle.djq_engine.specs.Changing.{KeepsRest};
 ghost use Rattle.djq_engine.specs.Kept.{IsUnwatched, Outdates, KeepsPlaces, is_tried};
 ghost use Rattle.djq_engine.specs.Taking.{reached_in, LeadsHere, TakesGroups, LacksGroups};
 ghost use Rattle.djq_engine.specs.Watching.{CountsBatch, TellsChange, batch_times};
-ghost use Rattle.djq_engine.specs.Whole.{kept_in, IsWhole, IsTended};
 
+use crate::engine::Engine;
 use crate::judge::suited;
 use crate::outdating::{affect_reached, give_up, outdate_came};
 use crate::parts::Parts;
@@ -24,16 +24,6 @@ use djq_model::{Name, NoMem, Value};
 use djq_reach::{Group, take_in_batch};
 use djq_rows::cells_stay;
 use djq_steps::{Ledgers, Steps};
-
-/// Whether a row suits a relation, and so may be held. It takes no memory.
-pub fn held_ok_in(parts: &Parts, name: &Name, row: &[Value]) -> Result<(), Refusal>
-    ensures { TellsSuits (kept_in parts.now).store name.now row.now result }
-{
-    match suited(&parts.catalog, name, row) {
-        Ok(_id) => Ok(()),
-        Err(refusal) => Err(refusal),
-    }
-}
 
 // The queries that read a relation of the groups take the rows in that came, in the catalog already.
 //
@@ -77,88 +67,111 @@ fn take_groups<L: Ledgers>(
     )
 }
 
-/// Adds all rows that a batch held, at once, and tells how many came.
-pub fn done_in<L: Ledgers>(
-    parts: &mut Parts,
-    held: &[HeldRow],
-    steps: &mut Steps<L>,
-) -> Result<usize, Refusal>
-    requires whole { IsWhole parts.old }
-    requires tended { IsTended parts.old }
-    requires suit { SuitAll (kept_in parts.old).store held.now }
-    requires few { length held.now ≤ HELD }
-    ensures whole { IsWhole parts.new }
-    ensures tended { IsTended parts.new }
-    ensures adds { AddsBatch (kept_in parts.old).store held.now result (kept_in parts.new).store }
-    ensures outdates { Outdates (kept_in parts.old)
-        (tried (batch_outcome (kept_in parts.old).store held.now result)) (kept_in parts.new) }
-    ensures watches { (kept_in parts.new).registered ≡ (kept_in parts.old).registered }
-    ensures tells { TellsChange (kept_in parts.old)
-        (batch_outcome (kept_in parts.old).store held.now result) (kept_in parts.new)
-        steps.old.listing steps.new.listing }
-    ensures unlisted { IsUnwatched (kept_in parts.old)
-        → steps.new.listing ≡ steps.old.listing }
-    ensures updates { CountsBatch (batch_times held.now result) (kept_in parts.old) held.now
-        steps.old.update steps.new.update }
-    ensures places { KeepsPlaces
-        (is_tried (tried (batch_outcome (kept_in parts.old).store held.now result)))
-        (kept_in parts.old) (kept_in parts.new) }
-{
-    deltas_exist();
-    heads_are_bound();
-    leaves_are_small();
-    showable_stays();
-    live_stays();
-    cells_stay();
-    parts.catalog.laws();
-    let put = put_all(
-        &mut parts.catalog,
-        parts.alloc,
-        held,
-        parts.seq,
-        &mut steps.rows,
-    );
-    parts.catalog.laws();
-    let Came {
-        count,
-        groups,
-        first,
-    } = match put {
-        Ok(came) => came,
-        Err(refusal) => {
-            return match refusal {
-                Refusal::NoMemory => {
-                    give_up(parts, held);
-                    Err(Refusal::NoMemory)
-                }
-                _ => Err(Refusal::Limit),
-            };
-        }
-    };
-    if count == 0 {
-        return Ok(0);
-    }
-    let came = groups.as_slice();
-    match take_groups(parts, came, steps) {
-        Ok(()) => {}
-        Err(_error) => {
-            take_back(&mut parts.catalog, held, &mut steps.rows);
-            parts.catalog.laws();
-            give_up(parts, held);
-            return Err(Refusal::NoMemory);
+impl Engine {
+    /// Whether a row suits a relation, and so may be held in a batch. It takes no memory.
+    ///
+    /// # Errors
+    ///
+    /// `NoRelation` where none has the name; `Arity` and `WrongType` where the row doesn't suit its
+    /// columns.
+    pub fn held_ok(&self, name: &Name, row: &[Value]) -> Result<(), Refusal>
+        ensures { TellsSuits self.now.store name.now row.now result }
+    {
+        match suited(&self.parts.catalog, name, row) {
+            Ok(_id) => Ok(()),
+            Err(refusal) => Err(refusal),
         }
     }
-    parts.seq += 1;
-    let order = parts.order.as_slice();
-    affect_reached(&mut parts.affected, order, &parts.readers, came);
-    let seq = parts.seq;
-    outdate_came(
-        &mut parts.queries,
-        &parts.readers,
-        &parts.catalog,
-        &held[..first],
-        came,
-        seq,
-    );
-    Ok(count)
+
+    /// Adds all rows that a batch held, at once, and tells how many of them weren't there. A row that
+    /// was, or that came before it in the batch, has a further copy. Where rows came, that is one
+    /// change: cursors over a query become stale by the first relation of the batch that the query
+    /// reads and of which a row came, and each watched query tells one delta. What updates count is
+    /// bounded for each of these queries as for one row, with the rows of the batch among those of its
+    /// relations.
+    ///
+    /// # Errors
+    ///
+    /// `Limit` where a row finds no place over what the rows before it leave: its copies, its relation,
+    /// the number of changes or that of known texts are at their limit. `NoMemory` out of memory, and
+    /// cursors over a query are stale by the first relation of the batch that the query reads, and
+    /// nothing is told of it. Texts that became known stay so, and no row has changed. What the queries
+    /// took in goes out row by row then, which may count once more for each row.
+    pub fn done<L: Ledgers>(
+        &mut self,
+        held: &[HeldRow],
+        steps: &mut Steps<L>,
+    ) -> Result<usize, Refusal>
+        requires suit { SuitAll self.old.store held.now }
+        requires few { length held.now ≤ HELD }
+        ensures adds { AddsBatch self.old.store held.now result self.new.store }
+        ensures outdates { Outdates self.old (tried (batch_outcome self.old.store held.now result))
+            self.new }
+        ensures watches { self.new.registered ≡ self.old.registered }
+        ensures tells { TellsChange self.old (batch_outcome self.old.store held.now result) self.new
+            steps.old.listing steps.new.listing }
+        ensures unlisted { IsUnwatched self.old → steps.new.listing ≡ steps.old.listing }
+        ensures updates { CountsBatch (batch_times held.now result) self.old held.now
+            steps.old.update steps.new.update }
+        ensures places { KeepsPlaces (is_tried (tried (batch_outcome self.old.store held.now result)))
+            self.old self.new }
+    {
+        deltas_exist();
+        heads_are_bound();
+        leaves_are_small();
+        showable_stays();
+        live_stays();
+        cells_stay();
+        self.parts.catalog.laws();
+        let put = put_all(
+            &mut self.parts.catalog,
+            self.parts.alloc,
+            held,
+            self.parts.seq,
+            &mut steps.rows,
+        );
+        self.parts.catalog.laws();
+        let Came {
+            count,
+            groups,
+            first,
+        } = match put {
+            Ok(came) => came,
+            Err(refusal) => {
+                return match refusal {
+                    Refusal::NoMemory => {
+                        give_up(&mut self.parts, held);
+                        Err(Refusal::NoMemory)
+                    }
+                    _ => Err(Refusal::Limit),
+                };
+            }
+        };
+        if count == 0 {
+            return Ok(0);
+        }
+        let came = groups.as_slice();
+        match take_groups(&mut self.parts, came, steps) {
+            Ok(()) => {}
+            Err(_error) => {
+                take_back(&mut self.parts.catalog, held, &mut steps.rows);
+                self.parts.catalog.laws();
+                give_up(&mut self.parts, held);
+                return Err(Refusal::NoMemory);
+            }
+        }
+        self.parts.seq += 1;
+        let order = self.parts.order.as_slice();
+        affect_reached(&mut self.parts.affected, order, &self.parts.readers, came);
+        let seq = self.parts.seq;
+        outdate_came(
+            &mut self.parts.queries,
+            &self.parts.readers,
+            &self.parts.catalog,
+            &held[..first],
+            came,
+            seq,
+        );
+        Ok(count)
+    }
 }

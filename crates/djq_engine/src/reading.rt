@@ -1,13 +1,11 @@
 //! Cursors: opening, reading and closing them.
 ghost use Rattle.std.specs.Prelude.{◌≡◌, ⊤, IsSomeAnd, IfOk, OnErr};
 ghost use Rattle.djq_reach.specs.Places.{place_at};
-ghost use Rattle.djq_engine.specs.Kept.{IsHeld, IsFresh, OpenGives, NextGives, MoreGives, ClosesCursor};
-ghost use Rattle.djq_engine.specs.Kept.{KeepsTables};
+ghost use Rattle.djq_engine.specs.Kept.{IsHeld, IsFresh, OpenGives, NextGives, MoreGives, ClosesCursor, KeepsTables};
 ghost use Rattle.djq_engine.specs.Moving.{Moves, IsReadable, IsFreshly, OpensAt, ClosesAt, ReadsAt, TellsAt};
-ghost use Rattle.djq_engine.specs.Whole.{kept_in, IsWhole, IsTended};
 
 use crate::cursor::{CursorId, QueryId};
-use crate::parts::Parts;
+use crate::engine::Engine;
 use crate::places::find_query;
 use djq_lines::Refusal;
 use djq_live::{LiveQuery, Next};
@@ -73,69 +71,65 @@ fn more_at<L: Ledgers>(
     }
 }
 
-/// Opens a cursor in front of the answers of a query.
-pub fn open_in(parts: &mut Parts, query: &Name) -> Result<CursorId, Refusal>
-    requires whole { IsWhole parts.old }
-    requires tended { IsTended parts.old }
-    ensures whole { IsWhole parts.new }
-    ensures tended { IsTended parts.new }
-    ensures gives { OpenGives (kept_in parts.old) query.now result (kept_in parts.new) }
-    ensures places { KeepsTables (kept_in parts.old) (kept_in parts.new) }
-{
-    let Some(at) = find_query(parts.queries.as_slice(), query) else {
-        return Err(Refusal::NoQuery);
-    };
-    match open_at(&mut parts.queries, at) {
-        Ok(cursor) => Ok(CursorId {
+impl Engine {
+    /// Opens a cursor in front of the answers of a query.
+    ///
+    /// # Errors
+    ///
+    /// `NoQuery` where none has the name; `NoMemory` out of memory. Nothing has changed.
+    pub fn open(&mut self, query: &Name) -> Result<CursorId, Refusal>
+        ensures gives { OpenGives self.old query.now result self.new }
+        ensures places { KeepsTables self.old self.new }
+    {
+        let Some(at) = find_query(self.parts.queries.as_slice(), query) else {
+            return Err(Refusal::NoQuery);
+        };
+        let Ok(cursor) = open_at(&mut self.parts.queries, at) else {
+            return Err(Refusal::NoMemory);
+        };
+        Ok(CursorId {
             query: QueryId { at },
             cursor,
-        }),
-        Err(_error) => Err(Refusal::NoMemory),
+        })
     }
-}
 
-/// Gives up a cursor.
-pub fn close_in(parts: &mut Parts, id: CursorId)
-    requires whole { IsWhole parts.old }
-    requires tended { IsTended parts.old }
-    requires held { IsHeld (kept_in parts.old) id }
-    ensures whole { IsWhole parts.new }
-    ensures tended { IsTended parts.new }
-    ensures closes { ClosesCursor (kept_in parts.old) id (kept_in parts.new) }
-    ensures places { KeepsTables (kept_in parts.old) (kept_in parts.new) }
-{
-    close_at(&mut parts.queries, id.query.at, id.cursor);
-}
+    /// Gives up an open cursor. Its id may come again from [`open`](Engine::open).
+    pub fn close(&mut self, id: CursorId)
+        requires { IsHeld self.old id }
+        ensures closes { ClosesCursor self.old id self.new }
+        ensures places { KeepsTables self.old self.new }
+    {
+        close_at(&mut self.parts.queries, id.query.at, id.cursor);
+    }
 
-/// Reads a cursor.
-pub fn next_in<L: Ledgers>(
-    parts: &mut Parts,
-    id: CursorId,
-    answer: &mut Answer,
-    listing: &mut Tally<Listing<L>>,
-) -> Next
-    requires whole { IsWhole parts.old }
-    requires tended { IsTended parts.old }
-    requires held { IsHeld (kept_in parts.old) id }
-    ensures whole { IsWhole parts.new }
-    ensures tended { IsTended parts.new }
-    ensures gives { NextGives (kept_in parts.old) id result answer.new (kept_in parts.new)
-        listing.old listing.new }
-    ensures places { KeepsTables (kept_in parts.old) (kept_in parts.new) }
-{
-    next_at(&mut parts.queries, id.query.at, id.cursor, answer, listing)
-}
+    /// Reads an open cursor: gives a further answer, or says that none is left, or what made it
+    /// stale. It takes no memory.
+    pub fn next<L: Ledgers>(
+        &mut self,
+        id: CursorId,
+        answer: &mut Answer,
+        listing: &mut Tally<Listing<L>>,
+    ) -> Next
+        requires { IsHeld self.old id }
+        ensures gives { NextGives self.old id result answer.new self.new listing.old listing.new }
+        ensures places { KeepsTables self.old self.new }
+    {
+        next_at(
+            &mut self.parts.queries,
+            id.query.at,
+            id.cursor,
+            answer,
+            listing,
+        )
+    }
 
-/// Tells whether an answer is left for a cursor that isn't stale.
-pub fn more_in<L: Ledgers>(parts: &mut Parts, id: CursorId, listing: &mut Tally<Listing<L>>) -> bool
-    requires whole { IsWhole parts.old }
-    requires tended { IsTended parts.old }
-    requires fresh { IsFresh (kept_in parts.old) id }
-    ensures whole { IsWhole parts.new }
-    ensures tended { IsTended parts.new }
-    ensures gives { MoreGives (kept_in parts.old) id result (kept_in parts.new)
-        listing.old listing.new }
-    ensures places { KeepsTables (kept_in parts.old) (kept_in parts.new) }
-{
-    more_at(&mut parts.queries, id.query.at, id.cursor, listing)
+    /// Whether a further answer is left for a cursor that isn't stale; where none is, it stands at
+    /// its end. It takes no memory.
+    pub fn more<L: Ledgers>(&mut self, id: CursorId, listing: &mut Tally<Listing<L>>) -> bool
+        requires { IsFresh self.old id }
+        ensures gives { MoreGives self.old id result self.new listing.old listing.new }
+        ensures places { KeepsTables self.old self.new }
+    {
+        more_at(&mut self.parts.queries, id.query.at, id.cursor, listing)
+    }
 }

@@ -1,5 +1,5 @@
 //! Queries that are registered and dropped.
-ghost use Rattle.std.specs.Prelude.{◌≡◌, [], ◌∷◌, ◌++◌, ◌<◌, ⊤, Some, None, OnOk, OnErr, IsSomeAnd, IfNone, IfSome, if◌then◌else◌, length};
+ghost use Rattle.std.specs.Prelude.{◌≡◌, [], ◌∷◌, ◌++◌, ◌<◌, ⊤, OnOk, OnErr, IsSomeAnd, if◌then◌else◌, length};
 ghost use Rattle.djq_lines.specs.declared.limits.TheConstants.{QUERIES};
 ghost use Rattle.djq_machine.specs.Stale.{reads};
 ghost use Rattle.djq_machine.specs.Store.{RegistersQuery, query_refusal};
@@ -11,6 +11,7 @@ ghost use Rattle.djq_engine.specs.Registering.{Registers, SameParts};
 ghost use Rattle.djq_engine.specs.Watching.{Enrols, EnrolsTelling};
 ghost use Rattle.djq_engine.specs.Whole.{kept_in, IsWhole, IsTended};
 
+use crate::engine::Engine;
 use crate::parts::Parts;
 use crate::places::{find_query, leave_all, leave_out, unaffect, vacant_place};
 use djq_dict::InternRefusal;
@@ -103,8 +104,8 @@ fn register(parts: &mut Parts, query: LiveQuery) -> Result<(), NoMem>
     }
 }
 
-/// Why a query isn't registered, whatever its hypergraph is.
-pub fn judge_query(parts: &Parts, query: &Query) -> Option<Refusal>
+// Why a query isn't registered, whatever its hypergraph is.
+fn judge_query(parts: &Parts, query: &Query) -> Option<Refusal>
     requires { IsWhole parts.now }
     ensures { result ≡ query_refusal (kept_in parts.now).store query.now }
 {
@@ -120,55 +121,6 @@ pub fn judge_query(parts: &Parts, query: &Query) -> Option<Refusal>
     None
 }
 
-/// Registers a free-connex query, or tells what shows that it isn't one.
-pub fn query_in<L: Ledgers>(
-    parts: &mut Parts,
-    query: Query,
-    steps: &mut Steps<L>,
-) -> Result<QueryOutcome, Refusal>
-    requires whole { IsWhole parts.old }
-    requires tended { IsTended parts.old }
-    requires some { 0 < length query.atoms }
-    ensures whole { IsWhole parts.new }
-    ensures tended { IsTended parts.new }
-    ensures registers { RegistersQuery (kept_in parts.old).store query result
-        (kept_in parts.new).store }
-    ensures cursors { SameCursors (kept_in parts.old).cursors (kept_in parts.new).cursors }
-    ensures enrols { Enrols (kept_in parts.old).registered query result
-        (kept_in parts.new).registered }
-    ensures tellings { EnrolsTelling (kept_in parts.old) query result (kept_in parts.new) }
-    ensures counted { steps.new.listing ≡ steps.old.listing }
-    ensures places { KeepsTables (kept_in parts.old) (kept_in parts.new) }
-{
-    live_stays();
-    texts_stay();
-    showable_stays();
-    if let Some(refusal) = judge_query(parts, &query) {
-        return Err(refusal);
-    }
-    let planned = match plan_query(parts.alloc, &parts.catalog, &query) {
-        Ok(planned) => planned,
-        Err(Unplanned::Cyclic(rest)) => return Ok(QueryOutcome::Cyclic(rest)),
-        Err(Unplanned::NotConnex(rest)) => return Ok(QueryOutcome::NotConnex(rest)),
-        Err(Unplanned::NoMem) => return Err(Refusal::NoMemory),
-    };
-    let most = 2 * query.head.len() as u64 + 1;
-    let known = intern_constants(&mut parts.catalog, &query);
-    parts.catalog.laws();
-    match known {
-        Ok(()) => {}
-        Err(InternRefusal::Full) => return Err(Refusal::Limit),
-        Err(InternRefusal::NoMem) => return Err(Refusal::NoMemory),
-    }
-    match LiveQuery::build(parts.alloc, query, planned, &parts.catalog, steps) {
-        Ok(live) => match register(parts, live) {
-            Ok(()) => Ok(QueryOutcome::Registered(most)),
-            Err(_error) => Err(Refusal::NoMemory),
-        },
-        Err(_error) => Err(Refusal::NoMemory),
-    }
-}
-
 // Whether no cursor is over the query in a place.
 fn is_idle(queries: &[Option<LiveQuery>], at: usize) -> bool
     requires { IsSomeAnd (place_at queries.now at) (λ l. ⊤) }
@@ -180,28 +132,97 @@ fn is_idle(queries: &[Option<LiveQuery>], at: usize) -> bool
     }
 }
 
-/// Drops a query that no cursor is over and no session watches.
-pub fn drop_in(parts: &mut Parts, query: &Name) -> Result<(), Refusal>
-    requires whole { IsWhole parts.old }
-    requires tended { IsTended parts.old }
-    ensures whole { IsWhole parts.new }
-    ensures tended { IsTended parts.new }
-    ensures gives { DropGives (kept_in parts.old) query.now result (kept_in parts.new) }
-    ensures places { DropsPlace (kept_in parts.old) query.now result (kept_in parts.new) }
-{
-    let Some(at) = find_query(parts.queries.as_slice(), query) else {
-        return Err(Refusal::NoQuery);
-    };
-    if is_watched(parts.watchers.as_slice(), at) {
-        return Err(Refusal::InUse);
+impl Engine {
+    /// Why a query isn't registered, whatever its hypergraph is: its name is taken, it has a fault, or
+    /// there are as many queries as may be.
+    pub fn query_fault(&self, query: &Query) -> Option<Refusal>
+        ensures { result ≡ query_refusal self.now.store query.now }
+    {
+        judge_query(&self.parts, query)
     }
-    if !is_idle(parts.queries.as_slice(), at) {
-        return Err(Refusal::InUse);
+
+    /// Registers a free-connex query, and tells how many lookups and links one of its answers takes
+    /// at most; or tells a rest that shows why the query isn't free-connex.
+    ///
+    /// # Errors
+    ///
+    /// `Taken` where a query has the name; the first fault that the query has; `Limit` at
+    /// [`QUERIES`](djq_lines::limits::QUERIES) queries, or where a text of a free-connex query is
+    /// unknown and as many are known as may be; `NoMemory` out of memory. Texts that became known
+    /// stay so, and nothing else has changed.
+    pub fn query<L: Ledgers>(
+        &mut self,
+        query: Query,
+        steps: &mut Steps<L>,
+    ) -> Result<QueryOutcome, Refusal>
+        requires { 0 < length query.atoms }
+        ensures registers { RegistersQuery self.old.store query result self.new.store }
+        ensures cursors { SameCursors self.old.cursors self.new.cursors }
+        ensures enrols { Enrols self.old.registered query result self.new.registered }
+        ensures tellings { EnrolsTelling self.old query result self.new }
+        ensures counted { steps.new.listing ≡ steps.old.listing }
+        ensures places { KeepsTables self.old self.new }
+    {
+        live_stays();
+        texts_stay();
+        showable_stays();
+        if let Some(refusal) = judge_query(&self.parts, &query) {
+            return Err(refusal);
+        }
+        let planned = match plan_query(self.parts.alloc, &self.parts.catalog, &query) {
+            Ok(planned) => planned,
+            Err(Unplanned::Cyclic(rest)) => return Ok(QueryOutcome::Cyclic(rest)),
+            Err(Unplanned::NotConnex(rest)) => return Ok(QueryOutcome::NotConnex(rest)),
+            Err(Unplanned::NoMem) => return Err(Refusal::NoMemory),
+        };
+        let most = 2 * query.head.len() as u64 + 1;
+        let known = intern_constants(&mut self.parts.catalog, &query);
+        self.parts.catalog.laws();
+        match known {
+            Ok(()) => {}
+            Err(InternRefusal::Full) => return Err(Refusal::Limit),
+            Err(InternRefusal::NoMem) => return Err(Refusal::NoMemory),
+        }
+        let Ok(live) = LiveQuery::build(
+            self.parts.alloc,
+            query,
+            planned,
+            &self.parts.catalog,
+            steps,
+        ) else {
+            return Err(Refusal::NoMemory);
+        };
+        let Ok(()) = register(&mut self.parts, live) else {
+            return Err(Refusal::NoMemory);
+        };
+        Ok(QueryOutcome::Registered(most))
     }
-    leave_all(&mut parts.readers, at);
-    leave_out(&mut parts.order, at);
-    unaffect(&mut parts.affected, at);
-    parts.logs[at].clear();
-    parts.queries[at] = None;
-    Ok(())
+
+    /// Drops a query: it is registered no more. The ids of other queries and of their cursors stay.
+    /// It takes no memory.
+    ///
+    /// # Errors
+    ///
+    /// `NoQuery` where none has the name; `InUse` where a cursor is over it, stale or not, or a
+    /// session watches it. Nothing has changed.
+    pub fn drop_query(&mut self, query: &Name) -> Result<(), Refusal>
+        ensures gives { DropGives self.old query.now result self.new }
+        ensures places { DropsPlace self.old query.now result self.new }
+    {
+        let Some(at) = find_query(self.parts.queries.as_slice(), query) else {
+            return Err(Refusal::NoQuery);
+        };
+        if is_watched(self.parts.watchers.as_slice(), at) {
+            return Err(Refusal::InUse);
+        }
+        if !is_idle(self.parts.queries.as_slice(), at) {
+            return Err(Refusal::InUse);
+        }
+        leave_all(&mut self.parts.readers, at);
+        leave_out(&mut self.parts.order, at);
+        unaffect(&mut self.parts.affected, at);
+        self.parts.logs[at].clear();
+        self.parts.queries[at] = None;
+        Ok(())
+    }
 }

@@ -1,19 +1,17 @@
 //! Rows that are added and deleted, and relations that are made.
-ghost use Rattle.std.specs.Prelude.{◌≡◌, ◌<◌, ◌≤◌, [], ◌∷◌, ◌++◌, ⊤, length, vec_capacity};
+ghost use Rattle.std.specs.Prelude.{◌≡◌, ◌<◌, ◌≤◌, ⊤, length, vec_capacity};
 ghost use Rattle.std.specs.List.{list_any};
-ghost use Rattle.djq_model.specs.Data.{rows_of, without_row};
 ghost use Rattle.djq_machine.specs.Store.{MakesRelation, AddsRow, DeletesRow};
 ghost use Rattle.djq_machine.specs.Changes.{row_in, row_out, add_outcome, delete_outcome, tried};
-ghost use Rattle.djq_engine.specs.Kept.{IsUnwatched, Outdates, SameCursors, SameTellings};
-ghost use Rattle.djq_engine.specs.Kept.{KeepsPlaces, is_tried};
+ghost use Rattle.djq_engine.specs.Kept.{IsUnwatched, Outdates, SameCursors, SameTellings, KeepsPlaces, is_tried};
 ghost use Rattle.djq_reach.specs.Places.{place_at, readers_at, AreOnce};
 ghost use Rattle.djq_reach.specs.Reaching.{AllAt};
 ghost use Rattle.djq_engine.specs.Changing.{AgesReaders};
 ghost use Rattle.djq_engine.specs.Cursors.{has_cursor};
 ghost use Rattle.djq_engine.specs.Watching.{TellsChange, CountsUpdates, add_times, delete_times};
-ghost use Rattle.djq_engine.specs.Whole.{kept_in, IsWhole, IsTended};
 
 use crate::change::{drop_cells, put_row};
+use crate::engine::Engine;
 use crate::judge::{judge_add, judge_delete};
 use crate::parts::Parts;
 use djq_deltas::deltas_exist;
@@ -22,7 +20,7 @@ use djq_index::Cells;
 use djq_lines::limits::{COLUMNS, RELATIONS};
 use djq_lines::{AddOutcome, DeleteOutcome, Refusal};
 use djq_live::{LiveQuery, heads_are_bound, leaves_are_small, live_stays, showable_stays};
-use djq_model::{Name, Sequence, Types, Value};
+use djq_model::{Name, NoMem, Sequence, Types, Value};
 use djq_reach::{age, empty_logs};
 use djq_rows::{RelationId, names_tell, texts_stay};
 use djq_steps::{Ledgers, Steps};
@@ -85,150 +83,168 @@ fn age_readers(parts: &mut Parts, id: RelationId, name: &Name)
     }
 }
 
-/// Adds a row to a relation, or a further copy of it where it is there.
-pub fn add_in<L: Ledgers>(
-    parts: &mut Parts,
-    name: &Name,
-    row: &[Value],
-    steps: &mut Steps<L>,
-) -> Result<AddOutcome, Refusal>
-    requires whole { IsWhole parts.old }
-    requires tended { IsTended parts.old }
-    ensures whole { IsWhole parts.new }
-    ensures tended { IsTended parts.new }
-    ensures adds { AddsRow (kept_in parts.old).store name.now row.now result
-        (kept_in parts.new).store }
-    ensures outdates { Outdates (kept_in parts.old)
-        (tried (add_outcome (row_in (kept_in parts.old).store.relations name.now row.now) result))
-        (kept_in parts.new) }
-    ensures watches { (kept_in parts.new).registered ≡ (kept_in parts.old).registered }
-    ensures tells { TellsChange (kept_in parts.old)
-        (add_outcome (row_in (kept_in parts.old).store.relations name.now row.now) result)
-        (kept_in parts.new)
-        steps.old.listing steps.new.listing }
-    ensures unlisted { IsUnwatched (kept_in parts.old)
-        → steps.new.listing ≡ steps.old.listing }
-    ensures updates { CountsUpdates (add_times result) (kept_in parts.old)
-        (row_in (kept_in parts.old).store.relations name.now row.now)
-        steps.old.update steps.new.update }
-    ensures places { KeepsPlaces (is_tried
-        (tried (add_outcome (row_in (kept_in parts.old).store.relations name.now row.now) result)))
-        (kept_in parts.old) (kept_in parts.new) }
-{
-    names_tell();
-    deltas_exist();
-    heads_are_bound();
-    leaves_are_small();
-    texts_stay();
-    showable_stays();
-    parts.catalog.laws();
-    let id = judge_add(&parts.catalog, name, row, parts.seq, &mut steps.rows)?;
-    match put_row(parts, id, row, steps) {
-        Ok(AddOutcome::First) => {}
-        Ok(AddOutcome::More(copies)) => return Ok(AddOutcome::More(copies)),
-        Err(InternRefusal::Full) => return Err(Refusal::Limit),
-        Err(InternRefusal::NoMem) => {
-            empty_logs(&mut parts.logs, parts.readers[id.at].as_slice());
-            age_readers(parts, id, name);
+impl Engine {
+    /// Makes a relation without rows, of one column at least.
+    ///
+    /// # Errors
+    ///
+    /// `Taken` where a relation has the name; `Limit` past [`COLUMNS`](djq_lines::limits::COLUMNS)
+    /// columns and at [`RELATIONS`](djq_lines::limits::RELATIONS) relations; `NoMemory` out of
+    /// memory. Nothing has changed.
+    pub fn rel(&mut self, name: Name, types: Types) -> Result<(), Refusal>
+        requires { 0 < length types }
+        ensures makes { MakesRelation self.old.store name types result self.new.store }
+        ensures cursors { SameCursors self.old.cursors self.new.cursors }
+        ensures registered { self.new.registered ≡ self.old.registered }
+        ensures tellings { SameTellings self.old self.new }
+        ensures places { self.new.places ≡ self.old.places }
+    {
+        live_stays();
+        if self.parts.catalog.id(&name).is_some() {
+            return Err(Refusal::Taken);
+        }
+        if types.len() > COLUMNS || self.parts.catalog.len() >= RELATIONS {
+            return Err(Refusal::Limit);
+        }
+        let Ok(()) = self.parts.readers.reserve(1) else {
             return Err(Refusal::NoMemory);
+        };
+        match self.parts.catalog.relation(name, types) {
+            Ok(_id) => {
+                self.parts.catalog.laws();
+                self.parts
+                    .readers
+                    .push_reserved(Sequence::new(self.parts.alloc));
+                Ok(())
+            }
+            Err(_refusal) => Err(Refusal::NoMemory),
         }
     }
-    parts.seq += 1;
-    affect(&mut parts.affected, &parts.readers, id);
-    age_readers(parts, id, name);
-    Ok(AddOutcome::First)
-}
 
-/// Deletes a copy of a row from a relation, and the row with its last one. It takes no memory but the
-/// logs'.
-pub fn del_in<L: Ledgers>(
-    parts: &mut Parts,
-    name: &Name,
-    row: &[Value],
-    steps: &mut Steps<L>,
-) -> Result<DeleteOutcome, Refusal>
-    requires whole { IsWhole parts.old }
-    requires tended { IsTended parts.old }
-    ensures whole { IsWhole parts.new }
-    ensures tended { IsTended parts.new }
-    ensures deletes { DeletesRow (kept_in parts.old).store name.now row.now result
-        (kept_in parts.new).store }
-    ensures outdates { Outdates (kept_in parts.old)
-        (tried (delete_outcome (row_out (kept_in parts.old).store.relations name.now row.now) result))
-        (kept_in parts.new) }
-    ensures watches { (kept_in parts.new).registered ≡ (kept_in parts.old).registered }
-    ensures tells { TellsChange (kept_in parts.old)
-        (delete_outcome (row_out (kept_in parts.old).store.relations name.now row.now) result)
-        (kept_in parts.new)
-        steps.old.listing steps.new.listing }
-    ensures unlisted { IsUnwatched (kept_in parts.old)
-        → steps.new.listing ≡ steps.old.listing }
-    ensures updates { CountsUpdates (delete_times result) (kept_in parts.old)
-        (row_out (kept_in parts.old).store.relations name.now row.now)
-        steps.old.update steps.new.update }
-    ensures places { KeepsPlaces (is_tried
-        (tried (delete_outcome (row_out (kept_in parts.old).store.relations name.now row.now) result)))
-        (kept_in parts.old) (kept_in parts.new) }
-{
-    names_tell();
-    deltas_exist();
-    heads_are_bound();
-    leaves_are_small();
-    showable_stays();
-    parts.catalog.laws();
-    let mut cells = Cells::new(0);
-    let judged = judge_delete(
-        &parts.catalog,
-        name,
-        row,
-        parts.seq,
-        &mut cells,
-        &mut steps.rows,
-    )?;
-    let Some(relation) = judged else {
-        return Ok(DeleteOutcome::Absent);
-    };
-    match drop_cells(parts, relation, cells.as_slice(), steps) {
-        DeleteOutcome::Last => {}
-        DeleteOutcome::Left(copies) => return Ok(DeleteOutcome::Left(copies)),
-        DeleteOutcome::Absent => return Ok(DeleteOutcome::Absent),
-    }
-    parts.seq += 1;
-    affect(&mut parts.affected, &parts.readers, relation);
-    age_readers(parts, relation, name);
-    Ok(DeleteOutcome::Last)
-}
-
-/// Makes a relation without rows.
-pub fn rel_in(parts: &mut Parts, name: Name, types: Types) -> Result<(), Refusal>
-    requires whole { IsWhole parts.old }
-    requires tended { IsTended parts.old }
-    requires some { 0 < length types }
-    ensures whole { IsWhole parts.new }
-    ensures tended { IsTended parts.new }
-    ensures makes { MakesRelation (kept_in parts.old).store name types result
-        (kept_in parts.new).store }
-    ensures cursors { SameCursors (kept_in parts.old).cursors (kept_in parts.new).cursors }
-    ensures registered { (kept_in parts.new).registered ≡ (kept_in parts.old).registered }
-    ensures tellings { SameTellings (kept_in parts.old) (kept_in parts.new) }
-    ensures places { (kept_in parts.new).places ≡ (kept_in parts.old).places }
-{
-    live_stays();
-    if parts.catalog.id(&name).is_some() {
-        return Err(Refusal::Taken);
-    }
-    if types.len() > COLUMNS || parts.catalog.len() >= RELATIONS {
-        return Err(Refusal::Limit);
-    }
-    let Ok(()) = parts.readers.reserve(1) else {
-        return Err(Refusal::NoMemory);
-    };
-    match parts.catalog.relation(name, types) {
-        Ok(_id) => {
-            parts.catalog.laws();
-            parts.readers.push_reserved(Sequence::new(parts.alloc));
-            Ok(())
+    /// Adds a row to a relation, and tells how many copies of it are there. Where it wasn't there, its
+    /// texts become known, and cursors over the relation become stale. Where it was, it has a further
+    /// copy: that takes no memory, is no change, and goes into no query.
+    ///
+    /// For each atom over the relation of each query the update count rises by at most
+    /// 16(m + v)(n + 1), where the query has m atoms and v variables, holes counted in, and no
+    /// relation that it reads more than n rows before; out of memory by three times that. A query
+    /// that is flat counts at most 16(m + v) for each, whatever the rows; out of memory twice that.
+    ///
+    /// # Errors
+    ///
+    /// `NoRelation` where none has the name; `Arity` and `WrongType` where the row doesn't suit its
+    /// columns; `Limit` where the row's copies, the relation, the number of changes or that of known
+    /// texts are at their limit; `NoMemory` out of memory, and cursors over the relation are stale, and nothing is told
+    /// of the queries that read it. Texts that became known stay so, and no row has changed.
+    pub fn add<L: Ledgers>(
+        &mut self,
+        name: &Name,
+        row: &[Value],
+        steps: &mut Steps<L>,
+    ) -> Result<AddOutcome, Refusal>
+        ensures adds { AddsRow self.old.store name.now row.now result self.new.store }
+        ensures outdates { Outdates self.old
+            (tried (add_outcome (row_in self.old.store.relations name.now row.now) result))
+            self.new }
+        ensures watches { self.new.registered ≡ self.old.registered }
+        ensures tells { TellsChange self.old
+            (add_outcome (row_in self.old.store.relations name.now row.now) result) self.new
+            steps.old.listing steps.new.listing }
+        ensures unlisted { IsUnwatched self.old → steps.new.listing ≡ steps.old.listing }
+        ensures updates { CountsUpdates (add_times result) self.old
+            (row_in self.old.store.relations name.now row.now)
+            steps.old.update steps.new.update }
+        ensures places { KeepsPlaces (is_tried
+            (tried (add_outcome (row_in self.old.store.relations name.now row.now) result)))
+            self.old self.new }
+    {
+        names_tell();
+        deltas_exist();
+        heads_are_bound();
+        leaves_are_small();
+        texts_stay();
+        showable_stays();
+        self.parts.catalog.laws();
+        let id = judge_add(
+            &self.parts.catalog,
+            name,
+            row,
+            self.parts.seq,
+            &mut steps.rows,
+        )?;
+        match put_row(&mut self.parts, id, row, steps) {
+            Ok(AddOutcome::First) => {}
+            Ok(AddOutcome::More(copies)) => return Ok(AddOutcome::More(copies)),
+            Err(InternRefusal::Full) => return Err(Refusal::Limit),
+            Err(InternRefusal::NoMem) => {
+                empty_logs(&mut self.parts.logs, self.parts.readers[id.at].as_slice());
+                age_readers(&mut self.parts, id, name);
+                return Err(Refusal::NoMemory);
+            }
         }
-        Err(_refusal) => Err(Refusal::NoMemory),
+        self.parts.seq += 1;
+        affect(&mut self.parts.affected, &self.parts.readers, id);
+        age_readers(&mut self.parts, id, name);
+        Ok(AddOutcome::First)
+    }
+
+    /// Deletes a copy of a row from a relation, and tells how many are left. Where it isn't there,
+    /// nothing changes; where its last copy goes, the row does, and cursors over the relation become
+    /// stale; one of several is no change, and goes out of no query. It takes no memory, and its update
+    /// count is bounded as that of [`add`](Engine::add).
+    ///
+    /// # Errors
+    ///
+    /// `NoRelation` where none has the name; `Arity` and `WrongType` where the row doesn't suit its
+    /// columns; `Limit` where the last copy is to go and the number of changes is at its limit.
+    pub fn del<L: Ledgers>(
+        &mut self,
+        name: &Name,
+        row: &[Value],
+        steps: &mut Steps<L>,
+    ) -> Result<DeleteOutcome, Refusal>
+        ensures deletes { DeletesRow self.old.store name.now row.now result self.new.store }
+        ensures outdates { Outdates self.old
+            (tried (delete_outcome (row_out self.old.store.relations name.now row.now) result))
+            self.new }
+        ensures watches { self.new.registered ≡ self.old.registered }
+        ensures tells { TellsChange self.old
+            (delete_outcome (row_out self.old.store.relations name.now row.now) result) self.new
+            steps.old.listing steps.new.listing }
+        ensures unlisted { IsUnwatched self.old → steps.new.listing ≡ steps.old.listing }
+        ensures updates { CountsUpdates (delete_times result) self.old
+            (row_out self.old.store.relations name.now row.now)
+            steps.old.update steps.new.update }
+        ensures places { KeepsPlaces (is_tried
+            (tried (delete_outcome (row_out self.old.store.relations name.now row.now) result)))
+            self.old self.new }
+    {
+        names_tell();
+        deltas_exist();
+        heads_are_bound();
+        leaves_are_small();
+        showable_stays();
+        self.parts.catalog.laws();
+        let mut cells = Cells::new(0);
+        let judged = judge_delete(
+            &self.parts.catalog,
+            name,
+            row,
+            self.parts.seq,
+            &mut cells,
+            &mut steps.rows,
+        )?;
+        let Some(relation) = judged else {
+            return Ok(DeleteOutcome::Absent);
+        };
+        match drop_cells(&mut self.parts, relation, cells.as_slice(), steps) {
+            DeleteOutcome::Last => {}
+            DeleteOutcome::Left(copies) => return Ok(DeleteOutcome::Left(copies)),
+            DeleteOutcome::Absent => return Ok(DeleteOutcome::Absent),
+        }
+        self.parts.seq += 1;
+        affect(&mut self.parts.affected, &self.parts.readers, relation);
+        age_readers(&mut self.parts, relation, name);
+        Ok(DeleteOutcome::Last)
     }
 }

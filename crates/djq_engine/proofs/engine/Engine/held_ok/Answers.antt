@@ -1,0 +1,11 @@
+use Rattle.djq_machine.specs.Batch.{suit_refusal}
+use Rattle.djq_engine.specs.Whole.{kept_in}
+use Rattle.djq_engine.proofs.Conditions.{answers_done}
+use Rattle.djq_engine.proofs.Judged.{suits_pass}
+use Rattle.djq_engine.proofs.engine.Engine.held_ok.Goals as goal
+
+pub returns-in-Ok : goal.returns-in-Ok
+returns-in-Ok c =
+    let p = c.self.inside.parts in
+    rw (← c.self.view_is) (answers_done (suit_refusal (kept_in p).store c.args.name.now c.args.row.now) tt _ _
+    (suits_pass p.catalog.relations c.args.name.now c.args.row.now 0 c.in-Ok._id.at c.in-Ok.ensures.ok) tt)

@@ -1,0 +1,38 @@
+use Rattle.std.proofs.Common.{◌≡◌, ◌∙◌, ap, arith, sym, subst}
+use Rattle.std.specs.Prelude.{Option}
+use Rattle.djq_model.specs.declared.query.Query.{Query}
+use Rattle.djq_model.specs.Listed.{listed_name}
+use Rattle.djq_live.specs.Live.{Live}
+use Rattle.djq_engine.specs.Places.{query_in}
+use Rattle.djq_engine.proofs.Attending.{below_queries, gives_that, query_kept_there, there_not_none}
+use Rattle.djq_reach.proofs.Reaching.{place_read}
+use Rattle.djq_engine.specs.Kept.{Kept, IsRegistered}
+use Rattle.djq_engine.proofs.engine.Engine.query_name.Goals as goal
+
+pub index-requires : goal.index-requires
+index-requires c =
+    let p = c.self.inside.parts in
+    let registered = subst (λ (k : Kept). IsRegistered k c.args.id) (sym c.self.view_is) c.requires in
+    omega (
+      arith,
+      below_queries p c.self.invariant.0 c.args.id
+          (query_kept_there p c.self.invariant.0 c.args.id registered),
+    )
+
+pub unreachable-requires : goal.unreachable-requires
+unreachable-requires c =
+    let p = c.self.inside.parts in
+    let registered = subst (λ (k : Kept). IsRegistered k c.args.id) (sym c.self.view_is) c.requires in
+    there_not_none p.queries.items c.args.id.at (query_kept_there p c.self.invariant.0 c.args.id registered)
+    c.index.result.now c.index.ensures c.in-None.is
+
+pub returns : goal.returns
+returns c =
+    let p = c.self.inside.parts in
+    let registered = subst (λ (k : Kept). IsRegistered k c.args.id) (sym c.self.view_is) c.requires in
+    let t = query_kept_there p c.self.invariant.0 c.args.id registered in
+    let there = place_read p.queries.items c.args.id.at c.index.result.now c.in-Some.live
+    (below_queries p c.self.invariant.0 c.args.id t) c.index.ensures c.in-Some.is in
+    rw (← c.self.view_is)
+    (gives_that p c.self.invariant.0 c.args.id (λ r. c.query.result.now.name ≡ listed_name r.query) t
+    (ap (λ (q : Query). q.name) c.query.ensures ∙ sym (ap (λ (o : Option Live). listed_name (query_in o)) there)))
