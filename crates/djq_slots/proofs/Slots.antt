@@ -57,6 +57,16 @@ module _ {C : Type 0} where
         ];
   }
 
+  -- what is put into a slot that has a cursor stands there
+  pub set_there : (slots : List (Option (Progress C))) (k : ℕ) (p q : Progress C)
+      → slot_at slots k ≡ Some p → slot_at (slice_set slots k (Some q)) k ≡ Some q
+  set_there slots k p q e =
+      elim (cases_lt k (length slots)) [
+        | inl low ↦ get_or-set_same slots k (Some q) None low
+        | inr past ↦
+            let none : slot_at slots k ≡ None = get_or_past slots k None (omega arith) in absurd cc
+      ]
+
   -- what a slot has is put into it again
   pub put_same : (slots : List (Option (Progress C))) (k : ℕ) (p q : Progress C)
       → slot_at slots k ≡ Some p → q ≡ p → slice_set slots k (Some q) ≡ slots

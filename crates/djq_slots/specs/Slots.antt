@@ -16,7 +16,6 @@ use Rattle.std.specs.Prelude.{
   option_map,
   map,
   slice_index_or,
-  slice_set,
 }
 use Rattle.djq_model.specs.Data.{Bytes}
 use Rattle.djq_slots.specs.declared.progress.Progress.{Progress}
@@ -55,15 +54,6 @@ module _ {C : Type 0} where
       (new : List (Option (Progress C))) : Type 0 where
     pub free : slot_at old k ≡ None
     pub sets : SetsSlot old k (Some (Open cursor false)) new
-
-  -- the cursor in a slot is read so, and the others are as before
-  pub record InSlot (Read : Progress C → Progress C → Type 0) (old : List (Option (Progress C)))
-      (k : ℕ) (new : List (Option (Progress C))) : Type 0 where
-    pub before : Progress C
-    pub there : slot_at old k ≡ Some before
-    pub after : Progress C
-    pub read : Read before after
-    pub is : new ≡ slice_set old k (Some after)
 
   -- An open cursor becomes stale by a change of this number; a stale one keeps the change that made
   -- it so.
