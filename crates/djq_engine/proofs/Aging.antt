@@ -9,8 +9,8 @@ use Rattle.djq_model.specs.Listed.{Listed, a_query}
 use Rattle.djq_machine.specs.State.{Position, stale}
 use Rattle.djq_machine.specs.Stale.{reads, outdated, outdater_of, by_relation}
 use Rattle.djq_rows.specs.Catalog.{Catalog, relation_at}
-use Rattle.djq_live.specs.declared.cursors.Progress.{Progress}
-use Rattle.djq_live.specs.declared.cursors.Progress.TheVariants.{Open, Stale}
+use Rattle.djq_live.specs.Cursors.{Progress}
+use Rattle.djq_slots.specs.declared.progress.Progress.TheVariants.{Open, Stale}
 use Rattle.djq_live.specs.Cursors.{slot_at, outdated_progress, outdated_slots}
 use Rattle.djq_live.specs.Live.{Live, IsLive, position_of}
 use Rattle.djq_live.specs.Staying.{StaysOver}

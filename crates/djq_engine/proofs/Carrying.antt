@@ -1,6 +1,6 @@
 -- The queries are carried over to a catalog with other rows or texts.
 use Rattle.std.proofs.Common.{ℕ, zero, suc, List, [], ◌∷◌, ◌++◌, ◌≡◌, ◌<◌, Bool, true, false, refl}
-use Rattle.std.proofs.Common.{sym, ap, ap₂, ◌∙◌, subst, length, length-set, set}
+use Rattle.std.proofs.Common.{sym, ap, ap₂, ◌∙◌, subst, length, length-set, set, arith}
 use Rattle.std.specs.Prelude.{◌==◌, ◌&&◌, Option, None, Some, IsSomeAnd, is_some, filter, cond, Contains}
 use Rattle.std.proofs.lemmas.Bool.{false≢true, eqb-true, eq-eqb}
 use Rattle.std.proofs.lemmas.List.{get_or-set_same, get_or-set_other, set-get_or}
@@ -13,7 +13,7 @@ use Rattle.djq_rows.specs.Catalog.{Catalog, no_relation, relation_at, counted_at
 use Rattle.djq_live.specs.Changes.{Came, Went}
 use Rattle.djq_live.specs.Live.{Live, IsKept, IsLive, SameQuery}
 use Rattle.djq_live.specs.Staying.{StaysOver, CamePasses, WentPasses}
-use Rattle.djq_live.proofs.Members.{in_first, in_rest}
+use Rattle.djq_live.proofs.Members.{in_rest}
 use Rattle.djq_reach.specs.Places.{place_at, is_reader, readers_at, reads_place, AreOnce}
 use Rattle.djq_engine.specs.Places.{is_live}
 use Rattle.djq_engine.specs.Sound.{IsSound}
@@ -28,7 +28,8 @@ has_contains (r ∷ rs) row e = by_test (tuple_eq r row) refl e (has_contains rs
   where
     by_test : (b : Bool) → tuple_eq r row ≡ b → cond b true (has_row rs row) ≡ true
         → (has_row rs row ≡ true → Contains rs row) → Contains (r ∷ rs) row
-    by_test true f h more = subst (λ (x : Tuple). Contains (r ∷ rs) x) ((tuple_eq-decides r row).0 f) (in_first r rs)
+    by_test true f h more = subst (λ (x : Tuple). Contains (r ∷ rs) x) ((tuple_eq-decides r row).0 f)
+        (0, omega arith, refl)
     by_test false f h more = in_rest r row rs (more h)
 
 pub without_last : (rows : List CountedRow) (row : Tuple) → has_row (tuples_of rows) row ≡ false

@@ -13,8 +13,8 @@ use Rattle.djq_machine.specs.State.{Position, open_at, stale}
 use Rattle.djq_machine.specs.Store.{answer_steps}
 use Rattle.djq_reduct.specs.Answers.{IsAnswerOf}
 use Rattle.djq_rows.specs.Catalog.{Catalog}
-use Rattle.djq_live.specs.declared.cursors.Progress.{Progress}
-use Rattle.djq_live.specs.declared.cursors.Progress.TheVariants.{Open, Stale}
+use Rattle.djq_live.specs.Cursors.{Progress}
+use Rattle.djq_slots.specs.declared.progress.Progress.TheVariants.{Open, Stale}
 use Rattle.djq_live.specs.declared.listing.Next.{Next}
 use Rattle.djq_live.specs.declared.listing.Next.TheVariants.{Given, End, Stale as StaleNext}
 use Rattle.djq_live.specs.Cursors.{slot_at}

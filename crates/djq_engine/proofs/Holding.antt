@@ -5,7 +5,7 @@ use Rattle.std.specs.Option.{option_or}
 use Rattle.std.proofs.lemmas.Bool.{eq-eqb}
 use Rattle.std.proofs.lemmas.List.Folds.{find-append}
 use Rattle.djq_model.specs.Data.{Bytes}
-use Rattle.djq_live.specs.declared.cursors.Progress.{Progress}
+use Rattle.djq_live.specs.Cursors.{Progress}
 use Rattle.djq_live.specs.Cursors.{slot_at}
 use Rattle.djq_live.specs.Live.{Live}
 use Rattle.djq_engine.specs.declared.cursor.CursorId.{CursorId}
@@ -75,7 +75,7 @@ queries_passed texts at (Some l ∷ gs) id low =
     ∙ ap₂ option_or (slots_other texts l at zero l.cursors id (λ e. omega arith))
     (queries_passed texts (suc at) gs id (omega arith))
 
-pub slot_none : (k : ℕ) → slot_at [] k ≡ None
+pub slot_none : (k : ℕ) → ◌≡◌ {A = Option Progress} (slot_at [] k) None
 slot_none zero = refl
 slot_none (suc k) = refl
 

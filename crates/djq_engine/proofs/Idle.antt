@@ -5,7 +5,7 @@ use Rattle.std.specs.List.{list_any}
 use Rattle.std.proofs.lemmas.Bool.{eqb-true}
 use Rattle.std.proofs.lemmas.List.Sums.{sum_by-cons}
 use Rattle.djq_model.specs.Data.{Bytes}
-use Rattle.djq_live.specs.declared.cursors.Progress.{Progress}
+use Rattle.djq_live.specs.Cursors.{Progress}
 use Rattle.djq_live.specs.Cursors.{are_vacant, outdated_slots}
 use Rattle.djq_live.specs.Live.{Live}
 use Rattle.djq_reach.specs.Places.{place_at, is_reader}

@@ -4,7 +4,7 @@ use Rattle.std.specs.Prelude.{Option, None, Some, IsSomeAnd}
 use Rattle.djq_machine.specs.State.{Position, open_at, stale}
 use Rattle.djq_cursor.specs.Log.{Log}
 use Rattle.djq_rows.specs.Catalog.{Catalog}
-use Rattle.djq_live.specs.declared.cursors.Progress.{Progress}
+use Rattle.djq_live.specs.Cursors.{Progress}
 use Rattle.djq_live.specs.declared.listing.Next.{Next}
 use Rattle.djq_live.specs.declared.listing.Next.TheVariants.{Given, End, Stale as StaleNext}
 use Rattle.djq_live.specs.Cursors.{slot_at}

@@ -7,7 +7,7 @@ use Rattle.djq_model.specs.Listed.{a_query, listed_name}
 use Rattle.djq_machine.specs.Delta.{Change}
 use Rattle.djq_cursor.specs.declared.log.Line.{Line}
 use Rattle.djq_cursor.specs.Log.{Log}
-use Rattle.djq_live.specs.declared.cursors.Progress.{Progress}
+use Rattle.djq_live.specs.Cursors.{Progress}
 use Rattle.djq_live.specs.Cursors.{slot_at}
 use Rattle.djq_live.specs.Live.{Live, IsShowable}
 use Rattle.djq_live.specs.Member.{in_head, ShowableCellsStand}

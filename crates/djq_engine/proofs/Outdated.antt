@@ -14,8 +14,8 @@ use Rattle.djq_machine.specs.Stale.{reads, listed_reads, by_relation}
 use Rattle.djq_machine.specs.Batch.{first_read}
 use Rattle.djq_cursor.specs.Log.{Log}
 use Rattle.djq_rows.specs.Catalog.{relation_at}
-use Rattle.djq_live.specs.declared.cursors.Progress.{Progress}
-use Rattle.djq_live.specs.declared.cursors.Progress.TheVariants.{Open, Stale}
+use Rattle.djq_live.specs.Cursors.{Progress}
+use Rattle.djq_slots.specs.declared.progress.Progress.TheVariants.{Open, Stale}
 use Rattle.djq_live.specs.Cursors.{outdated_slots}
 use Rattle.djq_live.specs.Live.{Live}
 use Rattle.djq_live.specs.Updating.{IsEmpty}

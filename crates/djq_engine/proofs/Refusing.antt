@@ -30,7 +30,7 @@ use Rattle.djq_machine.specs.Store.{most_steps, LearnsAll, LearnsFirst, FindsNoP
 use Rattle.djq_machine.specs.Store.{is_member}
 use Rattle.djq_rows.specs.Catalog.{Catalog, IsCatalog}
 use Rattle.djq_rows.specs.Laws.{TextsStay}
-use Rattle.djq_live.specs.declared.cursors.Progress.{Progress}
+use Rattle.djq_live.specs.Cursors.{Progress}
 use Rattle.djq_live.specs.Cursors.{slot_at, are_vacant}
 use Rattle.djq_live.specs.Planning.{InternsConstants}
 use Rattle.djq_cursor.specs.Log.{Log}

@@ -10,7 +10,7 @@ use Rattle.djq_model.specs.Listed.{Listed, a_query}
 use Rattle.djq_machine.specs.State.{Store}
 use Rattle.djq_machine.specs.Stale.{reads}
 use Rattle.djq_rows.specs.Catalog.{Catalog, relation_at}
-use Rattle.djq_live.specs.declared.cursors.Progress.{Progress}
+use Rattle.djq_live.specs.Cursors.{Progress}
 use Rattle.djq_live.specs.Cursors.{slot_at, SetsSlot}
 use Rattle.djq_live.specs.Live.{Live, IsLive}
 use Rattle.djq_engine.specs.declared.cursor.CursorId.{CursorId}

@@ -15,7 +15,7 @@ use Rattle.djq_machine.specs.Conditions.{first_of}
 use Rattle.djq_machine.specs.Store.{TellsWhether, Tells, has_refusal, has_steps, answer_types}
 use Rattle.djq_machine.specs.Store.{listed_types, misfit, TellsShape, IsShapeOf}
 use Rattle.djq_rows.specs.Catalog.{Catalog}
-use Rattle.djq_live.specs.declared.cursors.Progress.{Progress}
+use Rattle.djq_live.specs.Cursors.{Progress}
 use Rattle.djq_live.specs.Cursors.{slot_at}
 use Rattle.djq_live.specs.Live.{Live, IsKeptSomewhere, position_of}
 use Rattle.djq_live.specs.Shown.{AnswersAreShown}

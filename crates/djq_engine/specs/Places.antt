@@ -6,7 +6,7 @@ use Rattle.djq_model.specs.Data.{Bytes, bytes_eq}
 use Rattle.djq_model.specs.Listed.{Listed, a_query}
 use Rattle.djq_machine.specs.State.{Store}
 use Rattle.djq_rows.specs.Catalog.{Catalog}
-use Rattle.djq_live.specs.declared.cursors.Progress.{Progress}
+use Rattle.djq_live.specs.Cursors.{Progress}
 use Rattle.djq_live.specs.Cursors.{slot_at}
 use Rattle.djq_live.specs.Live.{Live, position_of}
 use Rattle.djq_live.specs.Updating.{change_of}

@@ -12,7 +12,6 @@ use Rattle.std.proofs.Common.{
   List,
   [],
   ◌∷◌,
-  map,
   take,
   sum_by,
   refl,
@@ -24,15 +23,14 @@ use Rattle.std.proofs.Common.{
   inr,
   arith,
 }
-use Rattle.std.specs.Prelude.{◌&&◌, ◌||◌, not, cond, Some, slice_get, slice_index_or}
-use Rattle.std.proofs.lemmas.Bool.{cases_Bool, false≢true}
+use Rattle.std.specs.Prelude.{◌&&◌, ◌||◌, not, Some, slice_get, slice_index_or}
+use Rattle.std.proofs.lemmas.Bool.{cases_Bool, false≢true, and_right}
 use Rattle.std.proofs.lemmas.Option.{same_Some, none-some}
 use Rattle.std.proofs.lemmas.List.{take-take}
 use Rattle.std.proofs.lemmas.List.Sums.{sum_by-take-le}
 use Rattle.djq_live.specs.Live.{Live}
 use Rattle.djq_live.specs.Member.{has_cells}
-use Rattle.djq_gains.specs.Gathered.{Gain}
-use Rattle.djq_gains.specs.Gathering.{is_alone, is_told, line_of, lines_of}
+use Rattle.djq_gains.specs.Gathering.{is_alone}
 
 both : (b r : Bool) → b ≡ false → r ≡ true → (not b && r) ≡ true
 both true r e h = absurd (false≢true (sym e))
@@ -41,10 +39,6 @@ both false r e h = h
 first_fails : (b r : Bool) → b ≡ true → (not b && r) ≡ false
 first_fails true r e = refl
 first_fails false r e = absurd (false≢true e)
-
-later_fails : (b r : Bool) → r ≡ false → (b && r) ≡ false
-later_fails true r e = e
-later_fails false r e = refl
 
 -- each of these queries has the tuple in its delta, or doesn't have it
 abbrev pub Pass : List Live → List Bool → List ℕ → Type 0
@@ -70,13 +64,13 @@ alone_false (l ∷ ls) [] cells zero p is out has =
     first_fails (has_cells l cells) (is_alone ls [] cells)
     (ap (λ (q : Live). has_cells q cells) (same_Some l p is) ∙ has)
 alone_false (l ∷ ls) [] cells (suc m) p is out has =
-    later_fails (not (has_cells l cells)) (is_alone ls [] cells) (alone_false ls [] cells m p is refl has)
+    and_right (not (has_cells l cells)) (is_alone ls [] cells) (alone_false ls [] cells m p is refl has)
 alone_false (l ∷ ls) (true ∷ by) cells zero p is out has = absurd (false≢true (sym out))
 alone_false (l ∷ ls) (false ∷ by) cells zero p is out has =
     first_fails (has_cells l cells) (is_alone ls by cells)
     (ap (λ (q : Live). has_cells q cells) (same_Some l p is) ∙ has)
 alone_false (l ∷ ls) (b ∷ by) cells (suc m) p is out has =
-    later_fails (b || not (has_cells l cells)) (is_alone ls by cells)
+    and_right (b || not (has_cells l cells)) (is_alone ls by cells)
     (alone_false ls by cells m p is out has)
 
 pub alone_back : (ls : List Live) (by : List Bool) (cells : List ℕ) → is_alone ls by cells ≡ true
@@ -85,17 +79,6 @@ alone_back ls by cells alone m p is out = elim (cases_Bool (has_cells p cells)) 
   | inl has ↦ absurd (false≢true (sym (alone_false ls by cells m p is out has) ∙ alone))
   | inr hasnt ↦ hasnt
 ]
-
--- the lines for one tuple
-pub told_yes : (came : Bool) (ls : List Live) (first : Live) (g : Gain) → is_told ls g ≡ true
-    → lines_of came ls first (g ∷ []) ≡ line_of came first g ∷ []
-told_yes came ls first g told =
-    ap (λ (b : Bool). map (line_of came first) (cond b (g ∷ []) [])) told
-
-pub told_no : (came : Bool) (ls : List Live) (first : Live) (g : Gain) → is_told ls g ≡ false
-    → lines_of came ls first (g ∷ []) ≡ []
-told_no came ls first g told =
-    ap (λ (b : Bool). map (line_of came first) (cond b (g ∷ []) [])) told
 
 -- a sum over one more is no less
 pub take_more_le : {A : Type 0} (f : A → ℕ) (xs : List A) (n : ℕ)

@@ -31,9 +31,10 @@ use Rattle.std.proofs.lemmas.List.Elements.{Contains-append_left, Contains-appen
 use Rattle.std.proofs.lemmas.List.Sums.{sum_by-cons, sum_by-append}
 use Rattle.std.proofs.lemmas.List.Kept.{AllPairs-filter}
 use Rattle.djq_engine.specs.Kept.{Kept}
+use Rattle.djq_union.proofs.Lists.{head_or_tail}
 use Rattle.djq_gains.specs.Gains.{count_in}
 use Rattle.djq_gains.specs.Gathering.{is_among, count_of}
-use Rattle.djq_gains.proofs.Lists.{first_or_later, kept_from}
+use Rattle.djq_gains.proofs.Lists.{kept_from}
 
 -- a place is among those that are there
 pub among_there : (places : List ℕ) (i : ℕ) → is_among places i ≡ true → Contains places i
@@ -51,7 +52,7 @@ among_there (j ∷ places) i h = step (j == i) refl h (λ rest. among_there plac
 pub there_among : (places : List ℕ) (i : ℕ) → Contains places i → is_among places i ≡ true
 there_among [] i there = absurd (let low = there.1 in omega arith)
 there_among (j ∷ places) i there =
-    step (first_or_later j places i there) (λ later. there_among places i later)
+    step (head_or_tail j places i there) (λ later. there_among places i later)
   where
     either : (b r : Bool) → (b ≡ true) ⊎ (r ≡ true) → (b || r) ≡ true
     either true r h = refl
@@ -71,7 +72,7 @@ record Split (xs : List ℕ) (x : ℕ) : Type 0 where
 
 split : (xs : List ℕ) (x : ℕ) → Contains xs x → Split xs x
 split [] x there = absurd (let low = there.1 in omega arith)
-split (y ∷ xs) x there = step (first_or_later y xs x there) (λ later. split xs x later)
+split (y ∷ xs) x there = step (head_or_tail y xs x there) (λ later. split xs x later)
   where
     step : (y ≡ x) ⊎ Contains xs x → (Contains xs x → Split xs x) → Split (y ∷ xs) x
     step (inl same) more = record { front = []; back = xs; is = ap (λ (z : ℕ). z ∷ xs) same }
@@ -84,7 +85,7 @@ beside : (front : List ℕ) (x : ℕ) (back : List ℕ) (i : ℕ) → Contains (
     → Contains (front ++ back) i
 beside front x back i there other = elim (Contains-append_cases front (x ∷ back) i there) [
   | inl before ↦ Contains-append_left front back i before
-  | inr behind ↦ elim (first_or_later x back i behind) [
+  | inr behind ↦ elim (head_or_tail x back i behind) [
     | inl same ↦ absurd (other same)
     | inr later ↦ Contains-append_right front back i later
   ]

@@ -57,18 +57,20 @@ use Rattle.djq_lines.specs.declared.answer.Sign.{Sign}
 use Rattle.djq_lines.specs.declared.answer.Sign.TheVariants.{Came, Went}
 use Rattle.djq_machine.specs.Delta.{Change, HasChanged, IsDelta}
 use Rattle.djq_machine.specs.Store.{atoms_of}
+use Rattle.djq_union.proofs.Lists.{head_or_tail, all_of}
 use Rattle.djq_rows.specs.Cells.{cells_of, StandFor}
 use Rattle.djq_live.specs.Live.{Live, IsShowable}
 use Rattle.djq_live.specs.Member.{has_cells, head_types, in_tree, query_at, queries_at}
 use Rattle.djq_live.specs.Updating.{change_of}
 use Rattle.djq_live.proofs.AtPlaces.{as_many}
+use Rattle.djq_live.proofs.Listings.{in_image, image_of}
 use Rattle.djq_engine.specs.Lending.{sign_of}
 use Rattle.djq_engine.specs.Kept.{Kept}
 use Rattle.djq_gains.specs.Told.{GoOneWay, StandsIn, IsTold, AreTold}
 use Rattle.djq_gains.specs.Gains.{HaveChanged, TellUnion, members_at, told_in}
 use Rattle.djq_gains.specs.Gathered.{Gain, Stand, AreApart, is_by}
 use Rattle.djq_gains.specs.Gathering.{is_among, is_told, line_of, lines_of, asks_of}
-use Rattle.djq_gains.proofs.Lists.{image_of, mapped, hold_each, first_or_later, kept_from}
+use Rattle.djq_gains.proofs.Lists.{kept_from}
 use Rattle.djq_gains.proofs.Among.{among_there, there_among}
 use Rattle.djq_gains.proofs.Taking.{some_at}
 use Rattle.djq_gains.proofs.Members.{got, and_so}
@@ -157,7 +159,7 @@ is_what_is_told k members touched gains first s g there told = record {
       some (λ i. StandsIn (delta_at k touched i) v) members f.place (got members w.m f.place f.member)
       (subst (StandsIn (delta_at k touched f.place)) (sym w.is)
       (stands_for k touched f.place f.change f.among f.there));
-  alone = hold_each (λ i. (StandsIn (delta_at k touched i) v → ⊥) → AnswerAt k now i v → ⊥) members each;
+  alone = all_of (λ i. (StandsIn (delta_at k touched i) v → ⊥) → AnswerAt k now i v → ⊥) members each;
 }
   where
     ls : List Live
@@ -183,7 +185,7 @@ is_what_is_told k members touched gains first s g there told = record {
 
         stand : StandFor (k.store).texts (head_types a.live) g.cells v
         stand = subst (λ ts. StandFor (k.store).texts ts g.cells v)
-            (s.alike first a.live (got ls 0 first s.is_first) (got ls at.0 a.live a.nth)) w.cells
+            (s.alike.each first a.live (got ls 0 first s.is_first) (got ls at.0 a.live a.nth)) w.cells
 
         by : (b : Bool) → is_by g at.0 ≡ b → ⊥
         by true marked =
@@ -213,7 +215,7 @@ kept_there : {A : Type 0} (p : A → Bool) (xs : List A) (x : A) → p x ≡ tru
     → Contains (filter p xs) x
 kept_there p [] x passes there = absurd (let low = there.1 in omega arith)
 kept_there {A = A} p (y ∷ xs) x passes there =
-    step (p y) refl (first_or_later y xs x there) (λ later. kept_there p xs x passes later)
+    step (p y) refl (head_or_tail y xs x there) (λ later. kept_there p xs x passes later)
   where
     step : (b : Bool) → p y ≡ b → (y ≡ x) ⊎ Contains xs x
         → (Contains xs x → Contains (filter p xs) x)
@@ -292,7 +294,7 @@ is_listed k members touched gains first s t told = record {
 
         stands : StandFor texts (head_types p) g.cells t
         stands = subst (λ ts. StandFor texts ts g.cells t)
-            (s.alike first p (got ls 0 first s.is_first) (got ls n p at)) stand
+            (s.alike.each first p (got ls 0 first s.is_first) (got ls n p at)) stand
 
         by : (b : Bool) → has_cells p g.cells ≡ b → has_cells p g.cells ≡ false
         by false e = e
@@ -318,15 +320,15 @@ are_told k members touched gains first came s = record {
       (values_differ k members touched gains first s);
   signed = All-map (λ c. c.sign ≡ sign_of came) (change_for k came first) told (λ n d low. refl);
   told = All-map (λ c. IsTold After (delta_at k touched) members c.answer) (change_for k came first) told
-      (hold_each (λ g. IsTold After (delta_at k touched) members (value k first g)) told
+      (all_of (λ g. IsTold After (delta_at k touched) members (value k first g)) told
       (λ g there.
       let h = kept_from (is_told ls) gains g there in
       is_what_is_told k members touched gains first s g h.1 h.0));
   complete = λ t is.
       let l = is_listed k members touched gains first s t is in
       subst (StandsIn (map (change_for k came first) told)) l.is
-      (mapped (λ (c : Change). c.answer) (map (change_for k came first) told)
-      (change_for k came first l.gain) (mapped (change_for k came first) told l.gain l.there));
+      (in_image (λ (c : Change). c.answer) (map (change_for k came first) told)
+      (change_for k came first l.gain) (in_image (change_for k came first) told l.gain l.there));
 }
   where
     ls : List Live
@@ -401,13 +403,13 @@ of_some k members touched gains first s relations t = (to, from)
         let a = at_place k members h.0 h.1 s.have (nth_of members h.1 h.0 h.2 h.3) in
         let is = some_at (query_at k.places h.1) (λ l. IsAnswer relations l.query t) a.live a.at h.4 in
         some (λ q. IsAnswer relations q t) (members_at k members) (a.live).query
-        (mapped (λ (l : Live). l.query) ls a.live (got ls h.0 a.live a.nth)) is
+        (in_image (λ (l : Live). l.query) ls a.live (got ls h.0 a.live a.nth)) is
 
     from : Any (λ q. IsAnswer relations q t) (members_at k members) → Any (λ i. AnswerAt k relations i t) members
     from h =
         let image = image_of (λ (l : Live). l.query) ls h.1 (h.0, h.2, h.3) in
         let n = image.there.0 in
-        let l = image.from in
+        let l = image.of in
         let many = as_many k.places members s.have.each in
         let under = image.there.1 in
         let low : n < length members = omega arith in
@@ -417,7 +419,7 @@ of_some k members touched gains first s relations t = (to, from)
         let at = a.at ∙ sym a.nth ∙ nth_live ls n l under image.there.2 in
         some (λ i. AnswerAt k relations i t) members place (got members n place member)
         (and_so (query_at k.places place) (λ (m : Live). IsAnswer relations m.query t) l at
-        (subst (λ (q : Query). IsAnswer relations q t) (sym image.is) h.4))
+        (subst (λ (q : Query). IsAnswer relations q t) image.is h.4))
       where
         nth_live : (xs : List Live) (n : ℕ) (x : Live) → n < length xs → slice_index_or xs n x ≡ x
             → slice_get xs n ≡ Some x
@@ -463,7 +465,7 @@ tells_union k members touched gains first came s = record {
       (are_told k members touched gains first came s)));
   shown = All-map (λ line. IsShowable (k.store).texts first line.answer) (line_of came first)
       (told_of k members gains)
-      (hold_each (λ g. IsShowable (k.store).texts first (in_tree first g.cells)) (told_of k members gains)
+      (all_of (λ g. IsShowable (k.store).texts first (in_tree first g.cells)) (told_of k members gains)
       (λ g there.
       ((known k members touched gains first s g (kept_from (is_told ls) gains g there).1).shows).showable));
 }

@@ -26,7 +26,7 @@ use Rattle.std.proofs.Common.{
   arith,
   add-one,
 }
-use Rattle.std.specs.Prelude.{Option, None, Some}
+use Rattle.std.specs.Prelude.{Option, Some}
 use Rattle.std.proofs.lemmas.Bool.{false≢true}
 use Rattle.std.proofs.lemmas.List.{map-append, take_all}
 use Rattle.std.proofs.lemmas.List.Elements.{filter-append}
@@ -42,11 +42,6 @@ pub record Telling (came : Bool) (ls : List Live) (gains : List Gain) (next : Op
   pub at : next ≡ first_of (slots_in (drop j gains))
   pub room : j ≤ length gains
   pub told : lost ≡ false → IsFirst ls (λ l. lines ≡ lines_of came ls l (take j gains))
-
-pub telling : (came : Bool) (ls : List Live) (gains : List Gain) (at : Option ℕ) (lines : List Line)
-    (lost : Bool) → at ≡ first_of (slots_in gains) → lines ≡ [] → Telling came ls gains at 0 lines lost
-telling came ls gains at lines lost is none =
-    record { at = is; room = omega arith; told = λ kept l first. none }
 
 -- the tuples, cut at the next
 pub record Cut (gains : List Gain) (j slot : ℕ) : Type 0 where
@@ -75,13 +70,6 @@ pub cut_at : (gains : List Gain) (j slot : ℕ) → first_of (slots_in (drop j g
 cut_at gains j slot is =
     let c = cut_suc gains j slot is in
     record { gain = c.0; slot_is = c.1; is = rw add-one c.2; takes = rw add-one c.3; within = c.4 }
-
-pub none_left : (gains : List Gain) (j : ℕ) → j ≤ length gains → first_of (slots_in (drop j gains)) ≡ None
-    → length gains ≤ j
-none_left [] j low is = omega arith
-none_left (g ∷ gains) zero low is = absurd (cc)
-none_left (g ∷ gains) (suc j) low is =
-    let h = none_left gains j (omega arith) is in omega arith
 
 pub lies_at : (gains : List Gain) (j slot : ℕ) → Cut gains j slot → IsIn gains slot
 lies_at gains j slot c =
@@ -121,9 +109,3 @@ pub tells_all : (came : Bool) (ls : List Live) (gains : List Gain) (at : Option 
     → lost ≡ false → IsFirst ls (λ l. lines ≡ lines_of came ls l gains)
 tells_all came ls gains at j lines lost all last kept l first =
     all.told kept l first ∙ ap (lines_of came ls l) (take_all j gains last)
-
--- the tuples are told as far as the next, which isn't there
-pub tells_none : (came : Bool) (ls : List Live) (gains : List Gain) (at : Option ℕ) (j : ℕ)
-    (lines : List Line) (lost : Bool) → Telling came ls gains at j lines lost → at ≡ None
-    → length gains ≤ j
-tells_none came ls gains at j lines lost all none = none_left gains j all.room (sym all.at ∙ none)

@@ -42,15 +42,16 @@ use Rattle.djq_live.specs.Member.{
   AnswersAreHad,
   CellsTellValues,
   IsShownInTree,
+  AreAlike,
 }
 use Rattle.djq_live.proofs.AtPlaces.{as_many}
+use Rattle.djq_live.proofs.Listings.{in_image, image_of}
 use Rattle.djq_engine.specs.Kept.{Kept, IsOver, CellsAre}
 use Rattle.djq_engine.specs.Kept.{AreTold as AreShown}
 use Rattle.djq_gains.specs.Told.{StandsIn}
-use Rattle.djq_gains.specs.Gains.{AreAlike, told_in, changes_in}
+use Rattle.djq_gains.specs.Gains.{told_in, changes_in}
 use Rattle.djq_gains.specs.Gathered.{Gain, Stand, AreApart, StandSomewhere, cells_in}
 use Rattle.djq_gains.specs.Gathering.{is_among, cells_told, Gathers}
-use Rattle.djq_gains.proofs.Lists.{image_of, mapped}
 use Rattle.djq_gains.proofs.Taking.{some_at}
 use Rattle.djq_gains.proofs.Members.{member_at, got}
 
@@ -160,7 +161,7 @@ alike_stand k members touched gains first s m place is c there =
     let a = at_place k members m place s.have is in
     let ls = queries_at k.places members in
     subst (λ (ts : List ColumnType). StandFor (k.store).texts ts (cells_of (k.store).texts c.answer) c.answer)
-    (s.alike a.live first (got ls m a.live a.nth) (got ls 0 first s.is_first))
+    (s.alike.each a.live first (got ls m a.live a.nth) (got ls 0 first s.is_first))
     (told_stands k place a.live c s.shown a.at there)
 
 pub is_for : (k : Kept) (members touched : List ℕ) (gains : List Gain) (first : Live)
@@ -174,10 +175,10 @@ is_for k members touched gains first s m u stand =
       place = o.place;
       member = o.member;
       among = o.touched_it;
-      change = i.from;
+      change = i.of;
       there = i.there;
-      stand = subst (λ (cells : List ℕ). StandFor texts (head_types first) cells (i.from).answer) i.is
-          (alike_stand k members touched gains first s m o.place o.member i.from i.there);
+      stand = subst (λ (cells : List ℕ). StandFor texts (head_types first) cells (i.of).answer) (sym i.is)
+          (alike_stand k members touched gains first s m o.place o.member i.of i.there);
     }
 
 -- what a member's delta is
@@ -196,7 +197,7 @@ pub stands_for : (k : Kept) (touched : List ℕ) (i : ℕ) (c : Change) → is_a
     → Contains (changes_in k i) c → StandsIn (delta_at k touched i) c.answer
 stands_for k touched i c among there =
     subst (λ (cs : List Change). StandsIn cs c.answer) (sym (delta_yes k touched i among))
-    (mapped (λ (d : Change). d.answer) (changes_in k i) c there)
+    (in_image (λ (d : Change). d.answer) (changes_in k i) c there)
 
 -- what stands in a member's delta is gathered
 pub record IsGathered (k : Kept) (gains : List Gain) (first : Live) (m : ℕ) (t : Tuple) : Type 0 where
@@ -225,11 +226,11 @@ is_gathered k members touched gains first s m i t is stands = by (is_among touch
             place = i;
             member = is;
             touched_it = among;
-            told = subst (λ (v : Tuple). Contains (cells_told k i) (cells_of texts v)) image.is
-                (mapped (λ (d : Change). cells_of texts d.answer) (changes_in k i) image.from image.there);
+            told = subst (λ (v : Tuple). Contains (cells_told k i) (cells_of texts v)) (sym image.is)
+                (in_image (λ (d : Change). cells_of texts d.answer) (changes_in k i) image.of image.there);
           });
-          cells = subst (λ (v : Tuple). StandFor texts (head_types first) (cells_of texts v) v) image.is
-              (alike_stand k members touched gains first s m i is image.from image.there);
+          cells = subst (λ (v : Tuple). StandFor texts (head_types first) (cells_of texts v) v) (sym image.is)
+              (alike_stand k members touched gains first s m i is image.of image.there);
         }
 
 -- equal cells are of one tuple

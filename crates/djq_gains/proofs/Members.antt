@@ -6,10 +6,17 @@ use Rattle.std.proofs.lemmas.List.{length-map}
 use Rattle.djq_machine.specs.Store.{variable_type}
 use Rattle.djq_rows.specs.Catalog.{Catalog}
 use Rattle.djq_live.specs.Live.{Live, IsKept, IsKeptSomewhere}
-use Rattle.djq_live.specs.Member.{head_types, query_at, queries_at, HaveQueries, HeadTypesAre}
+use Rattle.djq_live.specs.Member.{
+  head_types,
+  query_at,
+  queries_at,
+  HaveQueries,
+  HeadTypesAre,
+  AreAlike,
+}
 use Rattle.djq_live.proofs.AtPlaces.{nth_is, nth_has, are_kept}
 use Rattle.djq_engine.specs.Kept.{Kept, IsOver}
-use Rattle.djq_gains.specs.Gains.{AreAlike, AtFirst}
+use Rattle.djq_gains.specs.Gains.{AtFirst}
 use Rattle.djq_gains.proofs.Taking.{some_with}
 
 pub and_so : {A : Type 0} (o : Option A) (P : A → Type 0) (a : A) → o ≡ Some a → P a → IsSomeAnd o P
@@ -59,7 +66,7 @@ wide_member k members n width types over have alike wide low =
     let f = first.live in
     let is = subst (λ (o : Option Live). IsSomeAnd o (λ q. width ≡ length q.query.head)) first.nth wide in
     and_so (query_at k.places (slice_index_or members n 0)) (λ q. length (head_types q) ≡ width) l m.at
-    (ap (λ ts. length ts) (alike l f (got (queries_at k.places members) n l m.nth)
+    (ap (λ ts. length ts) (alike.each l f (got (queries_at k.places members) n l m.nth)
     (got (queries_at k.places members) 0 f first.nth))
     ∙ head_long over.catalog f types (over.live (slice_index_or members 0 0) f first.at).kept
     ∙ sym is)

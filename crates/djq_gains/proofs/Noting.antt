@@ -39,6 +39,8 @@ use Rattle.djq_arena.specs.Chains.{IsOut, AreDifferent, AreBelow}
 use Rattle.djq_arena.specs.Rows.{Row, Rows, AreRows, AreWide, IsAbsent, IsRow, IsHeld, slots}
 use Rattle.djq_arena.proofs.Lists.{different_here, out_front, out_back, below_here}
 use Rattle.djq_arena.proofs.RowLemmas.{slots-append}
+use Rattle.djq_union.proofs.Lists.{head_or_tail}
+use Rattle.djq_live.proofs.Listings.{in_image, image_of}
 use Rattle.djq_gains.specs.Gathered.{
   Gain,
   Stand,
@@ -56,7 +58,7 @@ use Rattle.djq_gains.specs.Gathered.{
   marked_in,
   Seats,
 }
-use Rattle.djq_gains.proofs.Lists.{image_of, mapped, middle, first_or_later}
+use Rattle.djq_gains.proofs.Lists.{middle}
 
 -- a mark more
 marked_row : (marks : List (List Bool)) (slot nth : ℕ) (r : Row) → slot < length marks
@@ -150,7 +152,7 @@ only_row front r back different q there at =
     elim (Contains-append_cases front (r ∷ back) q there) [
       | inl before ↦ absurd (out_of r.slot front q
           (out_front r.slot (slots front) (slots back) out) before at)
-      | inr behind ↦ elim (first_or_later r back q behind) [
+      | inr behind ↦ elim (head_or_tail r back q behind) [
         | inl here ↦ ap (λ (x : Row). x.cells) (sym here)
         | inr later ↦ absurd (out_of r.slot back q
             (out_back r.slot (slots front) (slots back) out) later at)
@@ -166,10 +168,10 @@ pub only_gain : (marks : List (List Bool)) (rows : List Row) (slot : ℕ) (cells
 only_gain marks rows slot cells different row g there at =
     let from = image_of (gain_of marks) rows g there in
     let d = subst (λ (rs : List Row). AreDifferent (slots rs)) row.is different in
-    let t = subst (λ (rs : List Row). Contains rs from.from) row.is from.there in
-    ap (λ (x : Gain). x.cells) (sym from.is)
-    ∙ only_row row.front (record { slot = slot; cells = cells }) row.back d from.from t
-    (ap (λ (x : Gain). x.slot) from.is ∙ at)
+    let t = subst (λ (rs : List Row). Contains rs from.of) row.is from.there in
+    ap (λ (x : Gain). x.cells) from.is
+    ∙ only_row row.front (record { slot = slot; cells = cells }) row.back d from.of t
+    (ap (λ (x : Gain). x.slot) (sym from.is) ∙ at)
 
 -- this tuple lies in a slot, with these marks
 abbrev pub Lies : List Gain → ℕ → List ℕ → List Bool → Type 0
@@ -179,7 +181,7 @@ pub lies_there : (marks : List (List Bool)) (rows : List Row) (slot : ℕ) (cell
     → IsRow rows slot cells → Lies (gains_in marks rows) slot cells (marks_at marks slot)
 lies_there marks rows slot cells row =
     let r : Row = record { slot = slot; cells = cells } in
-    mapped (gain_of marks) rows r
+    in_image (gain_of marks) rows r
     (subst (λ (rs : List Row). Contains rs r) (sym row.is) (middle row.front r row.back))
 
 pub row_below : (rows : List Row) (slot : ℕ) (cells : List ℕ) (room : ℕ)
@@ -252,17 +254,17 @@ marked_stand gains slot nth cells by only lies low k t = (to, from)
     to : Stand (marked_in slot nth gains) k t → Stand gains k t ⊎ ((k ≡ nth) × (t ≡ cells))
     to s =
         let i = image_of (with_mark slot nth) gains s.gain s.there in
-        let cells_are = sym (mark_keeps_cells slot nth i.from)
-        ∙ ap (λ (g : Gain). g.cells) i.is ∙ s.is in
-        elim (mark_back slot nth i.from k (ap (λ (g : Gain). is_by g k) i.is ∙ s.marked)) [
-          | inl had ↦ inl (record { gain = i.from; there = i.there; is = cells_are; marked = had })
-          | inr new ↦ inr (new.0, sym cells_are ∙ only i.from i.there new.1)
+        let cells_are = sym (mark_keeps_cells slot nth i.of)
+        ∙ ap (λ (g : Gain). g.cells) (sym i.is) ∙ s.is in
+        elim (mark_back slot nth i.of k (ap (λ (g : Gain). is_by g k) (sym i.is) ∙ s.marked)) [
+          | inl had ↦ inl (record { gain = i.of; there = i.there; is = cells_are; marked = had })
+          | inr new ↦ inr (new.0, sym cells_are ∙ only i.of i.there new.1)
         ]
 
     at : Stand gains k t → Stand (marked_in slot nth gains) k t
     at s = record {
       gain = with_mark slot nth s.gain;
-      there = mapped (with_mark slot nth) gains s.gain s.there;
+      there = in_image (with_mark slot nth) gains s.gain s.there;
       is = mark_keeps_cells slot nth s.gain ∙ s.is;
       marked = mark_keeps slot nth s.gain k s.marked;
     }
@@ -272,7 +274,7 @@ marked_stand gains slot nth cells by only lies low k t = (to, from)
         let g : Gain = record { slot = slot; cells = cells; by = by } in
         record {
           gain = with_mark slot nth g;
-          there = mapped (with_mark slot nth) gains g lies;
+          there = in_image (with_mark slot nth) gains g lies;
           is = mark_keeps_cells slot nth g ∙ sym is;
           marked = ap (λ (j : ℕ). is_by (with_mark slot nth g) j) same ∙ mark_gives slot nth g refl low;
         }
@@ -296,8 +298,8 @@ pub marked_some : (slot nth : ℕ) (gains : List Gain)
     → StandSomewhere (marked_in slot nth gains)
 marked_some slot nth gains each g there =
     let i = image_of (with_mark slot nth) gains g there in
-    let place = by_or i.from (each i.from i.there) in
-    (place.0, ap (λ (x : Gain). is_by x place.0) (sym i.is) ∙ place.1)
+    let place = by_or i.of (each i.of i.there) in
+    (place.0, ap (λ (x : Gain). is_by x place.0) i.is ∙ place.1)
   where
     by_or : (h : Gain) → ((k : ℕ) × (is_by h k ≡ true)) ⊎ ((h.slot ≡ slot) × (nth < length h.by))
         → (k : ℕ) × (is_by (with_mark slot nth h) k ≡ true)
@@ -399,7 +401,7 @@ noted before now old rows slot nth cells different row low apart some (inr laid)
         marks_are : (h : Gain) → Contains (gains_in now rows) h → h.slot ≡ slot → marks_at now slot ≡ h.by
         marks_are h at is =
             let i = image_of (gain_of now) rows h at in
-            ap (marks_at now) (sym (ap (λ (x : Gain). x.slot) i.is ∙ is)) ∙ ap (λ (x : Gain). x.by) i.is
+            ap (marks_at now) (sym (ap (λ (x : Gain). x.slot) (sym i.is) ∙ is)) ∙ ap (λ (x : Gain). x.by) (sym i.is)
 
 -- where the tuples are cut, the rows are
 pub record RowCut (marks : List (List Bool)) (rows : List Row) (g : Gain) (back : List Gain) : Type 0
@@ -460,5 +462,5 @@ pub wide_gain : (width : ℕ) (marks : List (List Bool)) (rows : List Row) → A
     → (g : Gain) → Contains (gains_in marks rows) g → length g.cells ≡ width
 wide_gain width marks rows wide g there =
     let i = image_of (gain_of marks) rows g there in
-    ap (λ (x : Gain). length x.cells) (sym i.is)
-    ∙ wide_at width rows i.from i.there.0 wide i.there.1 i.there.2
+    ap (λ (x : Gain). length x.cells) i.is
+    ∙ wide_at width rows i.of i.there.0 wide i.there.1 i.there.2

@@ -4,9 +4,6 @@ use Rattle.std.proofs.Common.{
   ℕ,
   ◌+◌,
   ◌<◌,
-  Bool,
-  true,
-  false,
   List,
   [],
   ◌∷◌,
@@ -26,8 +23,6 @@ use Rattle.std.proofs.Common.{
 use Rattle.std.specs.Prelude.{
   ◌↔◌,
   ◌⊎◌,
-  ◌&&◌,
-  suc,
   Option,
   None,
   Some,
@@ -39,18 +34,17 @@ use Rattle.std.specs.Prelude.{
   slice_index_or,
   slice_get,
 }
-use Rattle.std.proofs.lemmas.Bool.{false≢true}
 use Rattle.std.proofs.lemmas.Option.{slice_get-get_or, same_Some, none-some}
 use Rattle.std.proofs.lemmas.List.{length-map, get_or-map, take_more}
 use Rattle.std.proofs.lemmas.List.Elements.{Contains-append_left, Contains-push, Contains-push_cases}
 use Rattle.djq_model.specs.declared.relation.ColumnType.{ColumnType}
 use Rattle.djq_model.specs.Data.{Bytes, Tuple}
-use Rattle.djq_model.specs.Typed.{is_of, fits}
 use Rattle.djq_lines.specs.declared.answer.Sign.{Sign}
 use Rattle.djq_lines.specs.declared.answer.Sign.TheVariants.{Came}
 use Rattle.djq_machine.specs.Delta.{Change}
 use Rattle.djq_rows.specs.Cells.{cell_of, cells_of, StandFor}
 use Rattle.djq_live.specs.Member.{head_types, query_at}
+use Rattle.djq_live.proofs.Rowing.{fits_long}
 use Rattle.djq_engine.specs.Kept.{Kept, TellsCells, CellsAre}
 use Rattle.djq_gains.specs.Gains.{told_in, changes_in, count_in}
 use Rattle.djq_gains.specs.Gathered.{Gain, Stand}
@@ -83,17 +77,6 @@ pub counted : (told : Option (List Change)) (n : ℕ) → Some n ≡ option_map 
     → AreCounted told n
 counted None n h = absurd (none-some n (sym h))
 counted (Some changes) n h = record { changes = changes; is = refl; long = same_Some n (length changes) h }
-
--- as many cells as types
-all_true : (b r : Bool) → (b && r) ≡ true → r ≡ true
-all_true true r h = h
-all_true false r h = absurd (false≢true h)
-
-pub fits_long : (types : List ColumnType) (t : Tuple) → fits types t ≡ true → length t ≡ length types
-fits_long [] [] h = refl
-fits_long [] (v ∷ t) h = absurd (false≢true h)
-fits_long (c ∷ types) [] h = absurd (false≢true h)
-fits_long (c ∷ types) (v ∷ t) h = ap suc (fits_long types t (all_true (is_of c v) (fits types t) h))
 
 pub stand_long : (texts : List Bytes) (types : List ColumnType) (cells : List ℕ) (t : Tuple)
     → StandFor texts types cells t → length cells ≡ length types

@@ -25,13 +25,9 @@ use Rattle.djq_machine.specs.Delta.{Change, IsDelta}
 use Rattle.djq_cursor.specs.declared.log.Line.{Line}
 use Rattle.djq_live.specs.Live.{Live, IsShowable}
 use Rattle.djq_live.specs.Updating.{change_of}
-use Rattle.djq_live.specs.Member.{head_types, query_at, queries_at}
+use Rattle.djq_live.specs.Member.{query_at, queries_at}
 use Rattle.djq_engine.specs.Kept.{Kept, told_at}
 use Rattle.djq_gains.specs.Told.{GoOneWay}
-
--- The answers of these queries have the same types.
-abbrev pub AreAlike : List Live → Type 0
-AreAlike ls = (l m : Live) → Contains ls l → Contains ls m → head_types l ≡ head_types m
 
 -- the queries of the members in these places, in this order
 abbrev pub members_at : Kept → List ℕ → List Query

@@ -14,8 +14,8 @@ ghost use Rattle.std.specs.Prelude.{
   length,
   slice_get,
 };
-ghost use Rattle.djq_live.specs.Member.{head_types, query_at, queries_at, HaveQueries};
-ghost use Rattle.djq_gains.specs.Gains.{AreAlike, AtFirst, told_in, count_in};
+ghost use Rattle.djq_live.specs.Member.{head_types, query_at, queries_at, HaveQueries, AreAlike};
+ghost use Rattle.djq_gains.specs.Gains.{AtFirst, told_in, count_in};
 ghost use Rattle.djq_gains.specs.Gathered.{Stand};
 ghost use Rattle.djq_gains.specs.Gathering.{cells_told, is_among, Gathers};
 

@@ -19,8 +19,8 @@ ghost use Rattle.std.specs.Prelude.{
 };
 ghost use Rattle.djq_machine.specs.Store.{atoms_of};
 ghost use Rattle.djq_live.specs.Live.{IsKeptSomewhere};
-ghost use Rattle.djq_live.specs.Member.{queries_at, HaveQueries};
-ghost use Rattle.djq_gains.specs.Gains.{AreAlike, AtFirst, TellUnion, members_at, told_in, count_in};
+ghost use Rattle.djq_live.specs.Member.{queries_at, HaveQueries, AreAlike};
+ghost use Rattle.djq_gains.specs.Gains.{AtFirst, TellUnion, members_at, told_in, count_in};
 ghost use Rattle.djq_gains.specs.Gathered.{IsIn, AtSlot};
 ghost use Rattle.djq_gains.specs.Gathering.{is_told, lines_of, asks_of, IsFirst};
 

@@ -19,14 +19,11 @@ use Rattle.std.proofs.Common.{
   sym,
   subst,
   ◌∙◌,
-  inl,
-  inr,
   arith,
   length-append,
 }
 use Rattle.std.specs.Prelude.{
   Option,
-  None,
   Some,
   IsSomeAnd,
   Result,
@@ -38,36 +35,32 @@ use Rattle.std.specs.Prelude.{
   slice_index_or,
   All,
 }
-use Rattle.std.proofs.lemmas.Bool.{cases_eq, cases_lt}
 use Rattle.std.proofs.lemmas.List.{
   get_or-map,
   length-map,
   map-append,
   get_or_append_left,
-  get_or_past,
-  get_or-set_same,
-  get_or-set_other,
-  set-get_or,
-  length-set,
 }
-use Rattle.std.proofs.lemmas.Option.{same_Some}
+use Rattle.std.proofs.lemmas.List.Elements.{All-contains}
 use Rattle.djq_model.specs.Data.{Bytes, Tuple}
 use Rattle.djq_model.specs.Answer.{IsAnswer}
 use Rattle.djq_model.specs.declared.memory.NoMem.{NoMem}
 use Rattle.djq_machine.specs.State.{Position, open_at}
 use Rattle.djq_machine.specs.Store.{IsLeft, AreAll}
+use Rattle.djq_reduct.specs.Reducts.{Reducts}
 use Rattle.djq_reduct.specs.Answers.{IsAnswerOf}
 use Rattle.djq_cursor.specs.declared.cursor.Cursor.{Cursor}
 use Rattle.djq_cursor.specs.Listing.{AreSome, IsLeft as IsTupleLeft, IsListing}
-use Rattle.djq_cursor.specs.Given.{given}
+use Rattle.djq_cursor.specs.Given.{given, Fits}
 use Rattle.djq_rows.specs.Catalog.{Catalog}
-use Rattle.djq_live.specs.declared.cursors.Progress.{Progress}
-use Rattle.djq_live.specs.declared.cursors.Progress.TheVariants.{Open, Stale}
+use Rattle.djq_slots.specs.Slots.{EachIs}
+use Rattle.djq_slots.proofs.Slots.{put_each, put_same, open_each, stale_each}
+use Rattle.djq_slots.specs.declared.progress.Progress.TheVariants.{Open, Stale}
 use Rattle.djq_live.specs.declared.listing.Next.{Next}
 use Rattle.djq_live.specs.declared.listing.Next.TheVariants.{Given, End, Stale as IsStale}
-use Rattle.djq_live.specs.Cursors.{slot_at, OpensSlot}
+use Rattle.djq_live.specs.Cursors.{Progress, slot_at, OpensSlot, outdated_slots}
 use Rattle.djq_live.specs.Live.{Live, IsKept, IsLive, FitsIn, values_of, given_by, position_of}
-use Rattle.djq_live.specs.Advancing.{FitsOver, Reads, Looks, InSlot}
+use Rattle.djq_live.specs.Advancing.{FitsOver, Reads, Looks}
 use Rattle.djq_live.specs.Reading.{
   MovesTo,
   NextGives,
@@ -77,7 +70,6 @@ use Rattle.djq_live.specs.Reading.{
   next_steps,
 }
 use Rattle.djq_live.proofs.Members.{in_last}
-use Rattle.djq_live.proofs.Rows.{all_in}
 use Rattle.djq_live.proofs.Showing.{query_answer, tree_answer, differ}
 
 last_at : {A : Type 0} (us : List A) (u d : A)
@@ -117,7 +109,7 @@ left_of c l us u live some =
     (λ i d low. subst (IsAnswerOf r) (get_or_append_left us (u ∷ []) d i low)
     (some.all i d (omega arith)))
     (record {
-      is = all_in (IsAnswerOf r) (us ++ u ∷ []) u some.all (in_last u us);
+      is = All-contains (IsAnswerOf r) (us ++ u ∷ []) u some.all (in_last u us);
       fresh = λ there.
           let low = there.1 in
           some.different there.0 (length us) u low (omega arith)
@@ -138,48 +130,39 @@ all_given c l us live h t is =
 
 -- ---- slots
 
-kept_with : (c : Catalog) (l : Live) (cs : List (Option Progress)) → IsKept c l
-    → IsKept c (record l { cursors = cs })
-kept_with c l cs h = record { over = h.over; named = h.named; bare = h.bare }
+-- the open cursor in a slot fits
+fits_here : (l : Live) (k : ℕ) (p : Progress) → FitsIn l k → slot_at l.cursors k ≡ Some p
+    → FitsOver l.reducts p
+fits_here l k (Open cursor ended) h e = h cursor ended e
+fits_here l k (Stale q m) h e = tt
 
--- a cursor that fits is put into a slot
-put_live : (c : Catalog) (l : Live) (k : ℕ) (p : Progress) → IsLive c l → FitsOver l.reducts p
-    → IsLive c (record l { cursors = slice_set l.cursors k (Some p) })
-put_live c l k p live fit = record {
-  kept = kept_with c l (slice_set l.cursors k (Some p)) live.kept;
-  fits = λ j cursor ended e.
-      elim (cases_eq j k) [
-        | inl same ↦ elim (cases_lt k (length l.cursors)) [
-          | inl low ↦ subst (FitsOver l.reducts)
-              (same_Some p (Open cursor ended)
-              (sym (get_or-set_same l.cursors k (Some p) None low)
-              ∙ ap (λ (i : ℕ). slot_at (slice_set l.cursors k (Some p)) i) (sym same) ∙ e))
-              fit
-          | inr past ↦
-              let none : slot_at (slice_set l.cursors k (Some p)) j ≡ None =
-              get_or_past (slice_set l.cursors k (Some p)) j None
-              (let s = length-set l.cursors k (Some p) in omega arith) in
-              absurd cc
-        ]
-        | inr other ↦ live.fits j cursor ended
-            (sym (get_or-set_other l.cursors k j (Some p) None other) ∙ e)
-      ];
+pub slot_fits : (l m : Live) (k : ℕ) (p : Progress) → l ≡ m → FitsIn m k
+    → slot_at l.cursors k ≡ Some p → FitsOver l.reducts p
+slot_fits l m k p e h there =
+    fits_here l k p (subst (λ (o : Live). FitsIn o k) (sym e) h) there
+
+each_fits : (c : Catalog) (l : Live) → IsLive c l → EachIs (FitsOver l.reducts) l.cursors
+each_fits c l live = record { each = λ k p e. fits_here l k p (live.fits k) e }
+
+-- a query goes with cursors that fit
+with_cursors : (c : Catalog) (l : Live) (cs : List (Option Progress)) → IsKept c l
+    → EachIs (FitsOver l.reducts) cs → IsLive c (record l { cursors = cs })
+with_cursors c l cs h fit = record {
+  kept = record { over = h.over; named = h.named; bare = h.bare };
+  fits = λ k cursor ended e. fit.each k (Open cursor ended) e;
 }
 
 moves : (c : Catalog) (l : Live) (k : ℕ) (p : Progress) (position : Position) → IsLive c l
     → FitsOver l.reducts p → position_of c.texts l p ≡ position
     → MovesTo c l k position (record l { cursors = slice_set l.cursors k (Some p) })
 moves c l k p position live fit stands =
-    record { progress = p; moved = refl; stands = stands; live = put_live c l k p live fit }
-
--- what a slot has is put into it again
-put_same : (l : Live) (k : ℕ) (p q : Progress) → slot_at l.cursors k ≡ Some p → q ≡ p
-    → record l { cursors = slice_set l.cursors k (Some q) } ≡ l
-put_same l k p q there e =
-    ap (λ (cs : List (Option Progress)). record l { cursors = cs })
-    (ap (λ (o : Option Progress). slice_set l.cursors k o) (ap (λ (x : Progress). Some x) e
-    ∙ sym there)
-    ∙ set-get_or l.cursors k None)
+    record {
+      progress = p;
+      moved = refl;
+      stands = stands;
+      live = with_cursors c l (slice_set l.cursors k (Some p)) live.kept
+          (put_each (FitsOver l.reducts) l.cursors k p (each_fits c l live) fit);
+    }
 
 -- ---- a read
 
@@ -195,7 +178,7 @@ gives_at : (c : Catalog) (l : Live) (k : ℕ) (p q : Progress) (result : Next) (
     (record l { cursors = slice_set l.cursors k (Some q) })
 gives_at c l k (Open old ended) (Open new e) Given u live there h =
     let some = subst (AreSome (IsAnswerOf l.reducts)) h.0.gives h.0.some in (
-      all_in (IsAnswerOf l.reducts) (given l.reducts old ++ u ∷ []) u some.all
+      All-contains (IsAnswerOf l.reducts) (given l.reducts old ++ u ∷ []) u some.all
           (in_last u (given l.reducts old)),
       left_of c l (given l.reducts old) u live some,
       moves c l k (Open new e) _ live h.0.fits
@@ -212,29 +195,30 @@ gives_at c l k (Open old ended) (Stale q m) End u live there h = absurd h
 gives_at c l k (Open old ended) (Stale q m) (IsStale relation n) u live there h = absurd h
 gives_at c l k (Stale q m) new Given u live there h = absurd h
 gives_at c l k (Stale q m) new End u live there h = absurd h
-gives_at c l k (Stale q m) new (IsStale relation n) u live there h =
-    (h.0, h.1, put_same l k (Stale q m) new there h.2)
+gives_at c l k (Stale q m) new (IsStale relation n) u live there h = (
+  h.0,
+  h.1,
+  ap (λ (cs : List (Option Progress)). record l { cursors = cs })
+      (put_same l.cursors k (Stale q m) new there h.2),
+)
 
-next_here : (c : Catalog) (l : Live) (k : ℕ) (result : Next) (u : List ℕ)
-    (cs : List (Option Progress)) → IsLive c l
-    → InSlot (λ old new. Reads l.reducts old result u new) l.cursors k cs
-    → NextGives c l k result u (record l { cursors = cs })
-next_here c l k result u cs live s =
-    subst (λ (new : List (Option Progress)). NextGives c l k result u (record l { cursors = new }))
-    (sym s.is)
-    (subst (λ (o : Option Progress). IsSomeAnd o (λ p. NextGivesAt c l k
+next_here : (c : Catalog) (l : Live) (k : ℕ) (p q : Progress) (result : Next) (u : List ℕ)
+    → IsLive c l → slot_at l.cursors k ≡ Some p → Reads l.reducts p result u q
+    → NextGives c l k result u (record l { cursors = slice_set l.cursors k (Some q) })
+next_here c l k p q result u live there h =
+    subst (λ (o : Option Progress). IsSomeAnd o (λ p. NextGivesAt c l k
     (position_of c.texts l p) result u
-    (record l { cursors = slice_set l.cursors k (Some s.after) }))) (sym s.there)
-    (gives_at c l k s.before s.after result u live s.there s.read))
+    (record l { cursors = slice_set l.cursors k (Some q) }))) (sym there)
+    (gives_at c l k p q result u live there h)
 
 -- the same where the query is seen from outside
-pub next_gives : (c : Catalog) (l m : Live) (k : ℕ) (result : Next) (u : List ℕ)
-    (cs : List (Option Progress)) → l ≡ m → IsLive c m
-    → InSlot (λ old new. Reads l.reducts old result u new) l.cursors k cs
-    → NextGives c m k result u (record l { cursors = cs })
-next_gives c l m k result u cs e live s =
-    subst (λ (o : Live). NextGives c o k result u (record l { cursors = cs })) e
-    (next_here c l k result u cs (subst (IsLive c) (sym e) live) s)
+pub next_gives : (c : Catalog) (l m : Live) (k : ℕ) (p q : Progress) (result : Next) (u : List ℕ)
+    → l ≡ m → IsLive c m → slot_at l.cursors k ≡ Some p → Reads l.reducts p result u q
+    → NextGives c m k result u (record l { cursors = slice_set l.cursors k (Some q) })
+next_gives c l m k p q result u e live there h =
+    subst (λ (o : Live). NextGives c o k result u
+    (record l { cursors = slice_set l.cursors k (Some q) })) e
+    (next_here c l k p q result u (subst (IsLive c) (sym e) live) there h)
 
 -- ---- a look
 
@@ -256,60 +240,49 @@ looks_at c l k (Open old ended) q false live there h = (
 looks_at c l k (Stale r m) q true live there h = absurd h
 looks_at c l k (Stale r m) q false live there h = absurd h
 
-more_here : (c : Catalog) (l : Live) (k : ℕ) (left : Bool) (cs : List (Option Progress))
-    → IsLive c l → InSlot (λ old new. Looks l.reducts old left new) l.cursors k cs
-    → MoreGives c l k left (record l { cursors = cs })
-more_here c l k left cs live s =
-    subst (λ (new : List (Option Progress)). MoreGives c l k left (record l { cursors = new }))
-    (sym s.is)
-    (subst (λ (o : Option Progress). IsSomeAnd o (λ p. MoreGivesAt c l k
+more_here : (c : Catalog) (l : Live) (k : ℕ) (p q : Progress) (left : Bool) → IsLive c l
+    → slot_at l.cursors k ≡ Some p → Looks l.reducts p left q
+    → MoreGives c l k left (record l { cursors = slice_set l.cursors k (Some q) })
+more_here c l k p q left live there h =
+    subst (λ (o : Option Progress). IsSomeAnd o (λ p. MoreGivesAt c l k
     (position_of c.texts l p) left
-    (record l { cursors = slice_set l.cursors k (Some s.after) }))) (sym s.there)
-    (looks_at c l k s.before s.after left live s.there s.read))
+    (record l { cursors = slice_set l.cursors k (Some q) }))) (sym there)
+    (looks_at c l k p q left live there h)
 
-pub more_gives : (c : Catalog) (l m : Live) (k : ℕ) (left : Bool) (cs : List (Option Progress))
-    → l ≡ m → IsLive c m → InSlot (λ old new. Looks l.reducts old left new) l.cursors k cs
-    → MoreGives c m k left (record l { cursors = cs })
-more_gives c l m k left cs e live s =
-    subst (λ (o : Live). MoreGives c o k left (record l { cursors = cs })) e
-    (more_here c l k left cs (subst (IsLive c) (sym e) live) s)
+pub more_gives : (c : Catalog) (l m : Live) (k : ℕ) (p q : Progress) (left : Bool) → l ≡ m
+    → IsLive c m → slot_at l.cursors k ≡ Some p → Looks l.reducts p left q
+    → MoreGives c m k left (record l { cursors = slice_set l.cursors k (Some q) })
+more_gives c l m k p q left e live there h =
+    subst (λ (o : Live). MoreGives c o k left
+    (record l { cursors = slice_set l.cursors k (Some q) })) e
+    (more_here c l k p q left (subst (IsLive c) (sym e) live) there h)
 
--- ---- a cursor is opened
+-- ---- a cursor is opened, and all become stale
 
-open_here : (c : Catalog) (l : Live) (cs : List (Option Progress)) (result : Result ℕ NoMem)
-    → IsLive c l → IfOk result (λ k. OpensSlot l.cursors k cs)
-    → OnErr result (cs ≡ l.cursors) → IsLive c (record l { cursors = cs })
-open_here c l cs (Ok k) live opens same = record {
-  kept = kept_with c l cs live.kept;
-  fits = λ j cursor ended e.
-      elim (cases_eq j k) [
-        | inl here ↦
-            subst (FitsOver l.reducts)
-            (same_Some (Open opens.cursor false) (Open cursor ended)
-            (sym opens.sets.there ∙ ap (slot_at cs) (sym here) ∙ e))
-            (opens.fits l.reducts)
-        | inr other ↦ live.fits j cursor ended (sym (opens.sets.others j other) ∙ e)
-      ];
-}
-open_here c l cs (Err e) live opens same =
+open_here : (c : Catalog) (l : Live) (cursor : Cursor) (cs : List (Option Progress))
+    (result : Result ℕ NoMem) → IsLive c l → Fits l.reducts cursor
+    → IfOk result (λ k. OpensSlot l.cursors k cursor cs) → OnErr result (cs ≡ l.cursors)
+    → IsLive c (record l { cursors = cs })
+open_here c l cursor cs (Ok k) live fit opens same =
+    with_cursors c l cs live.kept
+    (open_each (FitsOver l.reducts) l.cursors k cursor cs (each_fits c l live) opens fit)
+open_here c l cursor cs (Err e) live fit opens same =
     subst (λ (new : List (Option Progress)). IsLive c (record l { cursors = new })) (sym same) live
 
-pub open_live : (c : Catalog) (l m : Live) (cs : List (Option Progress)) (result : Result ℕ NoMem)
-    → l ≡ m → IsLive c m → IfOk result (λ k. OpensSlot l.cursors k cs)
-    → OnErr result (cs ≡ l.cursors) → IsLive c (record l { cursors = cs })
-open_live c l m cs result e live opens same =
-    open_here c l cs result (subst (IsLive c) (sym e) live) opens same
+pub open_live : (c : Catalog) (l m : Live) (cursor : Cursor) (cs : List (Option Progress))
+    (result : Result ℕ NoMem) → l ≡ m → IsLive c m → ((r : Reducts) → Fits r cursor)
+    → IfOk result (λ k. OpensSlot l.cursors k cursor cs) → OnErr result (cs ≡ l.cursors)
+    → IsLive c (record l { cursors = cs })
+open_live c l m cursor cs result e live fits opens same =
+    open_here c l cursor cs result (subst (IsLive c) (sym e) live) (fits l.reducts) opens same
 
--- the open cursor in a slot fits
-fits_here : (l : Live) (k : ℕ) (p : Progress) → FitsIn l k → slot_at l.cursors k ≡ Some p
-    → FitsOver l.reducts p
-fits_here l k (Open cursor ended) h e = h cursor ended e
-fits_here l k (Stale q m) h e = tt
-
-pub slot_fits : (l m : Live) (k : ℕ) (p : Progress) → l ≡ m → FitsIn m k
-    → slot_at l.cursors k ≡ Some p → FitsOver l.reducts p
-slot_fits l m k p e h there =
-    fits_here l k p (subst (λ (o : Live). FitsIn o k) (sym e) h) there
+pub made_stale : (c : Catalog) (old : Live) (relation : Bytes) (n : ℕ)
+    (cs : List (Option Progress)) → cs ≡ outdated_slots relation n old.cursors
+    → IsKept c old → IsLive c (record old { cursors = cs })
+made_stale c old relation n cs e h =
+    with_cursors c old cs h
+    (subst (EachIs (FitsOver old.reducts)) (sym e)
+    (stale_each (FitsOver old.reducts) (λ r m. tt) relation n old.cursors))
 
 -- ---- counts
 

@@ -47,6 +47,8 @@ use Rattle.std.proofs.lemmas.Bool.{
   false≢true,
   or_left,
   or_right,
+  and_parts,
+  or_from,
 }
 use Rattle.std.proofs.lemmas.List.{length-map}
 use Rattle.std.proofs.lemmas.Option.{same_Some, slice_get-map, slice_get-get_or}
@@ -107,8 +109,8 @@ use Rattle.djq_live.proofs.Heads.{in_atom}
 use Rattle.djq_live.proofs.Picking.{member_at}
 use Rattle.djq_live.proofs.Rows.{found_at}
 use Rattle.djq_live.proofs.Showable.{stands_at}
-use Rattle.djq_live.proofs.Showing.{query_answer, tree_answer, stand}
-use Rattle.djq_live.proofs.Terms.{HasOne, both}
+use Rattle.djq_live.proofs.Showing.{query_answer, tree_answer, stand, first_label, rest_labels}
+use Rattle.djq_live.proofs.Terms.{HasOne}
 
 -- ---- the type of a head's variable
 
@@ -133,9 +135,6 @@ unnamed vs x k name e named shown =
     (sym named ∙ ap (slice_get (labels vs)) e ∙ shown) in
     absurd cc
 
-neither : (a b : Bool) → a ≡ false → b ≡ false → (a || b) ≡ false
-neither a b none more = ap₂ (λ (x : Bool) (y : Bool). x || y) none more
-
 -- the type of the first column where a variable stands is that of its number
 among : (vs : List Variable) (texts : List Bytes) (x : ℕ) (name : Bytes) (ts : List Term)
     (ns : List NumberedTerm) (cs : List ColumnType) (rest : ColumnType) → HasOne vs
@@ -158,7 +157,7 @@ among vs texts x name (Constant v ∷ ts) (Fixed w ∷ ns) (c ∷ cs) rest one s
     among vs texts x name ts ns cs rest one shown.1 suits.1 e h
 among vs texts x name (Hole ∷ ts) (Number k ∷ ns) (c ∷ cs) rest one shown suits e h =
     among vs texts x name ts ns cs rest one shown.1 suits.1 e
-    (λ none. h (neither (x == k) (list_any (is_number x) ns)
+    (λ none. h (or_from (x == k) (list_any (is_number x) ns)
     (ne_eqb x k (λ same. unnamed vs x k name same e shown.0)) none))
 among vs texts x name (Named y ∷ ts) (Number k ∷ ns) (c ∷ cs) rest one shown suits e h =
     elim (cases_Bool (bytes_eq y name)) [
@@ -170,7 +169,7 @@ among vs texts x name (Named y ∷ ts) (Number k ∷ ns) (c ∷ cs) rest one sho
       | inr other ↦
           rw other
           (among vs texts x name ts ns cs rest one shown.1 suits.1 e
-          (λ none. h (neither (x == k) (list_any (is_number x) ns)
+          (λ none. h (or_from (x == k) (list_any (is_number x) ns)
           (ne_eqb x k
           (λ at. false≢true (sym other
           ∙ (bytes_eq-decides y name).1 (same_name vs x k name y at e shown.0)))) none)))
@@ -209,12 +208,6 @@ any_at x (n ∷ ms) (suc j) m e has =
     or_right (list_any (is_number x) n.terms)
     (list_any (λ (k : NumberedAtom). list_any (is_number x) k.terms) ms)
     (any_at x ms j m e has)
-
-first_label : (x y : Option Label) (xs ys : List (Option Label)) → x ∷ xs ≡ y ∷ ys → x ≡ y
-first_label x y xs ys e = same_Some x y (ap (λ (l : List (Option Label)). slice_get l 0) e)
-
-rest_labels : (x y : Option Label) (xs ys : List (Option Label)) → x ∷ xs ≡ y ∷ ys → xs ≡ ys
-rest_labels x y xs ys e = ap (λ (l : List (Option Label)). drop 1 l) e
 
 -- what is said of each variable of the head and its name makes two lists the same
 heads_same : {A : Type 0} (ls : List Label) (f : ℕ → A) (g : Bytes → A) (xs : List ℕ)
@@ -324,10 +317,6 @@ right_type : (types : List ColumnType) (t : Tuple) → length t ≡ length types
     → fits types t ≡ true → misfit types t ≡ None
 right_type types t long f = rw (eq-eqb (length t) (length types) long) (rw f refl)
 
-wrong_width : (types : List ColumnType) (t : Tuple) → (length t ≡ length types → ⊥)
-    → misfit types t ≡ Some Arity
-wrong_width types t other = rw (ne_eqb (length t) (length types) other) refl
-
 misfit_long : (types : List ColumnType) (t : Tuple) → misfit types t ≡ None
     → length t ≡ length types
 misfit_long types t h =
@@ -357,14 +346,6 @@ told c l vs xs t o live variables head h =
     (types_are c l.query l.numbered l.patterns l.reducts live.kept.over
     ∙ sym (ap₂ (λ (ws : List Variable) (ys : List ℕ). map (column_of ws) ys) variables head))
     ∙ h
-
-pub tells_width : (c : Catalog) (l m : Live) (xs : List ℕ) (t : Tuple) → l ≡ m → IsLive c m
-    → xs ≡ l.numbered.head → (length t ≡ length xs → ⊥)
-    → misfit (answer_types c.relations m.query) t ≡ Some Arity
-tells_width c l m xs t e live head other =
-    let vs = m.numbered.variables in
-    told c m vs xs t (Some Arity) live refl (head ∙ ap (λ (o : Live). o.numbered.head) e)
-    (wrong_width (map (column_of vs) xs) t (λ long. other (long ∙ length-map xs (column_of vs))))
 
 pub tells_type : (c : Catalog) (l m : Live) (vs : List Variable) (xs : List ℕ) (t : Tuple)
     (b : Bool) → l ≡ m → IsLive c m → vs ≡ l.numbered.variables → xs ≡ l.numbered.head
@@ -435,7 +416,7 @@ answer_cells c q n ps r t h is =
       },
     )
 
-values_same : (f g : ℕ → Value) (xs : List ℕ)
+pub values_same : (f g : ℕ → Value) (xs : List ℕ)
     → ((x : ℕ) → member x xs ≡ true → f x ≡ g x) → map f xs ≡ map g xs
 values_same f g [] h = refl
 values_same f g (x ∷ xs) h =
@@ -450,7 +431,7 @@ shows_back texts vs f [] [] fit have e = refl
 shows_back texts vs f [] (v ∷ t) fit have e = absurd (false≢true fit)
 shows_back texts vs f (x ∷ xs) [] fit have e = absurd (false≢true fit)
 shows_back texts vs f (x ∷ xs) (v ∷ t) fit have e =
-    let p = both (is_of (column_of vs x) v) (fits (map (column_of vs) xs) t) fit in
+    let p = and_parts (is_of (column_of vs x) v) (fits (map (column_of vs) xs) t) fit in
     ap₂ (λ (w : Value) (ws : Tuple). w ∷ ws)
     (ap (value_of texts (column_of vs x)) (ap (λ (l : List ℕ). slice_index l 0) e)
     ∙ value_back texts (column_of vs x) v p.0 have.0)

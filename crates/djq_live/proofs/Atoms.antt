@@ -21,7 +21,7 @@ use Rattle.std.proofs.Common.{
 }
 use Rattle.std.specs.Prelude.{⊤, None, Some, Contains, All, slice_get}
 use Rattle.std.specs.List.{list_any}
-use Rattle.std.proofs.lemmas.Bool.{cases_Bool, eqb-true, false≢true, or_cases}
+use Rattle.std.proofs.lemmas.Bool.{cases_Bool, eqb-true, false≢true, or_cases, and_parts}
 use Rattle.std.proofs.lemmas.Option.{same_Some}
 use Rattle.djq_hyper.specs.Hypergraph.{member}
 use Rattle.djq_model.specs.declared.value.Value.{Value}
@@ -46,7 +46,7 @@ use Rattle.djq_rows.specs.Catalog.{Catalog, IsCatalog, relation_at, rows_at}
 use Rattle.djq_live.specs.Cells.{IsSatisfied}
 use Rattle.djq_live.specs.Asked.{column_of, Suits, AreSuited, AreAtomsOf}
 use Rattle.djq_live.proofs.Rows.{rows_are, row_fits, row_cells}
-use Rattle.djq_live.proofs.Terms.{both, HasOne, value_by, stand_terms, cell_among}
+use Rattle.djq_live.proofs.Terms.{HasOne, value_by, stand_terms, cell_among}
 use Rattle.djq_live.proofs.Holes.{
   hole_cell,
   HasNames,
@@ -237,7 +237,7 @@ value_among texts vs values x name (t ∷ ts) (n ∷ ns) [] row shown suits f h 
 value_among texts vs values x name (t ∷ ts) (n ∷ ns) (c ∷ cs) [] shown suits f h stand m e =
     absurd stand
 value_among texts vs values x name (t ∷ ts) (n ∷ ns) (c ∷ cs) (v ∷ row) shown suits f h stand m e =
-    let p = both (is_of c v) (fits cs row) f in
+    let p = and_parts (is_of c v) (fits cs row) f in
     elim (or_cases (is_number x n) (list_any (is_number x) ns) m) [
       | inl here ↦ value_here texts vs values x name t n c v shown.0 suits.0 p.0 h.0 stand.0 here e
       | inr there ↦ value_among texts vs values x name ts ns cs row shown.1 suits.1 p.1 h.1 stand.1

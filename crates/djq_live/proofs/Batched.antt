@@ -1,12 +1,10 @@
 -- The tuples of many rows, and what they do to leaves.
 use Rattle.std.proofs.Common.{
   ◌≡◌,
-  ◌≢◌,
   ℕ,
   zero,
   suc,
   ◌+◌,
-  ◌*◌,
   ◌<◌,
   ◌≤◌,
   List,
@@ -25,43 +23,41 @@ use Rattle.std.proofs.Common.{
   inr,
   arith,
   length-append,
-  length-take-le,
 }
-use Rattle.std.specs.Prelude.{◌↔◌, Option, None, Some, Contains, slice_get, slice_index_or, option_map}
+use Rattle.std.specs.Prelude.{Option, None, Some, Contains, slice_get, slice_index_or, option_map}
 use Rattle.std.proofs.lemmas.Bool.{cases_eq, cases_lt}
 use Rattle.std.proofs.lemmas.List.{take_more, take_all, length-map}
 use Rattle.std.proofs.lemmas.Option.{same_Some, none-some, slice_get_within, slice_get-map}
-use Rattle.djq_index.specs.Tuple.{same, one}
+use Rattle.djq_index.specs.Tuple.{same}
 use Rattle.djq_index.specs.Entries.{Entry, cnt}
 use Rattle.djq_index.proofs.Tuples.{same_cases, is_same, one_true, one_other, one_le}
 use Rattle.djq_tree.specs.Labels.{label_at}
 use Rattle.djq_tree.specs.Tree.{Tree}
 use Rattle.djq_reduct.specs.Tables.{entries_at}
-use Rattle.djq_reduct.specs.Reducts.{Reducts, IsReducts}
+use Rattle.djq_reduct.specs.Reducts.{Reducts}
+use Rattle.djq_union.proofs.Lists.{none_contained}
 use Rattle.djq_propagate.specs.Batches.{times, AreNew, AreThere, HasGainedAll, HasLostAll}
-use Rattle.djq_propagate.specs.Updates.{HasKept}
 use Rattle.djq_propagate.proofs.Batching.{times-append, next_there}
 use Rattle.djq_propagate.proofs.Measuring.{length_even}
 use Rattle.djq_propagate.proofs.Updating.{times_one}
 use Rattle.djq_query.specs.declared.numbered.NumberedAtom.{NumberedAtom}
-use Rattle.djq_query.specs.Pattern.{Shape, Gives}
-use Rattle.djq_live.specs.Leaves.{GivesOne}
+use Rattle.djq_query.specs.Pattern.{Shape}
 use Rattle.djq_live.specs.Changes.{GainsAll, Keeps}
 use Rattle.djq_live.specs.Stepping.{HasMore, ChangesAt, ChangesBelow, HoldBelow}
-use Rattle.djq_live.specs.Batching.{AreDistinct, AreTuplesOf, AreTuples, FitAll, HasFew, CanTake}
+use Rattle.djq_live.specs.Batching.{AreDistinct, AreTuplesOf, AreTuples, HasFew, CanTake}
 use Rattle.djq_live.specs.Batching.{Adds, Drops, tuples_in, batch_in}
 use Rattle.djq_live.proofs.Below.{IsStable}
 use Rattle.djq_live.proofs.Giving.{gives_once, gives_same, one_as}
 use Rattle.djq_live.proofs.Heads.{has_at}
 use Rattle.djq_live.proofs.Leafing.{IsOnly}
-use Rattle.djq_live.proofs.Members.{in_none, in_cons, in_rest, in_left, in_last, in_pushed}
+use Rattle.djq_live.proofs.Members.{in_cons, in_rest, in_left, in_last, in_pushed}
 use Rattle.djq_live.proofs.Passing.{got}
 
 -- ---- how often a row stands among others
 
 pub in_times : (rows : List (List ℕ)) (x : List ℕ) → Contains rows x → 0 < times rows x
 unfolding times
-in_times [] x c = absurd (in_none x c)
+in_times [] x c = absurd (none_contained x c)
 in_times (r ∷ rows) x c =
     elim (in_cons r x rows c) [
       | inl here ↦ omega (arith, one_true (same r x) (is_same r x here))
@@ -90,12 +86,12 @@ fresh_row rows i row distinct low e c =
 pub tuples_none : (rows : List (List ℕ)) (p : Shape) → AreTuplesOf (take 0 rows) p []
 unfolding times
 tuples_none [] p = record {
-  exact = λ u. (λ there. absurd (omega arith), λ given. absurd (in_none given.cells given.row));
+  exact = λ u. (λ there. absurd (omega arith), λ given. absurd (none_contained given.cells given.row));
   differ = λ u. omega arith;
   few = omega arith;
 }
 tuples_none (r ∷ rows) p = record {
-  exact = λ u. (λ there. absurd (omega arith), λ given. absurd (in_none given.cells given.row));
+  exact = λ u. (λ there. absurd (omega arith), λ given. absurd (none_contained given.cells given.row));
   differ = λ u. omega arith;
   few = omega arith;
 }
@@ -420,11 +416,6 @@ all_gains at rows atoms ps batch k r s tuples h = record {
       );
   others = h.others;
 }
-
--- what a list has at a place, by another name
-pub got_as : {A : Type 0} (xs : List A) (i : ℕ) (x y : A) → y ≡ x → i < length xs
-    → x ≡ slice_index_or xs i x → slice_get xs i ≡ Some y
-got_as xs i x y e low is = got xs i x low is ∙ ap (λ z. Some z) (sym e)
 
 -- the tuples that it has for a leaf, which were made or are the rows
 pub got_in : (rows : List (List ℕ)) (made : List (Option (List (List ℕ)))) (i : ℕ) (x : Option (List (List ℕ)))

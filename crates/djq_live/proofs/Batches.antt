@@ -1,18 +1,18 @@
 -- What a registered query is where many rows come at once.
-use Rattle.std.proofs.Common.{◌≡◌, ◌≢◌, ℕ, suc, ◌+◌, ◌<◌, ◌≤◌, Bool, true, false, List, [], ◌∷◌}
-use Rattle.std.proofs.Common.{◌++◌, length, refl, ap, sym, subst, ◌∙◌, inl, inr, arith}
+use Rattle.std.proofs.Common.{◌≡◌, ℕ, ◌+◌, ◌<◌, ◌≤◌, List, [], ◌∷◌}
+use Rattle.std.proofs.Common.{◌++◌, length, ap, sym, subst, ◌∙◌, inl, inr, arith}
 use Rattle.std.proofs.Common.{length-append}
-use Rattle.std.specs.Prelude.{Contains, Some, slice_get}
+use Rattle.std.specs.Prelude.{Some, slice_get}
 use Rattle.std.proofs.lemmas.Bool.{cases_eq, cases_lt}
 use Rattle.std.proofs.lemmas.List.{get_or_past}
 use Rattle.std.proofs.lemmas.Option.{slice_get_within}
 use Rattle.djq_model.specs.Answer.{AreDifferent}
 use Rattle.djq_model.specs.Data.{Tuple, tuples_in}
 use Rattle.djq_model.specs.declared.relation.Relation.{Relation}
+use Rattle.djq_model.proofs.Counted.{rest_differ}
 use Rattle.djq_index.specs.Entries.{cnt}
 use Rattle.djq_index.proofs.Tuples.{same_cases, one_le, one_other}
 use Rattle.djq_index.specs.Tuple.{same}
-use Rattle.djq_tree.specs.Tree.{Tree}
 use Rattle.djq_reduct.specs.Tables.{entries_at}
 use Rattle.djq_reduct.specs.Reducts.{Reducts, IsReducts, SameTables}
 use Rattle.djq_reduct.proofs.Family.{one_family}
@@ -23,13 +23,13 @@ use Rattle.djq_rows.specs.Catalog.{Catalog, IsCatalog, no_relation, relation_at,
 use Rattle.djq_rows.proofs.Lawful.{differ as cells_differ}
 use Rattle.djq_live.specs.Changes.{CameAll, StandForRows}
 use Rattle.djq_live.specs.Live.{Live, IsKept}
-use Rattle.djq_live.specs.Updating.{CanAddAll, CountsDelta}
+use Rattle.djq_live.specs.Updating.{CanAddAll}
 use Rattle.djq_live.specs.Stepping.{ChangesBelow}
 use Rattle.djq_live.specs.Batching.{AreDistinct, AreTuples, FitAll, CanTake, Adds, Drops}
 use Rattle.djq_live.proofs.Batched.{times_in}
 use Rattle.djq_live.proofs.Changing.{stands_in}
 use Rattle.djq_live.proofs.Heads.{has_at}
-use Rattle.djq_live.proofs.Members.{first_different, rest_different}
+use Rattle.djq_live.proofs.Members.{first_different}
 use Rattle.djq_live.proofs.Living.{inside, rows_few}
 use Rattle.djq_live.proofs.Rowing.{leaves_of, none_there, same_kept}
 use Rattle.djq_live.proofs.Small.{leaf_few}
@@ -46,7 +46,7 @@ distinct_at d at (k ∷ cells) (row ∷ new) v h differ =
     let few = one_le (same k v) in
     elim (same_cases k v) [
       | inr other ↦
-          omega (arith, one_other k v other, distinct_at d at cells new v h.1 (rest_different row new differ))
+          omega (arith, one_other k v other, distinct_at d at cells new v h.1 (rest_differ row new differ))
       | inl here ↦
           elim (cases_lt 0 (times cells v)) [
             | inr none ↦ omega arith
@@ -61,7 +61,7 @@ distinct_at d at (k ∷ cells) (row ∷ new) v h differ =
 
 last_differ : (xs ys : List Tuple) → AreDifferent (xs ++ ys) → AreDifferent ys
 last_differ [] ys d = d
-last_differ (x ∷ xs) ys d = last_differ xs ys (rest_different x (xs ++ ys) d)
+last_differ (x ∷ xs) ys d = last_differ xs ys (rest_differ x (xs ++ ys) d)
 
 none_differ : AreDifferent []
 none_differ i j d a b = absurd (omega arith)
@@ -227,11 +227,3 @@ batch_same l self s t at atoms batch k e sound can adds drops =
     (batch_tables at atoms batch k l.reducts s t sound can.leaves can.long adds drops)
 
 -- ---- where nothing was changed
-
-pub same_tables : (r : Reducts) → SameTables r r
-same_tables r = record { tuples = λ k u. refl; supports = λ k u. refl }
-
-pub counts_still : (wanted : Bool) {R : Type 0} (Changed : Catalog → Catalog → R → Type 0) (l : Live)
-    (at n : ℕ) → CountsDelta wanted Changed l at n n
-counts_still true {R} Changed l at n = λ c d what changes kept changed delta. omega arith
-counts_still false {R} Changed l at n = refl

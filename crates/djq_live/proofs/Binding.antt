@@ -1,5 +1,5 @@
 -- What a leaf holds, said of assignments.
-use Rattle.std.proofs.Common.{◌≡◌, ℕ, zero, suc, ◌<◌, true, List, [], ◌∷◌, length, map, refl, ap}
+use Rattle.std.proofs.Common.{◌≡◌, ℕ, suc, ◌<◌, true, List, [], ◌∷◌, map, refl, ap}
 use Rattle.std.proofs.Common.{ap₂, sym, subst, ◌∙◌, inl, inr, arith}
 use Rattle.std.specs.Prelude.{◌↔◌, ◌==◌, All, Contains, slice_index}
 use Rattle.std.specs.List.{list_any, position_or_len}
@@ -15,9 +15,11 @@ use Rattle.std.proofs.lemmas.Bool.{
   or_right,
 }
 use Rattle.std.proofs.lemmas.List.{length-map}
+use Rattle.std.proofs.lemmas.List.Elements.{All-cons}
 use Rattle.djq_hyper.specs.Hypergraph.{member}
 use Rattle.djq_model.specs.Data.{Bytes}
 use Rattle.djq_index.specs.Entries.{Entry, cnt}
+use Rattle.djq_union.proofs.Lists.{at_head, none_contained}
 use Rattle.djq_query.specs.declared.numbered.NumberedTerm.{NumberedTerm}
 use Rattle.djq_query.specs.declared.numbered.NumberedTerm.TheVariants.{
   Variable as Number,
@@ -44,7 +46,7 @@ use Rattle.djq_rows.specs.Catalog.{Catalog}
 use Rattle.djq_live.specs.Asked.{constants_in}
 use Rattle.djq_live.specs.Cells.{AreRowOf, cell_under, IsPassed, IsSatisfied}
 use Rattle.djq_live.specs.Leaves.{AreCellsOf, GivesOne, IsPatternOf, IsLeafOf}
-use Rattle.djq_live.proofs.Members.{in_none, in_cons, in_first, in_rest}
+use Rattle.djq_live.proofs.Members.{in_cons, in_rest}
 
 place_on : (y : ℕ) (l : List ℕ) (x : ℕ) → (y ≡ x → ⊥)
     → position_or_len (λ z. z == x) (y ∷ l) ≡ suc (position_or_len (λ z. z == x) l)
@@ -103,15 +105,11 @@ place_passes texts a l k m =
     ap (λ (cell : ℕ). passes k.operator cell (cell_for texts k.constant))
     (place_there a l k.variable m)
 
-all_cons : {A : Type 0} (P : A → Type 0) (x : A) (xs : List A) → P x → All P xs → All P (x ∷ xs)
-all_cons P x xs h all zero d low = h
-all_cons P x xs h all (suc i) d low = all i d (omega arith)
-
 tests_passed : (texts : List Bytes) (a : ℕ → ℕ) (l : List ℕ) (ks : List NumberedComparison)
     → All (Passes (map a l)) (tests_of l ks (cells_of texts (constants_in ks)))
     → ArePassedIn texts l ks a
 unfolding tests_of test_of
-tests_passed texts a l [] h k c m = absurd (in_none k c)
+tests_passed texts a l [] h k c m = absurd (none_contained k c)
 tests_passed texts a l (n ∷ ks) h k c m =
     let t : Test = record {
       place = position_or_len (λ y. y == n.variable) l;
@@ -154,8 +152,8 @@ passes_tests texts a l (n ∷ ks) h =
     let rest = passes_tests texts a l ks (λ k c m. h k (in_rest n k ks c) m) in
     elim (cases_Bool (member n.variable l)) [
       | inl is ↦ rw is
-          (all_cons (Passes (map a l)) t ts
-          (place_passes texts a l n is ∙ h n (in_first n ks) is) rest)
+          (All-cons (Passes (map a l)) t ts
+          (place_passes texts a l n is ∙ h n (at_head n ks) is) rest)
       | inr isnt ↦ rw isnt rest
     ]
 

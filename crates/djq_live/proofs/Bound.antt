@@ -10,12 +10,10 @@ use Rattle.djq_model.specs.declared.query.Term.{Term}
 use Rattle.djq_model.specs.declared.query.Term.TheVariants.{Variable as Named, Hole, Constant}
 use Rattle.djq_model.specs.Data.{Bytes}
 use Rattle.djq_lines.specs.Variables.{Label}
+use Rattle.djq_union.proofs.Lists.{at_head, none_contained}
 use Rattle.djq_query.specs.declared.numbered.Variable.{Variable}
 use Rattle.djq_query.specs.declared.numbered.NumberedTerm.{NumberedTerm}
-use Rattle.djq_query.specs.declared.numbered.NumberedTerm.TheVariants.{
-  Variable as Number,
-  Constant as Fixed,
-}
+use Rattle.djq_query.specs.declared.numbered.NumberedTerm.TheVariants.{Variable as Number, Constant as Fixed}
 use Rattle.djq_query.specs.declared.numbered.NumberedAtom.{NumberedAtom}
 use Rattle.djq_query.specs.Numbered.{labels, is_number}
 use Rattle.djq_query.specs.Meaning.{IsShown, AreShown}
@@ -24,7 +22,7 @@ use Rattle.djq_live.specs.Asked.{AreAtomsOf}
 use Rattle.djq_live.specs.Body.{HeadsAreBound}
 use Rattle.djq_reduct.proofs.Readings.{member_here, member_on}
 use Rattle.djq_live.proofs.Heads.{in_atom}
-use Rattle.djq_live.proofs.Members.{in_none, in_cons, in_first, in_rest}
+use Rattle.djq_live.proofs.Members.{in_cons, in_rest}
 use Rattle.djq_live.proofs.Showing.{first_label, rest_labels}
 
 -- a number of the head has the name
@@ -36,9 +34,9 @@ record NumberOf (ls : List Label) (xs : List ℕ) (name : Bytes) : Type 0 where
 number_in : (ls : List Label) (xs : List ℕ) (names : List Bytes) (name : Bytes)
     → map (slice_get ls) xs ≡ map (λ y. Some (Some y)) names → Contains names name
     → NumberOf ls xs name
-number_in ls [] [] name e c = absurd (in_none name c)
+number_in ls [] [] name e c = absurd (none_contained name c)
 number_in ls [] (y ∷ names) name e c = absurd cc
-number_in ls (x ∷ xs) [] name e c = absurd (in_none name c)
+number_in ls (x ∷ xs) [] name e c = absurd (none_contained name c)
 number_in ls (x ∷ xs) (y ∷ names) name e c =
     elim (in_cons y name names c) [
       | inl here ↦ record {
@@ -85,7 +83,7 @@ term_in ls (t ∷ ts) (n ∷ ns) x name shown has named =
     elim (or_cases (is_number x n) (list_any (is_number x) ns) has) [
       | inl here ↦
           subst (λ (k : Term). Contains (k ∷ ts) (Named name))
-          (sym (term_is ls t n x name shown.0 here named)) (in_first (Named name) ts)
+          (sym (term_is ls t n x name shown.0 here named)) (at_head (Named name) ts)
       | inr there ↦ in_rest t (Named name) ts (term_in ls ts ns x name shown.1 there named)
     ]
 
@@ -103,7 +101,7 @@ atom_in c vs [] (n ∷ ms) j m x name h e has named = absurd h
 atom_in c vs (a ∷ atoms) [] j m x name h e has named = absurd h
 atom_in c vs (a ∷ atoms) (n ∷ ms) zero m x name h e has named = (
   a,
-  in_first a atoms,
+  at_head a atoms,
   term_in (labels vs) a.terms n.terms x name h.0.shown
       (ap (λ (k : NumberedAtom). list_any (is_number x) k.terms) (same_Some n m e) ∙ has) named,
 )

@@ -7,7 +7,6 @@ use Rattle.std.proofs.lemmas.Bool.{cases_lt}
 use Rattle.std.proofs.lemmas.Option.{same_Some, slice_get_within}
 use Rattle.std.proofs.lemmas.List.Kept.{AllPairs-from_increasing}
 use Rattle.djq_hyper.specs.Hypergraph.{member, edge_at, set_below}
-use Rattle.djq_model.specs.declared.relation.ColumnType.{ColumnType}
 use Rattle.djq_model.specs.declared.relation.Relation.{Relation}
 use Rattle.djq_model.specs.declared.query.Query.{Query}
 use Rattle.djq_model.specs.declared.query.Atom.{Atom}
@@ -33,7 +32,6 @@ use Rattle.djq_tree.specs.Labels.{label_at}
 use Rattle.djq_tree.specs.Tree.{Tree, IsTree}
 use Rattle.djq_reduct.specs.Tables.{entries_at}
 use Rattle.djq_reduct.specs.Reducts.{Reducts, IsReducts, IsNarrow}
-use Rattle.djq_query.specs.declared.numbered.Variable.{Variable}
 use Rattle.djq_query.specs.declared.numbered.NumberedTerm.{NumberedTerm}
 use Rattle.djq_query.specs.declared.numbered.NumberedAtom.{NumberedAtom}
 use Rattle.djq_query.specs.declared.numbered.NumberedComparison.{NumberedComparison}
@@ -50,7 +48,7 @@ use Rattle.djq_query.specs.Numbered.{
 use Rattle.djq_query.specs.Pattern.{Shape}
 use Rattle.djq_rows.specs.Cells.{HaveCells}
 use Rattle.djq_rows.specs.Catalog.{Catalog, IsCatalog, no_relation, relation_at}
-use Rattle.djq_live.specs.Asked.{AreSuited, HaveConstants, IsAsked, constants_in}
+use Rattle.djq_live.specs.Asked.{HaveConstants, IsAsked, constants_in}
 use Rattle.djq_live.specs.Building.{
   AreBindable,
   AreFilled,
@@ -58,9 +56,8 @@ use Rattle.djq_live.specs.Building.{
   AtBoth,
   SuitsRelation,
 }
-use Rattle.djq_live.specs.declared.cursors.Progress.{Progress}
-use Rattle.djq_live.specs.declared.cursors.Progress.TheVariants.{Open}
-use Rattle.djq_live.specs.Cursors.{slot_at}
+use Rattle.djq_slots.specs.declared.progress.Progress.TheVariants.{Open}
+use Rattle.djq_live.specs.Cursors.{Progress, slot_at}
 use Rattle.djq_live.specs.Live.{IsLive}
 use Rattle.djq_live.specs.Planning.{Planned, IsPlanned}
 use Rattle.djq_live.specs.Leaves.{IsOver, IsPatternOf}
@@ -81,6 +78,7 @@ use Rattle.djq_live.proofs.Trees.{
   tree_leaves,
 }
 use Rattle.djq_live.proofs.Typing.{numbered_asked}
+use Rattle.djq_live.proofs.Rowing.{suited_long}
 
 -- ---- constants
 
@@ -137,13 +135,6 @@ pub record IsGiven (c : Catalog) (q : Query) (n : Numbered) (t : Tree) : Type 0 
   pub within : IsWithin n
   pub tree : IsTree t
   pub constants : HaveCells c.texts (constants_of q)
-
-suited_long : (texts : List Bytes) (vs : List Variable) (ts : List NumberedTerm)
-    (cs : List ColumnType) → AreSuited texts vs ts cs → length ts ≡ length cs
-suited_long texts vs [] [] h = refl
-suited_long texts vs [] (c ∷ cs) h = absurd h
-suited_long texts vs (t ∷ ts) [] h = absurd h
-suited_long texts vs (t ∷ ts) (c ∷ cs) h = ap suc (suited_long texts vs ts cs h.1)
 
 module _ (c : Catalog) (q : Query) (n : Numbered) (t : Tree) (given : IsGiven c q n t) where
   asked : IsAsked c q n

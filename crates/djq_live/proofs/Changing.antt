@@ -23,6 +23,7 @@ use Rattle.std.proofs.lemmas.List.Elements.{
   Contains-append_cases,
   Contains-append_left,
   Contains-append_right,
+  All-contains,
 }
 use Rattle.djq_hyper.specs.Hypergraph.{member}
 use Rattle.djq_model.specs.declared.query.Query.{Query}
@@ -33,6 +34,7 @@ use Rattle.djq_tree.specs.Labels.{label_at}
 use Rattle.djq_tree.specs.Tree.{Tree}
 use Rattle.djq_reduct.specs.Tables.{entries_at}
 use Rattle.djq_reduct.specs.Reducts.{Reducts}
+use Rattle.djq_union.proofs.Lists.{at_head, none_contained}
 use Rattle.djq_query.specs.declared.numbered.NumberedAtom.{NumberedAtom}
 use Rattle.djq_query.specs.Numbered.{Numbered}
 use Rattle.djq_query.specs.Pattern.{Shape}
@@ -61,19 +63,18 @@ use Rattle.djq_live.specs.Changes.{
   OverLoses,
 }
 use Rattle.djq_live.proofs.Giving.{gives_once, gives_same, one_as}
-use Rattle.djq_live.proofs.Rows.{all_in}
-use Rattle.djq_live.proofs.Members.{in_none, in_first, in_rest, in_cons, in_without, still_in}
+use Rattle.djq_live.proofs.Members.{in_rest, in_cons, in_without, still_in}
 use Rattle.djq_live.proofs.Later.{asked_later, atom_at, pattern_later, cells_later, constants_have}
 
 have_cells : (c : Catalog) (at : ℕ) (row : Tuple) → IsCatalog c → at < length c.relations
     → Contains (rows_at c.relations at) row → HaveCells c.texts row
 have_cells c at row h low there =
-    all_in (HaveCells c.texts) (rows_at c.relations at) row (h.kept at no_relation low).cells there
+    All-contains (HaveCells c.texts) (rows_at c.relations at) row (h.kept at no_relation low).cells there
 
 row_fits : (c : Catalog) (at : ℕ) (row : Tuple) → IsCatalog c → at < length c.relations
     → Contains (rows_at c.relations at) row → fits (relation_at c.relations at).types row ≡ true
 row_fits c at row h low there =
-    all_in (λ r. fits (relation_at c.relations at).types r ≡ true) (rows_at c.relations at) row
+    All-contains (λ r. fits (relation_at c.relations at).types r ≡ true) (rows_at c.relations at) row
     (h.kept at no_relation low).typed there
 
 -- a row of the earlier catalog, against one of the later
@@ -127,14 +128,14 @@ pub record StandsIn (d : Catalog) (at : ℕ) (new : List Tuple) (cells : List �
 
 pub stands_in : (d : Catalog) (at : ℕ) (cells : List (List ℕ)) (new : List Tuple) (x : List ℕ)
     → StandForRows d at cells new → Contains cells x → StandsIn d at new x
-stands_in d at [] [] x h is = absurd (in_none x is)
+stands_in d at [] [] x h is = absurd (none_contained x is)
 stands_in d at [] (row ∷ new) x h is = absurd h
 stands_in d at (k ∷ cells) [] x h is = absurd h
 stands_in d at (k ∷ cells) (row ∷ new) x h is =
     elim (in_cons k x cells is) [
       | inl here ↦ record {
         row = row;
-        there = in_first row new;
+        there = at_head row new;
         stand = subst (λ (y : List ℕ). StandForRow d at y row) here h.0;
       }
       | inr there ↦
@@ -144,14 +145,14 @@ stands_in d at (k ∷ cells) (row ∷ new) x h is =
 
 cells_in : (d : Catalog) (at : ℕ) (cells : List (List ℕ)) (new : List Tuple) (x : Tuple)
     → StandForRows d at cells new → Contains new x → Contains cells (cells_of d.texts x)
-cells_in d at [] [] x h is = absurd (in_none x is)
+cells_in d at [] [] x h is = absurd (none_contained x is)
 cells_in d at [] (row ∷ new) x h is = absurd h
 cells_in d at (k ∷ cells) [] x h is = absurd h
 cells_in d at (k ∷ cells) (row ∷ new) x h is =
     elim (in_cons row x new is) [
       | inl here ↦
           subst (λ (y : List ℕ). Contains (k ∷ cells) y)
-          (h.0.are ∙ ap (λ (r : Tuple). cells_of d.texts r) here) (in_first k cells)
+          (h.0.are ∙ ap (λ (r : Tuple). cells_of d.texts r) here) (at_head k cells)
       | inr there ↦ in_rest k (cells_of d.texts x) cells (cells_in d at cells new x h.1 there)
     ]
 

@@ -1,5 +1,5 @@
 -- Comparisons of values, and of the cells that stand for them.
-use Rattle.std.proofs.Common.{◌≡◌, ℕ, zero, suc, Bool, true, false, List, [], ◌∷◌, length, refl, ap}
+use Rattle.std.proofs.Common.{◌≡◌, ℕ, zero, suc, Bool, true, false, List, [], ◌∷◌, refl, ap}
 use Rattle.std.proofs.Common.{ap₂, sym, subst, ◌∙◌, inl, inr, arith}
 use Rattle.std.specs.Prelude.{◌==◌, not, All, Contains, Some, slice_get}
 use Rattle.std.specs.Int.{w64}
@@ -30,12 +30,13 @@ use Rattle.djq_model.specs.Equality.{value_eq-decides}
 use Rattle.djq_model.specs.Answer.{compares, HoldsOf}
 use Rattle.djq_model.specs.Typed.{is_of}
 use Rattle.djq_lines.specs.QueryFault.{has_order}
+use Rattle.djq_union.proofs.Lists.{at_head, none_contained}
 use Rattle.djq_query.specs.declared.numbered.Variable.{Variable}
 use Rattle.djq_query.specs.declared.numbered.NumberedAtom.{NumberedAtom}
 use Rattle.djq_query.specs.declared.numbered.NumberedComparison.{NumberedComparison}
 use Rattle.djq_query.specs.Numbered.{labels, is_number}
 use Rattle.djq_query.specs.Pattern.{passes}
-use Rattle.djq_rows.specs.Cells.{cell_of, HasCell, StandsFor, IsCell}
+use Rattle.djq_rows.specs.Cells.{cell_of, HasCell, StandsFor}
 use Rattle.djq_rows.specs.Parts.{value_of}
 use Rattle.djq_rows.specs.Catalog.{Catalog, IsCatalog}
 use Rattle.djq_rows.proofs.Encoding.{value_back, stands_back}
@@ -49,7 +50,7 @@ use Rattle.djq_live.specs.Asked.{
 use Rattle.djq_live.specs.Cells.{IsPassed}
 use Rattle.djq_live.proofs.Atoms.{AreSatisfied, AreRowsFor, cell_at, value_in}
 use Rattle.djq_live.proofs.Holes.{HasNames}
-use Rattle.djq_live.proofs.Members.{in_none, in_cons, in_first, in_rest}
+use Rattle.djq_live.proofs.Members.{in_cons, in_rest}
 use Rattle.djq_live.proofs.Terms.{HasOne, value_by, value_by_is}
 
 -- ---- one comparison
@@ -143,7 +144,7 @@ pub passed_all : (texts : List Bytes) (vs : List Variable) (ms : List NumberedAt
     → ((j : ℕ) (m : NumberedAtom) (n : NumberedComparison) → slice_get ms j ≡ Some m
     → Contains ns n → list_any (is_number n.variable) m.terms ≡ true → IsPassed texts a n)
     → ArePassed texts a ns
-passed_all texts vs ms [] [] a are h n c = absurd (in_none n c)
+passed_all texts vs ms [] [] a are h n c = absurd (none_contained n c)
 passed_all texts vs ms [] (b ∷ ns) a are h n c = absurd are
 passed_all texts vs ms (k ∷ ks) [] a are h n c = absurd are
 passed_all texts vs ms (k ∷ ks) (b ∷ ns) a are h n c =
@@ -151,7 +152,7 @@ passed_all texts vs ms (k ∷ ks) (b ∷ ns) a are h n c =
       | inl here ↦
           let at = in_one ms b.variable are.0.stands in
           subst (λ (x : NumberedComparison). IsPassed texts a x) here
-          (h at.place at.atom b at.at (in_first b ns) at.has)
+          (h at.place at.atom b at.at (at_head b ns) at.has)
       | inr there ↦ passed_all texts vs ms ks ns a are.1
           (λ j m x e d has. h j m x e (in_rest b x ns d) has) n there
     ]
@@ -185,7 +186,7 @@ hold_all c vs a atoms ms [] [] h one are sat is passed i d low = absurd (omega a
 hold_all c vs a atoms ms [] (n ∷ ns) h one are sat is passed i d low = absurd is
 hold_all c vs a atoms ms (k ∷ ks) [] h one are sat is passed i d low = absurd is
 hold_all c vs a atoms ms (k ∷ ks) (n ∷ ns) h one are sat is passed zero d low =
-    hold_one c vs a atoms ms k n h one are sat is.0 (passed n (in_first n ns))
+    hold_one c vs a atoms ms k n h one are sat is.0 (passed n (at_head n ns))
 hold_all c vs a atoms ms (k ∷ ks) (n ∷ ns) h one are sat is passed (suc i) d low =
     hold_all c vs a atoms ms ks ns h one are sat is.1 (λ x e. passed x (in_rest n x ns e)) i d
     (omega arith)
@@ -215,7 +216,7 @@ pub pass_all : (c : Catalog) (vs : List Variable) (values : Bytes → Value) (a 
     (ns : List NumberedComparison) → IsCatalog c → AreAtomsOf c vs atoms ms
     → AreRowsFor c values atoms ms rows → HasNames c.texts (labels vs) values a
     → AreComparisonsOf c.texts vs ms ks ns → All (HoldsOf values) ks → ArePassed c.texts a ns
-pass_all c vs values a atoms ms rows [] [] h are for names is holds n e = absurd (in_none n e)
+pass_all c vs values a atoms ms rows [] [] h are for names is holds n e = absurd (none_contained n e)
 pass_all c vs values a atoms ms rows [] (b ∷ ns) h are for names is holds n e = absurd is
 pass_all c vs values a atoms ms rows (k ∷ ks) [] h are for names is holds n e = absurd is
 pass_all c vs values a atoms ms rows (k ∷ ks) (b ∷ ns) h are for names is holds n e =

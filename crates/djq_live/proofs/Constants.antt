@@ -38,8 +38,7 @@ use Rattle.djq_model.specs.declared.value.Value.TheVariants.{Int, Text}
 use Rattle.djq_model.specs.declared.query.Atom.{Atom}
 use Rattle.djq_model.specs.declared.query.Comparison.{Comparison}
 use Rattle.djq_model.specs.Data.{Bytes, Tuple}
-use Rattle.djq_model.specs.Known.{all_learned, knows, texts_in, texts_of}
-use Rattle.djq_lines.specs.declared.limits.TheConstants.{TEXTS}
+use Rattle.djq_model.specs.Known.{all_learned, knows, texts_in}
 use Rattle.djq_lines.specs.Variables.{
   constant_of,
   compared_behind,
@@ -117,11 +116,6 @@ refused_more a b cs ds NoMem h = record {
 
 -- ---- one constant
 
-pub one_known : (old new : List Bytes) (v : Value) (cell : ℕ) → InternsValue old v (Ok cell) new
-    → length new ≤ TEXTS → InternsConstants old (v ∷ []) (Ok tt) new
-one_known old new v cell h few =
-    ((h.0 ∙ ap (all_learned old) (sym (append-nil (texts_of v))), few), (h.1, tt))
-
 first_false : (b : Bool) → (b && true) ≡ false → b ≡ false
 first_false true e = absurd (false≢true (sym e))
 first_false false e = refl
@@ -177,12 +171,6 @@ module _ {X : Type 0} (f : X → Tuple) (xs : List X) where
       (refused_more a c (flat_map f (take (i + 1) xs)) (flat_map f (drop (i + 1) xs)) r
       (subst (λ (l : Tuple). InternsConstants a l (Err r) c) (sym (upto i x low is))
       (known_more a b c (flat_map f (take i xs)) (f x) (Err r) h k)))
-
-  pub all_known : (i : ℕ) (a b : List Bytes) → length xs ≤ i
-      → InternsConstants a (flat_map f (take i xs)) (Ok tt) b
-      → InternsConstants a (flat_map f xs) (Ok tt) b
-  all_known i a b past h =
-      subst (λ (l : List X). InternsConstants a (flat_map f l) (Ok tt) b) (take_all i xs past) h
 
 -- ---- the constants of a body, atom after atom
 

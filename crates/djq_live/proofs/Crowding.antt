@@ -1,9 +1,8 @@
 -- How much it counts where many tuples come to leaves, and how much where they go.
-use Rattle.std.proofs.Common.{◌≡◌, ◌≢◌, ℕ, ◌+◌, ◌*◌, ◌<◌, ◌≤◌, true, List, length, ap, sym, subst}
-use Rattle.std.proofs.Common.{◌∙◌, inl, inr, arith, mul-le-mul_right, mul-le-mul_left}
+use Rattle.std.proofs.Common.{◌≡◌, ◌≢◌, ℕ, ◌+◌, ◌*◌, ◌<◌, ◌≤◌, List, length, sym, subst}
+use Rattle.std.proofs.Common.{inl, inr, arith, mul-le-mul_left}
 use Rattle.std.specs.Prelude.{Some, slice_get}
 use Rattle.std.proofs.lemmas.Bool.{cases_eq}
-use Rattle.djq_index.specs.Entries.{Entry, cnt}
 use Rattle.djq_tree.specs.Tree.{Tree}
 use Rattle.djq_reduct.specs.Tables.{entries_at}
 use Rattle.djq_reduct.specs.Reducts.{Reducts, IsReducts}
@@ -13,8 +12,8 @@ use Rattle.djq_propagate.proofs.Batching.{longer_by}
 use Rattle.djq_propagate.proofs.Measuring.{length_even}
 use Rattle.djq_propagate.proofs.Updating.{inserted_gained_all}
 use Rattle.djq_query.specs.declared.numbered.NumberedAtom.{NumberedAtom}
-use Rattle.djq_live.specs.Stepping.{HasMore, ChangesBelow, atoms_below}
-use Rattle.djq_live.specs.Batching.{HasFew, Adds, Drops, GrowsBy, CountsTuples, CountsMany, CountsGiven}
+use Rattle.djq_live.specs.Stepping.{HasMore, ChangesBelow}
+use Rattle.djq_live.specs.Batching.{HasFew, Adds, GrowsBy, CountsTuples, CountsMany, CountsGiven}
 use Rattle.djq_live.proofs.Sizing.{kept_most, fewer_stay, still_long}
 
 -- ---- one leaf
@@ -166,9 +165,6 @@ counted_more at atoms batch k more m us r s c i j x y z e f few low h grows sums
     (subst (λ (t : Tree). 16 * (paths t * (n + more + 1)) ≤ b) (sym h.tree) bounds))
 
 -- ---- giving back
-
-pub given_none : (r : Reducts) (i x : ℕ) → CountsGiven r i x x
-given_none r i x = λ n b most bounds. omega arith
 
 pub given_as : (r : Reducts) (i j x y : ℕ) → i ≡ j → CountsGiven r i x y → CountsGiven r j x y
 given_as r i j x y e h = subst (λ (k : ℕ). CountsGiven r k x y) e h

@@ -15,6 +15,7 @@ use Rattle.std.proofs.Common.{
   length-append,
   arith,
 }
+use Rattle.std.proofs.lemmas.List.Elements.{All-contains}
 use Rattle.djq_reduct.specs.Reducts.{Reducts, IsReducts}
 use Rattle.djq_reduct.specs.Marks.{AreMarks}
 use Rattle.djq_cursor.specs.Listing.{AreSome}
@@ -24,7 +25,6 @@ use Rattle.djq_cursor.specs.Changed.{IsChanged}
 use Rattle.djq_cursor.specs.Told.{changed_at, root_marked}
 use Rattle.djq_cursor.proofs.Updates.{updated}
 use Rattle.djq_cursor.proofs.Telling.{changed_answers}
-use Rattle.djq_live.proofs.Rows.{all_in}
 use Rattle.djq_live.proofs.Listings.{few}
 
 -- no more is told than there is
@@ -36,7 +36,7 @@ told_few r a us h low marks some =
     let whole = whole_listing (IsChanged r a) all (changed_answers r a h (updated r a h low marks))
     in
     few us all some.different
-    (λ u m. whole.complete u (all_in (IsChanged r a) us u some.all m))
+    (λ u m. whole.complete u (All-contains (IsChanged r a) us u some.all m))
 
 pub told_fewer : (r : Reducts) (a : ℕ) (us vs : List (List ℕ)) (u : List ℕ) → IsReducts r
     → a < r.tree.leaves → AreMarks r.tree r.tables a → vs ≡ us ++ u ∷ []

@@ -9,16 +9,16 @@ use Rattle.std.proofs.lemmas.List.Elements.{
   Contains-append_right,
 }
 use Rattle.djq_model.specs.Data.{Tuple}
+use Rattle.djq_union.proofs.Lists.{none_contained}
 use Rattle.djq_rows.specs.Cells.{cells_of}
 use Rattle.djq_rows.specs.Catalog.{Catalog, rows_at}
 use Rattle.djq_live.specs.Cells.{AreRowOf}
 use Rattle.djq_live.specs.Changes.{LeafIsEmpty, LeafGains, LeafIsFilled}
 use Rattle.djq_live.proofs.Giving.{one_as}
-use Rattle.djq_live.proofs.Members.{in_none}
 
 pub leaf_empty : LeafIsEmpty
 leaf_empty p es none u =
-    (λ there. absurd (let z = none u in omega arith), λ one. absurd (in_none one.cells one.row))
+    (λ there. absurd (let z = none u in omega arith), λ one. absurd (none_contained one.cells one.row))
 
 pub leaf_gains : LeafGains
 leaf_gains rows more p old new holds gains u = (

@@ -11,7 +11,6 @@ use Rattle.std.proofs.Common.{
   ◌++◌,
   length,
   map,
-  refl,
   ap,
   sym,
   subst,
@@ -27,6 +26,7 @@ use Rattle.std.proofs.lemmas.List.Elements.{
   All-append,
   Contains-append_left,
   Contains-append_right,
+  All-contains,
 }
 use Rattle.djq_index.specs.Entries.{cnt}
 use Rattle.djq_tree.specs.Tree.{Tree, is_out}
@@ -36,14 +36,10 @@ use Rattle.djq_reduct.specs.Reducts.{Reducts, IsReducts}
 use Rattle.djq_reduct.specs.Answers.{on_node, IsAnswerOf}
 use Rattle.djq_cursor.specs.Listing.{IsListing}
 use Rattle.djq_cursor.specs.Changed.{IsGained}
+use Rattle.djq_cursor.proofs.Outs.{out_within}
 use Rattle.djq_live.specs.Stepping.{HasMore}
-use Rattle.djq_live.proofs.Above.{out_within}
 use Rattle.djq_live.proofs.Filling.{assigned_of, answer_of}
-use Rattle.djq_live.proofs.Rows.{all_in}
 use Rattle.djq_live.proofs.Listings.{differ_both}
-
-pub more_itself : (r : Reducts) → HasMore r r
-more_itself r = record { tree = refl; more = λ j u low there. there }
 
 pub more_both : (r s t : Reducts) → HasMore r s → HasMore s t → HasMore r t
 more_both r s t h k = record {
@@ -144,8 +140,8 @@ pub gained_both : (r s t : Reducts) (us vs : List (List ℕ)) → IsReducts r �
     → IsListing (IsGained t s) vs → IsListing (IsGained t r) (us ++ vs)
 gained_both r s t us vs hr hs ht rs st early late = record {
   different = differ_both us vs early.different late.different
-      (λ u m k. (all_in (IsGained t s) vs u late.all k).was_none
-      (all_in (IsGained s r) us u early.all m).is);
+      (λ u m k. (All-contains (IsGained t s) vs u late.all k).was_none
+      (All-contains (IsGained s r) us u early.all m).is);
   all = All-append (IsGained t r) us vs
       (λ i d low. let g = early.all i d low in record {
         is = more_answers s t _ hs ht st g.is;
@@ -171,8 +167,8 @@ pub lost_both : (r s t : Reducts) (us vs : List (List ℕ)) → IsReducts r → 
     → IsListing (IsGained s t) vs → IsListing (IsGained r t) (us ++ vs)
 lost_both r s t us vs hr hs ht sr ts early late = record {
   different = differ_both us vs early.different late.different
-      (λ u m k. (all_in (IsGained r s) us u early.all m).was_none
-      (all_in (IsGained s t) vs u late.all k).is);
+      (λ u m k. (All-contains (IsGained r s) us u early.all m).was_none
+      (All-contains (IsGained s t) vs u late.all k).is);
   all = All-append (IsGained r t) us vs
       (λ i d low. let g = early.all i d low in record {
         is = g.is;

@@ -1,9 +1,10 @@
 -- Rows that tuples give.
 use Rattle.std.proofs.Common.{◌≡◌, List, ℕ, [], ◌∷◌, sym, subst, ◌∙◌}
 use Rattle.std.specs.Prelude.{Contains}
+use Rattle.djq_union.proofs.Lists.{at_head}
 use Rattle.djq_query.specs.Pattern.{Shape, Gives}
 use Rattle.djq_live.specs.Leaves.{GivesOne}
-use Rattle.djq_live.proofs.Members.{in_first, in_only}
+use Rattle.djq_live.proofs.Members.{in_only}
 
 -- a tuple gives one row at most
 pub gives_once : (p : Shape) (u r s : List ℕ) → Gives p u r → Gives p u s → r ≡ s
@@ -29,7 +30,7 @@ one_is P p u r gives one =
 -- where one row is in question
 pub one_of : (p : Shape) (u cells : List ℕ) → Gives p u cells
     → GivesOne (Contains (cells ∷ [])) p u
-one_of p u cells gives = record { cells = cells; row = in_first cells []; gives = gives }
+one_of p u cells gives = record { cells = cells; row = at_head cells []; gives = gives }
 
 pub only_one : (p : Shape) (u cells : List ℕ) → GivesOne (Contains (cells ∷ [])) p u
     → Gives p u cells

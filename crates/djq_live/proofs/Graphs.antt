@@ -1,23 +1,25 @@
 -- The hypergraph of a query, and that of its numbers.
-use Rattle.std.proofs.Common.{◌≡◌, ℕ, suc, ◌≤◌, Bool, true, false, List, [], ◌∷◌, length, map, refl}
+use Rattle.std.proofs.Common.{◌≡◌, ℕ, suc, ◌≤◌, true, false, List, [], ◌∷◌, length, map, refl}
 use Rattle.std.proofs.Common.{ap, ap₂, sym, ◌∙◌, inl, inr, arith}
-use Rattle.std.specs.Prelude.{
-  ◌==◌,
-  ◌&&◌,
-  ◌||◌,
-  not,
-  nat_lt,
-  Some,
-  None,
-  slice_get,
-}
+use Rattle.std.specs.Prelude.{◌==◌, ◌||◌, not, nat_lt, Some, None, slice_get}
 use Rattle.std.specs.List.{list_all, list_any}
-use Rattle.std.proofs.lemmas.Bool.{eq-eqb, ne_eqb, eqb-true, ltb-true, false≢true, or_cases}
+use Rattle.std.proofs.lemmas.Bool.{
+  eq-eqb,
+  ne_eqb,
+  eqb-true,
+  ltb-true,
+  false≢true,
+  or_cases,
+  and_parts,
+  or_left,
+  or_right,
+}
 use Rattle.std.proofs.lemmas.List.Kept.{AllPairs-from_increasing}
 use Rattle.djq_hyper.specs.Hypergraph.{member, edge_at, set_below}
 use Rattle.djq_hyper.specs.Variables.{IsVariableSet, AreVariableSets, AreCovered}
 use Rattle.djq_hyper.proofs.Members.{from_true}
 use Rattle.djq_hyper.proofs.Owning.{edge_in}
+use Rattle.djq_hyper.proofs.Rising.{Rising}
 use Rattle.djq_model.specs.declared.relation.Relation.{Relation}
 use Rattle.djq_model.specs.declared.query.Query.{Query}
 use Rattle.djq_model.specs.declared.query.Atom.{Atom}
@@ -57,7 +59,7 @@ use Rattle.djq_query.specs.Meaning.{AreShown, AreAtomsShown}
 use Rattle.djq_query.proofs.Faults.{sound_of}
 use Rattle.djq_query.proofs.Numbers.{both_false, not_false, length_labels, labels_columns}
 use Rattle.djq_query.proofs.Showing.{shown_by}
-use Rattle.djq_live.proofs.Sets.{Rising, is_set}
+use Rattle.djq_live.proofs.Sets.{is_set}
 
 -- ---- edges
 
@@ -71,10 +73,6 @@ numbers_same known (Named y ∷ ts) x =
 numbers_same known (Hole ∷ ts) x =
     ap (λ b. (x == length known) || b) (numbers_same (with_term known Hole) ts x)
 numbers_same known (Constant v ∷ ts) x = numbers_same known ts x
-
-pub and_parts : (b c : Bool) → (b && c) ≡ true → (b ≡ true) × (c ≡ true)
-and_parts true c e = (refl, e)
-and_parts false c e = absurd (false≢true e)
 
 -- a number past all variables stands in no term
 high_term : (n x : ℕ) (t : NumberedTerm) → n ≤ x → is_below n t ≡ true → is_number x t ≡ false
@@ -178,13 +176,6 @@ name_shown ls x (Named y) (Number k) one shown is =
 name_shown ls x (Named y) (Fixed v) one shown is = absurd shown.0
 name_shown ls x Hole m one shown is = absurd (false≢true is)
 name_shown ls x (Constant v) m one shown is = absurd (false≢true is)
-
-or_left : (a b : Bool) → a ≡ true → (a || b) ≡ true
-or_left a b e = rw e refl
-
-or_right : (a b : Bool) → b ≡ true → (a || b) ≡ true
-or_right true b e = refl
-or_right false b e = e
 
 terms_shown : (ls : List Label) (x : Bytes) (ts : List Term) (ms : List NumberedTerm)
     → ((k : ℕ) (y : Bytes) → slice_get ls k ≡ Some (Some y) → number_of ls y ≡ k)

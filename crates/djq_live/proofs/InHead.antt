@@ -2,7 +2,6 @@
 use Rattle.std.proofs.Common.{
   ◌≡◌,
   ℕ,
-  suc,
   ◌+◌,
   ◌<◌,
   ◌≤◌,
@@ -18,7 +17,6 @@ use Rattle.std.proofs.Common.{
   take,
   refl,
   ap,
-  ap₂,
   sym,
   subst,
   ◌∙◌,
@@ -27,7 +25,6 @@ use Rattle.std.proofs.Common.{
   arith,
 }
 use Rattle.std.specs.Prelude.{◌↔◌, Contains, slice_index, slice_index_or}
-use Rattle.std.specs.Bool.{OnTrue, OnFalse}
 use Rattle.std.proofs.lemmas.Bool.{cases_Bool, false≢true, or_cases, or_left, or_right}
 use Rattle.std.proofs.lemmas.List.{
   get_or-map,
@@ -36,6 +33,7 @@ use Rattle.std.proofs.lemmas.List.{
   map-append,
   take_more,
 }
+use Rattle.std.proofs.lemmas.List.Elements.{All-contains}
 use Rattle.djq_hyper.specs.Hypergraph.{member}
 use Rattle.djq_index.specs.Tuple.{same}
 use Rattle.djq_index.proofs.Tuples.{same_is, is_same}
@@ -54,14 +52,12 @@ use Rattle.djq_union.specs.Answers.{
   AreAll as AreAllOf,
   IsListing as IsListingOf,
 }
-use Rattle.djq_rows.specs.Catalog.{Catalog}
-use Rattle.djq_live.specs.Live.{Live, IsKept, IsKeptSomewhere}
+use Rattle.djq_live.specs.Live.{Live, IsKeptSomewhere}
 use Rattle.djq_live.specs.Member.{in_head, all_answers, has_cells, cells_given, FitsKept}
 use Rattle.djq_live.specs.Order.{reading, AreCellsOfAnswer}
 use Rattle.djq_live.proofs.Asking.{head_narrow, leaves_long}
 use Rattle.djq_live.proofs.Members.{in_last}
 use Rattle.djq_live.proofs.Picking.{member_at}
-use Rattle.djq_live.proofs.Rows.{all_in}
 
 -- ---- writing an answer's cells
 
@@ -279,9 +275,6 @@ all_given_same l s f =
 
 -- ---- the same where the query is seen from outside
 
-pub fits_inside : (l m : Live) (s : Cursor) → l ≡ m → FitsKept m s → Fits l.reducts s
-fits_inside l m s e f = subst (λ (o : Live). Fits o.reducts s) (sym e) f.1
-
 pub fits_outside : (l m : Live) (s : Cursor) → l ≡ m → IsKeptSomewhere m → Fits l.reducts s
     → FitsKept m s
 fits_outside l m s e kept f = (kept, subst (λ (o : Live). Fits o.reducts s) e f)
@@ -290,23 +283,9 @@ pub step_answer : (l : Live) (old new : Cursor)
     → given l.reducts new ≡ given l.reducts old ++ new.answer ∷ []
     → AreSome (IsAnswerOf l.reducts) (given l.reducts new) → IsAnswerOf l.reducts new.answer
 step_answer l old new one some =
-    all_in (IsAnswerOf l.reducts) (given l.reducts new) new.answer some.all
+    All-contains (IsAnswerOf l.reducts) (given l.reducts new) new.answer some.all
     (subst (λ (us : List (List ℕ)). Contains us new.answer) (sym one)
     (in_last new.answer (given l.reducts old)))
-
-pub step_one : (l m : Live) (old new : Cursor) (cells : List ℕ) → l ≡ m
-    → given l.reducts new ≡ given l.reducts old ++ new.answer ∷ []
-    → cells ≡ in_head l new.answer → cells_given m new ≡ cells_given m old ++ cells ∷ []
-step_one l m old new cells e one is =
-    subst (λ (o : Live). cells_given o new ≡ cells_given o old ++ cells ∷ []) e
-    (ap (map (in_head l)) one
-    ∙ map-append (in_head l) (given l.reducts old) (new.answer ∷ [])
-    ∙ ap (λ (t : List ℕ). cells_given l old ++ t ∷ []) (sym is))
-
-pub step_same : (l m : Live) (old new : Cursor) → l ≡ m
-    → given l.reducts new ≡ given l.reducts old → cells_given m new ≡ cells_given m old
-step_same l m old new e same =
-    subst (λ (o : Live). cells_given o new ≡ cells_given o old) e (ap (map (in_head l)) same)
 
 pub end_same : (l m : Live) (s : Cursor) (found told : Bool) → l ≡ m → FitsKept m s
     → told ≡ found → (found ≡ false) ↔ IsListing (IsAnswerOf l.reducts) (given l.reducts s)

@@ -2,9 +2,7 @@
 use Rattle.std.proofs.Common.{
   ◌≡◌,
   ℕ,
-  Bool,
   true,
-  false,
   List,
   [],
   ◌∷◌,
@@ -21,7 +19,16 @@ use Rattle.std.proofs.Common.{
   arith,
 }
 use Rattle.std.specs.Prelude.{◌==◌, Option, Some, not, drop, slice_get, slice_index}
-use Rattle.std.proofs.lemmas.Bool.{cases_Bool, eqb-true, false≢true, or_cases, or_left, or_right}
+use Rattle.std.proofs.lemmas.Bool.{
+  cases_Bool,
+  eqb-true,
+  false≢true,
+  or_cases,
+  or_left,
+  or_right,
+  and_parts,
+  not-true,
+}
 use Rattle.std.proofs.lemmas.List.{length-map}
 use Rattle.std.proofs.lemmas.Option.{same_Some}
 use Rattle.djq_hyper.specs.Hypergraph.{member}
@@ -43,15 +50,9 @@ use Rattle.djq_live.specs.Live.{values_of}
 use Rattle.djq_live.specs.Member.{in_tree, CellsInTreeStand}
 use Rattle.djq_live.specs.Order.{reading}
 use Rattle.djq_live.specs.Shown.{value_at, AreShownAs}
-use Rattle.djq_live.proofs.Terms.{both}
+use Rattle.djq_live.proofs.Showing.{first_label, rest_labels}
 
 -- ---- no variable stands in a head twice
-
-first_label : (x y : Option Label) (xs ys : List (Option Label)) → x ∷ xs ≡ y ∷ ys → x ≡ y
-first_label x y xs ys e = same_Some x y (ap (λ (l : List (Option Label)). slice_get l 0) e)
-
-rest_labels : (x y : Option Label) (xs ys : List (Option Label)) → x ∷ xs ≡ y ∷ ys → xs ≡ ys
-rest_labels x y xs ys e = ap (λ (l : List (Option Label)). drop 1 l) e
 
 -- the label of a name
 abbrev named : Bytes → Option Label
@@ -79,10 +80,6 @@ name_there f x name (y ∷ xs) (other ∷ names) is e m =
           (rest_labels (f y) (named other) (map f xs) (map named names) e) there)
     ]
 
-not_true : (b : Bool) → not b ≡ true → b ≡ false
-not_true true h = absurd cc
-not_true false h = refl
-
 simple_head : (f : ℕ → Option Label) (xs : List ℕ) (names : List Bytes)
     → map f xs ≡ map named names → are_different names ≡ true → IsSimple xs
 simple_head f [] names e h = tt
@@ -90,9 +87,9 @@ simple_head f (x ∷ xs) [] e h = absurd cc
 simple_head f (x ∷ xs) (name ∷ names) e h =
     let is = first_label (f x) (named name) (map f xs) (map named names) e in
     let rest = rest_labels (f x) (named name) (map f xs) (map named names) e in
-    let p = both (not (has_name names name)) (are_different names) h in (
+    let p = and_parts (not (has_name names name)) (are_different names) h in (
       elim (cases_Bool (member x xs)) [
-        | inl there ↦ absurd (false≢true (sym (not_true (has_name names name) p.0)
+        | inl there ↦ absurd (false≢true (sym (not-true (has_name names name) p.0)
             ∙ name_there f x name xs names is rest there))
         | inr isnt ↦ isnt
       ],
@@ -109,7 +106,7 @@ shown_as texts vs F u [] [] e f h = tt
 shown_as texts vs F u [] (w ∷ v) e f h = absurd (false≢true f)
 shown_as texts vs F u (x ∷ xs) [] e f h = absurd (false≢true f)
 shown_as texts vs F u (x ∷ xs) (w ∷ v) e f h =
-    let p = both (is_of (column_of vs x) w) (fits (map (column_of vs) xs) v) f in (
+    let p = and_parts (is_of (column_of vs x) w) (fits (map (column_of vs) xs) v) f in (
       record {
         of = p.0;
         has = h.0;
@@ -136,7 +133,7 @@ fits_long vs [] [] f = refl
 fits_long vs [] (w ∷ v) f = absurd (false≢true f)
 fits_long vs (x ∷ xs) [] f = absurd (false≢true f)
 fits_long vs (x ∷ xs) (w ∷ v) f =
-    let rest = fits_long vs xs v (both (is_of (column_of vs x) w) (fits (map (column_of vs) xs) v) f).1 in
+    let rest = fits_long vs xs v (and_parts (is_of (column_of vs x) w) (fits (map (column_of vs) xs) v) f).1 in
     omega arith
 
 -- ---- of a query that is kept

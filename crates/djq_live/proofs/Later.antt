@@ -8,6 +8,7 @@ use Rattle.djq_model.specs.declared.query.Query.{Query}
 use Rattle.djq_model.specs.declared.query.Atom.{Atom}
 use Rattle.djq_model.specs.declared.query.Comparison.{Comparison}
 use Rattle.djq_model.specs.Data.{Bytes, Tuple}
+use Rattle.djq_union.proofs.Lists.{at_head}
 use Rattle.djq_query.specs.declared.numbered.Variable.{Variable}
 use Rattle.djq_query.specs.declared.numbered.NumberedTerm.{NumberedTerm}
 use Rattle.djq_query.specs.declared.numbered.NumberedTerm.TheVariants.{
@@ -31,7 +32,7 @@ use Rattle.djq_live.specs.Asked.{
 }
 use Rattle.djq_live.specs.Leaves.{AreCellsOf, IsPatternOf}
 use Rattle.djq_live.specs.Changes.{IsLater}
-use Rattle.djq_live.proofs.Members.{in_first, in_rest}
+use Rattle.djq_live.proofs.Members.{in_rest}
 use Rattle.djq_live.proofs.Terms.{heads}
 
 pub has_later : (texts more : List Bytes) (v : Value) → HasCell texts v → HasCell (texts ++ more) v
@@ -144,7 +145,7 @@ atom_at c vs [] (n ∷ ms) j m h e = absurd h
 atom_at c vs (a ∷ atoms) [] j m h e = absurd h
 atom_at c vs (a ∷ atoms) (n ∷ ms) zero m h e = record {
   atom = a;
-  there = in_first a atoms;
+  there = at_head a atoms;
   is = subst (λ (k : NumberedAtom). IsAtomOf c vs a k) (same_Some n m e) h.0;
 }
 atom_at c vs (a ∷ atoms) (n ∷ ms) (suc j) m h e =

@@ -22,7 +22,6 @@ use Rattle.std.proofs.Common.{
   arith,
 }
 use Rattle.std.specs.Prelude.{◌↔◌, Option, None, Some}
-use Rattle.std.proofs.lemmas.Bool.{false≢true}
 use Rattle.std.proofs.lemmas.Option.{same_Some, none-some}
 use Rattle.std.proofs.lemmas.List.{length-append}
 use Rattle.djq_machine.specs.Store.{most_steps}
@@ -32,7 +31,6 @@ use Rattle.djq_index.proofs.Tuples.{same_cases, is_same, one_true, one_other}
 use Rattle.djq_tree.specs.Tree.{Tree}
 use Rattle.djq_reduct.specs.Tables.{entries_at}
 use Rattle.djq_reduct.specs.Reducts.{Reducts, IsReducts}
-use Rattle.djq_reduct.specs.Marks.{IsBare}
 use Rattle.djq_reduct.proofs.Family.{apart_at}
 use Rattle.djq_propagate.specs.Updates.{HasInserted, HasMarked, HasKept, HasGained, HasLost}
 use Rattle.djq_cursor.specs.Listing.{IsListing}
@@ -88,23 +86,6 @@ gained_gains cells u p j old new only came = record {
   others = λ i low apart v. came.others i v low apart;
 }
 
-pub unmatched_gains : (cells : List ℕ) (p : Shape) (j : ℕ) (r : Reducts) → IsOnly None p cells
-    → IsReducts r → IsBare r.tables → ChangesAt (λ q es fs. Gains q cells es fs) p j r r
-unmatched_gains cells p j r only sound bare = record {
-  sound = sound;
-  tree = refl;
-  bare = bare;
-  leaf = λ v. (
-    λ there. inl there,
-    λ either.
-        elim either [
-          | inl before ↦ before
-          | inr e ↦ absurd (none-some v ((only v).1 (only_one p v cells e)))
-        ],
-  );
-  others = λ i low apart v. refl;
-}
-
 -- ---- what goes
 
 pub lost_loses : (cells u : List ℕ) (p : Shape) (j : ℕ) (old new : Reducts)
@@ -135,19 +116,6 @@ lost_loses cells u p j old new only sound went = record {
             ],
       );
   others = λ i low apart v. went.others i v low apart;
-}
-
-pub unmatched_loses : (cells : List ℕ) (p : Shape) (j : ℕ) (r : Reducts) → IsOnly None p cells
-    → IsReducts r → IsBare r.tables → ChangesAt (λ q es fs. Loses q cells es fs) p j r r
-unmatched_loses cells p j r only sound bare = record {
-  sound = sound;
-  tree = refl;
-  bare = bare;
-  leaf = λ v. (
-    λ there. (there, λ e. none-some v ((only v).1 e)),
-    λ both. both.0,
-  );
-  others = λ i low apart v. refl;
 }
 
 -- ---- what is listed
@@ -223,15 +191,3 @@ marked_lists came j u old mid new log told before now sound marked l =
     (same_more mid old (sym marked.tree) (λ k w. sym (marked.tables.tuples k w)))
     (same_more old mid marked.tree marked.tables.tuples))
     l
-
--- where the delta is wanted, and where it isn't
-pub lists_wanted : (wanted came : Bool) (P : List ℕ → Type 0) (h calls : ℕ) (old new : Log)
-    (before now : ℕ) → wanted ≡ true → ListsAll came P h calls old new before now
-    → ListsWhere wanted came P h calls old new before now
-lists_wanted true came P h calls old new before now e l = l
-lists_wanted false came P h calls old new before now e l = absurd (false≢true e)
-
-pub lists_nothing : (wanted came : Bool) (P : List ℕ → Type 0) (h calls : ℕ) (log : Log) (n : ℕ)
-    → wanted ≡ false → ListsWhere wanted came P h calls log log n n
-lists_nothing true came P h calls log n e = absurd (false≢true (sym e))
-lists_nothing false came P h calls log n e = (refl, refl)

@@ -18,12 +18,10 @@ pub mod Changing
 pub mod Placing
 pub mod Typing
 pub mod Filled
-pub mod Retained
 pub mod Untouched
 pub mod Advancing
 pub mod Picking
 pub mod Asking
-pub mod Outdated
 pub mod Listings
 pub mod Telling
 pub mod Gaining

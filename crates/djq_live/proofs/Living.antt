@@ -20,6 +20,7 @@ use Rattle.djq_reduct.specs.Reducts.{Reducts, SameTables}
 use Rattle.djq_cursor.specs.Listing.{IsListing}
 use Rattle.djq_cursor.specs.Changed.{IsGained}
 use Rattle.djq_cursor.specs.Log.{Log}
+use Rattle.djq_union.proofs.Lists.{none_contained}
 use Rattle.djq_query.specs.declared.numbered.NumberedAtom.{NumberedAtom}
 use Rattle.djq_query.specs.Numbered.{Numbered, labels}
 use Rattle.djq_query.specs.Pattern.{Shape}
@@ -50,7 +51,7 @@ use Rattle.djq_live.specs.Stepping.{
   lines_of,
 }
 use Rattle.djq_live.proofs.Giving.{one_of}
-use Rattle.djq_live.proofs.Members.{in_none, in_cons, in_rest}
+use Rattle.djq_live.proofs.Members.{in_cons, in_rest}
 use Rattle.djq_reduct.proofs.Readings.{member_here, member_on}
 use Rattle.djq_live.proofs.Listings.{few}
 use Rattle.djq_live.proofs.Passing.{part_few}
@@ -95,7 +96,7 @@ in_member (y ∷ l) x m =
     ]
 
 member_in : (l : List ℕ) (x : ℕ) → Contains l x → member x l ≡ true
-member_in [] x c = absurd (in_none x c)
+member_in [] x c = absurd (none_contained x c)
 member_in (y ∷ l) x c =
     elim (in_cons y x l c) [
       | inl here ↦ subst (λ (z : ℕ). member z (y ∷ l) ≡ true) here (member_here y l)

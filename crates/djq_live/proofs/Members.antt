@@ -10,7 +10,6 @@ use Rattle.std.proofs.Common.{
   ◌∷◌,
   ◌++◌,
   length,
-  refl,
   sym,
   ◌∙◌,
   ◌⊎◌,
@@ -23,9 +22,8 @@ use Rattle.std.proofs.lemmas.Bool.{cases_Bool, false≢true}
 use Rattle.djq_model.specs.Data.{Tuple, tuple_eq, without_row}
 use Rattle.djq_model.specs.Equality.{tuple_eq-decides}
 use Rattle.djq_model.specs.Answer.{AreDifferent}
-
-pub in_first : {A : Type 0} (x : A) (xs : List A) → Contains (x ∷ xs) x
-in_first x xs = (0, omega arith, refl)
+use Rattle.djq_model.proofs.Counted.{rest_differ}
+use Rattle.djq_union.proofs.Lists.{at_head, none_contained}
 
 pub in_rest : {A : Type 0} (y x : A) (xs : List A) → Contains xs x → Contains (y ∷ xs) x
 in_rest y x xs c = (suc c.0, (let low = c.1 in omega arith), c.2)
@@ -39,14 +37,11 @@ pub in_cons : {A : Type 0} (y x : A) (xs : List A) → Contains (y ∷ xs) x
     → (y ≡ x) ⊎ Contains xs x
 in_cons y x xs c = in_cons_at y x xs c.0 c.1 c.2
 
-pub in_none : {A : Type 0} (x : A) → Contains [] x → ⊥
-in_none x c = let low = c.1 in omega arith
-
 pub in_only : {A : Type 0} (y x : A) → Contains (y ∷ []) x → y ≡ x
-in_only y x c = elim (in_cons y x [] c) [ inl is ↦ is | inr there ↦ absurd (in_none x there) ]
+in_only y x c = elim (in_cons y x [] c) [ inl is ↦ is | inr there ↦ absurd (none_contained x there) ]
 
 pub in_left : {A : Type 0} (x : A) (xs ys : List A) → Contains xs x → Contains (xs ++ ys) x
-in_left x [] ys c = absurd (in_none x c)
+in_left x [] ys c = absurd (none_contained x c)
 in_left x (y ∷ xs) ys c =
     elim (in_cons y x xs c) [
       | inl here ↦ (0, omega arith, here)
@@ -54,13 +49,13 @@ in_left x (y ∷ xs) ys c =
     ]
 
 pub in_last : {A : Type 0} (x : A) (xs : List A) → Contains (xs ++ x ∷ []) x
-in_last x [] = in_first x []
+in_last x [] = at_head x []
 in_last x (y ∷ xs) = in_rest y x (xs ++ x ∷ []) (in_last x xs)
 
 pub in_pushed : {A : Type 0} (y x : A) (xs : List A) → Contains (xs ++ y ∷ []) x
     → Contains xs x ⊎ (y ≡ x)
 in_pushed y x [] c =
-    elim (in_cons y x [] c) [ inl here ↦ inr here | inr there ↦ absurd (in_none x there) ]
+    elim (in_cons y x [] c) [ inl here ↦ inr here | inr there ↦ absurd (none_contained x there) ]
 in_pushed y x (z ∷ xs) c =
     elim (in_cons z x (xs ++ y ∷ []) c) [
       | inl here ↦ inl (0, omega arith, here)
@@ -70,9 +65,6 @@ in_pushed y x (z ∷ xs) c =
 
 -- ---- without one
 
-pub rest_different : (r : Tuple) (rows : List Tuple) → AreDifferent (r ∷ rows) → AreDifferent rows
-rest_different r rows d i j x a b = d (suc i) (suc j) x (omega arith) (omega arith)
-
 pub first_different : (r x : Tuple) (rows : List Tuple) → AreDifferent (r ∷ rows) → Contains rows x
     → r ≡ x → ⊥
 first_different r x rows d c e =
@@ -80,7 +72,7 @@ first_different r x rows d c e =
 
 pub in_without : (rows : List Tuple) (row x : Tuple) → AreDifferent rows
     → Contains (without_row rows row) x → Contains rows x × (row ≡ x → ⊥)
-in_without [] row x d c = absurd (in_none x c)
+in_without [] row x d c = absurd (none_contained x c)
 in_without (r ∷ rows) row x d c =
     elim (cases_Bool (tuple_eq r row)) [
       | inl same ↦
@@ -95,14 +87,14 @@ in_without (r ∷ rows) row x d c =
               λ e. false≢true (sym other ∙ (tuple_eq-decides r row).1 (here ∙ sym e)),
             )
             | inr there ↦
-                let p = in_without rows row x (rest_different r rows d) there in
+                let p = in_without rows row x (rest_differ r rows d) there in
                 (in_rest r x rows p.0, p.1)
           ]
     ]
 
 pub still_in : (rows : List Tuple) (row x : Tuple) → Contains rows x → (row ≡ x → ⊥)
     → Contains (without_row rows row) x
-still_in [] row x c other = absurd (in_none x c)
+still_in [] row x c other = absurd (none_contained x c)
 still_in (r ∷ rows) row x c other =
     elim (cases_Bool (tuple_eq r row)) [
       | inl same ↦ rw same

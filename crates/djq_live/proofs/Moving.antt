@@ -10,11 +10,12 @@ use Rattle.djq_lines.specs.declared.answer.AddOutcome.{AddOutcome}
 use Rattle.djq_lines.specs.declared.answer.AddOutcome.TheVariants.{First, More}
 use Rattle.djq_cursor.specs.declared.log.Line.{Line}
 use Rattle.djq_cursor.specs.Log.{Log}
+use Rattle.djq_union.proofs.Lists.{at_head}
 use Rattle.djq_rows.specs.Catalog.{Catalog, counted_at, with_rows_at}
 use Rattle.djq_rows.specs.Changes.{AddsRow}
 use Rattle.djq_live.specs.Live.{Live, IsKept, IsShowable}
 use Rattle.djq_live.specs.Updating.{Logs}
-use Rattle.djq_live.proofs.Members.{in_first, in_rest}
+use Rattle.djq_live.proofs.Members.{in_rest}
 use Rattle.djq_live.proofs.Showable.{stays_showable}
 
 pub same_catalog : (c d : Catalog) → d.relations ≡ c.relations → d.texts ≡ c.texts → d ≡ c
@@ -27,7 +28,7 @@ has_contains (r ∷ rows) row h =
     elim (cases_Bool (tuple_eq r row)) [
       | inl same ↦
           subst (λ (x : Tuple). Contains (r ∷ rows) x) ((tuple_eq-decides r row).0 same)
-          (in_first r rows)
+          (at_head r rows)
       | inr other ↦ in_rest r row rows (has_contains rows row (rw other at h))
     ]
 

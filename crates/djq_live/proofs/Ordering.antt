@@ -7,8 +7,9 @@ use Rattle.std.proofs.lemmas.Bool.{cases_Bool, cases_lt, cases_eq, eq-eqb, ne_eq
 use Rattle.std.proofs.lemmas.List.Elements.{All-cons}
 use Rattle.std.proofs.lemmas.List.Kept.{AllPairs-cons}
 use Rattle.djq_lines.specs.Rest.{is_before}
+use Rattle.djq_union.proofs.Lists.{at_head, none_contained}
 use Rattle.djq_live.specs.Ordering.{with_edge, in_order, IsPlaceFor}
-use Rattle.djq_live.proofs.Members.{in_first, in_rest, in_cons, in_none}
+use Rattle.djq_live.proofs.Members.{in_rest, in_cons}
 
 -- ---- the order
 
@@ -149,7 +150,7 @@ put_says e g (f ∷ fs) h =
       | inl before ↦
           elim (in_cons f g (with_edge e fs)
           (subst (λ (l : List (List ℕ)). Contains l g) (behind e f fs before) h)) [
-            | inl here ↦ inr (subst (λ (x : List ℕ). Contains (f ∷ fs) x) here (in_first f fs))
+            | inl here ↦ inr (subst (λ (x : List ℕ). Contains (f ∷ fs) x) here (at_head f fs))
             | inr there ↦
                 elim (put_says e g fs there)
                 [ inl is ↦ inl is | inr rest ↦ inr (in_rest f g fs rest) ]
@@ -168,8 +169,8 @@ pub put_has : (e g : List ℕ) (fs : List (List ℕ)) → (e ≡ g) ⊎ Contains
 put_has e g [] h =
     subst (λ (l : List (List ℕ)). Contains l g) (sym (alone e))
     (elim h [
-      | inl is ↦ subst (λ (x : List ℕ). Contains (e ∷ []) x) is (in_first e [])
-      | inr there ↦ absurd (in_none g there)
+      | inl is ↦ subst (λ (x : List ℕ). Contains (e ∷ []) x) is (at_head e [])
+      | inr there ↦ absurd (none_contained g there)
     ])
 put_has e g (f ∷ fs) h =
     elim (cases_Bool (is_before f e)) [
@@ -180,7 +181,7 @@ put_has e g (f ∷ fs) h =
             | inr there ↦
                 elim (in_cons f g fs there) [
                   | inl here ↦ subst (λ (x : List ℕ). Contains (f ∷ with_edge e fs) x) here
-                      (in_first f (with_edge e fs))
+                      (at_head f (with_edge e fs))
                   | inr rest ↦ in_rest f g (with_edge e fs) (put_has e g fs (inr rest))
                 ]
           ])
@@ -190,14 +191,14 @@ put_has e g (f ∷ fs) h =
                 subst (λ (l : List (List ℕ)). Contains l g) (sym (ahead e f fs isnt lower))
                 (elim h [
                   | inl is ↦ subst (λ (x : List ℕ). Contains (e ∷ f ∷ fs) x) is
-                      (in_first e (f ∷ fs))
+                      (at_head e (f ∷ fs))
                   | inr there ↦ in_rest e g (f ∷ fs) there
                 ])
             | inr same ↦
                 subst (λ (l : List (List ℕ)). Contains l g) (sym (equal e f fs isnt same))
                 (elim h [
                   | inl is ↦ subst (λ (x : List ℕ). Contains (f ∷ fs) x)
-                      (same_edge f e isnt same ∙ is) (in_first f fs)
+                      (same_edge f e isnt same ∙ is) (at_head f fs)
                   | inr there ↦ there
                 ])
           ]
@@ -212,7 +213,7 @@ putting_says sorted (e ∷ edges) g h =
     elim (putting_says (with_edge e sorted) edges g h) [
       | inl put ↦
           elim (put_says e g sorted put) [
-            | inl is ↦ inr (subst (λ (x : List ℕ). Contains (e ∷ edges) x) is (in_first e edges))
+            | inl is ↦ inr (subst (λ (x : List ℕ). Contains (e ∷ edges) x) is (at_head e edges))
             | inr before ↦ inl before
           ]
       | inr later ↦ inr (in_rest e g edges later)
@@ -221,7 +222,7 @@ putting_says sorted (e ∷ edges) g h =
 putting_has : (sorted edges : List (List ℕ)) (g : List ℕ) → Contains sorted g ⊎ Contains edges g
     → Contains (fold (λ sorted e. with_edge e sorted) sorted edges) g
 putting_has sorted [] g h =
-    elim h [ inl there ↦ there | inr none ↦ absurd (in_none g none) ]
+    elim h [ inl there ↦ there | inr none ↦ absurd (none_contained g none) ]
 putting_has sorted (e ∷ edges) g h =
     putting_has (with_edge e sorted) edges g
     (elim h [
@@ -237,7 +238,7 @@ pub ordered_members : (edges : List (List ℕ)) (g : List ℕ)
     → Contains (in_order edges) g ↔ Contains edges g
 ordered_members edges g = (
   λ h. elim (putting_says [] edges g h)
-      [ inl none ↦ absurd (in_none g none) | inr there ↦ there ],
+      [ inl none ↦ absurd (none_contained g none) | inr there ↦ there ],
   λ h. putting_has [] edges g (inr h),
 )
 

@@ -5,12 +5,8 @@ use Rattle.std.proofs.Common.{
   ◌<◌,
   true,
   List,
-  [],
-  ◌∷◌,
-  ◌++◌,
   length,
   map,
-  refl,
   ap,
   sym,
   subst,
@@ -24,9 +20,8 @@ use Rattle.std.proofs.lemmas.Bool.{cases_eq, cases_lt}
 use Rattle.std.proofs.lemmas.List.Elements.{Contains-append_left}
 use Rattle.std.proofs.lemmas.Option.{slice_get_within}
 use Rattle.djq_hyper.specs.Hypergraph.{member}
-use Rattle.djq_model.specs.declared.value.Value.{Value}
 use Rattle.djq_model.specs.declared.query.Query.{Query}
-use Rattle.djq_model.specs.Data.{Bytes, Tuple}
+use Rattle.djq_model.specs.Data.{Tuple}
 use Rattle.djq_model.specs.Answer.{IsAnswer}
 use Rattle.djq_index.specs.Entries.{cnt}
 use Rattle.djq_tree.specs.Tree.{Tree}
@@ -35,21 +30,18 @@ use Rattle.djq_reduct.specs.Columns.{column}
 use Rattle.djq_reduct.specs.Tables.{entries_at}
 use Rattle.djq_reduct.specs.Reducts.{Reducts, IsReducts}
 use Rattle.djq_reduct.specs.Answers.{IsAnswerOf}
-use Rattle.djq_query.specs.declared.numbered.Variable.{Variable}
 use Rattle.djq_query.specs.declared.numbered.NumberedAtom.{NumberedAtom}
 use Rattle.djq_query.specs.Numbered.{Numbered, labels}
 use Rattle.djq_query.specs.Pattern.{Shape}
 use Rattle.djq_rows.specs.Cells.{cell_of, StandsFor, IsCell}
-use Rattle.djq_rows.specs.Parts.{value_of}
 use Rattle.djq_rows.specs.Catalog.{Catalog, rows_at}
-use Rattle.djq_rows.proofs.Encoding.{value_back}
 use Rattle.djq_live.specs.Asked.{IsAsked, column_of}
 use Rattle.djq_live.specs.Cells.{AreRowOf, IsSatisfied}
 use Rattle.djq_live.specs.Leaves.{GivesOne, IsOver}
 use Rattle.djq_live.specs.Changes.{IsLater, CameAll, GainsAll}
 use Rattle.djq_live.specs.Shown.{value_at, shown}
 use Rattle.djq_live.specs.Stepping.{ChangesBelow}
-use Rattle.djq_reduct.proofs.Readings.{cell_there, row_same, member_here, member_on}
+use Rattle.djq_reduct.proofs.Readings.{cell_there, row_same}
 use Rattle.djq_live.proofs.Filling.{assigned_of}
 use Rattle.djq_live.proofs.Tabling.{IsIn}
 use Rattle.djq_live.proofs.Giving.{one_as}
@@ -58,16 +50,11 @@ use Rattle.djq_live.proofs.Compared.{ArePassed, hold_all, passed_all}
 use Rattle.djq_live.proofs.Terms.{value_by, value_by_is}
 use Rattle.djq_live.proofs.Atoms.{AreSatisfied, satisfies_all, cell_at}
 use Rattle.djq_live.proofs.Heads.{InAtom, has_at, in_atom}
-use Rattle.djq_live.proofs.Later.{
-  asked_later,
-  atom_at,
-  cell_later,
-  constants_have,
-  has_later,
-  pattern_later,
-}
+use Rattle.djq_live.proofs.Later.{asked_later, atom_at, constants_have, pattern_later}
 use Rattle.djq_live.proofs.Changing.{row_on, row_new}
 use Rattle.djq_live.proofs.Showing.{satisfied, passed, row_value, heads_same, value_stands, maps_at}
+use Rattle.djq_live.proofs.Untouched.{value_later}
+use Rattle.djq_live.proofs.Asking.{values_same}
 
 -- What is in all leaves satisfies all atoms and passes all comparisons. So it is of the query's
 -- reducts, and of those that lack tuples in some leaves.
@@ -246,31 +233,11 @@ part_differ c q n r u v h is other e =
 
 -- ---- the same values later on
 
-value_later : (c d : Catalog) (vs : List Variable) (F u : List ℕ) (x : ℕ) → IsLater c d
-    → StandsFor c.texts (column_of vs x) (slice_index u (column F x))
-    (value_at c.texts vs F u x)
-    → value_at d.texts vs F u x ≡ value_at c.texts vs F u x
-value_later c d vs F u x later s =
-    let v = value_at c.texts vs F u x in
-    ap (λ (texts : List Bytes). value_of texts (column_of vs x) (slice_index u (column F x)))
-    later.texts
-    ∙ ap (λ (k : ℕ). value_of (c.texts ++ later.more) (column_of vs x) k)
-    (s.is ∙ sym (cell_later c.texts later.more v s.has))
-    ∙ value_back (c.texts ++ later.more) (column_of vs x) v s.of
-    (has_later c.texts later.more v s.has)
-
-maps_as : (f g : ℕ → Value) (xs : List ℕ) → ((x : ℕ) → member x xs ≡ true → f x ≡ g x)
-    → map f xs ≡ map g xs
-maps_as f g [] h = refl
-maps_as f g (x ∷ xs) h =
-    ap (λ (v : Value). v ∷ map f xs) (h x (member_here x xs))
-    ∙ ap (λ (vs : Tuple). g x ∷ vs) (maps_as f g xs (λ y m. h y (member_on y x xs m)))
-
 -- an answer shows the same values over a later catalog
 pub shown_later : (c d : Catalog) (q : Query) (n : Numbered) (r : Reducts) (u : List ℕ)
     → IsPart c q n r → IsLater c d → IsAnswerOf r u
     → shown d.texts n r.tree.head u ≡ shown c.texts n r.tree.head u
 shown_later c d q n r u h later is =
-    maps_as (value_at d.texts n.variables r.tree.head u)
+    values_same (value_at d.texts n.variables r.tree.head u)
     (value_at c.texts n.variables r.tree.head u) n.head
     (λ x m. value_later c d n.variables r.tree.head u x later (part_stands c q n r u x h is m))

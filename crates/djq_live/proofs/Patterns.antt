@@ -65,13 +65,6 @@ cells_long texts (s ∷ ts) (d ∷ cs) h = ap suc (cells_long texts ts cs h.1)
 
 -- ---- patterns
 
-pub no_patterns : (texts : List Bytes) (labels : List (List ℕ)) (ks : List NumberedComparison)
-    (atoms : List NumberedAtom) → ArePatternsOf texts labels ks atoms []
-no_patterns texts labels ks atoms = record {
-  few = omega arith;
-  each = λ j m p e f. absurd cc;
-}
-
 pub patterns_push : (texts : List Bytes) (labels : List (List ℕ)) (ks : List NumberedComparison)
     (atoms : List NumberedAtom) (ps : List Shape) (j : ℕ) (m : NumberedAtom) (p : Shape)
     → ArePatternsOf texts labels ks atoms ps → length ps ≡ j → j < length atoms

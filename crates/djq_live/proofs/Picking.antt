@@ -8,7 +8,6 @@ use Rattle.std.proofs.Common.{
   ◌<◌,
   Bool,
   true,
-  false,
   List,
   [],
   ◌∷◌,
@@ -20,20 +19,14 @@ use Rattle.std.proofs.Common.{
   ap,
   ap₂,
   sym,
-  subst,
   ◌∙◌,
-  inl,
-  inr,
   arith,
-  append_assoc,
 }
-use Rattle.std.specs.Prelude.{◌&&◌, Option, Some, slice_index, slice_index_or, option_to_list}
-use Rattle.std.proofs.lemmas.Bool.{cases_eq}
-use Rattle.std.proofs.lemmas.List.{drop_more, append-nil}
+use Rattle.std.specs.Prelude.{Option, Some, slice_index, option_to_list}
+use Rattle.std.proofs.lemmas.List.{drop_more}
 use Rattle.djq_hyper.specs.Hypergraph.{member}
-use Rattle.djq_model.specs.declared.value.Value.{Value}
 use Rattle.djq_model.specs.Data.{Tuple}
-use Rattle.djq_model.specs.Typed.{is_of, fits}
+use Rattle.djq_model.specs.Typed.{fits}
 use Rattle.djq_query.specs.declared.numbered.Variable.{Variable}
 use Rattle.djq_reduct.specs.Columns.{column}
 use Rattle.djq_reduct.proofs.Placing.{column_here, column_on, column_none, column_within}
@@ -76,38 +69,6 @@ from_end xs x at last h =
 abbrev pub fits_from : List Variable → List ℕ → Tuple → ℕ → Bool
 fits_from vs xs t at = fits (map (column_of vs) (drop at xs)) (drop at t)
 
-cut : (vs : List Variable) (xs : List ℕ) (t : Tuple) (at : ℕ) (v : Value) → at < length xs
-    → at < length t → slice_index_or t at v ≡ v
-    → fits_from vs xs t at ≡ (is_of (column_of vs (slice_index xs at)) v
-    && fits_from vs xs t (at + 1))
-cut vs xs t at v low within is =
-    ap₂ (λ (l : List ℕ) (m : Tuple). fits (map (column_of vs) l) m) (drop_more xs at 0 low)
-    (drop_more t at v within
-    ∙ ap (λ (w : Value). w ∷ drop (at + 1) t) is)
-
-pub fits_next : (vs : List Variable) (xs : List ℕ) (t : Tuple) (at : ℕ) (v : Value)
-    (whole b : Bool) → at < length xs → at < length t → slice_index_or t at v ≡ v
-    → b ≡ is_of (column_of vs (slice_index xs at)) v → b ≡ true
-    → whole ≡ fits_from vs xs t at → whole ≡ fits_from vs xs t (at + 1)
-fits_next vs xs t at v whole b low within is test holds h =
-    h ∙ cut vs xs t at v low within is
-    ∙ ap (λ (d : Bool). d && fits_from vs xs t (at + 1)) (sym test ∙ holds)
-
-pub fits_not : (vs : List Variable) (xs : List ℕ) (t : Tuple) (at : ℕ) (v : Value)
-    (whole b : Bool) → at < length xs → at < length t → slice_index_or t at v ≡ v
-    → b ≡ is_of (column_of vs (slice_index xs at)) v → b ≡ false
-    → whole ≡ fits_from vs xs t at → false ≡ whole
-fits_not vs xs t at v whole b low within is test fails h =
-    sym (h ∙ cut vs xs t at v low within is
-    ∙ ap (λ (d : Bool). d && fits_from vs xs t (at + 1)) (sym test ∙ fails))
-
-pub fits_end : (vs : List Variable) (xs : List ℕ) (t : Tuple) (at : ℕ) (whole : Bool)
-    → at ≡ length xs → length t ≡ length xs → whole ≡ fits_from vs xs t at → true ≡ whole
-fits_end vs xs t at whole last long h =
-    sym (h ∙ ap₂ (λ (l : List ℕ) (m : Tuple). fits (map (column_of vs) l) m)
-    (ap (λ (n : ℕ). drop n xs) last ∙ drop_all xs)
-    (ap (λ (n : ℕ). drop n t) (last ∙ sym long) ∙ drop_all t))
-
 -- ---- variables in rising order
 
 pub popped : (o : Option ℕ) (old new : List ℕ) (x : ℕ) → old ≡ option_to_list o ++ new
@@ -118,24 +79,6 @@ pub first_within : (head old new : List ℕ) (x : ℕ) → old ≡ x ∷ new
     → ((y : ℕ) → member y old ≡ true → member y head ≡ true) → member x head ≡ true
 first_within head old new x e h =
     h x (ap (λ (l : List ℕ). member x l) e ∙ member_here x new)
-
-pub rest_within : (head old new : List ℕ) (x : ℕ) → old ≡ x ∷ new
-    → ((y : ℕ) → member y old ≡ true → member y head ≡ true)
-    → (y : ℕ) → member y new ≡ true → member y head ≡ true
-rest_within head old new x e h y m =
-    h y (ap (λ (l : List ℕ). member y l) e ∙ member_on y x new m)
-
-pub picked_next : (f : ℕ → ℕ) (old new cells all : List ℕ) (x u : ℕ) → old ≡ x ∷ new → u ≡ f x
-    → cells ++ map f old ≡ all → (cells ++ u ∷ []) ++ map f new ≡ all
-picked_next f old new cells all x u e is h =
-    append_assoc cells (u ∷ []) (map f new)
-    ∙ ap (λ (n : ℕ). cells ++ n ∷ map f new) is
-    ∙ sym (ap (λ (l : List ℕ). cells ++ map f l) e) ∙ h
-
-pub picked_all : (f : ℕ → ℕ) (rest cells all : List ℕ) → rest ≡ [] → cells ++ map f rest ≡ all
-    → cells ≡ all
-picked_all f rest cells all none h =
-    sym (ap (λ (l : List ℕ). cells ++ map f l) none ∙ append-nil cells) ∙ h
 
 -- ---- cells that agree
 
@@ -152,24 +95,6 @@ pub agree_all : (f : ℕ → ℕ) (xs cells : List ℕ) (at : ℕ) → length ce
     → at ≡ length xs
     → ((j : ℕ) → j < at → slice_index cells j ≡ f (slice_index xs j)) → map f xs ≡ cells
 agree_all f xs cells at long last h = maps_to f xs cells long (λ j low. h j (omega arith))
-
-pub agree_at : (f : ℕ → ℕ) (xs cells : List ℕ) (j : ℕ) → map f xs ≡ cells → j < length xs
-    → slice_index cells j ≡ f (slice_index xs j)
-agree_at f [] cells j e low = absurd (omega arith)
-agree_at f (x ∷ xs) [] j e low = absurd cc
-agree_at f (x ∷ xs) (c ∷ cells) zero e low = sym (ap (λ (l : List ℕ). slice_index l 0) e)
-agree_at f (x ∷ xs) (c ∷ cells) (suc j) e low =
-    agree_at f xs cells j (ap (λ (l : List ℕ). drop 1 l) e) (omega arith)
-
-pub agree_more : (f : ℕ → ℕ) (xs cells : List ℕ) (at : ℕ)
-    → ((j : ℕ) → j < at → slice_index cells j ≡ f (slice_index xs j))
-    → slice_index cells at ≡ f (slice_index xs at)
-    → (j : ℕ) → j < at + 1 → slice_index cells j ≡ f (slice_index xs j)
-agree_more f xs cells at h here j low =
-    elim (cases_eq j at) [
-      | inl same ↦ subst (λ (i : ℕ). slice_index cells i ≡ f (slice_index xs i)) (sym same) here
-      | inr other ↦ h j (omega arith)
-    ]
 
 -- ---- places are within
 

@@ -61,7 +61,7 @@ use Rattle.djq_query.specs.declared.pattern.Slot.{Slot}
 
 -- ---- lengths
 
-fits_long : (types : List ColumnType) (row : Tuple) → fits types row ≡ true
+pub fits_long : (types : List ColumnType) (row : Tuple) → fits types row ≡ true
     → length row ≡ length types
 fits_long [] [] h = refl
 fits_long [] (v ∷ row) h = absurd (false≢true h)
@@ -69,7 +69,7 @@ fits_long (t ∷ types) [] h = absurd (false≢true h)
 fits_long (t ∷ types) (v ∷ row) h =
     ap suc (fits_long types row (and_parts (is_of t v) (fits types row) h).1)
 
-suited_long : (texts : List Bytes) (vs : List Variable) (ns : List NumberedTerm)
+pub suited_long : (texts : List Bytes) (vs : List Variable) (ns : List NumberedTerm)
     (cs : List ColumnType) → AreSuited texts vs ns cs → length ns ≡ length cs
 suited_long texts vs [] [] h = refl
 suited_long texts vs [] (c ∷ cs) h = absurd h

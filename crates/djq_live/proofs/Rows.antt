@@ -14,11 +14,11 @@ use Rattle.std.proofs.Common.{
   refl,
   ap,
   sym,
-  subst,
   ◌∙◌,
   arith,
 }
-use Rattle.std.specs.Prelude.{Option, Some, All, AllPairs, Contains, ◌≢◌}
+use Rattle.std.specs.Prelude.{Option, Some, AllPairs, Contains, ◌≢◌}
+use Rattle.std.proofs.lemmas.List.Elements.{All-contains}
 use Rattle.djq_model.specs.declared.relation.Relation.{Relation}
 use Rattle.djq_model.specs.declared.query.Atom.{Atom}
 use Rattle.djq_model.specs.Data.{
@@ -59,20 +59,17 @@ rows_are c vs a m h is =
     ap (λ (o : Option Relation). tuples_of (counted_in o))
     (found_at c.relations a.relation m.relation h.names is.below is.named)
 
-pub all_in : {A : Type 0} (P : A → Type 0) (xs : List A) (x : A) → All P xs → Contains xs x → P x
-all_in P xs x h c = subst P c.2 (h c.0 x c.1)
-
 -- a row suits the relation's columns, and has cells
 pub row_fits : (c : Catalog) (vs : List Variable) (a : Atom) (m : NumberedAtom) (row : Tuple)
     → IsCatalog c → IsAtomOf c vs a m → Contains (rows_at c.relations m.relation) row
     → fits (relation_at c.relations m.relation).types row ≡ true
 row_fits c vs a m row h is there =
-    all_in (λ r. fits (relation_at c.relations m.relation).types r ≡ true)
+    All-contains (λ r. fits (relation_at c.relations m.relation).types r ≡ true)
     (rows_at c.relations m.relation) row (h.kept m.relation no_relation is.below).typed there
 
 pub row_cells : (c : Catalog) (vs : List Variable) (a : Atom) (m : NumberedAtom) (row : Tuple)
     → IsCatalog c → IsAtomOf c vs a m → Contains (rows_at c.relations m.relation) row
     → HaveCells c.texts row
 row_cells c vs a m row h is there =
-    all_in (HaveCells c.texts)
+    All-contains (HaveCells c.texts)
     (rows_at c.relations m.relation) row (h.kept m.relation no_relation is.below).cells there

@@ -18,7 +18,6 @@ use Rattle.djq_propagate.specs.Updates.{HasInserted, HasMarked, HasKept, HasGain
 use Rattle.djq_propagate.proofs.Updating.{inserted_gained}
 use Rattle.djq_propagate.proofs.Measuring.{length_even, length_less}
 use Rattle.djq_query.specs.declared.numbered.NumberedAtom.{NumberedAtom}
-use Rattle.djq_query.specs.Pattern.{Shape}
 use Rattle.djq_live.specs.Stepping.{
   HasMore,
   ChangesBelow,
@@ -151,19 +150,6 @@ pub dropping_counts : (old : Reducts) (x z : ℕ)
 dropping_counts old x z counted flat = λ n b few bounds.
     elim bounds [
       | inl linear ↦ sum_dropped (paths old.tree) n b x z linear (counted n few)
-      | inr even ↦ (let a = flat even.0 in let d = even.1 in omega arith)
-    ]
-
--- a leaf that is refused counts at most twice a bound
-pub refused_counts : (j : ℕ) (old : Reducts) (x y : ℕ)
-    → ((n : ℕ) → HasAtMost old n → length (entries_at old.tables j) < n
-    → y ≤ x + 18 * (paths old.tree * n))
-    → (HasEqualMeets old.tree → y ≤ x + 18 * (paths old.tree * 1)) → CountsLeaf old j 2 x y
-refused_counts j old x y bounded flat = λ n b room bounds.
-    elim bounds [
-      | inl linear ↦
-          let few = bounded (n + 1) room.all (let l = room.leaf in omega arith) in
-          omega arith
       | inr even ↦ (let a = flat even.0 in let d = even.1 in omega arith)
     ]
 

@@ -32,6 +32,8 @@ use Rattle.djq_index.proofs.Tuples.{is_same, one_true}
 use Rattle.djq_tree.specs.Labels.{label_at}
 use Rattle.djq_reduct.specs.Tables.{entries_at}
 use Rattle.djq_reduct.proofs.Family.{apart_at}
+use Rattle.djq_union.proofs.Lists.{none_contained, all_of}
+use Rattle.djq_union.specs.Answers.{AreDifferent}
 use Rattle.djq_query.specs.declared.numbered.NumberedTerm.{NumberedTerm}
 use Rattle.djq_query.specs.declared.numbered.NumberedTerm.TheVariants.{
   Variable as Number,
@@ -52,14 +54,8 @@ use Rattle.djq_reduct.proofs.Readings.{IsSimple, simple_of, reading, reading_row
 use Rattle.djq_live.proofs.Filled.{in_row}
 use Rattle.djq_live.proofs.Heads.{has_at}
 use Rattle.djq_live.proofs.Later.{atom_at}
-use Rattle.djq_live.proofs.Listings.{
-  Different,
-  all_by,
-  few,
-  image_of,
-  images_differ,
-}
-use Rattle.djq_live.proofs.Members.{in_none, in_cons}
+use Rattle.djq_live.proofs.Listings.{few, image_of, images_differ}
+use Rattle.djq_live.proofs.Members.{in_cons}
 use Rattle.djq_live.proofs.Rows.{rows_are}
 use Rattle.djq_live.proofs.Terms.{heads, tails}
 
@@ -110,7 +106,7 @@ abbrev tuples_of : List Entry → List (List ℕ)
 tuples_of es = map (λ (e : Entry). e.tuple) es
 
 tuple_there : (es : List Entry) (u : List ℕ) → Contains (tuples_of es) u → 0 < cnt es u
-tuple_there [] u c = absurd (in_none u c)
+tuple_there [] u c = absurd (none_contained u c)
 tuple_there (e ∷ es) u c =
     let first = cnt_cons e es u in
     elim (in_cons e.tuple u (tuples_of es) c) [
@@ -118,12 +114,12 @@ tuple_there (e ∷ es) u c =
       | inr there ↦ (let r = tuple_there es u there in omega arith)
     ]
 
-tuples_differ : (es : List Entry) → AreApart es → Different (tuples_of es)
+tuples_differ : (es : List Entry) → AreApart es → AreDifferent (tuples_of es)
 unfolding AreApart
 tuples_differ [] h = λ i j e a b. absurd (omega arith)
 tuples_differ (e ∷ es) h =
     AllPairs-cons (λ s t. s ≡ t → ⊥) e.tuple (tuples_of es)
-    (all_by (λ t. e.tuple ≡ t → ⊥) (tuples_of es)
+    (all_of (λ t. e.tuple ≡ t → ⊥) (tuples_of es)
     (λ t there is.
     let none : cnt es t ≡ 0 = subst (λ (v : List ℕ). cnt es v ≡ 0) is h.0 in
     let some = tuple_there es t there in

@@ -1,43 +1,23 @@
 -- What the tables of a trim and of a meet have to do with their children's.
-use Rattle.std.proofs.Common.{
-  ◌≡◌,
-  ℕ,
-  zero,
-  suc,
-  ◌*◌,
-  ◌<◌,
-  List,
-  [],
-  ◌∷◌,
-  length,
-  map,
-  refl,
-  ap,
-  ap₂,
-  sym,
-  ◌∙◌,
-  inl,
-  inr,
-  arith,
-}
-use Rattle.std.proofs.Math.Nat.{suc-mul, mul-zero, zero-mul}
-use Rattle.std.proofs.lemmas.Bool.{cases_lt}
-use Rattle.djq_index.specs.Tuple.{pick, same}
+use Rattle.std.proofs.Common.{◌≡◌, ℕ, ◌*◌, ◌<◌, List, [], ◌∷◌, length, map, refl, ap, ap₂, ◌∙◌, inl, inr, arith}
+use Rattle.djq_index.specs.Tuple.{pick}
 use Rattle.djq_index.specs.Entries.{Entry, cnt, supp, many}
-use Rattle.djq_index.specs.Table.{AreWide}
-use Rattle.djq_index.proofs.Tuples.{same_cases, one_same, one_other, is_same, one_true}
+use Rattle.djq_index.proofs.Tuples.{same_cases, one_same, one_other}
 use Rattle.djq_index.proofs.Counts.{cnt_cons, many_cons}
-use Rattle.djq_index.proofs.Apart.{cnt_supp, supp_none}
+use Rattle.djq_index.proofs.Apart.{cnt_supp}
 use Rattle.djq_tree.specs.declared.node.Node.TheVariants.{Trim, Meet}
 use Rattle.djq_tree.specs.Labels.{label_at}
 use Rattle.djq_tree.specs.Keys.{key_of}
 use Rattle.djq_tree.specs.Tree.{Tree, IsTree, node_at}
-use Rattle.djq_tree.proofs.Keying.{key_of_trim, key_of_guard}
+use Rattle.djq_tree.proofs.Keying.{key_of_guard}
 use Rattle.djq_reduct.specs.Columns.{columns}
-use Rattle.djq_reduct.specs.Tables.{entries_at, key_at, width_at}
+use Rattle.djq_reduct.specs.Tables.{entries_at, key_at}
 use Rattle.djq_reduct.specs.Reducts.{Reducts, IsReducts}
 use Rattle.djq_reduct.proofs.Family.{trim_law, meet_law}
 use Rattle.djq_reduct.proofs.Readings.{Within, within_of, pick_row}
+use Rattle.djq_cursor.proofs.Groups.{both_positive, product_positive, many_of}
+use Rattle.djq_cursor.proofs.Good.{trim_key}
+use Rattle.djq_propagate.proofs.Sides.{present}
 
 -- an entry's tuple with these cells at the key's columns
 pub record HasPart (key : List ℕ) (es : List Entry) (w : List ℕ) : Type 0 where
@@ -48,10 +28,6 @@ pub record HasPart (key : List ℕ) (es : List Entry) (w : List ℕ) : Type 0 wh
 none_many : (key w : List ℕ) → many key [] w ≡ 0
 unfolding many
 none_many key w = refl
-
-none_cnt : (u : List ℕ) → cnt [] u ≡ 0
-unfolding cnt
-none_cnt u = refl
 
 pub many_has : (key : List ℕ) (es : List Entry) (w : List ℕ) → 0 < many key es w
     → HasPart key es w
@@ -74,68 +50,7 @@ many_has key (e ∷ es) w h =
           }
     ]
 
-pub many_of : (key : List ℕ) (es : List Entry) (w u : List ℕ) → 0 < cnt es u → pick key u ≡ w
-    → 0 < many key es w
-many_of key [] w u h e = absurd (let z = none_cnt u in omega arith)
-many_of key (f ∷ es) w u h e =
-    let m = many_cons key f es w in
-    elim (same_cases f.tuple u) [
-      | inl here ↦
-          let o = one_true (same (pick key f.tuple) w)
-          (is_same (pick key f.tuple) w (ap (λ (v : List ℕ). pick key v) here ∙ e)) in
-          omega arith
-      | inr other ↦
-          let c = cnt_cons f es u in
-          let o = one_other f.tuple u other in
-          let r = many_of key es w u (omega arith) e in
-          omega arith
-    ]
-
-wide_in : (width : ℕ) (es : List Entry) (u : List ℕ) → AreWide width es → 0 < cnt es u
-    → length u ≡ width
-unfolding AreWide
-wide_in width [] u h there = absurd (let z = none_cnt u in omega arith)
-wide_in width (e ∷ es) u h there =
-    elim (same_cases e.tuple u) [
-      | inl here ↦ ap (λ (v : List ℕ). length v) (sym here) ∙ h.0
-      | inr other ↦
-          let c = cnt_cons e es u in
-          let o = one_other e.tuple u other in
-          wide_in width es u h.1 (omega arith)
-    ]
-
-table_wide : (r : Reducts) (j : ℕ) → IsReducts r
-    → AreWide (width_at r.tables j) (entries_at r.tables j)
-unfolding width_at entries_at
-table_wide r j h = (h.family.sound j).wide
-
--- a tuple has a cell for each variable of the label
-pub tuple_wide : (r : Reducts) (j : ℕ) (u : List ℕ) → IsReducts r → j < length r.tree.nodes
-    → 0 < cnt (entries_at r.tables j) u → length u ≡ length (label_at r.tree.labels j)
-tuple_wide r j u h within there =
-    wide_in (width_at r.tables j) (entries_at r.tables j) u (table_wide r j h) there
-    ∙ (h.family.keyed j within).width
-
 -- ---- products
-
-positive : (a b : ℕ) → 0 < a → 0 < b → 0 < a * b
-positive zero b h k = absurd (omega arith)
-positive (suc a) zero h k = absurd (omega arith)
-positive (suc a) (suc b) h k = let e = suc-mul a (suc b) in omega arith
-
-none_by : (a b : ℕ) → b ≡ 0 → a * b ≡ 0
-none_by a b e = ap (λ (n : ℕ). a * n) e ∙ mul-zero a
-
-none_of : (a b : ℕ) → a ≡ 0 → a * b ≡ 0
-none_of a b e = ap (λ (n : ℕ). n * b) e ∙ zero-mul b
-
-both_positive : (a b : ℕ) → 0 < a * b → (0 < a) × (0 < b)
-both_positive a b h = (
-  elim (cases_lt 0 a)
-      [ inl low ↦ low | inr high ↦ absurd (let z = none_of a b (omega arith) in omega arith) ],
-  elim (cases_lt 0 b)
-      [ inl low ↦ low | inr high ↦ absurd (let z = none_by a b (omega arith) in omega arith) ],
-)
 
 -- ---- an assignment's rows
 
@@ -148,23 +63,12 @@ key_is : (r : Reducts) (c : ℕ) (l : List ℕ) → IsReducts r → c < length r
 key_is r c l h within e = (h.family.keyed c within).key
     ∙ ap (λ (k : List ℕ). columns (label_at r.tree.labels c) k) e
 
-pub trim_key : (r : Reducts) (k c : ℕ) → IsReducts r → k < length r.tree.nodes
-    → node_at r.tree.nodes k ≡ Trim c
-    → key_at r.tables c ≡ columns (label_at r.tree.labels c) (label_at r.tree.labels k)
-trim_key r k c h within e =
-    (let low = (h.family.is_tree.trim k c e).lower in key_is r c (label_at r.tree.labels k) h
-    (omega arith) (key_of_trim r.tree k c h.family.is_tree e))
-
 meet_key : (r : Reducts) (k g d : ℕ) → IsReducts r → k < length r.tree.nodes
     → node_at r.tree.nodes k ≡ Meet g d
     → key_at r.tables g ≡ columns (label_at r.tree.labels g) (label_at r.tree.labels d)
 meet_key r k g d h within e =
     (let low = (h.family.is_tree.meet k g d e).guard_lower in key_is r g (label_at r.tree.labels d)
     h (omega arith) (key_of_guard r.tree k g d h.family.is_tree e))
-
-supp_cnt : (es : List Entry) (u : List ℕ) → 0 < supp es u → 0 < cnt es u
-supp_cnt es u h = elim (cases_lt 0 (cnt es u))
-    [ inl low ↦ low | inr high ↦ absurd (let z = supp_none es u (omega arith) in omega arith) ]
 
 trim_within : (t : Tree) (k c : ℕ) → IsTree t → node_at t.nodes k ≡ Trim c
     → Within (label_at t.labels k) (label_at t.labels c)
@@ -193,7 +97,7 @@ trim_up r k c a h within e there =
     ∙ pick_row a (label_at r.tree.labels c) (label_at r.tree.labels k)
     (trim_within r.tree k c h.family.is_tree e) in
     let m = many_of (key_at r.tables c) (entries_at r.tables c) w u there key in
-    supp_cnt (entries_at r.tables k) w (omega arith)
+    present (entries_at r.tables k) w (omega arith)
 
 guard_pick : (r : Reducts) (k g d : ℕ) (a : ℕ → ℕ) → IsReducts r → k < length r.tree.nodes
     → node_at r.tree.nodes k ≡ Meet g d
@@ -233,6 +137,6 @@ pub meet_up : (r : Reducts) (k g d : ℕ) (a : ℕ → ℕ) → IsReducts r → 
     → node_at r.tree.nodes k ≡ Meet g d → IsIn r g a → IsIn r d a → IsIn r k a
 meet_up r k g d a h within e guard side =
     let p = meet_product r k g d a h within e in
-    let q = positive (cnt (entries_at r.tables g) (map a (label_at r.tree.labels g)))
+    let q = product_positive (cnt (entries_at r.tables g) (map a (label_at r.tree.labels g)))
     (cnt (entries_at r.tables d) (map a (label_at r.tree.labels d))) guard side in
-    supp_cnt (entries_at r.tables k) (map a (label_at r.tree.labels k)) (omega arith)
+    present (entries_at r.tables k) (map a (label_at r.tree.labels k)) (omega arith)

@@ -1,18 +1,16 @@
 -- A leaf takes the rows of a relation in, one after another.
-use Rattle.std.proofs.Common.{◌≡◌, ℕ, suc, ◌+◌, ◌<◌, ◌≤◌, true, false, List, [], ◌∷◌, ◌++◌, length}
+use Rattle.std.proofs.Common.{◌≡◌, ℕ, ◌+◌, ◌<◌, ◌≤◌, List, [], ◌∷◌, ◌++◌, length}
 use Rattle.std.proofs.Common.{map, refl, ap, sym, subst, ◌∙◌, inl, inr, arith, append_assoc}
 use Rattle.std.specs.Prelude.{Some, Contains, slice_get, slice_index_or}
 use Rattle.std.proofs.Common.{append-nil, length-append}
 use Rattle.std.proofs.Math.Seq.{get_or-append_seam}
-use Rattle.std.proofs.lemmas.Bool.{cases_eq, cases_lt, false≢true}
+use Rattle.std.proofs.lemmas.Bool.{cases_eq, cases_lt}
 use Rattle.std.proofs.lemmas.List.{get_or_append_left, get_or-map, length-map}
 use Rattle.std.proofs.lemmas.Option.{same_Some}
 use Rattle.djq_model.specs.Data.{Tuple}
-use Rattle.djq_model.specs.Typed.{fits, is_of}
-use Rattle.djq_model.specs.declared.relation.ColumnType.{ColumnType}
 use Rattle.djq_index.specs.Tuple.{same, one}
 use Rattle.djq_index.specs.Entries.{Entry, cnt}
-use Rattle.djq_index.proofs.Tuples.{same_cases, same_refl}
+use Rattle.djq_index.proofs.Tuples.{same_cases, one_other, one_same}
 use Rattle.djq_tree.specs.Tree.{Tree}
 use Rattle.djq_reduct.specs.Tables.{entries_at}
 use Rattle.djq_reduct.specs.Reducts.{Reducts}
@@ -29,21 +27,13 @@ use Rattle.djq_live.specs.Changes.{HoldsThese}
 use Rattle.djq_live.specs.Leaves.{Holds}
 use Rattle.djq_live.specs.Stepping.{Lacks}
 use Rattle.djq_live.specs.Building.{AreFilled, HasTaken, IsFilled, TakesRow, cells_at}
-use Rattle.djq_live.proofs.Terms.{both}
 use Rattle.djq_live.proofs.Giving.{one_is, one_of, only_one}
 use Rattle.djq_live.proofs.Filled.{leaf_empty, leaf_gains, leaf_filled}
 use Rattle.djq_live.proofs.Leafing.{IsOnly}
 use Rattle.djq_live.proofs.Sizing.{gained_grows}
+use Rattle.djq_live.proofs.Rowing.{fits_long}
 
 -- ---- one row
-
-one_itself : (u : List ℕ) → one (same u u) ≡ 1
-unfolding one
-one_itself u = rw (same_refl u) refl
-
-one_isnt : (u v : List ℕ) → same u v ≡ false → one (same u v) ≡ 0
-unfolding one
-one_isnt u v e = rw e refl
 
 pub took_row : (p : Shape) (leaf : ℕ) (cells u : List ℕ) (old new : Reducts)
     → HasGained old new leaf u → IsOnly (Some u) p cells → TakesRow p leaf cells old new
@@ -54,14 +44,14 @@ took_row p leaf cells u old new came exact = record {
       let count = came.leaf v in (
         λ there. elim (same_cases u v) [
           | inl is ↦ inr (one_of p v cells ((exact v).0 (ap (λ (w : List ℕ). Some w) is)))
-          | inr isnt ↦ inl (let none = one_isnt u v isnt in omega arith)
+          | inr isnt ↦ inl (let none = one_other u v isnt in omega arith)
         ],
         λ h. elim h [
           | inl before ↦ omega arith
           | inr gives ↦
               let is : u ≡ v = same_Some u v ((exact v).1 (only_one p v cells gives)) in
               let some : one (same u v) ≡ 1 =
-              ap (λ (w : List ℕ). one (same u w)) (sym is) ∙ one_itself u in
+              ap (λ (w : List ℕ). one (same u w)) (sym is) ∙ one_same u in
               omega arith
         ],
       );
@@ -167,13 +157,6 @@ absent_row c at p leaf row before left old mid catalog low h next u gives =
           (one_is (Contains h.done) p u row gives ((h.holds u).0 there)))
       | inr none ↦ omega arith
     ]
-
-fits_long : (types : List ColumnType) (row : Tuple) → fits types row ≡ true
-    → length row ≡ length types
-fits_long [] [] h = refl
-fits_long [] (v ∷ vs) h = absurd (false≢true h)
-fits_long (t ∷ ts) [] h = absurd (false≢true h)
-fits_long (t ∷ ts) (v ∷ vs) h = ap suc (fits_long ts vs (both (is_of t v) (fits ts vs) h).1)
 
 -- and it is as wide as the relation
 pub wide_row : (c : Catalog) (at : ℕ) (p : Shape) (leaf : ℕ) (row : List ℕ)

@@ -1,25 +1,8 @@
 -- Terms that stand for a row, against the row's cells.
-use Rattle.std.proofs.Common.{
-  ◌≡◌,
-  ℕ,
-  Bool,
-  true,
-  false,
-  List,
-  [],
-  ◌∷◌,
-  map,
-  refl,
-  ap,
-  ap₂,
-  sym,
-  ◌∙◌,
-  inl,
-  inr,
-}
-use Rattle.std.specs.Prelude.{◌&&◌, Some, slice_get, slice_index, drop}
+use Rattle.std.proofs.Common.{◌≡◌, ℕ, true, List, [], ◌∷◌, map, refl, ap, ap₂, sym, ◌∙◌, inl, inr}
+use Rattle.std.specs.Prelude.{Some, slice_get, slice_index, drop}
 use Rattle.std.specs.List.{list_any}
-use Rattle.std.proofs.lemmas.Bool.{eqb-true, false≢true, or_cases}
+use Rattle.std.proofs.lemmas.Bool.{eqb-true, false≢true, or_cases, and_parts}
 use Rattle.djq_model.specs.declared.value.Value.{Value}
 use Rattle.djq_model.specs.declared.relation.ColumnType.{ColumnType}
 use Rattle.djq_model.specs.declared.query.Term.{Term}
@@ -46,10 +29,6 @@ heads x y xs ys e = ap (λ (l : List ℕ). slice_index l 0) e
 
 pub tails : (x y : ℕ) (xs ys : List ℕ) → x ∷ xs ≡ y ∷ ys → xs ≡ ys
 tails x y xs ys e = ap (λ (l : List ℕ). drop 1 l) e
-
-pub both : (a b : Bool) → (a && b) ≡ true → (a ≡ true) × (b ≡ true)
-both true b h = (refl, h)
-both false b h = absurd (false≢true h)
 
 -- a name has one number
 abbrev pub HasOne : List Variable → Type 0
@@ -101,7 +80,7 @@ stand_terms texts vs a (t ∷ ts) [] cs row one shown suits f h e = absurd shown
 stand_terms texts vs a (t ∷ ts) (n ∷ ns) [] row one shown suits f h e = absurd suits
 stand_terms texts vs a (t ∷ ts) (n ∷ ns) (c ∷ cs) [] one shown suits f h e = absurd (false≢true f)
 stand_terms texts vs a (t ∷ ts) (n ∷ ns) (c ∷ cs) (v ∷ row) one shown suits f h e =
-    let p = both (is_of c v) (fits cs row) f in (
+    let p = and_parts (is_of c v) (fits cs row) f in (
       stand_term texts vs a t n c v one shown.0 suits.0 p.0 h.0
           (heads (cell_under texts a n) (cell_of texts v) (map (cell_under texts a) ns)
           (cells_of texts row) e),
@@ -135,7 +114,7 @@ cell_among texts vs a x [] cs row suits f h e m = absurd (false≢true m)
 cell_among texts vs a x (n ∷ ns) [] row suits f h e m = absurd suits
 cell_among texts vs a x (n ∷ ns) (c ∷ cs) [] suits f h e m = absurd (false≢true f)
 cell_among texts vs a x (n ∷ ns) (c ∷ cs) (v ∷ row) suits f h e m =
-    let p = both (is_of c v) (fits cs row) f in
+    let p = and_parts (is_of c v) (fits cs row) f in
     elim (or_cases (is_number x n) (list_any (is_number x) ns) m) [
       | inl here ↦ cell_here texts vs a x n c v suits.0 p.0 h.0
           (heads (cell_under texts a n) (cell_of texts v) (map (cell_under texts a) ns)

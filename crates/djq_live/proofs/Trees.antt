@@ -4,7 +4,7 @@ use Rattle.std.proofs.Common.{◌++◌, length, map, take, refl, ap, sym, ◌∙
 use Rattle.std.proofs.Common.{append_assoc}
 use Rattle.std.specs.Prelude.{◌==◌, ◌||◌, Some, slice_get}
 use Rattle.std.specs.List.{list_all, list_any}
-use Rattle.std.proofs.lemmas.Bool.{cases_Bool, cases_eq, cases_lt, ne_eqb, false≢true}
+use Rattle.std.proofs.lemmas.Bool.{cases_Bool, cases_eq, cases_lt, ne_eqb, false≢true, and_parts}
 use Rattle.std.proofs.lemmas.List.{get_or_append_left, get_or_past, length-map, take_at}
 use Rattle.std.proofs.lemmas.List.Kept.{AllPairs-from_increasing}
 use Rattle.djq_hyper.specs.Hypergraph.{member, edge_at, set_below, one}
@@ -12,6 +12,7 @@ use Rattle.djq_hyper.specs.Variables.{AreNamed}
 use Rattle.djq_hyper.specs.Flat.{IsFlat}
 use Rattle.djq_hyper.proofs.Members.{one_le, from_true, from_false}
 use Rattle.djq_hyper.proofs.Bags.{numbers, times}
+use Rattle.djq_hyper.proofs.Rising.{Rising, first_alone}
 use Rattle.djq_model.specs.declared.relation.Relation.{Relation}
 use Rattle.djq_model.specs.declared.query.Query.{Query}
 use Rattle.djq_model.specs.declared.query.Atom.{Atom}
@@ -39,8 +40,8 @@ use Rattle.djq_query.specs.declared.numbered.NumberedTerm.TheVariants.{
 use Rattle.djq_query.specs.declared.numbered.NumberedAtom.{NumberedAtom}
 use Rattle.djq_query.specs.Numbered.{AreNumbered, are_below, is_number, numbered_terms}
 use Rattle.djq_reduct.proofs.Readings.{within_of}
-use Rattle.djq_live.proofs.Graphs.{numbers_same, high_terms, and_parts, edges_long}
-use Rattle.djq_live.proofs.Sets.{Rising, set_has, set_lacks, first_alone}
+use Rattle.djq_live.proofs.Graphs.{numbers_same, high_terms, edges_long}
+use Rattle.djq_live.proofs.Sets.{set_has, set_lacks}
 use Rattle.std.proofs.lemmas.Option.{same_Some}
 
 -- ---- the leaves' labels

@@ -17,6 +17,7 @@ use Rattle.std.proofs.Common.{
 }
 use Rattle.std.specs.Prelude.{Contains}
 use Rattle.std.proofs.lemmas.List.{length-map}
+use Rattle.std.proofs.lemmas.List.Elements.{All-contains}
 use Rattle.djq_model.specs.Data.{Bytes, Tuple}
 use Rattle.djq_lines.specs.declared.answer.Sign.{Sign}
 use Rattle.djq_lines.specs.declared.answer.Sign.TheVariants.{Came as HasCome, Went as HasGone}
@@ -25,19 +26,13 @@ use Rattle.djq_reduct.specs.Reducts.{Reducts, IsReducts}
 use Rattle.djq_reduct.specs.Answers.{IsAnswerOf}
 use Rattle.djq_cursor.specs.Listing.{IsListing}
 use Rattle.djq_cursor.specs.Changed.{IsGained}
+use Rattle.djq_union.proofs.Lists.{all_of}
+use Rattle.djq_union.specs.Answers.{AreDifferent}
 use Rattle.djq_live.specs.Live.{Live, values_of}
 use Rattle.djq_live.specs.Updating.{change_of}
 use Rattle.djq_live.specs.Stepping.{HasMore, lines_of}
 use Rattle.djq_live.proofs.Gaining.{more_answers}
-use Rattle.djq_live.proofs.Rows.{all_in}
-use Rattle.djq_live.proofs.Listings.{
-  Different,
-  all_by,
-  few,
-  in_image,
-  image_of,
-  images_differ,
-}
+use Rattle.djq_live.proofs.Listings.{few, in_image, image_of, images_differ}
 
 -- what the reducts' answers show are answers, and different ones show different tuples
 pub record Shows (Answer : Tuple → Type 0) (r : Reducts) (show : List ℕ → Tuple) : Type 0 where
@@ -53,11 +48,6 @@ pub record IsShownBy (r : Reducts) (show : List ℕ → Tuple) (t : Tuple) : Typ
 abbrev pub ShowsAll : (Tuple → Type 0) → Reducts → (List ℕ → Tuple) → Type 0
 ShowsAll Answer r show = (t : Tuple) → Answer t → IsShownBy r show t
 
-more_of : (small big : Reducts) (u : List ℕ) → IsReducts small → IsReducts big
-    → HasMore small big → IsAnswerOf small u → IsAnswerOf big u
-more_of small big u hs hb more is =
-    more_answers small big u hs hb more is
-
 -- what was gained is an answer of the one and not of the other
 pub gained_is : (P Q : Tuple → Type 0) (big small : Reducts) (show : List ℕ → Tuple) (u : List ℕ)
     → IsReducts big → IsReducts small → HasMore small big → Shows P big show
@@ -67,7 +57,7 @@ gained_is P Q big small show u hb hs more shows all g = (
   λ q.
       let s = all (show u) q in
       let same = shows.apart u s.of g.is
-      (more_of small big s.of hs hb more s.is_answer) s.is in
+      (more_answers small big s.of hs hb more s.is_answer) s.is in
       g.was_none (subst (λ (v : List ℕ). IsAnswerOf small v) (sym same) s.is_answer),
 )
 
@@ -110,12 +100,12 @@ answer_of sign show us t u e there =
 
 images : (P Q : Tuple → Type 0) (big small : Reducts) (show : List ℕ → Tuple)
     (us : List (List ℕ)) → Shows P big show → IsListing (IsGained big small) us
-    → Different (map show us)
+    → AreDifferent (map show us)
 images P Q big small show us shows l =
     images_differ show us l.different
     (λ x y m k e. shows.apart x y
-    (all_in (IsGained big small) us x l.all m).is
-    (all_in (IsGained big small) us y l.all k).is e)
+    (All-contains (IsGained big small) us x l.all m).is
+    (All-contains (IsGained big small) us y l.all k).is e)
 
 came_whole : (Before After : Tuple → Type 0) (big small : Reducts) (show : List ℕ → Tuple)
     (us : List (List ℕ)) → IsReducts big → IsReducts small → HasMore small big
@@ -130,7 +120,7 @@ came_whole Before After big small show us hb hs more shows all shows_small all_s
     let s = all_small t h.0 in
     absurd
     (h.1 (subst After (sym s.is)
-    (shows.to s.of (more_of small big s.of hs hb more s.is_answer))))
+    (shows.to s.of (more_answers small big s.of hs hb more s.is_answer))))
 
 pub came_delta : (Before After : Tuple → Type 0) (big small : Reducts) (show : List ℕ → Tuple)
     (us : List (List ℕ)) → IsReducts big → IsReducts small → HasMore small big
@@ -138,15 +128,15 @@ pub came_delta : (Before After : Tuple → Type 0) (big small : Reducts) (show :
     → ShowsAll Before small show → IsListing (IsGained big small) us
     → IsDelta Before After (changes_by HasCome show us)
 came_delta Before After big small show us hb hs more shows all shows_small all_small l = record {
-  different = subst (λ (ts : List Tuple). Different ts) (sym (answers_by HasCome show us))
+  different = subst (λ (ts : List Tuple). AreDifferent ts) (sym (answers_by HasCome show us))
       (images After Before big small show us shows l);
-  changed = all_by (λ (c : Change). HasChanged Before After c.sign c.answer)
+  changed = all_of (λ (c : Change). HasChanged Before After c.sign c.answer)
       (changes_by HasCome show us)
       (λ c m.
       let i = image_of (λ (v : List ℕ). record { sign = HasCome; answer = show v }) us c m in
       subst (λ (x : Change). HasChanged Before After x.sign x.answer) (sym i.is)
       (gained_is After Before big small show i.of hb hs more shows all_small
-      (all_in (IsGained big small) us i.of l.all i.there)));
+      (All-contains (IsGained big small) us i.of l.all i.there)));
   complete = came_whole Before After big small show us hb hs more shows all shows_small all_small l;
 }
 
@@ -163,7 +153,7 @@ went_whole Before After big small show us hb hs more shows all shows_small all_s
     let s = all_small t h.0 in
     absurd
     (h.1 (subst Before (sym s.is)
-    (shows.to s.of (more_of small big s.of hs hb more s.is_answer))))
+    (shows.to s.of (more_answers small big s.of hs hb more s.is_answer))))
 
 pub went_delta : (Before After : Tuple → Type 0) (big small : Reducts) (show : List ℕ → Tuple)
     (us : List (List ℕ)) → IsReducts big → IsReducts small → HasMore small big
@@ -171,15 +161,15 @@ pub went_delta : (Before After : Tuple → Type 0) (big small : Reducts) (show :
     → ShowsAll After small show → IsListing (IsGained big small) us
     → IsDelta Before After (changes_by HasGone show us)
 went_delta Before After big small show us hb hs more shows all shows_small all_small l = record {
-  different = subst (λ (ts : List Tuple). Different ts) (sym (answers_by HasGone show us))
+  different = subst (λ (ts : List Tuple). AreDifferent ts) (sym (answers_by HasGone show us))
       (images Before After big small show us shows l);
-  changed = all_by (λ (c : Change). HasChanged Before After c.sign c.answer)
+  changed = all_of (λ (c : Change). HasChanged Before After c.sign c.answer)
       (changes_by HasGone show us)
       (λ c m.
       let i = image_of (λ (v : List ℕ). record { sign = HasGone; answer = show v }) us c m in
       subst (λ (x : Change). HasChanged Before After x.sign x.answer) (sym i.is)
       (gained_is Before After big small show i.of hb hs more shows all_small
-      (all_in (IsGained big small) us i.of l.all i.there)));
+      (All-contains (IsGained big small) us i.of l.all i.there)));
   complete = went_whole Before After big small show us hb hs more shows all shows_small all_small l;
 }
 
@@ -196,13 +186,13 @@ few_changes P Q Before After sign big small show us changes hb hs more shows all
     (few (map f us) changes
     (images_differ f us l.different
     (λ x y m k e. shows.apart x y
-    (all_in (IsGained big small) us x l.all m).is
-    (all_in (IsGained big small) us y l.all k).is
+    (All-contains (IsGained big small) us x l.all m).is
+    (All-contains (IsGained big small) us y l.all k).is
     (ap (λ (c : Change). c.answer) e)))
     (λ c m.
     let i = image_of f us c m in
     let g = gained_is P Q big small show i.of hb hs more shows all
-    (all_in (IsGained big small) us i.of l.all i.there) in
+    (All-contains (IsGained big small) us i.of l.all i.there) in
     subst (λ (x : Change). Contains changes x) (sym i.is)
     (delta.complete sign (show i.of) (turns (show i.of) g.0 g.1))))
 

@@ -33,6 +33,7 @@ use Rattle.std.proofs.lemmas.Bool.{
   or_cases,
   or_left,
   or_right,
+  and_parts,
 }
 use Rattle.std.proofs.lemmas.Option.{same_Some, slice_get_within, get_or_from_slice_get}
 use Rattle.djq_model.specs.declared.value.Value.{Value}
@@ -78,6 +79,7 @@ use Rattle.djq_lines.specs.declared.answer.Refusal.TheVariants.{
   HeadRepeated,
 }
 use Rattle.djq_lines.specs.Variables.{Label, is_known, is_variable, stands_in, with_term, with_atom}
+use Rattle.djq_plan.proofs.Says.{after_and}
 use Rattle.djq_query.specs.declared.numbered.Variable.{Variable}
 use Rattle.djq_query.specs.declared.numbered.NumberedTerm.{NumberedTerm}
 use Rattle.djq_query.specs.declared.numbered.NumberedTerm.TheVariants.{
@@ -125,7 +127,7 @@ use Rattle.djq_live.specs.Asked.{
   NumberedIsAsked,
 }
 use Rattle.djq_live.proofs.Rows.{found_at}
-use Rattle.djq_live.proofs.Terms.{HasOne, both}
+use Rattle.djq_live.proofs.Terms.{HasOne}
 
 -- ---- variables that become known
 
@@ -254,10 +256,6 @@ same_types TextColumn TextColumn e = refl
 same_types IntColumn TextColumn e = absurd (false≢true e)
 same_types TextColumn IntColumn e = absurd (false≢true e)
 
-second_false : (a b : Bool) → a ≡ true → (a && b) ≡ false → b ≡ false
-second_false true b e h = h
-second_false false b e h = absurd (false≢true e)
-
 typed_name : (rs : List Relation) (all : List Atom) (final : List Variable) (x : Bytes) (k : ℕ)
     (c : ColumnType) → Agree rs all final → slice_get (labels final) k ≡ Some (Some x)
     → ((p : Term → ColumnType → Bool) → any_place p rs all ≡ false → p (Named x) c ≡ false)
@@ -268,7 +266,7 @@ typed_name rs all final x k c agree e place =
     let none = place (is_clash (Named x) d) (agree k l.variable x l.is l.name) in
     ap column_in l.is
     ∙ same_types c d (not_false (same_type c d)
-    (second_false (bytes_eq x x) (not (same_type c d)) (eq_refl x) none))
+    (after_and (bytes_eq x x) (not (same_type c d)) (eq_refl x) none))
 
 -- ---- one atom's terms
 
@@ -457,7 +455,7 @@ suited_among vs texts k x (Named y ∷ ts) (Number j ∷ ns) (c ∷ cs) one e sh
           let column : column_of vs x ≡ c = ap (column_of vs) (sym at) ∙ suits.0 in
           let fit : (is_of c k.constant && has_order k.operator c) ≡ true =
           not_false (is_of c k.constant && has_order k.operator c)
-          (second_false (bytes_eq y k.variable)
+          (after_and (bytes_eq y k.variable)
           (not (is_of c k.constant && has_order k.operator c)) same p.0) in (
             or_left (x == j) (list_any (is_number x) ns) (eq-eqb x j (sym at)),
             subst (λ (d : ColumnType). (is_of d k.constant && has_order k.operator d) ≡ true)
@@ -513,7 +511,7 @@ comparisons_of c vs atoms ms (k ∷ ks) (n ∷ ns) h one are shown bound fit hav
     let column = column_of vs n.variable in
     let r = suited_in c vs k n.variable atoms ms h one s.variable are
     (not_false (stands_in atoms k.variable) b.0) f.0 in
-    let p = both (is_of column k.constant) (has_order k.operator column) r.1 in (
+    let p = and_parts (is_of column k.constant) (has_order k.operator column) r.1 in (
       record {
         shown = s;
         stands = r.0;

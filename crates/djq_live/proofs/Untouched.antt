@@ -1,9 +1,9 @@
 -- Queries that a change of rows doesn't touch.
 use Rattle.std.proofs.Common.{◌≡◌, ℕ, zero, suc, Bool, true, false, List, [], ◌∷◌, ◌++◌, map, refl}
 use Rattle.std.proofs.Common.{ap, ap₂, sym, subst, ◌∙◌}
-use Rattle.std.specs.Prelude.{Some, slice_get, slice_index, ◌||◌, All}
+use Rattle.std.specs.Prelude.{Some, slice_get, slice_index, All}
 use Rattle.std.specs.List.{list_any}
-use Rattle.std.proofs.lemmas.Bool.{false≢true}
+use Rattle.std.proofs.lemmas.Bool.{false≢true, or_parts}
 use Rattle.std.proofs.lemmas.List.Elements.{All-head, All-tail}
 use Rattle.std.proofs.lemmas.Option.{same_Some}
 use Rattle.djq_hyper.specs.Hypergraph.{member}
@@ -26,9 +26,8 @@ use Rattle.djq_rows.specs.Cells.{cell_of, StandsFor, HasCell}
 use Rattle.djq_rows.specs.Catalog.{Catalog, relation_at}
 use Rattle.djq_rows.proofs.Encoding.{stands_back}
 use Rattle.djq_rows.proofs.Lawful.{stay}
-use Rattle.djq_live.specs.declared.cursors.Progress.{Progress}
-use Rattle.djq_live.specs.declared.cursors.Progress.TheVariants.{Open, Stale}
-use Rattle.djq_live.specs.Cursors.{slot_at}
+use Rattle.djq_slots.specs.declared.progress.Progress.TheVariants.{Open, Stale}
+use Rattle.djq_live.specs.Cursors.{Progress, slot_at}
 use Rattle.djq_live.specs.Asked.{AreAtomsOf, column_of}
 use Rattle.djq_live.specs.Leaves.{IsOver}
 use Rattle.djq_live.specs.Shown.{value_at}
@@ -38,17 +37,11 @@ use Rattle.djq_live.specs.Staying.{StaysOver, LiveStays, CamePasses, CameAllPass
 use Rattle.djq_reduct.proofs.Readings.{member_here, member_on}
 use Rattle.djq_live.proofs.Showing.{head_stands}
 use Rattle.djq_live.proofs.Changing.{over_stays, over_gains, over_loses}
-
-or_parts : (b c : Bool) → (b || c) ≡ false → (b ≡ false) × (c ≡ false)
-or_parts true c e = absurd cc
-or_parts false c e = (refl, e)
+use Rattle.djq_live.proofs.Terms.{heads}
 
 -- ---- values, once more texts are known
 
-first_cell : (a b : ℕ) (xs ys : List ℕ) → a ∷ xs ≡ b ∷ ys → a ≡ b
-first_cell a b xs ys e = same_Some a b (ap (λ (l : List ℕ). slice_get l 0) e)
-
-value_later : (c d : Catalog) (vs : List Variable) (F u : List ℕ) (x : ℕ) → IsLater c d
+pub value_later : (c d : Catalog) (vs : List Variable) (F u : List ℕ) (x : ℕ) → IsLater c d
     → StandsFor c.texts (column_of vs x) (slice_index u (column F x)) (value_at c.texts vs F u x)
     → value_at d.texts vs F u x ≡ value_at c.texts vs F u x
 value_later c d vs F u x l s =
@@ -58,7 +51,7 @@ value_later c d vs F u x l s =
     let there : HasCell d.texts v = subst (λ (t : List Bytes). HasCell t v) (sym l.texts) kept.0.0 in
     let same : cell_of d.texts v ≡ cell_of c.texts v =
     ap (λ (t : List Bytes). cell_of t v) l.texts
-    ∙ first_cell (cell_of (c.texts ++ l.more) v) (cell_of c.texts v) [] [] kept.1 in
+    ∙ heads (cell_of (c.texts ++ l.more) v) (cell_of c.texts v) [] [] kept.1 in
     stands_back d.texts (column_of vs x) (slice_index u (column F x)) v (record {
       of = s'.of;
       has = there;

@@ -10,30 +10,21 @@ use Rattle.std.specs.Prelude.{
   true,
   false,
   ⊤,
-  Option,
-  Some,
-  slice_set,
 }
 use Rattle.djq_reduct.specs.Reducts.{Reducts}
 use Rattle.djq_cursor.specs.declared.cursor.Cursor.{Cursor}
 use Rattle.djq_reduct.specs.Answers.{IsAnswerOf}
 use Rattle.djq_cursor.specs.Listing.{AreSome, IsLeft, IsListing}
 use Rattle.djq_cursor.specs.Given.{given, Fits}
-use Rattle.djq_live.specs.declared.cursors.Progress.{Progress}
-use Rattle.djq_live.specs.declared.cursors.Progress.TheVariants.{Open, Stale}
+use Rattle.djq_live.specs.Cursors.{Progress}
+use Rattle.djq_slots.specs.declared.progress.Progress.TheVariants.{Open, Stale}
 use Rattle.djq_live.specs.declared.listing.Next.{Next}
 use Rattle.djq_live.specs.declared.listing.Next.TheVariants.{Given, End, Stale as IsStale}
-use Rattle.djq_live.specs.Cursors.{slot_at}
 
 -- an open cursor fits the reducts
 abbrev pub FitsOver : Reducts → Progress → Type 0
 FitsOver r (Open cursor ended) = Fits r cursor
 FitsOver r (Stale relation n) = ⊤
-
--- the cursor isn't stale
-abbrev pub IsOpen : Progress → Type 0
-IsOpen (Open cursor ended) = ⊤
-IsOpen (Stale relation n) = ⊥
 
 -- A cursor goes on by one answer that it hasn't given.
 pub record Advances (r : Reducts) (old : Cursor) (u : List ℕ) (new : Cursor) : Type 0 where
@@ -63,12 +54,3 @@ Looks r (Open old ended) true new =
 Looks r (Open old ended) false new =
     (new ≡ Open old true) × IsListing (IsAnswerOf r) (given r old)
 Looks r (Stale q m) left new = ⊥
-
--- the cursor in a slot is read so, and the others are as before
-pub record InSlot (Read : Progress → Progress → Type 0) (old : List (Option Progress)) (k : ℕ)
-    (new : List (Option Progress)) : Type 0 where
-  pub before : Progress
-  pub there : slot_at old k ≡ Some before
-  pub after : Progress
-  pub read : Read before after
-  pub is : new ≡ slice_set old k (Some after)

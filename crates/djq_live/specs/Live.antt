@@ -15,9 +15,8 @@ use Rattle.djq_query.specs.Pattern.{Shape}
 use Rattle.djq_rows.specs.Catalog.{Catalog}
 use Rattle.djq_live.specs.Leaves.{IsOver}
 use Rattle.djq_live.specs.Shown.{shown, AreShownAs}
-use Rattle.djq_live.specs.declared.cursors.Progress.{Progress}
-use Rattle.djq_live.specs.declared.cursors.Progress.TheVariants.{Open, Stale}
-use Rattle.djq_live.specs.Cursors.{slot_at}
+use Rattle.djq_slots.specs.declared.progress.Progress.TheVariants.{Open, Stale}
+use Rattle.djq_live.specs.Cursors.{Progress, slot_at}
 
 -- A query, the same by number, the patterns of its atoms, its reducts, and its cursors in slots.
 pub record Live : Type 0 where

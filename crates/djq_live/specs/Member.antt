@@ -14,6 +14,7 @@ use Rattle.std.specs.Prelude.{
   length,
   map,
   All,
+  Contains,
   Option,
   None,
   Some,
@@ -130,6 +131,10 @@ queries_at qs (k ∷ ks) = option_to_list (query_at qs k) ++ queries_at qs ks
 pub record HaveQueries (qs : List (Option Live)) (ks : List ℕ) : Type 0 where
   pub few : length ks ≤ 8
   pub each : AllByRecursion (λ k. IsSomeAnd (query_at qs k) (λ l. ⊤)) ks
+
+-- The answers of all of these have the same types.
+pub record AreAlike (ls : List Live) : Type 0 where
+  pub each : (l m : Live) → Contains ls l → Contains ls m → head_types l ≡ head_types m
 
 -- Where the queries in places are kept over some catalog, these are.
 abbrev pub QueriesAreKept : Type 0

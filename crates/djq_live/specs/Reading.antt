@@ -9,11 +9,10 @@ use Rattle.djq_reduct.specs.Answers.{IsAnswerOf}
 use Rattle.djq_cursor.specs.declared.cursor.Cursor.{Cursor}
 use Rattle.djq_cursor.specs.Given.{given}
 use Rattle.djq_rows.specs.Catalog.{Catalog}
-use Rattle.djq_live.specs.declared.cursors.Progress.{Progress}
-use Rattle.djq_live.specs.declared.cursors.Progress.TheVariants.{Open}
+use Rattle.djq_slots.specs.declared.progress.Progress.TheVariants.{Open}
 use Rattle.djq_live.specs.declared.listing.Next.{Next}
 use Rattle.djq_live.specs.declared.listing.Next.TheVariants.{Given, End, Stale}
-use Rattle.djq_live.specs.Cursors.{slot_at, IsOpenIn, SetsSlot}
+use Rattle.djq_live.specs.Cursors.{Progress, slot_at, IsOpenIn, SetsSlot}
 use Rattle.djq_live.specs.Live.{Live, IsLive, position_of, values_of}
 
 -- The cursor in a slot is moved, and nothing else.

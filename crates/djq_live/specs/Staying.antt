@@ -1,12 +1,23 @@
--- What stays of a registered query where rows change that it doesn't read.
+-- What stays of a registered query as others change, and where rows change that it doesn't read.
 use Rattle.std.specs.Prelude.{ℕ, List, ◌≡◌, ◌<◌, false, Some, length}
 use Rattle.djq_model.specs.Data.{Tuple}
 use Rattle.djq_machine.specs.Stale.{reads}
 use Rattle.djq_rows.specs.Catalog.{Catalog, relation_at}
-use Rattle.djq_live.specs.declared.cursors.Progress.{Progress}
-use Rattle.djq_live.specs.Cursors.{slot_at}
+use Rattle.djq_live.specs.Cursors.{Progress, slot_at}
 use Rattle.djq_live.specs.Changes.{Came, CameAll, Went, HasSameRows}
 use Rattle.djq_live.specs.Live.{Live, IsLive, position_of}
+
+-- A query is the same with the same tables.
+pub record HasSameTables (l m : Live) : Type 0 where
+  pub query : m.query ≡ l.query
+  pub numbered : m.numbered ≡ l.numbered
+  pub reducts : m.reducts ≡ l.reducts
+
+-- A query is the same with the same tree; its tables may differ.
+pub record HasSameShape (l m : Live) : Type 0 where
+  pub query : m.query ≡ l.query
+  pub numbered : m.numbered ≡ l.numbered
+  pub tree : (m.reducts).tree ≡ (l.reducts).tree
 
 -- The query is kept over a later catalog, and its cursors stand where they stood.
 pub record StaysOver (c d : Catalog) (l : Live) : Type 0 where

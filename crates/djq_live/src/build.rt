@@ -15,7 +15,6 @@ ghost use Rattle.djq_rows.specs.Cells.{HaveCells};
 ghost use Rattle.djq_tree.specs.Explaining.{explain_of};
 
 use crate::bind::bind_atoms;
-use crate::cursors::Cursors;
 use crate::fill::fill_leaves;
 use crate::headed::HeadedQuery;
 use crate::live::LiveQuery;
@@ -25,6 +24,7 @@ use djq_dict::InternRefusal;
 use djq_model::{Atom, Comparison, NoMem, Query, Term, Value};
 use djq_reduct::Reducts;
 use djq_rows::Catalog;
+use djq_slots::Cursors;
 use djq_steps::{Ledgers, Steps};
 use djq_tree::Lines;
 use std::alloc::Global;

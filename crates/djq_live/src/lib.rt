@@ -39,7 +39,6 @@ pub use changes::{
     added_came, copies_keep_rows, deleted_went, leaf_gains, leaf_is_empty, leaf_is_filled,
     over_gains, over_loses, over_stays,
 };
-pub use cursors::Progress;
 pub use fault::query_fault_of;
 pub use laws::{
     answers_are_listed, answers_are_showable, answers_are_shown, answers_differ, answers_stand,
@@ -58,7 +57,6 @@ mod batch;
 mod bind;
 mod build;
 mod changes;
-mod cursors;
 mod fault;
 mod fill;
 mod headed;
@@ -69,6 +67,7 @@ mod lookup;
 mod member;
 mod names;
 mod plan;
+mod reads;
 mod rest;
 mod staying;
 mod stepping;

@@ -25,6 +25,7 @@ ghost use Rattle.djq_live.specs.Reading.{NextGives, MoreGives, next_steps, Opens
 
 use crate::live::LiveQuery;
 use crate::lookup::{has_cells, suits_head};
+use crate::reads::{look, read};
 use djq_cursor::Cursor;
 use djq_lines::Refusal;
 use djq_model::{Lent, Name, NoMem, Value};
@@ -66,7 +67,7 @@ impl LiveQuery {
         ensures live { (c : CatalogModel) → IsLive c self.old → IsLive c self.new }
         ensures err { OnErr result (self.new ≡ self.old) }
     {
-        self.cursors.open()
+        self.cursors.open(Cursor::start())
     }
 
     /// The cursor in a slot, which isn't stale. What it has given are the answers that reads of the
@@ -104,7 +105,12 @@ impl LiveQuery {
         ensures counted { (c : CatalogModel) → IsLive c self.old → listing.new ≤ listing.old
             + next_steps result (length self.old.query.head) }
     {
-        self.cursors.read(slot, &self.reducts, answer, listing)
+        read(
+            self.cursors.progress_mut(slot),
+            &self.reducts,
+            answer,
+            listing,
+        )
     }
 
     /// Whether a further answer is left for a cursor that isn't stale; where none is, it stands at
@@ -117,7 +123,7 @@ impl LiveQuery {
         ensures counted { (c : CatalogModel) → IsLive c self.old → listing.new ≤ listing.old
             + most_steps (length self.old.query.head) }
     {
-        self.cursors.look(slot, &self.reducts, listing)
+        look(self.cursors.progress_mut(slot), &self.reducts, listing)
     }
 
     /// Whether a tuple suits the query's answers.

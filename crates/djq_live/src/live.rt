@@ -3,13 +3,14 @@ ghost use Rattle.djq_model.specs.Listed.{a_query};
 ghost use Rattle.djq_machine.specs.Store.{IsShapeOf};
 ghost use Rattle.djq_live.specs.Live.{IsKeptSomewhere};
 
-use crate::cursors::Cursors;
 use crate::headed::HeadedQuery;
+use djq_cursor::Cursor;
 use djq_hyper::is_flat;
 use djq_lines::Shape;
 use djq_model::Query;
 use djq_query::Pattern;
 use djq_reduct::Reducts;
+use djq_slots::Cursors;
 use std::marker::Model;
 
 /// One registered query: kept answerable while the rows below it change.
@@ -20,7 +21,7 @@ pub struct LiveQuery {
     // one for each atom
     pub(crate) patterns: Vec<Pattern>,
     pub(crate) reducts: Reducts,
-    pub(crate) cursors: Cursors,
+    pub(crate) cursors: Cursors<Cursor>,
 }
 
 impl Model for LiveQuery {

@@ -17,10 +17,11 @@ use Rattle.djq_cursor.specs.Log.{Log}
 use Rattle.djq_cursor.specs.declared.log.Line.{Line}
 use Rattle.djq_live.specs.Live.{Live, IsShowable}
 use Rattle.djq_live.specs.Member.{query_at, queries_at, HaveQueries}
+use Rattle.djq_live.specs.Staying.{HasSameShape, HasSameTables}
 use Rattle.djq_reach.specs.Places.{is_reader}
 use Rattle.djq_engine.specs.Kept.{Kept, Registered, Outdates, KeepsPlaces, KeepsQuery, SameShape, is_tried}
 use Rattle.djq_engine.proofs.Listing.{map_members}
-use Rattle.djq_united.specs.Staying.{KeepMembers, HasSameShape, HasSameTables, AreUntouched}
+use Rattle.djq_united.specs.Staying.{KeepMembers, AreUntouched}
 use Rattle.djq_united.specs.United.{United, IsUnited, union_of, members_in, first_of}
 use Rattle.djq_gains.specs.Gains.{AtFirst, TellUnion}
 use Rattle.djq_deltas.proofs.Lists.{first_or_later}

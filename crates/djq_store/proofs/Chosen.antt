@@ -20,10 +20,10 @@ use Rattle.djq_machine.specs.State.{Store}
 use Rattle.djq_machine.specs.Union.{AreUnder, is_union, same_type, same_types, stands_twice}
 use Rattle.djq_machine.specs.Union.{types_differ, types_under, union_refusal}
 use Rattle.djq_live.specs.Live.{Live}
-use Rattle.djq_live.specs.Member.{head_types, query_at, queries_at, HeadTypesAre}
+use Rattle.djq_live.specs.Member.{head_types, query_at, queries_at, HeadTypesAre, AreAlike}
 use Rattle.djq_deltas.proofs.Lists.{nothing_there, first_or_later}
 use Rattle.djq_engine.specs.Kept.{Kept, Registered, registered_of}
-use Rattle.djq_united.specs.United.{AreAlike, AreMembers}
+use Rattle.djq_united.specs.United.{AreMembers}
 use Rattle.djq_store.specs.declared.joined.Joined.{Joined}
 use Rattle.djq_store.specs.Below.{IsEngine}
 use Rattle.djq_store.specs.Judging.{ArePlacesOf}

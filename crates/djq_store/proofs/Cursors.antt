@@ -13,9 +13,8 @@ use Rattle.djq_engine.specs.declared.cursor.CursorId.{CursorId}
 use Rattle.djq_engine.specs.Kept.{Kept, Held, Registered, same_id, held_at, registered_at}
 use Rattle.djq_engine.specs.Kept.{outdated_held, cursors_behind, Outdates}
 use Rattle.djq_engine.specs.Places.{id_at}
-use Rattle.djq_united.specs.declared.cursors.Progress.{Progress}
-use Rattle.djq_united.specs.declared.cursors.Progress.TheVariants.{Open, Stale}
-use Rattle.djq_united.specs.Slots.{slot_at, outdated_progress, outdated_slots}
+use Rattle.djq_slots.specs.declared.progress.Progress.TheVariants.{Open, Stale}
+use Rattle.djq_united.specs.Slots.{Progress, slot_at, outdated_progress, outdated_slots}
 use Rattle.djq_united.specs.United.{United, IsUnited, union_of, members_in, position_of}
 use Rattle.djq_store.specs.declared.joined.Joined.{Joined}
 use Rattle.djq_store.specs.declared.settling.Turn.{Turn}

@@ -13,8 +13,7 @@ use Rattle.djq_reach.proofs.Among.{apart}
 use Rattle.djq_engine.specs.declared.cursor.CursorId.{CursorId}
 use Rattle.djq_engine.specs.Kept.{Kept, Held, Registered, registered_at, same_id, held_at}
 use Rattle.djq_engine.specs.Places.{id_at}
-use Rattle.djq_united.specs.declared.cursors.Progress.{Progress}
-use Rattle.djq_united.specs.Slots.{slot_at}
+use Rattle.djq_united.specs.Slots.{Progress, slot_at}
 use Rattle.djq_united.specs.United.{United}
 use Rattle.djq_store.specs.declared.joined.Joined.{Joined}
 use Rattle.djq_store.specs.Below.{IsEngine}

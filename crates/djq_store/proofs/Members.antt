@@ -10,10 +10,11 @@ use Rattle.djq_cursor.specs.declared.log.Line.{Line}
 use Rattle.djq_live.specs.Live.{Live, IsShowable, ShowableStays, values_of}
 use Rattle.djq_live.specs.Member.{query_at, queries_at, HaveQueries}
 use Rattle.djq_live.specs.Updating.{change_of}
+use Rattle.djq_live.specs.Staying.{HasSameShape, HasSameTables}
 use Rattle.djq_engine.specs.Kept.{Kept, SameShape, SameTables, KeepsPlaces, KeepsQuery, KeepsTables}
 use Rattle.djq_engine.specs.Places.{told_of}
 use Rattle.djq_united.specs.United.{United, IsUnited, members_in, first_of, union_of}
-use Rattle.djq_united.specs.Staying.{MembersStay, KeepMembers, HasSameShape, HasSameTables}
+use Rattle.djq_united.specs.Staying.{MembersStay, KeepMembers}
 use Rattle.djq_store.specs.declared.joined.Joined.{Joined}
 use Rattle.djq_store.specs.Places.{first_member, told_in}
 use Rattle.djq_store.specs.Whole.{IsShownByFirst}

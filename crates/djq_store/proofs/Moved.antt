@@ -24,8 +24,7 @@ use Rattle.djq_engine.specs.Kept.{Kept, Held, OpensCursor, OpenGives, ClosesCurs
 use Rattle.djq_engine.specs.Kept.{MoreGives, MoreGivesAt, IsShown, AnswerIs, AtQuery, SameTellings}
 use Rattle.djq_engine.specs.Kept.{held_at, same_id, read_steps}
 use Rattle.djq_engine.specs.Places.{id_at}
-use Rattle.djq_united.specs.declared.cursors.Progress.{Progress}
-use Rattle.djq_united.specs.Slots.{slot_at}
+use Rattle.djq_united.specs.Slots.{Progress, slot_at}
 use Rattle.djq_united.specs.Reading as united
 use Rattle.djq_united.specs.United.{United, IsUnited, AtFirst, members_in, first_of, position_of, union_of}
 use Rattle.djq_store.specs.declared.joined.Joined.{Joined}

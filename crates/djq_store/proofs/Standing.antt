@@ -4,13 +4,13 @@ use Rattle.std.specs.Prelude.{Option, None, Some, IsSome, IsSomeAnd, option_map}
 use Rattle.std.proofs.Math.Nat.{add-sub_of_le}
 use Rattle.djq_model.specs.Data.{Bytes}
 use Rattle.djq_lines.specs.declared.limits.TheConstants.{QUERIES}
+use Rattle.djq_cursor.specs.declared.cursor.Cursor.{Cursor}
 use Rattle.djq_live.specs.Live.{Live}
 use Rattle.djq_engine.specs.declared.cursor.CursorId.{CursorId}
 use Rattle.djq_engine.specs.Kept.{Kept, Held, IsHeld, IsFresh, IsOpenAt, held_at}
 use Rattle.djq_engine.specs.Places.{id_at}
-use Rattle.djq_united.specs.declared.cursors.Progress.{Progress}
-use Rattle.djq_united.specs.declared.cursors.Progress.TheVariants.{Open, Stale}
-use Rattle.djq_united.specs.Slots.{slot_at, IsOpen, IsOpenIn}
+use Rattle.djq_slots.specs.declared.progress.Progress.TheVariants.{Open, Stale}
+use Rattle.djq_united.specs.Slots.{Progress, slot_at}
 use Rattle.djq_united.specs.United.{United, members_in, position_of}
 use Rattle.djq_store.specs.declared.joined.Joined.{Joined}
 use Rattle.djq_store.specs.Below.{IsEngine}
@@ -67,16 +67,12 @@ module _ (e : Kept) (b : IsEngine e) (us : List (Option Joined)) (order sessions
     freshly h = by_slot (joined_at us (id.query.at - QUERIES)) refl
         (subst (λ (o : Option Held). IsSomeAnd o (λ x. IsOpenAt x.position)) stands h)
       where
-        open_there : (j : Joined) (p : Progress)
-            → IsOpenAt (position_of (e.store).texts (members_in e.places j.union) p) → IsOpen p
-        open_there j (Open cursor ended) h = tt
-        open_there j (Stale r n) h = h
-
         there : (j : Joined) (o : Option Progress)
             → IsSomeAnd (option_map (held_as (e.store).texts e.places j.union id) o) (λ x. IsOpenAt x.position)
-            → IsSomeAnd o IsOpen
-        there j None h = h
-        there j (Some p) h = open_there j p h
+            → (cursor : List (Option Cursor)) × ((ended : Bool) × (o ≡ Some (Open cursor ended)))
+        there j None h = absurd h
+        there j (Some (Open cursor ended)) h = (cursor, (ended, refl))
+        there j (Some (Stale r n)) h = absurd h
 
         by_slot : (o : Option Joined) → joined_at us (id.query.at - QUERIES) ≡ o
             → IsSomeAnd (held_of (e.store).texts e.places id o) (λ x. IsOpenAt x.position)

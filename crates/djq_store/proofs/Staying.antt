@@ -17,8 +17,7 @@ use Rattle.djq_engine.specs.Kept.{Kept, Held, Registered, SameCursors, SameTelli
 use Rattle.djq_engine.specs.Kept.{KeepsTables, MovesCursor, IsOver, held_at, same_id}
 use Rattle.djq_engine.specs.Places.{id_at, query_in}
 use Rattle.djq_engine.proofs.Listing.{map_members}
-use Rattle.djq_united.specs.declared.cursors.Progress.{Progress}
-use Rattle.djq_united.specs.Slots.{slot_at}
+use Rattle.djq_united.specs.Slots.{Progress, slot_at}
 use Rattle.djq_united.specs.United.{United, IsUnited, AreKept, members_in, position_of}
 use Rattle.djq_united.specs.Staying.{MembersStay, UnionsStay, AreUntouched}
 use Rattle.djq_store.specs.declared.joined.Joined.{Joined}

@@ -23,8 +23,7 @@ use Rattle.djq_engine.specs.Kept.{same_query, held_at, registered_at, registered
 use Rattle.djq_engine.specs.Places.{id_at, left}
 use Rattle.djq_engine.proofs.Conditions.{answers_refused, answers_done}
 use Rattle.djq_engine.proofs.Listing.{map_members, drop_listed, filter_twice, once_filter, reader_filter, all_but}
-use Rattle.djq_united.specs.declared.cursors.Progress.{Progress}
-use Rattle.djq_united.specs.Slots.{slot_at, are_vacant}
+use Rattle.djq_united.specs.Slots.{Progress, slot_at, are_vacant}
 use Rattle.djq_united.specs.United.{IsUnited, union_of}
 use Rattle.djq_store.specs.declared.joined.Joined.{Joined}
 use Rattle.djq_store.specs.Below.{IsEngine}

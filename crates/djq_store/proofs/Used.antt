@@ -24,8 +24,7 @@ use Rattle.djq_engine.specs.Kept.{DropsPlace, TellsOf, same_query, held_at, regi
 use Rattle.djq_engine.specs.Kept.{registered_of, is_watched, same_id}
 use Rattle.djq_engine.specs.Places.{id_at, left}
 use Rattle.djq_engine.proofs.Listing.{reader_filter}
-use Rattle.djq_united.specs.declared.cursors.Progress.{Progress}
-use Rattle.djq_united.specs.Slots.{slot_at}
+use Rattle.djq_united.specs.Slots.{Progress, slot_at}
 use Rattle.djq_engine.proofs.Conditions.{answers_refused, answers_done, refused_as, done_of}
 use Rattle.djq_store.specs.declared.joined.Joined.{Joined}
 use Rattle.djq_store.specs.Below.{IsEngine, StayingLaws}

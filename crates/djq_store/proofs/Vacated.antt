@@ -13,7 +13,7 @@ use Rattle.djq_model.specs.Listed.{Listed, a_query, a_union, listed_name}
 use Rattle.djq_lines.specs.declared.limits.TheConstants.{QUERIES}
 use Rattle.djq_machine.specs.State.{Store}
 use Rattle.djq_live.specs.Live.{Live, IsShowable}
-use Rattle.djq_live.specs.Member.{query_at, queries_at}
+use Rattle.djq_live.specs.Member.{query_at, queries_at, AreAlike}
 use Rattle.djq_reach.specs.Places.{is_reader}
 use Rattle.djq_reach.proofs.Reaching.{place_below}
 use Rattle.djq_engine.specs.declared.cursor.QueryId.{QueryId}
@@ -21,7 +21,7 @@ use Rattle.djq_engine.specs.Kept.{Kept, Held, Registered, SameCursors, TellsOf, 
 use Rattle.djq_engine.specs.Kept.{held_at, registered_at, registered_of, same_query, told_at}
 use Rattle.djq_engine.specs.Places.{id_at, query_in, told_of, left}
 use Rattle.djq_engine.proofs.Listing.{map_members, drop_listed, reader_filter, filter_twice, once_filter}
-use Rattle.djq_united.specs.United.{United, AreAlike, IsUnited, FitAll, members_in, first_of, position_of}
+use Rattle.djq_united.specs.United.{United, IsUnited, FitAll, members_in, first_of, position_of}
 use Rattle.djq_united.specs.Slots.{slot_at}
 use Rattle.djq_store.specs.declared.joined.Joined.{Joined}
 use Rattle.djq_store.specs.Below.{IsEngine}

@@ -7,10 +7,11 @@ use Rattle.djq_machine.specs.Store.{atoms_of}
 use Rattle.djq_cursor.specs.Log.{Log}
 use Rattle.djq_live.specs.Live.{Live}
 use Rattle.djq_live.specs.Member.{query_at}
+use Rattle.djq_live.specs.Staying.{HasSameShape}
 use Rattle.djq_reach.specs.Places.{reads_place}
 use Rattle.djq_engine.specs.Kept.{Kept}
 use Rattle.djq_united.specs.Slots.{outdated_slots}
-use Rattle.djq_united.specs.Staying.{KeepMembers, HasSameShape}
+use Rattle.djq_united.specs.Staying.{KeepMembers}
 use Rattle.djq_united.specs.United.{United, IsUnited}
 use Rattle.djq_gains.specs.Gains.{AtFirst, TellUnion, members_at, count_in}
 use Rattle.djq_store.specs.declared.joined.Joined.{Joined}

@@ -122,20 +122,6 @@ impl<M: Listing> UnionCursor<M> {
         self.is_left_from(members, 0, listing)
     }
 
-    /// Whether some member has the answer. It counts at most what the tests of all members do.
-    pub fn has<G: Members<Member = M>, L: Ledger>(
-        members: &G,
-        answer: &M::Answer,
-        listing: &mut Tally<L>,
-    ) -> bool
-        requires sound { G.sound members.now }
-        requires ready { All (λ m. M.ready m) (G.members members.now) }
-        ensures has { result ≡ some_has M.has (G.members members.now) answer.now }
-        ensures counted { listing.new ≤ listing.old + sum_by M.asks (G.members members.now) }
-    {
-        has_from(members, 0, answer, listing)
-    }
-
     // Goes on with the union of the members from the i-th on: with the first of them, and with the
     // later ones where they have its answer, or where it has none left.
     fn advance_from<G: Members<Member = M>, L: Ledger>(

@@ -10,6 +10,8 @@ use Rattle.std.proofs.Common.{
   [],
   ◌∷◌,
   ◌++◌,
+  length,
+  ◌≤◌,
   map,
   inl,
   inr,
@@ -41,16 +43,14 @@ use Rattle.std.proofs.lemmas.Bool.{false≢true, or_cases, or_left, or_right}
 use Rattle.std.proofs.lemmas.List.{map-append}
 use Rattle.std.proofs.lemmas.List.Elements.{All-contains, Contains-push, Contains-append_left}
 use Rattle.djq_model.specs.declared.memory.NoMem.{NoMem}
-use Rattle.djq_model.specs.Data.{Bytes, Tuple}
-use Rattle.djq_model.specs.Listed.{AnswersOf}
+use Rattle.djq_model.specs.Data.{Bytes}
 use Rattle.djq_machine.specs.State.{Position, open_at}
-use Rattle.djq_machine.specs.Store.{Tells}
 use Rattle.djq_cursor.specs.declared.cursor.Cursor.{Cursor}
 use Rattle.djq_union.specs.Answers.{AreSome, AreAll as AreAllCells}
 use Rattle.djq_union.specs.Union.{some_has}
 use Rattle.djq_union.proofs.Lists.{once_of, once_left}
 use Rattle.djq_union.proofs.Fitting.{union_some}
-use Rattle.djq_rows.specs.Cells.{StandFor}
+use Rattle.djq_slots.proofs.Slots.{put_each, put_same, open_each}
 use Rattle.djq_rows.specs.Catalog.{Catalog}
 use Rattle.djq_live.specs.declared.listing.Next.{Next}
 use Rattle.djq_live.specs.declared.listing.Next.TheVariants.{Given, End, Stale as IsStale}
@@ -61,19 +61,15 @@ use Rattle.djq_live.specs.Member.{
   all_answers,
   in_head,
   in_tree,
-  head_types,
   queries_at,
   FitsKept,
 }
 use Rattle.djq_live.proofs.AtPlaces.{as_many}
-use Rattle.djq_united.specs.declared.cursors.Progress.{Progress}
-use Rattle.djq_united.specs.declared.cursors.Progress.TheVariants.{Open, Stale}
-use Rattle.djq_united.specs.Slots.{slot_at}
+use Rattle.djq_slots.specs.declared.progress.Progress.TheVariants.{Open, Stale}
+use Rattle.djq_united.specs.Slots.{Progress, slot_at, OpensSlot}
 use Rattle.djq_united.specs.United.{
   United,
   members_in,
-  union_of,
-  AtFirst,
   FitsMembers,
   FitsOver,
   AreMembers,
@@ -83,19 +79,23 @@ use Rattle.djq_united.specs.United.{
   given_by,
   position_of,
 }
-use Rattle.djq_united.specs.Advancing.{union_cells, Reads, Looks, InSlot, OpensSlot}
-use Rattle.djq_united.specs.Reading.{MovesTo, NextGives, NextGivesAt, MoreGives, MoreGivesAt}
+use Rattle.djq_united.specs.Advancing.{union_cells, Reads, Looks}
+use Rattle.djq_united.specs.Reading.{
+  OpensIn,
+  MovesTo,
+  NextGives,
+  NextGivesAt,
+  MoreGives,
+  MoreGivesAt,
+}
 use Rattle.djq_united.proofs.Lists.{IsMissing, missing}
 use Rattle.djq_united.proofs.Placed.{member_kept}
-use Rattle.djq_united.proofs.Slots.{put_fits, put_same, open_fits}
 use Rattle.djq_united.proofs.Values.{
   AreOver,
-  IsAnswerOfSome,
   IsHad,
   left_shown,
   all_shown,
   first_shows,
-  had_tells,
   at_first,
 }
 
@@ -176,9 +176,17 @@ moves c qs u k p position united fit stands = record {
   stands = stands;
   united = record {
     members = united.members;
-    fits = put_fits (members_in qs u) u.cursors k p united.fits fit;
+    fits = put_each (FitsOver (members_in qs u)) u.cursors k p united.fits fit;
   };
 }
+
+-- a cursor in a slot fits, where the union is seen from outside
+pub fits_seen : (qs : List (Option Live)) (u v : United) (ks : List ℕ) (k : ℕ) (p : Progress)
+    → u ≡ v → ks ≡ u.members → IsUnited qs v → slot_at u.cursors k ≡ Some p
+    → FitsOver (queries_at qs ks) p
+fits_seen qs u v ks k p e at united there =
+    subst (λ (js : List ℕ). FitsOver (queries_at qs js) p) (sym at)
+    ((subst (IsUnited qs) (sym e) united).fits.each k p there)
 
 -- ---- a read
 
@@ -225,29 +233,26 @@ gives_at c qs u k (Stale q m) new (IsStale r n) answer kept united there h = (
       (put_same u.cursors k (Stale q m) new there h.2),
 )
 
-next_gives : (c : Catalog) (qs : List (Option Live)) (u : United) (k : ℕ) (result : Next)
-    (answer : List ℕ) (slots : List (Option Progress)) → AreKept c qs → IsUnited qs u
-    → InSlot (λ old new. Reads (members_in qs u) old result answer new) u.cursors k slots
-    → NextGives c qs u k result answer (record u { cursors = slots })
-next_gives c qs u k result answer slots kept united s =
-    subst (λ (new : List (Option Progress)). NextGives c qs u k result answer
-    (record u { cursors = new })) (sym s.is)
-    (subst (λ (o : Option Progress). IsSomeAnd o (λ p. NextGivesAt c qs u k
+next_gives : (c : Catalog) (qs : List (Option Live)) (u : United) (k : ℕ) (p q : Progress)
+    (result : Next) (answer : List ℕ) → AreKept c qs → IsUnited qs u → slot_at u.cursors k ≡ Some p
+    → Reads (members_in qs u) p result answer q
+    → NextGives c qs u k result answer (record u { cursors = slice_set u.cursors k (Some q) })
+next_gives c qs u k p q result answer kept united there h =
+    subst (λ (o : Option Progress). IsSomeAnd o (λ p. NextGivesAt c qs u k
     (position_of c.texts (members_in qs u) p) result answer
-    (record u { cursors = slice_set u.cursors k (Some s.after) }))) (sym s.there)
-    (gives_at c qs u k s.before s.after result answer kept united s.there s.read))
+    (record u { cursors = slice_set u.cursors k (Some q) }))) (sym there)
+    (gives_at c qs u k p q result answer kept united there h)
 
 -- the same where the union is seen from outside
 pub next_seen : (c : Catalog) (qs : List (Option Live)) (u v : United) (ks : List ℕ) (k : ℕ)
-    (result : Next) (answer : List ℕ) (slots : List (Option Progress)) → u ≡ v → ks ≡ u.members
-    → AreKept c qs → IsUnited qs v
-    → InSlot (λ old new. Reads (queries_at qs ks) old result answer new) u.cursors k slots
-    → NextGives c qs v k result answer (record u { cursors = slots })
-next_seen c qs u v ks k result answer slots e at kept united s =
-    subst (λ (w : United). NextGives c qs w k result answer (record u { cursors = slots })) e
-    (next_gives c qs u k result answer slots kept (subst (IsUnited qs) (sym e) united)
-    (subst (λ (js : List ℕ). InSlot (λ old new. Reads (queries_at qs js) old result answer new)
-    u.cursors k slots) at s))
+    (p q : Progress) (result : Next) (answer : List ℕ) → u ≡ v → ks ≡ u.members → AreKept c qs
+    → IsUnited qs v → slot_at u.cursors k ≡ Some p → Reads (queries_at qs ks) p result answer q
+    → NextGives c qs v k result answer (record u { cursors = slice_set u.cursors k (Some q) })
+next_seen c qs u v ks k p q result answer e at kept united there h =
+    subst (λ (w : United). NextGives c qs w k result answer
+    (record u { cursors = slice_set u.cursors k (Some q) })) e
+    (next_gives c qs u k p q result answer kept (subst (IsUnited qs) (sym e) united) there
+    (subst (λ (js : List ℕ). Reads (queries_at qs js) p result answer q) at h))
 
 -- ---- a look
 
@@ -278,27 +283,25 @@ looks_at c qs u k (Open old ended) q false kept united there h =
 looks_at c qs u k (Stale r m) q true kept united there h = absurd h
 looks_at c qs u k (Stale r m) q false kept united there h = absurd h
 
-more_gives : (c : Catalog) (qs : List (Option Live)) (u : United) (k : ℕ) (left : Bool)
-    (slots : List (Option Progress)) → AreKept c qs → IsUnited qs u
-    → InSlot (λ old new. Looks (members_in qs u) old left new) u.cursors k slots
-    → MoreGives c qs u k left (record u { cursors = slots })
-more_gives c qs u k left slots kept united s =
-    subst (λ (new : List (Option Progress)). MoreGives c qs u k left (record u { cursors = new }))
-    (sym s.is)
-    (subst (λ (o : Option Progress). IsSomeAnd o (λ p. MoreGivesAt c qs u k
+more_gives : (c : Catalog) (qs : List (Option Live)) (u : United) (k : ℕ) (p q : Progress)
+    (left : Bool) → AreKept c qs → IsUnited qs u → slot_at u.cursors k ≡ Some p
+    → Looks (members_in qs u) p left q
+    → MoreGives c qs u k left (record u { cursors = slice_set u.cursors k (Some q) })
+more_gives c qs u k p q left kept united there h =
+    subst (λ (o : Option Progress). IsSomeAnd o (λ p. MoreGivesAt c qs u k
     (position_of c.texts (members_in qs u) p) left
-    (record u { cursors = slice_set u.cursors k (Some s.after) }))) (sym s.there)
-    (looks_at c qs u k s.before s.after left kept united s.there s.read))
+    (record u { cursors = slice_set u.cursors k (Some q) }))) (sym there)
+    (looks_at c qs u k p q left kept united there h)
 
 pub more_seen : (c : Catalog) (qs : List (Option Live)) (u v : United) (ks : List ℕ) (k : ℕ)
-    (left : Bool) (slots : List (Option Progress)) → u ≡ v → ks ≡ u.members → AreKept c qs
-    → IsUnited qs v → InSlot (λ old new. Looks (queries_at qs ks) old left new) u.cursors k slots
-    → MoreGives c qs v k left (record u { cursors = slots })
-more_seen c qs u v ks k left slots e at kept united s =
-    subst (λ (w : United). MoreGives c qs w k left (record u { cursors = slots })) e
-    (more_gives c qs u k left slots kept (subst (IsUnited qs) (sym e) united)
-    (subst (λ (js : List ℕ). InSlot (λ old new. Looks (queries_at qs js) old left new)
-    u.cursors k slots) at s))
+    (p q : Progress) (left : Bool) → u ≡ v → ks ≡ u.members → AreKept c qs → IsUnited qs v
+    → slot_at u.cursors k ≡ Some p → Looks (queries_at qs ks) p left q
+    → MoreGives c qs v k left (record u { cursors = slice_set u.cursors k (Some q) })
+more_seen c qs u v ks k p q left e at kept united there h =
+    subst (λ (w : United). MoreGives c qs w k left
+    (record u { cursors = slice_set u.cursors k (Some q) })) e
+    (more_gives c qs u k p q left kept (subst (IsUnited qs) (sym e) united) there
+    (subst (λ (js : List ℕ). Looks (queries_at qs js) p left q) at h))
 
 -- ---- one read of an open cursor
 
@@ -346,47 +349,37 @@ looks_open ls p old ended left is h =
     by true k = (refl, λ all. false≢true (sym (k.1 all)))
     by false k = (refl, k.0 refl)
 
--- ---- a test
-
-tells_by : (c : Catalog) (ls : List Live) (t : List ℕ) (v : Tuple) (result : Bool)
-    → result ≡ some_has has_cells ls t
-    → ((some_has has_cells ls t ≡ true) → IsAnswerOfSome c ls v)
-    × (IsAnswerOfSome c ls v → some_has has_cells ls t ≡ true)
-    → Tells (IsAnswerOfSome c ls v) result
-tells_by c ls t v true e h = h.0 (sym e)
-tells_by c ls t v false e h = λ is. false≢true (e ∙ h.1 is)
-
-tells_had : (c : Catalog) (ls : List Live) (t : List ℕ) (v : Tuple) (result : Bool) → AreOver c ls
-    → AtFirst ls (λ l. StandFor c.texts (head_types l) t v) → result ≡ some_has has_cells ls t
-    → Tells (IsAnswerOfSome c ls v) result
-tells_had c [] t v result over stand e = absurd stand
-tells_had c (l ∷ ls) t v result over stand e =
-    tells_by c (l ∷ ls) t v result e (had_tells c l ls t v over stand)
-
-pub has_tells : (c : Catalog) (qs : List (Option Live)) (u v : United) (ks t : List ℕ)
-    (tuple : Tuple) (result : Bool) → u ≡ v → ks ≡ u.members → AreKept c qs → IsUnited qs v
-    → AtFirst (members_in qs v) (λ l. StandFor c.texts (head_types l) t tuple)
-    → result ≡ some_has has_cells (queries_at qs ks) t
-    → Tells (AnswersOf c.relations (union_of qs v) tuple) result
-has_tells c qs u v ks t tuple result e at kept united stand is =
-    tells_had c (members_in qs v) t tuple result (over_members c qs v kept united) stand
-    (is ∙ ap (λ (js : List ℕ). some_has has_cells (queries_at qs js) t)
-    (at ∙ ap (λ (w : United). w.members) e))
-
 -- ---- a cursor is opened
 
-pub open_united : (qs : List (Option Live)) (u v : United) (slots : List (Option Progress))
-    (result : Result ℕ NoMem) → u ≡ v → IsUnited qs v
-    → IfOk result (λ k. OpensSlot u.cursors k slots) → OnErr result (slots ≡ u.cursors)
+pub open_united : (qs : List (Option Live)) (u v : United) (cursor : List (Option Cursor))
+    (slots : List (Option Progress)) (result : Result ℕ NoMem) → u ≡ v → IsUnited qs v
+    → ((ls : List Live) → length ls ≤ 8 → FitsMembers ls cursor)
+    → IfOk result (λ k. OpensSlot u.cursors k cursor slots) → OnErr result (slots ≡ u.cursors)
     → IsUnited qs (record u { cursors = slots })
-open_united qs u v slots (Ok k) e united opens same =
+open_united qs u v cursor slots (Ok k) e united fits opens same =
     let mine = subst (IsUnited qs) (sym e) united in
     let many = as_many qs u.members mine.members.have.each in
     let few = mine.members.have.few in
     record {
       members = mine.members;
-      fits = open_fits (members_in qs u) u.cursors k slots mine.fits (omega arith) opens;
+      fits = open_each (FitsOver (members_in qs u)) u.cursors k cursor slots mine.fits opens
+          (fits (members_in qs u) (omega arith));
     }
-open_united qs u v slots (Err none) e united opens same =
+open_united qs u v cursor slots (Err none) e united fits opens same =
     subst (λ (new : List (Option Progress)). IsUnited qs (record u { cursors = new })) (sym same)
     (subst (IsUnited qs) (sym e) united)
+
+pub opens : (u v : United) (cursor : List (Option Cursor)) (slots : List (Option Progress))
+    (result : Result ℕ NoMem) → u ≡ v → ((ls : List Live) → union_cells ls cursor ≡ [])
+    → IfOk result (λ k. OpensSlot u.cursors k cursor slots)
+    → IfOk result (λ k. OpensIn v k (record u { cursors = slots }))
+opens u v cursor slots (Ok k) e none opened =
+    subst (λ (w : United). OpensIn w k (record u { cursors = slots })) e (record {
+      free = opened.free;
+      progress = Open cursor false;
+      stands = λ texts ls. ap
+          (λ (ts : List (List ℕ)). open_at (map (shown_cells texts ls) ts) false) (none ls);
+      sets = opened.sets;
+      others = refl;
+    })
+opens u v cursor slots (Err none) e given opened = tt

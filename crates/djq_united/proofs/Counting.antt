@@ -19,7 +19,7 @@ use Rattle.std.proofs.Common.{
   ◌∙◌,
   arith,
 }
-use Rattle.std.specs.Prelude.{All, Contains, Option}
+use Rattle.std.specs.Prelude.{All, Contains}
 use Rattle.std.specs.List.{sum_by}
 use Rattle.std.proofs.lemmas.List.{length-map}
 use Rattle.std.proofs.lemmas.List.Sums.{sum_by-cons}
@@ -31,12 +31,11 @@ use Rattle.djq_union.proofs.Lists.{at_head, all_of}
 use Rattle.djq_rows.specs.Catalog.{Catalog}
 use Rattle.djq_live.specs.Live.{Live, IsKept}
 use Rattle.djq_live.specs.Asked.{column_of}
-use Rattle.djq_live.specs.Member.{has_cells, head_types, queries_at}
+use Rattle.djq_live.specs.Member.{has_cells, head_types}
 use Rattle.djq_live.specs.Order.{reading}
 use Rattle.djq_live.proofs.InHead.{had_from}
 use Rattle.djq_live.proofs.Standing.{head_are}
 use Rattle.djq_united.proofs.Lists.{has_one}
-use Rattle.djq_united.specs.United.{United, members_in}
 use Rattle.djq_united.specs.Advancing.{most_of}
 use Rattle.djq_united.proofs.Values.{AreOver, IsHad}
 
@@ -112,11 +111,3 @@ left_counted c ls before now over h =
     ((length (queries ls) - 1) * atoms_of (queries ls))
     (subst (λ (k : ℕ). now ≤ before + k * n) (sym (length-map ls (λ (l : Live). l.query)))
     (h n (all_within c ls over)))
-
-pub has_counted : (qs : List (Option Live)) (u v : United) (ks : List ℕ) (before now : ℕ) → u ≡ v
-    → ks ≡ u.members → now ≤ before + sum_by (λ l. length l.query.atoms) (queries_at qs ks)
-    → now ≤ before + atoms_of (queries (members_in qs v))
-has_counted qs u v ks before now e at h =
-    subst (λ (js : List ℕ). now ≤ before + atoms_of (queries (queries_at qs js)))
-    (at ∙ ap (λ (w : United). w.members) e)
-    (subst (λ (n : ℕ). now ≤ before + n) (atoms_are (queries_at qs ks)) h)

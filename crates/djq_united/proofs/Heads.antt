@@ -50,9 +50,9 @@ use Rattle.djq_model.specs.declared.relation.ColumnType.TheVariants.{Int, Text}
 use Rattle.djq_machine.specs.Union.{same_type, same_types}
 use Rattle.djq_union.proofs.Lists.{at_head, in_tail}
 use Rattle.djq_live.specs.Live.{Live}
-use Rattle.djq_live.specs.Member.{head_types, query_at, queries_at}
+use Rattle.djq_live.specs.Member.{head_types, query_at, queries_at, AreAlike}
 use Rattle.djq_live.proofs.AtPlaces.{nth_is, nth_has}
-use Rattle.djq_united.specs.United.{heads_differ, AreAlike}
+use Rattle.djq_united.specs.United.{heads_differ}
 use Rattle.djq_united.proofs.Lists.{one_has}
 
 -- ---- types

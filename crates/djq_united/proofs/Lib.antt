@@ -1,5 +1,4 @@
 mod Lists
-mod Slots
 mod Placed
 mod Heads
 mod Values

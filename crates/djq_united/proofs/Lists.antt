@@ -44,29 +44,6 @@ module _ {A : Type 0} where
 module _ {A B : Type 0} (f : A → B) where
   -- ---- what a function makes of a list
 
-  pub in_image : (xs : List A) (x : A) → Contains xs x → Contains (map f xs) (f x)
-  in_image [] x there = absurd (none_contained x there)
-  in_image (y ∷ ys) x there = elim (head_or_tail y ys x there) [
-    | inl here ↦ subst (λ (b : B). Contains (map f (y ∷ ys)) b) (ap f here)
-        (at_head (f y) (map f ys))
-    | inr later ↦ in_tail (f y) (map f ys) (f x) (in_image ys x later)
-  ]
-
-  -- an element that this is made of
-  pub record IsImage (xs : List A) (b : B) : Type 0 where
-    pub of : A
-    pub there : Contains xs of
-    pub is : b ≡ f of
-
-  pub image_of : (xs : List A) (b : B) → Contains (map f xs) b → IsImage xs b
-  image_of [] b there = absurd (none_contained b there)
-  image_of (x ∷ xs) b there = elim (head_or_tail (f x) (map f xs) b there) [
-    | inl here ↦ record { of = x; there = at_head x xs; is = sym here }
-    | inr later ↦
-        let r = image_of xs b later in
-        record { of = r.of; there = in_tail x xs r.of r.there; is = r.is }
-  ]
-
   pub same_images : (g : A → B) (xs : List A) → ((x : A) → Contains xs x → f x ≡ g x)
       → map f xs ≡ map g xs
   same_images g [] h = refl

@@ -33,16 +33,24 @@ use Rattle.djq_union.specs.Order.{merged}
 use Rattle.djq_union.specs.Union.{some_has, given_at, AreInStep}
 use Rattle.djq_union.proofs.Lists.{none_contained, at_head, in_tail, head_or_tail}
 use Rattle.djq_rows.specs.Catalog.{Catalog}
+use Rattle.djq_slots.proofs.Slots.{stale_each}
 use Rattle.djq_live.specs.Live.{Live, IsKeptSomewhere, values_of}
-use Rattle.djq_live.specs.Member.{has_cells, cells_given, FitsKept, query_at, head_types, in_tree}
+use Rattle.djq_live.specs.Member.{
+  has_cells,
+  cells_given,
+  FitsKept,
+  query_at,
+  head_types,
+  in_tree,
+  AreAlike,
+}
+use Rattle.djq_live.specs.Staying.{HasSameTables, HasSameShape}
 use Rattle.djq_live.proofs.Showable.{stays_showable}
-use Rattle.djq_united.specs.declared.cursors.Progress.{Progress}
-use Rattle.djq_united.specs.declared.cursors.Progress.TheVariants.{Open, Stale}
-use Rattle.djq_united.specs.Slots.{outdated_slots}
+use Rattle.djq_slots.specs.declared.progress.Progress.TheVariants.{Open, Stale}
+use Rattle.djq_united.specs.Slots.{Progress, outdated_slots}
 use Rattle.djq_united.specs.United.{
   United,
   members_in,
-  AreAlike,
   FitsMembers,
   FitsOver,
   FitAll,
@@ -52,17 +60,9 @@ use Rattle.djq_united.specs.United.{
   position_of,
 }
 use Rattle.djq_united.specs.Advancing.{union_cells}
-use Rattle.djq_united.specs.Staying.{
-  HasSameTables,
-  HasSameShape,
-  KeepMembers,
-  MembersStay,
-  UnionsStay,
-  StaleStand,
-}
+use Rattle.djq_united.specs.Staying.{KeepMembers, MembersStay, UnionsStay, StaleStand}
 use Rattle.djq_united.proofs.Lists.{same_images}
 use Rattle.djq_united.proofs.Placed.{member_kept, members_zip, still_have}
-use Rattle.djq_united.proofs.Slots.{stale_fits}
 use Rattle.djq_united.proofs.Values.{AreOver, first_showable}
 use Rattle.djq_united.proofs.Advancing.{given_some, given_had}
 
@@ -313,7 +313,7 @@ united_later : (old new : List (Option Live)) (u : United) (relation : Bytes) (n
 united_later old new u relation n slots e united keep = record {
   members = (members_stayed old new u keep united.members).0;
   fits = subst (FitAll (members_in new u)) (sym e)
-      (stale_fits (members_in new u) relation n u.cursors);
+      (stale_each (FitsOver (members_in new u)) (λ r m. tt) relation n u.cursors);
 }
 
 -- the same where the union is seen from outside

@@ -15,12 +15,13 @@ use Rattle.djq_union.proofs.Lists.{none_contained, at_head}
 use Rattle.djq_rows.specs.Cells.{StandFor}
 use Rattle.djq_rows.specs.Catalog.{Catalog}
 use Rattle.djq_live.specs.Live.{Live, IsKept, IsShowable, values_of}
-use Rattle.djq_live.specs.Member.{has_cells, head_types, in_tree}
+use Rattle.djq_live.specs.Member.{has_cells, in_tree, AreAlike}
 use Rattle.djq_live.proofs.InTree.{tree_stand}
 use Rattle.djq_live.proofs.Standing.{are_had, cells_tell, had_stand, have_cells, head_are}
-use Rattle.djq_united.specs.United.{AreAlike, first_of, AtFirst, shown_cells}
+use Rattle.djq_live.proofs.Listings.{in_image, image_of}
+use Rattle.djq_united.specs.United.{first_of, AtFirst, shown_cells}
 use Rattle.djq_united.specs.Reading.{IsShownBy}
-use Rattle.djq_united.proofs.Lists.{has_one, one_has, some_one, one_there, in_image, image_of}
+use Rattle.djq_united.proofs.Lists.{has_one, one_has, some_one, one_there}
 
 -- members that are alike, over one catalog
 pub record AreOver (c : Catalog) (ls : List Live) : Type 0 where
@@ -161,25 +162,6 @@ first_shows c (l ∷ ls) t answer over had is = record {
 pub first_showable : (c : Catalog) (l : Live) (ls : List Live) (t : List ℕ) → AreOver c (l ∷ ls)
     → IsHad (l ∷ ls) t → IsShowable c.texts l (in_tree l t)
 first_showable c l ls t over had = (shows c l ls over t had).showable
-
--- Cells that stand for a tuple are had exactly where some member has it as an answer.
-pub had_tells : (c : Catalog) (l : Live) (ls : List Live) (t : List ℕ) (v : Tuple)
-    → AreOver c (l ∷ ls) → StandFor c.texts (head_types l) t v
-    → ((some_has has_cells (l ∷ ls) t ≡ true) → IsAnswerOfSome c (l ∷ ls) v)
-    × (IsAnswerOfSome c (l ∷ ls) v → some_has has_cells (l ∷ ls) t ≡ true)
-had_tells c l ls t v over stand =
-    let there = at_head l ls in
-    let kept = over.kept l there in
-    let mine : StandFor c.texts (answer_types c.relations l.query) t v =
-    subst (λ (cs : List ColumnType). StandFor c.texts cs t v) (head_are c l kept) stand in
-    let s = shown_as c l ls over t v mine in (
-      λ had. subst (IsAnswerOfSome c (l ∷ ls)) (sym s.is) (shows c l ls over t had).answer,
-      λ is.
-          let h = answer_had c l ls over v is in
-          let same = (cells_tell c l l refl h.0 t (values_of c.texts l (in_tree l h.0)) v
-          (shows c l ls over h.0 h.1).stands mine).1 h.2 in
-          subst (λ (u : List ℕ). some_has has_cells (l ∷ ls) u ≡ true) same h.1,
-    )
 
 -- ---- the first member, as it is lent
 

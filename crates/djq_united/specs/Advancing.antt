@@ -1,10 +1,8 @@
 -- What reads of one cursor do, in cells of its union's answers.
 use Rattle.std.specs.Prelude.{
   ◌≡◌,
-  ◌≤◌,
   ℕ,
   List,
-  length,
   [],
   ◌∷◌,
   ◌++◌,
@@ -13,9 +11,6 @@ use Rattle.std.specs.Prelude.{
   false,
   map,
   Option,
-  None,
-  Some,
-  slice_set,
 }
 use Rattle.djq_model.specs.Listed.{a_union}
 use Rattle.djq_machine.specs.Store.{answer_steps}
@@ -26,9 +21,8 @@ use Rattle.djq_live.specs.declared.listing.Next.{Next}
 use Rattle.djq_live.specs.declared.listing.Next.TheVariants.{Given, End, Stale as IsStale}
 use Rattle.djq_live.specs.Live.{Live}
 use Rattle.djq_live.specs.Member.{has_cells, cells_given, in_tree}
-use Rattle.djq_united.specs.declared.cursors.Progress.{Progress}
-use Rattle.djq_united.specs.declared.cursors.Progress.TheVariants.{Open, Stale}
-use Rattle.djq_united.specs.Slots.{slot_at, SetsSlot}
+use Rattle.djq_united.specs.Slots.{Progress}
+use Rattle.djq_slots.specs.declared.progress.Progress.TheVariants.{Open, Stale}
 use Rattle.djq_united.specs.United.{FitsMembers, AtFirst}
 
 -- the cells that a cursor has given, in the head's order
@@ -67,25 +61,6 @@ Looks ls (Open old ended) true new =
 Looks ls (Open old ended) false new =
     (new ≡ Open old true) × AreAll (some_has has_cells ls) (union_cells ls old)
 Looks ls (Stale q m) left new = ⊥
-
--- the cursor in a slot is read so, and the others are as before
-pub record InSlot (Read : Progress → Progress → Type 0) (old : List (Option Progress)) (k : ℕ)
-    (new : List (Option Progress)) : Type 0 where
-  pub before : Progress
-  pub there : slot_at old k ≡ Some before
-  pub after : Progress
-  pub read : Read before after
-  pub is : new ≡ slice_set old k (Some after)
-
--- A cursor that has given nothing, which fits any members, stands in a slot where none was, and all
--- others are as before.
-pub record OpensSlot (old : List (Option Progress)) (k : ℕ) (new : List (Option Progress)) :
-    Type 0 where
-  pub free : slot_at old k ≡ None
-  pub cursor : List (Option Cursor)
-  pub none : (ls : List Live) → union_cells ls cursor ≡ []
-  pub fits : (ls : List Live) → length ls ≤ 8 → FitsMembers ls cursor
-  pub sets : SetsSlot old k (Some (Open cursor false)) new
 
 -- what an answer of the union of these counts at most, and the end too
 abbrev pub most_of : List Live → ℕ

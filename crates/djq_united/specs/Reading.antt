@@ -23,8 +23,7 @@ use Rattle.djq_rows.specs.Catalog.{Catalog}
 use Rattle.djq_live.specs.declared.listing.Next.{Next}
 use Rattle.djq_live.specs.declared.listing.Next.TheVariants.{Given, End, Stale}
 use Rattle.djq_live.specs.Live.{Live, IsShowable, values_of}
-use Rattle.djq_united.specs.declared.cursors.Progress.{Progress}
-use Rattle.djq_united.specs.Slots.{slot_at, SetsSlot}
+use Rattle.djq_united.specs.Slots.{Progress, slot_at, SetsSlot}
 use Rattle.djq_united.specs.United.{United, members_in, union_of, AtFirst, IsUnited, position_of}
 
 -- A cursor that has given nothing stands in a slot where none was, and nothing else has changed.

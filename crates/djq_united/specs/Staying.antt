@@ -5,8 +5,8 @@ use Rattle.djq_machine.specs.Stale.{outdated}
 use Rattle.djq_rows.specs.Catalog.{Catalog}
 use Rattle.djq_live.specs.Live.{Live}
 use Rattle.djq_live.specs.Member.{query_at}
-use Rattle.djq_united.specs.declared.cursors.Progress.{Progress}
-use Rattle.djq_united.specs.Slots.{slot_at, outdated_progress}
+use Rattle.djq_live.specs.Staying.{HasSameTables, HasSameShape}
+use Rattle.djq_united.specs.Slots.{Progress, slot_at, outdated_progress}
 use Rattle.djq_united.specs.United.{
   United,
   members_in,
@@ -16,18 +16,6 @@ use Rattle.djq_united.specs.United.{
   AreKept,
   position_of,
 }
-
--- A query is the same with the same tables.
-pub record HasSameTables (l m : Live) : Type 0 where
-  pub query : m.query ≡ l.query
-  pub numbered : m.numbered ≡ l.numbered
-  pub reducts : m.reducts ≡ l.reducts
-
--- A query is the same with the same tree; its tables may differ.
-pub record HasSameShape (l m : Live) : Type 0 where
-  pub query : m.query ≡ l.query
-  pub numbered : m.numbered ≡ l.numbered
-  pub tree : (m.reducts).tree ≡ (l.reducts).tree
 
 -- The query in each of these places is still there, and is the same in this sense.
 pub record KeepMembers (Same : Live → Live → Type 0) (old new : List (Option Live))

@@ -13,7 +13,6 @@ use Rattle.std.specs.Prelude.{
   length,
   map,
   AllPairs,
-  Contains,
   Option,
   None,
   Some,
@@ -27,6 +26,7 @@ use Rattle.djq_machine.specs.Union.{same_types}
 use Rattle.djq_cursor.specs.declared.cursor.Cursor.{Cursor}
 use Rattle.djq_union.specs.Union.{union_given, UnionFits}
 use Rattle.djq_rows.specs.Catalog.{Catalog}
+use Rattle.djq_slots.specs.Slots.{EachIs}
 use Rattle.djq_live.specs.Live.{Live, IsKept, values_of}
 use Rattle.djq_live.specs.Member.{
   has_cells,
@@ -35,12 +35,12 @@ use Rattle.djq_live.specs.Member.{
   query_at,
   queries_at,
   HaveQueries,
+  AreAlike,
   head_types,
   in_tree,
 }
-use Rattle.djq_united.specs.declared.cursors.Progress.{Progress}
-use Rattle.djq_united.specs.declared.cursors.Progress.TheVariants.{Open, Stale}
-use Rattle.djq_united.specs.Slots.{slot_at}
+use Rattle.djq_united.specs.Slots.{Progress}
+use Rattle.djq_slots.specs.declared.progress.Progress.TheVariants.{Open, Stale}
 
 -- Its name, the places of its members in its order, and its cursors in slots.
 pub record United : Type 0 where
@@ -70,10 +70,6 @@ abbrev pub heads_differ : List Live → Bool
 heads_differ [] = false
 heads_differ (l ∷ ls) = list_any (λ m. not (same_types (head_types l) (head_types m))) ls
 
--- the answers of all have the same types
-pub record AreAlike (ls : List Live) : Type 0 where
-  pub each : (l m : Live) → Contains ls l → Contains ls m → head_types l ≡ head_types m
-
 -- The queries in these places can be the members of a union.
 pub record AreMembers (qs : List (Option Live)) (ks : List ℕ) : Type 0 where
   pub have : HaveQueries qs ks
@@ -91,8 +87,8 @@ FitsOver ls (Open cursor ended) = FitsMembers ls cursor
 FitsOver ls (Stale relation n) = ⊤
 
 -- The cursors in slots that are open fit the members.
-pub record FitAll (ls : List Live) (slots : List (Option Progress)) : Type 0 where
-  pub each : (k : ℕ) (p : Progress) → slot_at slots k ≡ Some p → FitsOver ls p
+abbrev pub FitAll : List Live → List (Option Progress) → Type 0
+FitAll ls slots = EachIs (FitsOver ls) slots
 
 -- It is the union of queries in these places, and its open cursors can go on.
 pub record IsUnited (qs : List (Option Live)) (u : United) : Type 0 where

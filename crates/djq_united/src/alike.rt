@@ -2,8 +2,8 @@
 ghost use Rattle.std.specs.Prelude.{◌≡◌, ⊤, Some, IsSomeAnd};
 ghost use Rattle.std.specs.Bool.{OnFalse};
 ghost use Rattle.std.specs.List.{AllByRecursion};
-ghost use Rattle.djq_live.specs.Member.{query_at, queries_at};
-ghost use Rattle.djq_united.specs.United.{heads_differ, AreAlike};
+ghost use Rattle.djq_live.specs.Member.{query_at, queries_at, AreAlike};
+ghost use Rattle.djq_united.specs.United.{heads_differ};
 
 use djq_live::LiveQuery;
 

@@ -25,13 +25,12 @@
 #![tactic(auto)]
 
 mod alike;
-mod cursors;
 mod laws;
+mod reads;
 #[cfg(test)]
 mod tests;
 mod union;
 
 pub use alike::heads_differ;
-pub use cursors::Progress;
 pub use laws::{members_stay, stale_stand, unions_stay};
 pub use union::LiveUnion;

@@ -10,32 +10,22 @@ ghost use Rattle.std.specs.Prelude.{
   OnErr,
   List,
   Option,
-  Some,
   slice_set,
 };
-ghost use Rattle.djq_model.specs.Data.{Tuple};
-ghost use Rattle.djq_model.specs.Listed.{AnswersOf};
-ghost use Rattle.djq_machine.specs.Store.{Tells, answer_steps, has_steps};
-ghost use Rattle.djq_rows.specs.Cells.{StandFor};
+ghost use Rattle.djq_machine.specs.Store.{answer_steps};
 ghost use Rattle.djq_rows.specs.Catalog.{Catalog as CatalogModel};
 ghost use Rattle.djq_live.specs.Live.{Live};
-ghost use Rattle.djq_live.specs.Member.{head_types};
 ghost use Rattle.djq_united.specs.Slots.{slot_at, are_vacant, IsOpenIn, outdated_slots};
-ghost use Rattle.djq_united.specs.United.{
-  members_in,
-  union_of,
-  AtFirst,
-  AreMembers,
-  IsUnited,
-  AreKept,
-};
+ghost use Rattle.djq_united.specs.United.{union_of, AreMembers, IsUnited, AreKept};
 ghost use Rattle.djq_united.specs.Reading.{OpensIn, NextGives, MoreGives, read_steps};
-ghost use Rattle.djq_united.specs.Staying.{KeepMembers, HasSameShape};
+ghost use Rattle.djq_live.specs.Staying.{HasSameShape};
+ghost use Rattle.djq_united.specs.Staying.{KeepMembers};
 
-use crate::cursors::Cursors;
-use djq_live::{LiveQuery, Next, QueriesAt};
+use crate::reads::{look, read};
+use djq_live::{LiveQuery, Next};
 use djq_model::{Name, NoMem, Sequence};
-use djq_reduct::{Answer, Cells};
+use djq_reduct::Answer;
+use djq_slots::Cursors;
 use djq_steps::{Ledgers, Listing, Tally};
 use djq_union::UnionCursor;
 use std::alloc::Global;
@@ -48,7 +38,7 @@ pub struct LiveUnion {
     name: Name,
     // the members' places, in the union's order
     members: Sequence<usize>,
-    cursors: Cursors,
+    cursors: Cursors<UnionCursor<LiveQuery>>,
 }
 
 impl Model for LiveUnion {
@@ -103,7 +93,7 @@ impl LiveUnion {
         ensures united { (qs : List (Option Live)) → IsUnited qs self.old → IsUnited qs self.new }
         ensures err { OnErr result (self.new ≡ self.old) }
     {
-        self.cursors.open()
+        self.cursors.open(UnionCursor::start())
     }
 
     /// Takes the cursor out of a slot.
@@ -134,8 +124,9 @@ impl LiveUnion {
         ensures counted { listing.new ≤ listing.old
             + read_steps result (union_of queries.now self.old) }
     {
-        self.cursors
-            .read(slot, queries, self.members.as_slice(), answer, listing)
+        let members = self.members.as_slice();
+        let progress = self.cursors.progress_mut(slot);
+        read(progress, queries, members, answer, listing)
     }
 
     /// Whether a further answer is left for a cursor that isn't stale; where none is, it stands at
@@ -153,32 +144,9 @@ impl LiveUnion {
             → MoreGives c queries.now self.old slot result self.new }
         ensures counted { listing.new ≤ listing.old + answer_steps (union_of queries.now self.old) }
     {
-        self.cursors
-            .look(slot, queries, self.members.as_slice(), listing)
-    }
-
-    /// Whether the tuple for which these cells stand is an answer. It takes no memory, and counts at
-    /// most one look-up for each atom of a member.
-    pub fn has<L: Ledgers>(
-        &self,
-        queries: &[Option<LiveQuery>],
-        cells: &Cells,
-        listing: &mut Tally<Listing<L>>,
-    ) -> bool
-        requires united { IsUnited queries.now self.now }
-        requires kept { (c : CatalogModel) × AreKept c queries.now }
-        ensures tells { (c : CatalogModel) (t : Tuple) → AreKept c queries.now
-            → AtFirst (members_in queries.now self.now)
-            (λ l. StandFor c.texts (head_types l) cells.now t)
-            → Tells (AnswersOf c.relations (union_of queries.now self.now) t) result }
-        ensures counted { listing.new ≤ listing.old
-            + has_steps (Some (union_of queries.now self.now)) }
-    {
-        let members = QueriesAt {
-            queries,
-            places: self.members.as_slice(),
-        };
-        UnionCursor::has(&members, cells, listing)
+        let members = self.members.as_slice();
+        let progress = self.cursors.progress_mut(slot);
+        look(progress, queries, members, listing)
     }
 
     /// Makes its open cursors stale, by a change of a relation of this number. Then it goes with

@@ -1,6 +1,6 @@
-use Rattle.std.proofs.Common.{ℕ, ◌+◌, ◌*◌, ◌≤◌, Option, sum_by, sym, ◌∙◌, subst, arith}
-use Rattle.std.proofs.Math.Nat.{add-mul, one-mul}
+use Rattle.std.proofs.Common.{ℕ, Option, sum_by, sym, ◌∙◌, subst, arith}
 use Rattle.djq_live.specs.Member.{queries_at}
+use Rattle.djq_live.proofs.Telling.{counts_one}
 use Rattle.djq_gains.specs.Gathering.{asks_of}
 use Rattle.djq_gains.proofs.Lining.{Telling, cut_at, lies_at, tells_more, tells_all}
 use Rattle.djq_gains.proofs.telling.tell.Goals as goal
@@ -16,12 +16,6 @@ next-at-requires g c =
     lies_at c.args.gains.now.gains c.loop-done._done c.in-Some.slot
     (cut_at c.args.gains.now.gains c.loop-done._done c.in-Some.slot
     (sym c.loop-done.invariant.tells.at ∙ c.in-Some.is))
-
-counts_one : (a b c n m : ℕ) → b ≤ a + n * m → c ≤ b + m → c ≤ a + (n + 1) * m
-counts_one a b c n m before one =
-    let more = add-mul n 1 m in
-    let once = one-mul m in
-    omega arith
 
 pub loop-done-preserved : goal.loop-done-preserved
 loop-done-preserved g c =

@@ -1,15 +1,13 @@
 -- A cursor that was read is still in its slot.
-use Rattle.std.proofs.Common.{◌≡◌, ℕ, List, length, refl, ap, sym, subst, ◌∙◌, inl, inr, arith}
+use Rattle.std.proofs.Common.{◌≡◌, ℕ, List, refl, ap, sym, subst, ◌∙◌}
 use Rattle.std.specs.Prelude.{Option, None, Some, IsSome, IsSomeAnd, is_some}
-use Rattle.std.proofs.lemmas.Bool.{cases_lt}
-use Rattle.std.proofs.lemmas.List.{get_or_past, get_or-set_same}
 use Rattle.djq_machine.specs.State.{Position}
 use Rattle.djq_rows.specs.Catalog.{Catalog}
-use Rattle.djq_live.specs.declared.cursors.Progress.{Progress}
-use Rattle.djq_live.specs.declared.cursors.Progress.TheVariants.{Open, Stale}
+use Rattle.djq_slots.proofs.Slots.{set_there}
+use Rattle.djq_slots.specs.declared.progress.Progress.TheVariants.{Open, Stale}
 use Rattle.djq_live.specs.declared.listing.Next.{Next}
 use Rattle.djq_live.specs.declared.listing.Next.TheVariants.{Given, End, Stale as IsStale}
-use Rattle.djq_live.specs.Cursors.{slot_at}
+use Rattle.djq_live.specs.Cursors.{Progress, slot_at}
 use Rattle.djq_live.specs.Live.{Live, IsLive, position_of}
 use Rattle.djq_live.specs.Reading.{MovesTo, NextGivesAt}
 use Rattle.djq_live.proofs.tests.next_pair.Goals as goal
@@ -22,13 +20,8 @@ moved_stays : (c : Catalog) (old new : Live) (k : ℕ) (p : Progress) (position 
     → slot_at old.cursors k ≡ Some p → MovesTo c old k position new → Stays c k new
 moved_stays c old new k p position e m = record {
   live = m.live;
-  there = elim (cases_lt k (length old.cursors)) [
-    | inl low ↦ ap (λ (l : Live). is_some (slot_at l.cursors k)) m.moved
-        ∙ ap is_some (get_or-set_same old.cursors k (Some m.progress) None low)
-    | inr past ↦
-        let none : slot_at old.cursors k ≡ None = get_or_past old.cursors k None (omega arith) in
-        absurd cc
-  ];
+  there = ap (λ (l : Live). is_some (slot_at l.cursors k)) m.moved
+      ∙ ap is_some (set_there old.cursors k p m.progress e);
 }
 
 stays_at : (c : Catalog) (old new : Live) (k : ℕ) (p : Progress) (n : Next) (u : List ℕ)

@@ -4,13 +4,14 @@ use Rattle.djq_live.proofs.Asking.{narrow}
 use Rattle.djq_live.proofs.live.LiveQuery.more.Goals as goal
 
 pub look-requires-clause-fits : goal.look-requires-clause-fits
-look-requires-clause-fits g c p e =
-    slot_fits _ c.args.self.now c.args.slot p c.self.view_is c.requires.fits e
+look-requires-clause-fits g c =
+    slot_fits _ c.args.self.now c.args.slot _ c.self.view_is c.requires.fits
+    c.progress_mut.ensures.value
 
 pub returns-clause-gives : goal.returns-clause-gives
 returns-clause-gives g c cat live =
-    more_gives cat _ c.args.self.now c.args.slot c.look.result c.look.new.self c.self.view_is live
-    c.look.ensures.looks
+    more_gives cat _ c.args.self.now c.args.slot _ _ c.look.result c.self.view_is live
+    c.progress_mut.ensures.value c.look.ensures.looks
 
 pub returns-clause-counted : goal.returns-clause-counted
 returns-clause-counted g c cat live =

@@ -3,14 +3,15 @@ use Rattle.djq_live.proofs.Advancing.{next_gives, slot_fits, steps_more}
 use Rattle.djq_live.proofs.Asking.{narrow}
 use Rattle.djq_live.proofs.live.LiveQuery.next.Goals as goal
 
-pub read-requires-clause-fits : goal.read-requires-clause-fits
-read-requires-clause-fits g c p e =
-    slot_fits _ c.args.self.now c.args.slot p c.self.view_is c.requires.fits e
+pub read-requires : goal.read-requires
+read-requires g c =
+    slot_fits _ c.args.self.now c.args.slot _ c.self.view_is c.requires.fits
+    c.progress_mut.ensures.value
 
 pub returns-clause-gives : goal.returns-clause-gives
 returns-clause-gives g c cat live =
-    next_gives cat _ c.args.self.now c.args.slot c.read.result c.read.new.answer c.read.new.self
-    c.self.view_is live c.read.ensures.reads
+    next_gives cat _ c.args.self.now c.args.slot _ _ c.read.result c.read.new.answer
+    c.self.view_is live c.progress_mut.ensures.value c.read.ensures.reads
 
 pub returns-clause-counted : goal.returns-clause-counted
 returns-clause-counted g c cat live =

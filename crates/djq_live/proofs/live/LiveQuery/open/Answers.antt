@@ -3,5 +3,5 @@ use Rattle.djq_live.proofs.live.LiveQuery.open.Goals as goal
 
 pub returns-clause-live : goal.returns-clause-live
 returns-clause-live c cat live =
-    open_live cat _ c.args.self.now c.open.new.self c.open.result c.self.view_is live
-    c.open.ensures.ok c.open.ensures.err
+    open_live cat _ c.args.self.now c.start.result c.open.new.self c.open.result c.self.view_is
+    live c.start.ensures.fits c.open.ensures.ok c.open.ensures.err

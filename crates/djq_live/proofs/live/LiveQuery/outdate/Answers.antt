@@ -1,6 +1,6 @@
 use Rattle.std.proofs.Common.{sym, subst}
 use Rattle.djq_live.specs.Live.{Live, IsKept}
-use Rattle.djq_live.proofs.Outdated.{made_stale}
+use Rattle.djq_live.proofs.Advancing.{made_stale}
 use Rattle.djq_live.proofs.live.LiveQuery.outdate.Goals as goal
 
 pub returns-clause-live : goal.returns-clause-live

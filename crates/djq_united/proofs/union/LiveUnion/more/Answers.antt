@@ -1,8 +1,13 @@
-use Rattle.djq_united.proofs.Advancing.{more_seen}
+use Rattle.djq_united.proofs.Advancing.{fits_seen, more_seen}
 use Rattle.djq_united.proofs.union.LiveUnion.more.Goals as goal
+
+pub look-requires-clause-fits : goal.look-requires-clause-fits
+look-requires-clause-fits g c =
+    fits_seen c.args.queries.now _ c.args.self.now c.as_slice-members.result.now c.args.slot _
+    c.self.view_is c.as_slice-members.ensures c.requires.united c.progress_mut-progress.ensures.value
 
 pub returns-clause-gives : goal.returns-clause-gives
 returns-clause-gives g c = λ d kept.
-    more_seen d c.args.queries.now _ c.args.self.now c.as_slice.result.now c.args.slot
-    c.look.result c.look.new.self c.self.view_is c.as_slice.ensures kept c.requires.united
-    c.look.ensures.looks
+    more_seen d c.args.queries.now _ c.args.self.now c.as_slice-members.result.now c.args.slot _ _
+    c.look.result c.self.view_is c.as_slice-members.ensures kept c.requires.united
+    c.progress_mut-progress.ensures.value c.look.ensures.looks

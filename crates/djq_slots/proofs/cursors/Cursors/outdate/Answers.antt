@@ -1,10 +1,10 @@
 use Rattle.std.proofs.Common.{rules, ◌≡◌, refl, ap, ◌∙◌}
-use Rattle.djq_live.specs.Cursors.{outdated_slots, outdated_progress}
-use Rattle.djq_live.proofs.Retained.{retained_all}
-use Rattle.djq_live.proofs.cursors.Cursors.outdate.Goals as goal
+use Rattle.djq_slots.specs.Slots.{outdated_slots, outdated_progress}
+use Rattle.djq_slots.proofs.Retained.{retained_all}
+use Rattle.djq_slots.proofs.cursors.Cursors.outdate.Goals as goal
 
 pub returns : goal.returns
-returns c =
+returns g c =
     retained_all _ (outdated_progress c.args.relation c.args.seq)
     (λ f. (f.0.now ≡ c.args.relation) × (f.1.now ≡ c.args.seq))
     (λ f key old keep new next s h. search rules) _ 0 _ _ (refl, refl) c.retain.ensures.retained

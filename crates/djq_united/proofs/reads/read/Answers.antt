@@ -3,7 +3,7 @@ use Rattle.djq_united.proofs.Placed.{members_ready}
 use Rattle.djq_united.proofs.Values.{first_in}
 use Rattle.djq_united.proofs.Advancing.{over_places, came_had, reads_given}
 use Rattle.djq_united.proofs.Counting.{cells_wide, most_counted}
-use Rattle.djq_united.proofs.cursors.Progress.read.Goals as goal
+use Rattle.djq_united.proofs.reads.read.Goals as goal
 
 pub advance-requires-clause-ready : goal.advance-requires-clause-ready
 advance-requires-clause-ready g c =
@@ -35,7 +35,7 @@ put_in_tree-requires-clause-long g c =
 pub returns-else-ended-clause-reads : goal.returns-else-ended-clause-reads
 returns-else-ended-clause-reads g c =
     reads_given (queries_at c.args.queries.now c.args.places.now) c.member.result.now
-    c.args.self.now c.in-Open.cursor c.advance.new.self c.in-Open.ended c.advance.result
+    c.args.progress.now c.in-Open.cursor c.advance.new.self c.in-Open.ended c.advance.result
     c.advance.new.out c.put_in_tree.new.answer c.in-Open.is c.member.ensures c.if-ended.false
     c.advance.ensures.fits c.advance.ensures.one c.advance.ensures.answers c.put_in_tree.ensures
 

@@ -1,0 +1,57 @@
+//! How one cursor of a query goes on.
+ghost use Rattle.std.specs.Prelude.{◌+◌, ◌≤◌, length};
+ghost use Rattle.djq_machine.specs.Store.{most_steps};
+ghost use Rattle.djq_live.specs.Cursors.{IsOpen};
+ghost use Rattle.djq_live.specs.Reading.{next_steps};
+ghost use Rattle.djq_live.specs.Advancing.{FitsOver, Reads, Looks};
+
+use crate::listing::Next;
+use djq_cursor::Cursor;
+use djq_reduct::{Answer, Reducts};
+use djq_slots::Progress;
+use djq_steps::Tally;
+use std::sync::ledger::Ledger;
+
+/// Reads a cursor: a further answer, the end, or what made it stale.
+pub fn read<L: Ledger>(
+    progress: &mut Progress<Cursor>,
+    reducts: &Reducts,
+    answer: &mut Answer,
+    listing: &mut Tally<L>,
+) -> Next
+    requires { FitsOver reducts.now progress.old }
+    ensures reads { Reads reducts.now progress.old result answer.new progress.new }
+    ensures counted { listing.new ≤ listing.old + next_steps result (length reducts.now.tree.head) }
+{
+    match progress {
+        Progress::Open { cursor, ended } => {
+            *ended = !cursor.advance(reducts, answer, listing);
+            if *ended { Next::End } else { Next::Given }
+        }
+        Progress::Stale { relation, seq } => Next::Stale {
+            relation: *relation,
+            seq: *seq,
+        },
+    }
+}
+
+/// Whether a cursor that isn't stale has an answer left.
+pub fn look<L: Ledger>(
+    progress: &mut Progress<Cursor>,
+    reducts: &Reducts,
+    listing: &mut Tally<L>,
+) -> bool
+    requires fits { FitsOver reducts.now progress.old }
+    requires fresh { IsOpen progress.old }
+    ensures looks { Looks reducts.now progress.old result progress.new }
+    ensures counted { listing.new ≤ listing.old + most_steps (length reducts.now.tree.head) }
+{
+    match progress {
+        Progress::Open { cursor, ended } => {
+            let left = cursor.is_left(reducts, listing);
+            *ended = !left;
+            left
+        }
+        Progress::Stale { .. } => false,
+    }
+}

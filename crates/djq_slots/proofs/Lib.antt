@@ -1,0 +1,2 @@
+mod Retained
+pub mod Slots
