@@ -1,9 +1,8 @@
 ghost use Rattle.std.specs.Prelude.{◌≡◌};
 ghost use Rattle.djq_machine.specs.Keeping.{is_removal};
-ghost use Rattle.djq_core.specs.Changing.{is_kept, line_where, lines_kept};
+ghost use Rattle.djq_core.specs.Changing.{is_kept};
 ghost use Rattle.djq_core.specs.Stepping.{is_kept_by};
 
-use crate::kept::KeptLines;
 use djq_lines::{AddOutcome, DeleteOutcome, HeldRow, Refusal};
 use djq_model::Sequence;
 
@@ -29,23 +28,6 @@ impl Outcome {
             Outcome::Done(result, _held) => result.is_ok(),
         }
     }
-
-    /// What is kept of it.
-    pub(crate) fn lines_kept(self) -> KeptLines
-        ensures { result ≡ lines_kept self }
-    {
-        match self {
-            Outcome::Added(result) => line_where(result.is_ok()),
-            Outcome::Deleted(result) => line_where(is_removal(result)),
-            Outcome::Done(result, held) => {
-                if result.is_ok() {
-                    KeptLines::Batch(held)
-                } else {
-                    KeptLines::Nothing
-                }
-            }
-        }
-    }
 }
 
 /// Whether a copy of a row went.
@@ -55,17 +37,6 @@ pub(crate) fn is_removal(outcome: Result<DeleteOutcome, Refusal>) -> bool
     match outcome {
         Ok(DeleteOutcome::Last | DeleteOutcome::Left(_)) => true,
         Ok(DeleteOutcome::Absent) | Err(_) => false,
-    }
-}
-
-/// The line that was run, where it is kept.
-pub(crate) fn line_where(kept: bool) -> KeptLines
-    ensures { result ≡ line_where kept }
-{
-    if kept {
-        KeptLines::Line
-    } else {
-        KeptLines::Nothing
     }
 }
 

@@ -1,7 +1,9 @@
 ghost use Rattle.std.specs.Prelude.{◌≡◌, ◌∷◌, ◌++◌, [], codes, map, slice_get};
 ghost use Rattle.std.specs.Option.{option_copied};
+ghost use Rattle.djq_core.specs.Changing.{line_where, lines_kept};
 ghost use Rattle.djq_core.specs.Views.{lines_of};
 
+use crate::change::{Outcome, is_removal};
 use djq_lines::HeldRow;
 use djq_model::Sequence;
 
@@ -17,11 +19,36 @@ pub(crate) enum KeptLines {
 }
 
 impl KeptLines {
-    /// This is kept in place of what was.
-    pub(crate) fn put(&mut self, lines: KeptLines)
-        ensures { self.new ≡ lines }
+    /// The line that was run is kept in place of what was, or nothing.
+    pub(crate) fn put_line(&mut self, kept: bool)
+        ensures { self.new ≡ line_where kept }
     {
-        *self = lines;
+        // Mostly it is as with the last step, and then nothing is written.
+        let same = match self {
+            KeptLines::Nothing => !kept,
+            KeptLines::Line => kept,
+            KeptLines::Batch(_) => false,
+        };
+        if !same {
+            *self = line_where(kept);
+        }
+    }
+
+    /// What is kept of a command that may change rows is kept in place of what was.
+    pub(crate) fn put_outcome(&mut self, outcome: Outcome)
+        ensures { self.new ≡ lines_kept outcome }
+    {
+        match outcome {
+            Outcome::Added(result) => self.put_line(result.is_ok()),
+            Outcome::Deleted(result) => self.put_line(is_removal(result)),
+            Outcome::Done(result, held) => {
+                *self = if result.is_ok() {
+                    KeptLines::Batch(held)
+                } else {
+                    KeptLines::Nothing
+                };
+            }
+        }
     }
 
     /// The line with this number, counted from 0, of those that were kept, where this is a copy of the
@@ -54,5 +81,16 @@ fn line_of_batch(rows: &[HeldRow], i: usize) -> Option<&[u8]>
                 None
             }
         }
+    }
+}
+
+// The line that was run, where it is kept.
+fn line_where(kept: bool) -> KeptLines
+    ensures { result ≡ line_where kept }
+{
+    if kept {
+        KeptLines::Line
+    } else {
+        KeptLines::Nothing
     }
 }

@@ -3,9 +3,10 @@ ghost use Rattle.djq_model.specs.Data.{rows_of};
 ghost use Rattle.djq_machine.specs.State.{opening};
 ghost use Rattle.djq_session.specs.Dialog.{is_due};
 ghost use Rattle.djq_core.specs.Sound.{Rises};
+ghost use Rattle.djq_core.specs.Changing.{line_where};
 ghost use Rattle.djq_core.specs.Stepping.{line_kept};
 
-use crate::change::{Left, line_where};
+use crate::change::Left;
 use crate::copied::Copied;
 use crate::ending::{end_by, end_input, give_up};
 use crate::kept::KeptLines;
@@ -161,10 +162,10 @@ impl Machine for Core {
             steps,
         );
         match left {
-            Left::Nothing { .. } => self.kept.put(line_kept(stepped)),
+            Left::Nothing { .. } => self.kept.put_line(is_line_kept(stepped)),
             Left::Stopping => {
                 self.stopped = true;
-                self.kept.put(line_kept(stepped));
+                self.kept.put_line(is_line_kept(stepped));
             }
             Left::Telling(outcome) => {
                 tell_change(
@@ -174,7 +175,7 @@ impl Machine for Core {
                     &outcome,
                     &mut self.text,
                 );
-                self.kept.put(outcome.lines_kept());
+                self.kept.put_outcome(outcome);
             }
         }
         stepped
@@ -231,13 +232,13 @@ impl Machine for Core {
     }
 }
 
-// What a step keeps that answers so and leaves no change to tell.
-fn line_kept(stepped: Stepped) -> KeptLines
-    ensures { result ≡ line_kept stepped }
+// Whether the line is kept of a step that answers so and leaves no change to tell.
+fn is_line_kept(stepped: Stepped) -> bool
+    ensures { line_where result ≡ line_kept stepped }
 {
     match stepped {
-        Stepped::Ran { kept } => line_where(kept),
-        Stepped::Dry | Stepped::Ended(_) => KeptLines::Nothing,
+        Stepped::Ran { kept } => kept,
+        Stepped::Dry | Stepped::Ended(_) => false,
     }
 }
 

@@ -85,14 +85,14 @@ returns-in-Nothing g c =
     (state_in c.step_session-stepped.new.engine (false || c.self.inside.stopped)
     (set c.self.inside.sessions.items c.place_of-at.result
     (record c.index_mut-found.result.now { session = c.step_session-stepped.new.session }))) before now
-    (lines_of c.put.new.self c.step_session-stepped.new.copied)) (ap (λ (v : Visible). v.state) c.self.view_is)
+    (lines_of c.put_line.new.self c.step_session-stepped.new.copied)) (ap (λ (v : Visible). v.state) c.self.view_is)
     (subst (λ (kept : KeptLines). StepGives
     (state_in c.self.inside.engine c.self.inside.stopped c.self.inside.sessions.items) c.args.id
     c.step_session-stepped.result.0
     (state_in c.step_session-stepped.new.engine (false || c.self.inside.stopped)
     (set c.self.inside.sessions.items c.place_of-at.result
     (record c.index_mut-found.result.now { session = c.step_session-stepped.new.session }))) before now
-    (lines_of kept c.step_session-stepped.new.copied)) (sym (c.put.ensures ∙ c.line_kept.ensures))
+    (lines_of kept c.step_session-stepped.new.copied)) (sym (c.put_line.ensures ∙ c.is_line_kept.ensures))
     (steps c.self.inside.engine c.step_session-stepped.new.engine c.self.inside.sessions.items c.place_of-at.result
     c.args.id c.index_mut-found.result.now c.step_session-stepped.new.session c.step_session-stepped.result.0 false
     c.self.inside.stopped c.step_session-stepped.new.copied before now h leaves
@@ -139,7 +139,7 @@ returns-in-Stopping g c =
     (state_in c.step_session-stepped.new.engine (true || c.self.inside.stopped)
     (set c.self.inside.sessions.items c.place_of-at.result
     (record c.index_mut-found.result.now { session = c.step_session-stepped.new.session }))) before now
-    (lines_of c.put-in-Stopping.new.self c.step_session-stepped.new.copied))
+    (lines_of c.put_line-in-Stopping.new.self c.step_session-stepped.new.copied))
     (ap (λ (v : Visible). v.state) c.self.view_is)
     (subst (λ (kept : KeptLines). StepGives
     (state_in c.self.inside.engine c.self.inside.stopped c.self.inside.sessions.items) c.args.id
@@ -148,7 +148,7 @@ returns-in-Stopping g c =
     (set c.self.inside.sessions.items c.place_of-at.result
     (record c.index_mut-found.result.now { session = c.step_session-stepped.new.session }))) before now
     (lines_of kept c.step_session-stepped.new.copied))
-    (sym (c.put-in-Stopping.ensures ∙ c.line_kept-in-Stopping.ensures))
+    (sym (c.put_line-in-Stopping.ensures ∙ c.is_line_kept-in-Stopping.ensures))
     (steps c.self.inside.engine c.step_session-stepped.new.engine c.self.inside.sessions.items c.place_of-at.result
     c.args.id c.index_mut-found.result.now c.step_session-stepped.new.session c.step_session-stepped.result.0 true
     c.self.inside.stopped c.step_session-stepped.new.copied before now h leaves
@@ -326,10 +326,10 @@ returns-in-Telling g c =
     let same = ap (λ (v : Visible). v.state) c.self.view_is in
     subst (λ (r : Stepped). StepGives (c.args.self.now).state c.args.id r
     (state_in c.tell_change.new.engine c.self.inside.stopped c.tell_change.new.sessions.items) before now
-    (lines_of c.put-in-Telling.new.self c.step_session-stepped.new.copied)) (sym t.0)
+    (lines_of c.put_outcome.new.self c.step_session-stepped.new.copied)) (sym t.0)
     (subst (λ (kept : KeptLines). StepGives (c.args.self.now).state c.args.id (Ran (is_kept c.in-Telling.outcome))
     (state_in c.tell_change.new.engine c.self.inside.stopped c.tell_change.new.sessions.items) before now
-    (lines_of kept c.step_session-stepped.new.copied)) (sym (c.put-in-Telling.ensures ∙ c.lines_kept.ensures))
+    (lines_of kept c.step_session-stepped.new.copied)) (sym c.put_outcome.ensures)
     (subst (λ (st : State). StepGives st c.args.id (Ran (is_kept c.in-Telling.outcome))
     (state_in c.tell_change.new.engine c.self.inside.stopped c.tell_change.new.sessions.items) before now
     (lines_of (lines_kept c.in-Telling.outcome) c.step_session-stepped.new.copied)) same gives))
