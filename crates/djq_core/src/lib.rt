@@ -33,9 +33,8 @@
 //! other command is made anew; `commands`, `watch`, `listing` and `ending` what commands do, `next`
 //! line by line, and a session's end; `tell` what a command on rows leaves to do, each delta printed
 //! once, and then its answer. While a session has a batch open, `reading` says what its line is to
-//! the batch, `held` makes the rows that are held, and `batch` runs it. `told` lends an answer of the
-//! store to the session that prints it; `copied` is where a line is copied, and `kept` what a step
-//! kept.
+//! the batch, `held` makes the rows that are held, and `batch` runs it. `copied` is where a line is
+//! copied, and `kept` what a step kept.
 #![tactic(auto)]
 
 pub use serving::Core;
@@ -53,5 +52,4 @@ mod open;
 mod reading;
 mod serving;
 mod tell;
-mod told;
 mod watch;

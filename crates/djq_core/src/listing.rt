@@ -7,7 +7,6 @@ ghost use Rattle.djq_core.specs.Performs.{Executes};
 ghost use Rattle.djq_core.specs.Sound.{AreHeld, IsReady};
 
 use crate::ending::cut_off;
-use crate::told::ToldAnswer;
 use djq_lines::Refusal;
 use djq_model::{Name, NoMem};
 use djq_session::Session;
@@ -69,10 +68,7 @@ fn list_answers<L: Ledgers>(
     for read in 0..count {
         match engine.next(id, &mut answer, listing) {
             Next::Given => {
-                let told = ToldAnswer {
-                    lent: engine.answer(id, &answer),
-                };
-                if session.queue_answer(&told).is_err() {
+                if session.queue_answer(&engine.answer(id, &answer)).is_err() {
                     return Listed::Cut;
                 }
             }

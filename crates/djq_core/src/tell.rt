@@ -21,7 +21,6 @@ ghost use Rattle.djq_core.specs.Unwatched.{AffectsUnwatched};
 use crate::change::Outcome;
 use crate::ending::{cut_off, end_by};
 use crate::open::OpenSession;
-use crate::told::ToldAnswer;
 use bytes::BytesMut;
 use djq_lines::limits::{PENDING_BYTES, REPLY_BYTES};
 use djq_lines::{AddOutcome, DeleteOutcome, EndCause, EndLine};
@@ -58,9 +57,8 @@ fn print_delta(engine: &Store, id: QueryId, query: &Name, text: &mut BytesMut) -
         return false;
     };
     for nth in 0..count {
-        let (sign, lent) = engine.delta_line(id, nth);
-        let told = ToldAnswer { lent };
-        if put_change(sign, query, &told, text).is_err() {
+        let (sign, answer) = engine.delta_line(id, nth);
+        if put_change(sign, query, &answer, text).is_err() {
             return false;
         }
     }

@@ -1,9 +1,8 @@
-ghost use Rattle.std.specs.Prelude.{◌≡◌, ◌<◌, Some, length, slice_get};
-ghost use Rattle.djq_model.specs.Lent.{value_lent};
+ghost use Rattle.std.specs.Prelude.{◌≡◌};
 ghost use Rattle.djq_live.specs.Live.{IsLive, IsShowable, values_of};
 
 use djq_live::LiveQuery;
-use djq_model::Lent;
+use djq_model::{Answered, Lent};
 use djq_reduct::Answer;
 use djq_rows::Catalog;
 use std::marker::Model;
@@ -46,19 +45,16 @@ impl<'a> LentAnswer<'a> {
             answer,
         }
     }
+}
 
-    /// How many values it has.
-    pub fn len(&self) -> usize
-        ensures { result ≡ length self.now }
-    {
+impl<'a> Answered for LentAnswer<'a> {
+    ghost values = { λ answer. answer };
+
+    fn len(&self) -> usize {
         self.query.width()
     }
 
-    /// A value. A text is lent, so it takes no memory.
-    pub fn value(&self, at: usize) -> Lent<'a>
-        requires { at < length self.now }
-        ensures { slice_get self.now at ≡ Some (value_lent result) }
-    {
+    fn value(&self, at: usize) -> Lent<'_> {
         self.query.value(self.catalog, self.answer, at)
     }
 }
