@@ -3,7 +3,8 @@ use Rattle.std.specs.Prelude.{[], ◌∷◌, ◌++◌, ◌≡◌, Option}
 use Rattle.std.proofs.Common.{refl, sym, ap, ◌∙◌, subst, append-nil}
 use Rattle.std.specs.List.{concat}
 use Rattle.djq_io.specs.Source.{Reading, GivesPiece}
-use Rattle.djq_io.proofs.Gives.{concat-append, gives_none, gives_piece, gives_more}
+use Rattle.djq_io.proofs.Gives.{gives_none, gives_piece, gives_more}
+use Rattle.std.proofs.lemmas.List.Folds.{concat-append}
 use Rattle.djq_model.specs.Data.{Bytes}
 use Rattle.djq.specs.Replay.{Gave}
 

@@ -2,7 +2,7 @@
 use Rattle.std.specs.Prelude.{ℕ, List, [], ◌∷◌, ◌++◌, ◌≡◌, ◌≢◌, ◌<◌, ◌⊎◌, Option, Some, All, AllPairs}
 use Rattle.std.proofs.Common.{sym, ap, ◌∙◌, subst, inl, inr, append-nil, arith}
 use Rattle.std.proofs.lemmas.Grind.{flat_map-append}
-use Rattle.std.proofs.lemmas.List.Elements.{All-nil, All-cons, All-head, All-tail}
+use Rattle.std.proofs.lemmas.List.Elements.{All-head}
 use Rattle.std.proofs.lemmas.List.Kept.{AllPairs-cons}
 use Rattle.djq_io.specs.Sink.{bytes_of}
 use Rattle.djq_io.specs.Source.{Reading}
@@ -13,7 +13,7 @@ use Rattle.djq_model.specs.Listed.{Listed, listed_name, AnswersOf}
 use Rattle.djq_mirror.specs.declared.mode.Mode.TheVariants.{Live}
 use Rattle.djq_mirror.specs.Inputs.{IsHeld, IsRefused}
 use Rattle.djq_mirror.specs.Mirror.{Held}
-use Rattle.djq_machine.specs.State.{State, Session}
+use Rattle.djq_machine.specs.State.{State}
 use Rattle.djq_machine.specs.Run.{Did, Walk, out, all_taken, pending_of}
 use Rattle.djq_machine.specs.Call.{Counts}
 use Rattle.djq_laws.specs.Course.{Outside, Course, RunNext}
@@ -21,7 +21,7 @@ use Rattle.djq_laws.specs.Sent.{opened_by, all_opened}
 use Rattle.djq_laws.specs.Sound.{IsStart}
 use Rattle.djq_laws.proofs.Courses.{walk_of}
 use Rattle.djq_laws.proofs.Dropping.{later as rises}
-use Rattle.djq_laws.proofs.Heading.{headline, walk_spares}
+use Rattle.djq_laws.proofs.Heading.{headline, walk_spares, none_pending}
 use Rattle.djq_laws.proofs.Sending.{gone_taken, next_runs, run_bytes}
 use Rattle.djq_serve.specs.declared.served.Served.{Served}
 use Rattle.djq_serve.specs.Told.{Shown, sent_to}
@@ -29,14 +29,13 @@ use Rattle.djq_serve.specs.Server.{all_told, all_done}
 use Rattle.djq_serve.specs.Ends.{RunsThrough, ServeEnds}
 use Rattle.djq_follow.specs.declared.command.Mirrored.{Mirrored}
 use Rattle.djq_follow.specs.declared.command.Mirrored.TheVariants.{Done, Outside as Halted}
-use Rattle.djq_follow.specs.declared.command.Mirrored.TheVariants.{ReadFault, WriteFault, TooMany}
-use Rattle.djq_follow.specs.declared.command.Mirrored.TheVariants.{NoMemory}
+use Rattle.djq_follow.specs.declared.command.Mirrored.TheVariants.{ReadFault, WriteFault, TooMany, NoMemory}
 use Rattle.djq_follow.specs.Ends.{ComesTo, StopsFor, WritesOf, MirrorEnds}
 use Rattle.djq_told.specs.Sayable.{IsSayableStore}
 use Rattle.djq_told.specs.Mirrored.{Shows}
 use Rattle.djq_told.specs.Whole.{ReadsSinceOpened}
 use Rattle.djq_told.proofs.Alone.{held_alone}
-use Rattle.djq_told.proofs.Opening.{opened_are_read_back}
+use Rattle.djq_told.proofs.Opening.{opened_are_read_back, front}
 use Rattle.djq.specs.Mirrored.{WritesAnswers, IsMirroredBack}
 
 -- ---- one mirror
@@ -153,9 +152,6 @@ serving_is_read_back start h said answer turns hub counted hub' counted' state e
 
 -- ---- each moment of them
 
-none_pending : (st : State) → st.sessions ≡ [] → pending_of st 1 ≡ []
-none_pending st none = ap (λ (xs : List Session). pending_of (record st { sessions = xs }) 1) none
-
 pub walk_is_read_back : (start : State) → IsStart start → IsSayableStore start.store → (done : List Did) (mid : State)
     → Walk RunNext start done mid → pending_of mid 1 ≡ [] → (q : Listed) (at : State)
     → ReadsSinceOpened q 1 start done at mid → IsMirroredBack q (all_taken 1 done) at
@@ -167,10 +163,6 @@ walk_is_read_back start h said done mid walk none q at reads =
     ∙ run_bytes 1 start done mid (next_runs start done mid walk)
     ∙ ap (λ (bs : Bytes). bs ++ out 1 done) (none_pending start h.none) in
     sent_back q (all_taken 1 done) (out 1 done) at same back.held back.input back.live
-
-front : {A : Type 0} (P : A → Type 0) (xs ys : List A) → All P (xs ++ ys) → All P xs
-front P [] ys h = All-nil P
-front P (x ∷ xs) ys h = All-cons P x xs (All-head P x (xs ++ ys) h) (front P xs ys (All-tail P x (xs ++ ys) h))
 
 rising_front : (xs ys : List ℕ) → AllPairs (λ i j. i < j) (xs ++ ys) → AllPairs (λ i j. i < j) xs
 rising_front [] ys h = λ i j d less within. absurd (omega arith)

@@ -1,7 +1,6 @@
 -- A schedule's hub has no more turns than its lines, so that one turn more finds it over; and it never fails.
-use Rattle.std.specs.Prelude.{ℕ, List, [], ◌∷◌, ◌++◌, ◌≡◌, ◌+◌, ◌<◌, ◌≤◌, ◌⊎◌, ◌||◌, Bool, true}
-use Rattle.std.specs.Prelude.{false, Option, None, Some, Result, Ok, Err, MatchResult, IfSome}
-use Rattle.std.specs.Prelude.{length, take}
+use Rattle.std.specs.Prelude.{ℕ, List, [], ◌∷◌, ◌++◌, ◌≡◌, ◌+◌, ◌<◌, ◌≤◌, ◌⊎◌, ◌||◌}
+use Rattle.std.specs.Prelude.{false, Option, None, Some, Result, Ok, Err, MatchResult, IfSome, length, take}
 use Rattle.std.proofs.Common.{refl, sym, ap, ◌∙◌, subst, inl, inr, arith, length-append, length-take}
 use Rattle.std.proofs.lemmas.List.Sums.{sum_by-cons}
 use Rattle.std.specs.Borrow.{Bor}
@@ -31,8 +30,7 @@ use Rattle.djq_schedule.specs.Sent.{sent_text}
 use Rattle.djq_schedule.proofs.Counting.{AllShort, turn_for_each_line, turns_are_short}
 use Rattle.djq_serve.specs.declared.served.Served.{Served}
 use Rattle.djq_serve.specs.declared.served.Served.TheVariants.{Stopped, Over, TurnsUsed as AllTaken}
-use Rattle.djq_serve.specs.declared.served.Served.TheVariants.{HubFault as HubFailed}
-use Rattle.djq_serve.specs.declared.served.Served.TheVariants.{DiskFault as DiskFailed, LogFull}
+use Rattle.djq_serve.specs.declared.served.Served.TheVariants.{HubFault as HubFailed, DiskFault as DiskFailed, LogFull}
 use Rattle.djq_serve.specs.Told.{Shown, shown, Place, place, Answers as IsAnswered, turn_is_over}
 use Rattle.djq_serve.specs.Told.{turn_is_failed, by_turn, has_over, has_failed, turn_in, turns_in}
 use Rattle.djq_serve.specs.Server.{all_told, all_done}
@@ -42,6 +40,7 @@ use Rattle.djq.specs.Logged.{DiskSeen, LogSeen, log_seen, IsUnasked, status_of, 
 use Rattle.djq.specs.Replay.{hub_of, IsWhole, Plays, ComesTo, ComesToNothing, first_fault}
 use Rattle.djq.specs.Parts.{TellsAll, TellsNone}
 use Rattle.djq.proofs.Logging.{never_began}
+use Rattle.std.proofs.lemmas.Bool.{or_parts}
 
 -- the next turn of a script is gone, and those that are left are short too
 record OneLess (old new : List Coming) : Type 0 where
@@ -89,10 +88,6 @@ record TookAtMost (old : List Coming) (told : List Told) (new : List Coming) : T
   pub taken : turns_in told + length new ≤ length old
   pub short : AllShort new
 
-both_false : (a b : Bool) → (a || b) ≡ false → (a ≡ false) × (b ≡ false)
-both_false true b h = absurd cc
-both_false false b h = (refl, h)
-
 -- a send leaves the script as it was
 script_stays : (s offered : ℕ) (sent : Sent) (old new : Script) → Sends s offered sent old new → new ≡ old
 script_stays s offered (Took n) old new h = h.2
@@ -123,8 +118,8 @@ calls [] old new h all over failed = record {
   short = subst (λ (p : Place). AllShort p.script.turns) (sym h) all;
 }
 calls (t ∷ told) old new (mid, first, more) all over failed =
-    let o = both_false (by_turn turn_is_over t) (has_over told) over in
-    let f = both_false (by_turn turn_is_failed t) (has_failed told) failed in
+    let o = or_parts (by_turn turn_is_over t) (has_over told) over in
+    let f = or_parts (by_turn turn_is_failed t) (has_failed told) failed in
     let one = one_call t old mid first all o.0 f.0 in
     let rest = calls told mid new more one.short o.1 f.1 in
     record { taken = omega (arith, one.taken, rest.taken, sum_by-cons turn_in t told); short = rest.short }
@@ -211,13 +206,6 @@ plays log found first bytes made hub hub' answer most counted loaded counted' st
       whole = is_whole answer turns (lines + 1) loaded counted' start state hub'.past hub'.script hub'.ids served.ends
           faults (turns_are_short bytes turns is_made.turns) (omega (arith, more));
     }
-
--- What becomes of a result.
-pub match_so : {A E : Type 0} (r : Result A E) (P Q : A → Type 0) (M N : E → Type 0) → ((a : A) → P a → Q a)
-    → ((e : E) → M e → N e)
-    → MatchResult r P M → MatchResult r Q N
-match_so (Ok a) P Q M N ok err h = ok a h
-match_so (Err e) P Q M N ok err h = err e h
 
 -- Its past is told at the end, or there is no memory for it.
 pub comes_to : (log : Option LogSeen) (bytes : Bytes) (turns : List Coming) (counted counted' : Counts)

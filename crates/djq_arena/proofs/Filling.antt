@@ -1,8 +1,7 @@
 -- Rows that are written into slots.
 use Rattle.std.proofs.Common.{◌≡◌, ◌≢◌, ℕ, ◌+◌, ◌-◌, ◌*◌, ◌≤◌, ◌<◌, List, [], ◌∷◌, ◌++◌, length}
 use Rattle.std.proofs.Common.{take, drop, Option, Some, None, refl, ap, ap₂, subst, sym, ◌∙◌, arith}
-use Rattle.std.proofs.Common.{length-append, inl, inr, length-take, length-drop, rules, Result, Ok}
-use Rattle.std.proofs.Common.{Err}
+use Rattle.std.proofs.Common.{length-append, inl, inr, length-take, length-drop, rules, Result, Ok, Err}
 use Rattle.std.specs.Result.{OnErr}
 use Rattle.std.proofs.lemmas.List.{take_all, drop_at, drop-append-le, take-append-le, places}
 use Rattle.std.proofs.lemmas.List.{get_or_append_left, same_lists}

@@ -2,8 +2,8 @@
 use Rattle.std.proofs.Common.{ℕ, zero, suc, ◌<◌, ◌≤◌, ◌≡◌, ◌⊎◌, Bool, true, false, List, [], ◌∷◌}
 use Rattle.std.proofs.Common.{length, map, drop, get_or, filter, cond, Option, None, Some, is_some}
 use Rattle.std.proofs.Common.{refl, sym, ap, ◌∙◌, subst, arith, inl, inr}
-use Rattle.std.specs.Prelude.{All, MatchOption, Contains, IsSome, IsSomeAnd, nat_lt, slice_get, slice_index_or}
-use Rattle.std.proofs.lemmas.Bool.{cond-true, cond-false, lt-ltb}
+use Rattle.std.specs.Prelude.{All, MatchOption, Contains, IsSome, IsSomeAnd, slice_get, slice_index_or}
+use Rattle.std.proofs.lemmas.Bool.{cond-true, cond-false}
 use Rattle.std.proofs.lemmas.List.Elements.{All-contains, All-head, All-tail}
 use Rattle.djq_deltas.proofs.Lists.{first_there, later_there}
 use Rattle.djq_model.specs.Data.{Bytes}
@@ -21,6 +21,8 @@ use Rattle.djq_core.specs.Sound.{IsSound, watchers_in, listed}
 use Rattle.djq_core.specs.Telling.{KeepsTold, Prints, GoesOnTelling, TellsQuery, AreAffected, TellsAffected}
 use Rattle.djq_core.proofs.Spreading.{Reaches, reaches_on, TellsSoFar, told_all, nobody_reaches}
 use Rattle.djq_core.proofs.Spreading.{goes_on_on, goes_on_same}
+use Rattle.djq_store.proofs.Wanted.{found_there}
+use Rattle.djq_core.proofs.Replying.{is_watched_none}
 
 -- what was printed is the delta, where the log tells it
 pub printed : (k : Kept) (id : QueryId) (q : Bytes) (whole : Bool) (text : Bytes) (d : Delta)
@@ -218,16 +220,6 @@ all_affected old xs nth k ys so l = record {
     counts [] = refl
     counts (r ∷ rs) = ap suc (counts rs)
 
--- the registered query of an id is there
-pub at_there : (rs : List Registered) (id : QueryId) (r : Registered) → registered_at rs id ≡ Some r → Contains rs r
-at_there [] id r h = absurd (cc (h))
-at_there (x ∷ rs) id r h = step (same_query x.id id) h (λ k. at_there rs id r k)
-  where
-    step : (b : Bool) → cond b (Some x) (registered_at rs id) ≡ Some r → (registered_at rs id ≡ Some r → Contains rs r)
-        → Contains (x ∷ rs) r
-    step true g more = first_there x rs r (cc (g))
-    step false g more = later_there x rs r (more g)
-
 -- an id that is registered has its query
 abbrev pub has_query : (o : Option Registered) → IsSome o → (r : Registered) × (o ≡ Some r)
 has_query None h = absurd (cc (h))
@@ -239,7 +231,7 @@ pub watchers_of : (k : Kept) (xs : List OpenSession) (id : QueryId) (r : Registe
     → IsSomeAnd (registered_at k.registered id) (λ r. n ≡ r.watchers) → n ≡ watchers_in xs (listed_name r.query)
 watchers_of k xs id r n sound e h =
     subst (λ (o : Option Registered). IsSomeAnd o (λ q. n ≡ q.watchers)) e h
-    ∙ sound.counted.counted r (at_there k.registered id r e)
+    ∙ sound.counted.counted r (found_there k.registered id r e)
 
 -- its name
 pub name_of : (k : Kept) (id : QueryId) (r : Registered) (q : Bytes) → registered_at k.registered id ≡ Some r
@@ -266,13 +258,6 @@ reader_of (r ∷ readers) (i ∷ ids) zero id e h =
 reader_of (r ∷ readers) (i ∷ ids) (suc nth) id e h =
     let m = reader_of readers ids nth id (cc (e)) h in
     (m.0, m.1, m.2, later_there r readers m.0 m.3)
-
-not_watched : (r : Registered) → is_watched r ≡ false → r.watchers ≡ 0
-not_watched r h = by r.watchers h
-  where
-    by : (n : ℕ) → nat_lt 0 n ≡ false → n ≡ 0
-    by zero h = refl
-    by (suc n) h = let so : nat_lt 0 (suc n) ≡ true = lt-ltb 0 (suc n) (omega arith) in absurd (cc (so, h))
 
 none_still : (a b : ℕ) → a ≤ b → b ≡ 0 → a ≡ 0
 none_still a b l e = omega (arith, l, e)
@@ -327,7 +312,7 @@ affected_more old k new xs ys zs nth id sound so there at told =
             = none_still (watchers_in ys (listed_name r.query)) (watchers_in xs (listed_name r.query))
             (so.goes_on.fewer (listed_name r.query))
             (ap (λ (p : Listed). watchers_in xs (listed_name p)) query
-            ∙ sym (sound.counted.counted q (at_there old.registered q.id q known)) ∙ not_watched q w) in
+            ∙ sym (sound.counted.counted q (found_there old.registered q.id q known)) ∙ is_watched_none q w) in
             let still = t.quiet none in
             subst (λ (x : Kept). IsLeft old xs (drop (suc nth) readers) deltas x zs) (sym still.0)
             (subst (λ (us : List OpenSession). IsLeft old xs (drop (suc nth) readers) deltas k us) (sym still.1)

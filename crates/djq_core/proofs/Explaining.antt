@@ -12,8 +12,7 @@ use Rattle.djq_model.specs.declared.query.Query.{Query}
 use Rattle.djq_model.specs.declared.memory.NoMem.{NoMem}
 use Rattle.djq_lines.specs.declared.answer.Refusal.{Refusal}
 use Rattle.djq_lines.specs.declared.answer.Refusal.TheVariants.{Syntax, Taken, NoRelation, NoQuery}
-use Rattle.djq_lines.specs.declared.answer.Refusal.TheVariants.{NoCursor, Arity, WrongType}
-use Rattle.djq_lines.specs.declared.answer.Refusal.TheVariants.{HeadUnbound, HeadRepeated}
+use Rattle.djq_lines.specs.declared.answer.Refusal.TheVariants.{NoCursor, Arity, WrongType, HeadUnbound, HeadRepeated}
 use Rattle.djq_lines.specs.declared.answer.Refusal.TheVariants.{VariableType, Unbound, Member}
 use Rattle.djq_lines.specs.declared.answer.Refusal.TheVariants.{Limit, NoMemory, InUse, Misplaced}
 use Rattle.djq_lines.specs.declared.answer.EndCause.TheVariants.{Memory}
@@ -38,6 +37,7 @@ use Rattle.djq_core.proofs.Cutting.{cut_off_after}
 use Rattle.djq_core.proofs.Lines.{take_next, text_last}
 use Rattle.djq_core.proofs.Replying.{refused}
 use Rattle.djq_core.proofs.Watching.{stays_same}
+use Rattle.djq_core.proofs.Telling.{of_query}
 
 -- ---- the lines of a union's members, one after another
 
@@ -118,11 +118,6 @@ explain_at o k st st' s e there step = subst
     (λ (p : Option Listed). MatchOption p (RefusedStep st s NoQuery e st') (λ q. ExplainStepOf st s q e st'))
     (sym there) step
 
--- the query that is there
-there_is : (P : Listed → Type 0) (o : Option Listed) → IsSomeAnd o P → (q : Listed) × (o ≡ Some q) × P q
-there_is P None h = absurd h
-there_is P (Some q) h = (q, refl, h)
-
 -- the first of lines, of which there is one at least
 first_line : (ls : List Bytes) (l : Bytes) → (first : Bytes) × (rest : List Bytes) × (ls ++ l ∷ [] ≡ first ∷ rest)
 first_line [] l = (l, [], refl)
@@ -157,7 +152,7 @@ cut_explained : (k : Kept) (new : Kept) (before between after : Talk) (name : By
     ≡ record before { room = between.room } → CutsOff k between new after
     → IsSomeAnd (listed_of (k.store).queries name) HasTree → Executes (Explain name) false k before new after 0 0
 cut_explained k new before between after name roomy cut tree =
-    let q = there_is HasTree (listed_of (k.store).queries name) tree in
+    let q = of_query HasTree (listed_of (k.store).queries name) tree in
     cut_off_after _ k k new before between after 0 0 no_line (λ id. refl)
     (stays_same k.registered k.registered before.watches before.watches refl refl) roomy cut refl (λ st s x e.
     let new' = with_session (record st { store = k.store }) s (ended_by Memory) in
@@ -208,7 +203,7 @@ pub does_explain_whole : (k : Kept) (before after : Talk) (name : Bytes) (r : Re
     → Executes (Explain name) false k before k after 0 0
 does_explain_whole k before after name (Err r) e h = absurd (cc (e))
 does_explain_whole k before after name (Ok done) e h =
-    let q = there_is (λ q. (lines : Bytes) × AreExplaining q lines × Queues before after (lines ++ codes "end\n"))
+    let q = of_query (λ q. (lines : Bytes) × AreExplaining q lines × Queues before after (lines ++ codes "end\n"))
     (listed_of (k.store).queries name) h in
     let text = q.2.0 ++ codes "end\n" in
     refused _ k before after text (q.2.2).queued (λ st s x f g.

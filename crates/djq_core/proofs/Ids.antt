@@ -1,9 +1,8 @@
 -- Cursors of the engine: told apart, held, and as they were.
 use Rattle.std.proofs.Common.{ℕ, ◌≡◌, ◌++◌, ◌&&◌, Bool, true, false, List, [], ◌∷◌, map, option_map}
-use Rattle.std.proofs.Common.{cond, Option, None, Some, eqb, refl, sym, ap, ◌∙◌, subst, ap₂, ◌||◌}
-use Rattle.std.proofs.Common.{◌⊎◌, inl, inr}
+use Rattle.std.proofs.Common.{cond, Option, None, Some, eqb, refl, sym, ap, ◌∙◌, subst, ap₂, ◌||◌, ◌⊎◌, inl, inr}
 use Rattle.std.specs.Prelude.{⊤, IsSome}
-use Rattle.std.proofs.lemmas.Bool.{eqb-true, eq-eqb}
+use Rattle.std.proofs.lemmas.Bool.{eqb-true, eq-eqb, or_cases}
 use Rattle.djq_model.specs.Data.{Bytes}
 use Rattle.djq_model.specs.Listed.{Listed}
 use Rattle.djq_session.specs.declared.named.NamedCursor.{NamedCursor}
@@ -14,10 +13,7 @@ use Rattle.djq_machine.specs.Stale.{outdated, outdater_of, outdated_cursor, outd
 use Rattle.djq_core.specs.declared.open.OpenSession.{OpenSession}
 use Rattle.djq_core.specs.Views.{query_in, position_in, cursor_in, open_in}
 use Rattle.djq_core.specs.Sound.{ids_of, all_ids, GivesApart, AreHeld, IsApart, AreApart, is_among, AreOwned}
-
-first_true : (a b : Bool) → (a && b) ≡ true → a ≡ true
-first_true true b h = refl
-first_true false b h = absurd (cc)
+use Rattle.djq_deltas.proofs.Cases.{first_holds}
 
 second_true : (a b : Bool) → (a && b) ≡ true → b ≡ true
 second_true true b h = h
@@ -27,7 +23,7 @@ second_true false b h = absurd (cc)
 pub same_id_same : (a b : CursorId) → same_id a b ≡ true → a ≡ b
 same_id_same a b h =
     let query : a.query.at
-    ≡ b.query.at = eqb-true a.query.at b.query.at (first_true (eqb a.query.at b.query.at) (eqb a.cursor b.cursor) h)
+    ≡ b.query.at = eqb-true a.query.at b.query.at (first_holds (eqb a.query.at b.query.at) (eqb a.cursor b.cursor) h)
     in
     let cursor : a.cursor
     ≡ b.cursor = eqb-true a.cursor b.cursor (second_true (eqb a.query.at b.query.at) (eqb a.cursor b.cursor) h) in
@@ -140,10 +136,6 @@ agree_open old new (x ∷ xs) g =
 
 -- Cursors of the engine, and whose they are.
 
-pub either : (b c : Bool) → (b || c) ≡ true → (b ≡ true) ⊎ (c ≡ true)
-either true c h = inl refl
-either false c h = inr h
-
 pub or_true : (b : Bool) → (b || true) ≡ true
 or_true true = refl
 or_true false = refl
@@ -165,7 +157,7 @@ among_back c xs ys h = among_append c xs ys ∙ ap (λ b. is_among c xs || b) h 
 
 pub among_either : (c : CursorId) (xs ys : List CursorId) → is_among c (xs ++ ys) ≡ true
     → (is_among c xs ≡ true) ⊎ (is_among c ys ≡ true)
-among_either c xs ys h = either (is_among c xs) (is_among c ys) (sym (among_append c xs ys) ∙ h)
+among_either c xs ys h = or_cases (is_among c xs) (is_among c ys) (sym (among_append c xs ys) ∙ h)
 
 -- none of these, or one
 pub apart_or : (c : CursorId) (xs : List CursorId) → (IsApart c xs) ⊎ (is_among c xs ≡ true)

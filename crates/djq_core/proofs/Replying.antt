@@ -375,7 +375,7 @@ watched_by rs xs q counted r f =
 is_watched_some : (r : Registered) → is_watched r ≡ true → 0 < r.watchers
 is_watched_some r h = ltb-true 0 r.watchers h
 
-is_watched_none : (r : Registered) → is_watched r ≡ false → r.watchers ≡ 0
+pub is_watched_none : (r : Registered) → is_watched r ≡ false → r.watchers ≡ 0
 is_watched_none r h = step r.watchers refl h
   where
     step : (n : ℕ) → r.watchers ≡ n → nat_lt 0 r.watchers ≡ false → r.watchers ≡ 0

@@ -1,8 +1,7 @@
 -- The rows that batches hold suit their relations, whatever a step does: relations stay, with their types.
 use Rattle.std.proofs.Common.{ℕ, zero, suc, ◌≡◌, ◌+◌, ◌++◌, ◌⊎◌, Bool, true, false, not, List, []}
 use Rattle.std.proofs.Common.{◌∷◌, length, map, find, cond, Option, None, Some, option_map, Result}
-use Rattle.std.proofs.Common.{Ok, Err, refl, sym, ap, ◌∙◌, subst, arith, inl, inr, eqb}
-use Rattle.std.proofs.Common.{length-append}
+use Rattle.std.proofs.Common.{Ok, Err, refl, sym, ap, ◌∙◌, subst, arith, inl, inr, eqb, length-append}
 use Rattle.std.specs.Prelude.{⊤, IsSome, IsSomeAnd, MatchOption, is_none, is_some, ◌==◌, nat_le}
 use Rattle.std.specs.List.{list_any}
 use Rattle.std.proofs.lemmas.Bool.{leb-false}
@@ -35,8 +34,7 @@ use Rattle.djq_lines.specs.declared.command.Command.{Command}
 use Rattle.djq_lines.specs.declared.command.Command.TheVariants.{Rel, Add, Del, Query as Register}
 use Rattle.djq_lines.specs.declared.command.Command.TheVariants.{Union, Drop, Open, Next, Close}
 use Rattle.djq_lines.specs.declared.command.Command.TheVariants.{Has, Watch, Unwatch, Explain}
-use Rattle.djq_lines.specs.declared.command.Command.TheVariants.{Shape, Batch, Done, Abandon, Quit}
-use Rattle.djq_lines.specs.declared.command.Command.TheVariants.{Stop}
+use Rattle.djq_lines.specs.declared.command.Command.TheVariants.{Shape, Batch, Done, Abandon, Quit, Stop}
 use Rattle.djq_lines.specs.declared.rest.QueryOutcome.{QueryOutcome}
 use Rattle.djq_lines.specs.declared.rest.QueryOutcome.TheVariants.{Registered, Cyclic, NotConnex}
 use Rattle.djq_lines.specs.declared.held.HeldRow.{HeldRow}
@@ -61,12 +59,12 @@ use Rattle.djq_machine.specs.Union.{union_refusal, AreUnder, RegistersUnion}
 use Rattle.djq_machine.specs.Store.{answer_steps, with_rows, with_copies_of, copies_of, rel_refusal}
 use Rattle.djq_machine.specs.Store.{add_refusal, delete_refusal, query_refusal, drop_refusal}
 use Rattle.djq_machine.specs.Store.{MakesRelation, AddsAs, AddsRow, DeletesAs, DeletesRow}
-use Rattle.djq_machine.specs.Store.{RefusedByTexts, RegistersAs, RefusedLate, RegistersQuery}
-use Rattle.djq_machine.specs.Store.{DropsQuery}
+use Rattle.djq_machine.specs.Store.{RefusedByTexts, RegistersAs, RefusedLate, RegistersQuery, DropsQuery}
 use Rattle.djq_core.specs.Sound.{BatchSuits, AreSuited}
 use Rattle.djq_core.proofs.Carrying.{CarriedOut}
 use Rattle.djq_machine.specs.Batch.{suit_refusal, hold_refusal, SuitAll, is_there, with_held}
 use Rattle.djq_machine.specs.Batch.{with_all, count_came, AddsBatch}
+use Rattle.djq_engine.proofs.HeldRows.{refusal_by}
 
 -- ---- relations stay, with their types
 
@@ -155,11 +153,6 @@ types_reordered [] (q ∷ qs) h name there = absurd h
 types_reordered (r ∷ rs) [] h name there = absurd h
 
 -- ---- so a row that suits its relation still does
-
-refusal_by : Option Relation → Tuple → Option Refusal
-refusal_by o row =
-    first_of ((is_none o, NoRelation) ∷ (not (length row == length (types_of o)), Arity) ∷
-    (not (fits (types_of o) row), WrongType) ∷ [])
 
 suits_by : (o p : Option Relation) (row : Tuple)
     → (IsSome o → option_map (λ (r : Relation). r.types) p ≡ option_map (λ (r : Relation). r.types) o)

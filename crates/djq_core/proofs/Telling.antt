@@ -1,6 +1,6 @@
 -- Reading a cursor answer by answer.
 use Rattle.std.proofs.Common.{ℕ, ◌+◌, ◌*◌, ◌<◌, ◌≤◌, ◌≡◌, ◌++◌, Bool, true, false, not, List, []}
-use Rattle.std.proofs.Common.{◌∷◌, length, map, find, get_or, cond, Option, None, Some, Result, Ok}
+use Rattle.std.proofs.Common.{◌∷◌, length, map, get_or, Option, None, Some, Result, Ok}
 use Rattle.std.proofs.Common.{Err, refl, sym, ap, ◌∙◌, subst, arith, append_assoc, append-nil}
 use Rattle.std.proofs.Common.{length-append, is_some, inl, inr}
 use Rattle.std.specs.Prelude.{⊤, All, Contains, IsSomeAnd}
@@ -22,8 +22,7 @@ use Rattle.djq_live.specs.declared.listing.Next.{Next}
 use Rattle.djq_live.specs.declared.listing.Next.TheVariants.{Given, End, Stale}
 use Rattle.djq_live.specs.Live.{Live, values_of}
 use Rattle.djq_engine.specs.Kept.{Kept, Held, held_at, same_id, IsHeld, IsFresh, IsOpenAt}
-use Rattle.djq_engine.specs.Kept.{MovesCursor, read_steps, MoreGives, MoreGivesAt, AnswerIs}
-use Rattle.djq_engine.specs.Kept.{IsShown}
+use Rattle.djq_engine.specs.Kept.{MovesCursor, read_steps, MoreGives, MoreGivesAt, AnswerIs, IsShown}
 use Rattle.djq_store.specs.Reading.{NextGives, NextGivesAt}
 use Rattle.djq_core.specs.declared.listing.Listed.{Listed as HowListed}
 use Rattle.djq_core.specs.declared.listing.Listed.TheVariants.{Cut, Stale as WasStale}
@@ -31,15 +30,8 @@ use Rattle.djq_core.specs.Views.{Talk}
 use Rattle.djq_core.specs.Sound.{AreHeld, GivesApart}
 use Rattle.djq_core.specs.Listing.{StandsAt, ListsAt, Lists, Lasts}
 use Rattle.djq_core.proofs.Ids.{same_id_same}
-
--- what is found passes
-found_passes : {A : Type 0} (p : A → Bool) (xs : List A) (x : A) → find p xs ≡ Some x → p x ≡ true
-found_passes p [] x h = absurd (cc)
-found_passes p (y ∷ xs) x h = step (p y) refl (λ rest. found_passes p xs x rest) h
-  where
-    step : (b : Bool) → p y ≡ b → (find p xs ≡ Some x → p x ≡ true) → cond b (Some y) (find p xs) ≡ Some x → p x ≡ true
-    step true e rest h = let same : y ≡ x = cc in subst (λ z. p z ≡ true) same e
-    step false e rest h = rest h
+use Rattle.djq_store.proofs.Found.{found_passes}
+use Rattle.djq_core.proofs.Lines.{text_last}
 
 -- a cursor that is held under an id has it
 held_id : (hs : List Held) (id : CursorId) (h : Held) → held_at hs id ≡ Some h → h.id ≡ id
@@ -127,7 +119,7 @@ of_held : (P : Held → Type 0) (hs : List Held) (id : CursorId) (h : Held) → 
     → IsSomeAnd (held_at hs id) P → P h
 of_held P hs id h e g = subst (λ (o : Option Held). IsSomeAnd o P) e g
 
-of_query : (P : Listed → Type 0) (o : Option Listed) → IsSomeAnd o P → (q : Listed) × (o ≡ Some q) × P q
+pub of_query : (P : Listed → Type 0) (o : Option Listed) → IsSomeAnd o P → (q : Listed) × (o ≡ Some q) × P q
 of_query P None g = absurd g
 of_query P (Some q) g = (q, refl, g)
 
@@ -144,9 +136,6 @@ text_more ts t = ap text_of (map_push ts t)
     map_push : (ts : List Tuple) (t : Tuple) → map answer_line (ts ++ t ∷ []) ≡ map answer_line ts ++ answer_line t ∷ []
     map_push [] t = refl
     map_push (s ∷ ts) t = ap (λ (r : List Bytes). answer_line s ∷ r) (map_push ts t)
-
-text_last : (ls : List Bytes) (l : Bytes) → text_of (ls ++ l ∷ []) ≡ text_of ls ++ l
-text_last ls l = flat_map-append (λ (x : Bytes). x) ls (l ∷ []) ∙ ap (λ (bs : Bytes). text_of ls ++ bs) (append-nil l)
 
 -- A read, where the cursor is open.
 

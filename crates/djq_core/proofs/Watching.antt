@@ -18,6 +18,8 @@ use Rattle.djq_core.specs.Sound.{is_among_watches, times_in, watchers_in, AreOnc
 use Rattle.djq_core.specs.Sound.{QuietOnceEnded, AreQuiet, AreCounted, IsCounted, HasCount}
 use Rattle.djq_core.specs.Sound.{StaysCounted, IsSound, listed}
 use Rattle.djq_core.specs.Performs.{among}
+use Rattle.djq_deltas.proofs.Cases.{or_false}
+use Rattle.djq_core.proofs.Ids.{or_true}
 
 -- ---- counts
 
@@ -375,21 +377,13 @@ among_append (w ∷ ws) vs q = step (bytes_eq w q) (among_append ws vs q)
     step true e = refl
     step false e = e
 
-pub or_none : (b : Bool) → (b || false) ≡ b
-or_none true = refl
-or_none false = refl
-
-pub or_one : (b : Bool) → (b || true) ≡ true
-or_one true = refl
-or_one false = refl
-
 -- the last of names, no two of which are the same
 pub once_last : (ws : List Bytes) (q : Bytes) → AreOnce (ws ++ q ∷ []) → AreOnce ws × (is_among_watches ws q ≡ false)
 once_last [] q h = (tt, refl)
 once_last (w ∷ ws) q h =
     let r = once_last ws q h.1 in
     let apart = split (is_among_watches ws w) (bytes_eq q w)
-    (sym (among_append ws (q ∷ []) w ∙ ap (λ (b : Bool). is_among_watches ws w || b) (or_none (bytes_eq q w)))
+    (sym (among_append ws (q ∷ []) w ∙ ap (λ (b : Bool). is_among_watches ws w || b) (or_false (bytes_eq q w)))
     ∙ h.0) in
     ((apart.0, r.0), neither (bytes_eq w q) (is_among_watches ws q) (turned (bytes_eq q w) refl apart.1) r.1)
   where
@@ -411,7 +405,7 @@ once_more [] q o n = (refl, tt)
 once_more (w ∷ ws) q o n =
     let p = split (bytes_eq w q) (is_among_watches ws q) n in (
       among_append ws (q ∷ []) w
-          ∙ ap₂ (λ a b. a || b) o.0 (or_none (bytes_eq q w) ∙ turned (bytes_eq w q) refl p.0),
+          ∙ ap₂ (λ a b. a || b) o.0 (or_false (bytes_eq q w) ∙ turned (bytes_eq w q) refl p.0),
       once_more ws q o.1 p.1,
     )
   where
@@ -428,12 +422,12 @@ once_more (w ∷ ws) q o n =
 pub times_here : (ws : List Bytes) (q : Bytes) → times_in (ws ++ q ∷ []) q ≡ 1
 times_here ws q = ap (λ (b : Bool). cond b 1 0)
     (among_append ws (q ∷ []) q ∙ ap (λ (b : Bool). is_among_watches ws q || (b || false)) (is_name q)
-    ∙ or_one (is_among_watches ws q))
+    ∙ or_true (is_among_watches ws q))
 
 pub times_there : (ws : List Bytes) (q p : Bytes) → bytes_eq p q ≡ false → times_in (ws ++ q ∷ []) p ≡ times_in ws p
 times_there ws q p e = ap (λ (b : Bool). cond b 1 0)
     (among_append ws (q ∷ []) p ∙ ap (λ (b : Bool). is_among_watches ws p || (b || false)) (turned (bytes_eq q p) refl)
-    ∙ or_none (is_among_watches ws p))
+    ∙ or_false (is_among_watches ws p))
   where
     turned : (b : Bool) → bytes_eq q p ≡ b → b ≡ false
     turned true f = let so : bytes_eq p q

@@ -78,6 +78,7 @@ use Rattle.djq_cursor.proofs.Placing.{
 }
 use Rattle.djq_cursor.specs.Told.{marked_or, changed_at, root_marked, kept}
 use Rattle.djq_cursor.proofs.Parts.{part, part_in, part_marked, group_marked, marked_in_group}
+use Rattle.djq_index.proofs.Parts.{nil_from_length}
 
 -- ---- in a group the marked ones are the last
 
@@ -122,10 +123,6 @@ last_first : (key : List ℕ) (e : Entry) (es : List Entry) → AreLast key (e �
 unfolding AreLast
 last_first key e es h = h.0
 
-none_left : (l : List Entry) → length l ≡ 0 → l ≡ []
-none_left [] h = refl
-none_left (e ∷ l) h = absurd (omega arith)
-
 pub trail : (key : List ℕ) (es : List Entry) (w : List ℕ) → AreLast key es
     → grp key es w ≡ plain (grp key es w) ++ marks (grp key es w)
 trail key [] w h = subst (λ (g : List Entry). g ≡ plain g ++ marks g) (sym (grp_nil key w))
@@ -140,7 +137,7 @@ trail key (e ∷ es) w h =
             | inl marked ↦
                 let none : many key (plain es) w ≡ 0 = ap (λ (v : List ℕ). many key (plain es) v)
                 (sym (same_is (pick key e.tuple) w in_group)) ∙ last_first key e es h marked in
-                let bare : plain g ≡ [] = none_left (plain g)
+                let bare : plain g ≡ [] = nil_from_length (plain g)
                 (ap (λ (l : List Entry). length l) (plain_grp key es w)
                 ∙ length_grp key (plain es) w ∙ none) in
                 ap (λ (l : List Entry). e ∷ l) (r ∙ ap (λ (p : List Entry). p ++ marks g) bare)

@@ -22,8 +22,7 @@ use Rattle.std.proofs.Common.{
   inr,
   arith,
 }
-use Rattle.std.specs.Prelude.{⊤, ◌==◌, ◌&&◌, AllPairs, slice_index, slice_set, slice_index_or}
-use Rattle.std.specs.List.Sorted.{IsStrictlyIncreasing}
+use Rattle.std.specs.Prelude.{⊤, ◌==◌, ◌&&◌, slice_index, slice_set}
 use Rattle.std.proofs.lemmas.Bool.{
   cases_Bool,
   cases_eq,
@@ -36,12 +35,12 @@ use Rattle.std.proofs.lemmas.Bool.{
   or_parts,
 }
 use Rattle.std.proofs.lemmas.List.{length-set, length-map, get_or-set_same, get_or-set_other}
-use Rattle.std.proofs.lemmas.List.Kept.{AllPairs-from_increasing}
-use Rattle.djq_hyper.specs.Hypergraph.{member, subset}
+use Rattle.djq_hyper.specs.Hypergraph.{member}
 use Rattle.djq_index.specs.Tuple.{pick}
 use Rattle.djq_reduct.specs.Columns.{column, columns}
 use Rattle.djq_reduct.proofs.Placing.{column_within, column_here, column_on}
 use Rattle.djq_cursor.specs.Levels.{written}
+use Rattle.djq_reduct.proofs.Readings.{absent, cell_there, row_same, pick_itself}
 
 -- ---- labels
 
@@ -54,50 +53,11 @@ IsSimple (x ∷ l) = (member x l ≡ false) × IsSimple l
 abbrev pub Within : List ℕ → List ℕ → Type 0
 Within k l = (x : ℕ) → member x k ≡ true → member x l ≡ true
 
-pub within_of : (k l : List ℕ) → subset k l ≡ true → Within k l
-within_of [] l h x m = absurd (false≢true m)
-within_of (y ∷ k) l h x m =
-    let both = and_both (member y l) (subset k l) h in
-    elim (or_cases (x == y) (member x k) m) [
-      | inl here ↦ ap (λ (z : ℕ). member z l) (eqb-true x y here) ∙ both.0
-      | inr there ↦ within_of k l both.1 x there
-    ]
-  where
-    and_both : (a b : Bool) → (a && b) ≡ true → (a ≡ true) × (b ≡ true)
-    and_both true b h = (refl, h)
-    and_both false b h = absurd (false≢true h)
-
-above : (x y : ℕ) (l : List ℕ) → ((k d : ℕ) → k < length l → x < slice_index_or l k d)
-    → member y l ≡ true → x < y
-above x y [] h m = absurd (false≢true m)
-above x y (z ∷ l) h m =
-    elim (or_cases (y == z) (member y l) m) [
-      | inl here ↦ (let e = eqb-true y z here in let b : x < z = h 0 0 (omega arith) in omega arith)
-      | inr there ↦ above x y l (λ k d i. h (suc k) d (omega arith)) there
-    ]
-
-simple_pairs : (l : List ℕ) → AllPairs (λ x y. x < y) l → IsSimple l
-simple_pairs [] h = tt
-simple_pairs (x ∷ l) h = (
-  elim (cases_Bool (member x l)) [
-    | inl is ↦ absurd
-        (let b = above x x l (λ k d i. h 0 (suc k) d (omega arith) (omega arith)) is in omega arith)
-    | inr isnt ↦ isnt
-  ],
-  simple_pairs l (λ i j d a b. h (suc i) (suc j) d (omega arith) (omega arith)),
-)
-
-pub simple_of : (l : List ℕ) → IsStrictlyIncreasing l → IsSimple l
-simple_of l h = simple_pairs l (AllPairs-from_increasing l h)
-
 pub within_tail : (x : ℕ) (k l : List ℕ) → Within (x ∷ k) l → Within k l
 within_tail x k l h y m = h y (or_right (y == x) (member y k) m)
 
 pub within_head : (x : ℕ) (k l : List ℕ) → Within (x ∷ k) l → member x l ≡ true
 within_head x k l h = h x (or_left (x == x) (member x k) (eq-eqb x x refl))
-
-absent : (x y : ℕ) (l : List ℕ) → member x l ≡ false → member y l ≡ true → x ≡ y → ⊥
-absent x y l h m e = false≢true (sym h ∙ ap (λ (z : ℕ). member z l) e ∙ m)
 
 -- ---- a variable's column
 
@@ -125,26 +85,6 @@ column_same (z ∷ l) x y m e =
           ]
     ]
 
-map_there : (f : ℕ → ℕ) (l : List ℕ) (x : ℕ) → member x l ≡ true
-    → slice_index (map f l) (column l x) ≡ f x
-map_there f [] x m = absurd (false≢true m)
-map_there f (y ∷ l) x m =
-    elim (cases_eq y x) [
-      | inl here ↦ ap (λ (i : ℕ). slice_index (f y ∷ map f l) i) (column_here y l x here)
-          ∙ ap f here
-      | inr other ↦
-          let n : member x l ≡ true = elim (or_cases (x == y) (member x l) m)
-          [ inl k ↦ absurd (other (sym (eqb-true x y k))) | inr k ↦ k ] in
-          ap (λ (i : ℕ). slice_index (f y ∷ map f l) i) (column_on y l x other) ∙ map_there f l x n
-    ]
-
-pub map_same : (f g : ℕ → ℕ) (l : List ℕ) → ((x : ℕ) → member x l ≡ true → f x ≡ g x)
-    → map f l ≡ map g l
-map_same f g [] h = refl
-map_same f g (x ∷ l) h = ap₂ (λ (y : ℕ) (ys : List ℕ). y ∷ ys)
-    (h x (or_left (x == x) (member x l) (eq-eqb x x refl)))
-    (map_same f g l (λ y m. h y (or_right (y == x) (member y l) m)))
-
 -- ---- projections
 
 -- the cell of the variable x in a tuple over the label F
@@ -161,13 +101,13 @@ pick_is F l s = map_twice (λ c. slice_index s c) (λ x. column F x) l
 
 pub pick_same : (F G l s a : List ℕ) → ((x : ℕ) → member x l ≡ true → cell F s x ≡ cell G a x)
     → pick (columns F l) s ≡ pick (columns G l) a
-pick_same F G l s a h = pick_is F l s ∙ map_same (λ x. cell F s x) (λ x. cell G a x) l h
+pick_same F G l s a h = pick_is F l s ∙ row_same (λ x. cell F s x) (λ x. cell G a x) l h
     ∙ sym (pick_is G l a)
 
 pub cell_pick : (F l s : List ℕ) (x : ℕ) → member x l ≡ true
     → cell l (pick (columns F l) s) x ≡ cell F s x
 cell_pick F l s x m = ap (λ (u : List ℕ). slice_index u (column l x)) (pick_is F l s)
-    ∙ map_there (λ x. cell F s x) l x m
+    ∙ cell_there (λ x. cell F s x) l x m
 
 pub cells_same : (F G l s a : List ℕ) (x : ℕ) → pick (columns F l) s ≡ pick (columns G l) a
     → member x l ≡ true → cell F s x ≡ cell G a x
@@ -188,12 +128,9 @@ itself (x ∷ l) [] h e = absurd (omega arith)
 itself (x ∷ l) (c ∷ u) h e =
     ap₂ (λ (y : ℕ) (ys : List ℕ). y ∷ ys)
     (ap (λ (i : ℕ). slice_index (c ∷ u) i) (column_here x l x refl))
-    (map_same (λ y. cell (x ∷ l) (c ∷ u) y) (λ y. cell l u y) l
+    (row_same (λ y. cell (x ∷ l) (c ∷ u) y) (λ y. cell l u y) l
     (λ y m. ap (λ (i : ℕ). slice_index (c ∷ u) i) (column_on x l y (absent x y l h.0 m)))
     ∙ itself l u h.1 (omega arith))
-
-pub pick_itself : (l u : List ℕ) → IsSimple l → length u ≡ length l → pick (columns l l) u ≡ u
-pick_itself l u h e = pick_is l l u ∙ itself l u h e
 
 -- tuples with the same cells are the same
 pub tuple_same : (l u v : List ℕ) → IsSimple l → length u ≡ length l → length v ≡ length l

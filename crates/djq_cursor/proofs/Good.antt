@@ -41,7 +41,8 @@ use Rattle.djq_reduct.proofs.Family.{trim_law, meet_law}
 use Rattle.djq_reduct.proofs.Placing.{columns_none}
 use Rattle.djq_reduct.specs.Answers.{on_node}
 use Rattle.djq_cursor.specs.Walk.{AreAlike}
-use Rattle.djq_cursor.proofs.Columns.{Within, within_of, cell, cells_same, pick_same, pick_pick}
+use Rattle.djq_cursor.proofs.Columns.{Within, cell, cells_same, pick_same, pick_pick}
+use Rattle.djq_reduct.proofs.Readings.{within_of}
 use Rattle.djq_cursor.proofs.Outs.{root_or_parent}
 use Rattle.djq_cursor.proofs.Groups.{many_of, both_positive, product_positive}
 
@@ -93,14 +94,14 @@ trim_key r k c h within e =
     (let low = (h.family.is_tree.trim k c e).lower in key_is r c (label_at r.tree.labels k) h
     (omega arith) (key_of_trim r.tree k c h.family.is_tree e))
 
-meet_key : (r : Reducts) (k g d : ℕ) → IsReducts r → k < length r.tree.nodes
+pub meet_key : (r : Reducts) (k g d : ℕ) → IsReducts r → k < length r.tree.nodes
     → node_at r.tree.nodes k ≡ Meet g d
     → key_at r.tables g ≡ columns (label_at r.tree.labels g) (label_at r.tree.labels d)
 meet_key r k g d h within e =
     (let low = (h.family.is_tree.meet k g d e).guard_lower in key_is r g (label_at r.tree.labels d)
     h (omega arith) (key_of_guard r.tree k g d h.family.is_tree e))
 
-supp_cnt : (es : List Entry) (u : List ℕ) → 0 < supp es u → 0 < cnt es u
+pub supp_cnt : (es : List Entry) (u : List ℕ) → 0 < supp es u → 0 < cnt es u
 supp_cnt es u h = elim (cases_lt 0 (cnt es u))
     [ inl low ↦ low | inr high ↦ absurd (let z = supp_none es u (omega arith) in omega arith) ]
 

@@ -24,7 +24,7 @@ use Rattle.std.proofs.Common.{
   arith,
 }
 use Rattle.std.specs.Prelude.{flat_map}
-use Rattle.std.proofs.lemmas.Bool.{false≢true, le-leb, lt-leb, or_cases}
+use Rattle.std.proofs.lemmas.Bool.{false≢true, or_cases}
 use Rattle.std.proofs.lemmas.List.{length-replicate}
 use Rattle.djq_index.specs.Tuple.{same}
 use Rattle.djq_index.specs.Entries.{cnt}
@@ -32,7 +32,7 @@ use Rattle.djq_index.proofs.Tuples.{same_is}
 use Rattle.djq_tree.specs.declared.node.Node.{Node}
 use Rattle.djq_tree.specs.declared.node.Node.TheVariants.{Leaf, Trim, Meet}
 use Rattle.djq_tree.specs.Tree.{Tree, node_at}
-use Rattle.djq_tree.specs.Levels.{levels_below, level_on}
+use Rattle.djq_tree.specs.Levels.{levels_below}
 use Rattle.djq_tree.proofs.Keying.{child_within}
 use Rattle.djq_reduct.specs.Tables.{entries_at}
 use Rattle.djq_reduct.specs.Reducts.{Reducts, IsReducts}
@@ -45,6 +45,8 @@ use Rattle.djq_cursor.proofs.Walking.{branch, leaves_next}
 use Rattle.djq_cursor.proofs.Outs.{trim_level}
 use Rattle.djq_cursor.proofs.Good.{IsGood, alike_meet}
 use Rattle.djq_cursor.proofs.Stepping.{joins, alike_back, alike_tuple, alike_step, alike_same}
+use Rattle.djq_tree.proofs.Trimming.{no_levels}
+use Rattle.djq_reduct.proofs.Finding.{level_at}
 
 -- menus that lead to answers: which states are good, and which answers there are
 pub record IsGuide (r : Reducts) (menu : Menu) (Good : ℕ → List ℕ → Type 0)
@@ -77,15 +79,6 @@ pub record Lists (t : Tree) (menu : Menu) (Answer : List ℕ → Type 0) (k : �
     pub once : AreOnce (leaves t menu (levels_below t k) s)
     pub complete : (a : List ℕ) → Answer a → AreAlike t k s a
         → has (leaves t menu (levels_below t k) s) a ≡ true
-
-no_levels : (t : Tree) (k : ℕ) → k ≤ t.second_stage → levels_below t k ≡ []
-no_levels t zero low = refl
-no_levels t (suc k) low = rw (lt-leb t.second_stage k (omega arith)) refl
-
-level_step : (t : Tree) (k : ℕ) (n : Node) → t.second_stage ≤ k → node_at t.nodes k ≡ n
-    → levels_below t (suc k) ≡ level_on k n (levels_below t k)
-level_step t k n late e = rw (le-leb t.second_stage k late)
-    (ap (λ (m : Node). level_on k m (levels_below t k)) e)
 
 one_member : (s a : List ℕ) → has (s ∷ []) a ≡ true → s ≡ a
 one_member s a h = elim (or_cases (same s a) false h)
@@ -181,10 +174,10 @@ lists_kind r menu Good Answer k s (Leaf a) h g late within e good deeper =
     omega arith)
 lists_kind r menu Good Answer k s (Trim c) h g late within e good deeper =
     let l = trim_level r.tree k c e late within in
-    lists_trim r menu Good Answer k s h g l good (level_step r.tree k (Trim c) late e)
+    lists_trim r menu Good Answer k s h g l good (level_at r.tree k (Trim c) late e)
     (λ u on. deeper (step r.tree k s u) (g.chosen k s u l good on))
 lists_kind r menu Good Answer k s (Meet m d) h g late within e good deeper =
-    lists_meet r menu Answer k m d s h within e (level_step r.tree k (Meet m d) late e)
+    lists_meet r menu Answer k m d s h within e (level_at r.tree k (Meet m d) late e)
     (deeper s (g.meet k m d s late within e good))
 
 lists_at : (r : Reducts) (menu : Menu) (Good : ℕ → List ℕ → Type 0) (Answer : List ℕ → Type 0)

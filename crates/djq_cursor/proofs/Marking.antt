@@ -35,7 +35,7 @@ use Rattle.djq_reduct.specs.Tables.{entries_at, key_at}
 use Rattle.djq_reduct.specs.Reducts.{Reducts, IsReducts}
 use Rattle.djq_reduct.specs.Answers.{on_node, IsAnswerOf}
 use Rattle.djq_cursor.specs.Levels.{IsLevel, source, step}
-use Rattle.djq_cursor.proofs.Columns.{within_of}
+use Rattle.djq_reduct.proofs.Readings.{within_of}
 use Rattle.djq_cursor.proofs.Outs.{late_out, level_trim}
 use Rattle.djq_cursor.proofs.Groups.{many_of}
 use Rattle.djq_cursor.proofs.Good.{

@@ -36,7 +36,8 @@ use Rattle.djq_tree.specs.Tree.{Tree, IsTree, IsTop, node_at, has_child, parent,
 use Rattle.djq_tree.proofs.Climbing.{parent_above, rising_of}
 use Rattle.djq_tree.proofs.Keying.{child_within, trim_child}
 use Rattle.djq_cursor.specs.Levels.{IsLevel, child_of, source}
-use Rattle.djq_cursor.proofs.Columns.{IsSimple, Within, within_of, simple_of}
+use Rattle.djq_cursor.proofs.Columns.{IsSimple, Within}
+use Rattle.djq_reduct.proofs.Readings.{simple_of, within_of}
 
 -- a node is the root, or has a parent
 pub record Parent (t : Tree) (j : ℕ) : Type 0 where

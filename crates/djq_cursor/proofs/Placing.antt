@@ -45,6 +45,7 @@ use Rattle.djq_cursor.specs.Walk.{IsAlive, IsFirstAt, chosen}
 use Rattle.djq_cursor.specs.Given.{has_root}
 use Rattle.djq_cursor.proofs.Groups.{tuples, grp_nil, apart_head, apart_tail}
 use Rattle.djq_cursor.proofs.Tuples.{tuple_at_is, placed_in, chosen_at}
+use Rattle.djq_index.proofs.Headless.{nil_not}
 
 -- an entry stands in a list
 pub record Inside (es : List Entry) (e : Entry) : Type 0 where
@@ -55,10 +56,6 @@ pub record Inside (es : List Entry) (e : Entry) : Type 0 where
 pub further : (d : Entry) (es : List Entry) (e : Entry) → Inside es e → Inside (d ∷ es) e
 further d es e i =
     record { front = d ∷ i.front; back = i.back; is = ap (λ (l : List Entry). d ∷ l) i.is }
-
-nothing : (xs : List Entry) (e : Entry) (ys : List Entry) → [] ≡ xs ++ e ∷ ys → ⊥
-nothing [] e ys h = cc
-nothing (x ∷ xs) e ys h = cc
 
 inside_kept : (d : Entry) (es g xs : List Entry) (e : Entry) (ys : List Entry)
     → d ∷ g ≡ xs ++ e ∷ ys → ((zs : List Entry) → g ≡ zs ++ e ∷ ys → Inside es e)
@@ -74,7 +71,7 @@ inside_kept d es g (x ∷ xs) e ys h r = further d es e (r xs (cc))
 -- what stands in a group stands in the table
 pub inside_group : (key : List ℕ) (es : List Entry) (w : List ℕ) (xs : List Entry) (e : Entry)
     (ys : List Entry) → grp key es w ≡ xs ++ e ∷ ys → Inside es e
-inside_group key [] w xs e ys h = absurd (nothing xs e ys (sym (grp_nil key w) ∙ h))
+inside_group key [] w xs e ys h = absurd (nil_not xs e ys (sym (grp_nil key w) ∙ h))
 inside_group key (d ∷ es) w xs e ys h =
     elim (cases_Bool (same (pick key d.tuple) w)) [
       | inl here ↦ inside_kept d es (grp key es w) xs e ys (sym (grp_yes key d es w here) ∙ h)

@@ -24,20 +24,17 @@ use Rattle.std.proofs.Common.{
 use Rattle.std.specs.Prelude.{◌↔◌, nat_lt}
 use Rattle.std.proofs.lemmas.Bool.{cases_Bool, cases_eq, cases_lt, ltb-true, false≢true, and_parts}
 use Rattle.djq_index.specs.Tuple.{pick}
-use Rattle.djq_index.specs.Entries.{Entry, supp, cnt, many, marks, plain}
+use Rattle.djq_index.specs.Entries.{supp, cnt, many, marks, plain}
 use Rattle.djq_index.specs.Table.{Table}
 use Rattle.djq_index.proofs.Counts.{cnt_split}
 use Rattle.djq_index.proofs.Groups.{many_even}
-use Rattle.djq_index.proofs.Apart.{cnt_once, cnt_supp, supp_none}
+use Rattle.djq_index.proofs.Apart.{cnt_once, cnt_supp}
 use Rattle.djq_tree.specs.declared.node.Node.{Node}
 use Rattle.djq_tree.specs.declared.node.Node.TheVariants.{Leaf, Trim, Meet}
 use Rattle.djq_tree.specs.Tree.{Tree, IsTree, node_at, has_child, is_out}
-use Rattle.djq_tree.specs.Labels.{label_at}
 use Rattle.djq_tree.specs.Levels.{is_start}
-use Rattle.djq_tree.specs.Keys.{key_of}
 use Rattle.djq_tree.proofs.Climbing.{rising_of}
 use Rattle.djq_tree.proofs.Keying.{trim_child, guard_child, side_child}
-use Rattle.djq_reduct.specs.Columns.{columns}
 use Rattle.djq_reduct.specs.Tables.{entries_at, key_at}
 use Rattle.djq_reduct.specs.Reducts.{Reducts, IsReducts}
 use Rattle.djq_reduct.specs.Marks.{
@@ -49,10 +46,11 @@ use Rattle.djq_reduct.specs.Marks.{
   AreMarks,
   IsWithout,
 }
-use Rattle.djq_reduct.proofs.Family.{apart_at, trim_law, meet_law}
+use Rattle.djq_reduct.proofs.Family.{apart_at, trim_law, meet_law, key_agree}
 use Rattle.djq_cursor.specs.Changed.{IsMarkedAt, entry_node}
 use Rattle.djq_reduct.proofs.Paths.{path_low, child_off, off_below}
 use Rattle.djq_cursor.proofs.Paths.{start_off}
+use Rattle.djq_cursor.proofs.Good.{supp_cnt}
 
 -- how many marked tuples of the child j agree with a node's tuple w
 abbrev pub agreed : Node → ℕ → List Table → List ℕ → ℕ
@@ -102,13 +100,6 @@ abbrev IsPlain : Reducts → Reducts → ℕ → Type 0
 IsPlain big small k = (u : List ℕ) → cnt (entries_at small.tables k) u ≡ cnt
     (plain (entries_at big.tables k)) u
 
-supp_some : (es : List Entry) (u : List ℕ) → 0 < supp es u → 0 < cnt es u
-supp_some es u h =
-    elim (cases_lt 0 (cnt es u)) [
-      | inl some ↦ some
-      | inr none ↦ absurd (let z = supp_none es u (omega arith) in omega arith)
-    ]
-
 -- what stays by its supports
 by_supports : (big small : Reducts) (k : ℕ) (w : List ℕ) → IsReducts big → IsReducts small
     → (0 < supp (entries_at small.tables k) w → 0 < cnt (plain (entries_at big.tables k)) w)
@@ -124,7 +115,7 @@ by_supports big small k w hb hs stays comes =
       | inl some ↦ (let p = stays (cnt_supp es w (hs.family.supported k) some) in omega arith)
       | inr none ↦
           elim (cases_lt 0 (cnt ps w)) [
-            | inl some ↦ absurd (let p = supp_some es w (comes some) in omega arith)
+            | inl some ↦ absurd (let p = supp_cnt es w (comes some) in omega arith)
             | inr empty ↦ omega arith
           ]
     ]
@@ -135,14 +126,6 @@ off_plain : (r : Reducts) (a k : ℕ) (w : List ℕ) → AreMarks r.tree r.table
     → cnt (plain (entries_at r.tables k)) w ≡ cnt (entries_at r.tables k) w
 off_plain r a k w m off = (let z = m.path.off k off w in let s = cnt_split (entries_at r.tables k) w
     in omega arith)
-
-same_key : (big small : Reducts) (k : ℕ) → IsReducts big → IsReducts small
-    → small.tree ≡ big.tree → k < length big.tree.nodes
-    → key_at small.tables k ≡ key_at big.tables k
-same_key big small k hb hs e h =
-    (hs.family.keyed k (subst (λ (t : Tree). k < length t.nodes) (sym e) h)).key
-    ∙ ap (λ (t : Tree). columns (label_at t.labels k) (key_of t k)) e
-    ∙ sym (hb.family.keyed k h).key
 
 -- what the supports of a trim, and of a meet, are in the small reducts
 small_trim : (big small : Reducts) (k c : ℕ) (w : List ℕ) → IsReducts big → IsReducts small
@@ -157,7 +140,7 @@ small_trim big small k c w hb hs same within e below =
     trim_law (node_at small.tree.nodes k) c small.tables k
     (ap (λ (t : Tree). node_at t.nodes k) same ∙ e) (hs.reduced.at k (omega arith) inside) w
     ∙ ap (λ (ks : List ℕ). many ks (entries_at small.tables c) w)
-    (same_key big small c hb hs same (omega arith))
+    (key_agree big small c hb hs same (omega arith))
     ∙ many_even (key_at big.tables c) (entries_at small.tables c) (plain (entries_at big.tables c))
     below w
 
@@ -174,7 +157,7 @@ small_meet big small k g d w hb hs same within e guard side =
     (ap (λ (t : Tree). node_at t.nodes k) same ∙ e) (hs.reduced.at k (omega arith) inside) w
     ∙ ap₂ (λ (x y : ℕ). x * y) (guard w)
     (ap (λ (ks : List ℕ). cnt (entries_at small.tables d) (pick ks w))
-    (same_key big small g hb hs same (omega arith)) ∙ side (pick (key_at big.tables g) w))
+    (key_agree big small g hb hs same (omega arith)) ∙ side (pick (key_at big.tables g) w))
 
 -- at a node below the second stage the unmarked tuples are those that its children's make of it
 plain_trim : (n : Node) (c : ℕ) (ts : List Table) (k : ℕ) → n ≡ Trim c → ArePlainAt n ts k
@@ -224,7 +207,7 @@ trim_plain big small a k c hb hs m same early within e inner below w =
           let l = trim_law (node_at t.nodes k) c big.tables k e
           (hb.reduced.at k (omega arith) within) w in
           by_supports big small k w hb hs
-          (λ some. let q = supp_some (entries_at big.tables k) w (omega arith) in omega arith)
+          (λ some. let q = supp_cnt (entries_at big.tables k) w (omega arith) in omega arith)
           (λ some. let q = cnt_supp (entries_at big.tables k) w (hb.family.supported k)
           (omega arith) in omega arith)
     ]
@@ -252,7 +235,7 @@ meet_plain big small a k g d hb hs m same early within e inner guard side w =
           ∙ sym (meet_law (node_at t.nodes k) g d big.tables k e
           (hb.reduced.at k (omega arith) within) w) in
           by_supports big small k w hb hs
-          (λ some. let v = supp_some (entries_at big.tables k) w (omega arith) in omega arith)
+          (λ some. let v = supp_cnt (entries_at big.tables k) w (omega arith) in omega arith)
           (λ some. let v = cnt_supp (entries_at big.tables k) w (hb.family.supported k)
           (omega arith) in omega arith)
     ]

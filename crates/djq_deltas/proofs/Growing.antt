@@ -9,8 +9,7 @@ use Rattle.djq_model.specs.declared.relation.CountedRow.{CountedRow}
 use Rattle.djq_model.specs.declared.query.Query.{Query}
 use Rattle.djq_model.specs.declared.query.Atom.{Atom}
 use Rattle.djq_model.specs.Data.{Bytes, Tuple, bytes_eq, tuple_eq, relation_of, tuples_of}
-use Rattle.djq_model.specs.Data.{counted_in, counted_of, rows_of, without_row, with_row}
-use Rattle.djq_model.specs.Data.{without_copies}
+use Rattle.djq_model.specs.Data.{counted_in, counted_of, rows_of, without_row, with_row, without_copies}
 use Rattle.djq_model.specs.Answer.{IsAnswer}
 use Rattle.djq_model.specs.Equality.{bytes_eq-decides}
 use Rattle.djq_model.specs.Listed.{Listed, a_query, a_union, AnswersOf}
@@ -25,8 +24,7 @@ use Rattle.djq_machine.specs.Delta.{HasChanged}
 use Rattle.djq_machine.proofs.Copies.{relation_here, rows_apart, copies_rows}
 use Rattle.djq_model.specs.Known.{texts_in, all_learned}
 use Rattle.djq_deltas.specs.Growing.{HaveRows, AnswersStay, AnswersCome, AnswersGo, RowComes}
-use Rattle.djq_deltas.specs.Growing.{RowsCome, RowGoes, ChangesSpareOthers, BatchesSpareOthers}
-use Rattle.djq_deltas.specs.Growing.{AnswersRest}
+use Rattle.djq_deltas.specs.Growing.{RowsCome, RowGoes, ChangesSpareOthers, BatchesSpareOthers, AnswersRest}
 use Rattle.djq_deltas.proofs.Lists.{nothing_there, first_or_later, first_there, later_there, some_one, one_there}
 
 -- ---- answers over more rows
@@ -201,7 +199,7 @@ batch_spares st (h ∷ hs) n e =
         (other (bytes_eq n h.relation) refl none)
 
 -- a test that fails of all of a list fails of each
-none_any : {A : Type 0} (p : A → Bool) (xs : List A) → list_any p xs ≡ false → All (λ x. p x ≡ false) xs
+pub none_any : {A : Type 0} (p : A → Bool) (xs : List A) → list_any p xs ≡ false → All (λ x. p x ≡ false) xs
 none_any p [] e = All-nil (λ x. p x ≡ false)
 none_any p (x ∷ xs) e = let both = or_none (p x) (list_any p xs) e in
     All-cons (λ y. p y ≡ false) x xs both.0 (none_any p xs both.1)

@@ -2,7 +2,7 @@
 use Rattle.std.proofs.Common.{ℕ, List, ◌++◌, ◌+◌, ◌≡◌, ◌≤◌, Bool, true, false, refl, sym, ap, ap₂}
 use Rattle.std.proofs.Common.{◌∙◌, subst, length, arith}
 use Rattle.std.specs.Prelude.{◌&&◌, Option, Some, is_some, map, filter, sum_by, vec_capacity, All, Ok, ⊤}
-use Rattle.std.proofs.lemmas.Bool.{false≢true}
+use Rattle.std.proofs.lemmas.Bool.{false≢true, and_parts}
 use Rattle.djq_model.specs.declared.relation.Relation.{Relation}
 use Rattle.djq_model.specs.Data.{Bytes}
 use Rattle.djq_model.specs.Answer.{IsAnswer}
@@ -30,7 +30,7 @@ use Rattle.djq_engine.specs.Places.{query_in, queries_in}
 use Rattle.djq_engine.specs.Outdating.{AgesAll}
 use Rattle.djq_engine.specs.Watching.{TellsChange}
 use Rattle.djq_engine.specs.Whole.{kept_in, IsWhole, IsTended}
-use Rattle.djq_engine.proofs.Affecting.{outdated_places, place_outdated, AreFor, deltas_with, accepted_tells, both_true}
+use Rattle.djq_engine.proofs.Affecting.{outdated_places, place_outdated, AreFor, deltas_with, accepted_tells}
 use Rattle.djq_engine.proofs.Carrying.{stays_then}
 use Rattle.djq_engine.proofs.HeldRows.{all_queries}
 use Rattle.djq_engine.proofs.Listing.{filter_members, reader_filter}
@@ -97,7 +97,7 @@ module _ (old mid new : Parts) (s : IsWhole old) (t : IsTended old) (held : List
   affected_reached : (i : ℕ) → is_reader (outdated_places old.queries.items old.order change) i ≡ true
       → is_reader places i ≡ true
   affected_reached i e =
-      (both_true (is_reader old.order i) (is_reader places i)
+      (and_parts (is_reader old.order i) (is_reader places i)
       (sym (reader_filter (is_reader places) old.order i) ∙ ap (λ (xs : List ℕ). is_reader xs i) affected_are
       ∙ e)).1
 
@@ -205,7 +205,7 @@ module _ (old mid new : Parts) (s : IsWhole old) (t : IsTended old) (held : List
       by : (b : Bool) → (is_reader places i && watched_at old.watchers.items i) ≡ b
           → All (λ y. IsShowable (mid.catalog).texts l y.answer) (log_at mid.logs.items i).lines
       by true e =
-          let p = both_true (is_reader places i) (watched_at old.watchers.items i) e in
+          let p = and_parts (is_reader places i) (watched_at old.watchers.items i) e in
           (told_anew i l p.0 p.1 there).shown kept before mid.catalog tt (before_kept i l there) k.leads
       by false e =
           let same = log_kept i l there e in

@@ -4,7 +4,7 @@ use Rattle.std.proofs.Common.{ℕ, zero, suc, List, [], ◌∷◌, ◌+◌, ◌�
 use Rattle.std.proofs.Common.{false, refl, sym, ap, ◌∙◌, subst, arith}
 use Rattle.std.specs.Prelude.{◌==◌, ◌&&◌, ◌||◌, Option, None, Some, is_some, cond, map, filter}
 use Rattle.std.specs.Prelude.{sum_by, slice_index_or, All}
-use Rattle.std.proofs.lemmas.Bool.{eq-eqb, false≢true}
+use Rattle.std.proofs.lemmas.Bool.{eq-eqb, and_parts}
 use Rattle.std.proofs.lemmas.List.Sums.{sum_by-cons}
 use Rattle.djq_model.specs.declared.relation.Relation.{Relation}
 use Rattle.djq_model.specs.Data.{Bytes}
@@ -41,10 +41,6 @@ all_made P g (x ∷ xs) h (suc k) d l = all_made P g xs (λ i e. h i (step i (x 
     step : (i : ℕ) (b : Bool) → is_reader xs i ≡ true → (b || is_reader xs i) ≡ true
     step i true e = refl
     step i false e = e
-
-pub both_true : (a b : Bool) → (a && b) ≡ true → (a ≡ true) × (b ≡ true)
-both_true true b e = (refl, e)
-both_true false b e = absurd (false≢true e)
 
 -- ---- the deltas
 
@@ -98,7 +94,7 @@ module _ (c : Catalog) (gs : List (Option Live)) (order : List ℕ) (readers : L
       → IsDelta (IsAnswer c.relations l.query) (IsAnswer change.after l.query) (f i)
 
   reader_there : (i : ℕ) → is_reader places i ≡ true → There gs i
-  reader_there i e = live_there gs i (both_true (is_live gs i) _ (sym (place_is i) ∙ e)).0
+  reader_there i e = live_there gs i (and_parts (is_live gs i) _ (sym (place_is i) ∙ e)).0
 
   pub listed_with : (f : ℕ → List Change) → AreFor f
       → AreDeltas c.relations change (map (λ r. r.query) (affected_of (registered_in gs ws order) change))
@@ -110,7 +106,7 @@ module _ (c : Catalog) (gs : List (Option Live)) (order : List ℕ) (readers : L
         ∙ ap (map (λ (r : Registered). r.query)) (sym affected_here);
     are_deltas = all_made (λ d. IsDelta (AnswersOf c.relations d.query) (AnswersOf change.after d.query) d.changes)
         (delta_at f) watched (λ i e.
-        let b = both_true (is_reader places i) (watched_at ws i) (sym (reader_filter (watched_at ws) places i) ∙ e) in
+        let b = and_parts (is_reader places i) (watched_at ws i) (sym (reader_filter (watched_at ws) places i) ∙ e) in
         let t = reader_there i b.0 in
         subst (λ (o : Option Live). IsDelta (AnswersOf c.relations (query_in o)) (AnswersOf change.after (query_in o))
         (f i)) (sym t.is) (h i t.query b.0 b.1 t.is));
@@ -163,7 +159,7 @@ module _ (c : Catalog) (gs : List (Option Live)) (order : List ℕ) (readers : L
   logs_with f new h =
       subst (λ (rs : List Registered). LogsTell new rs (deltas_with f)) (sym affected_here)
       (over watched (λ i e. h i
-      (both_true (is_reader places i) (watched_at ws i) (sym (reader_filter (watched_at ws) places i) ∙ e)).0))
+      (and_parts (is_reader places i) (watched_at ws i) (sym (reader_filter (watched_at ws) places i) ∙ e)).0))
     where
       over : (xs : List ℕ) → ((i : ℕ) → is_reader xs i ≡ true → LogTells new (registered_as gs ws i) (delta_at f i))
           → LogsTell new (registered_in gs ws xs) (map (delta_at f) xs)

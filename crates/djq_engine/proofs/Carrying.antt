@@ -1,7 +1,7 @@
 -- The queries are carried over to a catalog with other rows or texts.
 use Rattle.std.proofs.Common.{ℕ, zero, suc, List, [], ◌∷◌, ◌++◌, ◌≡◌, ◌<◌, Bool, true, false, refl}
-use Rattle.std.proofs.Common.{sym, ap, ap₂, ◌∙◌, subst, length, length-set, set, arith}
-use Rattle.std.specs.Prelude.{◌==◌, ◌&&◌, Option, None, Some, IsSomeAnd, is_some, filter, cond, Contains}
+use Rattle.std.proofs.Common.{sym, ap, ap₂, ◌∙◌, subst, length, length-set, set}
+use Rattle.std.specs.Prelude.{◌==◌, ◌&&◌, Option, None, Some, IsSomeAnd, is_some, filter, cond}
 use Rattle.std.proofs.lemmas.Bool.{false≢true, eqb-true, eq-eqb}
 use Rattle.std.proofs.lemmas.List.{get_or-set_same, get_or-set_other, set-get_or}
 use Rattle.djq_model.specs.Data.{Bytes, Tuple, tuples_of, tuple_eq, has_row, with_row, without_copies}
@@ -11,26 +11,16 @@ use Rattle.djq_model.specs.declared.relation.CountedRow.{CountedRow}
 use Rattle.djq_machine.specs.Stale.{reads}
 use Rattle.djq_rows.specs.Catalog.{Catalog, no_relation, relation_at, counted_at, with_rows_at}
 use Rattle.djq_live.specs.Changes.{Came, Went}
-use Rattle.djq_live.specs.Live.{Live, IsKept, IsLive, SameQuery}
+use Rattle.djq_live.specs.Live.{Live, IsKept, IsLive}
 use Rattle.djq_live.specs.Staying.{StaysOver, CamePasses, WentPasses}
-use Rattle.djq_live.proofs.Members.{in_rest}
 use Rattle.djq_reach.specs.Places.{place_at, is_reader, readers_at, reads_place, AreOnce}
 use Rattle.djq_engine.specs.Places.{is_live}
 use Rattle.djq_engine.specs.Sound.{IsSound}
 use Rattle.djq_reach.specs.Reaching.{DoneAt, Reach, AllAt, TakesIn, LetsOut, GivesBack, Renews, Carries}
 use Rattle.djq_engine.proofs.Listing.{reader_filter, once_filter}
+use Rattle.djq_reach.proofs.Reaching.{same_refl}
 
 -- ---- rows
-
-pub has_contains : (rows : List Tuple) (row : Tuple) → has_row rows row ≡ true → Contains rows row
-has_contains [] row e = absurd cc
-has_contains (r ∷ rs) row e = by_test (tuple_eq r row) refl e (has_contains rs row)
-  where
-    by_test : (b : Bool) → tuple_eq r row ≡ b → cond b true (has_row rs row) ≡ true
-        → (has_row rs row ≡ true → Contains rs row) → Contains (r ∷ rs) row
-    by_test true f h more = subst (λ (x : Tuple). Contains (r ∷ rs) x) ((tuple_eq-decides r row).0 f)
-        (0, omega arith, refl)
-    by_test false f h more = in_rest r row rs (more h)
 
 pub without_last : (rows : List CountedRow) (row : Tuple) → has_row (tuples_of rows) row ≡ false
     → without_copies (with_row rows row) row ≡ rows
@@ -158,9 +148,6 @@ reach_idle E ps gs f = record {
     by_place i true None e = tt
     by_place i true (Some l) e = f i l e
 
-same_itself : (l : Live) → SameQuery l l
-same_itself l = record { query = refl; numbered = refl; patterns = refl; tree = refl; cursors = refl }
-
 pub stays_itself : (c : Catalog) (l : Live) → IsLive c l → StaysOver c c l
 stays_itself c l live = record { live = live; stands = λ k p e. refl }
 
@@ -202,7 +189,7 @@ module _ (c d : Catalog) (gs hs : List (Option Live)) (order : List ℕ) (reader
 pub idle_carries : (c d : Catalog) (gs : List (Option Live)) (ps : List ℕ)
     → ((i : ℕ) (l : Live) → place_at gs i ≡ Some l → StaysOver c d l) → Carries ps c gs d gs
 idle_carries c d gs ps stay = record {
-  reach = reach_idle (Renews d) ps gs (λ i l e. record { kept = (stay i l e).live.kept; same = same_itself l });
+  reach = reach_idle (Renews d) ps gs (λ i l e. record { kept = (stay i l e).live.kept; same = same_refl l });
   stay = λ i l e f. stay i l e;
 }
 

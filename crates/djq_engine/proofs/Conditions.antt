@@ -69,14 +69,6 @@ pub first_false : (b : Bool) (r : Refusal) (cs : List (Bool × Refusal)) → fir
 first_false true r cs e = absurd cc
 first_false false r cs e = (refl, e)
 
-pub both_true : (b c : Bool) → (b && c) ≡ true → (b ≡ true) × (c ≡ true)
-both_true true c e = (refl, e)
-both_true false c e = absurd cc
-
-pub not_false : (b : Bool) → not b ≡ false → b ≡ true
-not_false true e = refl
-not_false false e = absurd cc
-
 pub not_true : (b : Bool) → not b ≡ true → b ≡ false
 not_true true e = absurd cc
 not_true false e = refl

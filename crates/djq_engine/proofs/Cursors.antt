@@ -13,11 +13,10 @@ use Rattle.djq_machine.specs.State.{Position, open_at, stale}
 use Rattle.djq_machine.specs.Store.{answer_steps}
 use Rattle.djq_reduct.specs.Answers.{IsAnswerOf}
 use Rattle.djq_rows.specs.Catalog.{Catalog}
-use Rattle.djq_live.specs.Cursors.{Progress}
+use Rattle.djq_live.specs.Cursors.{Progress, slot_at}
 use Rattle.djq_slots.specs.declared.progress.Progress.TheVariants.{Open, Stale}
 use Rattle.djq_live.specs.declared.listing.Next.{Next}
 use Rattle.djq_live.specs.declared.listing.Next.TheVariants.{Given, End, Stale as StaleNext}
-use Rattle.djq_live.specs.Cursors.{slot_at}
 use Rattle.djq_live.specs.Live.{Live, IsLive, position_of, values_of}
 use Rattle.djq_live.specs.Reading as live
 use Rattle.djq_engine.specs.declared.cursor.CursorId.{CursorId}
@@ -96,7 +95,7 @@ pub some_slot : (slots : List (Option Progress)) (k : ℕ) (p : Progress) → sl
     → IsSome (slot_at slots k)
 some_slot slots k p e = subst (λ (o : Option Progress). IsSome o) (sym e) refl
 
-same_live : (x y : Live) (o : Option Live) → o ≡ Some x → o ≡ Some y → x ≡ y
+pub same_live : (x y : Live) (o : Option Live) → o ≡ Some x → o ≡ Some y → x ≡ y
 same_live x y o e f = cc
 
 module _ (c : Catalog) (gs : List (Option Live)) (order : List ℕ) (readers : List (List ℕ)) (seq : ℕ) (w : Watches)

@@ -41,7 +41,7 @@ here : (x : ℕ) (xs : List ℕ) → is_reader (x ∷ xs) x ≡ true
 here x xs = ap (λ b. b || is_reader xs x) (eq-eqb x x refl)
 
 -- the first place that passes a test that no other passes
-find_place : (p : ℕ → Bool) (xs : List ℕ) (i : ℕ) → is_reader xs i ≡ true → p i ≡ true
+pub find_place : (p : ℕ → Bool) (xs : List ℕ) (i : ℕ) → is_reader xs i ≡ true → p i ≡ true
     → ((j : ℕ) → is_reader xs j ≡ true → p j ≡ true → j ≡ i) → find p xs ≡ Some i
 find_place p [] i there passes alone = absurd cc
 find_place p (x ∷ xs) i there passes alone =
@@ -55,7 +55,7 @@ find_place p (x ∷ xs) i there passes alone =
         by_place true s h = absurd (false≢true (sym e ∙ ap p (eqb-true x i s) ∙ passes))
         by_place false s h = h
 
-no_place : (p : ℕ → Bool) (xs : List ℕ) → ((j : ℕ) → is_reader xs j ≡ true → p j ≡ false) → find p xs ≡ None
+pub no_place : (p : ℕ → Bool) (xs : List ℕ) → ((j : ℕ) → is_reader xs j ≡ true → p j ≡ false) → find p xs ≡ None
 no_place p [] h = refl
 no_place p (x ∷ xs) h = ap (λ b. cond b (Some x) (find p xs)) (h x (here x xs))
     ∙ no_place p xs (λ j e. h j (behind x xs j e))

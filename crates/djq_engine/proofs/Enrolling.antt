@@ -13,8 +13,7 @@ use Rattle.djq_model.specs.Equality.{bytes_eq-decides}
 use Rattle.djq_lines.specs.declared.limits.TheConstants.{QUERIES}
 use Rattle.djq_machine.specs.Stale.{reads}
 use Rattle.djq_rows.specs.Catalog.{Catalog, relation_at}
-use Rattle.djq_live.specs.Cursors.{Progress}
-use Rattle.djq_live.specs.Cursors.{slot_at, are_vacant}
+use Rattle.djq_live.specs.Cursors.{Progress, slot_at, are_vacant}
 use Rattle.djq_live.specs.Live.{Live, IsLive}
 use Rattle.djq_engine.specs.Kept.{SameCursors}
 use Rattle.djq_reach.specs.Places.{place_at, is_reader, readers_at, reads_place, AreOnce}
@@ -22,11 +21,13 @@ use Rattle.djq_engine.specs.Places.{is_live, query_in, queries_in, held_as, held
 use Rattle.djq_engine.specs.Sound.{IsSound}
 use Rattle.djq_engine.specs.Placing.{SamePlaces, SameLists, LeavesAll, JoinsReaders, JoinsSome, AllOnce}
 use Rattle.djq_engine.proofs.Holding.{held_is, slot_none}
-use Rattle.djq_reach.proofs.Among.{apart, reader_more, or_true, or_false}
+use Rattle.djq_reach.proofs.Among.{apart, reader_more, or_true}
+use Rattle.djq_deltas.proofs.Cases.{or_false}
 use Rattle.djq_engine.proofs.Listing.{reader_filter, once_filter, once_push, filter_members}
-use Rattle.djq_engine.proofs.Listing.{map_members, all_but, drop_listed, filter_twice}
+use Rattle.djq_engine.proofs.Listing.{map_members, all_but, drop_listed, filter_twice, both_false}
 use Rattle.djq_engine.proofs.Naming.{query_there}
 use Rattle.djq_reach.proofs.Reaching.{everywhere, place_below}
+use Rattle.djq_engine.proofs.Reporting.{filter_few}
 
 same_some : (x y : Live) → Some x ≡ Some y → x ≡ y
 same_some x y f = cc
@@ -136,19 +137,6 @@ module _ (c : Catalog) (gs hs : List (Option Live)) (order order' : List ℕ) (r
 
 -- ---- a query less
 
-filter_short : (p : ℕ → Bool) (xs : List ℕ) → length (filter p xs) ≤ length xs
-filter_short p [] = omega arith
-filter_short p (x ∷ xs) = step (p x) (filter_short p xs)
-  where
-    step : (b : Bool) → length (filter p xs) ≤ length xs
-        → length (cond b (x ∷ filter p xs) (filter p xs)) ≤ suc (length xs)
-    step true h = omega (arith, h)
-    step false h = omega (arith, h)
-
-none_and : (b : Bool) → (b && false) ≡ false
-none_and true = refl
-none_and false = refl
-
 all_and : (b : Bool) → (b && true) ≡ b
 all_and true = refl
 all_and false = refl
@@ -178,7 +166,7 @@ module _ (c : Catalog) (gs hs : List (Option Live)) (order order' : List ℕ) (r
     where
       by_place : (i : ℕ) → (is_reader order i && not (i == at)) ≡ is_live hs i
       by_place = everywhere (λ i. (is_reader order i && not (i == at)) ≡ is_live hs i) at
-          (ap (λ b. is_reader order at && not b) (eq-eqb at at refl) ∙ none_and (is_reader order at)
+          (ap (λ b. is_reader order at && not b) (eq-eqb at at refl) ∙ both_false (is_reader order at)
           ∙ sym (ap is_some gone))
           (λ i d. ap (λ b. is_reader order i && not b) (apart i at d) ∙ all_and (is_reader order i) ∙ s.listed i
           ∙ sym (ap is_some (others i d)))
@@ -192,7 +180,7 @@ module _ (c : Catalog) (gs hs : List (Option Live)) (order order' : List ℕ) (r
     named = λ i j x y e f n. s.named i j x y (still i x e) (still j y f) n;
     listed = listed_left;
     once = once_filter (λ j. not (j == at)) order s.once;
-    few = omega (arith, s.few, filter_short (λ j. not (j == at)) order);
+    few = omega (arith, s.few, filter_few (λ j. not (j == at)) order);
     bounded = omega (arith, s.bounded, ap (λ (xs : List (Option Live)). length xs) is, length-set gs at None);
     long = leaves.long ∙ s.long;
     reading = λ r low. leaves.each r ∙ ap (left at) (s.reading r low)
@@ -290,7 +278,7 @@ lists_without c gs order readers place s vacant r = by_length (cases_lt r (lengt
         ap (λ xs. is_reader xs place) (s.reading r low)
         ∙ reader_filter (λ i. reads_place (relation_at c.relations r).name (place_at gs i)) order place
         ∙ ap (λ b. is_reader order place && b) (ap (reads_place (relation_at c.relations r).name) vacant)
-        ∙ none_and (is_reader order place)
+        ∙ both_false (is_reader order place)
     by_length (inr high) = ap (λ xs. is_reader xs place) (get_or_past readers r [] (omega (arith, high, s.long)))
 
 left_pushed : (xs : List ℕ) (i : ℕ) → is_reader xs i ≡ false → left i (xs ++ i ∷ []) ≡ xs

@@ -3,8 +3,7 @@
 use Rattle.std.proofs.Common.{ℕ, zero, suc, List, [], ◌∷◌, ◌+◌, ◌≡◌, ◌≤◌, Bool, true, false, refl}
 use Rattle.std.proofs.Common.{sym, ap, ap₂, ◌∙◌, subst, length, arith}
 use Rattle.std.specs.Prelude.{◌&&◌, ◌||◌, Option, None, Some, is_some, IsSome, IsSomeAnd, cond, filter, sum_by, All, Ok}
-use Rattle.std.proofs.lemmas.Bool.{false≢true}
-use Rattle.std.proofs.lemmas.Bool.{eq-eqb}
+use Rattle.std.proofs.lemmas.Bool.{false≢true, eq-eqb, and_parts}
 use Rattle.std.proofs.lemmas.List.Sums.{sum_by-cons}
 use Rattle.std.proofs.lemmas.Nat.{mul-le}
 use Rattle.djq_model.specs.declared.query.Query.{Query}
@@ -30,7 +29,7 @@ use Rattle.djq_engine.specs.declared.parts.Parts.{Parts}
 use Rattle.djq_engine.specs.Places.{query_in, is_live}
 use Rattle.djq_engine.specs.Putting.{PutsAll}
 use Rattle.djq_engine.specs.Whole.{kept_in, IsWhole}
-use Rattle.djq_engine.proofs.Affecting.{outdated_places, place_is, AreFor, deltas_with, steps_by, both_true}
+use Rattle.djq_engine.proofs.Affecting.{outdated_places, place_is, AreFor, deltas_with, steps_by}
 use Rattle.djq_engine.proofs.GivenUp.{sound_readers}
 use Rattle.djq_engine.proofs.Listing.{behind}
 use Rattle.djq_engine.proofs.Naming.{There, live_there}
@@ -187,6 +186,6 @@ module _ (old : Parts) (s : IsWhole old) (held : List HeldRow) (before now : Cat
         (batch_cost_at old.watchers.items old.queries.items (relations_of groups) f) f
         (λ i e w. ap (λ b. cond b (batch_cost (relations_of groups) (f i) (place_at old.queries.items i)) 0) w)
         (λ i e w. cost_some f i
-        (live_there old.queries.items i (both_true (is_live old.queries.items i) _ (sym (outdated_is i) ∙ e)).0) w)
+        (live_there old.queries.items i (and_parts (is_live old.queries.items i) _ (sym (outdated_is i) ∙ e)).0) w)
         in
         omega (arith, total, smaller, steps)

@@ -10,6 +10,7 @@ use Rattle.std.proofs.lemmas.List.Folds.{find_at}
 use Rattle.std.proofs.lemmas.List.Quantifiers.{position-Some}
 use Rattle.djq_model.specs.Data.{change_first}
 use Rattle.djq_engine.specs.Finding.{IsFirst}
+use Rattle.djq_query.proofs.Numbers.{number_none}
 
 -- what a search gives
 
@@ -21,15 +22,11 @@ first_of_position p (x ∷ xs) i e = record {
   before = λ k d l. (position-Some p (x ∷ xs) i d e).2 k l;
 }
 
-none_below : (b : Bool) (n : ℕ) → cond b (Some n) None ≡ None → b ≡ false
-none_below true n e = absurd cc
-none_below false n e = refl
-
 pub none_of_position : {A : Type 0} (p : A → Bool) (xs : List A) → position p xs ≡ None → find p xs ≡ None
 none_of_position p xs e =
     find_at p xs ∙ slice_get_past xs (position_or_len p xs)
     (ltb-false (position_or_len p xs) (length xs)
-    (none_below (nat_lt (position_or_len p xs) (length xs)) (position_or_len p xs) e))
+    (number_none (nat_lt (position_or_len p xs) (length xs)) (position_or_len p xs) e))
 
 -- a first one, and look-ups
 

@@ -3,7 +3,7 @@ use Rattle.std.proofs.Common.{ℕ, zero, suc, List, [], ◌∷◌, ◌++◌, ◌
 use Rattle.std.proofs.Common.{refl, sym, ap, ◌∙◌, subst, length, take, drop, arith}
 use Rattle.std.specs.Prelude.{◌&&◌, ◌||◌, ◌==◌, not, cond, Option, None, Some, find, map}
 use Rattle.std.specs.List.{list_any}
-use Rattle.std.proofs.lemmas.Bool.{eqb-true, false≢true}
+use Rattle.std.proofs.lemmas.Bool.{eqb-true, false≢true, and_parts}
 use Rattle.std.proofs.lemmas.List.{map-append, take-append-drop}
 use Rattle.djq_model.specs.declared.relation.Relation.{Relation}
 use Rattle.djq_model.specs.Data.{Bytes, bytes_eq, has_row}
@@ -23,10 +23,6 @@ use Rattle.djq_engine.specs.Putting.{PutsAll, PutsOne, ComeFirst}
 use Rattle.djq_engine.proofs.HeldRows.{come_more, there_here}
 
 -- ---- one row more
-
-both_true : (b c : Bool) → (b && c) ≡ true → (b ≡ true) × (c ≡ true)
-both_true true c e = (refl, e)
-both_true false c e = absurd (false≢true e)
 
 -- where there are no more groups behind it, a row of the same relation came before
 module _ (st : Store) (xs : List HeldRow) (c : Catalog) (count : ℕ) (groups : List Group)
@@ -130,7 +126,7 @@ module _ (st : Store) (held : List HeldRow) (first : ℕ) (c : ComeFirst st held
   same_read q =
       sym (find_front passes names (map (λ (h : HeldRow). h.relation) (drop first held))
       (λ name e. came_passes st (take first held) passes name e
-      (c name (both_true (has_come st held name) (listed_reads q name) e).0)))
+      (c name (and_parts (has_come st held name) (listed_reads q name) e).0)))
       ∙ ap (find passes) (sym (map-append (λ (h : HeldRow). h.relation) (take first held) (drop first held))
       ∙ ap (map (λ (h : HeldRow). h.relation)) (take-append-drop first held))
     where

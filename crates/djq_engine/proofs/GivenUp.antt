@@ -2,7 +2,7 @@
 use Rattle.std.proofs.Common.{ℕ, List, [], ◌∷◌, ◌++◌, ◌+◌, ◌≡◌, ◌<◌, ◌≤◌, ◌⊎◌, inl, inr, Bool, true}
 use Rattle.std.proofs.Common.{false, refl, sym, ap, ap₂, ◌∙◌, subst, length, get_or, arith}
 use Rattle.std.specs.Prelude.{◌&&◌, Option, None, Some, is_some, IsSome, sum_by, All}
-use Rattle.std.proofs.lemmas.Bool.{cases_lt, false≢true}
+use Rattle.std.proofs.lemmas.Bool.{cases_lt, false≢true, and_parts}
 use Rattle.std.proofs.lemmas.List.{get_or_past}
 use Rattle.std.specs.List.{list_any}
 use Rattle.djq_model.specs.declared.query.Query.{Query}
@@ -29,7 +29,7 @@ use Rattle.djq_reach.specs.Tending.{AreShown}
 use Rattle.djq_reach.proofs.Reaching.{place_below}
 use Rattle.djq_reach.proofs.Tending.{all_none}
 use Rattle.djq_engine.specs.declared.parts.Parts.{Parts}
-use Rattle.djq_engine.specs.Kept.{Outdates}
+use Rattle.djq_engine.specs.Kept.{Outdates, SameShape, is_tried}
 use Rattle.djq_engine.specs.Places.{is_live, query_in, queries_in}
 use Rattle.djq_engine.specs.Sound.{IsSound}
 use Rattle.djq_engine.specs.Changing.{KeepsRest, KeepsLogs}
@@ -37,8 +37,7 @@ use Rattle.djq_engine.specs.Outdating.{AreReaders, AgesAll, GivesUp, reads_held}
 use Rattle.djq_engine.specs.Watching.{TellsChange}
 use Rattle.djq_engine.specs.Whole.{kept_in, IsWhole, IsTended}
 use Rattle.djq_engine.proofs.Adding.{names_kept}
-use Rattle.djq_engine.proofs.Affecting.{outdated_places, place_is, both_true, AreFor, deltas_with}
-use Rattle.djq_engine.proofs.Affecting.{Discards, refused_tells}
+use Rattle.djq_engine.proofs.Affecting.{outdated_places, place_is, AreFor, deltas_with, Discards, refused_tells}
 use Rattle.djq_engine.proofs.Carrying.{readers_once, reader_is}
 use Rattle.djq_engine.proofs.Naming.{There, live_there}
 use Rattle.djq_engine.proofs.Outdated.{reads_first}
@@ -46,7 +45,6 @@ use Rattle.djq_engine.proofs.Reporting.{affected_same, told_stay}
 use Rattle.djq_engine.proofs.Judged.{suited_none}
 use Rattle.djq_engine.proofs.Tending.{showable_alike, shown_more}
 use Rattle.djq_engine.proofs.Turned.{Turned, alike_then, whole_then, queries_then, cursors_then, registered_then}
-use Rattle.djq_engine.specs.Kept.{SameShape, is_tried}
 use Rattle.djq_engine.proofs.Placed.{KeepsIn, keeps_turned}
 use Rattle.djq_engine.proofs.Told.{AlikeAt, AreAlike, told_is, told_empty}
 
@@ -78,7 +76,7 @@ readers_logged p s t r i e = by_length (cases_lt r (length (p.catalog).relations
     by_length : (r < length (p.catalog).relations) ⊎ (length (p.catalog).relations ≤ r) → i < length p.logs.items
     by_length (inl low) =
         let there = live_there p.queries.items i
-        (both_true (is_live p.queries.items i) _
+        (and_parts (is_live p.queries.items i) _
         (sym (reader_is p.catalog p.queries.items p.order p.readers.items s r low i) ∙ e)).0 in
         let below = place_below p.queries.items i there.query there.is in
         omega (arith, below, t.logged)
@@ -246,7 +244,7 @@ module _ (old mid new : Parts) (s : IsWhole old) (t : IsTended old) (held : List
     discards : Discards old (is_reader (outdated_places old.queries.items old.order change)) new
     discards = record {
       emptied = λ i e.
-          let b = both_true (is_live old.queries.items i) _ (sym (outdated_is i) ∙ e) in
+          let b = and_parts (is_live old.queries.items i) _ (sym (outdated_is i) ∙ e) in
           let x = live_there old.queries.items i b.0 in
           told_is (new.catalog).texts new.queries.items new.logs.items i
           ∙ told_empty (new.catalog).texts x.query (place_at new.queries.items i)

@@ -7,8 +7,7 @@ use Rattle.djq_model.specs.declared.relation.Relation.{Relation}
 use Rattle.djq_model.specs.declared.relation.CountedRow.{CountedRow}
 use Rattle.djq_model.specs.declared.relation.ColumnType.{ColumnType}
 use Rattle.djq_model.specs.Data.{Bytes, Tuple, bytes_eq, change_first, relation_of, counted_in}
-use Rattle.djq_model.specs.Data.{counted_of, tuples_of, has_row, copies_among, with_row}
-use Rattle.djq_model.specs.Data.{with_copies}
+use Rattle.djq_model.specs.Data.{counted_of, tuples_of, has_row, copies_among, with_row, with_copies}
 use Rattle.djq_model.specs.Known.{texts_in, all_learned}
 use Rattle.djq_model.specs.Typed.{fits}
 use Rattle.djq_lines.specs.Columns.{types_of}
@@ -185,7 +184,7 @@ all_queries st (x ∷ xs) = all_queries (with_held st x) xs ∙ held_queries st 
 
 -- ---- what suits a relation suits it still
 
-refusal_by : Option Relation → Tuple → Option Refusal
+pub refusal_by : Option Relation → Tuple → Option Refusal
 refusal_by o row =
     first_of ((is_none o, NoRelation) ∷ (not (length row == length (types_of o)), Arity) ∷
     (not (fits (types_of o) row), WrongType) ∷ [])

@@ -1,26 +1,18 @@
 -- A cursor is found among all by the place of its query and its slot.
-use Rattle.std.proofs.Common.{ℕ, zero, suc, List, [], ◌∷◌, ◌+◌, ◌≡◌, ◌<◌, Bool, true, false, refl, ap, ap₂, ◌∙◌, arith}
+use Rattle.std.proofs.Common.{ℕ, zero, suc, List, [], ◌∷◌, ◌+◌, ◌≡◌, ◌<◌, refl, ap, ap₂, ◌∙◌, arith}
 use Rattle.std.specs.Prelude.{◌==◌, ◌&&◌, Option, None, Some, option_map, cond}
 use Rattle.std.specs.Option.{option_or}
-use Rattle.std.proofs.lemmas.Bool.{eq-eqb}
+use Rattle.std.proofs.lemmas.Bool.{eq-eqb, and_right, and_from}
 use Rattle.std.proofs.lemmas.List.Folds.{find-append}
 use Rattle.djq_model.specs.Data.{Bytes}
-use Rattle.djq_live.specs.Cursors.{Progress}
-use Rattle.djq_live.specs.Cursors.{slot_at}
+use Rattle.djq_live.specs.Cursors.{Progress, slot_at}
 use Rattle.djq_live.specs.Live.{Live}
 use Rattle.djq_engine.specs.declared.cursor.CursorId.{CursorId}
 use Rattle.djq_engine.specs.Kept.{same_id, held_at}
 use Rattle.djq_reach.specs.Places.{place_at}
 use Rattle.djq_engine.specs.Places.{held_as, held_in, held_from, held_of}
 use Rattle.djq_reach.proofs.Among.{apart}
-
-and_false : (b c : Bool) → c ≡ false → (b && c) ≡ false
-and_false true c e = e
-and_false false c e = refl
-
-both : (b c : Bool) → b ≡ true → c ≡ true → (b && c) ≡ true
-both true c e f = f
-both false c e f = absurd cc
+use Rattle.djq_deltas.proofs.Cases.{or_none}
 
 -- the slots of one query
 
@@ -42,7 +34,7 @@ slots_passed texts l at k (None ∷ slots) id low = slots_passed texts l at (suc
 slots_passed texts l at k (Some c ∷ slots) id low =
     ap (λ b. cond b (Some (held_as texts l (record { query = record { at = at }; cursor = k }) c))
     (held_at (held_in texts l at (suc k) slots) id))
-    (and_false (at == id.query.at) (k == id.cursor) (apart k id.cursor (λ e. omega arith)))
+    (and_right (at == id.query.at) (k == id.cursor) (apart k id.cursor (λ e. omega arith)))
     ∙ slots_passed texts l at (suc k) slots id (omega arith)
 
 slots_here : (texts : List Bytes) (l : Live) (at k j : ℕ) (slots : List (Option Progress)) (id : CursorId) → at
@@ -56,12 +48,12 @@ slots_here texts l at k zero (Some c ∷ slots) id e f =
     let k_is : k ≡ id.cursor = omega arith in
     ap (λ b. cond b (Some (held_as texts l (record { query = record { at = at }; cursor = k }) c))
     (held_at (held_in texts l at (suc k) slots) id))
-    (both (at == id.query.at) (k == id.cursor) (eq-eqb at id.query.at e) (eq-eqb k id.cursor k_is))
+    (and_from (at == id.query.at) (k == id.cursor) (eq-eqb at id.query.at e) (eq-eqb k id.cursor k_is))
     ∙ ap₂ (λ (a : ℕ) (s : ℕ). Some (held_as texts l (record { query = record { at = a }; cursor = s }) c)) e k_is
 slots_here texts l at k (suc j) (Some c ∷ slots) id e f =
     ap (λ b. cond b (Some (held_as texts l (record { query = record { at = at }; cursor = k }) c))
     (held_at (held_in texts l at (suc k) slots) id))
-    (and_false (at == id.query.at) (k == id.cursor) (apart k id.cursor (λ s. omega arith)))
+    (and_right (at == id.query.at) (k == id.cursor) (apart k id.cursor (λ s. omega arith)))
     ∙ slots_here texts l at (suc k) j slots id e (omega arith)
 
 -- all queries
@@ -78,10 +70,6 @@ queries_passed texts at (Some l ∷ gs) id low =
 pub slot_none : (k : ℕ) → ◌≡◌ {A = Option Progress} (slot_at [] k) None
 slot_none zero = refl
 slot_none (suc k) = refl
-
-or_none : {A : Type 0} (o : Option A) → option_or o None ≡ o
-or_none None = refl
-or_none (Some a) = refl
 
 queries_here : (texts : List Bytes) (at j : ℕ) (gs : List (Option Live)) (id : CursorId) → at + j ≡ id.query.at
     → held_at (held_from texts at gs) id ≡ held_of texts id (place_at gs j)

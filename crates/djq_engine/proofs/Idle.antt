@@ -1,17 +1,17 @@
 -- Queries that no cursor is over: a change makes nothing stale there.
 use Rattle.std.proofs.Common.{ℕ, List, [], ◌∷◌, ◌≡◌, Bool, true, false, refl, sym, ap, ◌∙◌, arith}
-use Rattle.std.specs.Prelude.{◌==◌, ◌||◌, not, Option, None, Some, is_some, count_by, cond}
+use Rattle.std.specs.Prelude.{◌==◌, ◌||◌, Option, None, Some, is_some, count_by, cond}
 use Rattle.std.specs.List.{list_any}
 use Rattle.std.proofs.lemmas.Bool.{eqb-true}
 use Rattle.std.proofs.lemmas.List.Sums.{sum_by-cons}
 use Rattle.djq_model.specs.Data.{Bytes}
-use Rattle.djq_live.specs.Cursors.{Progress}
-use Rattle.djq_live.specs.Cursors.{are_vacant, outdated_slots}
+use Rattle.djq_live.specs.Cursors.{Progress, are_vacant, outdated_slots}
 use Rattle.djq_live.specs.Live.{Live}
 use Rattle.djq_reach.specs.Places.{place_at, is_reader}
 use Rattle.djq_reach.specs.Reaching.{DoneAt, Reach, Ages}
 use Rattle.djq_engine.specs.Cursors.{has_cursor}
 use Rattle.djq_engine.proofs.Enrolling.{all_empty}
+use Rattle.djq_deltas.proofs.Cases.{not_false}
 
 -- slots without a cursor are as they were
 none_outdated : (name : Bytes) (n : ℕ) (slots : List (Option Progress)) → count_by is_some slots ≡ 0
@@ -45,10 +45,6 @@ none_at p (j ∷ places) i none h = by (p j) refl (j == i) refl none h (λ n g. 
     by false e true f none h rest = ap p (sym (eqb-true j i f)) ∙ e
     by false e false f none h rest = rest none h
 
-of_not : (b : Bool) → not b ≡ false → b ≡ true
-of_not true e = refl
-of_not false e = absurd (cc (e))
-
 -- Where no cursor is over a query in these places, all queries are as they were.
 pub all_idle : (name : Bytes) (n : ℕ) (places : List ℕ) (gs : List (Option Live))
     → list_any (λ i. has_cursor (place_at gs i)) places ≡ false → Reach places (Ages name n) gs gs
@@ -60,4 +56,4 @@ all_idle name n places gs none = record {
     by : (b : Bool) (o : Option Live) → (b ≡ true → has_cursor o ≡ false) → DoneAt (Ages name n) b o o
     by false o h = refl
     by true None h = tt
-    by true (Some l) h = ages_idle name n l (of_not (are_vacant l.cursors) (h refl))
+    by true (Some l) h = ages_idle name n l (not_false (are_vacant l.cursors) (h refl))

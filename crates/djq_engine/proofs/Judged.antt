@@ -1,15 +1,14 @@
 -- The conditions on a row, one after another.
-use Rattle.std.proofs.Common.{ℕ, suc, List, [], ◌∷◌, ◌≡◌, ◌<◌, ◌≤◌, ◌⊎◌, inl, inr, Bool, true}
+use Rattle.std.proofs.Common.{ℕ, List, [], ◌∷◌, ◌≡◌, ◌<◌, ◌≤◌, ◌⊎◌, inl, inr, Bool, true}
 use Rattle.std.proofs.Common.{false, refl, sym, ap, ap₂, ◌∙◌, length, arith}
 use Rattle.std.specs.Prelude.{◌==◌, ◌&&◌, not, nat_le, Option, None, Some, is_none, cond}
 use Rattle.std.proofs.lemmas.Bool.{eq-eqb, le-leb, lt-leb}
 use Rattle.djq_model.specs.declared.relation.Relation.{Relation}
-use Rattle.djq_model.specs.declared.relation.ColumnType.{ColumnType}
 use Rattle.djq_model.specs.declared.relation.CountedRow.{CountedRow}
 use Rattle.djq_model.specs.Data.{Bytes, Tuple, relation_of, tuples_of, counted_in, counted_of}
 use Rattle.djq_model.specs.Data.{rows_of, has_row, copies_among}
 use Rattle.djq_model.proofs.Counted.{no_copies}
-use Rattle.djq_model.specs.Typed.{is_of, fits}
+use Rattle.djq_model.specs.Typed.{fits}
 use Rattle.djq_lines.specs.declared.limits.TheConstants.{ROWS, COPIES, LAST_SEQ}
 use Rattle.djq_lines.specs.declared.answer.Refusal.{Refusal}
 use Rattle.djq_lines.specs.declared.answer.Refusal.TheVariants.{NoRelation, Arity, WrongType, Limit}
@@ -21,16 +20,7 @@ use Rattle.djq_rows.specs.Catalog.{relation_at, counted_at, rows_at}
 use Rattle.djq_engine.specs.Judging.{bare, Suits}
 use Rattle.djq_engine.proofs.Conditions.{front_refuses, front_passes}
 use Rattle.djq_reach.proofs.Among.{apart}
-
-pub fits_length : (types : List ColumnType) (row : Tuple) → fits types row ≡ true → length row ≡ length types
-fits_length [] [] e = refl
-fits_length [] (v ∷ vs) e = absurd cc
-fits_length (t ∷ ts) [] e = absurd cc
-fits_length (t ∷ ts) (v ∷ vs) e = ap suc (fits_length ts vs (both (is_of t v) e))
-  where
-    both : (b : Bool) → (b && fits ts vs) ≡ true → fits ts vs ≡ true
-    both true h = h
-    both false h = absurd cc
+use Rattle.djq_live.proofs.Rowing.{fits_long}
 
 module _ (rs : List Relation) (name : Bytes) (row : Tuple) where
   pub suited_none : relation_of rs name ≡ None → first_of (row_refusals (bare rs 0) name row) ≡ Some NoRelation
@@ -82,7 +72,7 @@ module _ (rs : List Relation) (name : Bytes) (row : Tuple) where
 
       pub suits_pass : first_of (row_refusals (bare rs 0) name row) ≡ None
       suits_pass = by_parts (relation_at rs at) true true s.found
-          (eq-eqb (length row) (length (relation_at rs at).types) (fits_length (relation_at rs at).types row s.suits))
+          (eq-eqb (length row) (length (relation_at rs at).types) (fits_long (relation_at rs at).types row s.suits))
           s.suits
 
       -- the conditions on its place

@@ -1,21 +1,18 @@
 -- The places of the registered queries, in order, and what is found among them.
 use Rattle.std.proofs.Common.{ℕ, zero, suc, List, [], ◌∷◌, ◌++◌, ◌≡◌, Bool, true, false, refl, sym, ap, ◌∙◌, arith}
 use Rattle.std.specs.Prelude.{◌==◌, ◌&&◌, ◌||◌, not, cond, filter, map, find, position, remove, None, Some}
-use Rattle.std.proofs.lemmas.Bool.{eqb-true, eq-eqb}
+use Rattle.std.proofs.lemmas.Bool.{eqb-true, eq-eqb, or_parts}
 use Rattle.djq_model.specs.Data.{Bytes, bytes_eq, drop_first}
 use Rattle.djq_model.specs.Listed.{Listed, listed_name}
 use Rattle.djq_engine.specs.Finding.{IsFirst}
 use Rattle.djq_reach.specs.Places.{is_reader, AreOnce}
-use Rattle.djq_reach.proofs.Among.{apart, reader_more, or_true, or_false}
+use Rattle.djq_reach.proofs.Among.{apart, reader_more, or_true}
+use Rattle.djq_deltas.proofs.Cases.{or_false}
 use Rattle.djq_engine.proofs.Firsts.{first_of_position, none_of_position}
 
-both_false : (b : Bool) → (b && false) ≡ false
+pub both_false : (b : Bool) → (b && false) ≡ false
 both_false true = refl
 both_false false = refl
-
-either_none : (b c : Bool) → (b || c) ≡ false → (b ≡ false) × (c ≡ false)
-either_none true c e = absurd cc
-either_none false c e = (refl, e)
 
 -- a place among those that pass a test
 pub reader_filter : (p : ℕ → Bool) (xs : List ℕ) (i : ℕ) → is_reader (filter p xs) i ≡ (is_reader xs i && p i)
@@ -44,7 +41,7 @@ once_filter p (x ∷ xs) h = step (p x) (once_filter p xs h.1)
 pub once_push : (xs : List ℕ) (i : ℕ) → AreOnce xs → is_reader xs i ≡ false → AreOnce (xs ++ i ∷ [])
 once_push [] i h e = (refl, tt)
 once_push (x ∷ xs) i h e =
-    let n = either_none (x == i) (is_reader xs i) e in (
+    let n = or_parts (x == i) (is_reader xs i) e in (
       reader_more xs i x ∙ ap (λ b. is_reader xs x || b) (apart i x (λ s. not_same (sym s) n.0))
           ∙ or_false (is_reader xs x) ∙ h.0,
       once_push xs i h.1 n.1,
@@ -79,7 +76,7 @@ map_members f g (x ∷ xs) h = ap (λ y. y ∷ map f xs) (h x (here x xs))
 pub all_but : (xs : List ℕ) (i : ℕ) → is_reader xs i ≡ false → filter (λ j. not (j == i)) xs ≡ xs
 all_but [] i e = refl
 all_but (x ∷ xs) i e =
-    let n = either_none (x == i) (is_reader xs i) e in
+    let n = or_parts (x == i) (is_reader xs i) e in
     ap (λ b. cond (not b) (x ∷ filter (λ j. not (j == i)) xs) (filter (λ j. not (j == i)) xs)) n.0
     ∙ ap (λ l. x ∷ l) (all_but xs i n.1)
 

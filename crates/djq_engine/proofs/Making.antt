@@ -1,7 +1,6 @@
 -- A relation more: what is kept.
 use Rattle.std.proofs.Common.{ℕ, List, [], ◌∷◌, ◌++◌, ◌+◌, ◌≡◌, ◌<◌, ◌≤◌, ◌⊎◌, inl, inr, true}
-use Rattle.std.proofs.Common.{false, refl, sym, ap, ap₂, ◌∙◌, subst, length, arith, length-append}
-use Rattle.std.proofs.Common.{append-nil}
+use Rattle.std.proofs.Common.{false, refl, sym, ap, ap₂, ◌∙◌, subst, length, arith, length-append, append-nil}
 use Rattle.std.specs.Prelude.{◌||◌, Option, None, filter, Err}
 use Rattle.std.specs.List.{list_any}
 use Rattle.std.proofs.lemmas.Bool.{cases_lt}
@@ -25,7 +24,7 @@ use Rattle.djq_reach.specs.Places.{place_at, is_reader, readers_at, reads_place}
 use Rattle.djq_engine.specs.Sound.{IsSound}
 use Rattle.djq_engine.proofs.Listing.{filter_members}
 use Rattle.djq_engine.proofs.Naming.{none_passes, order_there}
-use Rattle.djq_engine.proofs.Storing.{catalog_same}
+use Rattle.djq_live.proofs.Moving.{same_catalog}
 
 -- no atom is over a relation that isn't there
 unread : (c : Catalog) (vs : List Variable) (atoms : List Atom) (ms : List NumberedAtom) (name : Bytes)
@@ -123,5 +122,5 @@ pub unmade_sound : (c d : Catalog) (gs : List (Option Live)) (order : List ℕ) 
     → IsSound d gs order readers'
 unmade_sound c d gs order readers readers' name types r s m f e =
     subst (λ (x : Catalog). IsSound x gs order readers')
-    (sym (catalog_same c d (unmade c.relations d.relations name types r m) f))
+    (sym (same_catalog c d (unmade c.relations d.relations name types r m) f))
     (subst (λ (rs : List (List ℕ)). IsSound c gs order rs) (sym e) s)

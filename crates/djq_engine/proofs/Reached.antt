@@ -1,7 +1,6 @@
 -- Which queries a batch outdates: those that read a relation of which a row came, which is one of a group.
 use Rattle.std.proofs.Common.{ℕ, zero, suc, List, [], ◌∷◌, ◌++◌, ◌+◌, ◌≡◌, ◌<◌, ◌≤◌, Bool, true}
 use Rattle.std.proofs.Common.{false, refl, sym, ap, ap₂, ◌∙◌, subst, length, take, get_or, arith}
-use Rattle.std.proofs.Common.{append-nil}
 use Rattle.std.proofs.lemmas.List.{take_more}
 use Rattle.std.specs.Prelude.{◌&&◌, ◌||◌, ◌==◌, not, Option, Some, is_some, IsSome, cond, filter, All, Contains}
 use Rattle.std.proofs.lemmas.Bool.{eqb-true, eq-eqb, false≢true}
@@ -28,30 +27,17 @@ use Rattle.djq_reach.specs.declared.group.Group.{Group}
 use Rattle.djq_reach.specs.Places.{place_at, reads_place, is_reader, readers_at}
 use Rattle.djq_reach.specs.Grouping.{relations_of, reached}
 use Rattle.djq_engine.specs.Outdating.{AreReaders}
-
-same_bool : (a b : Bool) → (a ≡ true → b ≡ true) → (b ≡ true → a ≡ true) → a ≡ b
-same_bool true true f g = refl
-same_bool true false f g = sym (f refl)
-same_bool false true f g = g refl
-same_bool false false f g = refl
+use Rattle.djq_deltas.proofs.Cases.{same_tests}
+use Rattle.djq_reach.proofs.Clearing.{reader_both, reached_end}
 
 -- ---- readers of groups
-
-pub reader_append : (xs ys : List ℕ) (i : ℕ) → is_reader (xs ++ ys) i ≡ (is_reader xs i || is_reader ys i)
-reader_append [] ys i = refl
-reader_append (x ∷ xs) ys i = by (x == i) (reader_append xs ys i)
-  where
-    by : (b : Bool) → is_reader (xs ++ ys) i ≡ (is_reader xs i || is_reader ys i) → (b || is_reader (xs ++ ys) i)
-        ≡ ((b || is_reader xs i) || is_reader ys i)
-    by true e = refl
-    by false e = e
 
 -- a reader of a group's relation is reached
 pub reached_by : (readers : List (List ℕ)) (groups : List Group) (r i : ℕ) → is_reader (relations_of groups) r ≡ true
     → is_reader (readers_at readers r) i ≡ true → is_reader (reached readers groups) i ≡ true
 reached_by readers [] r i e f = absurd (false≢true e)
 reached_by readers (g ∷ groups) r i e f =
-    reader_append (readers_at readers g.relation.at) (reached readers groups) i
+    reader_both (readers_at readers g.relation.at) (reached readers groups) i
     ∙ by (g.relation.at == r) refl e (λ k. reached_by readers groups r i k f)
   where
     second : (a b : Bool) → b ≡ true → (a || b) ≡ true
@@ -72,7 +58,7 @@ pub reached_has : (readers : List (List ℕ)) (groups : List Group) (i : ℕ) �
 reached_has readers [] i e = absurd (false≢true e)
 reached_has readers (g ∷ groups) i e =
     by (is_reader (readers_at readers g.relation.at) i) refl
-    (sym (reader_append (readers_at readers g.relation.at) (reached readers groups) i) ∙ e)
+    (sym (reader_both (readers_at readers g.relation.at) (reached readers groups) i) ∙ e)
     (reached_has readers groups i)
   where
     behind : (b : Bool) (r : ℕ) → is_reader (relations_of groups) r ≡ true → (b || is_reader (relations_of groups) r)
@@ -93,24 +79,6 @@ reached_has readers (g ∷ groups) i e =
     )
     by false h k more = let m = more k in (m.0, behind (g.relation.at == m.0) m.0 m.1, m.2)
 
--- of one group more
-reached_more : (readers : List (List ℕ)) (xs : List Group) (g : Group) (i : ℕ)
-    → is_reader (reached readers (xs ++ g ∷ [])) i
-    ≡ (is_reader (reached readers xs) i || is_reader (readers_at readers g.relation.at) i)
-reached_more readers [] g i = ap (λ (ps : List ℕ). is_reader ps i) (append-nil (readers_at readers g.relation.at))
-reached_more readers (x ∷ xs) g i =
-    reader_append (readers_at readers x.relation.at) (reached readers (xs ++ g ∷ [])) i
-    ∙ by (is_reader (readers_at readers x.relation.at) i) (reached_more readers xs g i)
-    ∙ ap (λ b. b || is_reader (readers_at readers g.relation.at) i)
-    (sym (reader_append (readers_at readers x.relation.at) (reached readers xs) i))
-  where
-    by : (b : Bool) → is_reader (reached readers (xs ++ g ∷ [])) i
-        ≡ (is_reader (reached readers xs) i || is_reader (readers_at readers g.relation.at) i)
-        → (b || is_reader (reached readers (xs ++ g ∷ [])) i)
-        ≡ ((b || is_reader (reached readers xs) i) || is_reader (readers_at readers g.relation.at) i)
-    by true e = refl
-    by false e = e
-
 pub reached_next : (readers : List (List ℕ)) (groups : List Group) (k : ℕ) (g : Group) (i : ℕ) → k < length groups → g
     ≡ get_or groups k g → is_reader (reached readers (take k groups)) i ≡ false
     → is_reader (readers_at readers g.relation.at) i ≡ false → is_reader (reached readers (take (k + 1) groups)) i
@@ -118,7 +86,7 @@ pub reached_next : (readers : List (List ℕ)) (groups : List Group) (k : ℕ) (
 reached_next readers groups k g i low is e f =
     ap (λ (xs : List Group). is_reader (reached readers xs) i)
     (take_more groups k g low ∙ ap (λ (x : Group). take k groups ++ x ∷ []) (sym is))
-    ∙ reached_more readers (take k groups) g i
+    ∙ reached_end readers (take k groups) g i
     ∙ ap₂ (λ (a b : Bool). a || b) e f
 
 -- a group is among its groups
@@ -198,7 +166,7 @@ module _ (st : Store) (held : List HeldRow) (found : All (λ h. IsSome (relation
     ≡ has_come st held (relation_at st.relations r).name) where
   pub reached_outdates : (i : ℕ) (l : Live) → place_at gs i ≡ Some l → is_reader (reached readers groups) i
       ≡ is_some (first_read held (has_come st held) (a_query l.query))
-  reached_outdates i l there = same_bool (is_reader (reached readers groups) i)
+  reached_outdates i l there = same_tests (is_reader (reached readers groups) i)
       (is_some (first_read held (has_come st held) (a_query l.query))) forth back
     where
       reading : (r : ℕ) → r < length st.relations → is_reader (readers_at readers r) i

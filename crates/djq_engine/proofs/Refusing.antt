@@ -1,7 +1,6 @@
 -- What the machine says of a query that is to be registered, or dropped.
 use Rattle.std.proofs.Common.{ℕ, zero, suc, List, [], ◌∷◌, ◌++◌, ◌≡◌, ◌<◌, ◌≤◌, ◌⊎◌, inl, inr, Bool}
-use Rattle.std.proofs.Common.{true, false, refl, sym, ap, ap₂, ◌∙◌, subst, length, set, arith}
-use Rattle.std.proofs.Common.{append-nil}
+use Rattle.std.proofs.Common.{true, false, refl, sym, ap, ap₂, ◌∙◌, subst, length, set, arith, append-nil}
 use Rattle.std.specs.Prelude.{◌||◌, not, filter, map, Option, None, Some, is_some, is_none}
 use Rattle.std.specs.Prelude.{IsSomeAnd, IfSome, option_map, count_by, Result, Ok, Err, position}
 use Rattle.std.specs.Prelude.{cond, nat_le, slice_index_or, ⊤}
@@ -26,12 +25,10 @@ use Rattle.djq_lines.specs.Variables.{constants_of}
 use Rattle.djq_machine.specs.State.{Store}
 use Rattle.djq_machine.specs.Conditions.{first_of, Answers}
 use Rattle.djq_machine.specs.Store.{query_refusal, RegistersQuery, RegistersAs, RefusedLate}
-use Rattle.djq_machine.specs.Store.{most_steps, LearnsAll, LearnsFirst, FindsNoPlace, drop_refusal}
-use Rattle.djq_machine.specs.Store.{is_member}
+use Rattle.djq_machine.specs.Store.{most_steps, LearnsAll, LearnsFirst, FindsNoPlace, drop_refusal, is_member}
 use Rattle.djq_rows.specs.Catalog.{Catalog, IsCatalog}
 use Rattle.djq_rows.specs.Laws.{TextsStay}
-use Rattle.djq_live.specs.Cursors.{Progress}
-use Rattle.djq_live.specs.Cursors.{slot_at, are_vacant}
+use Rattle.djq_live.specs.Cursors.{Progress, slot_at, are_vacant}
 use Rattle.djq_live.specs.Planning.{InternsConstants}
 use Rattle.djq_cursor.specs.Log.{Log}
 use Rattle.djq_live.specs.Live.{Live, IsLive, ShowableStays}
@@ -42,8 +39,7 @@ use Rattle.djq_engine.specs.Kept.{Held, Registered as Enlisted, registered_of, s
 use Rattle.djq_engine.specs.Kept.{is_watched, held_at, SameCursors, DropGives, TellsOf}
 use Rattle.djq_reach.specs.Places.{place_at, watched_at}
 use Rattle.djq_engine.specs.Places.{query_in, queries_in, store_of, kept_of, held_as, held_from}
-use Rattle.djq_engine.specs.Places.{held_of, is_query, left, id_at, registered_as, registered_in}
-use Rattle.djq_engine.specs.Places.{told_from, Watches}
+use Rattle.djq_engine.specs.Places.{held_of, is_query, left, id_at, registered_as, registered_in, told_from, Watches}
 use Rattle.djq_engine.specs.Sound.{IsSound}
 use Rattle.djq_reach.specs.Tending.{AreShown}
 use Rattle.djq_engine.proofs.Tending.{shown_more}
@@ -60,6 +56,8 @@ use Rattle.djq_engine.proofs.Lasting.{told_then, told_gone, told_left, other_pla
 use Rattle.djq_engine.proofs.Naming.{Named, query_found, query_named, no_query_of, unnamed}
 use Rattle.djq_engine.proofs.Storing.{learned_rows, all_stay}
 use Rattle.djq_model.specs.Equality.{bytes_eq-decides}
+use Rattle.djq_deltas.proofs.Cases.{nothing_of}
+use Rattle.djq_engine.proofs.Cursors.{same_live}
 
 -- ---- the conditions of `query`
 
@@ -78,10 +76,6 @@ pub record Passes (c : Catalog) (gs : List (Option Live)) (order : List ℕ) (q 
   pub fresh : listed_of (queries_in gs order) q.name ≡ None
   pub fault : query_fault c.relations q ≡ None
   pub few : length order < QUERIES
-
-not_some : {A : Type 0} (o : Option A) → is_some o ≡ false → o ≡ None
-not_some None e = refl
-not_some (Some a) e = absurd cc
 
 module _ (c : Catalog) (gs : List (Option Live)) (order : List ℕ) (readers : List (List ℕ)) (seq : ℕ)
     (s : IsSound c gs order readers) (q : Query) where
@@ -130,7 +124,7 @@ module _ (c : Catalog) (gs : List (Option Live)) (order : List ℕ) (readers : L
       let b = append_none (query_faults c.relations q) ((nat_le QUERIES (length (queries_in gs order)), Limit) ∷ []) a.1
       in
       let d = first_false (nat_le QUERIES (length (queries_in gs order))) Limit [] b.1 in record {
-        fresh = not_some (listed_of (queries_in gs order) q.name) a.0;
+        fresh = nothing_of (listed_of (queries_in gs order) q.name) a.0;
         fault = b.0;
         few = by_length (cases_lt (length order) QUERIES) d.0;
       }
@@ -331,9 +325,6 @@ one_filled : (slots : List (Option Progress)) → (count_by is_some slots ≡ 0 
 one_filled [] h = absurd (h refl)
 one_filled (None ∷ slots) h = let r = one_filled slots h in (suc r.0, r.1, r.2)
 one_filled (Some p ∷ slots) h = (zero, p, refl)
-
-same_live : (x y : Live) (o : Option Live) → o ≡ Some x → o ≡ Some y → x ≡ y
-same_live x y o e f = cc
 
 module _ (old : Parts) (s : IsWhole old) (name : Bytes) where
   pub drop_unknown : None ≡ position (is_query name) old.queries.items

@@ -4,7 +4,7 @@ use Rattle.std.proofs.Common.{refl, sym, ap, ap₂, ◌∙◌, subst, length, ar
 use Rattle.std.specs.Prelude.{◌==◌, ◌&&◌, Option, None, Some, IsSomeAnd, cond, map, filter, sum_by}
 use Rattle.std.specs.Prelude.{slice_index_or, vec_capacity, AllPairs, not, is_none, nat_le, Ok, Err}
 use Rattle.std.specs.Prelude.{Result, IsErr, IfErr}
-use Rattle.std.proofs.lemmas.Bool.{eqb-true, false≢true}
+use Rattle.std.proofs.lemmas.Bool.{eqb-true, false≢true, and_parts}
 use Rattle.std.proofs.lemmas.List.{append-nil}
 use Rattle.std.proofs.lemmas.Nat.{mul-le}
 use Rattle.djq_model.specs.declared.relation.Relation.{Relation}
@@ -20,8 +20,7 @@ use Rattle.djq_lines.specs.declared.answer.Refusal.TheVariants.{NoRelation, Arit
 use Rattle.djq_lines.specs.declared.answer.AddOutcome.{AddOutcome}
 use Rattle.djq_lines.specs.declared.answer.DeleteOutcome.{DeleteOutcome}
 use Rattle.djq_machine.specs.Changes.{RowsChange, RowsOutcome, accepted, out_of_memory, unchanged}
-use Rattle.djq_machine.specs.Changes.{one_change, new_rows, row_in, row_out, add_outcome}
-use Rattle.djq_machine.specs.Changes.{delete_outcome, is_outdated}
+use Rattle.djq_machine.specs.Changes.{one_change, new_rows, row_in, row_out, add_outcome, delete_outcome, is_outdated}
 use Rattle.djq_model.specs.Answer.{IsAnswer}
 use Rattle.djq_model.specs.Listed.{a_query}
 use Rattle.djq_model.specs.Equality.{bytes_eq-decides}
@@ -57,7 +56,7 @@ use Rattle.djq_engine.specs.Judging.{bare, Suits}
 use Rattle.djq_engine.proofs.Judged.{counted_found}
 use Rattle.djq_engine.proofs.Listing.{filter_members}
 use Rattle.djq_engine.proofs.Carrying.{reader_is, reader_reads}
-use Rattle.djq_engine.proofs.Affecting.{both_true, outdated_places, AreFor, deltas_with, steps_by}
+use Rattle.djq_engine.proofs.Affecting.{outdated_places, AreFor, deltas_with, steps_by}
 use Rattle.djq_engine.proofs.Affecting.{ToldStay, Discards, refused_tells, accepted_tells}
 use Rattle.djq_engine.proofs.Enlisted.{outdated_reads, registered_same}
 use Rattle.djq_engine.proofs.Told.{AlikeAt, AreAlike, aged_alike, told_is, told_empty, told_stays}
@@ -121,7 +120,7 @@ pub discards_by : (old mid new : Parts) → IsWhole old → (at : ℕ) → at < 
     → AreAlike old.queries.items new.queries.items → Discards old (reads_at old at) new
 discards_by old mid new s at low readers apart empty alike = record {
   emptied = λ i e.
-      let t = live_there old.queries.items i (both_true (is_live old.queries.items i) _
+      let t = live_there old.queries.items i (and_parts (is_live old.queries.items i) _
       (sym (reader_is old.catalog old.queries.items old.order old.readers.items s at low i) ∙ e)).0 in
       told_is (new.catalog).texts new.queries.items new.logs.items i
       ∙ told_empty (new.catalog).texts t.query (place_at new.queries.items i)
@@ -140,7 +139,7 @@ readers_within old mid s at low same = subst (λ (rs : List (List ℕ)). at < le
 pub have_logs : (old mid : Parts) → IsWhole old → (at : ℕ) → at < length (old.catalog).relations → IsTended old
     → KeepsRest old mid → HaveLogs (readers_at mid.readers.items at) mid.logs.items
 have_logs old mid s at low t rest i e =
-    let there = live_there old.queries.items i (both_true (is_live old.queries.items i) _
+    let there = live_there old.queries.items i (and_parts (is_live old.queries.items i) _
     (sym (reader_is old.catalog old.queries.items old.order old.readers.items s at low i)
     ∙ ap (λ (rs : List (List ℕ)). is_reader (readers_at rs at) i) (sym rest.readers) ∙ e)).0 in
     let below = place_below old.queries.items i there.query there.is in
@@ -272,7 +271,7 @@ module _ (old : Parts) (s : IsWhole old) (at : ℕ) (low : at < length (old.cata
       (λ i e w. ap (λ b. cond b (cost_of at (f i) (place_at old.queries.items i)) 0) w)
       (λ i e w.
       let t = live_there old.queries.items i
-      (both_true (is_live old.queries.items i) _
+      (and_parts (is_live old.queries.items i) _
       (sym (reader_is old.catalog old.queries.items old.order old.readers.items s at low i) ∙ e)).0 in
       let bound : cost_of at (f i) (place_at old.queries.items i) ≤ delta_steps one
       (record { query = query_in (place_at old.queries.items i); changes = f i; parts = [] }) =

@@ -16,13 +16,11 @@ use Rattle.djq_machine.specs.Stale.{listed_reads}
 use Rattle.djq_machine.specs.Changes.{unchanged}
 use Rattle.djq_machine.specs.Store.{LearnsFirst}
 use Rattle.djq_machine.specs.Batch.{AddsBatch, RefusesBatch, HavePlaces, StopsAt, is_there}
-use Rattle.djq_machine.specs.Batch.{with_held, with_all, has_come, count_came, first_read}
-use Rattle.djq_machine.specs.Batch.{store_behind}
+use Rattle.djq_machine.specs.Batch.{with_held, with_all, has_come, count_came, first_read, store_behind}
 use Rattle.djq_rows.specs.Catalog.{Catalog, IsCatalog, relation_at, rows_at}
 use Rattle.djq_live.specs.Changes.{HasSameRows}
-use Rattle.djq_live.specs.Live.{Live, IsKept, ShowableStays}
+use Rattle.djq_live.specs.Live.{Live, ShowableStays}
 use Rattle.djq_live.specs.Staying.{LiveStays}
-use Rattle.djq_live.proofs.Changing.{over_stays}
 use Rattle.djq_reach.specs.declared.group.Group.{Group}
 use Rattle.djq_reach.specs.Places.{place_at, is_reader}
 use Rattle.djq_reach.specs.Reaching.{Reach, Renews}
@@ -41,6 +39,7 @@ use Rattle.djq_engine.proofs.Outdated.{reads_first}
 use Rattle.djq_engine.proofs.Reporting.{tells_nothing, told_stay}
 use Rattle.djq_engine.proofs.Tending.{shown_more}
 use Rattle.djq_engine.proofs.Told.{alike_same}
+use Rattle.djq_reach.proofs.Batching.{kept_same}
 
 -- ---- only the catalog has changed
 
@@ -177,13 +176,6 @@ none_held st (h ∷ held) n e d f = omega (arith, f)
 
 -- ---- memory lacked for the queries
 
-kept_over : (c d : Catalog) (l : Live) → HasSameRows c d → IsKept c l → IsKept d l
-kept_over c d l same k = record {
-  over = over_stays c d l.query l.numbered l.patterns l.reducts k.over same;
-  named = k.named;
-  bare = k.bare;
-}
-
 wider_first : (held : List HeldRow) (test : Bytes → Bool) (q : Listed) → is_some (first_read held test q) ≡ true
     → is_some (first_read held (λ name. true) q) ≡ true
 wider_first [] test q e = e
@@ -214,7 +206,7 @@ module _ (old : Parts) (s : IsWhole old) (held : List HeldRow) (before now : Cat
       → Reach (reached old.readers.items groups) (Renews after) old.queries.items hs
   given_reach after hs ia relations texts reach =
       reach_as (Renews before) (Renews after) (reached old.readers.items groups) old.queries.items hs reach
-      (λ i l m e there r. record { kept = kept_over before after m same r.kept; same = r.same })
+      (λ i l m e there r. record { kept = kept_same before after m same r.kept; same = r.same })
     where
       same : HasSameRows before after
       same = record {

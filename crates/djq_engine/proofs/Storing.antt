@@ -1,6 +1,6 @@
 -- A row goes into the catalog and the queries, or out of them.
 use Rattle.std.proofs.Common.{ℕ, Bool, List, [], ◌∷◌, ◌++◌, ◌≡◌, ◌<◌, ◌≤◌, true, false, refl, sym}
-use Rattle.std.proofs.Common.{ap, ap₂, ◌∙◌, subst, length, get_or, arith}
+use Rattle.std.proofs.Common.{ap, ◌∙◌, subst, length, get_or, arith}
 use Rattle.std.specs.Prelude.{Option, Some, Result, Ok, Err, Contains}
 use Rattle.std.proofs.lemmas.Bool.{false≢true}
 use Rattle.std.proofs.lemmas.List.{get_or_default, append-nil}
@@ -35,19 +35,16 @@ use Rattle.djq_engine.specs.Changing.{IsNew, IsOld, LacksMemory, Puts, Waits, Pu
 use Rattle.djq_engine.specs.Changing.{for_copies, for_texts, HasCopies, HasMore, AddsCells, AddsTo}
 use Rattle.djq_engine.specs.Changing.{IfCame, IfLacking, IfStill}
 use Rattle.djq_lines.specs.declared.limits.TheConstants.{TEXTS, ROWS, COPIES}
-use Rattle.djq_engine.proofs.Carrying.{has_contains, without_last, last_there, rows_with}
+use Rattle.djq_engine.proofs.Carrying.{without_last, last_there, rows_with}
+use Rattle.djq_deltas.proofs.Lists.{row_there}
 use Rattle.djq_engine.proofs.Carrying.{field_with, long_with, back_with, readers_once, readers_kept}
-use Rattle.djq_engine.proofs.Carrying.{came_carries, went_carries, back_carries, idle_carries}
-use Rattle.djq_engine.proofs.Carrying.{stays_itself, texts_then}
+use Rattle.djq_engine.proofs.Carrying.{came_carries, went_carries, back_carries, idle_carries, stays_itself, texts_then}
+use Rattle.djq_live.proofs.Moving.{same_catalog as catalog_same}
 
 -- the readers of a relation, as the code reads them
 pub places_read : (readers : List (List ℕ)) (at : ℕ) (x places : List ℕ) → at < length readers → x ≡ get_or readers at x
     → places ≡ x → places ≡ readers_at readers at
 places_read readers at x places low is same = same ∙ is ∙ get_or_default readers at x [] low
-
-pub catalog_same : (c d : Catalog) → d.relations ≡ c.relations → d.texts ≡ c.texts → d ≡ c
-catalog_same c d e f = ap₂
-    (λ (rs : List Relation) (ts : List Bytes). (let x : Catalog = record { relations = rs; texts = ts } in x)) e f
 
 -- ---- more texts
 
@@ -235,7 +232,7 @@ module _ (c d : Catalog) (at : ℕ) (low : at < length c.relations) (cells : Lis
     before = c;
     after = d;
     row = row;
-    there = has_contains (rows_at c.relations at) row old.there;
+    there = row_there (rows_at c.relations at) row old.there;
     went = went;
     kept = subst (λ (ps : List ℕ). AllAt ps gs (λ l. IsKept c l)) (sym read) (readers_kept c gs order readers s at low);
   }
@@ -320,7 +317,7 @@ none_learned texts (Text t ∷ vs) h =
 pub known_there : (c : Catalog) (at : ℕ) (row : Tuple) → IsCatalog c → at < length c.relations
     → has_row (rows_at c.relations at) row ≡ true → HaveCells c.texts row
 known_there c at row ic low e =
-    let h = has_contains (rows_at c.relations at) row e in
+    let h = row_there (rows_at c.relations at) row e in
     subst (HaveCells c.texts) h.2 ((ic.kept at no_relation low).cells h.0 row h.1)
 
 module _ (old new : Parts) (c1 : Catalog) (at : ℕ) (row : Tuple) (ic : IsCatalog old.catalog)

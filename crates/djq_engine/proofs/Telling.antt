@@ -15,8 +15,7 @@ use Rattle.djq_machine.specs.Conditions.{first_of}
 use Rattle.djq_machine.specs.Store.{TellsWhether, Tells, has_refusal, has_steps, answer_types}
 use Rattle.djq_machine.specs.Store.{listed_types, misfit, TellsShape, IsShapeOf}
 use Rattle.djq_rows.specs.Catalog.{Catalog}
-use Rattle.djq_live.specs.Cursors.{Progress}
-use Rattle.djq_live.specs.Cursors.{slot_at}
+use Rattle.djq_live.specs.Cursors.{Progress, slot_at}
 use Rattle.djq_live.specs.Live.{Live, IsKeptSomewhere, position_of}
 use Rattle.djq_live.specs.Shown.{AnswersAreShown}
 use Rattle.djq_engine.specs.declared.cursor.CursorId.{CursorId}
@@ -33,9 +32,7 @@ use Rattle.djq_engine.specs.Sound.{IsSound}
 use Rattle.djq_engine.proofs.Conditions.{answers_refused, answers_done, answers_lacking}
 use Rattle.djq_engine.proofs.Naming.{Named, query_named, no_query_of}
 use Rattle.djq_reach.proofs.Reaching.{place_below, below_some, place_read}
-
-same_live : (x y : Live) (o : Option Live) → o ≡ Some x → o ≡ Some y → x ≡ y
-same_live x y o e f = cc
+use Rattle.djq_engine.proofs.Cursors.{same_live}
 
 -- the query in a place, as the code reads it
 pub named_read : (gs : List (Option Live)) (name : Bytes) (at : ℕ) (n : Named gs name at) (p : Option Live) (l : Live)

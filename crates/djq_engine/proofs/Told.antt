@@ -107,7 +107,7 @@ aged_alike d name n ps qs gs hs ks a b i =
 
 -- ---- what a log tells once more texts are known
 
-map_as : {A B : Type 0} (f g : A → B) (xs : List A) → All (λ x. f x ≡ g x) xs → map f xs ≡ map g xs
+pub map_as : {A B : Type 0} (f g : A → B) (xs : List A) → All (λ x. f x ≡ g x) xs → map f xs ≡ map g xs
 map_as f g [] h = refl
 map_as f g (x ∷ xs) h = ap₂ (λ y ys. y ∷ ys) (h zero x (omega arith))
     (map_as f g xs (λ k d low. h (suc k) d (omega (arith, low))))

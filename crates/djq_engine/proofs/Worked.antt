@@ -2,15 +2,14 @@
 use Rattle.std.proofs.Common.{ℕ, zero, suc, List, [], ◌∷◌, ◌+◌, ◌*◌, ◌≡◌, ◌≤◌, Bool, true, false}
 use Rattle.std.proofs.Common.{cond, refl, sym, ap, ap₂, ◌∙◌, subst, length, arith, mul-le-mul_left}
 use Rattle.std.specs.Prelude.{◌==◌, ◌||◌, ◌&&◌, Option, None, Some, IsSomeAnd, is_some, All, filter, sum_by}
-use Rattle.std.proofs.lemmas.Bool.{eqb-true, eq-eqb, false≢true}
+use Rattle.std.proofs.lemmas.Bool.{eqb-true, eq-eqb, false≢true, and_parts}
 use Rattle.std.proofs.lemmas.List.Sums.{sum_by-cons}
 use Rattle.std.proofs.lemmas.Nat.{mul-le}
 use Rattle.djq_lines.specs.declared.held.HeldRow.{HeldRow}
 use Rattle.djq_machine.specs.State.{Store}
 use Rattle.djq_machine.specs.Stale.{listed_reads}
 use Rattle.djq_machine.specs.Changes.{RowsChange, is_outdated}
-use Rattle.djq_machine.specs.Batch.{is_there, with_held, has_come, count_came, first_read}
-use Rattle.djq_machine.specs.Batch.{rows_in as rows_held}
+use Rattle.djq_machine.specs.Batch.{is_there, with_held, has_come, count_came, first_read, rows_in as rows_held}
 use Rattle.djq_machine.proofs.Reading.{reads_atom}
 use Rattle.djq_propagate.specs.Updates.{HasAtMost}
 use Rattle.djq_query.specs.declared.numbered.NumberedAtom.{NumberedAtom}
@@ -29,12 +28,13 @@ use Rattle.djq_engine.specs.Kept.{Registered, readers_of}
 use Rattle.djq_engine.specs.Places.{is_live, query_in, id_at, registered_as}
 use Rattle.djq_engine.specs.Watching.{AreBounded, update_steps}
 use Rattle.djq_engine.specs.Whole.{kept_in, IsWhole}
-use Rattle.djq_engine.proofs.Affecting.{outdated_places, outdated_are, place_is, both_true}
+use Rattle.djq_engine.proofs.Affecting.{outdated_places, outdated_are, place_is}
 use Rattle.djq_engine.proofs.Enlisted.{registered_is}
 use Rattle.djq_engine.proofs.Filled.{Filled, reaches, reached_there}
 use Rattle.djq_engine.proofs.GivenUp.{sound_readers}
 use Rattle.djq_engine.proofs.Naming.{There, live_there}
-use Rattle.djq_engine.proofs.Reached.{atoms_touched, reader_append}
+use Rattle.djq_engine.proofs.Reached.{atoms_touched}
+use Rattle.djq_reach.proofs.Clearing.{reader_both}
 use Rattle.djq_engine.proofs.Working.{sums_le, size_of_text, text_size}
 
 -- ---- sums over groups and the readers of each
@@ -51,10 +51,10 @@ unfolding sum_at
 swapped readers w [] ys once inside = omega arith
 swapped readers w (g ∷ groups) ys once inside =
     let one = sums_within (w g) (readers_at readers g.relation.at) ys (once g.relation.at)
-    (λ i e. inside i (reader_append (readers_at readers g.relation.at) (reached readers groups) i
+    (λ i e. inside i (reader_both (readers_at readers g.relation.at) (reached readers groups) i
     ∙ ap (λ b. b || is_reader (reached readers groups) i) e)) in
     let more = swapped readers w groups ys once
-    (λ i e. inside i (reader_append (readers_at readers g.relation.at) (reached readers groups) i
+    (λ i e. inside i (reader_both (readers_at readers g.relation.at) (reached readers groups) i
     ∙ second (is_reader (readers_at readers g.relation.at) i) (is_reader (reached readers groups) i) e)) in
     let both = sums_both (λ i. cond (is_reader (readers_at readers g.relation.at) i) (w g i) 0)
     (sum_at readers w groups) (sum_at readers w (g ∷ groups)) ys
@@ -171,7 +171,7 @@ module _ (old : Parts) (s : IsWhole old) (held : List HeldRow) (before now : Cat
       ≡ true
       → There old.queries.items i
       × (is_outdated (rows_held (kept_in old).store held) (query_in (place_at old.queries.items i)) ≡ true)
-  place_there i e = let b = both_true (is_live old.queries.items i) _ (sym (outdated_is i) ∙ e) in
+  place_there i e = let b = and_parts (is_live old.queries.items i) _ (sym (outdated_is i) ∙ e) in
       (live_there old.queries.items i b.0, b.1)
 
   -- no leaf of a query that is reached has more tuples than its relations have rows

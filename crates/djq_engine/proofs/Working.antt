@@ -1,5 +1,5 @@
 -- How much updates of the queries in places count, by their texts.
-use Rattle.std.proofs.Common.{ℕ, List, [], ◌∷◌, ◌+◌, ◌*◌, ◌≡◌, ◌<◌, ◌≤◌, Bool, true, false, refl}
+use Rattle.std.proofs.Common.{ℕ, List, [], ◌∷◌, ◌+◌, ◌*◌, ◌≡◌, ◌<◌, ◌≤◌, Bool, true, false}
 use Rattle.std.proofs.Common.{sym, ap, ap₂, ◌∙◌, subst, length, arith, mul-le-mul_left}
 use Rattle.std.specs.Prelude.{Option, None, Some, IsSomeAnd, is_some, cond, min, filter, map, sum_by}
 use Rattle.std.proofs.lemmas.List.{length-map}
@@ -8,7 +8,6 @@ use Rattle.std.proofs.lemmas.Nat.{mul-le}
 use Rattle.djq_model.specs.Data.{Bytes, bytes_eq}
 use Rattle.djq_model.specs.declared.relation.Relation.{Relation}
 use Rattle.djq_model.specs.declared.query.Query.{Query}
-use Rattle.djq_model.specs.declared.query.Atom.{Atom}
 use Rattle.djq_model.specs.Listed.{Listed, a_query}
 use Rattle.djq_lines.specs.Variables.{Label, variables_of}
 use Rattle.djq_lines.specs.declared.answer.Shape.TheVariants.{Flat}
@@ -17,9 +16,7 @@ use Rattle.djq_machine.specs.Changes.{one_change}
 use Rattle.djq_machine.specs.Store.{IsShapeOf}
 use Rattle.djq_machine.proofs.Reading.{reads_atom}
 use Rattle.djq_query.specs.declared.numbered.Variable.{Variable}
-use Rattle.djq_query.specs.declared.numbered.NumberedAtom.{NumberedAtom}
 use Rattle.djq_rows.specs.Catalog.{Catalog, relation_at}
-use Rattle.djq_live.specs.Asked.{AreAtomsOf}
 use Rattle.djq_live.specs.Live.{Live, IsKept}
 use Rattle.djq_live.specs.Updating.{LeavesAreSmall, atoms_over, flat_bound, update_bound}
 use Rattle.djq_engine.specs.declared.parts.Parts.{Parts}
@@ -34,8 +31,9 @@ use Rattle.djq_engine.proofs.Carrying.{reader_is, reader_reads}
 use Rattle.djq_engine.proofs.Enlisted.{outdated_reads, readers_are, registered_is}
 use Rattle.djq_engine.proofs.Listing.{here, behind}
 use Rattle.djq_engine.proofs.Naming.{There, live_there}
-use Rattle.djq_engine.proofs.Affecting.{both_true}
+use Rattle.std.proofs.lemmas.Bool.{and_parts}
 use Rattle.djq_engine.proofs.Reporting.{atoms_of}
+use Rattle.djq_live.proofs.Asking.{atoms_long}
 
 -- ---- sums over places
 
@@ -48,15 +46,6 @@ sums_le f g h (x ∷ xs) k =
 
 -- ---- the bound, by the query's text
 
-atoms_many : (c : Catalog) (vs : List Variable) (atoms : List Atom) (ms : List NumberedAtom)
-    → AreAtomsOf c vs atoms ms → length ms ≡ length atoms
-atoms_many c vs [] [] h = refl
-atoms_many c vs [] (m ∷ ms) h = absurd h
-atoms_many c vs (a ∷ atoms) [] h = absurd h
-atoms_many c vs (a ∷ atoms) (m ∷ ms) h =
-    let more = atoms_many c vs atoms ms h.1 in
-    omega (arith, more)
-
 abbrev pub text_size : Query → ℕ
 text_size q = length q.atoms + length (variables_of q.atoms)
 
@@ -65,7 +54,7 @@ pub size_of_text : (c : Catalog) (l : Live) → IsKept c l
 size_of_text c l k =
     let asked = k.over.asked in
     ap₂ (λ (m v : ℕ). m + v)
-    (atoms_many c (l.numbered).variables (l.query).atoms (l.numbered).atoms asked.atoms)
+    (atoms_long c (l.numbered).variables (l.query).atoms (l.numbered).atoms asked.atoms)
     (sym (length-map (l.numbered).variables (λ (v : Variable). v.name))
     ∙ ap (λ (ls : List Label). length ls) asked.variables)
 
@@ -81,7 +70,7 @@ module _ (old : Parts) (s : IsWhole old) (at : ℕ) (low : at < length (old.cata
       → There old.queries.items i
   reads_there i e =
       live_there old.queries.items i
-      (both_true (is_live old.queries.items i) _
+      (and_parts (is_live old.queries.items i) _
       (sym (reader_is old.catalog old.queries.items old.order old.readers.items s at low i) ∙ e)).0
 
   reads_name : (i : ℕ) → is_reader (readers_at old.readers.items at) i ≡ true

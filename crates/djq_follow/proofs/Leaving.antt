@@ -5,8 +5,7 @@ use Rattle.djq_io.specs.Source.{Reading}
 use Rattle.djq_model.specs.Data.{Bytes}
 use Rattle.djq_mirror.specs.Mirror.{Held, written}
 use Rattle.djq_follow.specs.declared.follower.Halt.{Halt}
-use Rattle.djq_follow.specs.declared.follower.Halt.TheVariants.{Outside as HaltsOutside}
-use Rattle.djq_follow.specs.declared.follower.Halt.TheVariants.{TooMany as HaltsFull}
+use Rattle.djq_follow.specs.declared.follower.Halt.TheVariants.{Outside as HaltsOutside, TooMany as HaltsFull}
 use Rattle.djq_follow.specs.declared.follower.Halt.TheVariants.{NoMem as HaltsLacking}
 use Rattle.djq_follow.specs.declared.reading.Followed.{Followed}
 use Rattle.djq_follow.specs.declared.reading.Followed.TheVariants.{Whole, Halted, ReadFault as FailedRead}

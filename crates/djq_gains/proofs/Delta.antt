@@ -110,7 +110,7 @@ abbrev told_of : Kept → List ℕ → List Gain → List Gain
 told_of k members gains = filter (is_told (queries_at k.places members)) gains
 
 -- the changes that lines tell
-twice_mapped : {A B C : Type 0} (g : B → C) (f : A → B) (xs : List A)
+pub twice_mapped : {A B C : Type 0} (g : B → C) (f : A → B) (xs : List A)
     → map g (map f xs) ≡ map (λ x. g (f x)) xs
 twice_mapped g f [] = refl
 twice_mapped {C = C} g f (x ∷ xs) = ap (λ (ys : List C). g (f x) ∷ ys) (twice_mapped g f xs)

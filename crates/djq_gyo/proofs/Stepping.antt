@@ -145,7 +145,7 @@ keep_length : (b : Bool) (y : ℕ) (l m : List ℕ) → length m ≤ length l �
 keep_length true y l m h = omega arith
 keep_length false y l m h = omega arith
 
-filter_most : (p : ℕ → Bool) (l : List ℕ) → length (filter p l) ≤ length l
+pub filter_most : (p : ℕ → Bool) (l : List ℕ) → length (filter p l) ≤ length l
 filter_most p [] = omega arith
 filter_most p (y ∷ l) = keep_length (p y) y l (filter p l) (filter_most p l)
 

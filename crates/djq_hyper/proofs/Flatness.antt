@@ -3,7 +3,7 @@ use Rattle.std.specs.Prelude.{◌≡◌, ◌↔◌, ℕ, ◌+◌, ◌<◌, ◌�
 use Rattle.std.specs.Prelude.{◌&&◌, ◌||◌, nat_lt, List, [], ◌∷◌, length, take, refl}
 use Rattle.std.specs.List.{list_all}
 use Rattle.std.proofs.Common.{◌⊎◌, sym, ap, subst, ◌∙◌, arith, inl, inr, lt-ltb, le-ltb}
-use Rattle.std.proofs.lemmas.Bool.{cases_lt, cases_eq}
+use Rattle.std.proofs.lemmas.Bool.{cases_lt, cases_eq, and_parts}
 use Rattle.std.proofs.lemmas.List.{take_all}
 use Rattle.std.proofs.lemmas.List.Folds.{list_all_more}
 use Rattle.djq_hyper.specs.Hypergraph.{member, subset, intersection, one, degree, edge_at}
@@ -197,11 +197,6 @@ only_first false false false h f g = h
 not_true : (a b : Bool) → a ≡ not b → a ≡ true → b ≡ false
 not_true a true is h = absurd cc
 not_true a false is h = refl
-
-and_parts : (a b : Bool) → (a && b) ≡ true → (a ≡ true) × (b ≡ true)
-and_parts true true h = (refl, refl)
-and_parts true false h = absurd cc
-and_parts false b h = absurd cc
 
 -- what the pass says decides it
 module _ (H : List (List ℕ)) (F all : List ℕ) (x : ℕ) (shared near far : List ℕ) (c : Compares H all x shared near far)

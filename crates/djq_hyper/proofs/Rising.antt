@@ -12,7 +12,7 @@ Rising l = AllPairs (λ x y. x < y) l
 tail_rising : (x : ℕ) (l : List ℕ) → Rising (x ∷ l) → Rising l
 tail_rising x l h i j d a b = h (suc i) (suc j) d (omega arith) (omega arith)
 
-above : (x y : ℕ) (l : List ℕ) → ((k d : ℕ) → k < length l → x < slice_index_or l k d) → member y l ≡ true → x < y
+pub above : (x y : ℕ) (l : List ℕ) → ((k d : ℕ) → k < length l → x < slice_index_or l k d) → member y l ≡ true → x < y
 above x y [] h m = absurd (false≢true m)
 above x y (z ∷ l) h m =
     elim (or_cases (y == z) (member y l) m) [
@@ -30,10 +30,10 @@ first_alone x y l h e =
       | inr n ↦ n
     ]
 
-first_is : (x : ℕ) (l : List ℕ) → member x (x ∷ l) ≡ true
-first_is x l = rw (eq-eqb x x refl) refl
+pub member_here : (x : ℕ) (l : List ℕ) → member x (x ∷ l) ≡ true
+member_here x l = rw (eq-eqb x x refl) refl
 
-member_past : (x y : ℕ) (l : List ℕ) → (x ≡ y → ⊥) → member x (y ∷ l) ≡ member x l
+pub member_past : (x y : ℕ) (l : List ℕ) → (x ≡ y → ⊥) → member x (y ∷ l) ≡ member x l
 member_past x y l apart = rw (ne_eqb x y apart) refl
 
 same_first : (x y : ℕ) (xs ys : List ℕ) → Rising (x ∷ xs) → Rising (y ∷ ys) → member x (y ∷ ys) ≡ true
@@ -58,9 +58,9 @@ same_rest x y z xs ys e p q h =
 -- rising lists with the same members are the same
 pub same_sets : (a b : List ℕ) → Rising a → Rising b → ((x : ℕ) → member x a ≡ member x b) → a ≡ b
 same_sets [] [] p q h = refl
-same_sets [] (y ∷ ys) p q h = absurd (false≢true (h y ∙ first_is y ys))
-same_sets (x ∷ xs) [] p q h = absurd (false≢true (sym (h x) ∙ first_is x xs))
+same_sets [] (y ∷ ys) p q h = absurd (false≢true (h y ∙ member_here y ys))
+same_sets (x ∷ xs) [] p q h = absurd (false≢true (sym (h x) ∙ member_here x xs))
 same_sets (x ∷ xs) (y ∷ ys) p q h =
-    let e = same_first x y xs ys p q (sym (h x) ∙ first_is x xs) (h y ∙ first_is y ys) in
+    let e = same_first x y xs ys p q (sym (h x) ∙ member_here x xs) (h y ∙ member_here y ys) in
     ap₂ (λ (z : ℕ) (zs : List ℕ). z ∷ zs) e
     (same_sets xs ys (tail_rising x xs p) (tail_rising y ys q) (λ z. same_rest x y z xs ys e p q (h z)))

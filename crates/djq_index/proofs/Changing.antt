@@ -11,7 +11,7 @@ use Rattle.djq_index.proofs.Apart.{apart_in, apart_out, apart_here, apart_same, 
 use Rattle.djq_index.proofs.Places.{at_in, at_out, at_same, at_here}
 use Rattle.djq_index.proofs.Marks.{marks_middle, plain_middle}
 
-length_middle : (xs : List Entry) (e : Entry) (ys : List Entry) → length (xs ++ e ∷ ys) ≡ length (xs ++ ys) + 1
+pub length_middle : (xs : List Entry) (e : Entry) (ys : List Entry) → length (xs ++ e ∷ ys) ≡ length (xs ++ ys) + 1
 length_middle xs e ys = omega (arith, length-append xs (e ∷ ys), length-append xs ys)
 
 one_of : (e : Entry) (u v : List ℕ) → e.tuple ≡ u → one (same e.tuple v) ≡ one (same u v)

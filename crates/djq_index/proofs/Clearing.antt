@@ -117,7 +117,7 @@ marks_none : marks [] ≡ []
 unfolding marks
 marks_none = refl
 
-length_marks : (es : List Entry) → length (marks es) ≤ length es
+pub length_marks : (es : List Entry) → length (marks es) ≤ length es
 length_marks [] = omega (arith, ap (λ (ms : List Entry). length ms) marks_none)
 length_marks (e ∷ es) =
     elim (cases_Bool e.marked) [

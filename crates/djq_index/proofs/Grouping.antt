@@ -1,9 +1,9 @@
 -- How groups change.
 use Rattle.std.proofs.Common.{◌≡◌, ◌≢◌, ℕ, zero, suc, ◌+◌, ◌<◌, List, [], ◌∷◌, ◌++◌, length}
 use Rattle.std.proofs.Common.{slice_set, Option, Some, None, refl, ap, ap₂, subst, sym, ◌∙◌, arith}
-use Rattle.std.proofs.Common.{false, inl, inr, get_or-set_same, get_or-set_other}
+use Rattle.std.proofs.Common.{inl, inr, get_or-set_same, get_or-set_other}
 use Rattle.std.proofs.lemmas.List.{append-nil}
-use Rattle.std.proofs.lemmas.Bool.{cases_Bool, false≢true, cases_eq}
+use Rattle.std.proofs.lemmas.Bool.{cases_Bool, cases_eq}
 use Rattle.djq_arena.specs.declared.chain.Pair.{Pair}
 use Rattle.djq_arena.specs.declared.chain.Ends.{Ends}
 use Rattle.djq_arena.specs.Rows.{Row, IsAbsent, slots}
@@ -11,8 +11,7 @@ use Rattle.djq_arena.specs.Chains.{Linked, first_of, last_of, AreDifferent, AreB
 use Rattle.djq_arena.specs.Chains.{Avoids, pair_at, entered, left}
 use Rattle.djq_arena.specs.Store.{ends_of, extended, shrunk}
 use Rattle.djq_arena.proofs.Lists.{different_front, different_back, different_append}
-use Rattle.djq_arena.proofs.Lists.{different_here, outs_swap, last_avoids, first_avoids}
-use Rattle.djq_arena.proofs.Lists.{avoids_none}
+use Rattle.djq_arena.proofs.Lists.{different_here, outs_swap, last_avoids, first_avoids, avoids_none}
 use Rattle.djq_arena.proofs.Chaining.{linked_same, entered_linked, entered_agree, left_linked}
 use Rattle.djq_arena.proofs.Chaining.{left_agree, prev_here, next_here}
 use Rattle.djq_arena.proofs.Storing.{extended_is, shrunk_is}
@@ -21,7 +20,7 @@ use Rattle.djq_index.specs.declared.raw.Note.{Note}
 use Rattle.djq_index.specs.Tuple.{same, pick, one}
 use Rattle.djq_index.specs.Entries.{Entry, many, grp}
 use Rattle.djq_index.specs.Raw.{note_at, slots_at, row_at, AreSeated, ends_at, AreGroups}
-use Rattle.djq_index.proofs.Tuples.{is_same, same_cases, same_other, one_true, one_false}
+use Rattle.djq_index.proofs.Tuples.{is_same, same_cases, same_other, one_true, one_false, other_same}
 use Rattle.djq_index.proofs.Counts.{length_grp, many_middle, many_cons}
 use Rattle.djq_index.proofs.Groups.{grp-append, grp_yes, grp_no}
 use Rattle.djq_index.proofs.Parts.{slots_at-append, slots_at_middle, slots_at_cons, no_group}
@@ -207,9 +206,6 @@ avoid_last xs zs d e o = last_avoids None xs zs (avoids_none zs) (different_appe
 avoid_first : (xs zs : List ℕ) → AreDifferent xs → AreDifferent zs → AreOut xs zs → Avoids (first_of xs) zs
 avoid_first xs zs d e o = first_avoids xs zs (different_append xs zs d e o)
 
-differs : (v w : List ℕ) → same v w ≡ false → v ≡ w → ⊥
-differs v w h k = false≢true (sym h ∙ is_same v w k)
-
 absent_first : (r : Row) (rs : List Row) (u : List ℕ) → IsAbsent (r ∷ rs) u → (r.cells ≡ u → ⊥) × IsAbsent rs u
 unfolding IsAbsent
 absent_first r rs u h = h
@@ -258,7 +254,7 @@ module _ (key : List ℕ) (notes more : List Note) (links : List Pair) (keys : L
   join_chained v = elim (same_cases v w) [
     | inl here ↦ subst (λ u. Linked joined None (slots_at (grp key (es ++ e ∷ []) u)) None) (sym here) join_mine
     | inr
-        other ↦ join_other v (differs v w other)
+        other ↦ join_other v (other_same v w other)
   ]
 
   join_headed : (k : ℕ) (v : List ℕ) → row_at keys k ≡ Some v
@@ -287,7 +283,7 @@ module _ (key : List ℕ) (notes more : List Note) (links : List Pair) (keys : L
         one_true (same (pick key e.tuple) v)
             (is_same (pick key e.tuple) v (its ∙ sym here)),
       )
-      | inr other ↦ (let old = g.some k v r (differs v w other) in omega (arith, many_push key es e v, old))
+      | inr other ↦ (let old = g.some k v r (other_same v w other) in omega (arith, many_push key es e v, old))
     ];
     none = λ v absent. omega (
       arith,
@@ -410,7 +406,7 @@ module _ (key : List ℕ) (notes : List Note) (links : List Pair) (keys : List R
   part_chained v = elim (same_cases v its_key) [
     | inl here ↦ subst (λ u. Linked parted None (slots_at (grp key (xs ++ ys) u)) None) (sym here) part_mine
     | inr
-        other ↦ part_other v (differs v its_key other)
+        other ↦ part_other v (other_same v its_key other)
   ]
 
   part_headed : (k : ℕ) (v : List ℕ) → row_at keys k ≡ Some v
@@ -542,7 +538,7 @@ pruned key notes links ks r ls ends es w h g at d empty = record {
   none = λ v absent. elim (same_cases v w) [
     | inl here ↦ subst (λ u. many key es u ≡ 0) (sym here) empty
     | inr no_w ↦ g.none v
-        (absent_in ks r ls v (λ q. differs v w no_w (sym (sym cells ∙ q))) absent)
+        (absent_in ks r ls v (λ q. other_same v w no_w (sym (sym cells ∙ q))) absent)
   ];
   once = λ j k v p q. g.once j k v (back j v p) (back k v q);
   seated = seated_gone key notes ks r ls es (subst (λ j. row_at (ks ++ r ∷ ls) j ≡ Some r.cells) refl mine)
@@ -581,7 +577,7 @@ kept key notes links keys ends es w h g some_end = record {
   some = λ k v q. elim (same_cases v w) [
     | inl here ↦ subst (λ u. 0 < many key es u) (sym here) (positive (many key es w) refl)
     | inr other ↦ g.some k v q
-        (differs v w other)
+        (other_same v w other)
   ];
 }
   where

@@ -59,7 +59,7 @@ grp_nil : (key w : List ℕ) → grp key [] w ≡ []
 unfolding grp
 grp_nil key w = refl
 
-nil_not : (xs : List Entry) (e : Entry) (ys : List Entry) → [] ≡ xs ++ e ∷ ys → ⊥
+pub nil_not : (xs : List Entry) (e : Entry) (ys : List Entry) → [] ≡ xs ++ e ∷ ys → ⊥
 nil_not [] e ys h = cc
 nil_not (x ∷ xs) e ys h = cc
 

@@ -1,8 +1,7 @@
 -- A tuple comes into a table's parts.
 use Rattle.std.proofs.Common.{◌≡◌, ℕ, Bool, false, cond, ◌≤◌, ◌<◌, List, [], ◌∷◌, ◌++◌, length}
-use Rattle.std.proofs.Common.{slice_set, Option, Some, None, Result, Ok, Err, refl, ap, ap₂, subst}
+use Rattle.std.proofs.Common.{slice_set, Option, Some, None, refl, ap, ap₂, subst}
 use Rattle.std.proofs.Common.{sym, ◌∙◌, arith, inl, inr, length-set}
-use Rattle.std.specs.Result.{OnErr}
 use Rattle.std.proofs.lemmas.List.{append-nil}
 use Rattle.djq_arena.specs.declared.chain.Pair.{Pair}
 use Rattle.djq_arena.specs.declared.chain.Ends.{Ends}
@@ -259,8 +258,3 @@ refused_heads a b hs r h = record {
       (groups_like a.key.items a.notes.items b.notes.items a.links.items b.links.items a.keys.rows a.ends.items
       b.ends.items (entries_of a) hs.groups (λ k. ap (λ (n : Note). n.head) (r.same_notes k)) h.same_links h.same_ends);
 }
-
--- what holds in any case
-pub on_err_of : {T E : Type 0} (r : Result T E) (P : Type 0) → P → OnErr r P
-on_err_of (Ok x) P p = tt
-on_err_of (Err e) P p = p

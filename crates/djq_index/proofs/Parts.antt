@@ -295,7 +295,7 @@ live_below r p h l = row_below r.rows.room r.rows.rows p.slot l.tuple h.rows.bel
     (at_row r.notes.items r.rows.rows p l.tuple l.is_at)
 
 -- a group without a head is empty
-nil_from_length : (es : List Entry) → length es ≡ 0 → es ≡ []
+pub nil_from_length : (es : List Entry) → length es ≡ 0 → es ≡ []
 nil_from_length [] h = refl
 nil_from_length (e ∷ es) h = absurd (omega (arith, h))
 

@@ -2,13 +2,10 @@
 use Rattle.std.proofs.Common.{◌≡◌, ◌≢◌, ℕ, ◌+◌, ◌-◌, ◌<◌, Bool, true, false, ◌||◌, ◌&&◌, nat_eq}
 use Rattle.std.proofs.Common.{cond, List, [], ◌∷◌, refl, sym, arith, ap, ◌∙◌}
 use Rattle.std.specs.List.{count_by, list_any}
-use Rattle.std.proofs.lemmas.List.Sums.{sum_by-cons}
 use Rattle.std.proofs.lemmas.Bool.Decides.{nat_tests}
 use Rattle.djq_io.specs.declared.failing.FailingSend.{FailingSend}
 use Rattle.djq_io.specs.FailingSends.{is_send_due, one_after_send, after_send, failed_sends, CountsSends}
-
-count_step : {X : Type 0} (p : X → Bool) (x : X) (xs : List X) → count_by p (x ∷ xs) ≡ cond (p x) 1 0 + count_by p xs
-count_step p x xs = sum_by-cons (λ y. cond (p y) 1 0) x xs
+use Rattle.djq_io.proofs.Counting.{count_step, one_counted as lowered}
 
 -- a send to this session that failed, and one that is the next
 abbrev has_failed : ℕ → FailingSend → Bool
@@ -22,9 +19,6 @@ and_cases a b n same = ap (λ t. cond t n 0) same
 
 self_eq : (n : ℕ) → nat_eq n n ≡ true
 self_eq n = grind (arith, nat_tests)
-
-lowered : (n : ℕ) → cond (nat_eq (n - 1) 0) 1 0 ≡ cond (nat_eq n 0) 1 0 + cond (nat_eq n 1) 1 0
-lowered n = grind (arith, nat_tests)
 
 one_counted : (id : ℕ) (f : FailingSend) → cond (has_failed id (one_after_send id f)) 1 0
     ≡ cond (has_failed id f) 1 0 + cond (is_next id f) 1 0

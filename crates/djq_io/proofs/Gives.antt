@@ -3,12 +3,7 @@ use Rattle.std.proofs.Common.{◌≡◌, ℕ, List, [], ◌∷◌, ◌++◌, ref
 use Rattle.std.specs.Prelude.{Option, Some, None}
 use Rattle.std.specs.List.{concat}
 use Rattle.djq_io.specs.Source.{Reading, GivesPiece, Gives}
-
--- the bytes of some pieces and of more behind them
-pub concat-append : (pieces more : List (List ℕ)) → concat (pieces ++ more) ≡ concat pieces ++ concat more
-concat-append [] more = refl
-concat-append (piece ∷ pieces) more = ap (λ bytes. piece ++ bytes) (concat-append pieces more)
-    ∙ sym (append_assoc piece (concat pieces) (concat more))
+use Rattle.std.proofs.lemmas.List.Folds.{concat-append}
 
 -- a call that reads nothing
 pub gives_none : (o : Option Reading) → Gives o o []

@@ -93,7 +93,7 @@ use Rattle.djq_machine.specs.Command.{
   without_batch,
   CommandStep,
 }
-use Rattle.djq_laws.proofs.Finding.{some_and}
+use Rattle.djq_laws.proofs.Finding.{some_there}
 use Rattle.djq_laws.proofs.Forms.{done_of}
 use Rattle.djq_laws.proofs.Watching.{change_store}
 use Rattle.djq_kept.specs.Kept.{AreKnown, Follows}
@@ -255,7 +255,7 @@ module _ (old : State) (s : ℕ) (batch : Option (List HeldRow)) (c : Command) (
       → IsKept
   next_found d count None h = refused_quiet NoCursor h
   next_found d count (Some k) h =
-      let f = some_and (listed_of old.store.queries k.query) (λ q. NextStepAt old s d q count k.position e new) h in
+      let f = some_there (listed_of old.store.queries k.query) (λ q. NextStepAt old s d q count k.position e new) h in
       next_quiet d f.0 count k.position f.2
 
   close_found : (d : Bytes) (o : Option Cursor)

@@ -14,6 +14,7 @@ use Rattle.djq_machine.specs.Store.{LearnsFirst, FindsNoPlace}
 use Rattle.djq_laws.specs.Sound.{AreApart}
 use Rattle.djq_laws.proofs.Apart.{texts_apart}
 use Rattle.djq_kept.specs.Kept.{AreKnown}
+use Rattle.djq_laws.proofs.Batches.{learned_append}
 
 pub known_refl : (ts : List Bytes) → AreKnown ts ts
 known_refl ts t h = h
@@ -92,10 +93,6 @@ pub among_all : (b a more : List Bytes) → AreKnown b a → AreKnown (all_learn
 among_all b a [] f = f
 among_all b a (t ∷ more) f = among_all (learned b t) (learned a t) more (among_learned b a t f)
 
-all_append : (ts first rest : List Bytes) → all_learned ts (first ++ rest) ≡ all_learned (all_learned ts first) rest
-all_append ts [] rest = refl
-all_append ts (t ∷ first) rest = all_append (learned ts t) first rest
-
 -- A list without repeats whose texts are all known to another is no longer than that.
 knows_member : (ts : List Bytes) (t : Bytes) → list_any (bytes_eq t) ts ≡ knows ts t
 knows_member [] t = refl
@@ -142,7 +139,7 @@ pub place_too : (b a ts new : List Bytes) → AreKnown b a → AreApart b → le
     → FindsNoPlace b ts new → ⊥
 place_too b a ts new among once room f =
     let parts : all_learned b ts ≡ all_learned (learned new f.next) f.rest =
-    ap (all_learned b) f.parts ∙ all_append b f.first (f.next ∷ f.rest)
+    ap (all_learned b) f.parts ∙ learned_append b f.first (f.next ∷ f.rest)
     ∙ ap (λ (k : List Bytes). all_learned (learned k f.next) f.rest) (sym f.learned) in
     let more : learned new f.next ≡ new ++ f.next ∷ [] = ap (λ (c : Bool). cond c new (new ++ f.next ∷ [])) f.unknown in
     let one = length-append new (f.next ∷ []) in

@@ -18,7 +18,7 @@ use Rattle.djq_machine.specs.Step.{TookStep, EndedStep, Acts, Step, SameRelation
 use Rattle.djq_machine.specs.Run.{Did, Run, Group, groups_in, group_of, groups_of, lines_in}
 use Rattle.djq_machine.specs.Loading.{loading}
 use Rattle.djq_laws.specs.Sound.{IsSoundBatch, IsSoundSession, IsSoundState}
-use Rattle.djq_laws.proofs.Finding.{some_and}
+use Rattle.djq_laws.proofs.Finding.{some_there}
 use Rattle.djq_laws.proofs.Changing.{all_found}
 use Rattle.djq_laws.proofs.Forms.{Reads, turned_down, carried_out, line_reads}
 use Rattle.djq_laws.proofs.Watching.{queued_store}
@@ -122,16 +122,16 @@ acts_keep : (old : State) → IsSoundState old → (event : Event) (e : Effect) 
     → ActKeeps old event e mid
 acts_keep old sound (opened s) e mid h = act_none refl (grows old mid (opened_store _ old s mid h.2))
 acts_keep old sound (fed s bytes) e mid h =
-    let f = some_and (session_of old s) (λ x. FedStep old s bytes x e mid) h in act_none refl
+    let f = some_there (session_of old s) (λ x. FedStep old s bytes x e mid) h in act_none refl
     (grows old mid (fed_store old s bytes e mid (f.0).cause f.2))
 acts_keep old sound (stepped s o) e mid h =
-    let f = some_and (session_of old s) (λ x. (x.cause ≡ None) × FrontStep old s x o e mid) h in front_keeps old s f.0
+    let f = some_there (session_of old s) (λ x. (x.cause ≡ None) × FrontStep old s x o e mid) h in front_keeps old s f.0
     (batch_sound old sound s f.0 f.1) o e mid f.2.1
 acts_keep old sound (took s bytes) e mid h =
-    let f = some_and (session_of old s) (λ x. TookStep old s bytes x e mid) h in act_none refl
+    let f = some_there (session_of old s) (λ x. TookStep old s bytes x e mid) h in act_none refl
     (grows old mid (ap (λ (st : State). st.store) f.2.1.2))
 acts_keep old sound (ended s) e mid h =
-    let f = some_and (session_of old s) (λ x. EndedStep old s x e mid) h in act_none refl
+    let f = some_there (session_of old s) (λ x. EndedStep old s x e mid) h in act_none refl
     (grows old mid (ended_store _ _ old s e mid (f.0).cause f.2))
 acts_keep old sound (closed s bytes) e mid h = act_none refl (grows old mid (ap (λ (st : State). st.store) h.2))
 

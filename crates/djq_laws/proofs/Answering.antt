@@ -20,7 +20,7 @@ use Rattle.std.specs.Prelude.{
 }
 use Rattle.std.specs.List.{list_any, slice_index_or}
 use Rattle.std.proofs.Common.{refl, sym, ap, ◌∙◌, subst, inl, inr}
-use Rattle.std.proofs.lemmas.List.Elements.{All-nil, All-cons, Contains-get_or}
+use Rattle.std.proofs.lemmas.List.Elements.{Contains-get_or}
 use Rattle.std.proofs.lemmas.List.Sorted.{Contains-permutation, IsPermutation-sym, IsPermutation-refl}
 use Rattle.djq_model.specs.declared.relation.Relation.{Relation}
 use Rattle.djq_model.specs.declared.relation.ColumnType.{ColumnType}
@@ -169,16 +169,6 @@ pub reordered_same : (rs rs' : List Relation) (q : Listed) → SameRelations rs 
 reordered_same rs rs' q h = same_within rs rs' q
     (λ n r row c. Contains-permutation _ _ row (reordered_rows rs rs' n h) c)
     (λ n r row c. Contains-permutation _ _ row (IsPermutation-sym _ _ (reordered_rows rs rs' n h)) c)
-
-pub none_or : (a b : Bool) → (a || b) ≡ false → (a ≡ false) × (b ≡ false)
-none_or false false h = (refl, refl)
-none_or false true h = absurd cc
-none_or true b h = absurd cc
-
-pub none_pass : {A : Type 0} (p : A → Bool) (xs : List A) → list_any p xs ≡ false → All (λ x. p x ≡ false) xs
-none_pass p [] h = All-nil (λ x. p x ≡ false)
-none_pass p (x ∷ xs) h = let n = none_or (p x) (list_any p xs) h in All-cons (λ y. p y ≡ false) x xs n.0
-    (none_pass p xs n.1)
 
 -- Where each relation that is read has the rows that it had, answers are the same.
 pub read_same : (rs rs' : List Relation) (q : Listed)

@@ -65,7 +65,8 @@ use Rattle.djq_machine.specs.Batch.{
 use Rattle.djq_machine.proofs.Copies.{copies_rows, rows_apart}
 use Rattle.djq_laws.specs.Sound.{AreApart, IsSoundRelation, IsCopyCount}
 use Rattle.djq_laws.specs.Form.{LearnsTexts, rows_come}
-use Rattle.djq_laws.proofs.Answering.{SameAnswers, none_or, read_same}
+use Rattle.djq_laws.proofs.Answering.{SameAnswers, read_same}
+use Rattle.std.proofs.lemmas.Bool.{or_parts}
 use Rattle.djq_laws.proofs.Forms.{none_first}
 use Rattle.djq_laws.proofs.Rows.{RowsMade, learns_keeps, one_more, other_names, other_rows, suits_more, suits_copies}
 use Rattle.djq_laws.proofs.Suiting.{SameTypes, types_with_rows, types_suit, all_suit, suit_fits}
@@ -120,7 +121,7 @@ module _ (st : Store) (h : HeldRow) (none : place_refusal st h ≡ None) where
         store = refl;
       }
 
-learned_append : (known first rest : List Bytes)
+pub learned_append : (known first rest : List Bytes)
     → all_learned known (first ++ rest) ≡ all_learned (all_learned known first) rest
 learned_append known [] rest = refl
 learned_append known (t ∷ ts) rest = learned_append (learned known t) ts rest
@@ -169,7 +170,7 @@ rows_stay : (st : Store) (held : List HeldRow) (n : Bytes) → has_come st held 
     → rows_of (with_all st held).relations n ≡ rows_of st.relations n
 rows_stay st [] n h = refl
 rows_stay st (k ∷ ks) n h =
-    let both = none_or (bytes_eq k.relation n && not (is_there st k)) (has_come (with_held st k) ks n) h in
+    let both = or_parts (bytes_eq k.relation n && not (is_there st k)) (has_come (with_held st k) ks n) h in
     rows_stay (with_held st k) ks n both.1 ∙ by (is_there st k) both.0
   where
     other : (b : Bool) → bytes_eq n k.relation ≡ b → (bytes_eq k.relation n && true) ≡ false → b ≡ false

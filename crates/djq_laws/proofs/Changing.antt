@@ -3,9 +3,7 @@ use Rattle.std.specs.Prelude.{List, [], ◌∷◌, ◌≡◌, Bool, true, false,
 use Rattle.std.proofs.Common.{refl, ap, ◌∙◌, subst}
 use Rattle.std.proofs.lemmas.List.Elements.{All-nil, All-cons, All-head, All-tail}
 use Rattle.djq_model.specs.Data.{change_first, drop_first}
-
-inside : {A : Type 0} (x y : A) → Some x ≡ Some y → x ≡ y
-inside x y e = cc
+use Rattle.std.proofs.lemmas.Option.{same_Some}
 
 -- where it holds of the one that is changed, after the change
 pub all_changed : {A : Type 0} (P : A → Type 0) (p : A → Bool) (f : A → A) (xs : List A) → All P xs
@@ -27,7 +25,7 @@ all_found P p [] x h e = absurd cc
 all_found P p (y ∷ xs) x h e = at_first (p y) e (λ k. all_found P p xs x (All-tail P y xs h) k)
   where
     at_first : (b : Bool) → cond b (Some y) (find p xs) ≡ Some x → (find p xs ≡ Some x → P x) → P x
-    at_first true k rest = subst P (inside y x k) (All-head P y xs h)
+    at_first true k rest = subst P (same_Some y x k) (All-head P y xs h)
     at_first false k rest = rest k
 
 pub all_dropped : {A : Type 0} (P : A → Type 0) (p : A → Bool) (xs : List A) → All P xs → All P (drop_first p xs)

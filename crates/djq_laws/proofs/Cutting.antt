@@ -17,12 +17,11 @@ use Rattle.djq_machine.specs.Run.{Did, Run, all_fed, fed_by, lines_of, line_by, 
 use Rattle.djq_machine.specs.Call.{cause_of, held_of, cause_in, held_in}
 use Rattle.djq_laws.specs.Moved.{Spares, LeavesHeld, CausedBy}
 use Rattle.djq_laws.specs.Lines.{TakesInOrder, LinesInOrder}
-use Rattle.djq_laws.proofs.Finding.{some_and}
+use Rattle.djq_deltas.proofs.Cases.{some_there}
 use Rattle.djq_laws.proofs.Queueing.{stepped_cause, stepped_held}
 use Rattle.djq_laws.proofs.Alike.{CauseKept, alike_cause, alike_held}
 use Rattle.djq_laws.proofs.Touching.{AnyCause, Touches, FedTo, is_held, out_of_memory, is_dropped}
-use Rattle.djq_laws.proofs.Touching.{is_fed, EndedTo, input_ends, had_ended, is_ended, is_taken}
-use Rattle.djq_laws.proofs.Touching.{is_stepped}
+use Rattle.djq_laws.proofs.Touching.{is_fed, EndedTo, input_ends, had_ended, is_ended, is_taken, is_stepped}
 use Rattle.djq_laws.proofs.Sending.{others_stay}
 
 -- Bytes behind a first LF change nothing of the line in front of it.
@@ -134,7 +133,7 @@ HeldSteps old event mid t = HeldStep (fed_by t event) (line_by t event) (held_of
 none_some : (o : Option EndCause) → o ≡ None → IsSome o → ⊥
 none_some o e h = absurd cc
 
-some_of : (o : Option EndCause) (c : EndCause) → o ≡ Some c → IsSome o
+pub some_of : (o : Option EndCause) (c : EndCause) → o ≡ Some c → IsSome o
 some_of o c e = rw e refl
 
 kept_some : (a b : Option EndCause) → CauseKept AnyCause a b → IsSome a → IsSome b
@@ -242,21 +241,21 @@ acts_hold old (opened s) e mid h t spared = opened_holds h
         (ap (λ st. cause_of st t) k.1 ∙ fresh_cause s t old.sessions)
     opened_holds (none, above, inr k) = same_holds old mid t (ap (λ st. held_of st t) k) (ap (λ st. cause_of st t) k)
 acts_hold old (fed s bytes) e mid h t spared =
-    let f = some_and (session_of old s) (λ x. FedStep old s bytes x e mid) h in
+    let f = some_there (session_of old s) (λ x. FedStep old s bytes x e mid) h in
     let k = is_fed old s bytes f.0 e mid f.1 f.2 in
     let b = at_session old (fed s bytes) s f.0 e mid k.session t bytes [] (s == t) refl k.touches
     (fed_holds f.0 k.session bytes _ k.fed) in
     subst (λ (lines : List Bytes). HeldStep (fed_by t (fed s bytes)) lines (held_of old t) (held_of mid t)
     (cause_of old t) (cause_of mid t)) (none_came [] (s == t)) b
 acts_hold old (stepped s outcome) e mid h t spared =
-    let f = some_and (session_of old s) (λ x. (x.cause ≡ None) × FrontStep old s x outcome e mid) h in
+    let f = some_there (session_of old s) (λ x. (x.cause ≡ None) × FrontStep old s x outcome e mid) h in
     let k = is_stepped old s f.0 outcome e mid f.1 f.2.0 f.2.1 in
     let b = at_session old (stepped s outcome) s f.0 e mid k.session t [] (line_in outcome) (s == t) refl k.touches
     (stepped_holds outcome f.0 k.session f.2.0 k.held k.cause) in
     subst (λ (came : Bytes). HeldStep came (line_by t (stepped s outcome)) (held_of old t) (held_of mid t)
     (cause_of old t) (cause_of mid t)) (none_came [] (s == t)) b
 acts_hold old (took s bytes) e mid h t spared =
-    let f = some_and (session_of old s) (λ x. TookStep old s bytes x e mid) h in
+    let f = some_there (session_of old s) (λ x. TookStep old s bytes x e mid) h in
     let k = is_taken old s bytes f.0 e mid f.1 f.2 in
     let b = at_session old (took s bytes) s f.0 e mid k.session t [] [] (s == t) refl k.touches
     (kept_holds f.0 k.session k.held (λ c. rw k.cause c)) in
@@ -268,7 +267,7 @@ acts_hold old (took s bytes) e mid h t spared =
     quiet_holds true k = k
     quiet_holds false k = k
 acts_hold old (ended s) e mid h t spared =
-    let f = some_and (session_of old s) (λ x. EndedStep old s x e mid) h in
+    let f = some_there (session_of old s) (λ x. EndedStep old s x e mid) h in
     let k = is_ended old s f.0 e mid f.1 f.2 in
     let b = at_session old (ended s) s f.0 e mid k.session t [] [] (s == t) refl k.touches
     (kept_holds f.0 k.session k.held (λ c. ended_some f.0 k.session _ k.ends)) in

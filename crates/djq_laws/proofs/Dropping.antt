@@ -11,7 +11,7 @@ use Rattle.djq_machine.specs.Step.{Event, opened, fed, stepped, took, ended, clo
 use Rattle.djq_machine.specs.Run.{Did, Run, out, to_session, all_taken, taken_by, pending_of}
 use Rattle.djq_machine.specs.Call.{ids_of}
 use Rattle.djq_laws.specs.Sent.{dropped_by, all_dropped, opened_by, all_opened, SentInOrder}
-use Rattle.djq_laws.proofs.Finding.{some_and}
+use Rattle.djq_deltas.proofs.Cases.{some_there, not_both}
 use Rattle.djq_laws.proofs.Rising.{IdsBehind, step_ids}
 use Rattle.djq_laws.proofs.Sending.{step_bytes}
 
@@ -41,15 +41,11 @@ at_found P s (y ∷ xs) x e h =
         subst P (eqb-true y.id s same) (All-head P y.id (map (λ (z : Session). z.id) xs) h)
     by_id false other found rest = rest found
 
-not_both : (b : Bool) → b ≡ true → b ≡ false → ⊥
-not_both true e f = cc
-not_both false e f = cc
-
 -- A session that isn't open has none of its bytes taken.
 not_there : (s t : ℕ) (old : State) (P : Session → Type 0) → (t == s) ≡ true → NotAmong s (ids_of old)
     → IsSomeAnd (session_of old t) P → ⊥
 not_there s t old P same out there =
-    let f = some_and (session_of old t) P there in
+    let f = some_there (session_of old t) P there in
     let found : session_of old s ≡ Some f.0 = subst (λ i. session_of old i ≡ Some f.0) (eqb-true t s same) f.1 in
     not_both (s == s) (eq-eqb s s refl) (at_found (λ i. (i == s) ≡ false) s old.sessions f.0 found out)
 
@@ -196,7 +192,7 @@ closing_order s t bytes old e mid done new h w above rest =
     none : (t == s) ≡ true → all_taken s done ≡ []
     none same =
         let is : t ≡ s = eqb-true t s same in
-        let found = some_and (session_of old t) (λ x. x.pending ≡ bytes) h.acts.1 in
+        let found = some_there (session_of old t) (λ x. x.pending ≡ bytes) h.acts.1 in
         let later_ones : All (λ j. t < j) (all_opened done) =
         at_found (λ i. All (λ j. i < j) (all_opened done)) t old.sessions found.0 found.1 above in
         none_taken s mid done new w (subst (λ i. All (λ j. i < j) (all_opened done)) is later_ones)

@@ -1,13 +1,8 @@
 -- What is found in a list after a change of it.
-use Rattle.std.specs.Prelude.{List, [], ◌∷◌, ◌≡◌, Bool, true, false, cond, Option, None, Some}
-use Rattle.std.specs.Prelude.{IsSomeAnd, option_map, find}
+use Rattle.std.specs.Prelude.{List, [], ◌∷◌, ◌≡◌, Bool, true, false, cond, Option, Some, IsSomeAnd, option_map, find}
 use Rattle.std.proofs.Common.{refl, ap}
 use Rattle.djq_model.specs.Data.{change_first, drop_first}
-
--- what a fact of an option's value says: there is one, and the fact holds of it
-pub some_and : {A : Type 0} (o : Option A) (P : A → Type 0) → IsSomeAnd o P → (x : A) × (o ≡ Some x) × P x
-some_and None P h = absurd h
-some_and (Some x) P h = (x, refl, h)
+pub use Rattle.djq_deltas.proofs.Cases.{some_there}
 
 pub and_some : {A : Type 0} (o : Option A) (P : A → Type 0) (x : A) → o ≡ Some x → P x → IsSomeAnd o P
 and_some o P x e h = rw e h

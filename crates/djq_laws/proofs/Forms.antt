@@ -192,8 +192,8 @@ use Rattle.djq_laws.specs.Form.{
   is_refused,
   Does,
 }
-use Rattle.djq_laws.proofs.Finding.{some_and}
-use Rattle.djq_laws.proofs.Answering.{none_or}
+use Rattle.djq_deltas.proofs.Cases.{some_there, nothing_of}
+use Rattle.std.proofs.lemmas.Bool.{or_parts}
 use Rattle.djq_laws.proofs.Members.{said_members, may_unite}
 
 -- ---- what the conditions of a command tell, where it is done
@@ -217,10 +217,6 @@ pub none_second : (a b : Bool) (r t : Refusal) (o : Option Refusal) → cond a (
 none_second true b r t o h = absurd cc
 none_second false true r t o h = absurd cc
 none_second false false r t o h = refl
-
-pub none_found : {A : Type 0} (o : Option A) → is_some o ≡ false → o ≡ None
-none_found None e = refl
-none_found (Some a) e = absurd cc
 
 some_found : {A : Type 0} (o : Option A) → is_none o ≡ false → IsSome o
 some_found None e = absurd cc
@@ -278,7 +274,7 @@ module _ (used : Bytes → Bool) (old new : Store) where
       (λ _. new ≡ record old { relations = old.relations ++ record { name = name; types = types; rows = [] } ∷ [] })
       (OutOfMemoryWhere ⊤) h.answer in
       makes_relation name types
-      (none_found (relation_of old.relations name)
+      (nothing_of (relation_of old.relations name)
       (none_first (is_some (relation_of old.relations name)) Taken
       (first_of ((nat_lt COLUMNS (length types), Limit) ∷ (nat_le RELATIONS (length old.relations), Limit) ∷ [])) none))
       (done_of (rel_refusal old name types) u _ (OutOfMemoryWhere ⊤) h.answer)
@@ -304,7 +300,7 @@ module _ (used : Bytes → Bool) (old new : Store) where
       let d = done_of (query_refusal old q) (Registered most) (RegistersAs old q new) (RefusedLate old q new) h.answer
       in
       registers (a_query q)
-      (none_found (listed_of old.queries q.name)
+      (nothing_of (listed_of old.queries q.name)
       (none_first (is_some (listed_of old.queries q.name)) Taken
       (first_of (query_faults old.relations q ++ (nat_le QUERIES (length old.queries), Limit) ∷ [])) none)) (
         d.0,
@@ -322,7 +318,7 @@ module _ (used : Bytes → Bool) (old new : Store) where
       let none = none_holds (union_refusal old name members) most D (OutOfMemoryWhere ⊤) h.answer in
       let d = done_of (union_refusal old name members) most D (OutOfMemoryWhere ⊤) h.answer in
       registers (a_union name d.0)
-      (none_found (listed_of old.queries name) (none_first (is_some (listed_of old.queries name)) Taken _ none))
+      (nothing_of (listed_of old.queries name) (none_first (is_some (listed_of old.queries name)) Taken _ none))
       (may_unite old name members d.0 two none d.1)
       (λ few. subst (λ (st : Store). length st.texts ≤ TEXTS) (sym d.3) few) d.3
 
@@ -331,7 +327,7 @@ module _ (used : Bytes → Bool) (old new : Store) where
   drop_stored name (Ok u) h =
       let D = λ (_ : ⊤). new ≡ record old { queries = drop_first (λ q. bytes_eq (listed_name q) name) old.queries } in
       let none = none_holds (drop_refusal old (used name) name) u D (OutOfMemoryWhere ⊥) h.answer in
-      let free = none_or (used name) (is_member old.queries name)
+      let free = or_parts (used name) (is_member old.queries name)
       (none_second (is_none (listed_of old.queries name)) (used name || is_member old.queries name) NoQuery InUse None
       none) in
       drops_query name free.0 free.1
@@ -392,7 +388,7 @@ open_does old s x c q (Ok u) new answer after =
     let none = none_holds (open_refusal old.store x.cursors c q) u (λ _. ⊤) (OutOfMemoryWhere ⊤) answer in
     let rest = first_of ((nat_le CURSORS (length x.cursors), Limit) ∷ []) in
     is_turned (
-      none_found (cursor_of x.cursors c)
+      nothing_of (cursor_of x.cursors c)
           (none_first (is_some (cursor_of x.cursors c)) Taken
           (cond (is_none (listed_of old.store.queries q)) (Some NoQuery) rest) none),
       some_found (listed_of old.store.queries q)
@@ -439,7 +435,7 @@ pub next_does : (old : State) (s : ℕ) (x : Session) (c : Bytes) (count : ℕ) 
     → SaysAlone s e × DoesTurn old s x (moves_cursor c) new
 next_does old s x c count None e new is h = (says_alone s (refusal_line NoCursor) e h.0, is_refused (is_whole h.1))
 next_does old s x c count (Some k) e new is h =
-    let f = some_and (listed_of old.store.queries k.query) (λ q. NextStepAt old s c q count k.position e new) h in
+    let f = some_there (listed_of old.store.queries k.query) (λ q. NextStepAt old s c q count k.position e new) h in
     next_at_does old s x c k f.0 count k.position e new is f.1 refl f.2
 
 close_does : (old : State) (s : ℕ) (x : Session) (c : Bytes) (o : Option Cursor) (e : Effect) (new : State)

@@ -77,7 +77,8 @@ use Rattle.djq_machine.specs.Step.{
 use Rattle.djq_machine.specs.Run.{Did}
 use Rattle.djq_machine.specs.Gives.{Gives, PositionGives, CursorsGive}
 use Rattle.djq_machine.proofs.Walks.{walk_keeps}
-use Rattle.djq_laws.proofs.Finding.{some_and, find_dropped}
+use Rattle.djq_laws.proofs.Finding.{find_dropped}
+use Rattle.djq_deltas.proofs.Cases.{some_there}
 use Rattle.djq_laws.proofs.Told.{change_keeps}
 use Rattle.djq_laws.proofs.Queueing.{session_changed}
 use Rattle.djq_laws.specs.Given.{RunsGive}
@@ -120,16 +121,9 @@ use Rattle.djq_laws.proofs.Forms.{command_does, Reads, turned_down, carried_out,
 use Rattle.djq_laws.proofs.Rows.{RowsMade}
 use Rattle.djq_laws.proofs.Doing.{closing, begun, closing_cursors, rows_do}
 use Rattle.djq_laws.proofs.Changing.{all_changed, all_found, all_dropped, all_mapped}
-use Rattle.djq_laws.proofs.Answering.{
-  SameAnswers,
-  gives_kept,
-  rows_same,
-  new_relation_same,
-  reordered_same,
-  apart_from,
-  none_or,
-  none_pass,
-}
+use Rattle.djq_laws.proofs.Answering.{SameAnswers, gives_kept, rows_same, new_relation_same, reordered_same, apart_from}
+use Rattle.djq_deltas.proofs.Growing.{none_any}
+use Rattle.std.proofs.lemmas.Bool.{or_parts}
 
 -- a cursor gives what it should, over these relations and queries
 abbrev pub CursorGives : List Relation → List Listed → Cursor → Type 0
@@ -254,12 +248,12 @@ dropped_give : (rs : List Relation) (qs : List Listed) (q : Bytes) (xs : List Se
     → SessionsGive rs qs xs → SessionsGive rs (drop_first (λ p. bytes_eq (listed_name p) q) qs) xs
 dropped_give rs qs q xs none h = λ k d lt.
     let x = slice_index_or xs k d in
-    let unused = (none_or (list_any (λ (c : Cursor). bytes_eq c.query q) x.cursors)
-    (list_any (λ w. bytes_eq w q) x.watches) (none_pass (uses q) xs none k d lt)).0 in
+    let unused = (or_parts (list_any (λ (c : Cursor). bytes_eq c.query q) x.cursors)
+    (list_any (λ w. bytes_eq w q) x.watches) (none_any (uses q) xs none k d lt)).0 in
     λ j e within.
     let c = slice_index_or x.cursors j e in
     subst (λ (o : Option Listed). PositionGives rs o c.position)
-    (sym (dropped_query qs q c.query (none_pass (λ (z : Cursor). bytes_eq z.query q) x.cursors unused j e within)))
+    (sym (dropped_query qs q c.query (none_any (λ (z : Cursor). bytes_eq z.query q) x.cursors unused j e within)))
     (h k d lt j e within)
 
 -- What a command of the store makes of it.
@@ -473,16 +467,16 @@ acts_give : (old : State) (event : Event) (e : Effect) (mid : State) → Acts ol
     → CursorsGive mid
 acts_give old (opened s) e mid h g = opened_gives old mid s h.2 g
 acts_give old (fed s bytes) e mid h g =
-    let f = some_and (session_of old s) (λ x. FedStep old s bytes x e mid) h in
+    let f = some_there (session_of old s) (λ x. FedStep old s bytes x e mid) h in
     fed_gives old s bytes e mid (f.0).cause f.2 g
 acts_give old (stepped s outcome) e mid h g =
-    let f = some_and (session_of old s) (λ x. (x.cause ≡ None) × FrontStep old s x outcome e mid) h in
+    let f = some_there (session_of old s) (λ x. (x.cause ≡ None) × FrontStep old s x outcome e mid) h in
     front_gives old s f.0 outcome e mid f.1 f.2.1 g
 acts_give old (took s bytes) e mid h g =
-    let f = some_and (session_of old s) (λ x. TookStep old s bytes x e mid) h in
+    let f = some_there (session_of old s) (λ x. TookStep old s bytes x e mid) h in
     cursors_stay old mid s (λ y. record y { pending = f.2.1.0 }) (λ x. refl) f.2.1.2 g
 acts_give old (ended s) e mid h g =
-    let f = some_and (session_of old s) (λ x. EndedStep old s x e mid) h in
+    let f = some_there (session_of old s) (λ x. EndedStep old s x e mid) h in
     input_gives old mid s _ _ _ (f.0).cause f.2 g
 acts_give old (closed s bytes) e mid h g =
     subst CursorsGive (sym h.2)

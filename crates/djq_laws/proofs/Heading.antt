@@ -30,7 +30,7 @@ walk_spares old (d ∷ done) new w = All-cons (λ (e : Did). Spares e.event 1) d
     (walk_spares w.0 done new w.2)
 
 -- where no session is open, nothing is pending and no cursor is
-none_pending : (st : State) → st.sessions ≡ [] → pending_of st 1 ≡ []
+pub none_pending : (st : State) → st.sessions ≡ [] → pending_of st 1 ≡ []
 none_pending st none = ap (λ (xs : List Session). pending_of (record st { sessions = xs }) 1) none
 
 none_give : (st : State) → st.sessions ≡ [] → CursorsGive st

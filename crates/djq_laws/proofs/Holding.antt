@@ -144,7 +144,7 @@ use Rattle.djq_laws.specs.Form.{
   is_refused,
   Does,
 }
-use Rattle.djq_laws.proofs.Finding.{some_and}
+use Rattle.djq_deltas.proofs.Cases.{some_there}
 use Rattle.djq_laws.proofs.Changing.{all_changed, all_found, all_mapped}
 use Rattle.djq_laws.proofs.Queueing.{session_changed}
 use Rattle.djq_laws.proofs.Forms.{command_does, Reads, turned_down, carried_out, line_reads}
@@ -324,16 +324,16 @@ held_acts : (old : State) (event : Event) (e : Effect) (mid : State) → Acts ol
     → HoldLines mid
 held_acts old (opened s) e mid h k = held_opened old mid s h.2 k
 held_acts old (fed s bytes) e mid h k =
-    let f = some_and (session_of old s) (λ x. FedStep old s bytes x e mid) h in
+    let f = some_there (session_of old s) (λ x. FedStep old s bytes x e mid) h in
     held_fed old s bytes e mid (f.0).cause f.2 k
 held_acts old (stepped s outcome) e mid h k =
-    let f = some_and (session_of old s) (λ x. (x.cause ≡ None) × FrontStep old s x outcome e mid) h in
+    let f = some_there (session_of old s) (λ x. (x.cause ≡ None) × FrontStep old s x outcome e mid) h in
     held_front old s f.0 outcome e mid f.1 (runs_line old s outcome e mid h) f.2.1 k
 held_acts old (took s bytes) e mid h k =
-    let f = some_and (session_of old s) (λ x. TookStep old s bytes x e mid) h in
+    let f = some_there (session_of old s) (λ x. TookStep old s bytes x e mid) h in
     held_still old mid s (λ y. record y { pending = f.2.1.0 }) (λ x. refl) f.2.1.2 k
 held_acts old (ended s) e mid h k =
-    let f = some_and (session_of old s) (λ x. EndedStep old s x e mid) h in
+    let f = some_there (session_of old s) (λ x. EndedStep old s x e mid) h in
     held_input old mid s _ _ _ (f.0).cause f.2 k
 held_acts old (closed s bytes) e mid h k =
     subst HoldLines (sym h.2) (All-filter (λ (x : Session). not (x.id == s)) Holds old.sessions k)
@@ -416,7 +416,7 @@ keeps_asked : (old : State) (s : ℕ) (c : Bytes) (count : ℕ) (e : Effect) (ne
     → KeepsLines e.kept
 keeps_asked old s c count e new None h = keeps_nothing s _ 0 e h.0
 keeps_asked old s c count e new (Some k) h =
-    let f = some_and (listed_of old.store.queries k.query) (λ q. NextStepAt old s c q count k.position e new) h in
+    let f = some_there (listed_of old.store.queries k.query) (λ q. NextStepAt old s c q count k.position e new) h in
     keeps_next old s c f.0 count k.position e new f.2
 
 keeps_closed : (old : State) (s : ℕ) (c : Bytes) (e : Effect) (new : State) (o : Option Cursor)
@@ -493,7 +493,7 @@ pub kept_lines : (old : State) (s : ℕ) (l : Bytes) (e : Effect) (mid : State) 
     → HoldLines old
     → (lines : List Bytes) → groups_in l e.kept ≡ lines ∷ [] → AllByRecursion IsLine lines
 kept_lines old s l e mid h hold lines same =
-    let f = some_and (session_of old s) (λ (x : Session). (x.cause ≡ None) × FrontStep old s x (run l) e mid) h in
+    let f = some_there (session_of old s) (λ (x : Session). (x.cause ≡ None) × FrontStep old s x (run l) e mid) h in
     let rest = f.2.1.2.rest in
     let from = with_session old s (behind_line rest) in
     let holds : Holds f.0 = all_found Holds (λ (y : Session). y.id == s) old.sessions f.0 hold f.1 in

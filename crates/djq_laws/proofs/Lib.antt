@@ -1,6 +1,6 @@
 pub mod Finding
 pub mod Queueing
-mod Told
+pub mod Told
 pub mod Changing
 pub mod Members
 pub mod Forms

@@ -36,7 +36,7 @@ use Rattle.std.specs.Prelude.{
   ⊤,
 }
 use Rattle.std.proofs.Common.{refl, sym, ap, ap₂, ◌∙◌, subst, inl, inr, append-nil}
-use Rattle.std.proofs.lemmas.Bool.{eqb-true, eq-eqb}
+use Rattle.std.proofs.lemmas.Bool.{eqb-true, eq-eqb, and_right}
 use Rattle.std.proofs.lemmas.List.{map-append}
 use Rattle.std.proofs.lemmas.Grind.{flat_map-append}
 use Rattle.std.proofs.lemmas.List.Elements.{All-nil, All-head, All-tail, All-contains}
@@ -173,24 +173,15 @@ use Rattle.djq_laws.specs.Form.{
   is_refused,
   Does,
 }
-use Rattle.djq_laws.proofs.Finding.{some_and, find_changed, find_other, find_dropped}
+use Rattle.djq_laws.proofs.Finding.{find_changed, find_other, find_dropped}
+use Rattle.djq_deltas.proofs.Cases.{some_there, nothing_of}
 use Rattle.djq_laws.proofs.Told.{change_keeps}
 use Rattle.djq_laws.proofs.Queueing.{session_changed, session_other}
 use Rattle.djq_laws.proofs.Changing.{all_found}
 use Rattle.djq_laws.proofs.Touching.{says_to, said}
 use Rattle.djq_machine.specs.Gives.{PositionGives, CursorsGive}
 use Rattle.djq_laws.proofs.Live.{listed}
-use Rattle.djq_laws.proofs.Forms.{
-  none_holds,
-  none_found,
-  none_first,
-  next_does,
-  command_does,
-  Reads,
-  turned_down,
-  carried_out,
-  line_reads,
-}
+use Rattle.djq_laws.proofs.Forms.{none_holds, none_first, next_does, command_does, Reads, turned_down, carried_out, line_reads}
 use Rattle.djq_laws.proofs.Doing.{closing, begun, closing_id, closing_cursors, rows_do}
 use Rattle.djq_laws.proofs.Giving.{runs_give}
 use Rattle.djq_laws.proofs.Sounding.{
@@ -330,10 +321,6 @@ not_misplacing : (told : List Tuple) (end : Bool) → is_misplacing (text_of (li
 not_misplacing [] true = refl
 not_misplacing [] false = refl
 not_misplacing (t ∷ ts) end = refl
-
-and_none : (a b : Bool) → b ≡ false → (a && b) ≡ false
-and_none true b e = e
-and_none false b e = refl
 
 module _ (s : ℕ) (c : Bytes) where
   -- What is open behind a change was so before it.
@@ -574,7 +561,7 @@ module _ (s : ℕ) (c : Bytes) where
   open_told old x d q (Ok u) e new replies true is found answer effect after tell =
       let yes : is_opened (to_session s e.queued) ≡ true = ap is_opened (said s (line (codes "ok open")) e effect) in
       let fine = none_holds (open_refusal old.store x.cursors d q) u (λ _. ⊤) (OutOfMemoryWhere ⊤) answer in
-      let none = none_found (cursor_of x.cursors d) (none_first (is_some (cursor_of x.cursors d)) _ _ fine) in
+      let none = nothing_of (cursor_of x.cursors d) (none_first (is_some (cursor_of x.cursors d)) _ _ fine) in
       subst (λ b. Tell new (cond b [] replies)) (sym yes) (opened_now old x d q new found none (same_name d c is) after)
   open_told old x d q (Err r) e new replies true is found answer effect after tell =
       let no : is_opened (to_session s e.queued) ≡ false = ap is_opened (said s (refusal_line r) e effect) ∙ not_opened
@@ -654,7 +641,7 @@ module _ (s : ℕ) (c : Bytes) where
       (λ w. option_map (λ (z : Cursor). z.position) w) none in
       absurd (cc (before, at))
   next_told old x d count (Some k) e new replies true same found kept is h tell given finished at =
-      let f = some_and (listed_of old.store.queries k.query) (λ q. NextStepAt old s d q count k.position e new) h in
+      let f = some_there (listed_of old.store.queries k.query) (λ q. NextStepAt old s d q count k.position e new) h in
       next_at_told old x d k f.0 count k.position e new replies found is refl (same_name d c same) f.2 tell given
       finished at
 
@@ -680,7 +667,7 @@ module _ (s : ℕ) (c : Bytes) where
   refused_told outside replies why because = refl
   refused_told (past_limit k) replies why because = refl
   refused_told (says_command (Open d q)) replies why because =
-      ap (λ b. cond b [] replies) (and_none (bytes_eq d c) (is_opened (refusal_line why)) (not_opened why))
+      ap (λ b. cond b [] replies) (and_right (bytes_eq d c) (is_opened (refusal_line why)) (not_opened why))
   refused_told (says_command (Next d count)) replies why because = by (because (Next d count) refl)
     where
       by : (why ≡ Misplaced) ⊎ (takes_memory_to_read (Next d count) ≡ true)
@@ -688,7 +675,7 @@ module _ (s : ℕ) (c : Bytes) where
       by (inl e) =
           let yes : is_misplacing (refusal_line why) ≡ true = ap (λ (w : Refusal). is_misplacing (refusal_line w)) e in
           ap (λ b. cond b (replies ++ refusal_line why ∷ []) replies)
-          (and_none (bytes_eq d c) (not (is_misplacing (refusal_line why))) (ap not yes))
+          (and_right (bytes_eq d c) (not (is_misplacing (refusal_line why))) (ap not yes))
       by (inr takes) = absurd cc
   refused_told (says_command k) replies why because = refl
 
@@ -858,17 +845,17 @@ module _ (s : ℕ) (c : Bytes) where
       → Tell mid (replies_after s c replies event (to_session s e.queued))
   acts_told old (opened t) e mid replies kept h tell = tell_back old mid replies (back_opened old mid t h.2) tell
   acts_told old (fed t bytes) e mid replies kept h tell =
-      let f = some_and (session_of old t) (λ x. FedStep old t bytes x e mid) h in
+      let f = some_there (session_of old t) (λ x. FedStep old t bytes x e mid) h in
       tell_back old mid replies (back_fed old t bytes e mid (f.0).cause f.2) tell
   acts_told old (stepped t outcome) e mid replies kept h tell =
-      let f = some_and (session_of old t) (λ x. (x.cause ≡ None) × FrontStep old t x outcome e mid) h in
+      let f = some_there (session_of old t) (λ x. (x.cause ≡ None) × FrontStep old t x outcome e mid) h in
       front_told old t f.0 outcome e mid replies (t == s) refl f.1 kept f.2.1 tell
   acts_told old (took t bytes) e mid replies kept h tell =
-      let f = some_and (session_of old t) (λ x. TookStep old t bytes x e mid) h in
+      let f = some_there (session_of old t) (λ x. TookStep old t bytes x e mid) h in
       tell_back old mid replies (back_kept old mid t (λ y. record y { pending = f.2.1.0 }) (λ x. refl) (λ x. refl)
       f.2.1.2) tell
   acts_told old (ended t) e mid replies kept h tell =
-      let f = some_and (session_of old t) (λ x. EndedStep old t x e mid) h in
+      let f = some_there (session_of old t) (λ x. EndedStep old t x e mid) h in
       tell_back old mid replies (back_input old mid t _ _ _ (f.0).cause f.2) tell
   acts_told old (closed t bytes) e mid replies kept h tell = tell_back old mid replies (back_closed old mid t h.2) tell
 

@@ -30,7 +30,7 @@ use Rattle.std.specs.Prelude.{
 use Rattle.std.specs.List.{list_any}
 use Rattle.std.specs.Str.{is_utf8}
 use Rattle.std.proofs.Common.{refl, sym, ap, ap₂, ◌∙◌, subst, arith}
-use Rattle.std.proofs.lemmas.Bool.{ltb-false}
+use Rattle.std.proofs.lemmas.Bool.{ltb-false, or_parts}
 use Rattle.std.proofs.lemmas.List.{length-map}
 use Rattle.std.proofs.lemmas.List.Elements.{All-nil, All-cons, All-weaker}
 use Rattle.std.proofs.lemmas.List.Kept.{AllPairs-cons}
@@ -40,7 +40,7 @@ use Rattle.djq_model.specs.declared.query.Query.{Query}
 use Rattle.djq_model.specs.Data.{Bytes, Tuple, bytes_eq}
 use Rattle.djq_model.specs.Equality.{bytes_eq-decides}
 use Rattle.djq_model.specs.Listed.{Listed, a_query, a_union, listed_name, listed_of}
-use Rattle.djq_value.specs.Literal.{is_name}
+use Rattle.djq_value.specs.Literal.{is_name, literal_of}
 use Rattle.djq_value.specs.Token.{Token, word, tokens}
 use Rattle.djq_lines.specs.declared.keyword.Keyword.{Keyword}
 use Rattle.djq_lines.specs.declared.keyword.Keyword.TheVariants.{
@@ -113,7 +113,6 @@ use Rattle.djq_lines.specs.Grammar.{
   reading_in,
   reading_of,
 }
-use Rattle.djq_value.specs.Literal.{literal_of}
 use Rattle.djq_machine.specs.State.{Store}
 use Rattle.djq_machine.specs.Store.{answer_types, listed_types}
 use Rattle.djq_machine.specs.Union.{
@@ -127,8 +126,9 @@ use Rattle.djq_machine.specs.Union.{
   AreUnder,
 }
 use Rattle.djq_laws.specs.Sound.{AreApart, IsSoundUnion}
-use Rattle.djq_laws.proofs.Answering.{none_or, none_pass}
+use Rattle.djq_deltas.proofs.Growing.{none_any}
 use Rattle.djq_laws.proofs.Apart.{nothing_apart, other_name}
+use Rattle.djq_deltas.proofs.Cases.{not_false}
 
 -- ---- what a line says
 
@@ -271,10 +271,10 @@ under_registered ls (n ∷ ns) (q ∷ qs) e =
 once_apart : (ns : List Bytes) → stands_twice ns ≡ false → AreApart ns
 once_apart [] e = nothing_apart (λ a b. a ≢ b)
 once_apart (n ∷ ns) e =
-    let k = none_or (list_any (λ m. bytes_eq m n) ns) (stands_twice ns) e in
+    let k = or_parts (list_any (λ m. bytes_eq m n) ns) (stands_twice ns) e in
     AllPairs-cons (λ a b. a ≢ b) n ns
     (All-weaker (λ m. bytes_eq m n ≡ false) (λ m. n ≢ m) (λ m other same. other_name m n other (sym same)) ns
-    (none_pass (λ m. bytes_eq m n) ns k.0)) (once_apart ns k.1)
+    (none_any (λ m. bytes_eq m n) ns k.0)) (once_apart ns k.1)
 
 -- ---- the types of their answers
 
@@ -295,10 +295,6 @@ all_same (c ∷ cs) (d ∷ ds) e = by (same_type c d) refl e (λ h. all_same cs 
     by false k h more = absurd cc
     by true k h more = ap₂ (λ (x : ColumnType) (xs : List ColumnType). x ∷ xs) (same_is c d k) (more h)
 
-none_other : (b : Bool) → not b ≡ false → b ≡ true
-none_other true e = refl
-none_other false e = absurd cc
-
 types_agree : (st : Store) (types : List ColumnType) (ns : List Bytes) (qs : List Query) → AreUnder st.queries ns qs
     → list_any (λ m. not (same_types types (types_under st m))) ns ≡ false
     → All (λ (q : Query). answer_types st.relations q ≡ types) qs
@@ -307,10 +303,10 @@ types_agree st types [] (q ∷ qs) under e = absurd cc
 types_agree st types (n ∷ ns) [] under e = absurd cc
 types_agree st types (n ∷ ns) (q ∷ qs) under e =
     let f = found_first st.queries n ns q qs under in
-    let k = none_or (not (same_types types (types_under st n)))
+    let k = or_parts (not (same_types types (types_under st n)))
     (list_any (λ m. not (same_types types (types_under st m))) ns) e in
     All-cons (λ (p : Query). answer_types st.relations p ≡ types) q qs
-    (sym (all_same types (types_under st n) (none_other (same_types types (types_under st n)) k.0)
+    (sym (all_same types (types_under st n) (not_false (same_types types (types_under st n)) k.0)
     ∙ ap (λ (o : Option Listed). listed_types st.relations o) f.0))
     (types_agree st types ns qs f.1 k.1)
 

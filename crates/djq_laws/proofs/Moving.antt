@@ -12,7 +12,7 @@ use Rattle.djq_machine.specs.Run.{to_session, pending_of, pending_in}
 use Rattle.djq_machine.specs.Call.{IsOpen, cause_of, held_of, cause_in, held_in}
 pub use Rattle.djq_laws.specs.Moved.{Takes, Comes, is_held, out_of_memory, is_dropped, Ends}
 pub use Rattle.djq_laws.specs.Moved.{input_ends, had_ended, StepsLine, CausedBy, LeavesHeld}
-use Rattle.djq_laws.proofs.Finding.{some_and}
+use Rattle.djq_deltas.proofs.Cases.{some_there}
 use Rattle.djq_laws.proofs.Queueing.{stepped_open, stepped_cause, stepped_held, stepped_pending}
 use Rattle.djq_laws.proofs.Touching.{Touches, FedTo, is_held as holds, out_of_memory as runs_out}
 use Rattle.djq_laws.proofs.Touching.{is_dropped as drops, is_fed, EndedTo, input_ends as ends_input}
@@ -51,7 +51,7 @@ said_pending old new s x y text line found pending same said = pending ∙ ap (�
 pub took_facts : (old : State) (s : ℕ) (bytes : Bytes) (e : Effect) (new : State) → Step old (took s bytes) e new
     → Takes old new s bytes
 took_facts old s bytes e new h =
-    let f = some_and (session_of old s) (λ x. TookStep old s bytes x e h.mid) h.acts in
+    let f = some_there (session_of old s) (λ x. TookStep old s bytes x e h.mid) h.acts in
     let t = is_taken old s bytes f.0 e h.mid f.1 f.2 in
     let b = becomes old (took s bytes) e new h s f.0 t.session t.touches in
     record {
@@ -79,7 +79,7 @@ comes old new s bytes x y text found same b (drops c cause still held none) =
 pub fed_facts : (old : State) (s : ℕ) (bytes : Bytes) (e : Effect) (new : State) → Step old (fed s bytes) e new
     → Comes old new s bytes
 fed_facts old s bytes e new h =
-    let f = some_and (session_of old s) (λ x. FedStep old s bytes x e h.mid) h.acts in
+    let f = some_there (session_of old s) (λ x. FedStep old s bytes x e h.mid) h.acts in
     let t = is_fed old s bytes f.0 e h.mid f.1 f.2 in
     comes old new s bytes f.0 t.session (to_session s e.queued) f.1 t.pending
     (becomes old (fed s bytes) e new h s f.0 t.session t.touches) t.fed
@@ -100,7 +100,7 @@ ends old new s x y text found same held b (had c cause still none) =
 
 pub ended_facts : (old : State) (s : ℕ) (e : Effect) (new : State) → Step old (ended s) e new → Ends old new s
 ended_facts old s e new h =
-    let f = some_and (session_of old s) (λ x. EndedStep old s x e h.mid) h.acts in
+    let f = some_there (session_of old s) (λ x. EndedStep old s x e h.mid) h.acts in
     let t = is_ended old s f.0 e h.mid f.1 f.2 in
     ends old new s f.0 t.session (to_session s e.queued) f.1 t.pending t.held
     (becomes old (ended s) e new h s f.0 t.session t.touches) t.ends
@@ -108,7 +108,7 @@ ended_facts old s e new h =
 pub stepped_facts : (old : State) (s : ℕ) (outcome : LineOutcome) (e : Effect) (new : State)
     → Step old (stepped s outcome) e new → StepsLine old new s outcome
 stepped_facts old s outcome e new h =
-    let f = some_and (session_of old s) (λ x. (x.cause ≡ None) × FrontStep old s x outcome e h.mid) h.acts in
+    let f = some_there (session_of old s) (λ x. (x.cause ≡ None) × FrontStep old s x outcome e h.mid) h.acts in
     let t = is_stepped old s f.0 outcome e h.mid f.1 f.2.0 f.2.1 in
     let b = becomes old (stepped s outcome) e new h s f.0 t.session t.touches in
     record {

@@ -31,7 +31,8 @@ use Rattle.djq_machine.specs.Store.{type_among, variable_type, answer_types, lis
 use Rattle.djq_deltas.proofs.Lists.{first_there, hold_each}
 use Rattle.djq_laws.specs.Sound.{IsConnex, IsSoundListed}
 use Rattle.djq_laws.specs.Form.{MayRegister}
-use Rattle.djq_laws.proofs.Answering.{none_or, none_pass}
+use Rattle.djq_deltas.proofs.Growing.{none_any}
+use Rattle.std.proofs.lemmas.Bool.{or_parts, or_from}
 use Rattle.djq_laws.proofs.Changing.{all_found, all_dropped}
 use Rattle.djq_laws.proofs.Giving.{found_in_front, dropped_query}
 use Rattle.djq_laws.proofs.Suiting.{SameTypes, types_at, types_found, there_still, more_types}
@@ -45,24 +46,19 @@ TypesStay rs rs' = (n : Bytes) → is_none (relation_of rs n) ≡ false → type
 abbrev is_unknown : List Relation → Atom → Bool
 is_unknown rs a = is_none (relation_of rs a.relation)
 
-both_false : (a b : Bool) → a ≡ false → b ≡ false → (a || b) ≡ false
-both_false false false h k = refl
-both_false true b h k = absurd cc
-both_false false true h k = absurd cc
-
 module _ (rs rs' : List Relation) (still : TypesStay rs rs') where
   known_stay : (atoms : List Atom) → list_any (is_unknown rs) atoms ≡ false → list_any (is_unknown rs') atoms ≡ false
   known_stay [] known = refl
   known_stay (a ∷ more) known =
-      let k = none_or (is_unknown rs a) (list_any (is_unknown rs) more) known in
-      both_false (is_unknown rs' a) (list_any (is_unknown rs') more)
+      let k = or_parts (is_unknown rs a) (list_any (is_unknown rs) more) known in
+      or_from (is_unknown rs' a) (list_any (is_unknown rs') more)
       (there_still rs rs' a.relation (still a.relation k.0) k.0) (known_stay more k.1)
 
   variable_stays : (atoms : List Atom) → list_any (is_unknown rs) atoms ≡ false → (x : Bytes)
       → variable_type rs' atoms x ≡ variable_type rs atoms x
   variable_stays [] known x = refl
   variable_stays (a ∷ more) known x =
-      let k = none_or (is_unknown rs a) (list_any (is_unknown rs) more) known in
+      let k = or_parts (is_unknown rs a) (list_any (is_unknown rs) more) known in
       ap₂ (λ (ts : List ColumnType) (rest : ColumnType). unwrap_or (type_among ts a.terms x) rest)
       (types_found rs rs' a.relation (still a.relation k.0)) (variable_stays more k.1 x)
 
@@ -166,6 +162,6 @@ dropped_sound rs ls name free sound =
     apart : (l : Listed) → Contains ls l → (q : Query) → Contains (members_of l) q → bytes_eq q.name name ≡ false
     apart l c q d =
         All-contains (λ (p : Query). names p ≡ false) (members_of l) q
-        (none_pass names (members_of l)
+        (none_any names (members_of l)
         (All-contains (λ (k : Listed). list_any names (members_of k) ≡ false) ls l
-        (none_pass (λ (k : Listed). list_any names (members_of k)) ls free) c)) d
+        (none_any (λ (k : Listed). list_any names (members_of k)) ls free) c)) d

@@ -1,7 +1,6 @@
 -- The open sessions stay by rising id.
 use Rattle.std.specs.Prelude.{ℕ, List, [], ◌∷◌, ◌==◌, ◌≡◌, ◌<◌, ◌++◌, ◌⊎◌, Bool, true, false, not}
-use Rattle.std.specs.Prelude.{cond, length, filter, Option, None, Some, MatchOption, map, All}
-use Rattle.std.specs.Prelude.{AllPairs}
+use Rattle.std.specs.Prelude.{cond, length, filter, Option, None, Some, MatchOption, map, All, AllPairs}
 use Rattle.std.proofs.Common.{refl, sym, ap, ◌∙◌, subst, inl, inr}
 use Rattle.std.proofs.lemmas.List.Elements.{All-map}
 use Rattle.std.proofs.lemmas.List.Kept.{AllPairs-filter}
@@ -21,7 +20,7 @@ use Rattle.djq_machine.specs.Call.{ids_of}
 use Rattle.djq_machine.proofs.Walks.{walk_keeps}
 use Rattle.djq_laws.specs.Moved.{EndsByRun}
 use Rattle.djq_laws.specs.Rising.{AreRising, IdsRise}
-use Rattle.djq_laws.proofs.Finding.{some_and}
+use Rattle.djq_deltas.proofs.Cases.{some_there}
 use Rattle.djq_laws.proofs.Alike.{alike_ids, read_keeps}
 
 -- a change of one session that keeps its id
@@ -125,16 +124,16 @@ acts_rise : (old : State) (event : Event) (e : Effect) (mid : State) → Acts ol
     → AreRising mid
 acts_rise old (opened s) e mid h r = opened_rise old s mid h.1 h.2 r
 acts_rise old (fed s bytes) e mid h r =
-    let f = some_and (session_of old s) (λ x. FedStep old s bytes x e mid) h in
+    let f = some_there (session_of old s) (λ x. FedStep old s bytes x e mid) h in
     same_rise old mid (fed_ids old s bytes e mid (f.0).cause f.2) r
 acts_rise old (stepped s outcome) e mid h r =
-    let f = some_and (session_of old s) (λ x. (x.cause ≡ None) × FrontStep old s x outcome e mid) h in
+    let f = some_there (session_of old s) (λ x. (x.cause ≡ None) × FrontStep old s x outcome e mid) h in
     same_rise old mid (front_ids old s f.0 outcome e mid f.2.1) r
 acts_rise old (took s bytes) e mid h r =
-    let f = some_and (session_of old s) (λ x. TookStep old s bytes x e mid) h in
+    let f = some_there (session_of old s) (λ x. TookStep old s bytes x e mid) h in
     same_rise old mid (with_ids old mid s (λ y. record y { pending = f.2.1.0 }) (λ x. refl) f.2.1.2) r
 acts_rise old (ended s) e mid h r =
-    let f = some_and (session_of old s) (λ x. EndedStep old s x e mid) h in
+    let f = some_there (session_of old s) (λ x. EndedStep old s x e mid) h in
     same_rise old mid (input_ids old mid s _ _ _ _ (f.0).cause f.2) r
 acts_rise old (closed s bytes) e mid h r = closed_rise old s mid h.2 r
 
@@ -172,16 +171,16 @@ pub acts_ids : (old : State) (event : Event) (e : Effect) (mid : State) → Acts
     → IdsBehind event (ids_of old) (ids_of mid)
 acts_ids old (opened s) e mid h = opened_ids old s mid h.2
 acts_ids old (fed s bytes) e mid h =
-    let f = some_and (session_of old s) (λ x. FedStep old s bytes x e mid) h in
+    let f = some_there (session_of old s) (λ x. FedStep old s bytes x e mid) h in
     fed_ids old s bytes e mid (f.0).cause f.2
 acts_ids old (stepped s outcome) e mid h =
-    let f = some_and (session_of old s) (λ x. (x.cause ≡ None) × FrontStep old s x outcome e mid) h in
+    let f = some_there (session_of old s) (λ x. (x.cause ≡ None) × FrontStep old s x outcome e mid) h in
     front_ids old s f.0 outcome e mid f.2.1
 acts_ids old (took s bytes) e mid h =
-    let f = some_and (session_of old s) (λ x. TookStep old s bytes x e mid) h in
+    let f = some_there (session_of old s) (λ x. TookStep old s bytes x e mid) h in
     with_ids old mid s (λ y. record y { pending = f.2.1.0 }) (λ x. refl) f.2.1.2
 acts_ids old (ended s) e mid h =
-    let f = some_and (session_of old s) (λ x. EndedStep old s x e mid) h in
+    let f = some_there (session_of old s) (λ x. EndedStep old s x e mid) h in
     input_ids old mid s _ _ _ _ (f.0).cause f.2
 acts_ids old (closed s bytes) e mid h = ap ids_of h.2 ∙ kept_ids s old.sessions
 

@@ -16,7 +16,7 @@ use Rattle.djq_machine.proofs.Walks.{walk_as}
 use Rattle.djq_laws.specs.Course.{RunNext, MayRun}
 use Rattle.djq_laws.specs.Sent.{gone_by, all_gone, SentBytes}
 pub use Rattle.djq_laws.specs.Moved.{Spares}
-use Rattle.djq_laws.proofs.Finding.{some_and}
+use Rattle.djq_deltas.proofs.Cases.{some_there}
 use Rattle.djq_laws.proofs.Queueing.{gaining, stepped as stepped_session, stepped_open, stepped_pending}
 use Rattle.djq_laws.proofs.Alike.{alike_open, alike_pending}
 use Rattle.djq_laws.proofs.Touching.{AnyCause, Touches, is_fed, is_ended, is_taken, is_stepped}
@@ -159,15 +159,15 @@ pub acts_moves : (old : State) (event : Event) (e : Effect) (mid : State) → Ac
     → Moves old event e mid t
 acts_moves old (opened s) e mid h t = opened_moves old s e mid t h.0 h.2
 acts_moves old (fed s bytes) e mid h t =
-    let f = some_and (session_of old s) (λ x. FedStep old s bytes x e mid) h in
+    let f = some_there (session_of old s) (λ x. FedStep old s bytes x e mid) h in
     let k = is_fed old s bytes f.0 e mid f.1 f.2 in
     touch_moves old (fed s bytes) s f.0 e mid k.session t refl k.touches k.pending
 acts_moves old (stepped s outcome) e mid h t =
-    let f = some_and (session_of old s) (λ x. (x.cause ≡ None) × FrontStep old s x outcome e mid) h in
+    let f = some_there (session_of old s) (λ x. (x.cause ≡ None) × FrontStep old s x outcome e mid) h in
     let k = is_stepped old s f.0 outcome e mid f.1 f.2.0 f.2.1 in
     touch_moves old (stepped s outcome) s f.0 e mid k.session t refl k.touches k.pending
 acts_moves old (took s bytes) e mid h t =
-    let f = some_and (session_of old s) (λ x. TookStep old s bytes x e mid) h in
+    let f = some_there (session_of old s) (λ x. TookStep old s bytes x e mid) h in
     let k = is_taken old s bytes f.0 e mid f.1 f.2 in
     record {
       pending = touch_pending old s f.0 e mid k.session bytes t (s == t) refl k.touches (sym k.pending);
@@ -175,11 +175,11 @@ acts_moves old (took s bytes) e mid h t =
       stays = λ _ o. touch_stays old s f.0 e mid k.session t (s == t) refl k.touches o;
     }
 acts_moves old (ended s) e mid h t =
-    let f = some_and (session_of old s) (λ x. EndedStep old s x e mid) h in
+    let f = some_there (session_of old s) (λ x. EndedStep old s x e mid) h in
     let k = is_ended old s f.0 e mid f.1 f.2 in
     touch_moves old (ended s) s f.0 e mid k.session t refl k.touches k.pending
 acts_moves old (closed s bytes) e mid h t =
-    let f = some_and (session_of old s) (λ x. x.pending ≡ bytes) h.1 in
+    let f = some_there (session_of old s) (λ x. x.pending ≡ bytes) h.1 in
     record {
       pending = closed_pending old s bytes mid t f.0 (s == t) refl f.1 f.2 h.2;
       there = inr (ap (λ (d : Effect). to_session t d.queued) h.0);

@@ -11,7 +11,7 @@ use Rattle.djq_machine.specs.State.{State, session_of}
 use Rattle.djq_machine.specs.Effect.{Effect}
 use Rattle.djq_machine.specs.LineStep.{run, FrontStep}
 use Rattle.djq_machine.specs.Step.{stepped, Acts}
-use Rattle.djq_laws.proofs.Finding.{some_and}
+use Rattle.djq_deltas.proofs.Cases.{some_there}
 use Rattle.djq_laws.proofs.Cutting.{line_in_front}
 
 -- bytes that aren't too long for a line, without a CR at their end
@@ -56,7 +56,7 @@ not_empty (b ∷ bs) h = omega arith
 pub run_line : (old : State) (s : ℕ) (l : Bytes) (e : Effect) (mid : State) → Acts old (stepped s (run l)) e mid
     → (1 ≤ length l) × (length l ≤ LINE_BYTES)
 run_line old s l e mid h =
-    let f = some_and (session_of old s) (λ x. (x.cause ≡ None) × FrontStep old s x (run l) e mid) h in
+    let f = some_there (session_of old s) (λ x. (x.cause ≡ None) × FrontStep old s x (run l) e mid) h in
     let front = line_in_front ((f.0).held) l f.2.1.2.rest f.2.1.2.front in (
       not_empty l f.2.1.0,
       subst (λ (k : Bytes). length k ≤ LINE_BYTES) (sym front.line) (short_line (before_lf (f.0).held) front.short),

@@ -29,12 +29,11 @@ use Rattle.djq_laws.specs.Form.{Form, asking, storing, turning, changing, ending
 use Rattle.djq_laws.specs.Sent.{opened_by, all_opened}
 use Rattle.djq_laws.specs.Sound.{IsSoundSession, IsSoundState}
 use Rattle.djq_laws.specs.Silent.{IsOver, OpensNone, OverIsSilent, OverOnce}
-use Rattle.djq_laws.proofs.Finding.{some_and}
+use Rattle.djq_deltas.proofs.Cases.{some_there}
 use Rattle.djq_laws.proofs.Queueing.{gaining, session_other, queued_all, stepped as stepped_session}
 use Rattle.djq_laws.proofs.Alike.{CauseKept, AlikeFound}
 use Rattle.djq_laws.proofs.Touching.{AnyCause, Touches, FedTo, is_held, out_of_memory, is_dropped}
-use Rattle.djq_laws.proofs.Touching.{EndedTo, input_ends, had_ended, is_fed, is_stepped, is_taken}
-use Rattle.djq_laws.proofs.Touching.{is_ended}
+use Rattle.djq_laws.proofs.Touching.{EndedTo, input_ends, had_ended, is_fed, is_stepped, is_taken, is_ended}
 use Rattle.djq_laws.proofs.Containing.{found_there}
 use Rattle.djq_laws.proofs.Doing.{closing, begun, closing_id, rows_do}
 use Rattle.djq_laws.proofs.Dropping.{at_found, later}
@@ -196,7 +195,7 @@ module _ (s : ℕ) where
       let told : IsQuiet h.told =
       walk_keeps (TellsDelta store.seq) IsQuiet (λ from d to one q. delta_quiet store.seq from d to one q) first
       (cond (is_accepted outcome) h.deltas []) h.told h.tells begins in
-      let f = some_and (session_of h.told.state t) (λ x. MatchOption x.cause
+      let f = some_there (session_of h.told.state t) (λ x. MatchOption x.cause
       ((h.last ≡ says_more t reply h.told) ⊎
       ((list_any (λ part. part.0 == t) h.told.queued ≡ true) × (h.last ≡ ends_more t end_memory Memory h.told)))
       (λ c. h.last ≡ h.told)) h.replies in
@@ -295,10 +294,6 @@ over_alike (Some x) (Some y) h k = by h.2
     by (inl same) = subst (λ (c : Option EndCause). IsSome c) (sym same) k
     by (inr new) = some y.cause new
 
-none_some : {A : Type 0} (o : Option A) (a : A) → o ≡ None → o ≡ Some a → ⊥
-none_some None a e f = cc
-none_some (Some b) a e f = cc
-
 over_none : (o : Option EndCause) → IsSome o → o ≡ None → ⊥
 over_none None h e = absurd cc
 over_none (Some c) h e = absurd cc
@@ -355,7 +350,7 @@ acts_over : (s : ℕ) (old : State) (event : Event) (e : Effect) (mid : State) �
 acts_over s old (opened t) e mid h none over deaf =
     record { silent = quiet_none s e h.0; over = opened_over old t mid s none h.2 over }
 acts_over s old (fed t bytes) e mid h none over deaf =
-    let f = some_and (session_of old t) (λ x. FedStep old t bytes x e mid) h in
+    let f = some_there (session_of old t) (λ x. FedStep old t bytes x e mid) h in
     let k = is_fed old t bytes f.0 e mid f.1 f.2 in
     by f.0 f.1 k.session k.touches k.fed f.2 (t == s) refl
   where
@@ -373,7 +368,7 @@ acts_over s old (fed t bytes) e mid h none over deaf =
       over = over_alike (session_of old s) (session_of mid s) (touches.others s apart) over;
     }
 acts_over s old (stepped t outcome) e mid h none over deaf =
-    let f = some_and (session_of old t) (λ x. (x.cause ≡ None) × FrontStep old t x outcome e mid) h in
+    let f = some_there (session_of old t) (λ x. (x.cause ≡ None) × FrontStep old t x outcome e mid) h in
     let k = is_stepped old t f.0 outcome e mid f.1 f.2.0 f.2.1 in
     by f.0 f.1 f.2.0 k.session k.touches f.2.1 (t == s) refl
   where
@@ -386,7 +381,7 @@ acts_over s old (stepped t outcome) e mid h none over deaf =
       over = over_alike (session_of old s) (session_of mid s) (touches.others s apart) over;
     }
 acts_over s old (took t bytes) e mid h none over deaf =
-    let f = some_and (session_of old t) (λ x. TookStep old t bytes x e mid) h in
+    let f = some_there (session_of old t) (λ x. TookStep old t bytes x e mid) h in
     let k = is_taken old t bytes f.0 e mid f.1 f.2 in
     by f.0 k.session k.touches k.cause (quiet_none s e f.2.0) (t == s) refl
   where
@@ -402,7 +397,7 @@ acts_over s old (took t bytes) e mid h none over deaf =
       over = over_alike (session_of old s) (session_of mid s) (touches.others s apart) over;
     }
 acts_over s old (ended t) e mid h none over deaf =
-    let f = some_and (session_of old t) (λ x. EndedStep old t x e mid) h in
+    let f = some_there (session_of old t) (λ x. EndedStep old t x e mid) h in
     let k = is_ended old t f.0 e mid f.1 f.2 in
     by f.0 f.1 k.session k.touches k.ends f.2 (t == s) refl
   where
@@ -460,7 +455,7 @@ over_is_silent s old sound over (d ∷ done) new w none =
 
 -- ---- where no session opens twice
 
-behind : {A : Type 0} (P : A → Type 0) (xs ys : List A) → All P (xs ++ ys) → All P ys
+pub behind : {A : Type 0} (P : A → Type 0) (xs ys : List A) → All P (xs ++ ys) → All P ys
 behind P [] ys h = h
 behind P (x ∷ xs) ys h = behind P xs ys (All-tail P x (xs ++ ys) h)
 

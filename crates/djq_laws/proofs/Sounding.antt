@@ -129,7 +129,7 @@ use Rattle.djq_laws.specs.Form.{
   is_refused,
   Does,
 }
-use Rattle.djq_laws.proofs.Finding.{some_and}
+use Rattle.djq_deltas.proofs.Cases.{some_there}
 use Rattle.djq_laws.proofs.Forms.{command_does, Reads, turned_down, carried_out, line_reads}
 use Rattle.djq_laws.proofs.Rows.{RowsSuit, made_queries, made_types}
 use Rattle.djq_laws.proofs.Doing.{closing, begun, rows_do}
@@ -137,7 +137,8 @@ use Rattle.djq_laws.proofs.Suiting.{SuitsStill, types_suit, types_moved, more_su
 use Rattle.djq_laws.proofs.Told.{change_keeps}
 use Rattle.djq_laws.proofs.Queueing.{session_changed}
 use Rattle.djq_laws.proofs.Changing.{all_changed, all_found, all_dropped, all_mapped}
-use Rattle.djq_laws.proofs.Answering.{none_or, none_pass}
+use Rattle.djq_deltas.proofs.Growing.{none_any}
+use Rattle.std.proofs.lemmas.Bool.{or_parts}
 use Rattle.djq_laws.proofs.Rising.{step_rises, acts_ids, queued_ids}
 use Rattle.djq_laws.proofs.Giving.{found_in_front, dropped_query}
 use Rattle.djq_laws.proofs.Apart.{
@@ -347,9 +348,9 @@ not_used : (store : Store) (q : Bytes) (x : Session) → uses q x ≡ false → 
     → IsSoundSession (record store { queries = drop_first (λ p. bytes_eq (listed_name p) q) store.queries }) x
 not_used store q x unused g =
     let qs = store.queries in
-    let none = none_or (list_any (λ (c : Cursor). bytes_eq c.query q) x.cursors) (is_watching q x) unused in
-    let apart = none_pass (λ (c : Cursor). bytes_eq c.query q) x.cursors none.0 in
-    let unwatched = none_pass (λ w. bytes_eq w q) x.watches none.1 in record {
+    let none = or_parts (list_any (λ (c : Cursor). bytes_eq c.query q) x.cursors) (is_watching q x) unused in
+    let apart = none_any (λ (c : Cursor). bytes_eq c.query q) x.cursors none.0 in
+    let unwatched = none_any (λ w. bytes_eq w q) x.watches none.1 in record {
       cursors = λ j e within. let c = slice_index_or x.cursors j e in let k = g.cursors j e within in record {
         registered = subst (λ (o : Option Listed). IsSome o) (sym (dropped_query qs q c.query (apart j e within)))
             k.registered;
@@ -389,14 +390,14 @@ stored_kept old store h k = (
           queries = old.store.queries ++ q ∷ [];
         }) old.sessions (λ name there. in_front old.store.queries q name there) (λ name row h. h) k.1)
     by (drops_query q unused free e) =
-        let none = none_pass (uses q) old.sessions unused in
+        let none = none_any (uses q) old.sessions unused in
         subst (λ (st : Store). All (IsSoundSession st) old.sessions) (sym e)
         (λ i d lt. not_used old.store q (slice_index_or old.sessions i d) (none i d lt) (k.1 i d lt))
 
 -- watches
 none_watched : (q : Bytes) (ws : List Bytes) → list_any (λ w. bytes_eq w q) ws ≡ false → All (λ w. w ≢ q) ws
 none_watched q ws e = All-weaker (λ w. bytes_eq w q ≡ false) (λ w. w ≢ q) (λ w k. other_name w q k) ws
-    (none_pass (λ w. bytes_eq w q) ws e)
+    (none_any (λ w. bytes_eq w q) ws e)
 
 watched : (qs : List Listed) (q : Bytes) (ws : List Bytes) (b : Bool) → list_any (λ w. bytes_eq w q) ws ≡ b
     → IsSome (listed_of qs q)
@@ -609,17 +610,17 @@ input_kept old mid s P Q R (Some c) h k = same_kept old mid h.1 k
 acts_kept : (old : State) (event : Event) (e : Effect) (mid : State) → Acts old event e mid → AreKept old → AreKept mid
 acts_kept old (opened s) e mid h k = opened_kept old mid s h.2 k
 acts_kept old (fed s bytes) e mid h k =
-    let f = some_and (session_of old s) (λ x. FedStep old s bytes x e mid) h in
+    let f = some_there (session_of old s) (λ x. FedStep old s bytes x e mid) h in
     fed_kept old s bytes e mid (f.0).cause f.2 k
 acts_kept old (stepped s outcome) e mid h k =
-    let f = some_and (session_of old s) (λ x. (x.cause ≡ None) × FrontStep old s x outcome e mid) h in
+    let f = some_there (session_of old s) (λ x. (x.cause ≡ None) × FrontStep old s x outcome e mid) h in
     front_kept old s f.0 outcome e mid f.1 f.2.0 f.2.1 k
 acts_kept old (took s bytes) e mid h k =
-    let f = some_and (session_of old s) (λ x. TookStep old s bytes x e mid) h in
+    let f = some_there (session_of old s) (λ x. TookStep old s bytes x e mid) h in
     others_stay old mid s (λ y. record y { pending = f.2.1.0 }) (λ x. refl) (λ x. refl) (λ x. refl) (λ x. refl)
     f.2.1.2 k
 acts_kept old (ended s) e mid h k =
-    let f = some_and (session_of old s) (λ x. EndedStep old s x e mid) h in
+    let f = some_there (session_of old s) (λ x. EndedStep old s x e mid) h in
     input_kept old mid s _ _ _ (f.0).cause f.2 k
 acts_kept old (closed s bytes) e mid h k =
     subst AreKept (sym h.2) (

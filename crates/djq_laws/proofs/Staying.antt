@@ -110,7 +110,8 @@ use Rattle.djq_laws.specs.Form.{
   is_refused,
   Does,
 }
-use Rattle.djq_laws.proofs.Finding.{some_and, and_some}
+use Rattle.djq_laws.proofs.Finding.{and_some}
+use Rattle.djq_deltas.proofs.Cases.{some_there}
 use Rattle.djq_laws.proofs.Forms.{command_does, Reads, turned_down, carried_out, line_reads}
 use Rattle.djq_laws.proofs.Rows.{made_queries}
 use Rattle.djq_laws.proofs.Doing.{begun, rows_do}
@@ -230,7 +231,7 @@ module _ (q : Listed) (s : ℕ) (old : State) (registered : listed_of old.store.
   -- what a command of the store makes of it: a query that is watched isn't dropped
   used : in_use old (listed_name q) ≡ true
   used =
-      let g = some_and (session_of old s) (λ x. is_watching (listed_name q) x ≡ true) watches in
+      let g = some_there (session_of old s) (λ x. is_watching (listed_name q) x ≡ true) watches in
       any_there (uses (listed_name q)) old.sessions g.0 (found_there (λ (x : Session). x.id == s) old.sessions g.0 g.1)
       (or_true (list_any (λ (c : Cursor). bytes_eq c.query (listed_name q)) (g.0).cursors)
       (is_watching (listed_name q) g.0) g.2)
@@ -376,7 +377,7 @@ by_front q s old registered watches t x (run l) e new found keeps h =
     t (behind_line h.2.rest x) l e new (open_behind old t h.2.rest x found) keeps h.2.then
 
 -- The events.
-find_front : (p : Session → Bool) (xs : List Session) (y x : Session) → find p xs ≡ Some x → find p (xs ++ y ∷ [])
+pub find_front : (p : Session → Bool) (xs : List Session) (y x : Session) → find p xs ≡ Some x → find p (xs ++ y ∷ [])
     ≡ Some x
 find_front p [] y x h = absurd cc
 find_front p (z ∷ zs) y x h = step (p z) h (λ k. find_front p zs y x k)
@@ -393,7 +394,7 @@ by_open : (q : Listed) (s : ℕ) (old : State) → listed_of old.store.queries (
     (new ≡ old) → Stays q s new
 by_open q s old registered watches t new (inr h) = by_none q s old registered watches new h
 by_open q s old registered watches t new (inl h) =
-    let g = some_and (session_of old s) (λ x. is_watching (listed_name q) x ≡ true) watches in
+    let g = some_there (session_of old s) (λ x. is_watching (listed_name q) x ≡ true) watches in
     let opened : State = record old { sessions = old.sessions ++ fresh t ∷ [] } in
     subst (λ (st : State). Stays q s st) (sym h.1)
     (record {
@@ -428,16 +429,16 @@ acts_stay : (q : Listed) (s : ℕ) (old : State) → listed_of old.store.queries
     → (event : Event) (e : Effect) (mid : State) → KeepsWatch q s event → Acts old event e mid → Stays q s mid
 acts_stay q s old registered watches (opened t) e mid keeps h = by_open q s old registered watches t mid h.2
 acts_stay q s old registered watches (fed t bytes) e mid keeps h =
-    let f = some_and (session_of old t) (λ x. FedStep old t bytes x e mid) h in
+    let f = some_there (session_of old t) (λ x. FedStep old t bytes x e mid) h in
     by_feeding q s old registered watches t bytes e mid (f.0).cause (rw f.1 refl) f.2
 acts_stay q s old registered watches (stepped t outcome) e mid keeps h =
-    let f = some_and (session_of old t) (λ x. (x.cause ≡ None) × FrontStep old t x outcome e mid) h in
+    let f = some_there (session_of old t) (λ x. (x.cause ≡ None) × FrontStep old t x outcome e mid) h in
     by_front q s old registered watches t f.0 outcome e mid f.1 keeps f.2.1
 acts_stay q s old registered watches (took t bytes) e mid keeps h =
-    let f = some_and (session_of old t) (λ x. TookStep old t bytes x e mid) h in
+    let f = some_there (session_of old t) (λ x. TookStep old t bytes x e mid) h in
     by_session q s old registered watches t (λ y. record y { pending = f.2.1.0 }) mid (λ x. refl) (λ b x k. k) f.2.1.2
 acts_stay q s old registered watches (ended t) e mid keeps h =
-    let f = some_and (session_of old t) (λ x. EndedStep old t x e mid) h in
+    let f = some_there (session_of old t) (λ x. EndedStep old t x e mid) h in
     by_input q s old registered watches t mid _ _ _ (f.0).cause (rw f.1 refl) f.2
 acts_stay q s old registered watches (closed t bytes) e mid keeps h =
     subst (λ (st : State). Stays q s st) (sym h.2)
@@ -450,7 +451,7 @@ acts_stay q s old registered watches (closed t bytes) e mid keeps h =
 
 -- A step behind which the session goes on.
 running : (st : State) (s : ℕ) → GoesOn st s → cause_of st s ≡ None
-running st s h = let g = some_and (session_of st s) (λ x. x.cause ≡ None) h in ap cause_in g.1 ∙ g.2
+running st s h = let g = some_there (session_of st s) (λ x. x.cause ≡ None) h in ap cause_in g.1 ∙ g.2
 
 step_stays : (q : Listed) (s : ℕ) (old : State) (event : Event) (e : Effect) (new : State) → Step old event e new
     → KeepsWatch q s event → IsWatcher q s old → cause_of new s ≡ None → IsWatcher q s new
@@ -458,7 +459,7 @@ step_stays q s old event e new h keeps before goes_on = by acted.goes
   where
     watching : Watches (listed_name q) (session_of old s)
     watching =
-        let f = some_and (session_of old s) (λ x. (x.cause ≡ None) × (is_watching (listed_name q) x ≡ true))
+        let f = some_there (session_of old s) (λ x. (x.cause ≡ None) × (is_watching (listed_name q) x ≡ true))
         before.watches in
         and_some (session_of old s) (λ x. is_watching (listed_name q) x ≡ true) f.0 f.1 f.2.1
 
@@ -472,7 +473,7 @@ step_stays q s old event e new h keeps before goes_on = by acted.goes
     by : Goes (listed_name q) h.mid s → IsWatcher q s new
     by (inr over) = absurd (over (sym (stepped_cause old event e new h s) ∙ goes_on))
     by (inl w) =
-        let g = some_and (session_of h.mid s) (λ x. is_watching (listed_name q) x ≡ true) w in
+        let g = some_there (session_of h.mid s) (λ x. is_watching (listed_name q) x ≡ true) w in
         let bytes = to_session s e.queued in
         let now : session_of new s ≡ Some (gaining bytes g.0) = stepped_session old event e new h s
         ∙ ap (λ o. option_map (gaining bytes) o) g.1 in
@@ -529,14 +530,14 @@ step_none s old (fed t bytes) e new h k there none = by (t == s) refl
         let here : Step old (fed s bytes) e new = subst (λ i. Step old (fed i bytes) e new) (eqb-true t s same) h in
         or_none old new s (fed_none old new s bytes (fed_facts old s bytes e new here)) none
     by false apart =
-        let f = some_and (session_of old t) (λ x. FedStep old t bytes x e h.mid) h.acts in
+        let f = some_there (session_of old t) (λ x. FedStep old t bytes x e h.mid) h.acts in
         let a = is_fed old t bytes f.0 e h.mid f.1 f.2 in
         other_none old t f.0 e h.mid a.session s apart a.touches
         (sym (stepped_cause old (fed t bytes) e new h s) ∙ none)
 step_none s old (stepped t outcome) e new h k there none = by (t == s) refl
   where
     f : (x : Session) × (session_of old t ≡ Some x) × ((x.cause ≡ None) × FrontStep old t x outcome e h.mid)
-    f = some_and (session_of old t) (λ x. (x.cause ≡ None) × FrontStep old t x outcome e h.mid) h.acts
+    f = some_there (session_of old t) (λ x. (x.cause ≡ None) × FrontStep old t x outcome e h.mid) h.acts
 
     by : (b : Bool) → (t == s) ≡ b → cause_of old s ≡ None
     by true same = ap (λ i. cause_of old i) (sym (eqb-true t s same)) ∙ ap cause_in f.1 ∙ f.2.0
@@ -551,7 +552,7 @@ step_none s old (took t bytes) e new h k there none = by (t == s) refl
         let here : Step old (took s bytes) e new = subst (λ i. Step old (took i bytes) e new) (eqb-true t s same) h in
         sym (took_facts old s bytes e new here).cause ∙ none
     by false apart =
-        let f = some_and (session_of old t) (λ x. TookStep old t bytes x e h.mid) h.acts in
+        let f = some_there (session_of old t) (λ x. TookStep old t bytes x e h.mid) h.acts in
         let a = is_taken old t bytes f.0 e h.mid f.1 f.2 in
         other_none old t f.0 e h.mid a.session s apart a.touches
         (sym (stepped_cause old (took t bytes) e new h s) ∙ none)
@@ -562,7 +563,7 @@ step_none s old (ended t) e new h k there none = by (t == s) refl
         let here : Step old (ended s) e new = subst (λ i. Step old (ended i) e new) (eqb-true t s same) h in
         or_none old new s (ended_none old new s (ended_facts old s e new here)) none
     by false apart =
-        let f = some_and (session_of old t) (λ x. EndedStep old t x e h.mid) h.acts in
+        let f = some_there (session_of old t) (λ x. EndedStep old t x e h.mid) h.acts in
         let a = is_ended old t f.0 e h.mid f.1 f.2 in
         other_none old t f.0 e h.mid a.session s apart a.touches (sym (stepped_cause old (ended t) e new h s) ∙ none)
 step_none s old (closed t bytes) e new h k there none =
@@ -587,7 +588,7 @@ run_none q s old (d ∷ done) new w k there none =
     (step_open old d.event d.effect w.0 w.1 s spared there) none)
 
 watcher_open : (q : Listed) (s : ℕ) (st : State) → IsWatcher q s st → IsOpen st s
-watcher_open q s st h = let f = some_and (session_of st s)
+watcher_open q s st h = let f = some_there (session_of st s)
     (λ x. (x.cause ≡ None) × (is_watching (listed_name q) x ≡ true)) h.watches in rw f.1 refl
 
 pub watchers_stay : WatchersStay

@@ -1,6 +1,5 @@
 -- Whether a session said `stop`, behind each event: no event says it but that of a line that isn't kept.
-use Rattle.std.specs.Prelude.{ℕ, List, [], ◌∷◌, ◌≡◌, ◌≢◌, ◌<◌, ◌++◌, ◌⊎◌, length}
-use Rattle.std.specs.Prelude.{Option, None, Some, MatchOption}
+use Rattle.std.specs.Prelude.{ℕ, List, [], ◌∷◌, ◌≡◌, ◌≢◌, ◌<◌, ◌++◌, ◌⊎◌, length, Option, None, Some, MatchOption}
 use Rattle.std.proofs.Common.{refl, ap, ◌∙◌, inl, inr}
 use Rattle.djq_model.specs.Data.{Bytes, Tuple}
 use Rattle.djq_lines.specs.declared.answer.EndCause.{EndCause}
@@ -36,7 +35,7 @@ use Rattle.djq_machine.specs.Step.{
 use Rattle.djq_laws.specs.Form.{Form, asking, storing, turning, changing, ending, form_of}
 use Rattle.djq_laws.specs.Form.{Turn, Replied, is_whole, is_cut, DoesTurn, is_turned, is_refused, Does}
 use Rattle.djq_laws.specs.Stopping.{KeptSaysNoStop}
-use Rattle.djq_laws.proofs.Finding.{some_and}
+use Rattle.djq_deltas.proofs.Cases.{some_there}
 use Rattle.djq_laws.proofs.Forms.{turned_one, command_does, Reads, turned_down, carried_out, line_reads}
 use Rattle.djq_laws.proofs.Doing.{begun, rows_do}
 use Rattle.djq_laws.proofs.Told.{change_keeps}
@@ -76,14 +75,14 @@ acts_stopped : (old : State) (event : Event) (e : Effect) (mid : State) → Acts
     → mid.stopped ≡ old.stopped
 acts_stopped old (opened s) e mid h other = opened_stays old s mid h.2
 acts_stopped old (fed s bytes) e mid h other =
-    let f = some_and (session_of old s) (λ x. FedStep old s bytes x e mid) h in
+    let f = some_there (session_of old s) (λ x. FedStep old s bytes x e mid) h in
     fed_stays old s bytes e mid (f.0).cause f.2
 acts_stopped old (stepped s outcome) e mid h other = absurd other
 acts_stopped old (took s bytes) e mid h other =
-    let f = some_and (session_of old s) (λ x. TookStep old s bytes x e mid) h in
+    let f = some_there (session_of old s) (λ x. TookStep old s bytes x e mid) h in
     ap (λ (st : State). st.stopped) f.2.1.2
 acts_stopped old (ended s) e mid h other =
-    let f = some_and (session_of old s) (λ x. EndedStep old s x e mid) h in
+    let f = some_there (session_of old s) (λ x. EndedStep old s x e mid) h in
     input_stays old mid s _ _ _ _ (f.0).cause f.2
 acts_stopped old (closed s bytes) e mid h other = ap (λ (st : State). st.stopped) h.2
 
@@ -183,7 +182,7 @@ kept_stopped old (took s bytes) e mid h kept = acts_stopped old (took s bytes) e
 kept_stopped old (ended s) e mid h kept = acts_stopped old (ended s) e mid h tt
 kept_stopped old (closed s bytes) e mid h kept = acts_stopped old (closed s bytes) e mid h tt
 kept_stopped old (stepped s outcome) e mid h kept =
-    let f = some_and (session_of old s) (λ x. (x.cause ≡ None) × FrontStep old s x outcome e mid) h in
+    let f = some_there (session_of old s) (λ x. (x.cause ≡ None) × FrontStep old s x outcome e mid) h in
     front_stopped old s f.0 outcome e mid f.2.1 kept
 
 pub kept_says_no_stop : KeptSaysNoStop

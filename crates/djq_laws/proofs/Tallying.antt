@@ -21,7 +21,7 @@ use Rattle.std.specs.Prelude.{
 }
 use Rattle.std.specs.List.{list_all}
 use Rattle.std.proofs.Common.{refl, sym, ap, ◌∙◌, subst, arith}
-use Rattle.std.proofs.lemmas.Bool.{eq-eqb, ne_eqb}
+use Rattle.std.proofs.lemmas.Bool.{eq-eqb, ne_eqb, and_parts}
 use Rattle.std.proofs.lemmas.List.Elements.{All-head}
 use Rattle.djq_model.specs.declared.relation.CountedRow.{CountedRow}
 use Rattle.djq_model.specs.Data.{
@@ -62,10 +62,6 @@ use Rattle.djq_laws.proofs.Counting.{its_copies, other_copies}
 use Rattle.djq_laws.proofs.Batches.{one_gains, suit_behind, all_gain, is_behind}
 
 -- ---- one row
-
-both_hold : (a b : Bool) → (a && b) ≡ true → (a ≡ true) × (b ≡ true)
-both_hold true b h = (refl, h)
-both_hold false b h = absurd cc
 
 module _ (st : Store) (h : HeldRow) (found : is_none (relation_of st.relations h.relation) ≡ false) where
   abbrev has : List CountedRow
@@ -114,7 +110,7 @@ module _ (st : Store) (h : HeldRow) (found : is_none (relation_of st.relations h
           → copies_of (with_held st h) n t ≡ copies_of st n t + cond b 1 0
       by false e = let same = others_stay n t e in omega (arith, same)
       by true e =
-          let both = both_hold (bytes_eq n h.relation) (tuple_eq h.row t) e in
+          let both = and_parts (bytes_eq n h.relation) (tuple_eq h.row t) e in
           subst (λ (m : Bytes). copies_of (with_held st h) m t ≡ copies_of st m t + 1)
           (sym ((bytes_eq-decides n h.relation).0 both.0))
           (subst (λ (u : Tuple). copies_of (with_held st h) h.relation u ≡ copies_of st h.relation u + 1)

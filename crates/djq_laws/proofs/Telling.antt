@@ -1,10 +1,9 @@
 -- A session that watches a query is told its delta, or ends.
 use Rattle.std.specs.Prelude.{ℕ, List, [], ◌∷◌, ◌==◌, ◌≡◌, ◌⊎◌, ◌&&◌, Bool, true, false, cond}
-use Rattle.std.specs.Prelude.{Option, None, Some, IsSome, IsSomeAnd, MatchOption, option_map, find}
-use Rattle.std.specs.Prelude.{map, Contains}
+use Rattle.std.specs.Prelude.{Option, None, Some, IsSome, IsSomeAnd, MatchOption, option_map, find, map, Contains}
 use Rattle.std.specs.List.{list_any}
 use Rattle.std.proofs.Common.{refl, sym, ap, ◌∙◌, subst, inl, inr}
-use Rattle.std.proofs.lemmas.Bool.{eqb-true}
+use Rattle.std.proofs.lemmas.Bool.{eqb-true, and_from}
 use Rattle.std.proofs.lemmas.List.Elements.{All-contains, Contains-append_left, Contains-append_right}
 use Rattle.djq_model.specs.declared.relation.Relation.{Relation}
 use Rattle.djq_model.specs.Data.{Bytes, bytes_eq}
@@ -20,11 +19,11 @@ use Rattle.djq_machine.specs.Changes.{RowsChange, accepted, is_outdated, changed
 use Rattle.djq_machine.specs.Run.{Walk, to_session}
 use Rattle.djq_machine.specs.Call.{IsOpen, cause_of, cause_in}
 use Rattle.djq_machine.specs.Watch.{is_watching, affected, Delta, Telling, says_more, ends_more}
-use Rattle.djq_machine.specs.Watch.{watching, watcher_of, TellsWatcher, TellsSession, TellsDelta}
-use Rattle.djq_machine.specs.Watch.{ChangeStep}
+use Rattle.djq_machine.specs.Watch.{watching, watcher_of, TellsWatcher, TellsSession, TellsDelta, ChangeStep}
 use Rattle.djq_machine.proofs.Walks.{walk_keeps}
 use Rattle.djq_deltas.proofs.Lists.{nothing_there, first_or_later, first_there, kept_there, mapped_there}
-use Rattle.djq_laws.proofs.Finding.{some_and, and_some}
+use Rattle.djq_laws.proofs.Finding.{and_some}
+use Rattle.djq_deltas.proofs.Cases.{some_there}
 use Rattle.djq_laws.proofs.Queueing.{gaining, session_changed, session_other, queued_all}
 use Rattle.djq_laws.specs.Moved.{EndsByRun}
 use Rattle.djq_laws.specs.Form.{RowCommand}
@@ -101,7 +100,7 @@ pub watches_changed : (q : Bytes) (old : State) (change : RowsChange) (store : S
 watches_changed q old change store s w =
     let f = λ (x : Session). record x
     { cursors = map (outdated_cursor old.store.queries change.outdater store.seq) x.cursors } in
-    let g = some_and (session_of old s) (λ x. is_watching q x ≡ true) w in
+    let g = some_there (session_of old s) (λ x. is_watching q x ≡ true) w in
     and_some (session_of (changed old (Some change) store) s) (λ x. is_watching q x ≡ true) (f g.0)
     (find_mapped (λ (x : Session). x.id == s) f (λ x. refl) old.sessions ∙ ap (λ o. option_map f o) g.1) g.2
 
@@ -112,7 +111,7 @@ pub watches_with : (q : Bytes) (old : State) (t : ℕ) (f : Session → Session)
     → Watches q (session_of (with_session old t f) s)
 watches_with q old t f s true e id keeps w =
     let same : t ≡ s = eqb-true t s e in
-    let g = some_and (session_of old s) (λ x. is_watching q x ≡ true) w in
+    let g = some_there (session_of old s) (λ x. is_watching q x ≡ true) w in
     subst (λ (i : ℕ). Watches q (session_of (with_session old i f) s)) (sym same)
     (and_some (session_of (with_session old s f) s) (λ x. is_watching q x ≡ true) (f g.0)
     (session_changed old s f id ∙ ap (λ o. option_map f o) g.1) (keeps refl g.0 g.2))
@@ -169,7 +168,7 @@ module _ (q : Listed) (s : ℕ) (part : Bytes) where
   session_has d n same is m new h (inr over) = session_keeps Has has_says has_ends d n m s new
       (watcher_of m (listed_name d.query) s) refl h (inr over)
   session_has d n same is m new h (inl w) =
-      let f = some_and (session_of m.state s) (λ x. is_watching (listed_name q) x ≡ true) w in
+      let f = some_there (session_of m.state s) (λ x. is_watching (listed_name q) x ≡ true) w in
       let now = gaining (to_session s m.queued) f.0 in
       let watcher : watcher_of m (listed_name d.query) s ≡ Some now =
       ap (λ o. watching (listed_name d.query) o)
@@ -180,7 +179,7 @@ module _ (q : Listed) (s : ℕ) (part : Bytes) where
 
   watcher_listed : (m : Telling) → Watches (listed_name q) (session_of m.state s) → Contains (ids_of m.state) s
   watcher_listed m w =
-      let f = some_and (session_of m.state s) (λ x. is_watching (listed_name q) x ≡ true) w in
+      let f = some_there (session_of m.state s) (λ x. is_watching (listed_name q) x ≡ true) w in
       let is : (f.0).id ≡ s = eqb-true (f.0).id s (found_passes (λ (x : Session). x.id == s) m.state.sessions f.0 f.1)
       in
       subst (λ (i : ℕ). Contains (ids_of m.state) i) is
@@ -218,11 +217,6 @@ pub record IsTheDelta (q : Listed) (s : ℕ) (before after : List Relation) (n :
     pub delta : IsDelta (AnswersOf before q) (AnswersOf after q) changes
     pub told : Contains queued (s, text_of (delta_lines (listed_name q) changes n))
 
-both_true : (a b : Bool) → a ≡ true → b ≡ true → (a && b) ≡ true
-both_true true true h k = refl
-both_true true false h k = absurd cc
-both_true false b h k = absurd cc
-
 pub change_is_told : (q : Listed) (s : ℕ) (old : State) (t : ℕ) (change : RowsChange) (store : Store) (reply : Bytes)
     (e : Effect) (new : State)
     → ChangeStep old t (accepted change) store reply e new → is_outdated change q ≡ true
@@ -230,14 +224,14 @@ pub change_is_told : (q : Listed) (s : ℕ) (old : State) (t : ℕ) (change : Ro
     ≡ None
     → IsTheDelta q s old.store.relations change.after store.seq e.queued
 change_is_told q s old t change store reply e new h reading registered w running =
-    let f = some_and (session_of old s) (λ x. is_watching (listed_name q) x ≡ true) w in
+    let f = some_there (session_of old s) (λ x. is_watching (listed_name q) x ≡ true) w in
     let watched : list_any (is_watching (listed_name q)) old.sessions
     ≡ true = any_there (is_watching (listed_name q)) old.sessions f.0
     (found_there (λ (x : Session). x.id == s) old.sessions f.0 f.1) f.2 in
     let among : Contains (affected old change) q =
     kept_there (λ (p : Listed). is_outdated change p && list_any (is_watching (listed_name p)) old.sessions)
     old.store.queries q
-    (both_true (is_outdated change q) (list_any (is_watching (listed_name q)) old.sessions) reading watched)
+    (and_from (is_outdated change q) (list_any (is_watching (listed_name q)) old.sessions) reading watched)
     (found_there (λ (p : Listed). bytes_eq (listed_name p) (listed_name q)) old.store.queries q registered) in
     let d = mapped_from (λ (k : Delta). k.query) h.deltas q
     (subst (λ (qs : List Listed). Contains qs q) (sym h.listed.of_queries) among) in

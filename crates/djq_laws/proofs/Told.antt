@@ -16,7 +16,7 @@ use Rattle.djq_machine.specs.Watch.{Delta, Telling, says_more, ends_more, watchi
 use Rattle.djq_machine.specs.Watch.{TellsWatcher, TellsSession, TellsDelta, ChangeStep}
 use Rattle.djq_machine.proofs.Walks.{walk_keeps}
 use Rattle.djq_laws.specs.Moved.{EndsByRun}
-use Rattle.djq_laws.proofs.Finding.{some_and}
+use Rattle.djq_deltas.proofs.Cases.{some_there}
 use Rattle.djq_laws.proofs.Queueing.{gaining, queued_all}
 
 -- A session that watches is open.
@@ -28,7 +28,7 @@ before_gaining : (bytes : Bytes) (o : Option Session) → IsSome (option_map (ga
 before_gaining bytes None h = h
 before_gaining bytes (Some x) h = refl
 
-watcher_open : (m : Telling) (q : Bytes) (s : ℕ) (x : Session) → watcher_of m q s ≡ Some x → IsOpen m.state s
+pub watcher_open : (m : Telling) (q : Bytes) (s : ℕ) (x : Session) → watcher_of m q s ≡ Some x → IsOpen m.state s
 watcher_open m q s x e =
     before_gaining (to_session s m.queued) (session_of m.state s)
     (subst (λ (o : Option Session). IsSome o) (queued_all m.state m.queued s)
@@ -73,7 +73,7 @@ module _ (P : Telling → Type 0)
       (new : State)
       (h : ChangeStep old s outcome store reply e new) → P h.told → P h.last
   last_keeps old s outcome store reply e new h told =
-      let f = some_and (session_of h.told.state s) (λ x. MatchOption x.cause
+      let f = some_there (session_of h.told.state s) (λ x. MatchOption x.cause
       ((h.last ≡ says_more s reply h.told) ⊎
       ((list_any (λ part. part.0 == s) h.told.queued ≡ true) × (h.last ≡ ends_more s end_memory Memory h.told)))
       (λ c. h.last ≡ h.told)) h.replies in

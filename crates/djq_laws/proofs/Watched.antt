@@ -71,7 +71,7 @@ parts_out s (d ∷ done) =
     ∙ ap₂ (λ (xs ys : Bytes). xs ++ ys) (parts_whole s d.effect.queued) (parts_out s done)
 
 -- Numbers of changes.
-number_none : (q : Listed) (old : State) (event : Event) (new : State)
+pub number_none : (q : Listed) (old : State) (event : Event) (new : State)
     → (new.store.seq ≡ old.store.seq) ⊎ ((new.store.seq ≡ old.store.seq + 1) × (event_changes q old event ≡ false))
     → number_by q old event new ≡ []
 number_none q old event new (inl e) = let same = eq-eqb new.store.seq old.store.seq e in rw same refl
@@ -82,7 +82,7 @@ number_none q old event new (inr h) = step (not (new.store.seq == old.store.seq)
     step true false e = refl
     step false b e = refl
 
-number_one : (q : Listed) (old : State) (event : Event) (new : State) → new.store.seq ≡ old.store.seq + 1
+pub number_one : (q : Listed) (old : State) (event : Event) (new : State) → new.store.seq ≡ old.store.seq + 1
     → event_changes q old event ≡ true → number_by q old event new ≡ new.store.seq ∷ []
 number_one q old event new e k =
     let apart : (new.store.seq == old.store.seq)
@@ -125,7 +125,7 @@ numbers_above q s old (d ∷ done) new walk =
     (numbers_along q s mid done new walk.2) (numbers_above q s mid done new walk.2))
 
 -- A listing stays one where the answers do.
-listing_stays : (old new : Store) (q : Listed) (ts : List Tuple) → SameAnswers old.relations new.relations q
+pub listing_stays : (old new : Store) (q : Listed) (ts : List Tuple) → SameAnswers old.relations new.relations q
     → IsListing (AnswersOf old.relations q) ts → IsListing (AnswersOf new.relations q) ts
 listing_stays old new q ts same h = record {
   different = h.different;

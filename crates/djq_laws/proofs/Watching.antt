@@ -73,7 +73,8 @@ use Rattle.djq_laws.specs.Form.{
   is_refused,
   Does,
 }
-use Rattle.djq_laws.proofs.Finding.{some_and, and_some}
+use Rattle.djq_laws.proofs.Finding.{and_some}
+use Rattle.djq_deltas.proofs.Cases.{some_there}
 use Rattle.djq_laws.proofs.Forms.{turned_one, command_does, Reads, turned_down, carried_out, line_reads}
 use Rattle.djq_laws.proofs.Rows.{RowsMade, kept_answers, outdater_by}
 use Rattle.djq_laws.proofs.Doing.{begun, rows_do}
@@ -90,7 +91,7 @@ pub data StepTells (q : Listed) (s : ℕ) (old new : Store) (queued : List (ℕ 
   is_told : IsTheDelta q s old.relations new.relations new.seq queued → new.seq ≡ old.seq + 1 → changes ≡ true
       → StepTells q s old new queued changes
 
-replied_store : (s : ℕ) (mid new : State) → Replied s mid new → new.store ≡ mid.store
+pub replied_store : (s : ℕ) (mid new : State) → Replied s mid new → new.store ≡ mid.store
 replied_store s mid new (is_whole after) = ap (λ (st : State). st.store) after
 replied_store s mid new (is_cut after) = ap (λ (st : State). st.store) after
 
@@ -280,16 +281,16 @@ acts_tell : (q : Listed) (s : ℕ) (old : State) → listed_of old.store.queries
     → StepTells q s old.store mid.store e.queued (event_changes q old event)
 acts_tell q s old registered watches (opened t) e mid running h = opened_stays q s old t e mid h.2
 acts_tell q s old registered watches (fed t bytes) e mid running h =
-    let f = some_and (session_of old t) (λ x. FedStep old t bytes x e mid) h in
+    let f = some_there (session_of old t) (λ x. FedStep old t bytes x e mid) h in
     fed_stays q s old t bytes e mid (f.0).cause f.2
 acts_tell q s old registered watches (stepped t outcome) e mid running h =
-    let f = some_and (session_of old t) (λ x. (x.cause ≡ None) × FrontStep old t x outcome e mid) h in
+    let f = some_there (session_of old t) (λ x. (x.cause ≡ None) × FrontStep old t x outcome e mid) h in
     front_tells q s old registered watches t f.0 outcome e mid f.1 running f.2.1
 acts_tell q s old registered watches (took t bytes) e mid running h =
-    let f = some_and (session_of old t) (λ x. TookStep old t bytes x e mid) h in
+    let f = some_there (session_of old t) (λ x. TookStep old t bytes x e mid) h in
     one_session q s e.queued false old mid t _ f.2.1.2
 acts_tell q s old registered watches (ended t) e mid running h =
-    let f = some_and (session_of old t) (λ x. EndedStep old t x e mid) h in
+    let f = some_there (session_of old t) (λ x. EndedStep old t x e mid) h in
     input_stays q s old t e mid _ _ _ (f.0).cause f.2
 acts_tell q s old registered watches (closed t bytes) e mid running h = same_store q s e.queued false old mid
     (ap (λ (st : State). st.store) h.2)
@@ -299,7 +300,7 @@ same_then : (rs rs' rs'' : List Relation) (q : Listed) → SameAnswers rs rs' q 
     → SameAnswers rs rs'' q
 same_then rs rs' rs'' q h k = record { there = λ t a. k.there t (h.there t a); back = λ t a. h.back t (k.back t a) }
 
-changed_to : (before rs rs' : List Relation) (q : Listed) → SameAnswers rs rs' q → (sign : Sign) (t : Tuple)
+pub changed_to : (before rs rs' : List Relation) (q : Listed) → SameAnswers rs rs' q → (sign : Sign) (t : Tuple)
     → HasChanged (AnswersOf before q) (AnswersOf rs q) sign t → HasChanged (AnswersOf before q) (AnswersOf rs' q) sign t
 changed_to before rs rs' q same Came t h = (same.there t h.0, h.1)
 changed_to before rs rs' q same Went t h = (h.0, λ a. h.1 (same.back t a))
@@ -339,9 +340,9 @@ pub step_tells : (q : Listed) (s : ℕ) (old : State) (event : Event) (e : Effec
     → IsWatcher q s old → IsWatcher q s new
     → StepTells q s old.store new.store e.queued (event_changes q old event)
 step_tells q s old event e new h before behind =
-    let f = some_and (session_of old s) (λ x. (x.cause ≡ None) × (is_watching (listed_name q) x ≡ true)) before.watches
+    let f = some_there (session_of old s) (λ x. (x.cause ≡ None) × (is_watching (listed_name q) x ≡ true)) before.watches
     in
-    let g = some_and (session_of new s) (λ x. (x.cause ≡ None) × (is_watching (listed_name q) x ≡ true)) behind.watches
+    let g = some_there (session_of new s) (λ x. (x.cause ≡ None) × (is_watching (listed_name q) x ≡ true)) behind.watches
     in
     let watches = and_some (session_of old s) (λ x. is_watching (listed_name q) x ≡ true) f.0 f.1 f.2.1 in
     let running : cause_of h.mid s ≡ None = sym (stepped_cause old event e new h s) ∙ ap cause_in g.1 ∙ g.2.0 in

@@ -17,7 +17,6 @@ use Rattle.std.proofs.Common.{
 }
 use Rattle.std.proofs.lemmas.Bool.{cases_Bool, false≢true, le-leb, leb-true}
 use Rattle.djq_hyper.specs.Hypergraph.{member}
-use Rattle.djq_tree.specs.declared.node.Node.{Node}
 use Rattle.djq_tree.specs.declared.node.Node.TheVariants.{Trim}
 use Rattle.djq_tree.specs.Labels.{label_at}
 use Rattle.djq_tree.specs.Tree.{Tree, IsTree, node_at, has_child, is_out}
@@ -28,12 +27,6 @@ pub root_bare : (t : Tree) (j x : ℕ) → IsTree t → j ≡ length t.nodes - 1
     → member x (label_at t.labels j) ≡ true → ⊥
 root_bare t j x s root m = false≢true
     (sym (ap (λ (l : List ℕ). member x l) (ap (λ (i : ℕ). label_at t.labels i) root ∙ s.root)) ∙ m)
-
--- a leaf has no children
-pub leaf_childless : (t : Tree) (k j : ℕ) → IsTree t → k < t.leaves
-    → has_child (node_at t.nodes k) j ≡ true → ⊥
-leaf_childless t k j s low h =
-    false≢true (ap (λ (n : Node). has_child n j) (sym (s.leaf k low)) ∙ h)
 
 -- a node is in `out` exactly where its parent is of the second stage
 pub out_late : (t : Tree) (k j : ℕ) → IsTree t → has_child (node_at t.nodes k) j ≡ true

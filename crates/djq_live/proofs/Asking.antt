@@ -95,16 +95,8 @@ use Rattle.djq_live.specs.Leaves.{IsOver}
 use Rattle.djq_live.specs.Live.{Live, IsLive, IsKeptSomewhere, IsShowable}
 use Rattle.djq_live.specs.Order.{reading, AreCellsOfAnswer}
 use Rattle.djq_live.specs.Shown.{value_at, shown, AreShownAs}
-use Rattle.djq_reduct.proofs.Readings.{
-  IsSimple,
-  Within,
-  simple_of,
-  cell_there,
-  row_same,
-  reading_row,
-  member_here,
-  member_on,
-}
+use Rattle.djq_reduct.proofs.Readings.{IsSimple, Within, simple_of, cell_there, row_same, reading_row, member_on}
+use Rattle.djq_hyper.proofs.Rising.{member_here}
 use Rattle.djq_live.proofs.Heads.{in_atom}
 use Rattle.djq_live.proofs.Picking.{member_at}
 use Rattle.djq_live.proofs.Rows.{found_at}
@@ -249,7 +241,7 @@ head_long c q n ps r h =
     ∙ ap (λ (l : List (Option Label)). length l) h.asked.head
     ∙ length-map q.head (λ (y : Bytes). Some (Some y))
 
-atoms_long : (c : Catalog) (vs : List Variable) (atoms : List Atom) (ms : List NumberedAtom)
+pub atoms_long : (c : Catalog) (vs : List Variable) (atoms : List Atom) (ms : List NumberedAtom)
     → AreAtomsOf c vs atoms ms → length ms ≡ length atoms
 atoms_long c vs [] [] h = refl
 atoms_long c vs [] (m ∷ ms) h = absurd h

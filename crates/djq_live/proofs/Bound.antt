@@ -20,7 +20,8 @@ use Rattle.djq_query.specs.Meaning.{IsShown, AreShown}
 use Rattle.djq_rows.specs.Catalog.{Catalog}
 use Rattle.djq_live.specs.Asked.{AreAtomsOf}
 use Rattle.djq_live.specs.Body.{HeadsAreBound}
-use Rattle.djq_reduct.proofs.Readings.{member_here, member_on}
+use Rattle.djq_reduct.proofs.Readings.{member_on}
+use Rattle.djq_hyper.proofs.Rising.{member_here}
 use Rattle.djq_live.proofs.Heads.{in_atom}
 use Rattle.djq_live.proofs.Members.{in_cons, in_rest}
 use Rattle.djq_live.proofs.Showing.{first_label, rest_labels}

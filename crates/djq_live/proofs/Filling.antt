@@ -53,7 +53,8 @@ use Rattle.djq_reduct.proofs.Readings.{
 use Rattle.djq_cursor.proofs.Outs.{root_or_parent, kept, out_within}
 use Rattle.djq_cursor.proofs.Good.{meet_child, trim_only, trim_key}
 use Rattle.djq_cursor.proofs.Stepping.{tuple_wide}
-use Rattle.djq_live.proofs.Above.{root_bare, no_child, leaf_childless, out_late, late_out}
+use Rattle.djq_live.proofs.Above.{root_bare, no_child, out_late, late_out}
+use Rattle.djq_tree.proofs.Counting.{leaf_childless}
 use Rattle.djq_live.proofs.Tabling.{IsIn, trim_down, trim_up, meet_down, meet_up}
 
 -- ---- up: what is in the leaves is in every table

@@ -13,6 +13,7 @@ use Rattle.std.proofs.lemmas.Bool.{
   and_parts,
   or_left,
   or_right,
+  or_parts,
 }
 use Rattle.std.proofs.lemmas.List.Kept.{AllPairs-from_increasing}
 use Rattle.djq_hyper.specs.Hypergraph.{member, edge_at, set_below}
@@ -57,7 +58,7 @@ use Rattle.djq_query.specs.Numbered.{
 }
 use Rattle.djq_query.specs.Meaning.{AreShown, AreAtomsShown}
 use Rattle.djq_query.proofs.Faults.{sound_of}
-use Rattle.djq_query.proofs.Numbers.{both_false, not_false, length_labels, labels_columns}
+use Rattle.djq_query.proofs.Numbers.{not_false, length_labels, labels_columns}
 use Rattle.djq_query.proofs.Showing.{shown_by}
 use Rattle.djq_live.proofs.Sets.{is_set}
 
@@ -213,7 +214,7 @@ head_stands : (ls : List Label) (atoms : List Atom) (head : List Bytes) (y : ℕ
     → (x : Bytes) × (stands_in atoms x ≡ true) × (y ≡ number_of ls x)
 head_stands ls atoms [] y none m = absurd (false≢true m)
 head_stands ls atoms (x ∷ head) y none m =
-    let p = both_false (not (stands_in atoms x)) (list_any (λ x. not (stands_in atoms x)) head)
+    let p = or_parts (not (stands_in atoms x)) (list_any (λ x. not (stands_in atoms x)) head)
     none in
     elim (or_cases (y == number_of ls x) (member y (map (number_of ls) head)) m) [
       | inl here ↦ (x, not_false (stands_in atoms x) p.0, eqb-true y (number_of ls x) here)

@@ -2,7 +2,6 @@
 use Rattle.std.proofs.Common.{◌≡◌, ℕ, zero, suc, List, [], ◌∷◌, ◌++◌, ap, sym, subst, ◌∙◌, arith}
 use Rattle.std.specs.Prelude.{Contains, Some, slice_get}
 use Rattle.std.proofs.lemmas.Option.{same_Some}
-use Rattle.djq_model.specs.declared.value.Value.{Value}
 use Rattle.djq_model.specs.declared.relation.ColumnType.{ColumnType}
 use Rattle.djq_model.specs.declared.query.Query.{Query}
 use Rattle.djq_model.specs.declared.query.Atom.{Atom}
@@ -19,7 +18,7 @@ use Rattle.djq_query.specs.declared.numbered.NumberedAtom.{NumberedAtom}
 use Rattle.djq_query.specs.declared.numbered.NumberedComparison.{NumberedComparison}
 use Rattle.djq_query.specs.Numbered.{Numbered}
 use Rattle.djq_query.specs.Pattern.{Shape, tests_of}
-use Rattle.djq_rows.specs.Cells.{cell_of, cells_of, HasCell, HaveCells}
+use Rattle.djq_rows.specs.Cells.{cells_of, HaveCells}
 use Rattle.djq_rows.specs.Catalog.{Catalog, relation_at}
 use Rattle.djq_rows.proofs.Lawful.{stay}
 use Rattle.djq_live.specs.Asked.{
@@ -33,15 +32,7 @@ use Rattle.djq_live.specs.Asked.{
 use Rattle.djq_live.specs.Leaves.{AreCellsOf, IsPatternOf}
 use Rattle.djq_live.specs.Changes.{IsLater}
 use Rattle.djq_live.proofs.Members.{in_rest}
-use Rattle.djq_live.proofs.Terms.{heads}
-
-pub has_later : (texts more : List Bytes) (v : Value) → HasCell texts v → HasCell (texts ++ more) v
-has_later texts more v h = (stay texts more (v ∷ []) (h, tt)).0.0
-
-pub cell_later : (texts more : List Bytes) (v : Value) → HasCell texts v
-    → cell_of (texts ++ more) v ≡ cell_of texts v
-cell_later texts more v h = heads (cell_of (texts ++ more) v) (cell_of texts v) [] []
-    (stay texts more (v ∷ []) (h, tt)).1
+use Rattle.djq_rows.proofs.Encoding.{has_more, cell_more}
 
 suited_later : (texts more : List Bytes) (vs : List Variable) (ns : List NumberedTerm)
     (cs : List ColumnType) → AreSuited texts vs ns cs → AreSuited (texts ++ more) vs ns cs
@@ -51,7 +42,7 @@ suited_later texts more vs (n ∷ ns) [] h = absurd h
 suited_later texts more vs (Number x ∷ ns) (c ∷ cs) h =
     (h.0, suited_later texts more vs ns cs h.1)
 suited_later texts more vs (Fixed v ∷ ns) (c ∷ cs) h =
-    ((h.0.0, has_later texts more v h.0.1), suited_later texts more vs ns cs h.1)
+    ((h.0.0, has_more texts more v h.0.1), suited_later texts more vs ns cs h.1)
 
 bound_later : (texts more : List Bytes) (vs : List Variable) (ns : List NumberedTerm)
     (cs : List ColumnType) (ks : List ℕ) → AreSuited texts vs ns cs → AreCellsOf texts ns ks
@@ -63,7 +54,7 @@ bound_later texts more vs (n ∷ ns) [] (k ∷ ks) h are = absurd h
 bound_later texts more vs (Number x ∷ ns) (c ∷ cs) (k ∷ ks) h are =
     (tt, bound_later texts more vs ns cs ks h.1 are.1)
 bound_later texts more vs (Fixed v ∷ ns) (c ∷ cs) (k ∷ ks) h are =
-    (are.0 ∙ sym (cell_later texts more v h.0.1), bound_later texts more vs ns cs ks h.1 are.1)
+    (are.0 ∙ sym (cell_more texts more v h.0.1), bound_later texts more vs ns cs ks h.1 are.1)
 
 atom_later : (c d : Catalog) (vs : List Variable) (a : Atom) (m : NumberedAtom) → IsLater c d
     → IsAtomOf c vs a m → IsAtomOf d vs a m
@@ -98,7 +89,7 @@ comparisons_later texts more vs ms (k ∷ ks) (n ∷ ns) h = (
     stands = h.0.stands;
     of = h.0.of;
     ordered = h.0.ordered;
-    has = has_later texts more n.constant h.0.has;
+    has = has_more texts more n.constant h.0.has;
   },
   comparisons_later texts more vs ms ks ns h.1,
 )

@@ -1,17 +1,15 @@
 -- What an update of the leaves makes of a registered query.
 use Rattle.std.proofs.Common.{◌≡◌, ℕ, ◌+◌, ◌*◌, ◌<◌, ◌≤◌, Bool, true, false, List, [], ◌∷◌, length}
 use Rattle.std.proofs.Common.{map, refl, ap, sym, subst, ◌∙◌, inl, inr, arith, length-append}
-use Rattle.std.specs.Prelude.{◌==◌, Contains, Option, Some, slice_get}
+use Rattle.std.specs.Prelude.{◌==◌, Contains}
 use Rattle.std.proofs.lemmas.Bool.{cases_lt, false≢true, or_cases, eqb-true}
-use Rattle.std.proofs.lemmas.List.{get_or_past, length-map}
-use Rattle.std.proofs.lemmas.List.Kept.{AllPairs-from_increasing}
+use Rattle.std.proofs.lemmas.List.{get_or_past}
 use Rattle.std.proofs.lemmas.Nat.{mul-le}
 use Rattle.djq_hyper.specs.Hypergraph.{member}
 use Rattle.djq_model.specs.declared.query.Query.{Query}
 use Rattle.djq_model.specs.Data.{Bytes, Tuple, tuples_in}
 use Rattle.djq_model.specs.declared.relation.Relation.{Relation}
 use Rattle.djq_model.specs.Answer.{IsAnswer}
-use Rattle.djq_lines.specs.Variables.{Label}
 use Rattle.djq_lines.specs.declared.answer.Sign.TheVariants.{Came as HasCome, Went as HasGone}
 use Rattle.djq_machine.specs.Delta.{Change}
 use Rattle.djq_machine.specs.Store.{most_steps}
@@ -22,7 +20,7 @@ use Rattle.djq_cursor.specs.Changed.{IsGained}
 use Rattle.djq_cursor.specs.Log.{Log}
 use Rattle.djq_union.proofs.Lists.{none_contained}
 use Rattle.djq_query.specs.declared.numbered.NumberedAtom.{NumberedAtom}
-use Rattle.djq_query.specs.Numbered.{Numbered, labels}
+use Rattle.djq_query.specs.Numbered.{Numbered}
 use Rattle.djq_query.specs.Pattern.{Shape}
 use Rattle.djq_rows.specs.Catalog.{Catalog, IsCatalog, no_relation, rows_at}
 use Rattle.djq_live.specs.Leaves.{IsOver}
@@ -52,7 +50,8 @@ use Rattle.djq_live.specs.Stepping.{
 }
 use Rattle.djq_live.proofs.Giving.{one_of}
 use Rattle.djq_live.proofs.Members.{in_cons, in_rest}
-use Rattle.djq_reduct.proofs.Readings.{member_here, member_on}
+use Rattle.djq_hyper.proofs.Rising.{member_here}
+use Rattle.djq_reduct.proofs.Readings.{member_on}
 use Rattle.djq_live.proofs.Listings.{few}
 use Rattle.djq_live.proofs.Passing.{part_few}
 use Rattle.djq_live.proofs.Showing.{tree_answer}
@@ -84,6 +83,7 @@ use Rattle.djq_live.proofs.Turning.{
   lines_came,
   lines_went,
 }
+use Rattle.djq_live.proofs.Asking.{head_narrow}
 
 -- ---- the head
 
@@ -102,19 +102,6 @@ member_in (y ∷ l) x c =
       | inl here ↦ subst (λ (z : ℕ). member z (y ∷ l) ≡ true) here (member_here y l)
       | inr there ↦ member_on x y l (member_in l x there)
     ]
-
-head_few : (c : Catalog) (q : Query) (n : Numbered) (ps : List Shape) (r : Reducts)
-    → IsOver c q n ps r → length r.tree.head ≤ length q.head
-head_few c q n ps r h =
-    let rising = AllPairs-from_increasing r.tree.head
-    h.reducts.family.is_tree.head_set.rising in
-    let some = few r.tree.head n.head
-    (λ i j d before low e. let lower = rising i j d before low in omega arith)
-    (λ x m. in_member n.head x (sym (h.head x) ∙ member_in r.tree.head x m)) in
-    let same = sym (length-map n.head (slice_get (labels n.variables)))
-    ∙ ap (λ (l : List (Option Label)). length l) h.asked.head
-    ∙ length-map q.head (λ (y : Bytes). Some (Some y)) in
-    omega arith
 
 -- ---- before the leaves are changed
 
@@ -422,7 +409,7 @@ came_counted true l s at cells k log new x y more change lists = λ c d rows cha
     (all_later c d q n l.patterns r h.over came.later) lists.listing
     (λ t is none. (is, none)) delta)
     (part_few (λ (a : NumberedAtom). a.relation == at) n.atoms k)
-    (head_few c q n l.patterns r h.over)
+    (head_narrow c q n l.patterns r h.over)
 came_counted false l s at cells k log new x y more change lists = lists.1
 
 went_counted : (wanted : Bool) (l : Live) (s : Reducts) (at : ℕ) (cells : List ℕ) (k : ℕ)
@@ -447,7 +434,7 @@ went_counted true l s at cells k log new x y more change lists = λ c d row chan
     (shows_all d q n l.patterns s over)) lists.listing
     (λ t is none. (is, none)) delta)
     (part_few (λ (a : NumberedAtom). a.relation == at) n.atoms k)
-    (head_few c q n l.patterns r h.over)
+    (head_narrow c q n l.patterns r h.over)
 went_counted false l s at cells k log new x y more change lists = lists.1
 
 -- ---- the same, of what a call has in hand

@@ -3,17 +3,14 @@ use Rattle.std.proofs.Common.{◌≡◌, ℕ, zero, suc, ◌+◌, ◌<◌, ◌�
 use Rattle.std.proofs.Common.{refl, ap, sym, ◌∙◌, inl, inr, arith}
 use Rattle.std.specs.Prelude.{◌==◌, ◌||◌, slice_index}
 use Rattle.std.specs.List.Sorted.{IsStrictlyIncreasing}
-use Rattle.std.proofs.lemmas.Bool.{cases_Bool, cases_eq, cases_lt, eq-eqb, ne_eqb}
+use Rattle.std.proofs.lemmas.Bool.{cases_Bool, cases_eq, cases_lt, eq-eqb}
 use Rattle.std.proofs.lemmas.List.{get_or_append_left, get_or_push}
 use Rattle.std.proofs.lemmas.List.Kept.{AllPairs-from_increasing, IsStrictlyIncreasing-filter}
 use Rattle.djq_hyper.specs.Hypergraph.{member, numbers_below, set_below}
 use Rattle.djq_hyper.proofs.Members.{has_filter, one_true, one_false, from_true, from_false}
-use Rattle.djq_hyper.proofs.Rising.{Rising, same_sets}
+use Rattle.djq_hyper.proofs.Rising.{Rising, same_sets, member_past}
 use Rattle.djq_plan.proofs.Stepping.{length_below}
 use Rattle.djq_reduct.proofs.Readings.{member_on}
-
-pub member_past : (x y : ℕ) (l : List ℕ) → (x ≡ y → ⊥) → member x (y ∷ l) ≡ member x l
-member_past x y l apart = rw (ne_eqb x y apart) refl
 
 -- ---- the numbers below a number
 

@@ -34,13 +34,12 @@ use Rattle.djq_query.specs.Numbered.{Numbered}
 use Rattle.djq_rows.specs.Cells.{StandsFor}
 use Rattle.djq_rows.specs.Parts.{value_of}
 use Rattle.djq_rows.specs.Catalog.{Catalog}
-use Rattle.djq_rows.proofs.Encoding.{value_back}
+use Rattle.djq_rows.proofs.Encoding.{value_back, cell_more, has_more}
 use Rattle.djq_live.specs.Asked.{column_of}
 use Rattle.djq_live.specs.Changes.{IsLater}
 use Rattle.djq_live.specs.Shown.{value_at, shown, AreShownAs}
 use Rattle.djq_live.specs.Live.{Live, IsKept, IsShowable, AnswersAreShowable, ShowableStays}
 use Rattle.djq_live.specs.Stepping.{lines_of}
-use Rattle.djq_live.proofs.Later.{has_later, cell_later}
 use Rattle.djq_live.proofs.Showing.{stand}
 
 pub answer_showable : AnswersAreShowable
@@ -64,15 +63,15 @@ stands_more : (texts more : List Bytes) (t : ColumnType) (cell : ℕ) (v : Value
     → StandsFor texts t cell v → StandsFor (texts ++ more) t cell v
 stands_more texts more t cell v s = record {
   of = s.of;
-  has = has_later texts more v s.has;
-  is = s.is ∙ sym (cell_later texts more v s.has);
+  has = has_more texts more v s.has;
+  is = s.is ∙ sym (cell_more texts more v s.has);
 }
 
 value_more : (texts more : List Bytes) (t : ColumnType) (cell : ℕ) (v : Value)
     → StandsFor texts t cell v → value_of (texts ++ more) t cell ≡ v
 value_more texts more t cell v s =
-    ap (λ (k : ℕ). value_of (texts ++ more) t k) (s.is ∙ sym (cell_later texts more v s.has))
-    ∙ value_back (texts ++ more) t v s.of (has_later texts more v s.has)
+    ap (λ (k : ℕ). value_of (texts ++ more) t k) (s.is ∙ sym (cell_more texts more v s.has))
+    ∙ value_back (texts ++ more) t v s.of (has_more texts more v s.has)
 
 all_more : (texts more : List Bytes) (vs : List Variable) (F u xs : List ℕ) (ws : Tuple)
     → AreShownAs texts vs F u xs ws → AreShownAs (texts ++ more) vs F u xs ws

@@ -53,7 +53,8 @@ use Rattle.djq_live.specs.Shown.{
   AnswersDiffer,
   AnswersAreListed,
 }
-use Rattle.djq_reduct.proofs.Readings.{cell_there, row_same, member_here, member_on}
+use Rattle.djq_reduct.proofs.Readings.{cell_there, row_same, member_on}
+use Rattle.djq_hyper.proofs.Rising.{member_here}
 use Rattle.djq_live.proofs.Filling.{assigned_of, answer_of}
 use Rattle.djq_live.proofs.Tabling.{IsIn}
 use Rattle.djq_live.proofs.Binding.{leaf_says}

@@ -7,16 +7,14 @@ use Rattle.djq_index.proofs.Counts.{cnt_cons, many_cons}
 use Rattle.djq_index.proofs.Apart.{cnt_supp}
 use Rattle.djq_tree.specs.declared.node.Node.TheVariants.{Trim, Meet}
 use Rattle.djq_tree.specs.Labels.{label_at}
-use Rattle.djq_tree.specs.Keys.{key_of}
 use Rattle.djq_tree.specs.Tree.{Tree, IsTree, node_at}
-use Rattle.djq_tree.proofs.Keying.{key_of_guard}
 use Rattle.djq_reduct.specs.Columns.{columns}
 use Rattle.djq_reduct.specs.Tables.{entries_at, key_at}
 use Rattle.djq_reduct.specs.Reducts.{Reducts, IsReducts}
 use Rattle.djq_reduct.proofs.Family.{trim_law, meet_law}
 use Rattle.djq_reduct.proofs.Readings.{Within, within_of, pick_row}
 use Rattle.djq_cursor.proofs.Groups.{both_positive, product_positive, many_of}
-use Rattle.djq_cursor.proofs.Good.{trim_key}
+use Rattle.djq_cursor.proofs.Good.{trim_key, meet_key}
 use Rattle.djq_propagate.proofs.Sides.{present}
 
 -- an entry's tuple with these cells at the key's columns
@@ -57,18 +55,6 @@ many_has key (e ∷ es) w h =
 -- the row that an assignment gives on a node is in its table
 abbrev pub IsIn : Reducts → ℕ → (ℕ → ℕ) → Type 0
 IsIn r j a = 0 < cnt (entries_at r.tables j) (map a (label_at r.tree.labels j))
-
-key_is : (r : Reducts) (c : ℕ) (l : List ℕ) → IsReducts r → c < length r.tree.nodes
-    → key_of r.tree c ≡ l → key_at r.tables c ≡ columns (label_at r.tree.labels c) l
-key_is r c l h within e = (h.family.keyed c within).key
-    ∙ ap (λ (k : List ℕ). columns (label_at r.tree.labels c) k) e
-
-meet_key : (r : Reducts) (k g d : ℕ) → IsReducts r → k < length r.tree.nodes
-    → node_at r.tree.nodes k ≡ Meet g d
-    → key_at r.tables g ≡ columns (label_at r.tree.labels g) (label_at r.tree.labels d)
-meet_key r k g d h within e =
-    (let low = (h.family.is_tree.meet k g d e).guard_lower in key_is r g (label_at r.tree.labels d)
-    h (omega arith) (key_of_guard r.tree k g d h.family.is_tree e))
 
 trim_within : (t : Tree) (k c : ℕ) → IsTree t → node_at t.nodes k ≡ Trim c
     → Within (label_at t.labels k) (label_at t.labels c)

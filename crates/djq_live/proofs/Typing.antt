@@ -69,7 +69,6 @@ use Rattle.djq_lines.specs.QueryFault.{
   repeats_head,
   query_fault,
 }
-use Rattle.djq_lines.specs.declared.answer.Refusal.{Refusal}
 use Rattle.djq_lines.specs.declared.answer.Refusal.TheVariants.{
   NoRelation,
   Arity,
@@ -101,14 +100,9 @@ use Rattle.djq_query.specs.Numbered.{
 }
 use Rattle.djq_query.specs.Meaning.{AreShown, AreAtomsShown, AreComparisonsShown}
 use Rattle.djq_query.proofs.Counting.{or_false}
-use Rattle.djq_query.proofs.Faults.{sound_of}
-use Rattle.djq_query.proofs.Numbers.{
-  both_false,
-  not_false,
-  length_labels,
-  labels_with,
-  labels_columns,
-}
+use Rattle.djq_query.proofs.Faults.{sound_of, peel}
+use Rattle.djq_query.proofs.Numbers.{not_false, length_labels, labels_with, labels_columns, same_length}
+use Rattle.std.proofs.lemmas.Bool.{or_parts}
 use Rattle.djq_query.proofs.Showing.{shown_by}
 use Rattle.djq_rows.specs.Cells.{HaveCells}
 use Rattle.djq_rows.specs.Catalog.{Catalog, IsCatalog, no_relation, relation_at}
@@ -221,7 +215,7 @@ unfolding with_places
 agree_places rs all ks [] cs none agree = agree
 agree_places rs all ks (t ∷ ts) [] none agree = agree
 agree_places rs all ks (t ∷ ts) (c ∷ cs) none agree =
-    let p = both_false (any_place (is_clash t c) rs all)
+    let p = or_parts (any_place (is_clash t c) rs all)
     (any_column (λ u d. any_place (is_clash u d) rs all) ts cs) none in
     agree_places rs all (with_place ks t c) ts cs p.1 (agree_place rs all ks t c p.0 agree)
 
@@ -230,7 +224,7 @@ agree_atoms : (rs : List Relation) (all : List Atom) (ks : List Variable) (atoms
     → Agree rs all (fold (with_columns rs) ks atoms)
 agree_atoms rs all ks [] none agree = agree
 agree_atoms rs all ks (a ∷ atoms) none agree =
-    let p = both_false
+    let p = or_parts
     (any_column (λ t c. any_place (is_clash t c) rs all) a.terms (columns_of rs a.relation))
     (any_place (λ t c. any_place (is_clash t c) rs all) rs atoms) none in
     agree_atoms rs all (with_columns rs ks a) atoms p.1
@@ -305,16 +299,16 @@ suited_terms rs all final texts ks (t ∷ ts) [] grows agree shown places fit lo
 suited_terms rs all final texts ks (t ∷ ts) (c ∷ cs) grows agree shown places fit long have =
     let next = with_place ks t c in
     let same : labels next ≡ with_term (labels ks) t = labels_with ks t c in
-    let fits = both_false (is_misfit t c) (any_column is_misfit ts cs) fit in (
+    let fits = or_parts (is_misfit t c) (any_column is_misfit ts cs) fit in (
       suit_term rs all final texts ks t c (λ k v e. grows k v (places_grow next ts cs k v e)) agree
           (shown.0, tt)
-          (λ p none. (both_false (p t c) (any_column p ts cs) (places p none)).0) fits.0
+          (λ p none. (or_parts (p t c) (any_column p ts cs) (places p none)).0) fits.0
           (have.0, tt),
       subst (λ (ls : List Label). AreSuited texts final (numbered_terms ls ts) cs) same
           (suited_terms rs all final texts next ts cs grows agree
           (subst (λ (ls : List Label). AreShown (labels final) ts (numbered_terms ls ts)) (sym same)
           shown.1)
-          (λ p none. (both_false (p t c) (any_column p ts cs) (places p none)).1) fits.1
+          (λ p none. (or_parts (p t c) (any_column p ts cs) (places p none)).1) fits.1
           (omega arith)
           (subst (λ (ls : List Label). HaveConstants texts (numbered_terms ls ts)) (sym same)
           have.1)),
@@ -344,9 +338,6 @@ found_name (s ∷ rs) name r e =
           let k : relation_of rs name ≡ Some r = rw other at e in
           found_name rs name r k
     ]
-
-same_long : (a b : ℕ) → not (a == b) ≡ false → a ≡ b
-same_long a b e = eqb-true a b (not_false (a == b) e)
 
 atom_of : (c : Catalog) (all : List Atom) (final ks : List Variable) (a : Atom) (m : NumberedAtom)
     → Grows (with_columns c.relations ks a) final → Agree c.relations all final
@@ -400,22 +391,22 @@ atoms_of c all final ks (a ∷ atoms) [] grows agree shown h known arity fit pla
 atoms_of c all final ks (a ∷ atoms) (m ∷ ms) grows agree shown h known arity fit places have =
     let rs = c.relations in
     let next = with_columns rs ks a in
-    let k = both_false (is_none (relation_of rs a.relation))
+    let k = or_parts (is_none (relation_of rs a.relation))
     (list_any (λ (b : Atom). is_none (relation_of rs b.relation)) atoms) known in
-    let l = both_false (not (length a.terms == length (columns_of rs a.relation)))
+    let l = or_parts (not (length a.terms == length (columns_of rs a.relation)))
     (list_any (λ (b : Atom). not (length b.terms == length
     (columns_of rs b.relation))) atoms) arity in
-    let f = both_false (any_column is_misfit a.terms (columns_of rs a.relation))
+    let f = or_parts (any_column is_misfit a.terms (columns_of rs a.relation))
     (any_place is_misfit rs atoms) fit in
     let same : labels next ≡ with_atom (labels ks) a = labels_columns rs ks (a ∷ [])
     (or_false (not (length a.terms == length (columns_of rs a.relation))) ∙ l.0) in (
       atom_of c all final ks a m (λ i v e. grows i v (atoms_grow rs next atoms i v e)) agree shown.0
-          shown.1 h.0.1 k.0 (same_long (length a.terms) (length (columns_of rs a.relation)) l.0) f.0
-          (λ p none. (both_false (any_column p a.terms (columns_of rs a.relation))
+          shown.1 h.0.1 k.0 (same_length (length a.terms) (length (columns_of rs a.relation)) l.0) f.0
+          (λ p none. (or_parts (any_column p a.terms (columns_of rs a.relation))
           (any_place p rs atoms) (places p none)).0) (have 0 m refl),
       atoms_of c all final next atoms ms grows agree shown.2
           (subst (λ (ls : List Label). AreNumbered rs ls atoms ms) (sym same) h.1) k.1 l.1 f.1
-          (λ p none. (both_false (any_column p a.terms (columns_of rs a.relation))
+          (λ p none. (or_parts (any_column p a.terms (columns_of rs a.relation))
           (any_place p rs atoms) (places p none)).1) (λ j n e. have (suc j) n e),
     )
 
@@ -446,7 +437,7 @@ suited_among vs texts k x (Hole ∷ ts) (Number j ∷ ns) (c ∷ cs) one e shown
     let r = suited_among vs texts k x ts ns cs one e shown.1 suits.1 has none in
     (or_right (x == j) (list_any (is_number x) ns) r.0, r.1)
 suited_among vs texts k x (Named y ∷ ts) (Number j ∷ ns) (c ∷ cs) one e shown suits has none =
-    let p = both_false (is_miscompared k (Named y) c) (any_column (is_miscompared k) ts cs) none in
+    let p = or_parts (is_miscompared k (Named y) c) (any_column (is_miscompared k) ts cs) none in
     elim (or_cases (bytes_eq y k.variable) (list_any (is_variable k.variable) ts) has) [
       | inl same ↦
           let named = (bytes_eq-decides y k.variable).0 same in
@@ -478,7 +469,7 @@ suited_in c vs k x (a ∷ atoms) [] h one e are has none = absurd are
 suited_in c vs k x (a ∷ atoms) (m ∷ ms) h one e are has none =
     let types : columns_of c.relations a.relation ≡ (relation_at c.relations m.relation).types =
     ap types_of (found_at c.relations a.relation m.relation h.names are.0.below are.0.named) in
-    let p = both_false
+    let p = or_parts
     (any_column (is_miscompared k) a.terms (columns_of c.relations a.relation))
     (any_place (is_miscompared k) c.relations atoms) none in
     elim (or_cases (list_any (is_variable k.variable) a.terms) (stands_in atoms k.variable) has) [
@@ -503,9 +494,9 @@ comparisons_of c vs atoms ms [] [] h one are shown bound fit have = tt
 comparisons_of c vs atoms ms [] (n ∷ ns) h one are shown bound fit have = absurd shown
 comparisons_of c vs atoms ms (k ∷ ks) [] h one are shown bound fit have = absurd shown
 comparisons_of c vs atoms ms (k ∷ ks) (n ∷ ns) h one are shown bound fit have =
-    let b = both_false (not (stands_in atoms k.variable))
+    let b = or_parts (not (stands_in atoms k.variable))
     (list_any (λ (j : Comparison). not (stands_in atoms j.variable)) ks) bound in
-    let f = both_false (any_place (is_miscompared k) c.relations atoms)
+    let f = or_parts (any_place (is_miscompared k) c.relations atoms)
     (list_any (λ (j : Comparison). any_place (is_miscompared j) c.relations atoms) ks) fit in
     let s = shown.0 in
     let column = column_of vs n.variable in
@@ -521,11 +512,6 @@ comparisons_of c vs atoms ms (k ∷ ks) (n ∷ ns) h one are shown bound fit hav
       },
       comparisons_of c vs atoms ms ks ns h one are shown.1 b.1 f.1 have.1,
     )
-
-peel : (b : Bool) (r : Refusal) (o : Option Refusal) → cond b (Some r) o ≡ None
-    → (b ≡ false) × (o ≡ None)
-peel true r o e = absurd cc
-peel false r o e = (refl, e)
 
 -- no constant is of another type than its column
 no_misfit : (rs : List Relation) (q : Query) → query_fault rs q ≡ None

@@ -34,7 +34,8 @@ use Rattle.djq_live.specs.Shown.{value_at}
 use Rattle.djq_live.specs.Changes.{IsLater, GainsAll, Loses, LeavesChange}
 use Rattle.djq_live.specs.Live.{Live, IsKept, IsLive, given_by, position_of, values_of}
 use Rattle.djq_live.specs.Staying.{StaysOver, LiveStays, CamePasses, CameAllPasses, WentPasses}
-use Rattle.djq_reduct.proofs.Readings.{member_here, member_on}
+use Rattle.djq_reduct.proofs.Readings.{member_on}
+use Rattle.djq_hyper.proofs.Rising.{member_here}
 use Rattle.djq_live.proofs.Showing.{head_stands}
 use Rattle.djq_live.proofs.Changing.{over_stays, over_gains, over_loses}
 use Rattle.djq_live.proofs.Terms.{heads}

@@ -102,7 +102,8 @@ use Rattle.djq_machine.specs.Step.{Event, fed, stepped, took, FedStep, TookStep,
 use Rattle.djq_machine.specs.Run.{to_session, pending_of, pending_in}
 use Rattle.djq_machine.specs.Call.{IsOpen, Makes, RanStep, Counts, cause_of, cause_in, held_of, held_in}
 use Rattle.djq_laws.specs.Watched.{batch_in}
-use Rattle.djq_laws.proofs.Finding.{some_and, find_changed}
+use Rattle.djq_laws.proofs.Finding.{find_changed}
+use Rattle.djq_deltas.proofs.Cases.{some_there, not_both, none_some}
 use Rattle.djq_laws.proofs.Queueing.{
   gaining,
   session_changed,
@@ -115,9 +116,6 @@ use Rattle.djq_load.specs.Lines.{IsIdle, LineRuns, TakesAll, cursors_in, cursor_
 use Rattle.djq_load.specs.Totals.{HasLeft, open_line, next_line}
 use Rattle.djq_load.proofs.Idle.{is_fed}
 use Rattle.djq_load.proofs.Left.{step_left, some_told}
-
-none_some : {A : Type 0} (o : Option A) (a : A) → o ≡ None → o ≡ Some a → ⊥
-none_some o a e f = cc
 
 -- What a session has: its cursors, and its batch.
 abbrev Has : Type 0
@@ -180,7 +178,7 @@ fed_left : (line : Bytes) (old mid : State) (given : List Tuple) → Makes old (
     → HasLeft mid.store given
 fed_left line old mid given m left =
     let h = m.step in
-    let f = some_and (session_of old 1) (λ x. FedStep old 1 line x m.effect h.mid) h.acts in
+    let f = some_there (session_of old 1) (λ x. FedStep old 1 line x m.effect h.mid) h.acts in
     step_left old (fed 1 line) m.effect mid h given
     (subst (λ (store : Store). HasLeft store given) (sym (fed_store old line f.0 m.effect h.mid (f.0).cause f.2))
     left)
@@ -191,7 +189,7 @@ took_left old new given (inl (none, same)) left = subst (λ (st : State). HasLef
 took_left old new given (inr (some, m)) left =
     let h = m.step in
     let bytes = pending_of old 1 in
-    let f = some_and (session_of old 1) (λ x. TookStep old 1 bytes x m.effect h.mid) h.acts in
+    let f = some_there (session_of old 1) (λ x. TookStep old 1 bytes x m.effect h.mid) h.acts in
     step_left old (took 1 bytes) m.effect new h given
     (subst (λ (st : State). HasLeft st.store given) (sym f.2.1.2) left)
 
@@ -212,7 +210,7 @@ fed_has : (line : Bytes) (old mid : State) → cause_of mid 1 ≡ None → Makes
     → has_of mid ≡ has_of old
 fed_has line old mid running m =
     let h = m.step in
-    let f = some_and (session_of old 1) (λ x. FedStep old 1 line x m.effect h.mid) h.acts in
+    let f = some_there (session_of old 1) (λ x. FedStep old 1 line x m.effect h.mid) h.acts in
     stepped_has old (fed 1 line) m.effect mid h
     ∙ fed_by_cause old line f.0 m.effect h.mid (f.0).cause f.1
     (sym (stepped_cause old (fed 1 line) m.effect mid h 1) ∙ running) f.2
@@ -222,7 +220,7 @@ took_has old new (inl (none, same)) = ap has_of same
 took_has old new (inr (some, m)) =
     let h = m.step in
     let bytes = pending_of old 1 in
-    let f = some_and (session_of old 1) (λ x. TookStep old 1 bytes x m.effect h.mid) h.acts in
+    let f = some_there (session_of old 1) (λ x. TookStep old 1 bytes x m.effect h.mid) h.acts in
     stepped_has old (took 1 bytes) m.effect new h
     ∙ changed_has old h.mid (λ y. record y { pending = f.2.1.0 }) (λ y. refl) (λ y. refl) f.2.1.2
 
@@ -244,9 +242,6 @@ line_in dry = []
 line_in too_long = []
 line_in (a_line l rest) = l
 
-not_both : (b : Bool) → b ≡ true → b ≡ false → ⊥
-not_both b e f = cc
-
 text_is : (line text l rest : Bytes) (x : Session) (mid : State) → held_of mid 1 ≡ line → front_of line ≡ a_line text []
     → session_of mid 1 ≡ Some x → front_of x.held ≡ a_line l rest → l ≡ text
 unfolding line_in
@@ -257,13 +252,13 @@ runs : (line text : Bytes) (mid new : State) (before now : Counts) → held_of m
     ≡ a_line text [] → is_blank text ≡ false → RanStep mid 1 new before now → Runs text mid new
 runs line text mid new before now held is full (l, inl m) =
     let h = m.step in
-    let f = some_and (session_of mid 1) (λ x. (x.cause ≡ None) × FrontStep mid 1 x (blank l) m.effect h.mid) h.acts in
+    let f = some_there (session_of mid 1) (λ x. (x.cause ≡ None) × FrontStep mid 1 x (blank l) m.effect h.mid) h.acts in
     let t = f.2.1.1 in
     absurd (not_both (is_blank text)
     (ap is_blank (sym (text_is line text l t.rest f.0 mid held is f.1 t.front)) ∙ f.2.1.0) full)
 runs line text mid new before now held is full (l, inr m) =
     let h = m.step in
-    let f = some_and (session_of mid 1) (λ x. (x.cause ≡ None) × FrontStep mid 1 x (run l) m.effect h.mid) h.acts in
+    let f = some_there (session_of mid 1) (λ x. (x.cause ≡ None) × FrontStep mid 1 x (run l) m.effect h.mid) h.acts in
     let t = f.2.1.2 in
     let e = text_is line text l t.rest f.0 mid held is f.1 t.front in
     let k = is_stepped mid 1 f.0 (run l) m.effect h.mid f.1 f.2.0 f.2.1 in
@@ -383,7 +378,7 @@ next_at given ended st y e m found stands none running h =
     subst (λ (o : Option Cursor). MatchOption o (RefusedStep st 1 NoCursor e m)
     (λ k. IsSomeAnd (listed_of st.store.queries k.query) (λ q. NextStepAt st 1 (codes "c") q 1000 k.position e m)))
     stands done in
-    let q = some_and (listed_of st.store.queries (codes "q"))
+    let q = some_there (listed_of st.store.queries (codes "q"))
     (λ q. NextStepAt st 1 (codes "c") q 1000 (open_at given ended) e m) at in
     next_told given st y q.0 e m found q.1 running q.2
 

@@ -1,7 +1,6 @@
 -- A load's query has few answers, and what a cursor has given is no more.
 use Rattle.std.specs.Prelude.{ℕ, suc, List, [], ◌∷◌, ◌≡◌, ◌==◌, ◌+◌, ◌-◌, ◌*◌, ◌%◌, ◌^◌, ◌<◌, ◌≤◌}
-use Rattle.std.specs.Prelude.{◌⊎◌, Bool, true, false, cond, Option, None, Some, All, Contains}
-use Rattle.std.specs.Prelude.{length, replicate, codes}
+use Rattle.std.specs.Prelude.{◌⊎◌, Bool, true, false, cond, Option, None, Some, All, Contains, length, replicate, codes}
 use Rattle.std.proofs.Common.{refl, sym, ap, ◌∙◌, subst, inl, inr, arith}
 use Rattle.std.proofs.lemmas.Nat.{mul-le}
 use Rattle.std.proofs.lemmas.List.{length-map}
@@ -20,7 +19,7 @@ use Rattle.djq_deltas.specs.Finite.{IsBound, IsInBody}
 use Rattle.djq_deltas.proofs.Lists.{nothing_there, first_or_later, first_there, later_there}
 use Rattle.djq_deltas.proofs.Choosing.{answers_are_bounded}
 use Rattle.djq_laws.proofs.Changing.{all_found}
-use Rattle.djq_laws.proofs.Finding.{some_and}
+use Rattle.djq_deltas.proofs.Cases.{some_there}
 use Rattle.djq_laws.proofs.Giving.{SessionGives, CursorGives}
 use Rattle.djq_gen.specs.Load.{load}
 use Rattle.djq_load.specs.declared.reading.Reading.{Reading}
@@ -57,7 +56,7 @@ has_given st given ended give stands =
     let of_cursor : PositionGives rs (listed_of qs (codes "q")) (open_at given ended) =
     all_found (CursorGives rs qs) (λ (c : Cursor). bytes_eq c.name (codes "c")) (f.session).cursors
     (cursor_at given ended) of_session f.cursor in
-    let q = some_and (listed_of qs (codes "q")) (λ (q : Listed). Gives (AnswersOf rs q) given ended) of_cursor in
+    let q = some_there (listed_of qs (codes "q")) (λ (q : Listed). Gives (AnswersOf rs q) given ended) of_cursor in
     record { query = q.0; registered = q.1; gives = q.2 }
 
 -- The query is bound: each variable of its head stands in one of its atoms.

@@ -31,9 +31,7 @@ use Rattle.djq_laws.proofs.Moving.{took_facts, fed_facts, stepped_facts}
 use Rattle.djq_laws.proofs.Sending.{step_bytes}
 use Rattle.djq_load.specs.Lines.{Loads, Feeds, BreaksOff, IsServed, IsIdle, LineRuns, TakesAll}
 use Rattle.djq_load.proofs.Served.{quiet}
-
-none_some : {A : Type 0} (o : Option A) (a : A) → o ≡ None → o ≡ Some a → ⊥
-none_some o a e f = cc
+use Rattle.djq_deltas.proofs.Cases.{none_some}
 
 -- a session that a line has come to
 pub record IsFed (line : Bytes) (mid : State) : Type 0 where

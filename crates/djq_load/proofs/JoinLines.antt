@@ -1,11 +1,10 @@
 -- No line that is fed registers a query but the load's, or puts in a batch.
 use Rattle.std.specs.Prelude.{ℕ, zero, suc, List, [], ◌∷◌, ◌++◌, ◌≡◌, ◌==◌, ◌+◌, ◌-◌, ◌/◌, ◌%◌}
-use Rattle.std.specs.Prelude.{Bool, true, false, cond, Option, None, Some, option_map, All, length}
+use Rattle.std.specs.Prelude.{Bool, true, false, cond, Option, None, Some, option_map, length}
 use Rattle.std.specs.Prelude.{take, slice_index, codes, decimal, replicate}
 use Rattle.std.specs.List.{AllByRecursion}
 use Rattle.std.specs.Str.{is_utf8}
 use Rattle.std.proofs.Common.{refl, sym, ap, ◌∙◌, subst, append-nil, append_assoc, arith}
-use Rattle.std.proofs.lemmas.List.Elements.{All-nil, All-cons}
 use Rattle.djq_model.specs.declared.relation.ColumnType.TheVariants.{Int as IntColumn}
 use Rattle.djq_model.specs.Data.{Bytes}
 use Rattle.djq_value.specs.Token.{tokens}
@@ -19,7 +18,6 @@ use Rattle.djq_machine.specs.LineStep.{LineOutcome, long, blank, slow, no_room, 
 use Rattle.djq_machine.specs.Step.{Event, opened, fed, stepped, took, ended, closed}
 use Rattle.djq_machine.specs.Run.{Did, Walk, all_fed, fed_by, pieces_of, piece_of, lines_of, line_by, CutsInto}
 use Rattle.djq_machine.specs.Call.{Counts, held_of}
-use Rattle.djq_laws.specs.Moved.{Spares}
 use Rattle.djq_laws.specs.Course.{MayRun, RunNext}
 use Rattle.djq_laws.proofs.Cutting.{in_order, line_in_front}
 use Rattle.djq_laws.proofs.Giving.{step_gives}
@@ -31,6 +29,7 @@ use Rattle.djq_load.specs.Lines.{Loads}
 use Rattle.djq_load.specs.Totals.{open_line, next_line}
 use Rattle.djq_load.proofs.Joining.{IsHarmless, LeavesJoin, IsFine, step_joins}
 use Rattle.djq_load.proofs.LoadLines.{AreOnes}
+use Rattle.djq_laws.proofs.Heading.{walk_spares}
 
 -- What a line says.
 said_so : (o : Option Command) (c : Command) → reading_in o ≡ says_command c → o ≡ Some c
@@ -230,20 +229,6 @@ walk_fed old (d ∷ done) new w =
     ap (λ (bs : Bytes). bs ++ all_fed 1 done) (next_fed old d.event w.1.0)
     ∙ ap (λ (bs : Bytes). joined (piece_of d.event) ++ bs) (walk_fed w.0 done new w.2)
     ∙ sym (joined_both (piece_of d.event) (pieces_of done))
-
-next_spares : (st : State) (event : Event) → MayRun st event → Spares event 1
-next_spares st (opened s) h = tt
-next_spares st (fed s bytes) h = tt
-next_spares st (stepped s outcome) h = tt
-next_spares st (took s bytes) h = tt
-next_spares st (ended s) h = tt
-next_spares st (closed s bytes) h = absurd h
-
-walk_spares : (old : State) (done : List Did) (new : State) → Walk RunNext old done new
-    → All (λ d. Spares d.event 1) done
-walk_spares old [] new w = All-nil (λ (d : Did). Spares d.event 1)
-walk_spares old (d ∷ done) new w = All-cons (λ (e : Did). Spares e.event 1) d done (next_spares old d.event w.1.0)
-    (walk_spares w.0 done new w.2)
 
 -- Each step, by the lines that were taken.
 step_fine : (st : State) (event : Event) (more : List Bytes) → MayRun st event

@@ -156,7 +156,7 @@ use Rattle.djq_laws.specs.Form.{
   Turn,
 }
 use Rattle.djq_laws.proofs.Changing.{all_changed, all_dropped}
-use Rattle.djq_laws.proofs.Finding.{some_and}
+use Rattle.djq_deltas.proofs.Cases.{some_there}
 use Rattle.djq_laws.proofs.Forms.{
   done_of,
   none_holds,
@@ -170,7 +170,7 @@ use Rattle.djq_laws.proofs.Forms.{
   carried_out,
   line_reads,
 }
-use Rattle.djq_laws.proofs.Watching.{change_store, queued_store}
+use Rattle.djq_laws.proofs.Watching.{change_store, queued_store, replied_store}
 use Rattle.djq_load.specs.Joins.{join, IsWithin, IsJoin, Joins}
 
 -- Another store.
@@ -328,15 +328,10 @@ drop_joins old used name (Ok u) new h j =
     })
 drop_joins old used name (Err r) new h j = same_joins old new h.stays j
 
--- A command that isn't of the store.
-replied_same : (s : ℕ) (mid new : State) → Replied s mid new → new.store ≡ mid.store
-replied_same s mid new (is_whole e) = ap (λ (st : State). st.store) e
-replied_same s mid new (is_cut e) = ap (λ (st : State). st.store) e
-
 turn_same : (old : State) (s : ℕ) (x : Session) (t : Turn) (new : State) → DoesTurn old s x t new → new.store
     ≡ old.store
 turn_same old s x t new (is_turned h) = ap (λ (st : State). st.store) (turned_one old s x t new h).state
-turn_same old s x t new (is_refused r) = replied_same s old new r
+turn_same old s x t new (is_refused r) = replied_store s old new r
 
 is_apart : Form → Bool
 is_apart asking = true
@@ -348,7 +343,7 @@ is_apart ending = true
 form_same : (f : Form) (old : State) (s : ℕ) (x : Session) (e : Effect) (new : State) → is_apart f ≡ true
     → Does f old s x e new → new.store ≡ old.store
 unfolding is_apart
-form_same asking old s x e new apart h = replied_same s old new h.1
+form_same asking old s x e new apart h = replied_store s old new h.1
 form_same storing old s x e new apart h = absurd cc
 form_same (turning t) old s x e new apart h = turn_same old s x t new h.1
 form_same (changing c) old s x e new apart h = absurd cc
@@ -477,16 +472,16 @@ acts_joins : (old : State) (event : Event) (e : Effect) (mid : State) → IsFine
     → Joins old.store → Joins mid.store
 acts_joins old (opened s) e mid fine h j = same_joins old.store mid.store (opened_same old mid _ _ refl h.2) j
 acts_joins old (fed s bytes) e mid fine h j =
-    let f = some_and (session_of old s) (λ x. FedStep old s bytes x e mid) h in
+    let f = some_there (session_of old s) (λ x. FedStep old s bytes x e mid) h in
     same_joins old.store mid.store (fed_same old s bytes e mid (f.0).cause f.2) j
 acts_joins old (stepped s outcome) e mid fine h j =
-    let f = some_and (session_of old s) (λ x. (x.cause ≡ None) × FrontStep old s x outcome e mid) h in
+    let f = some_there (session_of old s) (λ x. (x.cause ≡ None) × FrontStep old s x outcome e mid) h in
     front_joins old s f.0 outcome e mid fine f.2.1 j
 acts_joins old (took s bytes) e mid fine h j =
-    let f = some_and (session_of old s) (λ x. TookStep old s bytes x e mid) h in
+    let f = some_there (session_of old s) (λ x. TookStep old s bytes x e mid) h in
     same_joins old.store mid.store (ap (λ (st : State). st.store) f.2.1.2) j
 acts_joins old (ended s) e mid fine h j =
-    let f = some_and (session_of old s) (λ x. EndedStep old s x e mid) h in
+    let f = some_there (session_of old s) (λ x. EndedStep old s x e mid) h in
     same_joins old.store mid.store (input_same old mid _ _ _ _ (f.0).cause refl f.2) j
 acts_joins old (closed s bytes) e mid fine h j = same_joins old.store mid.store (ap (λ (st : State). st.store) h.2) j
 

@@ -4,9 +4,8 @@ use Rattle.std.specs.Prelude.{◌+◌, ◌-◌, ◌*◌, ◌/◌, ◌%◌, ◌^�
 use Rattle.std.specs.Prelude.{Option, Some, option_map, length, map, codes, sum_by}
 use Rattle.std.specs.List.{list_all, flat_map}
 use Rattle.std.specs.Fmt.{decimal, digits, digits_onto, digit_glyph}
-use Rattle.std.proofs.Common.{refl, sym, ap, ◌∙◌, append_assoc, length-append, arith, leb}
-use Rattle.std.proofs.Math.Dec.{eqb-suc-zero}
-use Rattle.std.proofs.lemmas.Bool.{cond-true, cond-false, and_parts, and_from, le-leb, leb-true, ne_eqb}
+use Rattle.std.proofs.Common.{refl, sym, ap, ◌∙◌, append_assoc, length-append, arith}
+use Rattle.std.proofs.lemmas.Bool.{cond-true, cond-false, and_parts, and_from, le-leb, ne_eqb}
 use Rattle.std.proofs.lemmas.Grind.{flat_map-append}
 use Rattle.std.proofs.lemmas.List.Sums.{sum_by-append, sum_by-cons}
 use Rattle.djq_model.specs.Data.{Bytes, Tuple}
@@ -20,14 +19,11 @@ use Rattle.djq_load.specs.declared.reading.Place.TheVariants.{Front, Answer, Tex
 use Rattle.djq_load.specs.declared.reading.Reading.{Reading}
 use Rattle.djq_load.specs.Replies.{reading, signed, read_byte, read_bytes}
 use Rattle.djq_load.specs.Totals.{residue, amount, amount_of, so_far}
+use Rattle.djq_value.proofs.Literals.{digit_bounds, minus-suc}
 
 read_both : (r : Reading) (xs ys : Bytes) → read_bytes r (xs ++ ys) ≡ read_bytes (read_bytes r xs) ys
 read_both r [] ys = refl
 read_both r (x ∷ xs) ys = read_both (read_byte r x) xs ys
-
--- Digits.
-pub digit_bounds : (d : ℕ) → is_digit d ≡ true → (48 ≤ d) × (d ≤ 57)
-digit_bounds d h = let parts = and_parts (leb 48 d) (leb d 57) h in (leb-true 48 d parts.0, leb-true d 57 parts.1)
 
 digit_read : (a s : ℕ) (e below : Bool) (n d : ℕ) → is_digit d ≡ true
     → read_byte (reading a s e (Answer below n)) d
@@ -103,9 +99,6 @@ record ValueRead (a s : ℕ) (e : Bool) (v : Value) : Type 0 where
   number : ℕ
   read : read_bytes (reading a s e (Answer false 0)) (value_text v) ≡ reading a s e (Answer below number)
   is : signed below number ≡ amount v
-
-minus-suc : (n : ℕ) → minus (suc n) ≡ negsuc n
-minus-suc n = cond-false _ _ _ (eqb-suc-zero n) ∙ ap (λ k. negsuc k) (omega arith)
 
 signed_minus : (d : ℕ) → signed true (d % 2 ^ 64) ≡ residue (Some (minus d))
 signed_minus zero = refl

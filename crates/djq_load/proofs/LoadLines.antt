@@ -10,7 +10,8 @@ use Rattle.djq_value.specs.Literal.{is_digit}
 use Rattle.djq_lines.specs.Line.{behind_lf}
 use Rattle.djq_gen.specs.Draws.{next, drawn}
 use Rattle.djq_gen.specs.Load.{reading, verb, relation, change, pause, changes, values_of, load}
-use Rattle.djq_load.proofs.Listing.{digit_bounds, decimal_digits}
+use Rattle.djq_load.proofs.Listing.{decimal_digits}
+use Rattle.djq_value.proofs.Literals.{digit_bounds}
 
 -- one LF, at the end
 abbrev pub IsOne : Bytes → Type 0

@@ -93,7 +93,7 @@ unfolding are_cells_in
 cells_fail [] some e = absurd (omega (arith, some))
 cells_fail (b ∷ bs) some e = ap (or_false (cells_within (length bs))) e
 
-ends_cells : (t : Tuple) → may_end (cells_text t) ≡ true
+pub ends_cells : (t : Tuple) → may_end (cells_text t) ≡ true
 ends_cells [] = refl
 ends_cells (v ∷ t) = refl
 

@@ -558,7 +558,7 @@ word_found l first ws w e h = by (bytes_eq first (codes "at")) (bytes_eq first (
         let said = if_said (is_fixed l || is_worded first ws) nothing w t in
         told_as l nothing w (nothing_found l first ws e said.0) said.1
 
-some_is : (v w : News) → Some v ≡ Some w → v ≡ w
+pub some_is : (v w : News) → Some v ≡ Some w → v ≡ w
 some_is v w e = cc
 
 words_found : (l first : Bytes) (ws : List Bytes) (w : News) → l ≡ first ++ spaced 32 ws → words_told l first ws

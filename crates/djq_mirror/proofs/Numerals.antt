@@ -6,22 +6,20 @@ use Rattle.std.specs.List.{list_all}
 use Rattle.std.specs.Fmt.{decimal}
 use Rattle.std.proofs.lemmas.Fmt.{decimal_by_steps}
 use Rattle.std.proofs.lemmas.List.Folds.{list_all-append}
-use Rattle.std.proofs.lemmas.Bool.{cond-true, and_parts, and_from, and_left, false_from_ne_true}
-use Rattle.std.proofs.lemmas.Bool.{le-leb, le-ltb, lt-ltb, ltb-true, cases_lt}
+use Rattle.std.proofs.lemmas.Bool.{and_parts, and_from, and_left, false_from_ne_true}
+use Rattle.std.proofs.lemmas.Bool.{le-ltb, lt-ltb, ltb-true, cases_lt}
 use Rattle.djq_model.specs.Data.{Bytes, bytes_eq}
 use Rattle.djq_model.specs.Equality.{bytes_eq-decides}
 use Rattle.djq_value.specs.Literal.{digits_value, is_digit, natural_of}
 use Rattle.djq_value.specs.Number.{capped}
-use Rattle.djq_value.proofs.Words.{digits_value-push, natural-some}
+use Rattle.djq_value.proofs.Words.{digits_value-push}
 use Rattle.djq_mirror.specs.Reading.{is_number, number_as}
+use Rattle.djq_value.proofs.Literals.{digit_is, natural_written}
 
 record IsWritten (n : ℕ) (ds : Bytes) : Type 0 where
   some : 0 < length ds
   digits : list_all is_digit ds ≡ true
   value : digits_value 0 ds ≡ n
-
-digit_is : (d : ℕ) → d < 10 → is_digit (48 + d) ≡ true
-digit_is d h = and_from _ _ (le-leb 48 (48 + d) (omega arith)) (le-leb (48 + d) 57 (omega arith))
 
 one_digit : (n : ℕ) → n < 10 → IsWritten n ((48 + n) ∷ [])
 one_digit n h = record { some = omega arith; digits = and_from _ _ (digit_is n h) refl; value = omega arith }
@@ -33,12 +31,6 @@ more_digits n ds h w = record {
       ∙ and_from _ _ w.digits (and_from _ _ (digit_is (n % 10) (omega arith)) refl);
   value = digits_value-push 0 ds (48 + n % 10) ∙ omega (arith, w.value);
 }
-
--- what is printed of a number is read as it
-pub natural_written : (n : ℕ) → n < 2 ^ 64 → natural_of (decimal n) ≡ Some n
-natural_written n h =
-    let w = decimal_by_steps IsWritten one_digit more_digits n h in
-    natural-some (decimal n) w.some ∙ cond-true _ _ _ w.digits ∙ ap (λ k. Some k) w.value
 
 pub digits_written : (n : ℕ) → n < 2 ^ 64 → list_all is_digit (decimal n) ≡ true
 digits_written n h = (decimal_by_steps IsWritten one_digit more_digits n h).digits

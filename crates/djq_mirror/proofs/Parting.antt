@@ -1,11 +1,9 @@
 -- How bytes are cut at a sign, and put together again.
 use Rattle.std.proofs.Common.{◌≡◌, ℕ, zero, suc, ◌+◌, ◌<◌, Bool, true, false, cond, List, [], ◌∷◌}
-use Rattle.std.proofs.Common.{◌++◌, length, get_or, take, drop, Some, None, refl, sym, ap, ◌∙◌}
-use Rattle.std.proofs.Common.{arith, eqb}
-use Rattle.std.proofs.Common.{not, Option}
+use Rattle.std.proofs.Common.{◌++◌, length, get_or, take, drop, Some, None, refl, sym, ap, ◌∙◌, arith, eqb, not, Option}
 use Rattle.std.specs.List.{list_all, flat_map}
 use Rattle.std.proofs.lemmas.List.{append-nil}
-use Rattle.std.proofs.lemmas.Bool.{and_parts, cond-true, cond-false, eq-eqb, eqb-true, not-true}
+use Rattle.std.proofs.lemmas.Bool.{and_parts, cond-true, cond-false, eq-eqb, eqb-true, not-true, false_from_ne_true}
 use Rattle.memchr.specs.Find.{IsFirstByte, is_byte}
 use Rattle.djq_model.specs.Data.{Bytes}
 use Rattle.djq_mirror.specs.Parts.{before, behind, with_first, parts, parts_left}
@@ -33,19 +31,15 @@ none sign (x ∷ xs) other =
     let rest = none sign xs (λ j less. other (suc j) (omega (arith, less))) in
     (rw here (ap (λ (ys : Bytes). x ∷ ys) rest.0), rw here rest.1)
 
-fails : (t : Bool) → (t ≡ true → ⊥) → t ≡ false
-fails true h = absurd (h refl)
-fails false h = refl
-
 -- the same, as the search for a byte says it
 pub split_first : (sign : ℕ) (xs : Bytes) (k : ℕ) → IsFirstByte (is_byte sign) xs (Some k)
     → (before sign xs ≡ take k xs) × (behind sign xs ≡ Some (drop (k + 1) xs))
 split_first sign xs k h = found sign xs k h.0.high h.1
-    (λ j less. fails (eqb (get_or xs j 0) sign) (h.0.before j (omega arith) less))
+    (λ j less. false_from_ne_true (eqb (get_or xs j 0) sign) (h.0.before j (omega arith) less))
 
 pub split_none : (sign : ℕ) (xs : Bytes) → IsFirstByte (is_byte sign) xs None → (before sign xs ≡ xs)
     × (behind sign xs ≡ None)
-split_none sign xs h = none sign xs (λ j less. fails (eqb (get_or xs j 0) sign) (h j (omega arith) less))
+split_none sign xs h = none sign xs (λ j less. false_from_ne_true (eqb (get_or xs j 0) sign) (h j (omega arith) less))
 
 -- the first part, and those behind it
 pub first_part : (sign : ℕ) (bs : Bytes) → parts sign bs ≡ before sign bs ∷ parts_left sign (behind sign bs)

@@ -49,11 +49,11 @@ apart {K} f k ks h = none ks h.0
     none [] a = refl
     none (x ∷ xs) a = ap₂ (λ p q. p || q) (sym (is_eq-slice_cmp (f k) (f x)) ∙ ap is_eq a.0) (none xs a.1)
 
-twice : (a b : Bool) → (a || b) ≡ (a || (a || b))
+pub twice : (a b : Bool) → (a || b) ≡ (a || (a || b))
 twice true b = refl
 twice false b = refl
 
-turned : (a b c : Bool) → (a || (b || c)) ≡ (b || (a || c))
+pub turned : (a b c : Bool) → (a || (b || c)) ≡ (b || (a || c))
 turned true true c = refl
 turned true false c = refl
 turned false true c = refl
@@ -120,7 +120,7 @@ taken_out {K} f (x ∷ xs) t u h = step (is_key f t x) refl (bytes_eq u t) refl 
 -- The same of a set of texts.
 
 -- the test of two texts, either way round
-flipped : (s t : Bytes) → bytes_eq s t ≡ bytes_eq t s
+pub flipped : (s t : Bytes) → bytes_eq s t ≡ bytes_eq t s
 flipped s t = by (bytes_eq s t) (bytes_eq t s) refl refl
   where
     by : (a b : Bool) → bytes_eq s t ≡ a → bytes_eq t s ≡ b → a ≡ b

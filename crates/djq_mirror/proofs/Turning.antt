@@ -40,7 +40,7 @@ use Rattle.djq_mirror.specs.Replies.{
   cut,
   bye,
 }
-use Rattle.djq_mirror.proofs.Finding.{told_found}
+use Rattle.djq_mirror.proofs.Finding.{told_found, some_is}
 use Rattle.djq_mirror.proofs.Telling.{reply_told}
 
 -- a line does what it tells
@@ -96,13 +96,10 @@ follows name old new l w e short allowed turned =
       turned = subst (λ (t : Option (Mode × Act)). Turned old t new) (sym same) turned;
     }
 
-one_news : (v w : News) → Some v ≡ Some w → v ≡ w
-one_news v w e = cc
-
 pub outside : (name : Bytes) (old : Held) (l : Bytes) (w : News) → told_in l ≡ Some w
     → may_turn old.texts (turn_by name old.mode w) ≡ false → IsOutside name old l
 outside name old l w e stopped = λ r h.
-    ap (may_turn old.texts) (turn_told name old.mode r w (one_news (news_of r) w (sym (reply_told l r h.reply) ∙ e)))
+    ap (may_turn old.texts) (turn_told name old.mode r w (some_is (news_of r) w (sym (reply_told l r h.reply) ∙ e)))
     ∙ stopped
 
 no_news : {A : Type 0} (o : Option News) (w : News) → o ≡ None → o ≡ Some w → A

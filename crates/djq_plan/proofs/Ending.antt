@@ -1,5 +1,5 @@
 -- Where the growth ends, there is a tree.
-use Rattle.std.proofs.Common.{◌≡◌, ◌≢◌, ℕ, zero, suc, ◌+◌, ◌-◌, ◌<◌, ◌≤◌, min, true, false, ◌||◌}
+use Rattle.std.proofs.Common.{◌≡◌, ◌≢◌, ℕ, zero, suc, ◌+◌, ◌-◌, ◌<◌, ◌≤◌, true, false, ◌||◌}
 use Rattle.std.proofs.Common.{List, [], ◌∷◌, ◌++◌, length, map, Option, Some, None, is_some, refl}
 use Rattle.std.proofs.Common.{ap, subst, sym, ◌∙◌, eqb, append_assoc, append-nil, arith, inl, inr}
 use Rattle.std.specs.Prelude.{◌==◌, nat_le}
@@ -8,7 +8,7 @@ use Rattle.std.proofs.lemmas.List.{get_or_past, nil_from_length}
 use Rattle.std.proofs.lemmas.Bool.{cases_lt, cases_eq, eqb-true, false≢true, le-leb, lt-leb}
 use Rattle.djq_hyper.specs.Hypergraph.{member, edge_at, one}
 use Rattle.djq_hyper.specs.Variables.{IsVariableSet, AreVariableSets}
-use Rattle.djq_hyper.proofs.Members.{has, one_le, one_true, one_false, one_or}
+use Rattle.djq_hyper.proofs.Members.{has, one_true, one_false}
 use Rattle.djq_hyper.proofs.Bags.{numbers, times}
 use Rattle.djq_tree.specs.declared.node.Node.{Node}
 use Rattle.djq_tree.specs.declared.node.Node.TheVariants as node
@@ -21,6 +21,7 @@ use Rattle.djq_tree.proofs.Finding.{lowest_none}
 use Rattle.djq_plan.proofs.Says.{and_left, and_right}
 use Rattle.djq_plan.proofs.Sounding.{Parent, weight, rising}
 use Rattle.djq_plan.proofs.Growths.{Grown, same_length}
+use Rattle.djq_tree.proofs.Trimming.{has_times}
 
 -- ---- later growth has the same nodes and more
 
@@ -66,14 +67,6 @@ pub extends_length : (s t : Growth) → Extends s t → length s.nodes ≤ lengt
 extends_length s t e = let l = ap (λ (n : List Node). length n) e.nodes in omega (arith, length-append s.nodes e.more)
 
 -- ---- membership
-
-pub has_times : (j : ℕ) (ns : List ℕ) → has j ns ≡ min 1 (times numbers j ns)
-has_times j [] = refl
-has_times j (y ∷ ns) =
-    let o = one_or (j == y) (member j ns) in
-    let l = one_le (j == y) in
-    let r = has_times j ns in
-    omega arith
 
 pub member_in : (j : ℕ) (ns : List ℕ) → 0 < times numbers j ns → member j ns ≡ true
 member_in j ns h = one_true (member j ns) (let k = has_times j ns in omega arith)

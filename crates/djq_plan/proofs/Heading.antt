@@ -18,8 +18,8 @@ use Rattle.djq_plan.proofs.Says.{Says, choose_says}
 use Rattle.djq_plan.proofs.Leading.{within_all}
 use Rattle.djq_plan.proofs.Sounding.{label_old, label_new}
 use Rattle.djq_plan.proofs.Growths.{Grown, current_weight}
-use Rattle.djq_plan.proofs.Ending.{Extends, extends_label, extends_length, length_marks, mark_early}
-use Rattle.djq_plan.proofs.Ending.{member_in, has_times}
+use Rattle.djq_plan.proofs.Ending.{Extends, extends_label, extends_length, length_marks, mark_early, member_in}
+use Rattle.djq_tree.proofs.Trimming.{has_times}
 use Rattle.djq_plan.proofs.Keeping.{degree_grow}
 
 -- a current label's variables are current

@@ -1,15 +1,15 @@
 -- What the searches of the choice rule find.
 use Rattle.std.proofs.Common.{◌≡◌, ℕ, ◌<◌, Bool, true, false, not, ◌&&◌, List, [], ◌∷◌, length}
 use Rattle.std.proofs.Common.{filter, Option, Some, None, is_some, refl, ap, sym, ◌∙◌, arith}
-use Rattle.std.specs.Prelude.{◌==◌, nat_lt, unwrap_or, slice_index_or}
+use Rattle.std.specs.Prelude.{◌==◌, nat_lt, unwrap_or}
 use Rattle.std.proofs.lemmas.Bool.{lt-ltb}
-use Rattle.std.proofs.lemmas.List.{get_or_read}
 use Rattle.djq_hyper.specs.Hypergraph.{member, subset, difference, intersection, degree, edge_at}
 use Rattle.djq_tree.specs.declared.choice.Choice.{Choice}
 use Rattle.djq_tree.specs.declared.choice.Choice.TheVariants.{Trim, Meet, Stuck}
 use Rattle.djq_tree.specs.Choosing.{lowest, removable, has_removable, are_equal, is_inside, twin}
 use Rattle.djq_tree.specs.Choosing.{cover, choose_inside, choose_equal, choose}
 use Rattle.djq_tree.proofs.Finding.{lowest_is, lowest_none_is}
+use Rattle.djq_hyper.proofs.Checking.{read_at}
 
 pub twin_is : (L : List (List ℕ)) (a b : ℕ) → a < b → b < length L → are_equal L a b ≡ true
     → ((i : ℕ) → i < b → (nat_lt a i && are_equal L a i) ≡ false) → Some b ≡ twin L a
@@ -86,11 +86,7 @@ pub trim_none : (keep : List ℕ) (L : List (List ℕ)) (c : Choice)
 trim_none keep L c others is = rw
     (lowest_none_is (λ i. has_removable keep L i) 0 (length L) (λ j from below. others j (omega arith))) is
 
--- ---- what the code read
-
--- an element that was read is the label at its place
-pub read : (L : List (List ℕ)) (i : ℕ) (l : List ℕ) → i < length L → l ≡ slice_index_or L i l → l ≡ edge_at L i
-read L i l low is = get_or_read L i l low is []
+-- ---- what the code read_at
 
 pub equal_read : (L : List (List ℕ)) (i j : ℕ) (a b : List ℕ) (r : Bool) → a ≡ edge_at L i → b ≡ edge_at L j → r
     ≡ (subset a b && subset b a) → r ≡ true → are_equal L i j ≡ true

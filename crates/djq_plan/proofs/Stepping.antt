@@ -1,7 +1,6 @@
 -- A stage, step by step.
 use Rattle.std.proofs.Common.{◌≡◌, ◌≢◌, ℕ, zero, suc, ◌+◌, ◌<◌, ◌≤◌, Bool, true, false, not, cond}
-use Rattle.std.proofs.Common.{List, [], ◌∷◌, ◌++◌, length, filter, refl, ap, subst, sym, ◌∙◌, arith}
-use Rattle.std.proofs.Common.{inl, inr}
+use Rattle.std.proofs.Common.{List, [], ◌∷◌, ◌++◌, length, filter, refl, ap, subst, sym, ◌∙◌, arith, inl, inr}
 use Rattle.std.specs.Prelude.{◌==◌, remove}
 use Rattle.std.specs.List.{list_any}
 use Rattle.std.proofs.lemmas.List.{length_push}
@@ -20,6 +19,7 @@ use Rattle.djq_plan.proofs.Places.{bag_remove, bag_both}
 use Rattle.djq_plan.proofs.Says.{Trims, Meets, Says, choose_says}
 use Rattle.djq_plan.proofs.Leading.{removed_says, after_trim, after_meet, grown_current}
 use Rattle.djq_plan.proofs.Growths.{first_of}
+use Rattle.djq_gyo.proofs.Stepping.{filter_most}
 
 -- ---- places that the rule names
 
@@ -45,19 +45,11 @@ meet_places keep L M g s same e =
 abbrev pub size : List (List ℕ) → ℕ
 size L = total (λ l. length l + 1) L
 
-filter_le : (p : ℕ → Bool) (l : List ℕ) → length (filter p l) ≤ length l
-filter_le p [] = omega arith
-filter_le p (y ∷ l) = step (p y) (filter_le p l)
-  where
-    step : (b : Bool) → length (filter p l) ≤ length l → length (cond b (y ∷ filter p l) (filter p l)) ≤ suc (length l)
-    step true h = omega arith
-    step false h = omega arith
-
 filter_less : (p : ℕ → Bool) (x : ℕ) (l : List ℕ) → p x ≡ false → 0 < has x l → length (filter p l) < length l
 filter_less p x [] no_pass h = absurd (omega arith)
 filter_less p x (y ∷ l) no_pass h =
     elim (cases_eq x y) [
-      | inl e ↦ let fails : p y ≡ false = ap p (sym e) ∙ no_pass in rw fails (let k = filter_le p l in omega arith)
+      | inl e ↦ let fails : p y ≡ false = ap p (sym e) ∙ no_pass in rw fails (let k = filter_most p l in omega arith)
       | inr apart ↦ step (p y) (filter_less p x l no_pass (omega (arith, has_other x y l apart)))
     ]
   where

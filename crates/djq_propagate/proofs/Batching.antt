@@ -9,7 +9,7 @@ use Rattle.djq_index.specs.Entries.{Entry, cnt}
 use Rattle.djq_index.specs.Table.{Table}
 use Rattle.djq_index.proofs.Apart.{stands}
 use Rattle.djq_index.proofs.Counts.{cnt_middle}
-use Rattle.djq_index.proofs.Changing.{inserted_cnt, removed_cnt}
+use Rattle.djq_index.proofs.Changing.{inserted_cnt, removed_cnt, length_middle}
 use Rattle.djq_index.proofs.Tuples.{one_same}
 use Rattle.djq_tree.specs.Tree.{Tree}
 use Rattle.djq_reduct.specs.Tables.{entries_at, key_at}
@@ -21,11 +21,12 @@ use Rattle.djq_propagate.specs.Walks.{Lived, Died, Refused, Fewer, CameAs}
 use Rattle.djq_propagate.specs.Updates.{HasAtMost, HasKept, paths}
 use Rattle.djq_propagate.specs.Batches.{times, AreNew, AreThere, HaveCome, HaveGone, HasGainedAll, HasLostAll}
 use Rattle.djq_propagate.proofs.Families.{tuples_same}
-use Rattle.djq_propagate.proofs.Measuring.{length_even, length_middle, sized}
+use Rattle.djq_propagate.proofs.Measuring.{length_even, sized}
 use Rattle.djq_propagate.proofs.Plains.{back_same, still_bare, fewer_bare}
-use Rattle.djq_propagate.proofs.Rooms.{same_size, few_nodes}
+use Rattle.djq_propagate.proofs.Rooms.{same_size, few_nodes, spread}
 use Rattle.djq_propagate.proofs.Updating.{both, leaf_below, reducts_lived, reducts_died}
 use Rattle.djq_propagate.proofs.Updating.{reducts_same, bare_same, times_one}
+use Rattle.djq_propagate.proofs.Marking.{times_turn}
 
 -- how often a tuple stands among the first ones
 pub times-append : (us vs : List (List ℕ)) (v : List ℕ) → times (us ++ vs) v ≡ times us v + times vs v
@@ -233,17 +234,11 @@ refused_counted t old mid after new a i n w x y z us r c f g less few room first
     (omega (arith, come_length t old mid a i us c (omega arith))) in
     omega arith
 
-spread : (P n : ℕ) → 2 * P * n ≡ 2 * (P * n)
-spread P n = omega arith
-
-turned : (k n : ℕ) → k * n ≡ n * k
-turned k n = omega arith
-
 pub refusal_bounded : (t : Tree) (old : List Table) (n x z : ℕ) → IsReducts (both t old)
     → z + 9 * size old ≤ x + 9 * (n * length t.nodes) → z ≤ x + 18 * (paths t * n)
 refusal_bounded t old n x z r first =
     let m = mul-le-mul_right n (few_nodes t r.family.is_tree) in
-    omega (arith, turned (length t.nodes) n, spread (paths t) n)
+    omega (arith, times_turn (length t.nodes) n, spread (paths t) n)
 
 -- without marks
 pub all_gained : (t : Tree) (old new : List Table) (a : ℕ) (us : List (List ℕ)) → IsBare new → HaveCome t old new a us

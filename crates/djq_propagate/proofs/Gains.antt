@@ -29,8 +29,7 @@ use Rattle.djq_propagate.specs.Walks.{Changed, Ready, Lived, Refused, Began, Rig
 use Rattle.djq_propagate.specs.Walks.{IsUnder, IsGrown, IsEmptied, IsFull}
 use Rattle.djq_propagate.proofs.Sides.{group_once, group_has, take_le, take_all, cut_new, cond_one}
 use Rattle.djq_propagate.proofs.Families.{once, apart_of, same_keys, child_of, lower_of, now_family}
-use Rattle.djq_propagate.proofs.Families.{ready_up, above_same, righted, idle, below_up}
-use Rattle.djq_propagate.proofs.Families.{reduced_same, agree_from}
+use Rattle.djq_propagate.proofs.Families.{ready_up, above_same, righted, idle, below_up, reduced_same, agree_from}
 
 -- the equation of a parent, before its child changed
 pub law_of : (t : Tree) (was now : List Table) (j k : ℕ) (n : Node) → Began t was now j → IsUnder t k n j
@@ -177,7 +176,7 @@ guard_absent {m} t was now j s k u b i x =
     ap (λ (es : List Entry). cnt es u) (same_up t was now j k (Meet j s) b x)
     ∙ cnt_none (entries_at was k) u (b.ready.family.supported k) zero_supp
 
-side_stays : (t : Tree) (was now : List Table) (j s k : ℕ) → Began t was now j → IsUnder t k (Meet j s) j
+pub side_stays : (t : Tree) (was now : List Table) (j s k : ℕ) → Began t was now j → IsUnder t k (Meet j s) j
     → entries_at now s ≡ entries_at was s
 side_stays t was now j s k b x = let m = b.ready.family.is_tree.meet k j s x.node in let apart = m.apart in
     b.changed.others s (omega arith)

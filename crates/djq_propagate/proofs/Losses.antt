@@ -18,7 +18,7 @@ use Rattle.djq_propagate.specs.Walks.{Changed, Died, Began, Righted, IsUnder, Is
 use Rattle.djq_propagate.proofs.Families.{once, apart_of, same_keys, lower_of, now_family}
 use Rattle.djq_propagate.proofs.Families.{above_same, righted, idle, below_up}
 use Rattle.djq_propagate.proofs.Sides.{group_has, take_le, take_all, cond_one}
-use Rattle.djq_propagate.proofs.Gains.{law_of, same_up, keys_now}
+use Rattle.djq_propagate.proofs.Gains.{law_of, same_up, keys_now, side_stays}
 
 -- a tuple that went was there once
 pub was_there : (t : Tree) (was now : List Table) (j : ℕ) (u : List ℕ) → Began t was now j
@@ -117,12 +117,6 @@ pub trim_missing : (t : Tree) (was now : List Table) (j k : ℕ) (u w : List ℕ
 trim_missing t was now j k u w b r x e none =
     let some = trim_some t was now j k u w b r x e in
     omega (arith, supp_none (entries_at now k) w none)
-
--- at a guard
-side_stays : (t : Tree) (was now : List Table) (j s k : ℕ) → Began t was now j → IsUnder t k (Meet j s) j
-    → entries_at now s ≡ entries_at was s
-side_stays t was now j s k b x = let m = b.ready.family.is_tree.meet k j s x.node in let apart = m.apart in
-    b.changed.others s (omega arith)
 
 guard_supp : (t : Tree) (was now : List Table) (j s k : ℕ) (u : List ℕ) → Began t was now j
     → Removed (entries_at was j) (entries_at now j) u → IsUnder t k (Meet j s) j → supp (entries_at now k) u

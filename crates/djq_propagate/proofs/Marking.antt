@@ -29,7 +29,7 @@ first_some : (a b : ℕ) → 0 < a * b → 0 < a
 first_some zero b h = absurd (omega arith)
 first_some (suc a) b h = omega arith
 
-second_some : (a b : ℕ) → 0 < a * b → 0 < b
+pub second_some : (a b : ℕ) → 0 < a * b → 0 < b
 second_some a zero h = absurd (omega arith)
 second_some a (suc b) h = omega arith
 
@@ -119,10 +119,10 @@ agree_step t ts us n j k f low law cover x = record {
         ∙ agreeing_still n j ts us (marks (entries_at ts j)) w (same_keys t ts us f x.family)
 
 -- a step up to the frontier
-times_turn : (a b : ℕ) → a * b ≡ b * a
+pub times_turn : (a b : ℕ) → a * b ≡ b * a
 times_turn a b = omega arith
 
-or_right : (a b : Bool) → a ≡ false → (a || b) ≡ true → b ≡ true
+pub or_right : (a b : Bool) → a ≡ false → (a || b) ≡ true → b ≡ true
 or_right false b e h = h
 or_right true b e h = absurd (false≢true (sym e))
 

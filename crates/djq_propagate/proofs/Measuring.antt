@@ -12,7 +12,7 @@ use Rattle.djq_index.specs.Tuple.{same, pick, one}
 use Rattle.djq_index.specs.Entries.{Entry, cnt, many}
 use Rattle.djq_index.specs.Table.{Table, AreApart}
 use Rattle.djq_index.proofs.Tuples.{same_cases, is_same, one_true, one_false, one_other, one_same, one_le}
-use Rattle.djq_index.proofs.Counts.{many_middle, cnt_cons}
+use Rattle.djq_index.proofs.Counts.{many_middle, cnt_cons, cnt_length, cnt_split}
 use Rattle.djq_index.proofs.Groups.{many_even, many_sub}
 use Rattle.djq_index.proofs.Apart.{cnt_supp}
 use Rattle.djq_tree.specs.declared.node.Node.{Node}
@@ -26,8 +26,7 @@ use Rattle.djq_reduct.proofs.Family.{entries_past, trim_law, meet_law}
 use Rattle.djq_reduct.specs.Marks.{on_path, IsOff}
 use Rattle.djq_propagate.specs.Sizes.{size}
 use Rattle.djq_propagate.specs.Updates.{steps, HasAtMost, HasTaken, HasGained, HasLost, paths}
-use Rattle.djq_index.proofs.Changing.{inserted_length}
-use Rattle.djq_index.proofs.Counts.{cnt_length, cnt_split}
+use Rattle.djq_index.proofs.Changing.{inserted_length, length_middle}
 use Rattle.djq_propagate.specs.Walks.{Lived}
 use Rattle.djq_propagate.specs.Touches.{IsTouched, IsTouchedUp}
 use Rattle.djq_propagate.proofs.Families.{once, apart_of, tuples_same}
@@ -72,10 +71,6 @@ holds ks (f ∷ fs) w h =
         key = s.key;
       })
     ]
-
-pub length_middle : (xs : List Entry) (e : Entry) (ys : List Entry) → length (xs ++ e ∷ ys) ≡ length (xs ++ ys) + 1
-length_middle [] e ys = omega arith
-length_middle (x ∷ xs) e ys = omega (arith, length_middle xs e ys)
 
 apart_first : (e : Entry) (es : List Entry) → AreApart (e ∷ es) → (cnt es e.tuple ≡ 0) × AreApart es
 unfolding AreApart

@@ -1,7 +1,6 @@
 -- How much a refused update counts: for each table at most nine times what it has room for.
 use Rattle.std.proofs.Common.{◌≡◌, Bool, ℕ, zero, suc, ◌+◌, ◌*◌, ◌<◌, ◌≤◌, List, ◌∷◌, ◌++◌, length}
-use Rattle.std.proofs.Common.{take, drop, refl, ap, subst, sym, ◌∙◌, arith, inl, inr}
-use Rattle.std.proofs.Common.{mul-le-mul_right}
+use Rattle.std.proofs.Common.{take, drop, refl, ap, subst, sym, ◌∙◌, arith, inl, inr, mul-le-mul_right}
 use Rattle.std.proofs.lemmas.Bool.{cases_eq, cases_lt}
 use Rattle.djq_index.specs.Tuple.{same, pick}
 use Rattle.djq_index.specs.Entries.{Entry, supp, cnt, grp}
@@ -24,9 +23,9 @@ use Rattle.djq_propagate.proofs.Families.{once, apart_of, tuples_same, now_famil
 use Rattle.djq_propagate.proofs.Sides.{group_once, group_has, take_le, cut_new}
 use Rattle.djq_propagate.proofs.Gains.{law_of, same_up, meet_high, side_absent}
 use Rattle.djq_propagate.proofs.Measuring.{length_even, length_less, product_some, trim_less}
-use Rattle.djq_propagate.proofs.Measuring.{meet_less, node_sized, part, whole_size, both_kinds}
-use Rattle.djq_propagate.proofs.Measuring.{sized}
+use Rattle.djq_propagate.proofs.Measuring.{meet_less, node_sized, part, whole_size, both_kinds, sized}
 use Rattle.djq_propagate.proofs.Updating.{both}
+use Rattle.djq_propagate.proofs.Marking.{times_turn}
 
 -- the same supports are the same size
 same_part : (ts us : List Table) → ((i : ℕ) → length (entries_at us i) ≡ length (entries_at ts i)) → (k : ℕ) → part us k
@@ -64,16 +63,13 @@ room_part ts n j h room (suc k) less =
       | inr apart ↦ omega (arith, room_part ts n j h room k (omega arith), h.each k, next_row k n)
     ]
 
-turned : (k n : ℕ) → k * n ≡ n * k
-turned k n = omega arith
-
 pub room_size : (t : Tree) (ts : List Table) (n j : ℕ) → IsFamily t ts → j < length t.nodes → AreAtMost ts n
     → length (entries_at ts j) < n → size ts + 1 ≤ n * length t.nodes
 room_size t ts n j f within h room =
     let long = f.long in
     let r = room_part ts n j h room (length ts) (omega arith) in
     let e : length ts * n ≡ length t.nodes * n = ap (λ (k : ℕ). k * n) long in
-    omega (arith, whole_size ts, turned (length t.nodes) n)
+    omega (arith, whole_size ts, times_turn (length t.nodes) n)
 
 -- a tuple comes to a table with room
 pub most_more : {m : Bool} (old new : List Table) (n j : ℕ) (u : List ℕ) → Changed old new j
@@ -219,7 +215,7 @@ side_bounded t now mid after last b x y z w f g h k stays back first second thir
 pub few_nodes : (t : Tree) → IsTree t → length t.nodes ≤ 2 * paths t
 few_nodes t s = omega (arith, both_kinds t.nodes, not_trims_of t s)
 
-spread : (P n : ℕ) → 2 * P * n ≡ 2 * (P * n)
+pub spread : (P n : ℕ) → 2 * P * n ≡ 2 * (P * n)
 spread P n = omega arith
 
 pub put_bounded : (t : Tree) (old : List Table) (a n x z : ℕ) → IsReducts (both t old) → HasAtMost (both t old) n
@@ -230,4 +226,4 @@ put_bounded t old a n x z r few room h =
     let all = sized t old n r few in
     let first = h n (record { each = all }) room in
     let m = mul-le-mul_right n (few_nodes t r.family.is_tree) in
-    omega (arith, turned (length t.nodes) n, spread (paths t) n)
+    omega (arith, times_turn (length t.nodes) n, spread (paths t) n)

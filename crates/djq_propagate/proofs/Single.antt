@@ -1,5 +1,5 @@
 -- Over equal meets the reducts of one tree differ at each node by a tuple at most, where their leaves do at one.
-use Rattle.std.proofs.Common.{◌≡◌, ◌≢◌, ℕ, zero, suc, ◌+◌, ◌*◌, ◌<◌, ◌≤◌, Bool, true, false, ◌||◌}
+use Rattle.std.proofs.Common.{◌≡◌, ◌≢◌, ℕ, zero, suc, ◌+◌, ◌*◌, ◌<◌, ◌≤◌, true, ◌||◌}
 use Rattle.std.proofs.Common.{List, [], ◌∷◌, length, refl, ap, subst, sym, ◌∙◌, arith, inl, inr}
 use Rattle.std.specs.Prelude.{◌==◌}
 use Rattle.std.proofs.lemmas.Bool.{cases_eq, cases_lt, cases_Bool, ne_eqb, eqb-true, false≢true}
@@ -24,7 +24,7 @@ use Rattle.djq_reduct.proofs.Family.{trim_law, meet_law}
 use Rattle.djq_reduct.proofs.Paths.{path_on, path_off, path_zero}
 use Rattle.djq_propagate.proofs.Families.{once, same_keys, tuples_same, guard_has, side_has}
 use Rattle.djq_propagate.proofs.Going.{trim_same}
-use Rattle.djq_propagate.proofs.Marking.{other_off}
+use Rattle.djq_propagate.proofs.Marking.{other_off, second_some, or_right}
 use Rattle.djq_propagate.proofs.Measuring.{holds, length_less, product_some}
 use Rattle.djq_propagate.proofs.Paths.{off_same}
 use Rattle.djq_propagate.proofs.Updating.{both}
@@ -125,14 +125,6 @@ right_zero a zero h some = refl
 right_zero zero (suc b) h some = absurd (omega arith)
 right_zero (suc a) (suc b) h some = absurd (omega arith)
 
-right_some : (a b : ℕ) → 0 < a * b → 0 < b
-right_some a zero h = absurd (omega arith)
-right_some a (suc b) h = omega arith
-
-second_child : (a b : Bool) → a ≡ false → (a || b) ≡ true → b ≡ true
-second_child false b e h = h
-second_child true b e h = absurd (false≢true (sym e))
-
 module _ (t : Tree) (ts us : List Table) (a : ℕ) (meets : HasEqualMeets t) (r : IsReducts (both t ts))
     (s : IsReducts (both t us))
     (others : (j : ℕ) (v : List ℕ) → j < t.leaves → j ≢ a → cnt (entries_at us j) v ≡ cnt (entries_at ts j) v)
@@ -183,7 +175,7 @@ module _ (t : Tree) (ts us : List Table) (a : ℕ) (meets : HasEqualMeets t) (r 
         in
         let sides : 0 < cnt (entries_at us d) (pick (key_at ts g) v) = subst
         (λ (q : List ℕ). 0 < cnt (entries_at us d) (pick q v)) (same_keys t ts us r.family s.family g)
-        (right_some (cnt (entries_at us g) v) (cnt (entries_at us d) (pick (key_at us g) v)) (omega arith)) in
+        (second_some (cnt (entries_at us g) v) (cnt (entries_at us d) (pick (key_at us g) v)) (omega arith)) in
         one.only v guards (left_zero (cnt (entries_at ts g) v) (cnt (entries_at ts d) (pick (key_at ts g) v))
         (omega arith) (omega (arith, even (pick (key_at ts g) v))));
   }
@@ -207,7 +199,7 @@ module _ (t : Tree) (ts us : List Table) (a : ℕ) (meets : HasEqualMeets t) (r 
         let whole = whole_key t ts k g d v meets r.family e within guards in
         let sides : 0 < cnt (entries_at us d) (pick (key_at ts g) v) = subst
         (λ (q : List ℕ). 0 < cnt (entries_at us d) (pick q v)) (same_keys t ts us r.family s.family g)
-        (right_some (cnt (entries_at us g) v) (cnt (entries_at us d) (pick (key_at us g) v)) (omega arith)) in
+        (second_some (cnt (entries_at us g) v) (cnt (entries_at us d) (pick (key_at us g) v)) (omega arith)) in
         let fresh = right_zero (cnt (entries_at ts g) v) (cnt (entries_at ts d) (pick (key_at ts g) v)) (omega arith)
         guards in
         sym whole ∙ one.only (pick (key_at ts g) v) sides fresh;
@@ -227,7 +219,7 @@ module _ (t : Tree) (ts us : List Table) (a : ℕ) (meets : HasEqualMeets t) (r 
             (λ (q : d ≡ j). (r.family.is_tree.meet k g d e).apart (here ∙ sym q)))
             (subst (λ (i : ℕ). OneMore (entries_at ts i) (entries_at us i)) (sym here) one)
         | inr other ↦
-            let same_side : d ≡ j = eqb-true d j (second_child (g == j) (d == j) (ne_eqb g j other) child) in
+            let same_side : d ≡ j = eqb-true d j (or_right (g == j) (d == j) (ne_eqb g j other) child) in
             side_more g d k e within old new (child_even (Meet g d) j k g e at (guard_has g d) other)
             (subst (λ (i : ℕ). OneMore (entries_at ts i) (entries_at us i)) (sym same_side) one)
       ]

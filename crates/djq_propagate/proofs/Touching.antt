@@ -1,7 +1,6 @@
 -- Touches, one after another.
 use Rattle.std.proofs.Common.{◌≡◌, ℕ, ◌+◌, ◌*◌, ◌<◌, ◌≤◌, Bool, true, false, cond, List, [], ◌∷◌}
-use Rattle.std.proofs.Common.{◌++◌, length, take, drop, Some, None, refl, ap, ap₂, subst, sym, ◌∙◌}
-use Rattle.std.proofs.Common.{arith, inl, inr}
+use Rattle.std.proofs.Common.{◌++◌, length, take, drop, Some, None, refl, ap, ap₂, subst, sym, ◌∙◌, arith, inl, inr}
 use Rattle.std.specs.Prelude.{◌==◌}
 use Rattle.std.proofs.lemmas.Bool.{cases_eq, cases_lt, cases_Bool, eq-eqb, ne_eqb}
 use Rattle.std.proofs.lemmas.List.{take-append-drop, length-take, append-nil}
@@ -13,7 +12,7 @@ use Rattle.djq_index.specs.Entries.{Entry, cnt, many, grp, marks, plain, is_mark
 use Rattle.djq_index.specs.Changes.{Touched}
 use Rattle.djq_index.specs.Table.{Table, IsAt, AreApart, AreLast}
 use Rattle.djq_index.proofs.Tuples.{same_is, same_refl, same_cases, same_sym, one_other, one_true, true_from_one}
-use Rattle.djq_index.proofs.Counts.{length_grp, cnt_cons, many-append, many_cons, cnt_split}
+use Rattle.djq_index.proofs.Counts.{length_grp, cnt_cons, many-append, many_cons, cnt_split, many_split}
 use Rattle.djq_index.proofs.Apart.{there}
 use Rattle.djq_index.proofs.Groups.{cnt_grp}
 use Rattle.djq_index.proofs.Changing.{touched_supp, touched_length, touched_marks}
@@ -26,14 +25,12 @@ use Rattle.djq_reduct.specs.Tables.{entries_at, key_at}
 use Rattle.djq_reduct.specs.Reducts.{IsFamily}
 use Rattle.djq_propagate.specs.Walks.{Changed, IsUnder}
 use Rattle.djq_index.proofs.Walking.{WalkCut}
-use Rattle.djq_index.proofs.Marks.{marks_yes, marks_no}
 use Rattle.djq_propagate.specs.Touches.{IsTouched, IsStep, gate, reach_one, reach, cost_one, cost}
 use Rattle.djq_propagate.proofs.Families.{once, apart_of, tuples_same, guard_has}
-use Rattle.djq_propagate.proofs.Sides.{cut_cnt}
+use Rattle.djq_propagate.proofs.Sides.{cut_cnt, head_none}
 use Rattle.djq_index.proofs.Tuples.{one_false}
-use Rattle.djq_index.proofs.Counts.{many_split}
-use Rattle.djq_propagate.proofs.Sides.{head_none}
 use Rattle.djq_propagate.proofs.Going.{mark_at, group_at, group_split, trim_same}
+use Rattle.djq_index.proofs.Clearing.{length_marks}
 
 -- nothing is touched
 pub touched_none : (t : Tree) (ts : List Table) (k : ℕ) (f : List ℕ → ℕ) → IsFamily t ts
@@ -453,16 +450,6 @@ cnt_zero : (v : List ℕ) → cnt [] v ≡ 0
 unfolding cnt
 cnt_zero v = refl
 
--- what a whole step counts
-pub marks_length : (es : List Entry) → length (marks es) ≤ length es
-marks_length [] = rw unmarked_nil (omega arith)
-marks_length (e ∷ es) =
-    let rest = marks_length es in
-    elim (cases_Bool e.marked) [
-      | inl marked ↦ rw (marks_yes e es marked) (omega arith)
-      | inr other ↦ rw (marks_no e es other) (omega arith)
-    ]
-
 unfoldable pub groups : List ℕ → List Entry → List Entry → ℕ
 groups ks gs [] = 0
 groups ks gs (e ∷ es) = many ks gs e.tuple + groups ks gs es
@@ -516,22 +503,22 @@ cost_leaf_all a j ts (e ∷ es) = omega (arith, cost_leaf_all a j ts es)
 pub cost_bound : (t : Tree) (ts : List Table) (n : Node) (j m : ℕ) → IsFamily t ts
     → ((i : ℕ) → length (entries_at ts i) ≤ m) → cost n j ts (marks (entries_at ts j)) ≤ 5 * m
 cost_bound t ts (Leaf a) j m f h = omega
-    (arith, cost_leaf_all a j ts (marks (entries_at ts j)), marks_length (entries_at ts j), h j)
+    (arith, cost_leaf_all a j ts (marks (entries_at ts j)), length_marks (entries_at ts j), h j)
 cost_bound t ts (Trim c) j m f h = omega
-    (arith, cost_trim_all c j ts (marks (entries_at ts j)), marks_length (entries_at ts j), h j)
+    (arith, cost_trim_all c j ts (marks (entries_at ts j)), length_marks (entries_at ts j), h j)
 cost_bound t ts (Meet g s) j m f h =
     elim (cases_eq g j) [
       | inl here ↦ omega (
         arith,
         cost_guard_all g s j ts (marks (entries_at ts j)) here,
-        marks_length (entries_at ts j),
+        length_marks (entries_at ts j),
         h j,
       )
       | inr other ↦
           omega (
             arith,
             cost_side_all g s j ts (marks (entries_at ts j)) other,
-            marks_length (entries_at ts j),
+            length_marks (entries_at ts j),
             h j,
             h g,
             groups_le (key_at ts g) (entries_at ts g) (marks (entries_at ts j))
@@ -540,4 +527,4 @@ cost_bound t ts (Meet g s) j m f h =
     ]
 
 pub drop_marks : (es : List Entry) (n : ℕ) → n ≡ length es → drop n (marks es) ≡ []
-drop_marks es n h = drop_of_length-le (marks es) (omega (arith, marks_length es))
+drop_marks es n h = drop_of_length-le (marks es) (omega (arith, length_marks es))

@@ -18,7 +18,7 @@ use Rattle.std.proofs.Common.{
   codes,
   eqb,
 }
-use Rattle.std.proofs.lemmas.Bool.{both_ways, cond-false, cond_both, eq-eqb, false_from_ne_true}
+use Rattle.std.proofs.lemmas.Bool.{both_ways, cond-false, cond_both, eq-eqb, false_from_ne_true, or_parts}
 use Rattle.djq_model.specs.Data.{Bytes, bytes_eq}
 use Rattle.djq_model.specs.Equality.{bytes_eq-decides}
 use Rattle.djq_value.specs.Token.{
@@ -42,10 +42,6 @@ use Rattle.djq_lines.specs.declared.keyword.Keyword.{Keyword}
 use Rattle.djq_proto.specs.RowReading.{begins_row, may_begin, row_word_in, row_word_of}
 use Rattle.djq_proto.specs.declared.row.RowWord.{RowWord}
 
-neither : (p q : Bool) → (p || q) ≡ false → (p ≡ false) × (q ≡ false)
-neither true q e = absurd (cc)
-neither false q e = (refl, e)
-
 -- a word of another first byte
 other_first : (b c : ℕ) (bs cs : Bytes) → eqb b c ≡ false → bytes_eq (b ∷ bs) (c ∷ cs) ≡ false
 other_first b c bs cs e = false_from_ne_true (bytes_eq (b ∷ bs) (c ∷ cs))
@@ -58,7 +54,7 @@ other_first b c bs cs e = false_from_ne_true (bytes_eq (b ∷ bs) (c ∷ cs))
 abbrev IsNoRow : Option Keyword → Type 0
 IsNoRow o = is_some (row_word_of o) ≡ false
 
--- a word that is neither keyword of a row
+-- a word that is or_parts keyword of a row
 other_word : (w : Bytes) → bytes_eq w (codes "add") ≡ false → bytes_eq w (codes "del") ≡ false → IsNoRow (keyword_of w)
 other_word w add del =
     cond_both (bytes_eq w (codes "rel")) _ _ IsNoRow (λ _. refl) (λ _.
@@ -119,8 +115,8 @@ front_other b bs a d =
 begins_other : (line : Bytes) → may_begin line ≡ false → begins_row (tokens line) ≡ false
 begins_other [] e = ap begins_row (tokens-none [] refl)
 begins_other (b ∷ bs) e =
-    let last = neither (eqb b 32 || eqb b 97) (eqb b 100) e in
-    let some = neither (eqb b 32) (eqb b 97) last.0 in
+    let last = or_parts (eqb b 32 || eqb b 97) (eqb b 100) e in
+    let some = or_parts (eqb b 32) (eqb b 97) last.0 in
     ap begins_row (tokens-step (b ∷ bs))
     ∙ ap (λ (cs : Bytes). begins_row (and_then tokens (token_front cs))) (cond-false _ _ _ some.0)
     ∙ front_other b bs some.1 last.1

@@ -15,7 +15,8 @@ use Rattle.djq_value.specs.Token.{Token, word, text, open_paren, close_paren, co
 use Rattle.djq_value.specs.Literal.{integer_of, is_name, literal_of}
 use Rattle.djq_lines.specs.Grammar.{all_of, in_front, list_in, more_in, name_of, put_first, term_of, type_of}
 use Rattle.djq_proto.specs.Saying.{IsName, SaysName, SaysTerm, SaysType, SaysValue, list_tokens, more_tokens}
-use Rattle.djq_proto.proofs.Numerals.{integer_from, integer_no_name, integer_said, map_some}
+use Rattle.djq_proto.proofs.Numerals.{integer_from, integer_no_name, integer_said}
+use Rattle.djq_value.proofs.Literals.{map_some}
 
 -- Items.
 

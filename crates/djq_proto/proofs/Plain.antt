@@ -1,7 +1,6 @@
 -- A line with a row of integers has no byte that isn't ASCII.
 use Rattle.std.proofs.Common.{◌≡◌, ◌<◌, ◌||◌, ℕ, pos, Bool, true, false, List, [], ◌∷◌, ◌++◌}
-use Rattle.std.proofs.Common.{Option, Some, None, refl, sym, ap, ◌∙◌, arith, eqb, leb, inl, inr}
-use Rattle.std.proofs.Common.{All, codes}
+use Rattle.std.proofs.Common.{Option, Some, None, refl, sym, ap, ◌∙◌, arith, eqb, leb, inl, inr, All, codes}
 use Rattle.std.specs.List.{list_all}
 use Rattle.std.specs.Str.{is_utf8}
 use Rattle.std.proofs.lemmas.Bool.{and_from, and_parts, cases_Bool, cond-false, cond-true, eqb-true}
@@ -22,7 +21,7 @@ use Rattle.djq_lines.specs.Grammar.{all_of, in_front}
 use Rattle.djq_proto.specs.RowReading.{TakesRowWord, is_number}
 use Rattle.djq_proto.specs.declared.row.RowWord.{RowWord}
 use Rattle.djq_proto.specs.declared.row.RowWord.TheVariants.{Add, Del}
-use Rattle.djq_proto.proofs.Numerals.{map_some}
+use Rattle.djq_value.proofs.Literals.{map_some}
 
 abbrev is_low : ℕ → Bool
 is_low b = leb b 127

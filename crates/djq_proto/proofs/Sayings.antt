@@ -142,7 +142,8 @@ use Rattle.djq_proto.specs.Saying.{
   list_tokens,
 }
 use Rattle.djq_proto.proofs.Bodies.{items_in-step}
-use Rattle.djq_proto.proofs.Numerals.{guard_some, map_some, numeral_from, numeral_said}
+use Rattle.djq_proto.proofs.Numerals.{guard_some, numeral_from, numeral_said}
+use Rattle.djq_value.proofs.Literals.{map_some}
 use Rattle.djq_proto.proofs.Lists.{
   all_from,
   all_said,

@@ -3,7 +3,7 @@ use Rattle.std.proofs.Common.{◌≡◌, ◌↔◌, ℕ, List, [], ◌∷◌, �
 use Rattle.std.specs.List.{AllZip}
 use Rattle.std.specs.Str.{is_utf8}
 use Rattle.std.proofs.lemmas.Bool.{cond-true}
-use Rattle.std.proofs.lemmas.Str.{IsUtf8-from_is_utf8}
+use Rattle.std.proofs.lemmas.Str.{IsUtf8-from_is_utf8, is_utf8-from_IsUtf8}
 use Rattle.djq_model.specs.Data.{Bytes}
 use Rattle.djq_model.specs.declared.value.Value.{Value}
 use Rattle.djq_model.specs.declared.value.Value.TheVariants.{Int, Text}
@@ -55,7 +55,6 @@ use Rattle.djq_proto.specs.Saying.{
 }
 use Rattle.djq_proto.proofs.Numerals.{guard_some}
 use Rattle.djq_proto.proofs.Sayings.{commands_are_said}
-use Rattle.djq_proto.proofs.Utf8.{utf8_yes}
 
 -- What says a command has no stray token.
 
@@ -180,7 +179,7 @@ spelled line c e =
 read : (line : Bytes) (c : Command) → Spells c line → command_of line ≡ Some c
 unfolding command_of
 read line c s =
-    cond-true _ _ _ (utf8_yes line s.utf8) ∙ ap command_in ((tokens_are_spelled line s.tokens).1 s.spelled).0
+    cond-true _ _ _ (is_utf8-from_IsUtf8 line s.utf8) ∙ ap command_in ((tokens_are_spelled line s.tokens).1 s.spelled).0
     ∙ (commands_are_said s.tokens c).1 s.says
 
 pub commands_are_spelled : (line : Bytes) (c : Command) → (command_of line ≡ Some c) ↔ Spells c line

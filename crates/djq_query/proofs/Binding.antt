@@ -6,7 +6,7 @@ use Rattle.std.specs.Prelude.{Option, None, Some, cond, not, position, unwrap_or
 use Rattle.std.specs.Prelude.{◌||◌, ◌&&◌, ◌==◌, nat_lt}
 use Rattle.std.specs.List.{list_all, list_any, position_or_len, prefix_len}
 use Rattle.std.specs.List.Sorted.{IsStrictlyIncreasing}
-use Rattle.std.proofs.lemmas.Bool.{cases_eq, eq-eqb, ne_eqb, false≢true, lt-ltb, ltb-false}
+use Rattle.std.proofs.lemmas.Bool.{cases_eq, eq-eqb, ne_eqb, false≢true, lt-ltb, ltb-false, or_left, or_right, and_from}
 use Rattle.std.proofs.lemmas.List.{append-nil, drop_all}
 use Rattle.std.proofs.lemmas.Bool.Decides.{nat_tests}
 use Rattle.std.proofs.lemmas.List.Sums.{position_or_len_is}
@@ -71,7 +71,7 @@ unfolding slot_of
 slot_fixed label t c v e = ap (λ u. slot_of label u c) (sym e)
 
 -- the slots, one after another
-from_read : {A : Type 0} (xs : List A) (i : ℕ) (x d : A) → i < length xs → x ≡ get_or xs i d → drop i xs
+pub from_read : {A : Type 0} (xs : List A) (i : ℕ) (x d : A) → i < length xs → x ≡ get_or xs i d → drop i xs
     ≡ x ∷ drop (i + 1) xs
 from_read xs i x d below is = rw add-one (drop-cons xs i d below ∙ ap (λ y. y ∷ drop (suc i) xs) (sym is))
 
@@ -103,16 +103,6 @@ place_below x (y ∷ label) h =
           rw (ne_eqb y x (λ e. apart (sym e))) (omega (arith, place_below x label k)))
     ]
 
-and_true : (b c : Bool) → b ≡ true → c ≡ true → (b && c) ≡ true
-and_true b c e f = rw e f
-
-or_left : (b c : Bool) → b ≡ true → (b || c) ≡ true
-or_left b c e = rw e refl
-
-or_right : (b c : Bool) → c ≡ true → (b || c) ≡ true
-or_right true c e = refl
-or_right false c e = e
-
 slots_within : (label : List ℕ) (ts : List NumberedTerm) (cs : List ℕ)
     → ((x : ℕ) → list_any (is_number x) ts ≡ true → member x label ≡ true)
     → list_all (is_within (length label)) (bound label ts cs) ≡ true
@@ -120,7 +110,7 @@ unfolding bound slot_of
 slots_within label [] cs h = refl
 slots_within label (t ∷ ts) [] h = refl
 slots_within label (Number x ∷ ts) (c ∷ cs) h =
-    and_true _ (list_all (is_within (length label)) (bound label ts cs))
+    and_from _ (list_all (is_within (length label)) (bound label ts cs))
     (lt-ltb (position_or_len (λ y. y == x) label) (length label)
     (place_below x label (h x (or_left (x == x) _ (eq-eqb x x refl)))))
     (slots_within label ts cs (λ y e. h y (or_right (y == x) _ e)))
@@ -165,7 +155,7 @@ position_at label rising p below =
 
 -- the tests, one after another
 
-place_up : (a b : ℕ) → ltb (1 + a) (suc b) ≡ ltb a b
+pub place_up : (a b : ℕ) → ltb (1 + a) (suc b) ≡ ltb a b
 place_up a b = grind (arith, nat_tests)
 
 member_place : (x : ℕ) (label : List ℕ) → member x label ≡ ltb (position_or_len (λ y. y == x) label) (length label)
@@ -180,7 +170,7 @@ member_place x (y ∷ label) =
 abbrev a_test : ℕ → Operator → ℕ → Test
 a_test place operator cell = record { place = place; operator = operator; cell = cell }
 
-found_by : (b : Bool) (k n : ℕ) → cond b (Some k) None ≡ Some n → (b ≡ true) × (k ≡ n)
+pub found_by : (b : Bool) (k n : ℕ) → cond b (Some k) None ≡ Some n → (b ≡ true) × (k ≡ n)
 found_by true k n e = (refl, cc)
 found_by false k n e = absurd cc
 
@@ -230,7 +220,7 @@ test_within : (label : List ℕ) (c : NumberedComparison) (cell : ℕ) (ts : Lis
     ≡ b → list_all (λ (t : Test). nat_lt t.place (length label)) ts ≡ true
     → list_all (λ (t : Test). nat_lt t.place (length label))
     (cond b (a_test (position_or_len (λ y. y == c.variable) label) c.operator cell ∷ []) [] ++ ts) ≡ true
-test_within label c cell ts true is rest = and_true
+test_within label c cell ts true is rest = and_from
     (nat_lt (position_or_len (λ y. y == c.variable) label) (length label)) _
     (lt-ltb (position_or_len (λ y. y == c.variable) label) (length label) (place_below c.variable label is)) rest
 test_within label c cell ts false is rest = rest

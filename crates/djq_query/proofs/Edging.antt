@@ -3,7 +3,7 @@ use Rattle.std.proofs.Common.{◌≡◌, ℕ, ◌+◌, ◌<◌, ◌≤◌, List,
 use Rattle.std.proofs.Common.{get_or, take, refl, sym, ap, ap₂, ◌∙◌, arith, ⊎_elim}
 use Rattle.std.specs.Prelude.{slice_get, ◌||◌, ◌&&◌, ◌==◌, nat_lt}
 use Rattle.std.specs.List.{list_all, list_any}
-use Rattle.std.proofs.lemmas.Bool.{cases_lt, false≢true, lt-ltb, ltb-true}
+use Rattle.std.proofs.lemmas.Bool.{cases_lt, false≢true, lt-ltb, ltb-true, and_parts, and_from}
 use Rattle.std.proofs.lemmas.List.{get_or_append_left, take_more, get_or_past}
 use Rattle.std.proofs.Math.Seq.{get_or-append_seam}
 use Rattle.std.proofs.lemmas.List.Folds.{list_all_at}
@@ -28,19 +28,12 @@ term_more : (m k : ℕ) (t : NumberedTerm) → m ≤ k → is_below m t ≡ true
 term_more m k (Number x) le h = lt-ltb x k (omega (arith, ltb-true x m h))
 term_more m k (Fixed v) le h = refl
 
-and_parts : (b c : Bool) → (b && c) ≡ true → (b ≡ true) × (c ≡ true)
-and_parts true c e = (refl, e)
-and_parts false c e = absurd (false≢true e)
-
-and_true : (b c : Bool) → b ≡ true → c ≡ true → (b && c) ≡ true
-and_true b c e f = rw e f
-
 -- terms below a number are below a larger one
 pub terms_more : (m k : ℕ) (ts : List NumberedTerm) → m ≤ k → are_below m ts ≡ true → are_below k ts ≡ true
 terms_more m k [] le h = refl
 terms_more m k (t ∷ ts) le h =
     let parts = and_parts (is_below m t) (are_below m ts) h in
-    and_true (is_below k t) (are_below k ts) (term_more m k t le parts.0) (terms_more m k ts le parts.1)
+    and_from (is_below k t) (are_below k ts) (term_more m k t le parts.0) (terms_more m k ts le parts.1)
 
 -- what a query's law says of one atom, and of one number of its head
 pub atom_within : (n : Numbered) (i : ℕ) (a : NumberedAtom) → IsWithin n → i < length n.atoms → a ≡ get_or n.atoms i a

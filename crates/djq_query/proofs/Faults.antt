@@ -12,12 +12,11 @@ use Rattle.djq_query.specs.Clashes.{mixes}
 use Rattle.djq_value.specs.Literal.{are_different}
 use Rattle.djq_lines.specs.declared.answer.Refusal.{Refusal}
 use Rattle.djq_lines.specs.declared.answer.Refusal.TheVariants.{NoRelation, Arity, WrongType}
-use Rattle.djq_lines.specs.declared.answer.Refusal.TheVariants.{VariableType, Unbound, HeadRepeated}
-use Rattle.djq_lines.specs.declared.answer.Refusal.TheVariants.{HeadUnbound, Limit}
+use Rattle.djq_lines.specs.declared.answer.Refusal.TheVariants.{VariableType, Unbound, HeadRepeated, HeadUnbound, Limit}
 use Rattle.djq_lines.specs.QueryFault.{any_place, is_clash, reads_unknown, has_wrong_arity}
 use Rattle.djq_lines.specs.QueryFault.{has_misfit, has_clash, is_miscompared, compares_unbound}
-use Rattle.djq_lines.specs.QueryFault.{has_miscompared, repeats_head, has_unbound_head}
-use Rattle.djq_lines.specs.QueryFault.{is_too_large, query_fault}
+use Rattle.djq_lines.specs.QueryFault.{has_miscompared, repeats_head, has_unbound_head, is_too_large, query_fault}
+use Rattle.std.proofs.lemmas.Bool.{not_from_true}
 
 on : (b : Bool) (r : Refusal) (o p : Option Refusal) → b ≡ false → p ≡ o → p ≡ cond b (Some r) o
 on true r o p e f = absurd cc
@@ -83,10 +82,6 @@ pub fault_miscompared : (rs : List Relation) (q : Query) → AreAtomsSound rs q 
 fault_miscompared rs q s a b = behind_atoms rs q (Some WrongType) s
     (on (compares_unbound q) Unbound _ _ a (here (has_miscompared rs q) WrongType _ b))
 
-different : (b : Bool) → b ≡ true → not b ≡ false
-different true e = refl
-different false e = absurd cc
-
 pub fault_repeated : (rs : List Relation) (q : Query) → IsBodySound rs q → are_different q.head ≡ false
     → Some HeadRepeated ≡ query_fault rs q
 fault_repeated rs q s a = behind rs q (Some HeadRepeated) s (here (repeats_head q) HeadRepeated _ (ap not a))
@@ -94,19 +89,19 @@ fault_repeated rs q s a = behind rs q (Some HeadRepeated) s (here (repeats_head 
 pub fault_unbound : (rs : List Relation) (q : Query) → IsBodySound rs q → are_different q.head ≡ true
     → has_unbound_head q ≡ true → Some HeadUnbound ≡ query_fault rs q
 fault_unbound rs q s a b = behind rs q (Some HeadUnbound) s
-    (on (repeats_head q) HeadRepeated _ _ (different (are_different q.head) a)
+    (on (repeats_head q) HeadRepeated _ _ (not_from_true (are_different q.head) a)
     (here (has_unbound_head q) HeadUnbound _ b))
 
 pub fault_limit : (rs : List Relation) (q : Query) → IsBodySound rs q → are_different q.head ≡ true → has_unbound_head q
     ≡ false → is_too_large q ≡ true → Some Limit ≡ query_fault rs q
 fault_limit rs q s a b c = behind rs q (Some Limit) s
-    (on (repeats_head q) HeadRepeated _ _ (different (are_different q.head) a)
+    (on (repeats_head q) HeadRepeated _ _ (not_from_true (are_different q.head) a)
     (on (has_unbound_head q) HeadUnbound _ _ b (here (is_too_large q) Limit _ c)))
 
 pub fault_none : (rs : List Relation) (q : Query) → IsBodySound rs q → are_different q.head ≡ true → has_unbound_head q
     ≡ false → is_too_large q ≡ false → None ≡ query_fault rs q
 fault_none rs q s a b c = behind rs q None s
-    (on (repeats_head q) HeadRepeated _ _ (different (are_different q.head) a)
+    (on (repeats_head q) HeadRepeated _ _ (not_from_true (are_different q.head) a)
     (on (has_unbound_head q) HeadUnbound _ _ b (on (is_too_large q) Limit _ _ c refl)))
 
 -- the conditions over a body and a head that are the query's
@@ -133,7 +128,7 @@ miscompared_over rs q atoms comparisons e f = ap₂
 
 -- a query without a fault
 
-peel : (b : Bool) (r : Refusal) (o : Option Refusal) → cond b (Some r) o ≡ None → (b ≡ false) × (o ≡ None)
+pub peel : (b : Bool) (r : Refusal) (o : Option Refusal) → cond b (Some r) o ≡ None → (b ≡ false) × (o ≡ None)
 peel true r o e = absurd cc
 peel false r o e = (refl, e)
 

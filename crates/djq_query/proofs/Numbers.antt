@@ -1,13 +1,12 @@
 -- Numbers of names, terms and atoms.
 use Rattle.std.proofs.Common.{◌≡◌, ℕ, suc, ◌+◌, ◌<◌, ◌≤◌, List, [], ◌∷◌, ◌++◌, Bool, true, false}
 use Rattle.std.proofs.Common.{length, get_or, take, drop, refl, sym, subst, ap, ap₂, ◌∙◌, arith}
-use Rattle.std.proofs.Common.{ltb, append_assoc, add-one, drop-cons, length-append}
+use Rattle.std.proofs.Common.{ltb, append_assoc, length-append}
 use Rattle.std.specs.Prelude.{unwrap_or, nat_lt, ◌&&◌, ◌==◌, Option, None, Some, cond, not, position, map, ◌||◌}
 use Rattle.std.specs.List.{fold, list_all, list_any, position_or_len, prefix_len}
 use Rattle.std.proofs.lemmas.List.{append-nil, drop_all, take_more, map-append}
-use Rattle.std.proofs.lemmas.Bool.{eqb-true, lt-ltb, ltb-true, ltb-false, false≢true}
+use Rattle.std.proofs.lemmas.Bool.{eqb-true, lt-ltb, ltb-true, ltb-false, false≢true, and_from, or_parts}
 use Rattle.std.proofs.lemmas.List.Folds.{list_any_at}
-use Rattle.std.proofs.lemmas.Bool.Decides.{nat_tests}
 use Rattle.djq_model.specs.declared.relation.ColumnType.{ColumnType}
 use Rattle.djq_model.specs.declared.query.Term.{Term}
 use Rattle.djq_model.specs.declared.query.Term.TheVariants.{Variable as Named, Hole, Constant}
@@ -28,9 +27,7 @@ use Rattle.djq_query.specs.Numbered.{labels, number_of, numbered, numbered_terms
 use Rattle.djq_query.specs.Numbered.{numbered_comparison, with_place, with_places, with_columns}
 use Rattle.djq_query.specs.Numbered.{is_below, are_below, IsNumberedAtom, AreNumbered}
 use Rattle.djq_query.proofs.Columns.{from_place}
-
-ltb_up : (a b : ℕ) → ltb (1 + a) (suc b) ≡ ltb a b
-ltb_up a b = grind (arith, nat_tests)
+use Rattle.djq_query.proofs.Binding.{from_read, place_up, found_by}
 
 at_most : (p : Label → Bool) (xs : List Label) → prefix_len p xs ≤ length xs
 at_most p [] = omega arith
@@ -48,7 +45,7 @@ any_at p (x ∷ xs) = step (p x) (any_at p xs)
     step : (b : Bool) → list_any p xs ≡ ltb (position_or_len p xs) (length xs) → (b || list_any p xs)
         ≡ ltb (cond (not b) (1 + position_or_len p xs) 0) (suc (length xs))
     step true h = sym (lt-ltb 0 (suc (length xs)) (omega arith))
-    step false h = h ∙ sym (ltb_up (position_or_len p xs) (length xs))
+    step false h = h ∙ sym (place_up (position_or_len p xs) (length xs))
 
 -- the first of variables is that of their names
 prefix_named : (p : Label → Bool) (known : List Variable) → prefix_len (λ (v : Variable). p v.name) known
@@ -67,11 +64,7 @@ number_at known x =
     (sym (length_labels known))
     ∙ ap (λ b. cond b (Some (number_of (labels known) x)) None) (sym (any_at (is_named x) (labels known)))
 
-number_some : (b : Bool) (n m : ℕ) → cond b (Some n) None ≡ Some m → (b ≡ true) × (n ≡ m)
-number_some true n m e = (refl, cc)
-number_some false n m e = absurd cc
-
-number_none : (b : Bool) (n : ℕ) → cond b (Some n) None ≡ None → b ≡ false
+pub number_none : (b : Bool) (n : ℕ) → cond b (Some n) None ≡ None → b ≡ false
 number_none true n e = absurd cc
 number_none false n e = refl
 
@@ -79,7 +72,7 @@ number_none false n e = refl
 
 pub known_found : (known : List Variable) (x : Bytes) (n : ℕ) → position (λ (v : Variable). is_named x v.name) known
     ≡ Some n → (is_known (labels known) x ≡ true) × (number_of (labels known) x ≡ n)
-known_found known x n e = number_some (is_known (labels known) x) (number_of (labels known) x) n
+known_found known x n e = found_by (is_known (labels known) x) (number_of (labels known) x) n
     (sym (number_at known x) ∙ e)
 
 pub known_missed : (known : List Variable) (x : Bytes) → position (λ (v : Variable). is_named x v.name) known ≡ None
@@ -130,11 +123,6 @@ labels_with known (Named x) c = label_step known x c (is_known (labels known) x)
 labels_with known Hole c = labels_behind known (record { name = None; column = c })
 labels_with known (Constant v) c = refl
 
--- a list from a place on, as it is read
-from_read : {A : Type 0} (xs : List A) (i : ℕ) (x d : A) → i < length xs → x ≡ get_or xs i d → drop i xs
-    ≡ x ∷ drop (i + 1) xs
-from_read xs i x d below is = rw add-one (drop-cons xs i d below ∙ ap (λ y. y ∷ drop (suc i) xs) (sym is))
-
 pub numbered_step : (done : List NumberedTerm) (known : List Variable) (ts : List Term) (i : ℕ) (t : Term)
     (c : ColumnType) → i < length ts → t ≡ get_or ts i t
     → (done ++ numbered (labels known) t ∷ []) ++ numbered_terms (labels (with_place known t c)) (drop (i + 1) ts)
@@ -165,10 +153,6 @@ places_end known ts cs i past = ap (λ us. with_places known us (drop i cs)) (dr
 
 -- atoms, one after another
 
-pub both_false : (b c : Bool) → (b || c) ≡ false → (b ≡ false) × (c ≡ false)
-both_false true c e = absurd (false≢true (sym e))
-both_false false c e = (refl, e)
-
 pub not_false : (b : Bool) → not b ≡ false → b ≡ true
 not_false true e = refl
 not_false false e = absurd (false≢true (sym e))
@@ -181,7 +165,7 @@ any_false_at p xs i x none below is = by_test (p x) refl
     by_test false e = e
     by_test true e = absurd (false≢true (sym none ∙ list_any_at p xs i x below (ap p (sym is) ∙ e)))
 
-same_length : (a b : ℕ) → not (a == b) ≡ false → a ≡ b
+pub same_length : (a b : ℕ) → not (a == b) ≡ false → a ≡ b
 same_length a b e = by_test (a == b) refl e
   where
     by_test : (t : Bool) → (a == b) ≡ t → not t ≡ false → a ≡ b
@@ -252,7 +236,7 @@ pub labels_columns : (rs : List Relation) (known : List Variable) (atoms : List 
     → labels (fold (with_columns rs) known atoms) ≡ fold with_atom (labels known) atoms
 labels_columns rs known [] none = refl
 labels_columns rs known (a ∷ atoms) none =
-    let parts = both_false (not (length a.terms == length (columns_of rs a.relation)))
+    let parts = or_parts (not (length a.terms == length (columns_of rs a.relation)))
     (list_any (λ (a : Atom). not (length a.terms == length (columns_of rs a.relation))) atoms) none in
     labels_columns rs (with_columns rs known a) atoms parts.1
     ∙ ap (λ (ls : List Label). fold with_atom ls atoms)
@@ -275,9 +259,6 @@ number_or known x =
 
 -- numbers are within
 
-both_true : (b c : Bool) → b ≡ true → c ≡ true → (b && c) ≡ true
-both_true b c e f = rw e f
-
 number_within : (known : List Label) (x : Bytes) → is_known known x ≡ true → number_of known x < length known
 number_within known x e = ltb-true (number_of known x) (length known) (sym (any_at (is_named x) known) ∙ e)
 
@@ -298,7 +279,7 @@ terms_below : (known : List Label) (ts : List Term) (m : ℕ) → length (with_t
 unfolding numbered_terms
 terms_below known [] m h = refl
 terms_below known (t ∷ ts) m h =
-    both_true (is_below m (numbered known t)) (are_below m (numbered_terms (with_term known t) ts))
+    and_from (is_below m (numbered known t)) (are_below m (numbered_terms (with_term known t) ts))
     (term_below known t m (omega (arith, terms_more (with_term known t) ts)))
     (terms_below (with_term known t) ts m h)
 
@@ -310,7 +291,7 @@ atoms_below rs known [] [] m h l = refl
 atoms_below rs known [] (n ∷ ns) m h l = absurd h
 atoms_below rs known (a ∷ atoms) [] m h l = absurd h
 atoms_below rs known (a ∷ atoms) (n ∷ ns) m h l =
-    both_true (are_below m n.terms) (list_all (λ (n : NumberedAtom). are_below m n.terms) ns)
+    and_from (are_below m n.terms) (list_all (λ (n : NumberedAtom). are_below m n.terms) ns)
     (ap (are_below m) h.0.1 ∙ terms_below known a.terms m (omega (arith, atoms_more (with_atom known a) atoms)))
     (atoms_below rs (with_atom known a) atoms ns m h.1 l)
 
@@ -318,10 +299,10 @@ pub head_below : (atoms : List Atom) (head : List Bytes) → list_any (λ x. not
     → list_all (λ x. nat_lt x (length (variables_of atoms))) (map (number_of (variables_of atoms)) head) ≡ true
 head_below atoms [] none = refl
 head_below atoms (x ∷ head) none =
-    let parts = both_false (not (stands_in atoms x)) (list_any (λ x. not (stands_in atoms x)) head) none in
+    let parts = or_parts (not (stands_in atoms x)) (list_any (λ x. not (stands_in atoms x)) head) none in
     let known : is_known (variables_of atoms) x ≡ true = known_behind atoms [] x ∙ or_false (stands_in atoms x)
     ∙ not_false (stands_in atoms x) parts.0 in
-    both_true (nat_lt (number_of (variables_of atoms) x) (length (variables_of atoms)))
+    and_from (nat_lt (number_of (variables_of atoms) x) (length (variables_of atoms)))
     (list_all (λ x. nat_lt x (length (variables_of atoms))) (map (number_of (variables_of atoms)) head))
     (lt-ltb (number_of (variables_of atoms) x) (length (variables_of atoms))
     (number_within (variables_of atoms) x known))
@@ -333,11 +314,11 @@ pub compared_below : (atoms : List Atom) (comparisons : List Comparison)
     (map (numbered_comparison (variables_of atoms)) comparisons) ≡ true
 compared_below atoms [] none = refl
 compared_below atoms (c ∷ cs) none =
-    let parts = both_false (not (stands_in atoms c.variable))
+    let parts = or_parts (not (stands_in atoms c.variable))
     (list_any (λ (c : Comparison). not (stands_in atoms c.variable)) cs) none in
     let known : is_known (variables_of atoms) c.variable ≡ true = known_behind atoms [] c.variable
     ∙ or_false (stands_in atoms c.variable) ∙ not_false (stands_in atoms c.variable) parts.0 in
-    both_true (nat_lt (number_of (variables_of atoms) c.variable) (length (variables_of atoms)))
+    and_from (nat_lt (number_of (variables_of atoms) c.variable) (length (variables_of atoms)))
     (list_all (λ (n : NumberedComparison). nat_lt n.variable (length (variables_of atoms)))
     (map (numbered_comparison (variables_of atoms)) cs))
     (lt-ltb (number_of (variables_of atoms) c.variable) (length (variables_of atoms))

@@ -1,10 +1,9 @@
 -- What the numbers of a query mean.
 use Rattle.std.proofs.Common.{◌≡◌, ℕ, zero, suc, ◌+◌, ◌<◌, ◌≤◌, List, [], ◌∷◌, ◌++◌, Bool, true}
-use Rattle.std.proofs.Common.{false, length, refl, sym, subst, ap, ap₂, ◌∙◌, arith, inl, inr}
-use Rattle.std.proofs.Common.{length-append}
+use Rattle.std.proofs.Common.{false, length, refl, sym, subst, ap, ap₂, ◌∙◌, arith, inl, inr, length-append}
 use Rattle.std.specs.Prelude.{Option, None, Some, cond, not, map, slice_get, ◌||◌}
 use Rattle.std.specs.List.{fold, list_any, find}
-use Rattle.std.proofs.lemmas.Bool.{false≢true, ne_eqb, eq-eqb, cases_lt}
+use Rattle.std.proofs.lemmas.Bool.{false≢true, ne_eqb, eq-eqb, cases_lt, or_parts}
 use Rattle.std.proofs.lemmas.List.Folds.{find_at, position_or_len_push}
 use Rattle.std.proofs.lemmas.Option.{slice_get_within}
 use Rattle.djq_model.specs.declared.relation.Relation.{Relation}
@@ -28,7 +27,7 @@ use Rattle.djq_query.specs.Meaning.{Rise, holes_among, holes_in, IsShown, AreSho
 use Rattle.djq_query.specs.Meaning.{AreComparisonsShown, IsShownBy}
 use Rattle.djq_query.proofs.Counting.{term_more, known_behind, or_false}
 use Rattle.djq_query.proofs.Faults.{sound_of}
-use Rattle.djq_query.proofs.Numbers.{both_false, not_false, labels_columns, number_unknown}
+use Rattle.djq_query.proofs.Numbers.{not_false, labels_columns, number_unknown}
 
 -- what is known stays so
 kept : (ls ms : List Label) (k : ℕ) (l : Label) → slice_get ls k ≡ Some l → slice_get (ls ++ ms) k ≡ Some l
@@ -231,7 +230,7 @@ head_shown : (atoms : List Atom) (head : List Bytes) → list_any (λ x. not (st
     → map (slice_get (variables_of atoms)) (map (number_of (variables_of atoms)) head) ≡ map (λ x. Some (Some x)) head
 head_shown atoms [] none = refl
 head_shown atoms (x ∷ head) none =
-    let parts = both_false (not (stands_in atoms x)) (list_any (λ x. not (stands_in atoms x)) head) none in
+    let parts = or_parts (not (stands_in atoms x)) (list_any (λ x. not (stands_in atoms x)) head) none in
     let known : is_known (variables_of atoms) x ≡ true = known_behind atoms [] x ∙ or_false (stands_in atoms x)
     ∙ not_false (stands_in atoms x) parts.0 in
     ap₂ (λ o os. o ∷ os) (named_at (variables_of atoms) x known) (head_shown atoms head parts.1)
@@ -241,7 +240,7 @@ compared_shown : (atoms : List Atom) (comparisons : List Comparison)
     → AreComparisonsShown (variables_of atoms) comparisons (map (numbered_comparison (variables_of atoms)) comparisons)
 compared_shown atoms [] none = tt
 compared_shown atoms (c ∷ cs) none =
-    let parts = both_false (not (stands_in atoms c.variable))
+    let parts = or_parts (not (stands_in atoms c.variable))
     (list_any (λ (c : Comparison). not (stands_in atoms c.variable)) cs) none in
     let known : is_known (variables_of atoms) c.variable ≡ true = known_behind atoms [] c.variable
     ∙ or_false (stands_in atoms c.variable) ∙ not_false (stands_in atoms c.variable) parts.0 in (

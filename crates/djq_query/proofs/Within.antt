@@ -2,7 +2,7 @@
 use Rattle.std.proofs.Common.{◌≡◌, ℕ, ◌≤◌, List, [], length, sym, ap, ap₂, ◌∙◌, arith}
 use Rattle.std.specs.Prelude.{None, map, nat_lt}
 use Rattle.std.specs.List.{fold, list_all}
-use Rattle.std.proofs.lemmas.Bool.{ltb-false}
+use Rattle.std.proofs.lemmas.Bool.{ltb-false, or_parts}
 use Rattle.std.proofs.lemmas.List.{length-map}
 use Rattle.djq_model.specs.declared.relation.Relation.{Relation}
 use Rattle.djq_model.specs.declared.query.Query.{Query}
@@ -14,7 +14,7 @@ use Rattle.djq_query.specs.declared.numbered.NumberedComparison.{NumberedCompari
 use Rattle.djq_query.specs.declared.numbered.Variable.{Variable}
 use Rattle.djq_query.specs.Numbered.{labels, number_of, numbered_comparison, with_columns, AreNumbered, IsWithin}
 use Rattle.djq_query.proofs.Faults.{IsSound, sound_of}
-use Rattle.djq_query.proofs.Numbers.{both_false, labels_columns, length_labels, atoms_below, head_below, compared_below}
+use Rattle.djq_query.proofs.Numbers.{labels_columns, length_labels, atoms_below, head_below, compared_below}
 
 -- a query without a fault, by number
 pub within_of : (rs : List Relation) (q : Query) (ns : List NumberedAtom) (cs : List NumberedComparison)
@@ -24,9 +24,9 @@ pub within_of : (rs : List Relation) (q : Query) (ns : List NumberedAtom) (cs : 
     → IsWithin (record { head = head; atoms = ns; comparisons = cs; variables = vs })
 within_of rs q ns cs vs head fault numbered compared variables heads =
     let sound : IsSound rs q = sound_of rs q fault in
-    let small = both_false (nat_lt ATOMS (length q.atoms)) _ sound.small in
-    let more = both_false (nat_lt VARIABLES (length (variables_of q.atoms))) _ small.1 in
-    let sizes = both_false (nat_lt HEAD_VARIABLES (length q.head)) _ more.1 in
+    let small = or_parts (nat_lt ATOMS (length q.atoms)) _ sound.small in
+    let more = or_parts (nat_lt VARIABLES (length (variables_of q.atoms))) _ small.1 in
+    let sizes = or_parts (nat_lt HEAD_VARIABLES (length q.head)) _ more.1 in
     let named : labels vs ≡ variables_of q.atoms = ap labels variables ∙ labels_columns rs [] q.atoms sound.arity in
     let size : length vs ≡ length (variables_of q.atoms) = sym (length_labels vs)
     ∙ ap (λ (ls : List Label). length ls) named in

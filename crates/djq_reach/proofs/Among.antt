@@ -23,10 +23,6 @@ pub or_true : (b : Bool) → (b || true) ≡ true
 or_true true = refl
 or_true false = refl
 
-pub or_false : (b : Bool) → (b || false) ≡ b
-or_false true = refl
-or_false false = refl
-
 pub apart : (i j : ℕ) → (i ≡ j → ⊥) → (i == j) ≡ false
 apart i j h = by_test (i == j) refl
   where

@@ -1,7 +1,6 @@
 -- Many rows that come into the queries in places, one query after another, and are given back.
 use Rattle.std.proofs.Common.{ℕ, List, [], ◌∷◌, ◌++◌, ◌+◌, ◌*◌, ◌-◌, ◌≡◌, ◌<◌, ◌≤◌, Bool, true}
-use Rattle.std.proofs.Common.{false, refl, sym, ap, ◌∙◌, subst, length, get_or, set, take, arith}
-use Rattle.std.proofs.Common.{inl, inr, length-set}
+use Rattle.std.proofs.Common.{false, refl, sym, ap, ◌∙◌, subst, length, get_or, set, take, arith, inl, inr, length-set}
 use Rattle.std.specs.Prelude.{◌==◌, ◌||◌, Option, None, Some, IsSomeAnd, filter, slice_index_or, sum_by}
 use Rattle.std.proofs.lemmas.Bool.{eqb-true, eq-eqb, false≢true}
 use Rattle.std.proofs.lemmas.List.{take_more, get_or-set_other}
@@ -29,7 +28,8 @@ use Rattle.djq_reach.specs.Reaching.{DoneAt, Reach, AllAt}
 use Rattle.djq_reach.specs.Tending.{Tends, TendedAt, work_of, work_at}
 use Rattle.djq_reach.specs.Batching.{Comes, CanComeAll, CanGoAll, CanGiveAll, TakesInAll, Refuses}
 use Rattle.djq_reach.specs.Batching.{LetsOutAll, GivesAllBack, OthersStay, WorksBatch}
-use Rattle.djq_reach.proofs.Among.{apart, reader_more, or_true, or_false}
+use Rattle.djq_reach.proofs.Among.{apart, reader_more, or_true}
+use Rattle.djq_deltas.proofs.Cases.{or_false}
 use Rattle.djq_reach.proofs.Reaching.{some_as, only, once_at, reader_there, reader_front, same_then}
 use Rattle.djq_reach.proofs.Reaching.{same_refl, front_kept, done_back}
 use Rattle.djq_reach.proofs.Tending.{unreached}
@@ -113,9 +113,6 @@ fewer_then a b c ba cb = record {
       let there = cb.more j u low has in
       ba.more j u (subst (λ (t : Tree). j < t.leaves) (sym cb.tree) low) there;
 }
-
-pub fewer_itself : (a : Reducts) → HasMore a a
-fewer_itself a = record { tree = refl; more = λ j u low has. has }
 
 -- ---- one query gives rows back
 

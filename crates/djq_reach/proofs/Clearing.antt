@@ -1,7 +1,6 @@
 -- Logs that are emptied, those of some places after those of others.
 use Rattle.std.proofs.Common.{ℕ, zero, suc, List, [], ◌∷◌, ◌++◌, ◌+◌, ◌≡◌, ◌<◌, ◌≤◌, Bool, true}
-use Rattle.std.proofs.Common.{false, refl, sym, ap, ap₂, ◌∙◌, subst, length, get_or, set, take}
-use Rattle.std.proofs.Common.{arith, length-set}
+use Rattle.std.proofs.Common.{false, refl, sym, ap, ap₂, ◌∙◌, subst, length, get_or, set, take, arith, length-set}
 use Rattle.std.specs.Prelude.{◌==◌, ◌||◌, ◌&&◌, All, slice_index_or}
 use Rattle.std.proofs.lemmas.Bool.{eqb-true, eq-eqb, false≢true}
 use Rattle.std.proofs.lemmas.List.{take_more, get_or-set_same, get_or-set_other, get_or_default}
@@ -14,6 +13,7 @@ use Rattle.djq_reach.specs.Tending.{Readies, Empties}
 use Rattle.djq_reach.specs.Grouping.{Clears, reached}
 use Rattle.djq_reach.proofs.Among.{reader_more}
 use Rattle.djq_reach.proofs.Reaching.{everywhere}
+use Rattle.djq_deltas.proofs.Cases.{or_false}
 
 -- ---- places one after another
 
@@ -40,15 +40,11 @@ either_or : (a b c : Bool) → (a || (b || c)) ≡ ((a || b) || c)
 either_or true b c = refl
 either_or false b c = refl
 
-or_none : (a : Bool) → (a || false) ≡ a
-or_none true = refl
-or_none false = refl
-
-reached_end : (readers : List (List ℕ)) (groups : List Group) (g : Group) (i : ℕ)
+pub reached_end : (readers : List (List ℕ)) (groups : List Group) (g : Group) (i : ℕ)
     → is_reader (reached readers (groups ++ g ∷ [])) i
     ≡ (is_reader (reached readers groups) i || is_reader (readers_at readers g.relation.at) i)
 reached_end readers [] g i = reader_both (readers_at readers g.relation.at) [] i
-    ∙ or_none (is_reader (readers_at readers g.relation.at) i)
+    ∙ or_false (is_reader (readers_at readers g.relation.at) i)
 reached_end readers (h ∷ groups) g i =
     reader_both (readers_at readers h.relation.at) (reached readers (groups ++ g ∷ [])) i
     ∙ ap (λ b. is_reader (readers_at readers h.relation.at) i || b) (reached_end readers groups g i)
@@ -181,7 +177,7 @@ watched_more watchers places k d i low at j =
         itself : (v w : Bool) → v ≡ w → v ≡ (v || w)
         itself true w e = refl
         itself false w e = e
-    by true false e = sym (or_none (watched_at watchers j))
+    by true false e = sym (or_false (watched_at watchers j))
     by false true e = ap (watched_at watchers) (sym (eqb-true i j e))
     by false false e = refl
 

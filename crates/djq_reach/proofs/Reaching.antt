@@ -9,7 +9,8 @@ use Rattle.djq_live.specs.Live.{Live, IsKept, SameQuery}
 use Rattle.djq_live.specs.Updating.{CanAdd, CanDelete}
 use Rattle.djq_reach.specs.Places.{place_at, is_reader, AreOnce}
 use Rattle.djq_reach.specs.Reaching.{DoneAt, Reach, AllAt, CanCome, CanGo, TakesIn, LetsOut, Remains, GivesBack}
-use Rattle.djq_reach.proofs.Among.{apart, reader_more, or_true, or_false}
+use Rattle.djq_reach.proofs.Among.{apart, reader_more, or_true}
+use Rattle.djq_deltas.proofs.Cases.{or_false}
 
 -- a place with a query is one of the list
 pub place_below : (gs : List (Option Live)) (i : ℕ) (l : Live) → place_at gs i ≡ Some l → i < length gs

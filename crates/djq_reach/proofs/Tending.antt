@@ -1,7 +1,6 @@
 -- What is done to the logs of the queries in places, one after another, and what listing counts.
-use Rattle.std.proofs.Common.{ℕ, zero, suc, List, [], ◌∷◌, ◌++◌, ◌+◌, ◌≡◌, ◌≢◌, ◌<◌, inl, inr, Bool}
-use Rattle.std.proofs.Common.{true, false, refl, sym, ap, ◌∙◌, subst, length, get_or, set, take}
-use Rattle.std.proofs.Common.{arith, length-set}
+use Rattle.std.proofs.Common.{ℕ, List, [], ◌∷◌, ◌++◌, ◌+◌, ◌≡◌, ◌≢◌, ◌<◌, inl, inr, Bool}
+use Rattle.std.proofs.Common.{true, false, refl, sym, ap, ◌∙◌, subst, length, get_or, set, take, arith, length-set}
 use Rattle.std.specs.Prelude.{◌==◌, ◌||◌, ◌&&◌, Option, None, Some, IsSomeAnd, cond, map, nat_lt}
 use Rattle.std.specs.Prelude.{All, Result, Ok, Err, OnOk, OnErr}
 use Rattle.std.proofs.lemmas.Bool.{eqb-true, eq-eqb, false≢true}
@@ -17,19 +16,9 @@ use Rattle.djq_reach.specs.Places.{place_at, is_reader, log_at, no_log, watched_
 use Rattle.djq_reach.specs.Reaching.{DoneAt, Reach, AllAt}
 use Rattle.djq_reach.specs.Tending.{Readies, TellsWhere, TellsAt, Shows, TendedAt, Tends, Empties}
 use Rattle.djq_reach.specs.Tending.{cost_of, cost_at, Costs}
-use Rattle.djq_reach.proofs.Among.{apart, reader_more, or_true, or_false}
-use Rattle.djq_reach.proofs.Reaching.{below_some, everywhere, only, once_at, reader_there}
-
-pub reader_front : (places : List ℕ) (k i : ℕ) → is_reader (take k places) i ≡ true → is_reader places i ≡ true
-reader_front [] zero i e = e
-reader_front [] (suc k) i e = e
-reader_front (p ∷ places) zero i e = absurd (false≢true e)
-reader_front (p ∷ places) (suc k) i e = step (p == i) e (reader_front places k i)
-  where
-    step : (b : Bool) → (b || is_reader (take k places) i) ≡ true
-        → (is_reader (take k places) i ≡ true → is_reader places i ≡ true) → (b || is_reader places i) ≡ true
-    step true f more = refl
-    step false f more = more f
+use Rattle.djq_reach.proofs.Among.{apart, reader_more, or_true}
+use Rattle.djq_deltas.proofs.Cases.{or_false}
+use Rattle.djq_reach.proofs.Reaching.{below_some, everywhere, only, once_at, reader_there, reader_front}
 
 -- ---- one log
 

@@ -1,7 +1,6 @@
 -- How much updates of the queries in places count, one after another.
 use Rattle.std.proofs.Common.{ℕ, List, [], ◌∷◌, ◌++◌, ◌+◌, ◌*◌, ◌≡◌, ◌<◌, ◌≤◌, Bool, true, false}
-use Rattle.std.proofs.Common.{refl, sym, ap, ◌∙◌, subst, length, get_or, take, arith}
-use Rattle.std.proofs.Common.{mul-le-mul_left}
+use Rattle.std.proofs.Common.{refl, sym, ap, ◌∙◌, subst, length, get_or, take, arith, mul-le-mul_left}
 use Rattle.std.specs.Prelude.{◌==◌, ◌||◌, Option, None, Some, IsSomeAnd, filter, sum_by}
 use Rattle.std.proofs.lemmas.Bool.{eqb-true, eq-eqb, false≢true}
 use Rattle.std.proofs.lemmas.List.{take_more}
@@ -17,8 +16,8 @@ use Rattle.djq_reach.specs.Places.{place_at, is_reader, AreOnce}
 use Rattle.djq_reach.specs.Reaching.{DoneAt, Reach, TakesIn, Remains}
 use Rattle.djq_reach.specs.Tending.{IsBounded, CountsEither, Works, work_of, work_at}
 use Rattle.djq_reach.proofs.Among.{apart, reader_more, or_true}
-use Rattle.djq_reach.proofs.Reaching.{once_at, only, reader_there}
-use Rattle.djq_reach.proofs.Tending.{reader_front, unreached}
+use Rattle.djq_reach.proofs.Reaching.{once_at, only, reader_there, reader_front}
+use Rattle.djq_reach.proofs.Tending.{unreached}
 
 -- ---- sums over places
 

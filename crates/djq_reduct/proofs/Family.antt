@@ -59,7 +59,7 @@ many_agree r s k key hr hs a =
     many_same key (entries_at s.tables k) (entries_at r.tables k) (apart_at s.tables k (hs.family.sound k))
     (apart_at r.tables k (hr.family.sound k)) (hs.family.supported k) (hr.family.supported k) a
 
-key_agree : (r s : Reducts) (k : ℕ) → IsReducts r → IsReducts s → s.tree ≡ r.tree → k < length r.tree.nodes
+pub key_agree : (r s : Reducts) (k : ℕ) → IsReducts r → IsReducts s → s.tree ≡ r.tree → k < length r.tree.nodes
     → key_at s.tables k ≡ key_at r.tables k
 key_agree r s k hr hs e h =
     (hs.family.keyed k (subst (λ (t : Tree). k < length t.nodes) (sym e) h)).key

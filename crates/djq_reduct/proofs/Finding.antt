@@ -1,15 +1,16 @@
 -- The levels of a listing are found going down the nodes.
 use Rattle.std.proofs.Common.{◌≡◌, ℕ, zero, suc, ◌-◌, ◌<◌, ◌≤◌, true, false, List, [], ◌∷◌, ◌++◌}
 use Rattle.std.proofs.Common.{refl, ap, sym, subst, ◌∙◌, arith}
-use Rattle.std.proofs.lemmas.Bool.{false≢true, le-leb, lt-leb}
+use Rattle.std.proofs.lemmas.Bool.{false≢true, le-leb}
 use Rattle.std.proofs.lemmas.List.{append_assoc, append-nil}
 use Rattle.djq_tree.specs.declared.node.Node.{Node}
 use Rattle.djq_tree.specs.declared.node.Node.TheVariants.{Leaf, Trim, Meet}
 use Rattle.djq_tree.specs.Tree.{Tree, node_at}
 use Rattle.djq_tree.specs.Levels.{levels_below, level_on}
 use Rattle.djq_tree.specs.Counts.{is_trim}
+use Rattle.djq_tree.proofs.Trimming.{no_levels}
 
-level_at : (t : Tree) (k : ℕ) (n : Node) → t.second_stage ≤ k → node_at t.nodes k ≡ n
+pub level_at : (t : Tree) (k : ℕ) (n : Node) → t.second_stage ≤ k → node_at t.nodes k ≡ n
     → levels_below t (suc k) ≡ level_on k n (levels_below t k)
 level_at t k n late e = rw (le-leb t.second_stage k late)
     (ap (λ (m : Node). level_on k m (levels_below t k)) e)
@@ -49,12 +50,8 @@ level_not t xs all n k m had low e is no_trim =
     ap (λ (ks : List ℕ). xs ++ ks)
     (sym (just_below t n k m low e is ∙ on_other k m (levels_below t k) no_trim)) ∙ had
 
-none_below : (t : Tree) (k : ℕ) → k ≤ t.second_stage → levels_below t k ≡ []
-none_below t zero low = refl
-none_below t (suc k) low = rw (lt-leb t.second_stage k (omega arith)) refl
-
 -- below the second stage there is none
 pub all_found : (t : Tree) (xs all : List ℕ) (n : ℕ) → xs ++ levels_below t n ≡ all
     → n ≤ t.second_stage → xs ≡ all
 all_found t xs all n had low = sym (append-nil xs)
-    ∙ ap (λ (ks : List ℕ). xs ++ ks) (sym (none_below t n low)) ∙ had
+    ∙ ap (λ (ks : List ℕ). xs ++ ks) (sym (no_levels t n low)) ∙ had

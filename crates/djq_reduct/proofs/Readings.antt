@@ -21,7 +21,7 @@ use Rattle.std.proofs.Common.{
   inr,
   arith,
 }
-use Rattle.std.specs.Prelude.{⊤, ◌==◌, ◌&&◌, AllPairs, slice_index, slice_index_or}
+use Rattle.std.specs.Prelude.{⊤, ◌==◌, ◌&&◌, AllPairs, slice_index}
 use Rattle.std.specs.List.Sorted.{IsStrictlyIncreasing}
 use Rattle.std.proofs.lemmas.Bool.{
   cases_Bool,
@@ -38,6 +38,7 @@ use Rattle.djq_hyper.specs.Hypergraph.{member, subset}
 use Rattle.djq_index.specs.Tuple.{pick}
 use Rattle.djq_reduct.specs.Columns.{column, columns}
 use Rattle.djq_reduct.proofs.Placing.{column_here, column_on}
+use Rattle.djq_hyper.proofs.Rising.{above, member_here}
 
 -- no variable stands twice
 abbrev pub IsSimple : List ℕ → Type 0
@@ -61,15 +62,6 @@ within_of (y ∷ k) l h x m =
     and_both true b h = (refl, h)
     and_both false b h = absurd (false≢true h)
 
-above : (x y : ℕ) (l : List ℕ) → ((k d : ℕ) → k < length l → x < slice_index_or l k d)
-    → member y l ≡ true → x < y
-above x y [] h m = absurd (false≢true m)
-above x y (z ∷ l) h m =
-    elim (or_cases (y == z) (member y l) m) [
-      | inl here ↦ (let e = eqb-true y z here in let b : x < z = h 0 0 (omega arith) in omega arith)
-      | inr there ↦ above x y l (λ k d i. h (suc k) d (omega arith)) there
-    ]
-
 simple_pairs : (l : List ℕ) → AllPairs (λ x y. x < y) l → IsSimple l
 simple_pairs [] h = tt
 simple_pairs (x ∷ l) h = (
@@ -84,11 +76,8 @@ simple_pairs (x ∷ l) h = (
 pub simple_of : (l : List ℕ) → IsStrictlyIncreasing l → IsSimple l
 simple_of l h = simple_pairs l (AllPairs-from_increasing l h)
 
-absent : (x y : ℕ) (l : List ℕ) → member x l ≡ false → member y l ≡ true → x ≡ y → ⊥
+pub absent : (x y : ℕ) (l : List ℕ) → member x l ≡ false → member y l ≡ true → x ≡ y → ⊥
 absent x y l h m e = false≢true (sym h ∙ ap (λ (z : ℕ). member z l) e ∙ m)
-
-pub member_here : (x : ℕ) (l : List ℕ) → member x (x ∷ l) ≡ true
-member_here x l = or_left (x == x) (member x l) (eq-eqb x x refl)
 
 pub member_on : (x y : ℕ) (l : List ℕ) → member x l ≡ true → member x (y ∷ l) ≡ true
 member_on x y l m = or_right (x == y) (member x l) m

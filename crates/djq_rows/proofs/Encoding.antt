@@ -109,11 +109,11 @@ value_more : (texts us : List Bytes) (t : ColumnType) (c : ℕ) → IsWithin tex
 value_more texts us IntColumn c h = refl
 value_more texts us TextColumn c h = ap (λ (u : Bytes). Text u) (get_or_append_left texts us [] c h)
 
-has_more : (texts us : List Bytes) (v : Value) → HasCell texts v → HasCell (texts ++ us) v
+pub has_more : (texts us : List Bytes) (v : Value) → HasCell texts v → HasCell (texts ++ us) v
 has_more texts us (Int i) h = h
 has_more texts us (Text t) h = knows_more texts us t h
 
-cell_more : (texts us : List Bytes) (v : Value) → HasCell texts v → cell_of (texts ++ us) v ≡
+pub cell_more : (texts us : List Bytes) (v : Value) → HasCell texts v → cell_of (texts ++ us) v ≡
     cell_of texts v
 cell_more texts us (Int i) h = refl
 cell_more texts us (Text t) h = place_more texts us t h

@@ -31,7 +31,7 @@ use Rattle.djq_dict.specs.Known.{AllDifferent}
 use Rattle.djq_index.specs.Entries.{Entry}
 use Rattle.djq_index.specs.Table.{AreApart}
 use Rattle.djq_rows.specs.declared.kept.Kept.{Kept}
-use Rattle.djq_rows.specs.declared.catalog.Catalog.TheInside.{Inside as Parts}
+use Rattle.djq_rows.specs.declared.catalog.Catalog.TheInside.{Inside}
 use Rattle.djq_rows.specs.Catalog.{Catalog}
 
 -- the value that a cell of a column stands for
@@ -74,7 +74,7 @@ abbrev pub kept_at : List Kept → ℕ → Kept
 kept_at ks at = slice_index_or ks at no_kept
 
 -- the catalog that has these parts
-abbrev pub catalog_of : Parts → Catalog
+abbrev pub catalog_of : Inside → Catalog
 catalog_of p = record { relations = relations_of p.texts p.kept.items; texts = p.texts }
 
 -- a cell that can stand in a column
@@ -104,7 +104,7 @@ pub record IsSound (texts : List Bytes) (k : Kept) : Type 0 where
   pub copied : AllByRecursion IsCopied k.rows.entries
 
 -- what holds of a catalog's parts
-pub record IsParts (p : Parts) : Type 0 where
+pub record IsParts (p : Inside) : Type 0 where
   pub few : length p.kept.items ≤ RELATIONS
   pub names : p.names ≡ map (λ (k : Kept). k.name) p.kept.items
   pub named : AllDifferent p.names

@@ -20,6 +20,8 @@ use Rattle.djq_laws.proofs.Rising.{step_ids}
 use Rattle.djq_serve.specs.Server.{first_open}
 use Rattle.djq_serve.specs.Kept.{Agrees, IsNew}
 use Rattle.djq_serve.specs.Parts.{IsServed, NotServed}
+use Rattle.std.proofs.lemmas.Option.{same_Some}
+use Rattle.djq_laws.proofs.Containing.{found_passes}
 
 -- an id is that of an open session exactly where it is among the ids
 open_any : (xs : List Session) (s : ℕ) → is_some (find (λ (x : Session). x.id == s) xs)
@@ -39,19 +41,6 @@ open_contains st s h = (is_member (ids_of st) s).0 (sym (open_any st.sessions s)
 
 pub contains_open : (st : State) (s : ℕ) → Contains (ids_of st) s → IsOpen st s
 contains_open st s h = open_any st.sessions s ∙ (is_member (ids_of st) s).1 h
-
-inside : {A : Type 0} (x y : A) → Some x ≡ Some y → x ≡ y
-inside x y e = cc
-
--- what is found passes the test
-pub found_passes : {A : Type 0} (p : A → Bool) (xs : List A) (x : A) → find p xs ≡ Some x → p x ≡ true
-found_passes p [] x e = absurd cc
-found_passes p (y ∷ xs) x e = at_first (p y) refl e (λ k. found_passes p xs x k)
-  where
-    at_first : (b : Bool) → p y ≡ b → cond b (Some y) (find p xs) ≡ Some x → (find p xs ≡ Some x → p x ≡ true) → p x
-        ≡ true
-    at_first true passes k rest = subst (λ (z : _). p z ≡ true) (inside y x k) passes
-    at_first false passes k rest = rest k
 
 -- The session that a flush is at is open, of at least the id that the flush is from, and something is due to it.
 pub due_open : (st : State) (from s : ℕ) → first_due st from ≡ Some s → IsOpen st s
@@ -203,7 +192,7 @@ first_is_open st s h = contains_open st s (in_front (ids_of st) h)
   where
     in_front : (is : List ℕ) → slice_get is 0 ≡ Some s → Contains is s
     in_front [] e = absurd cc
-    in_front (i ∷ is) e = (0, omega arith, inside i s e)
+    in_front (i ∷ is) e = (0, omega arith, same_Some i s e)
 
 filter_fewer : (s : ℕ) (xs : List ℕ) → length (filter (λ i. not (i == s)) xs) ≤ length xs
 filter_fewer s [] = omega arith
@@ -220,7 +209,7 @@ first_fewer st s h = without_first (ids_of st) h
   where
     without_first : (is : List ℕ) → slice_get is 0 ≡ Some s → length (filter (λ i. not (i == s)) is) < length is
     without_first [] e = absurd cc
-    without_first (i ∷ is) e = at_first (i == s) (eq-eqb i s (inside i s e))
+    without_first (i ∷ is) e = at_first (i == s) (eq-eqb i s (same_Some i s e))
       where
         at_first : (b : Bool) → b ≡ true
             → length (cond (not b) (i ∷ filter (λ j. not (j == s)) is) (filter (λ j. not (j == s)) is)) < length

@@ -16,7 +16,7 @@ use Rattle.djq_machine.specs.LineStep.{LineOutcome, long, blank, slow, no_room, 
 use Rattle.djq_machine.specs.Step.{Event, stepped, took, closed}
 use Rattle.djq_machine.specs.Run.{Did, Group, Walk, pending_of}
 use Rattle.djq_machine.specs.Call.{first_due}
-use Rattle.djq_laws.proofs.Finding.{some_and}
+use Rattle.djq_laws.proofs.Finding.{some_there}
 use Rattle.djq_laws.proofs.Stopping.{IsNoLine, step_stopped, kept_says_no_stop}
 use Rattle.djq_serve.specs.declared.served.Served.{Served}
 use Rattle.djq_serve.specs.declared.served.Served.TheVariants.{Stopped, TurnsUsed, HubFault, DiskFault, LogFull}
@@ -259,7 +259,7 @@ move_stands (lines s) st m new told g f = lines_stand s st m new (may_run st s) 
 move_stands (keeping s groups) st m new told g f = keeps_stand s groups st m new told g f
 move_stands (flushing from next) st m new told g f = flush_stands next st m new (first_due st from) told g f
 move_stands (closing answer) st m new told g f =
-    let k = some_and (first_open st)
+    let k = some_there (first_open st)
     (λ s. (m.told ≡ Closing s ∷ []) × Happens (closed s (pending_of st s)) st m.done new.state
     × (new.phase ≡ closing answer)) g in
     phase_as (closing answer) new.phase new.state _ k.2.2

@@ -9,7 +9,7 @@ use Rattle.djq_machine.specs.Effect.{Effect}
 use Rattle.djq_machine.specs.LineStep.{LineOutcome, long, blank, slow, no_room, run, FrontStep}
 use Rattle.djq_machine.specs.Step.{stepped, Step, is_dry}
 use Rattle.djq_machine.specs.Call.{IsOpen, cause_of, held_of, cause_in, held_in}
-use Rattle.djq_laws.proofs.Finding.{some_and}
+use Rattle.djq_laws.proofs.Finding.{some_there}
 use Rattle.djq_laws.proofs.Cutting.{front_fewer}
 use Rattle.djq_laws.proofs.Moving.{stepped_facts}
 use Rattle.djq_serve.specs.Server.{may_run}
@@ -34,7 +34,7 @@ front_wet old s x (run l) e mid h = wet_line x.held l h.2.rest h.2.front
 pub may_run_by : (old : State) (s : ℕ) (outcome : LineOutcome) (e : Effect) (new : State)
     → Step old (stepped s outcome) e new → old.stopped ≡ false → may_run old s ≡ true
 may_run_by old s outcome e new h going =
-    let f = some_and (session_of old s) (λ x. (x.cause ≡ None) × FrontStep old s x outcome e h.mid) h.acts in
+    let f = some_there (session_of old s) (λ x. (x.cause ≡ None) × FrontStep old s x outcome e h.mid) h.acts in
     let running : cause_of old s ≡ None = ap cause_in f.1 ∙ f.2.0 in
     let wet : is_dry (held_of old s) ≡ false = ap (λ (o : Option Session). is_dry (held_in o)) f.1
     ∙ front_wet old s f.0 outcome e h.mid f.2.1 in

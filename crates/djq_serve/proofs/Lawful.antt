@@ -20,14 +20,13 @@ use Rattle.djq_machine.specs.Run.{Did, Run, Walk, taken_by, all_taken, pending_o
 use Rattle.djq_machine.specs.Call.{first_due}
 use Rattle.djq_laws.specs.Sent.{opened_by, all_opened}
 use Rattle.djq_laws.proofs.Courses.{walk_then}
-use Rattle.djq_laws.proofs.Finding.{some_and}
+use Rattle.djq_laws.proofs.Finding.{some_there}
 use Rattle.djq_serve.specs.declared.served.Served.TheVariants.{TurnsUsed, DiskFault, LogFull}
 use Rattle.djq_serve.specs.Told.{sent_by, sent_to}
 use Rattle.djq_serve.specs.Server.{Next, more_lines, next_turn, Phase, waiting, lines, keeping}
 use Rattle.djq_serve.specs.Server.{flushing, closing, Server, Move, all_told, all_done, Happens}
 use Rattle.djq_serve.specs.Server.{Stays, LetsIn, Brings, may_run, SendsSome, Visits, after}
-use Rattle.djq_serve.specs.Server.{first_open, refusal_for, Passes, LinesAt, FlushesAt, ServesAt}
-use Rattle.djq_serve.specs.Server.{Serves}
+use Rattle.djq_serve.specs.Server.{first_open, refusal_for, Passes, LinesAt, FlushesAt, ServesAt, Serves}
 use Rattle.djq_serve.specs.Ends.{refuses, NeverRefused}
 use Rattle.djq_serve.proofs.Opening.{opens_at, opened_in}
 
@@ -155,7 +154,7 @@ module _ (P : State → List Told → List Did → State → Type 0) (h : OfMove
   by_phase (keeping s groups) st m new (inr (some, inr passes)) = by_passing st (closing LogFull) m new passes
   by_phase (flushing from next) st m new g = by_flush next st m new (first_due st from) g
   by_phase (closing answer) st m new g =
-      let f = some_and (first_open st)
+      let f = some_there (first_open st)
       (λ s. (m.told ≡ Closing s ∷ []) × Happens (closed s (pending_of st s)) st m.done new.state
       × (new.phase ≡ closing answer)) g in
       told_as st new.state m.told (Closing f.0 ∷ []) m.done f.2.0

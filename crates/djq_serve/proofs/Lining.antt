@@ -26,6 +26,7 @@ use Rattle.djq_serve.proofs.Settling.{ran_settled, closed_settled, one_and_other
 use Rattle.djq_serve.proofs.Moving.{line_runs, line_kept, line_lost, line_left, lines_over}
 use Rattle.djq_serve.proofs.Fronting.{may_run_by, may_not_dry, may_not_ended, may_not_stopped}
 use Rattle.djq_serve.proofs.Fronting.{may_not_closed, line_fewer}
+use Rattle.djq_laws.proofs.Cutting.{some_of}
 
 -- What the lines of a session keep from the first on.
 pub record Lining (x y : Shown) (before now : Counts) (old st : State) (s : ℕ) (groups : List Group) : Type 0 where
@@ -215,9 +216,6 @@ cut_lined x y before mid now old st new s groups outcome so_far going makes behi
       (line_runs y mid now between st new s outcome (may_run_by st s outcome makes.effect new makes.step going)
       makes)));
 }
-
-some_of : (o : Option EndCause) (c : EndCause) → o ≡ Some c → IsSome o
-some_of o c e = rw e refl
 
 cut_as : (x y : Shown) (before mid now : Counts) (old st new : State) (s : ℕ) (groups : List Group) (c : EndCause)
     → Lining x y before mid old st s groups → st.stopped ≡ false → EndedStepAs c st s new mid now

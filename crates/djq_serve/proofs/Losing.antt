@@ -14,7 +14,7 @@ use Rattle.djq_machine.specs.LineStep.{LineOutcome, long, blank, slow, no_room, 
 use Rattle.djq_machine.specs.Step.{Event, opened, fed, stepped, took, ended, closed}
 use Rattle.djq_machine.specs.Run.{Did, Group, Walk, group_of, groups_of, pending_of}
 use Rattle.djq_machine.specs.Call.{first_due}
-use Rattle.djq_laws.proofs.Finding.{some_and}
+use Rattle.djq_laws.proofs.Finding.{some_there}
 use Rattle.djq_serve.specs.declared.served.Served.{Served}
 use Rattle.djq_serve.specs.declared.served.Served.TheVariants.{Stopped, Over, TurnsUsed, HubFault, DiskFault, LogFull}
 use Rattle.djq_serve.specs.Server.{Next, more_lines, next_turn, no_turn, Phase, waiting, lines, keeping, flushing}
@@ -202,7 +202,7 @@ move_follows (lines s) st m new moves g f = lines_lose s st m new moves (may_run
 move_follows (keeping s groups) st m new moves g f = keeps_follow s groups st m new moves g f
 move_follows (flushing from next) st m new moves g f = flush_loses next st m new moves (first_due st from) g f
 move_follows (closing answer) st m new moves g f =
-    let k = some_and (first_open st) (λ s. (m.told ≡ Closing s ∷ [])
+    let k = some_there (first_open st) (λ s. (m.told ≡ Closing s ∷ [])
     × Happens (closed s (pending_of st s)) st m.done new.state × (new.phase ≡ closing answer)) g in
     let closes = phase_follows new.phase (closing answer) moves k.2.2 f in
     (closes.0, closes_one k.0 st new.state m moves k.2.0 k.2.1 closes.1)

@@ -10,7 +10,7 @@ use Rattle.djq_machine.specs.Effect.{Effect, nothing, queue_all}
 use Rattle.djq_machine.specs.Step.{Event, took, closed, TookStep, Step, with_relations}
 use Rattle.djq_machine.specs.Run.{pending_of}
 use Rattle.djq_machine.specs.Call.{Makes}
-use Rattle.djq_laws.proofs.Finding.{some_and}
+use Rattle.djq_laws.proofs.Finding.{some_there}
 use Rattle.djq_serve.specs.Kept.{ahead}
 
 -- how many bytes are pending for sessions
@@ -63,7 +63,7 @@ took_total : (old : State) (s : ℕ) (bytes : Bytes) (new : State) → Makes old
     → total new.sessions + length bytes ≡ total old.sessions
 took_total old s bytes new m =
     let h = m.step in
-    let f = some_and (session_of old s) (λ (x : Session). TookStep old s bytes x m.effect h.mid) h.acts in
+    let f = some_there (session_of old s) (λ (x : Session). TookStep old s bytes x m.effect h.mid) h.acts in
     let rest = f.2.1.0 in
     let left : total new.sessions
     ≡ total (change_first (λ (x : Session). x.id == s) (λ (x : Session). record x { pending = rest }) old.sessions)

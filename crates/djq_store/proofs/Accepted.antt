@@ -1,7 +1,7 @@
 -- What unions tell of a change that was made, and what that counts.
 use Rattle.std.specs.Prelude.{ℕ, zero, suc, List, [], ◌∷◌, ◌≡◌, ◌↔◌, ◌+◌, ◌*◌, ◌<◌, ◌≤◌, ◌&&◌, ◌⊎◌}
 use Rattle.std.specs.Prelude.{nat_lt, Bool, true, false, cond, Option, None, Some, is_some}
-use Rattle.std.specs.Prelude.{IsSomeAnd, filter, find, map, length, sum_by, slice_get, unwrap_or}
+use Rattle.std.specs.Prelude.{filter, find, map, length, sum_by, slice_get, unwrap_or}
 use Rattle.std.specs.Prelude.{option_to_list, ◌++◌, All, Contains}
 use Rattle.std.specs.List.{list_any}
 use Rattle.std.proofs.Common.{refl, sym, ap, ap₂, ◌∙◌, subst, inl, inr, arith}
@@ -45,6 +45,7 @@ use Rattle.djq_store.proofs.Deltas.{changes_in, ByPlace}
 use Rattle.djq_store.proofs.ReadBy.{the_query, all_queries, touched_are, filter_same}
 use Rattle.djq_store.proofs.Summing.{sum_times, sum_fewer, sum_same, kept_was}
 use Rattle.djq_store.proofs.Wanted.{ers, places, q_at, f, by_places, deltas, member_listed}
+use Rattle.djq_deltas.proofs.Cases.{some_there}
 
 -- rows came, or they went
 abbrev pub GoRows : Bool → List Relation → List Relation → Type 0
@@ -55,10 +56,6 @@ map_same : {A B : Type 0} (g h : A → B) (xs : List A) → ((x : A) → Contain
 map_same g h [] same = refl
 map_same g h (x ∷ xs) same =
     ap₂ (λ y ys. y ∷ ys) (same x (first_there x xs x refl)) (map_same g h xs (λ y c. same y (later_there x xs y c)))
-
-some_there : {A : Type 0} (o : Option A) (P : A → Type 0) → IsSomeAnd o P → (x : A) × (o ≡ Some x) × P x
-some_there None P k = absurd k
-some_there (Some x) P k = (x, refl, k)
 
 module _ (change : RowsChange) (relations : List Bytes) (turn : Turn) (e e' : Kept) (us us' : List (Option Joined))
     (b : Behind (Some change) relations turn e e' us us') (order : List ℕ) (w : IsListed e us order)

@@ -5,7 +5,7 @@ use Rattle.std.specs.Prelude.{◌⊎◌, nat_lt, Bool, true, false, cond, Option
 use Rattle.std.specs.Prelude.{filter, find, map, AllPairs, Contains}
 use Rattle.std.specs.List.{list_any}
 use Rattle.std.proofs.Common.{refl, sym, ap, ap₂, ◌∙◌, subst, inl, inr}
-use Rattle.std.proofs.lemmas.Bool.{eqb-true, eq-eqb, false≢true, lt-ltb}
+use Rattle.std.proofs.lemmas.Bool.{eqb-true, eq-eqb, false≢true, lt-ltb, or_parts}
 use Rattle.djq_model.specs.declared.query.Query.{Query}
 use Rattle.djq_model.specs.Data.{Bytes}
 use Rattle.djq_model.specs.Listed.{Listed, a_query}
@@ -29,7 +29,7 @@ use Rattle.djq_store.specs.Whole.{IsListed, query_places}
 use Rattle.djq_store.proofs.Alike.{SameUnions}
 use Rattle.djq_store.proofs.Behind.{Behind, h, member_there, outdated_member, first_outdates}
 use Rattle.djq_store.proofs.Counting.{mapped_was, in_order, order_has, engine_listed}
-use Rattle.djq_store.proofs.Found.{map_mapped}
+use Rattle.djq_gains.proofs.Delta.{twice_mapped}
 use Rattle.djq_store.proofs.Ordered.{Seat, seat_here, order_seat, order_joint, listed_seat, listed_joint}
 use Rattle.djq_store.proofs.ReadBy.{the_query, any_same, filter_same, any_there, passing}
 use Rattle.djq_store.proofs.Seats.{Slot, cases_place, low_place, high_place}
@@ -65,10 +65,6 @@ filter_twice p q (x ∷ xs) out =
     by false e more =
         more ∙ sym (ap (λ b. cond b (x ∷ filter p xs) (filter p xs))
         (out x (ap (λ b. b || is_reader xs x) (eq-eqb x x refl)) e))
-
-or_none : (b c : Bool) → (b || c) ≡ false → (b ≡ false) × (c ≡ false)
-or_none true c e = absurd cc
-or_none false c e = (refl, e)
 
 -- an id among those of registered queries that pass
 pub reached_is : (p : Registered → Bool) (rs : List Registered) (r : Registered)
@@ -161,7 +157,7 @@ module _ (change : RowsChange) (relations : List Bytes) (turn : Turn) (e e' : Ke
       → map (λ (id : QueryId). id.at) e'.affected ≡ filter out_at order
   affected_queries none =
       ap (map (λ (id : QueryId). id.at)) affects
-      ∙ map_mapped (λ (id : QueryId). id.at) (λ (r : Registered). r.id) (readers_of e.registered change)
+      ∙ twice_mapped (λ (id : QueryId). id.at) (λ (r : Registered). r.id) (readers_of e.registered change)
       ∙ sym (filter_mapped_at)
       ∙ ap (filter out_at) (sym w.queries)
       ∙ filter_twice out_at (λ at. nat_lt at QUERIES) order (λ at there high. union_out at there high)
@@ -180,9 +176,9 @@ module _ (change : RowsChange) (relations : List Bytes) (turn : Turn) (e e' : Ke
       unsettled [] miss k j there = absurd cc
       unsettled (o ∷ us) miss zero j there =
           ap (is_settled e' relations) (sym there)
-          ∙ (or_none (is_settled e' relations o) (list_any (is_settled e' relations) us) miss).0
+          ∙ (or_parts (is_settled e' relations o) (list_any (is_settled e' relations) us) miss).0
       unsettled (o ∷ us) miss (suc k) j there =
-          unsettled us (or_none (is_settled e' relations o) (list_any (is_settled e' relations) us) miss).1 k j there
+          unsettled us (or_parts (is_settled e' relations o) (list_any (is_settled e' relations) us) miss).1 k j there
 
       union_out : (at : ℕ) → is_reader order at ≡ true → nat_lt at QUERIES ≡ false → out_at at ≡ false
       union_out at there high = by (cases_place at)

@@ -1,7 +1,6 @@
 -- What is asked of a store, by name and by id.
 use Rattle.std.proofs.Common.{ℕ, zero, suc, List, [], ◌∷◌, ◌++◌, ◌+◌, ◌-◌, ◌≡◌, ◌<◌, ◌≤◌, ◌⊎◌, inl}
-use Rattle.std.proofs.Common.{inr, Bool, true, false, refl, sym, ap, ap₂, ◌∙◌, subst, length}
-use Rattle.std.proofs.Common.{get_or, arith}
+use Rattle.std.proofs.Common.{inr, Bool, true, false, refl, sym, ap, ap₂, ◌∙◌, subst, length, get_or, arith}
 use Rattle.std.specs.Prelude.{◌==◌, ◌&&◌, Option, None, Some, IsSome, IsSomeAnd, is_some, is_none}
 use Rattle.std.specs.Prelude.{nat_lt, option_map, cond, map, All, AllPairs, Result, Ok, Err}
 use Rattle.std.specs.Prelude.{option_to_list, slice_get, ⊤}
@@ -42,15 +41,16 @@ use Rattle.djq_store.specs.Explaining.{ExplainGives, Explains, TakesMemory, HasM
 use Rattle.djq_store.specs.Lending.{LendsEngine}
 use Rattle.djq_store.specs.Places.{joined_at, listed_at, union_watchers, sessions_at, registered_as, lender_in, seen}
 use Rattle.djq_store.specs.Whole.{IsListed}
-use Rattle.djq_store.proofs.Found.{map_mapped, found_passes, found_all, find_mapped}
+use Rattle.djq_store.proofs.Found.{found_passes, found_all}
+use Rattle.djq_engine.proofs.Firsts.{find_mapped}
+use Rattle.djq_gains.proofs.Delta.{twice_mapped}
 use Rattle.djq_store.proofs.Held.{held_low}
 use Rattle.djq_store.proofs.Members.{first_there}
 use Rattle.djq_store.proofs.Named.{Called}
 use Rattle.djq_store.proofs.Ordered.{Seat, Joint, NoUnion, place_named, listed_low, listed_joint}
 use Rattle.djq_store.proofs.Ordered.{listed_seat, order_seat, seat_order, seat_of, seat_here}
 use Rattle.djq_store.proofs.Ordered.{order_joint, registered_is, registered_has, registered_gives}
-use Rattle.djq_store.proofs.Ordered.{registered_there, registered_by_name, named_joint}
-use Rattle.djq_store.proofs.Ordered.{engine_named, engine_listed}
+use Rattle.djq_store.proofs.Ordered.{registered_there, registered_by_name, named_joint, engine_named, engine_listed}
 use Rattle.djq_store.proofs.Seats.{low_place, high_place, places_low, places_high}
 use Rattle.djq_store.proofs.Slots.{slot_below}
 use Rattle.djq_store.proofs.Unions.{union_listed}
@@ -176,7 +176,7 @@ module _ (e : Kept) (b : IsEngine e) (us : List (Option Joined)) (order sessions
   -- ---- laws
 
   pub queries_are : map (λ r. r.query) old.registered ≡ old.store.queries
-  queries_are = map_mapped (λ (r : Registered). r.query) (registered_as e.places us sessions) order
+  queries_are = twice_mapped (λ (r : Registered). r.query) (registered_as e.places us sessions) order
 
   pub ids_apart : AllPairs (λ r s. same_query r.id s.id ≡ false) old.registered
   ids_apart = pairs_of (λ r s. same_query r.id s.id ≡ false) (registered_as e.places us sessions) order w.once

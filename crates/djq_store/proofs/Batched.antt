@@ -4,12 +4,12 @@ use Rattle.std.specs.Prelude.{◌⊎◌, Bool, true, false, not, cond, Option, N
 use Rattle.std.specs.Prelude.{is_none, find, filter, map, length, Result, Ok, Err, All, Contains, ⊤}
 use Rattle.std.specs.List.{list_any}
 use Rattle.std.proofs.Common.{refl, sym, ap, ◌∙◌, subst, inl, inr, append-nil, append_assoc}
-use Rattle.std.proofs.lemmas.Bool.{false≢true}
+use Rattle.std.proofs.lemmas.Bool.{false≢true, and_parts, and_from}
 use Rattle.std.proofs.lemmas.List.Elements.{All-weaker, All-contains}
 use Rattle.djq_model.specs.declared.relation.Relation.{Relation}
 use Rattle.djq_model.specs.declared.query.Query.{Query}
 use Rattle.djq_model.specs.declared.query.Atom.{Atom}
-use Rattle.djq_model.specs.Data.{Bytes, bytes_eq, relation_of}
+use Rattle.djq_model.specs.Data.{Bytes, bytes_eq, relation_of, counted_of, with_row}
 use Rattle.djq_model.specs.Equality.{bytes_eq-decides}
 use Rattle.djq_model.specs.Known.{texts_in, all_learned}
 use Rattle.djq_model.specs.Listed.{Listed, a_query}
@@ -20,7 +20,6 @@ use Rattle.djq_lines.specs.Conditions.{first_of}
 use Rattle.djq_model.specs.Typed.{fits}
 use Rattle.djq_lines.specs.declared.answer.Refusal.TheVariants.{Limit, NoMemory, NoRelation, Arity, WrongType}
 use Rattle.djq_machine.specs.Store.{with_rows, copies_of, with_copies_of}
-use Rattle.djq_model.specs.Data.{counted_of, with_row}
 use Rattle.djq_machine.specs.State.{Store}
 use Rattle.djq_machine.specs.Stale.{reads, listed_reads}
 use Rattle.djq_machine.specs.Changes.{RowsChange, is_outdated}
@@ -43,6 +42,7 @@ use Rattle.djq_store.proofs.Lifting.{with_queries, batch_lifted}
 use Rattle.djq_store.proofs.ReadBy.{any_there, Passing, passing, found_any, filter_same}
 use Rattle.djq_store.proofs.Rowing.{Grown}
 use Rattle.djq_store.proofs.Summing.{kept_was}
+use Rattle.djq_deltas.proofs.Cases.{same_tests}
 
 -- ---- lists
 
@@ -74,20 +74,6 @@ come_among st (h ∷ hs) n e =
     by true f b k more = first_there h.relation (names_of hs) n ((bytes_eq-decides h.relation n).0 f)
     by false f b k more = later_there h.relation (names_of hs) n (more k)
 
-and_true : (b c : Bool) → b ≡ true → c ≡ true → (b && c) ≡ true
-and_true true c e f = f
-and_true false c e f = absurd (false≢true e)
-
-both_true : (b c : Bool) → (b && c) ≡ true → (b ≡ true) × (c ≡ true)
-both_true true c e = (refl, e)
-both_true false c e = absurd (false≢true e)
-
-same_bools : (a b : Bool) → (a ≡ true → b ≡ true) → (b ≡ true → a ≡ true) → a ≡ b
-same_bools true true f g = refl
-same_bools true false f g = sym (f refl)
-same_bools false true f g = g refl
-same_bools false false f g = refl
-
 -- a query that a batch touches reads one of its relations of which a row comes
 touched_reads : (st : Store) (held : List HeldRow) (q : Query)
     → list_any (λ (a : Atom). has_come st held a.relation) q.atoms ≡ true
@@ -96,7 +82,7 @@ touched_reads st held q hit =
     let a = passing (λ (a : Atom). has_come st held a.relation) q.atoms hit in
     any_there (λ n. has_come st held n && reads q n) (names_of held) (a.one).relation
     (come_among st held (a.one).relation a.passes)
-    (and_true (has_come st held (a.one).relation) (reads q (a.one).relation) a.passes (reads_atom q a.one a.there))
+    (and_from (has_come st held (a.one).relation) (reads q (a.one).relation) a.passes (reads_atom q a.one a.there))
 
 reads_touched : (st : Store) (held : List HeldRow) (q : Query) (n : Bytes) → has_come st held n ≡ true → reads q n
     ≡ true
@@ -161,10 +147,10 @@ batch_known e e' held (Ok (suc n)) names suit h is =
           ∙ find_kept (has_come st held) (listed_reads q) (names_of held));
       spares = batch_spares st held;
       out = λ q hit. found_any (λ n. has_come st held n && reads q n) (names_of held) ∙ touched_reads st held q hit;
-      hits = λ q. same_bools (is_touched (rows_in st held) q) (list_any (reads q) names)
+      hits = λ q. same_tests (is_touched (rows_in st held) q) (list_any (reads q) names)
           (λ hit.
           let one = passing (λ n. has_come st held n && reads q n) (names_of held) (touched_reads st held q hit) in
-          let both = both_true (has_come st held one.one) (reads q one.one) one.passes in
+          let both = and_parts (has_come st held one.one) (reads q one.one) one.passes in
           any_there (reads q) names one.one
           (subst (λ (xs : List Bytes). Contains xs one.one) (sym come)
           (kept_there (has_come st held) (names_of held) one.one both.0 one.there)) both.1)
@@ -186,7 +172,7 @@ batch_known e e' held (Err NoMemory) names suit h is =
           let one = passing (λ n. has_come st held n && reads q n) (names_of held) (touched_reads st held q hit) in
           found_any (λ n. true && reads q n) (names_of held)
           ∙ any_there (λ n. true && reads q n) (names_of held) one.one one.there
-          (both_true (has_come st held one.one) (reads q one.one) one.passes).1;
+          (and_parts (has_come st held one.one) (reads q one.one) one.passes).1;
     }
 batch_known e e' held (Err r) names suit h is = tt
 

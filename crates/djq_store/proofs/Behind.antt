@@ -1,8 +1,7 @@
 -- A store behind a command of rows: what its engine did, and how its unions were settled.
 use Rattle.std.specs.Prelude.{ℕ, List, [], ◌∷◌, ◌++◌, ◌≡◌, ◌+◌, ◌<◌, ◌≤◌, ◌⊎◌, ◌&&◌, ◌||◌, nat_lt}
 use Rattle.std.specs.Prelude.{Bool, true, false, Option, None, Some, is_some, IsSomeAnd, option_map}
-use Rattle.std.specs.Prelude.{find, filter, map, length, count_by, slice_get, vec_capacity, All}
-use Rattle.std.specs.Prelude.{Contains, ⊤}
+use Rattle.std.specs.Prelude.{find, filter, map, length, count_by, slice_get, vec_capacity, All, Contains, ⊤}
 use Rattle.std.specs.List.{list_any, AllByRecursion}
 use Rattle.std.proofs.Common.{refl, sym, ap, ap₂, ◌∙◌, subst, inl, inr, arith}
 use Rattle.std.proofs.lemmas.Bool.{false≢true}
@@ -41,6 +40,7 @@ use Rattle.djq_store.proofs.ReadBy.{the_query, all_queries, first_is, union_read
 use Rattle.djq_store.proofs.Settled.{settled_same, all_same, Turned, turned, Before, turned_back}
 use Rattle.djq_store.proofs.Slots.{count_each}
 use Rattle.djq_store.proofs.Staying.{listed_stays, registered_stay, counts_stay, kept_over}
+use Rattle.djq_deltas.proofs.Cases.{some_there, some_as}
 
 -- the relation by which a change that was made or tried outdates what is registered
 abbrev pub outdater_by : Option RowsChange → Listed → Option Bytes
@@ -70,14 +70,6 @@ pub record Behind (o : Option RowsChange) (relations : List Bytes) (turn : Turn)
   pub long : length us' ≡ length us
   pub unions : (k : ℕ) → SettlesAt e' relations (e'.store).seq turn (joined_at us k) (joined_at us' k)
 
-some_as : {A : Type 0} (o : Option A) (P Q : A → Type 0) → ((x : A) → P x → Q x) → IsSomeAnd o P → IsSomeAnd o Q
-some_as None P Q f h = h
-some_as (Some x) P Q f h = f x h
-
-some_there : {A : Type 0} (o : Option A) (P : A → Type 0) → IsSomeAnd o P → (x : A) × (o ≡ Some x) × P x
-some_there None P h = absurd h
-some_there (Some x) P h = (x, refl, h)
-
 each_there : (gs : List (Option Live)) (ms : List ℕ) → AllByRecursion (λ k. IsSomeAnd (query_at gs k) (λ l. ⊤)) ms
     → (m : ℕ) → Contains ms m → (l : Live) × (query_at gs m ≡ Some l)
 each_there gs [] h m c = absurd (omega (arith, c.1))
@@ -91,7 +83,7 @@ each_there gs (k ∷ ms) h m c = by (first_or_later k ms m c) (λ d. each_there 
     by (inl e) more = subst (λ (i : ℕ). (l : Live) × (query_at gs i ≡ Some l)) e here
     by (inr d) more = more d
 
-first_get : (ls : List Live) → slice_get ls 0 ≡ first_of ls
+pub first_get : (ls : List Live) → slice_get ls 0 ≡ first_of ls
 first_get [] = refl
 first_get (l ∷ ls) = refl
 

@@ -2,14 +2,12 @@
 use Rattle.std.proofs.Common.{ℕ, suc, List, [], ◌∷◌, ◌++◌, ◌≡◌, ◌<◌, ◌≤◌, ◌⊎◌, inl, inr, Bool, true}
 use Rattle.std.proofs.Common.{false, refl, sym, ap, ap₂, subst, ◌∙◌, length, arith}
 use Rattle.std.specs.Prelude.{◌&&◌, ◌||◌, not, nat_le, nat_lt, Option, None, Some, is_some, is_none}
-use Rattle.std.specs.Prelude.{IsSome, IsSomeAnd, option_map, option_to_list, All, AllPairs}
-use Rattle.std.specs.Prelude.{Contains, map, ⊤}
+use Rattle.std.specs.Prelude.{IsSome, IsSomeAnd, option_map, option_to_list, All, AllPairs, Contains, map, ⊤}
 use Rattle.std.specs.List.{list_any, AllByRecursion}
-use Rattle.std.proofs.lemmas.Bool.{ltb-false, leb-false, false≢true}
+use Rattle.std.proofs.lemmas.Bool.{ltb-false, leb-false, false≢true, or_parts}
 use Rattle.std.proofs.lemmas.List.Elements.{All-cons}
 use Rattle.std.proofs.lemmas.List.Kept.{AllPairs-cons}
 use Rattle.djq_model.specs.declared.relation.ColumnType.{ColumnType}
-use Rattle.djq_model.specs.declared.relation.ColumnType.TheVariants.{Int, Text}
 use Rattle.djq_model.specs.Data.{Bytes, bytes_eq}
 use Rattle.djq_model.specs.Equality.{bytes_eq-decides}
 use Rattle.djq_model.specs.Listed.{Listed, a_query, listed_name, listed_of}
@@ -17,7 +15,7 @@ use Rattle.djq_lines.specs.declared.answer.Refusal.TheVariants.{Taken, NoQuery, 
 use Rattle.djq_lines.specs.declared.limits.TheConstants.{MEMBERS, QUERIES}
 use Rattle.djq_machine.specs.Conditions.{first_of}
 use Rattle.djq_machine.specs.State.{Store}
-use Rattle.djq_machine.specs.Union.{AreUnder, is_union, same_type, same_types, stands_twice}
+use Rattle.djq_machine.specs.Union.{AreUnder, is_union, same_types, stands_twice}
 use Rattle.djq_machine.specs.Union.{types_differ, types_under, union_refusal}
 use Rattle.djq_live.specs.Live.{Live}
 use Rattle.djq_live.specs.Member.{head_types, query_at, queries_at, HeadTypesAre, AreAlike}
@@ -31,30 +29,14 @@ use Rattle.djq_store.specs.Places.{seen}
 use Rattle.djq_store.specs.Whole.{IsListed}
 use Rattle.djq_store.proofs.Found.{found_passes}
 use Rattle.djq_store.proofs.Judged.{under, none_called, listed_below, types_are}
+use Rattle.djq_deltas.proofs.Cases.{nothing_of, not_false}
+use Rattle.djq_united.proofs.Heads.{all_types}
 
 -- ---- what is so where nothing is refused
-
-none_or : (a c : Bool) → (a || c) ≡ false → (a ≡ false) × (c ≡ false)
-none_or false false h = (refl, refl)
-none_or false true h = absurd cc
-none_or true c h = absurd cc
-
-both_true : (a c : Bool) → (a && c) ≡ true → (a ≡ true) × (c ≡ true)
-both_true true true h = (refl, refl)
-both_true true false h = absurd cc
-both_true false c h = absurd cc
-
-not_false : (c : Bool) → not c ≡ false → c ≡ true
-not_false true h = refl
-not_false false h = absurd cc
 
 known_of : {A : Type 0} (o : Option A) → is_none o ≡ false → is_some o ≡ true
 known_of None h = absurd cc
 known_of (Some x) h = refl
-
-nothing_of : {A : Type 0} (o : Option A) → is_some o ≡ false → o ≡ None
-nothing_of None h = refl
-nothing_of (Some x) h = absurd cc
 
 none_holds : (a c d f g : Bool) → first_of ((a, Taken) ∷ (c, NoQuery) ∷ (d, Member) ∷ (f, Limit) ∷ (g, Limit) ∷ [])
     ≡ None
@@ -81,9 +63,9 @@ are_fit st name names h =
     let all = none_holds (is_some (listed_of st.queries name)) (list_any (λ n. is_none (listed_of st.queries n)) names)
     (stands_twice names || list_any (λ n. is_union (listed_of st.queries n)) names || types_differ st names)
     (nat_lt MEMBERS (length names)) (nat_le QUERIES (length st.queries)) h in
-    let misfit = none_or (stands_twice names || list_any (λ n. is_union (listed_of st.queries n)) names)
+    let misfit = or_parts (stands_twice names || list_any (λ n. is_union (listed_of st.queries n)) names)
     (types_differ st names) all.2 in
-    let twice = none_or (stands_twice names) (list_any (λ n. is_union (listed_of st.queries n)) names) misfit.0 in
+    let twice = or_parts (stands_twice names) (list_any (λ n. is_union (listed_of st.queries n)) names) misfit.0 in
     record {
       unknown = nothing_of (listed_of st.queries name) all.0;
       known = all.1;
@@ -95,19 +77,6 @@ are_fit st name names h =
     }
 
 -- ---- types
-
-one_type : (c d : ColumnType) → same_type c d ≡ true → c ≡ d
-one_type Int Int e = refl
-one_type Text Text e = refl
-one_type Int Text e = absurd cc
-one_type Text Int e = absurd cc
-
-all_types : (cs ds : List ColumnType) → same_types cs ds ≡ true → cs ≡ ds
-all_types [] [] e = refl
-all_types [] (d ∷ ds) e = absurd cc
-all_types (c ∷ cs) [] e = absurd cc
-all_types (c ∷ cs) (d ∷ ds) e = let first = both_true (same_type c d) (same_types cs ds) e in
-    ap₂ (λ (x : ColumnType) (xs : List ColumnType). x ∷ xs) (one_type c d first.0) (all_types cs ds first.1)
 
 -- ---- the queries of names
 
@@ -156,8 +125,8 @@ module _ (e : Kept) (b : IsEngine e) (law : HeadTypesAre) (us : List (Option Joi
   are_chosen [] (p ∷ ps) known apart at = absurd cc
   are_chosen (n ∷ ns) [] known apart at = absurd cc
   are_chosen (n ∷ ns) (p ∷ ps) known apart at =
-      let k = none_or (is_none (listed_of st.queries n)) (list_any (λ n. is_none (listed_of st.queries n)) ns) known in
-      let a = none_or (is_union (listed_of st.queries n)) (list_any (λ n. is_union (listed_of st.queries n)) ns) apart
+      let k = or_parts (is_none (listed_of st.queries n)) (list_any (λ n. is_none (listed_of st.queries n)) ns) known in
+      let a = or_parts (is_union (listed_of st.queries n)) (list_any (λ n. is_union (listed_of st.queries n)) ns) apart
       in
       (chosen n p k.0 a.0 (heads at), are_chosen ns ps k.1 a.1 (tails at))
     where
@@ -173,8 +142,8 @@ module _ (e : Kept) (b : IsEngine e) (law : HeadTypesAre) (us : List (Option Joi
       → All (λ n. IsSome (registered_of e.registered n)) ns
   are_known [] known apart = λ k d low. absurd (omega (arith, low))
   are_known (n ∷ ns) known apart =
-      let k = none_or (is_none (listed_of st.queries n)) (list_any (λ n. is_none (listed_of st.queries n)) ns) known in
-      let a = none_or (is_union (listed_of st.queries n)) (list_any (λ n. is_union (listed_of st.queries n)) ns) apart
+      let k = or_parts (is_none (listed_of st.queries n)) (list_any (λ n. is_none (listed_of st.queries n)) ns) known in
+      let a = or_parts (is_union (listed_of st.queries n)) (list_any (λ n. is_union (listed_of st.queries n)) ns) apart
       in
       let u = under e b us order sessions affected w n (known_of (listed_of st.queries n) k.0) a.0 in
       All-cons (λ n. IsSome (registered_of e.registered n)) n ns (ap is_some u.found) (are_known ns k.1 a.1)
@@ -213,7 +182,7 @@ module _ (e : Kept) (b : IsEngine e) (law : HeadTypesAre) (us : List (Option Joi
   elsewhere n p here [] (q ∷ ps) h different = absurd h
   elsewhere n p here (m ∷ ns) [] h different = absurd h
   elsewhere n p here (m ∷ ns) (q ∷ ps) h different =
-      let both = none_or (bytes_eq m n) (list_any (λ m. bytes_eq m n) ns) different in
+      let both = or_parts (bytes_eq m n) (list_any (λ m. bytes_eq m n) ns) different in
       All-cons (λ k. p ≡ k → ⊥) q ps (differs both.0) (elsewhere n p here ns ps h.1 both.1)
     where
       same : {x y : Live} → Some x ≡ Some y → x ≡ y
@@ -230,7 +199,7 @@ module _ (e : Kept) (b : IsEngine e) (law : HeadTypesAre) (us : List (Option Joi
   differ [] (p ∷ ps) h different = absurd h
   differ (n ∷ ns) [] h different = absurd h
   differ (n ∷ ns) (p ∷ ps) h different =
-      let both = none_or (list_any (λ m. bytes_eq m n) ns) (stands_twice ns) different in
+      let both = or_parts (list_any (λ m. bytes_eq m n) ns) (stands_twice ns) different in
       AllPairs-cons (λ j k. j ≡ k → ⊥) p ps (elsewhere n p h.0 ns ps h.1 both.0) (differ ns ps h.1 both.1)
 
   -- all have these types
@@ -241,7 +210,7 @@ module _ (e : Kept) (b : IsEngine e) (law : HeadTypesAre) (us : List (Option Joi
   typed cs [] (p ∷ ps) h different l there = absurd h
   typed cs (n ∷ ns) [] h different l there = absurd h
   typed cs (n ∷ ns) (p ∷ ps) h different l there =
-      let both = none_or (not (same_types cs (types_under st n)))
+      let both = or_parts (not (same_types cs (types_under st n)))
       (list_any (λ m. not (same_types cs (types_under st m))) ns) different in
       by_place both.0 (typed cs ns ps h.1 both.1 l)
       (first_or_later h.0.query (queries_at e.places ps) l

@@ -1,7 +1,7 @@
 -- What a store tells behind a command of rows.
 use Rattle.std.specs.Prelude.{ℕ, zero, suc, List, [], ◌∷◌, ◌≡◌, ◌+◌, ◌<◌, ◌≤◌, ◌&&◌, ◌⊎◌, nat_lt}
 use Rattle.std.specs.Prelude.{Bool, true, false, cond, Option, None, Some, is_some, IsSomeAnd}
-use Rattle.std.specs.Prelude.{filter, map, length, sum_by, slice_get, All, Contains, ⊤}
+use Rattle.std.specs.Prelude.{filter, map, length, sum_by, All, Contains, ⊤}
 use Rattle.std.specs.List.{list_any}
 use Rattle.std.proofs.Common.{refl, sym, ap, ap₂, ◌∙◌, subst, inl, inr, arith, get_or}
 use Rattle.std.proofs.lemmas.Bool.{false≢true, lt-ltb, ltb-true}
@@ -39,8 +39,7 @@ use Rattle.djq_store.specs.declared.settling.Turn.TheVariants.{Came, Went, Lacke
 use Rattle.djq_store.specs.Below.{IsEngine}
 use Rattle.djq_store.specs.Places.{joined_at, first_member, told_in, listed_at, registered_as, union_watchers, seen}
 use Rattle.djq_store.specs.Settling.{first_read, touched_in, is_settled, outdated_union, TellsUnion}
-use Rattle.djq_store.specs.Settling.{SettlesLog, SettlesLogBy, Settles, settling_steps}
-use Rattle.djq_store.specs.Settling.{telling_steps}
+use Rattle.djq_store.specs.Settling.{SettlesLog, SettlesLogBy, Settles, settling_steps, telling_steps}
 use Rattle.djq_store.specs.Watching.{TellsChange, is_reached}
 use Rattle.djq_store.specs.Whole.{IsListed, IsCounted}
 use Rattle.djq_store.proofs.Accepted.{GoRows, told_place, union_delta, asked_few}
@@ -48,7 +47,7 @@ use Rattle.djq_store.proofs.Affected.{filter_mapped}
 use Rattle.djq_store.proofs.Asked.{slots_few}
 use Rattle.djq_store.proofs.Behind.{Behind, outdater_by, grows, member_there, union_is, first_outdates}
 use Rattle.djq_store.proofs.Deltas.{Lists, logs_tell, asking, steps_at}
-use Rattle.djq_store.proofs.Found.{map_mapped}
+use Rattle.djq_gains.proofs.Delta.{twice_mapped}
 use Rattle.djq_store.proofs.Members.{SameFirst, same_first, log_tells}
 use Rattle.djq_store.proofs.Ordered.{Seat, Joint, order_seat, order_joint, joint_order, listed_seat}
 use Rattle.djq_store.proofs.Ordered.{listed_joint, registered_has}
@@ -57,14 +56,6 @@ use Rattle.djq_store.proofs.Seats.{Slot, cases_place, places_low, places_high}
 use Rattle.djq_store.proofs.Settled.{settled_same, Turned, turned}
 use Rattle.djq_store.proofs.Summing.{sum_mapped}
 use Rattle.djq_store.proofs.Wanted.{rs, ers, places, f, members_at, by_places, deltas, all_lists}
-
-first_get : (ls : List Live) → slice_get ls 0 ≡ first_of ls
-first_get [] = refl
-first_get (l ∷ ls) = refl
-
-some_there : {A : Type 0} (o : Option A) (P : A → Type 0) → IsSomeAnd o P → (x : A) × (o ≡ Some x) × P x
-some_there None P k = absurd k
-some_there (Some x) P k = (x, refl, k)
 
 -- ---- what is told, by place
 

@@ -22,7 +22,7 @@ use Rattle.djq_store.specs.Places.{joined_at, listed_at, held_as, held_of, curso
 use Rattle.djq_store.specs.Settling.{first_read, outdated_union}
 use Rattle.djq_store.specs.Whole.{IsListed}
 use Rattle.djq_store.proofs.Behind.{Behind, outdater_by, first_outdates, untouched, queries_behind}
-use Rattle.djq_store.proofs.Found.{find_mapped}
+use Rattle.djq_engine.proofs.Firsts.{find_mapped}
 use Rattle.djq_store.proofs.Held.{held_low, held_high}
 use Rattle.djq_store.proofs.Ordered.{Seat, seat_of, seat_no_union, engine_listed, listed_is}
 use Rattle.djq_store.proofs.Ordered.{named_joint, listed_joint, Joint}

@@ -1,8 +1,7 @@
 -- A command of rows, as a store's engine did it and its unions followed: what it is to the store.
 use Rattle.std.specs.Prelude.{ℕ, zero, suc, List, [], ◌∷◌, ◌≡◌, ◌+◌, ◌-◌, ◌<◌, ◌≤◌, ◌&&◌, ◌⊎◌}
 use Rattle.std.specs.Prelude.{nat_lt, Bool, true, false, cond, Option, None, Some, is_some, find}
-use Rattle.std.specs.Prelude.{filter, map, length, count_by, slice_index_or, IsSomeAnd}
-use Rattle.std.specs.Prelude.{vec_capacity, All, Contains, ⊤}
+use Rattle.std.specs.Prelude.{filter, map, length, count_by, slice_index_or, vec_capacity, All, Contains, ⊤}
 use Rattle.std.specs.List.{list_any}
 use Rattle.std.proofs.Common.{refl, sym, ap, ap₂, ◌∙◌, subst, inl, inr, arith}
 use Rattle.std.proofs.lemmas.Bool.{false≢true, lt-ltb, le-ltb}
@@ -54,6 +53,7 @@ use Rattle.djq_store.proofs.Seats.{high_place, low_place}
 use Rattle.djq_store.proofs.Slots.{count_none}
 use Rattle.djq_store.proofs.Told.{turn_for, tells_accepted, tells_refused, tells_none}
 use Rattle.djq_store.proofs.Wanted.{found_itself}
+use Rattle.djq_deltas.proofs.Cases.{some_there}
 
 -- ---- what is known of the change
 
@@ -236,10 +236,6 @@ comes_to unchanged p p' e' came relations before mid last w laws did tells known
     p.affected.items p.affected.items before mid last tells (omega (arith, counted)) refl))
 
 -- ---- what nobody watches
-
-some_there : {A : Type 0} (o : Option A) (P : A → Type 0) → IsSomeAnd o P → (x : A) × (o ≡ Some x) × P x
-some_there None P k = absurd k
-some_there (Some x) P k = (x, refl, k)
 
 module _ (p : Parts) (b : IsEngine p.engine) (w : IsWhole p) (none : IsUnwatched (kept_in p)) where
   zero_of : (n : ℕ) → nat_lt 0 n ≡ false → n ≡ 0

@@ -15,7 +15,8 @@ use Rattle.djq_store.specs.Finding.{has_member}
 use Rattle.djq_store.specs.Places.{joined_at}
 use Rattle.djq_store.specs.Whole.{IsListed}
 use Rattle.djq_store.proofs.Departed.{passing, none_passing}
-use Rattle.djq_store.proofs.Found.{find_mapped, found_passes}
+use Rattle.djq_store.proofs.Found.{found_passes}
+use Rattle.djq_engine.proofs.Firsts.{find_mapped}
 use Rattle.djq_store.proofs.Ordered.{NoUnion, Seat, seat_of}
 use Rattle.djq_store.proofs.Used.{found_by_id}
 

@@ -1,12 +1,11 @@
 -- A query that the engine registered is registered in the store, behind all else.
 use Rattle.std.proofs.Common.{ℕ, List, [], ◌∷◌, ◌++◌, ◌+◌, ◌-◌, ◌≡◌, ◌<◌, ◌≤◌, ◌⊎◌, inl, inr, Bool}
-use Rattle.std.proofs.Common.{true, false, refl, sym, ap, ap₂, ◌∙◌, subst, length, get_or, set}
-use Rattle.std.proofs.Common.{arith, length-set}
+use Rattle.std.proofs.Common.{true, false, refl, sym, ap, ap₂, ◌∙◌, subst, length, get_or, set, arith, length-set}
 use Rattle.std.specs.Prelude.{◌==◌, ◌&&◌, ◌||◌, Option, None, Some, is_some, IsSomeAnd, option_map}
 use Rattle.std.specs.Prelude.{cond, count_by, find, map, nat_lt, slice_index_or, ⊤}
 use Rattle.std.specs.Option.{option_or}
 use Rattle.std.specs.List.{AllByRecursion}
-use Rattle.std.proofs.lemmas.Bool.{eq-eqb, eqb-true, lt-ltb, false≢true, cases_order}
+use Rattle.std.proofs.lemmas.Bool.{eq-eqb, eqb-true, lt-ltb, false≢true, cases_order, or_cases, and_right}
 use Rattle.std.proofs.lemmas.List.{get_or-set_same, get_or-set_other}
 use Rattle.std.proofs.lemmas.List.Folds.{find-append}
 use Rattle.djq_model.specs.declared.query.Query.{Query}
@@ -26,7 +25,7 @@ use Rattle.djq_united.specs.United.{IsUnited}
 use Rattle.djq_store.specs.declared.joined.Joined.{Joined}
 use Rattle.djq_store.specs.Places.{joined_at, listed_at, union_watchers, sessions_at, registered_as, told_in, seen}
 use Rattle.djq_store.specs.Whole.{IsListed, IsCounted, wants}
-use Rattle.djq_store.proofs.Found.{find_mapped}
+use Rattle.djq_engine.proofs.Firsts.{find_mapped}
 use Rattle.djq_store.proofs.Members.{log_stays}
 use Rattle.djq_store.proofs.Ordered.{NoUnion, Seat, seat_of, seat_here, low_in_order, listed_seat}
 use Rattle.djq_store.proofs.Ordered.{listed_is, named_here, engine_listed, registered_by_name}
@@ -34,14 +33,7 @@ use Rattle.djq_store.proofs.Placed.{map_push, push_long, query_places_low, told_
 use Rattle.djq_store.proofs.Seats.{Slot, cases_place, low_place}
 use Rattle.djq_store.proofs.Slots.{count_none}
 use Rattle.djq_store.proofs.Staying.{Rests, grows, united_stays, queries_over, registered_over, logs_stay, listed_stays}
-
-or_none : {A : Type 0} (o : Option A) → option_or o None ≡ o
-or_none None = refl
-or_none (Some a) = refl
-
-or_cases : (b c : Bool) → (b || c) ≡ true → (b ≡ true) ⊎ (c ≡ true)
-or_cases true c e = inl refl
-or_cases false c e = inr e
+use Rattle.djq_deltas.proofs.Cases.{or_none}
 
 none_of : {A B : Type 0} (f : A → B) (o : Option A) → option_map f o ≡ None → o ≡ None
 none_of f None e = refl
@@ -69,10 +61,6 @@ member_there gs (k ∷ ks) at h e = step (k == at) refl e (member_there gs ks at
         (subst (λ (n : ℕ). IsSomeAnd (query_at gs n) (λ l. ⊤)) (eqb-true k at f) h.0)
     step false f e more = more e
 
-and_false : (b c : Bool) → c ≡ false → (b && c) ≡ false
-and_false true c e = e
-and_false false c e = refl
-
 -- no union has a place as a member where no query is
 pub wants_none : (e : Kept) (us : List (Option Joined)) (at : ℕ) → query_at e.places at ≡ None
     → ((k : ℕ) (j : Joined) → joined_at us k ≡ Some j → IsUnited e.places j.union) → count_by (wants at) us ≡ 0
@@ -90,7 +78,7 @@ wants_none e us at vacant united = count_none (wants at) us (λ k low. by_slot k
 
     by_slot : (k : ℕ) (o : Option Joined) → joined_at us k ≡ o → wants at o ≡ false
     by_slot k None f = refl
-    by_slot k (Some j) f = and_false (nat_lt 0 j.watchers) (is_reader j.union.members at)
+    by_slot k (Some j) f = and_right (nat_lt 0 j.watchers) (is_reader j.union.members at)
         (no_member k j f (is_reader j.union.members at) refl)
 
 -- what the log of a union tells is the same

@@ -1,21 +1,11 @@
 -- What is found in lists: by tests on elements, and of lists of places by the place.
 use Rattle.std.proofs.Common.{ℕ, zero, suc, List, [], ◌∷◌, ◌≡◌, ◌<◌, Bool, true, false, refl, sym}
 use Rattle.std.proofs.Common.{ap, ◌∙◌, subst, length, get_or, arith}
-use Rattle.std.specs.Prelude.{◌==◌, ◌||◌, ◌&&◌, Option, None, Some, is_some, option_map, cond, find, filter, map, All}
-use Rattle.std.proofs.lemmas.Bool.{eqb-true, false≢true}
+use Rattle.std.specs.Prelude.{◌==◌, ◌||◌, ◌&&◌, Option, None, Some, is_some, cond, find, filter, map, All}
+use Rattle.std.proofs.lemmas.Bool.{eqb-true}
 use Rattle.std.proofs.lemmas.List.Elements.{All-head, All-tail}
 use Rattle.djq_reach.specs.Places.{is_reader}
 use Rattle.djq_engine.proofs.Listing.{here, behind}
-
-pub find_mapped : {A B : Type 0} (p : B → Bool) (f : A → B) (xs : List A) → find p (map f xs)
-    ≡ option_map f (find (λ x. p (f x)) xs)
-find_mapped p f [] = refl
-find_mapped p f (x ∷ xs) = step (p (f x)) (find_mapped p f xs)
-  where
-    step : (b : Bool) → find p (map f xs) ≡ option_map f (find (λ x. p (f x)) xs)
-        → cond b (Some (f x)) (find p (map f xs)) ≡ option_map f (cond b (Some x) (find (λ x. p (f x)) xs))
-    step true e = refl
-    step false e = e
 
 -- what is found passes, and is one of the list
 pub found_passes : {A : Type 0} (p : A → Bool) (xs : List A) (x : A) → find p xs ≡ Some x → p x ≡ true
@@ -41,26 +31,6 @@ found_all P p (y ∷ xs) x h e = step (p y) e (found_all P p xs x (All-tail P y 
     step false e more = more e
 
 -- ---- lists of places
-
--- the place that passes, where no other does
-pub find_place : (p : ℕ → Bool) (xs : List ℕ) (i : ℕ) → is_reader xs i ≡ true → p i ≡ true
-    → ((j : ℕ) → is_reader xs j ≡ true → p j ≡ true → j ≡ i) → find p xs ≡ Some i
-find_place p [] i there passes alone = absurd cc
-find_place p (x ∷ xs) i there passes alone =
-    step (p x) refl (λ k. find_place p xs i k passes (λ j l m. alone j (behind x xs j l) m))
-  where
-    step : (b : Bool) → p x ≡ b → (is_reader xs i ≡ true → find p xs ≡ Some i) → cond b (Some x) (find p xs) ≡ Some i
-    step true e more = ap (λ j. Some j) (alone x (here x xs) e)
-    step false e more = more (by_place (x == i) refl there)
-      where
-        by_place : (c : Bool) → (x == i) ≡ c → (c || is_reader xs i) ≡ true → is_reader xs i ≡ true
-        by_place true s h = absurd (false≢true (sym e ∙ ap p (eqb-true x i s) ∙ passes))
-        by_place false s h = h
-
-pub no_place : (p : ℕ → Bool) (xs : List ℕ) → ((j : ℕ) → is_reader xs j ≡ true → p j ≡ false) → find p xs ≡ None
-no_place p [] h = refl
-no_place p (x ∷ xs) h = ap (λ b. cond b (Some x) (find p xs)) (h x (here x xs))
-    ∙ no_place p xs (λ j e. h j (behind x xs j e))
 
 -- a test that only fails where another does finds the same among what the other keeps
 pub find_filtered : (p q : ℕ → Bool) (xs : List ℕ) → ((j : ℕ) → is_reader xs j ≡ true → q j ≡ false → p j ≡ false)
@@ -96,14 +66,3 @@ reader_mapped at (x ∷ xs) i = step (at x == i) (reader_mapped at xs i)
         ≡ is_some (cond b (Some x) (find (λ x. at x == i) xs))
     step true more = refl
     step false more = more
-
--- functions that agree on each of a list
-pub map_all : {A B : Type 0} (f g : A → B) (xs : List A) → All (λ x. f x ≡ g x) xs → map f xs ≡ map g xs
-map_all f g [] h = refl
-map_all f g (x ∷ xs) h =
-    ap (λ y. y ∷ map f xs) (All-head (λ x. f x ≡ g x) x xs h)
-    ∙ ap (λ l. g x ∷ l) (map_all f g xs (All-tail (λ x. f x ≡ g x) x xs h))
-
-pub map_mapped : {A B C : Type 0} (g : B → C) (f : A → B) (xs : List A) → map g (map f xs) ≡ map (λ x. g (f x)) xs
-map_mapped g f [] = refl
-map_mapped g f (x ∷ xs) = ap (λ l. g (f x) ∷ l) (map_mapped g f xs)

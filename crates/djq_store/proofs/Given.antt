@@ -34,12 +34,9 @@ use Rattle.djq_store.proofs.Ordered.{joint_order, listed_seat, listed_joint}
 use Rattle.djq_store.proofs.Seats.{places_low}
 use Rattle.djq_store.proofs.Staying.{Rests, rests_with, listed_over, counts_stay, cursor_over}
 use Rattle.djq_store.proofs.Staying.{registered_over, store_over, tellings_over}
+use Rattle.djq_deltas.proofs.Cases.{some_there}
 
-some_there : {A : Type 0} (o : Option A) (P : A → Type 0) → IsSomeAnd o P → (x : A) × (o ≡ Some x) × P x
-some_there None P h = absurd h
-some_there (Some x) P h = (x, refl, h)
-
-some_and : {A : Type 0} (o : Option A) (x : A) (P : A → Type 0) → o ≡ Some x → P x → IsSomeAnd o P
+pub some_and : {A : Type 0} (o : Option A) (x : A) (P : A → Type 0) → o ≡ Some x → P x → IsSomeAnd o P
 some_and o x P e h = subst (λ o. IsSomeAnd o P) (sym e) h
 
 some_is : {A : Type 0} (o : Option A) (P : A → Type 0) → IsSomeAnd o P → is_some o ≡ true

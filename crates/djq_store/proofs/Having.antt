@@ -1,10 +1,8 @@
 -- Whether a tuple is an answer of a union, as its members tell it one after another.
 use Rattle.std.proofs.Common.{ℕ, zero, suc, List, [], ◌∷◌, ◌++◌, ◌+◌, ◌≡◌, ◌<◌, ◌≤◌, ◌⊎◌, inl, inr}
-use Rattle.std.proofs.Common.{Bool, true, false, refl, sym, ap, ◌∙◌, subst, length, get_or, take}
-use Rattle.std.proofs.Common.{arith}
+use Rattle.std.proofs.Common.{Bool, true, false, sym, ap, ◌∙◌, subst, length, get_or, take, arith}
 use Rattle.std.specs.Prelude.{◌==◌, Option, None, Some, IsSomeAnd, is_none, Result, Ok, Err, cond}
-use Rattle.std.specs.Prelude.{map, not, option_map, option_to_list, slice_get, AllPairs, Contains}
-use Rattle.std.specs.Prelude.{⊤}
+use Rattle.std.specs.Prelude.{map, not, option_map, option_to_list, slice_get, AllPairs, Contains, ⊤}
 use Rattle.std.proofs.lemmas.Bool.{cases_order}
 use Rattle.std.proofs.lemmas.List.Elements.{All-from_recursion}
 use Rattle.djq_model.specs.declared.relation.Relation.{Relation}
@@ -32,20 +30,14 @@ use Rattle.djq_store.specs.Below.{IsEngine}
 use Rattle.djq_store.specs.Places.{seen}
 use Rattle.djq_store.specs.Whole.{IsListed}
 use Rattle.djq_store.proofs.Answering.{called_listed}
-use Rattle.djq_store.proofs.Found.{find_mapped, found_all}
+use Rattle.djq_store.proofs.Found.{found_all}
+use Rattle.djq_engine.proofs.Firsts.{find_mapped}
 use Rattle.djq_store.proofs.Named.{Called}
 use Rattle.djq_store.proofs.Ordered.{NoUnion, Seat, seat_here, engine_listed}
+use Rattle.djq_deltas.proofs.Cases.{some_there, some_as}
 
 same_some : {A : Type 0} {x y : A} → Some x ≡ Some y → x ≡ y
 same_some e = cc
-
-pub some_there : {A : Type 0} (o : Option A) (P : A → Type 0) → IsSomeAnd o P → (x : A) × (o ≡ Some x) × P x
-some_there None P h = absurd h
-some_there (Some x) P h = (x, refl, h)
-
-some_as : {A : Type 0} (o : Option A) (P Q : A → Type 0) → ((x : A) → P x → Q x) → IsSomeAnd o P → IsSomeAnd o Q
-some_as None P Q f h = h
-some_as (Some x) P Q f h = f x h
 
 -- what is told of a tuple, by what stands under a name
 abbrev Told : List Relation → Tuple → Result Bool Refusal → Option Listed → Type 0

@@ -1,9 +1,9 @@
 -- A cursor is found among all by the place of its query or union, and its slot.
-use Rattle.std.proofs.Common.{ℕ, zero, suc, List, [], ◌∷◌, ◌+◌, ◌≡◌, ◌<◌, ◌⊎◌, inl, inr, Bool, true}
-use Rattle.std.proofs.Common.{false, refl, sym, ap, ap₂, ◌∙◌, subst, arith}
+use Rattle.std.proofs.Common.{ℕ, zero, suc, List, [], ◌∷◌, ◌+◌, ◌≡◌, ◌<◌, ◌⊎◌, inl, inr, true}
+use Rattle.std.proofs.Common.{refl, sym, ap, ap₂, ◌∙◌, subst, arith}
 use Rattle.std.specs.Prelude.{◌==◌, ◌&&◌, Option, None, Some, IsSomeAnd, is_some, option_map, cond}
 use Rattle.std.specs.Option.{option_or}
-use Rattle.std.proofs.lemmas.Bool.{eq-eqb}
+use Rattle.std.proofs.lemmas.Bool.{eq-eqb, and_from, and_right}
 use Rattle.std.proofs.lemmas.List.Folds.{find-append}
 use Rattle.djq_model.specs.Data.{Bytes}
 use Rattle.djq_model.specs.Listed.{listed_name}
@@ -20,18 +20,7 @@ use Rattle.djq_store.specs.Below.{IsEngine}
 use Rattle.djq_store.specs.Places.{joined_at, held_as, held_in, held_from, held_of, cursors_in}
 use Rattle.djq_store.proofs.Ordered.{seat}
 use Rattle.djq_store.proofs.Seats.{Slot, cases_place}
-
-and_false : (b c : Bool) → c ≡ false → (b && c) ≡ false
-and_false true c e = e
-and_false false c e = refl
-
-both : (b c : Bool) → b ≡ true → c ≡ true → (b && c) ≡ true
-both true c e f = f
-both false c e f = absurd cc
-
-or_none : {A : Type 0} (o : Option A) → option_or o None ≡ o
-or_none None = refl
-or_none (Some a) = refl
+use Rattle.djq_deltas.proofs.Cases.{or_none}
 
 -- the slots of one union
 
@@ -52,7 +41,7 @@ module _ (texts : List Bytes) (gs : List (Option Live)) where
   slots_passed u at k (Some c ∷ slots) id low =
       ap (λ b. cond b (Some (held_as texts gs u (record { query = id_at at; cursor = k }) c))
       (held_at (held_in texts gs u at (suc k) slots) id))
-      (and_false (at == id.query.at) (k == id.cursor) (apart k id.cursor (λ e. omega arith)))
+      (and_right (at == id.query.at) (k == id.cursor) (apart k id.cursor (λ e. omega arith)))
       ∙ slots_passed u at (suc k) slots id (omega arith)
 
   slots_here : (u : United) (at k j : ℕ) (slots : List (Option Progress)) (id : CursorId) → at ≡ id.query.at → k + j
@@ -66,12 +55,12 @@ module _ (texts : List Bytes) (gs : List (Option Live)) where
       let k_is : k ≡ id.cursor = omega arith in
       ap (λ b. cond b (Some (held_as texts gs u (record { query = id_at at; cursor = k }) c))
       (held_at (held_in texts gs u at (suc k) slots) id))
-      (both (at == id.query.at) (k == id.cursor) (eq-eqb at id.query.at e) (eq-eqb k id.cursor k_is))
+      (and_from (at == id.query.at) (k == id.cursor) (eq-eqb at id.query.at e) (eq-eqb k id.cursor k_is))
       ∙ ap₂ (λ (a : ℕ) (s : ℕ). Some (held_as texts gs u (record { query = id_at a; cursor = s }) c)) e k_is
   slots_here u at k (suc j) (Some c ∷ slots) id e f =
       ap (λ b. cond b (Some (held_as texts gs u (record { query = id_at at; cursor = k }) c))
       (held_at (held_in texts gs u at (suc k) slots) id))
-      (and_false (at == id.query.at) (k == id.cursor) (apart k id.cursor (λ s. omega arith)))
+      (and_right (at == id.query.at) (k == id.cursor) (apart k id.cursor (λ s. omega arith)))
       ∙ slots_here u at (suc k) j slots id e (omega arith)
 
   -- all unions

@@ -1,6 +1,6 @@
 -- What stands under a name, as it is asked of the engine and of unions in slots.
 use Rattle.std.proofs.Common.{ℕ, List, ◌≡◌, Bool, true, false, refl, sym, ap, ◌∙◌, subst}
-use Rattle.std.specs.Prelude.{Option, None, Some, IsSome, IsSomeAnd, is_some, is_none, not, option_map}
+use Rattle.std.specs.Prelude.{Option, None, Some, IsSome, is_some, is_none, not, option_map}
 use Rattle.std.proofs.lemmas.Bool.{false≢true}
 use Rattle.djq_model.specs.Data.{Bytes, bytes_eq}
 use Rattle.djq_model.specs.Equality.{bytes_eq-decides}
@@ -16,13 +16,11 @@ use Rattle.djq_store.specs.Below.{IsEngine}
 use Rattle.djq_store.specs.Places.{seen}
 use Rattle.djq_store.specs.Whole.{IsListed}
 use Rattle.djq_store.proofs.Answering.{called_listed}
-use Rattle.djq_store.proofs.Found.{find_mapped, found_all}
+use Rattle.djq_store.proofs.Found.{found_all}
+use Rattle.djq_engine.proofs.Firsts.{find_mapped}
 use Rattle.djq_store.proofs.Named.{Called}
 use Rattle.djq_store.proofs.Ordered.{NoUnion, seat_here, engine_listed}
-
-some_there : {A : Type 0} (o : Option A) (P : A → Type 0) → IsSomeAnd o P → (x : A) × (o ≡ Some x) × P x
-some_there None P h = absurd h
-some_there (Some x) P h = (x, refl, h)
+use Rattle.djq_deltas.proofs.Cases.{some_there}
 
 -- a query that is registered under a name
 pub record Under (e : Kept) (name : Bytes) : Type 0 where

@@ -18,20 +18,13 @@ use Rattle.djq_united.specs.Staying.{MembersStay, KeepMembers}
 use Rattle.djq_store.specs.declared.joined.Joined.{Joined}
 use Rattle.djq_store.specs.Places.{first_member, told_in}
 use Rattle.djq_store.specs.Whole.{IsShownByFirst}
+use Rattle.djq_deltas.proofs.Cases.{some_there, some_as}
 
 -- The queries in places are those that they were, each with its tree, and texts stay.
 pub record Grows (e e' : Kept) : Type 0 where
   pub shapes : (i : ℕ) (l : Live) → query_at e.places i ≡ Some l → IsSomeAnd (query_at e'.places i) (SameShape l)
   pub more : List Bytes
   pub texts : (e'.store).texts ≡ (e.store).texts ++ more
-
-some_as : {A : Type 0} (o : Option A) (P Q : A → Type 0) → ((x : A) → P x → Q x) → IsSomeAnd o P → IsSomeAnd o Q
-some_as None P Q f h = h
-some_as (Some x) P Q f h = f x h
-
-some_there : {A : Type 0} (o : Option A) (P : A → Type 0) → IsSomeAnd o P → (x : A) × (o ≡ Some x) × P x
-some_there None P h = absurd h
-some_there (Some x) P h = (x, refl, h)
 
 pub kept_shapes : (reached : _) (e e' : Kept) → KeepsPlaces reached e e' → (i : ℕ) (l : Live) → query_at e.places i
     ≡ Some l → IsSomeAnd (query_at e'.places i) (SameShape l)

@@ -1,7 +1,6 @@
 -- A union is found by its name in its slot.
-use Rattle.std.proofs.Common.{ℕ, zero, suc, List, [], ◌∷◌, ◌≡◌, ◌<◌, Bool, true, false, refl, sym}
-use Rattle.std.proofs.Common.{ap, ◌∙◌, length, get_or, arith}
-use Rattle.std.specs.Prelude.{Option, None, Some, cond, find, position}
+use Rattle.std.proofs.Common.{ℕ, List, [], ◌∷◌, ◌≡◌, ◌<◌, true, refl, sym, ap, ◌∙◌}
+use Rattle.std.specs.Prelude.{Option, None, Some, position}
 use Rattle.djq_model.specs.Data.{Bytes, bytes_eq}
 use Rattle.djq_model.specs.Equality.{bytes_eq-decides}
 use Rattle.djq_engine.proofs.Firsts.{first_of_position, none_of_position}
@@ -10,6 +9,7 @@ use Rattle.djq_store.specs.Finding.{is_named}
 use Rattle.djq_store.specs.Places.{joined_at}
 use Rattle.djq_store.proofs.Ordered.{NoUnion}
 use Rattle.djq_store.proofs.Slots.{slot_below}
+use Rattle.djq_engine.proofs.Naming.{none_passes}
 
 -- the union of a name, in its slot
 pub record Called (us : List (Option Joined)) (name : Bytes) (k : ℕ) : Type 0 where
@@ -25,18 +25,6 @@ found_union us vs name k same e = by_slot (joined_at us k) refl
     by_slot : (o : Option Joined) → joined_at us k ≡ o → is_named name o ≡ true → Called us name k
     by_slot None f h = absurd cc
     by_slot (Some j) f h = record { union = j; there = f; called = (bytes_eq-decides j.union.name name).0 h }
-
-none_passes : {A : Type 0} (p : A → Bool) (xs : List A) → find p xs ≡ None → (k : ℕ) (d : A) → k < length xs
-    → p (get_or xs k d) ≡ false
-none_passes p [] e k d l = absurd (omega arith)
-none_passes p (x ∷ xs) e k d l = step (p x) refl e k l (none_passes p xs)
-  where
-    step : (b : Bool) → p x ≡ b → cond b (Some x) (find p xs) ≡ None → (k : ℕ) → k < suc (length xs)
-        → (find p xs ≡ None → (k : ℕ) (d : _) → k < length xs → p (get_or xs k d) ≡ false) → p (get_or (x ∷ xs) k d)
-        ≡ false
-    step true f e k l more = absurd cc
-    step false f e zero l more = f
-    step false f e (suc k) l more = more e k d (omega arith)
 
 pub no_union : (us vs : List (Option Joined)) (name : Bytes) → vs ≡ us → None ≡ position (is_named name) vs
     → NoUnion us name

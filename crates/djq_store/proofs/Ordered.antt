@@ -22,9 +22,13 @@ use Rattle.djq_store.specs.declared.joined.Joined.{Joined}
 use Rattle.djq_store.specs.Below.{IsEngine}
 use Rattle.djq_store.specs.Places.{by_place, joined_at, listed_in, listed_at, registered_as}
 use Rattle.djq_store.specs.Whole.{IsListed, query_places}
-use Rattle.djq_store.proofs.Found.{find_mapped, found_passes, found_all, find_place, no_place}
-use Rattle.djq_store.proofs.Found.{find_filtered, found_at, reader_mapped, map_all, map_mapped}
+use Rattle.djq_store.proofs.Found.{found_passes, found_all, find_filtered, found_at, reader_mapped}
+use Rattle.djq_engine.proofs.Enlisted.{no_place, find_place}
+use Rattle.djq_engine.proofs.Firsts.{find_mapped}
+use Rattle.djq_gains.proofs.Delta.{twice_mapped}
+use Rattle.djq_engine.proofs.Told.{map_as}
 use Rattle.djq_store.proofs.Seats.{Slot, cases_place, low_place, high_place}
+use Rattle.djq_deltas.proofs.Cases.{first_holds, some_there}
 
 -- a query of the engine in its place, as it is registered there
 pub record Seat (e : Kept) (at : ℕ) : Type 0 where
@@ -47,14 +51,6 @@ joint us k e = by_slot (joined_at us k) refl e
     by_slot : (o : Option Joined) → joined_at us k ≡ o → is_some o ≡ true → Joint us k
     by_slot None f h = absurd cc
     by_slot (Some j) f h = record { union = j; there = f }
-
-some_there : {A : Type 0} (o : Option A) (P : A → Type 0) → IsSomeAnd o P → (x : A) × (o ≡ Some x) × P x
-some_there None P h = absurd h
-some_there (Some x) P h = (x, refl, h)
-
-and_left : (b c : Bool) → (b && c) ≡ true → b ≡ true
-and_left true c e = refl
-and_left false c e = absurd cc
 
 -- what is registered in a place of a query, and in one of a union
 
@@ -123,7 +119,7 @@ module _ (e : Kept) (b : IsEngine e) where
           seat at (sym (low_in_order at) ∙ ap (λ c. c && nat_lt at QUERIES) there ∙ lt-ltb at QUERIES low)
 
       pub seat_order : (at : ℕ) → Seat e at → is_reader order at ≡ true
-      seat_order at s = and_left (is_reader order at) (nat_lt at QUERIES) (low_in_order at ∙ ap is_some s.found)
+      seat_order at s = first_holds (is_reader order at) (nat_lt at QUERIES) (low_in_order at ∙ ap is_some s.found)
 
       pub order_joint : (k : ℕ) → is_reader order (QUERIES + k) ≡ true → Joint us k
       order_joint k there = joint us k (sym (w.unions k) ∙ there)
@@ -135,8 +131,8 @@ module _ (e : Kept) (b : IsEngine e) where
       pub engine_queries : map (listed_at e.places us) (query_places order) ≡ (e.store).queries
       engine_queries =
           ap (map (listed_at e.places us)) w.queries
-          ∙ map_mapped (listed_at e.places us) (λ (r : Registered). r.id.at) e.registered
-          ∙ map_all (λ r. listed_at e.places us r.id.at) (λ (r : Registered). r.query) e.registered same ∙ b.queries
+          ∙ twice_mapped (listed_at e.places us) (λ (r : Registered). r.id.at) e.registered
+          ∙ map_as (λ r. listed_at e.places us r.id.at) (λ (r : Registered). r.query) e.registered same ∙ b.queries
         where
           same : All (λ (r : Registered). listed_at e.places us r.id.at ≡ r.query) e.registered
           same k d low =

@@ -25,10 +25,7 @@ use Rattle.djq_deltas.proofs.Growing.{row_comes, row_goes, one_spares}
 use Rattle.djq_store.specs.declared.settling.Turn.{Turn}
 use Rattle.djq_store.specs.Following.{add_turn, delete_turn}
 use Rattle.djq_store.proofs.Doing.{IsMade, IsTried, IsKnown, turn_by}
-
-or_false : (b : Bool) → (b || false) ≡ b
-or_false true = refl
-or_false false = refl
+use Rattle.djq_deltas.proofs.Cases.{or_false}
 
 -- a query that reads the one relation of a change is outdated by it
 one_out : (name : Bytes) (q : Query) → reads q name ≡ true

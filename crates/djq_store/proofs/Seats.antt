@@ -1,12 +1,12 @@
 -- What stands in the places of queries, and behind them in those of unions.
 use Rattle.std.proofs.Common.{ℕ, zero, suc, List, [], ◌∷◌, ◌++◌, ◌+◌, ◌-◌, ◌≡◌, ◌<◌, ◌≤◌, ◌⊎◌, inl}
-use Rattle.std.proofs.Common.{inr, Bool, true, false, refl, sym, ap, ◌∙◌, subst, length, get_or}
-use Rattle.std.proofs.Common.{arith}
+use Rattle.std.proofs.Common.{inr, Bool, true, false, refl, sym, ap, ◌∙◌, subst, length, get_or, arith}
 use Rattle.std.specs.Prelude.{Option, None, Some, nat_lt, cond}
 use Rattle.std.proofs.lemmas.Bool.{lt-ltb, le-ltb, cases_lt}
 use Rattle.std.proofs.Math.Nat.{add-sub_cancel_left, add-sub_of_le}
 use Rattle.djq_lines.specs.declared.limits.TheConstants.{QUERIES}
 use Rattle.djq_store.specs.Places.{vacant, in_places, by_place}
+use Rattle.djq_store.proofs.Slots.{read_empty}
 
 -- by place and by slot
 
@@ -35,10 +35,6 @@ cases_place at = step (cases_lt at QUERIES)
 
 -- lists of what stands in places
 
-read_nothing : {A : Type 0} (i : ℕ) → get_or {A = Option A} [] i None ≡ None
-read_nothing zero = refl
-read_nothing (suc i) = refl
-
 vacant_low : {A : Type 0} (n i : ℕ) (ys : List (Option A)) → i < n → get_or (vacant n ++ ys) i None ≡ None
 unfolding vacant
 vacant_low zero i ys low = absurd (omega arith)
@@ -54,7 +50,7 @@ vacant_high (suc n) k (suc m) ys e = vacant_high n k m ys (omega arith)
 
 front_low : {A : Type 0} (xs ys : List (Option A)) (n m i : ℕ) → n ≡ length xs + m → i < n
     → get_or (xs ++ (vacant m ++ ys)) i None ≡ get_or xs i None
-front_low [] ys n m i e low = vacant_low m i ys (omega arith) ∙ sym (read_nothing i)
+front_low [] ys n m i e low = vacant_low m i ys (omega arith) ∙ sym (read_empty i)
 front_low (x ∷ xs) ys n m zero e low = refl
 front_low (x ∷ xs) ys zero m (suc i) e low = absurd (omega arith)
 front_low (x ∷ xs) ys (suc n) m (suc i) e low = front_low xs ys n m i (omega arith) (omega arith)

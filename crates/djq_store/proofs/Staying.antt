@@ -1,9 +1,7 @@
 -- A store stays whole and shows the same, as the engine below it changes nothing of what unions are made of.
 use Rattle.std.proofs.Common.{ℕ, zero, suc, List, [], ◌∷◌, ◌++◌, ◌+◌, ◌≡◌, ◌<◌, ◌⊎◌, inl, inr, Bool}
-use Rattle.std.proofs.Common.{true, false, refl, sym, ap, ap₂, ◌∙◌, subst, length, get_or, arith}
-use Rattle.std.proofs.Common.{append-nil}
-use Rattle.std.specs.Prelude.{Option, None, Some, IsSomeAnd, is_some, option_map, map, filter, All}
-use Rattle.std.specs.Prelude.{count_by, find, ◌==◌}
+use Rattle.std.proofs.Common.{true, false, refl, sym, ap, ap₂, ◌∙◌, subst, length, get_or, arith, append-nil}
+use Rattle.std.specs.Prelude.{Option, None, Some, is_some, option_map, map, filter, All, count_by, find, ◌==◌}
 use Rattle.djq_model.specs.Data.{Bytes}
 use Rattle.djq_model.specs.Listed.{Listed, a_query, listed_name}
 use Rattle.djq_lines.specs.declared.limits.TheConstants.{QUERIES}
@@ -29,6 +27,7 @@ use Rattle.djq_store.proofs.Held.{held_low, held_high}
 use Rattle.djq_store.proofs.Members.{Grows, grown_members, kept_members, kept_shapes, union_stays, log_stays, log_tells}
 use Rattle.djq_store.proofs.Ordered.{Seat, Joint, listed_low, listed_joint, listed_seat, order_seat, order_joint}
 use Rattle.djq_store.proofs.Seats.{Slot, cases_place}
+use Rattle.djq_deltas.proofs.Cases.{some_there}
 
 -- functions that agree on each slot
 pub map_slots : {B : Type 0} (f g : Option Joined → B) (us : List (Option Joined)) → f None ≡ g None
@@ -37,10 +36,6 @@ map_slots f g [] none some = refl
 map_slots f g (None ∷ us) none some = ap₂ (λ b bs. b ∷ bs) none (map_slots f g us none (λ k j e. some (suc k) j e))
 map_slots f g (Some j ∷ us) none some = ap₂ (λ b bs. b ∷ bs) (some zero j refl)
     (map_slots f g us none (λ k j e. some (suc k) j e))
-
-some_there : {A : Type 0} (o : Option A) (P : A → Type 0) → IsSomeAnd o P → (x : A) × (o ≡ Some x) × P x
-some_there None P h = absurd h
-some_there (Some x) P h = (x, refl, h)
 
 module _ (e e' : Kept) (b : IsEngine e) (g : Grows e e') (law : MembersStay) (us : List (Option Joined))
     (order : List ℕ) (w : IsListed e us order) where

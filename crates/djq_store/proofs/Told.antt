@@ -1,10 +1,10 @@
 -- A change that was made, one for which memory was refused, and none: what a store makes known of it.
 use Rattle.std.specs.Prelude.{ℕ, List, [], ◌∷◌, ◌≡◌, ◌+◌, ◌*◌, ◌<◌, ◌≤◌, ◌&&◌, ◌⊎◌, nat_lt, Bool}
 use Rattle.std.specs.Prelude.{true, false, cond, Option, None, Some, is_some, IsSomeAnd, filter}
-use Rattle.std.specs.Prelude.{map, length, sum_by, slice_get, slice_index_or, All, Contains, ⊤}
+use Rattle.std.specs.Prelude.{map, length, sum_by, slice_index_or, All, Contains, ⊤}
 use Rattle.std.specs.List.{list_any}
 use Rattle.std.proofs.Common.{refl, sym, ap, ap₂, ◌∙◌, subst, inl, inr, arith}
-use Rattle.std.proofs.lemmas.Bool.{false≢true, lt-ltb, ltb-true}
+use Rattle.std.proofs.lemmas.Bool.{false≢true, lt-ltb, ltb-true, and_from}
 use Rattle.std.proofs.lemmas.List.Sums.{sum_by-cons}
 use Rattle.djq_model.specs.declared.query.Query.{Query}
 use Rattle.djq_model.specs.Data.{Bytes}
@@ -34,24 +34,24 @@ use Rattle.djq_store.specs.declared.settling.Turn.{Turn}
 use Rattle.djq_store.specs.declared.settling.Turn.TheVariants.{Came, Went, Lacked}
 use Rattle.djq_store.specs.Places.{joined_at, told_in, listed_at, registered_as, sessions_at, union_watchers, seen}
 use Rattle.djq_store.specs.Settling.{first_read, touched_in, is_settled, TellsUnion, TellsWatched}
-use Rattle.djq_store.specs.Settling.{SettlesLog, SettlesLogBy, settling_steps, telling_steps}
-use Rattle.djq_store.specs.Settling.{asking_steps}
+use Rattle.djq_store.specs.Settling.{SettlesLog, SettlesLogBy, settling_steps, telling_steps, asking_steps}
 use Rattle.djq_store.specs.Watching.{TellsChange, is_reached}
 use Rattle.djq_store.specs.Whole.{IsListed, IsCounted}
 use Rattle.djq_store.proofs.Accepted.{GoRows, told_place, union_delta, asked_few}
 use Rattle.djq_store.proofs.Affected.{filter_mapped}
 use Rattle.djq_store.proofs.Asked.{slots_few}
-use Rattle.djq_store.proofs.Behind.{Behind, first_outdates}
+use Rattle.djq_store.proofs.Behind.{Behind, first_outdates, first_get}
 use Rattle.djq_store.proofs.Commanded.{told_low, told_high, now, first, told_now, told_nothing, some_delta, all_stay}
 use Rattle.djq_store.proofs.Counting.{mapped_was, seen_there}
 use Rattle.djq_store.proofs.Deltas.{Lists, logs_tell, asking, steps_at}
-use Rattle.djq_store.proofs.Found.{map_mapped}
+use Rattle.djq_gains.proofs.Delta.{twice_mapped}
 use Rattle.djq_store.proofs.Ordered.{Seat, Joint, order_seat, order_joint, joint_order, listed_seat}
 use Rattle.djq_store.proofs.Ordered.{listed_joint, registered_has}
 use Rattle.djq_store.proofs.Seats.{Slot, cases_place, high_place}
 use Rattle.djq_store.proofs.Summing.{sum_mapped, kept_was}
 use Rattle.djq_store.proofs.Wanted.{rs, ers, places, f, q_at, members_at, members_in_slot}
 use Rattle.djq_store.proofs.Wanted.{by_places, deltas, all_lists, low_of}
+use Rattle.djq_deltas.proofs.Cases.{some_as}
 
 -- how rows changed, where they did
 abbrev pub turn_for : Bool → Turn
@@ -67,10 +67,6 @@ tells_log true e' relations j log watched (Some r) hit s =
     subst (λ (x : Bool). TellsWatched x e' relations true j log) watched s
 tells_log false e' relations j log watched (Some r) hit s =
     subst (λ (x : Bool). TellsWatched x e' relations false j log) watched s
-
-first_get : (ls : List Live) → slice_get ls 0 ≡ first_of ls
-first_get [] = refl
-first_get (l ∷ ls) = refl
 
 -- what is counted by two tests
 cond_few : (a b : Bool) (x n : ℕ) → (a ≡ true → b ≡ true → x ≤ n) → cond a (cond b x 0) 0 ≤ n
@@ -116,10 +112,6 @@ settling_lacked e' relations (o ∷ us) =
     by None = refl
     by (Some j) = none (is_settled e' relations (Some j)) 0
 
-some_as : {A : Type 0} (o : Option A) (Q R : A → Type 0) → ((x : A) → Q x → R x) → IsSomeAnd o Q → IsSomeAnd o R
-some_as None Q R g h = h
-some_as (Some x) Q R g h = g x h
-
 -- the ids of what passes
 ids_of_all : (e : Kept) (us : List (Option Joined)) (sessions order : List ℕ) (change : RowsChange)
     → map (λ (r : Registered). r.id) (readers_of (map (registered_as e.places us sessions) order) change)
@@ -127,12 +119,8 @@ ids_of_all : (e : Kept) (us : List (Option Joined)) (sessions order : List ℕ) 
 ids_of_all e us sessions order change =
     ap (map (λ (r : Registered). r.id))
     (filter_mapped (λ (r : Registered). is_outdated change r.query) (registered_as e.places us sessions) order)
-    ∙ map_mapped (λ (r : Registered). r.id) (registered_as e.places us sessions)
+    ∙ twice_mapped (λ (r : Registered). r.id) (registered_as e.places us sessions)
     (filter (λ at. is_outdated change (listed_at e.places us at)) order)
-
-both : (b c : Bool) → b ≡ true → c ≡ true → (b && c) ≡ true
-both true c e h = h
-both false c e h = absurd cc
 
 -- ---- a change that was made
 
@@ -267,7 +255,7 @@ module _ (change : RowsChange) (relations : List Bytes) (came : Bool) (e e' : Ke
         r,
         kept_there (λ (s : Registered). is_outdated change s.query && is_watched s)
             (map (registered_as e.places us sessions) order) r
-            (both (is_outdated change r.query) (is_watched r) reached watched)
+            (and_from (is_outdated change r.query) (is_watched r) reached watched)
             (seen_there e b.did.before us order w sessions (QUERIES + k)
             (joint_order e b.did.before us order w k joint)),
         refl,

@@ -1,7 +1,6 @@
 -- What the cursors of a union in its slot give is what the store gives.
 use Rattle.std.proofs.Common.{ℕ, zero, suc, List, [], ◌∷◌, ◌++◌, ◌+◌, ◌-◌, ◌≡◌, ◌≢◌, ◌<◌, ◌≤◌, ◌⊎◌}
-use Rattle.std.proofs.Common.{inl, inr, Bool, true, false, refl, sym, ap, ap₂, ◌∙◌, subst, length}
-use Rattle.std.proofs.Common.{get_or, set, arith}
+use Rattle.std.proofs.Common.{inl, inr, Bool, true, false, refl, sym, ap, ap₂, ◌∙◌, subst, length, get_or, set, arith}
 use Rattle.std.specs.Prelude.{◌==◌, ◌&&◌, Option, None, Some, IsSome, IsSomeAnd, is_some, is_none}
 use Rattle.std.specs.Prelude.{Result, Ok, Err, option_map, cond, map, ⊤}
 use Rattle.std.proofs.lemmas.Bool.{cases_lt}
@@ -22,8 +21,7 @@ use Rattle.djq_live.specs.Live.{Live, IsShowable, values_of}
 use Rattle.djq_live.specs.Member.{queries_at}
 use Rattle.djq_engine.specs.declared.cursor.CursorId.{CursorId}
 use Rattle.djq_engine.specs.Kept.{Kept, Held, OpensCursor, OpenGives, ClosesCursor, MovesCursor}
-use Rattle.djq_engine.specs.Kept.{MoreGives, MoreGivesAt, IsShown, AnswerIs, AtQuery, held_at}
-use Rattle.djq_engine.specs.Kept.{same_id, read_steps}
+use Rattle.djq_engine.specs.Kept.{MoreGives, MoreGivesAt, IsShown, AnswerIs, AtQuery, held_at, same_id, read_steps}
 use Rattle.djq_engine.specs.Places.{id_at}
 use Rattle.djq_engine.proofs.Conditions.{answers_done, answers_lacking}
 use Rattle.djq_united.specs.Slots.{Progress, slot_at}
@@ -37,23 +35,15 @@ use Rattle.djq_store.specs.Reading as store
 use Rattle.djq_store.specs.Whole.{IsListed, IsCounted}
 use Rattle.djq_store.proofs.Held.{held_high}
 use Rattle.djq_store.proofs.Moved.{cursor_of, other_slot, moved_listed, moved_counted, moved_store}
-use Rattle.djq_store.proofs.Moved.{moved_registered, moved_tellings, moved_here, stood_here}
-use Rattle.djq_store.proofs.Moved.{moved_others}
+use Rattle.djq_store.proofs.Moved.{moved_registered, moved_tellings, moved_here, stood_here, moved_others}
 use Rattle.djq_store.proofs.Named.{Called}
 use Rattle.djq_store.proofs.Ordered.{Joint, listed_is, listed_joint, named_joint}
 use Rattle.djq_store.proofs.Seats.{places_high}
 use Rattle.djq_store.proofs.Slots.{slot_below, set_here}
 use Rattle.djq_store.proofs.Staying.{kept_over}
-
-same_some : {A : Type 0} (x y : A) → Some x ≡ Some y → x ≡ y
-same_some x y e = cc
-
-some_there : {A : Type 0} (o : Option A) (P : A → Type 0) → IsSomeAnd o P → (x : A) × (o ≡ Some x) × P x
-some_there None P h = absurd h
-some_there (Some x) P h = (x, refl, h)
-
-some_and : {A : Type 0} (o : Option A) (x : A) (P : A → Type 0) → o ≡ Some x → P x → IsSomeAnd o P
-some_and o x P e h = subst (λ o. IsSomeAnd o P) (sym e) h
+use Rattle.djq_deltas.proofs.Cases.{some_there}
+use Rattle.std.proofs.lemmas.Option.{same_Some}
+use Rattle.djq_store.proofs.Given.{some_and}
 
 -- nothing stands in a slot that was emptied
 emptied : {A : Type 0} (xs : List (Option A)) (i : ℕ) → get_or (set xs i None) i None ≡ None
@@ -126,7 +116,7 @@ module _ (e : Kept) (b : IsEngine e) (us : List (Option Joined)) (order sessions
           (cursor_of k cursor) (λ id. OpensCursor old name id (new vs)) (OutOfMemoryWhere ⊤) known
           (subst (λ (us' : List (Option Joined)). OpensCursor old name (cursor_of k cursor) (new us')) (sym m.is)
           (opened cursor m.old m.new m.there m.done (w.united k m.old m.there)
-          (ap (λ (j : Joined). j.union.name) (same_some m.old f.union (sym m.there ∙ f.there)) ∙ f.called)));
+          (ap (λ (j : Joined). j.union.name) (same_Some m.old f.union (sym m.there ∙ f.there)) ∙ f.called)));
       stays = λ r e. absurd cc;
     }
 

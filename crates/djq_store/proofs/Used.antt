@@ -2,10 +2,9 @@
 use Rattle.std.proofs.Common.{ℕ, zero, suc, List, [], ◌∷◌, ◌+◌, ◌≡◌, ◌<◌, ◌⊎◌, inl, inr, Bool, true}
 use Rattle.std.proofs.Common.{false, refl, sym, ap, ap₂, ◌∙◌, subst, get_or, set, arith}
 use Rattle.std.specs.Prelude.{◌==◌, ◌&&◌, ◌||◌, not, Option, None, Some, is_none, IsSomeAnd}
-use Rattle.std.specs.Prelude.{AllPairs, IfSome, cond, count_by, filter, find, nat_lt, option_map}
-use Rattle.std.specs.Prelude.{Ok, Err}
+use Rattle.std.specs.Prelude.{AllPairs, IfSome, cond, count_by, filter, find, nat_lt, option_map, Ok, Err}
 use Rattle.std.specs.List.{list_any}
-use Rattle.std.proofs.lemmas.Bool.{eq-eqb, eqb-true, ltb-true, false≢true}
+use Rattle.std.proofs.lemmas.Bool.{eq-eqb, eqb-true, ltb-true, false≢true, and_parts, or_right}
 use Rattle.djq_model.specs.Data.{Bytes, bytes_eq, drop_first}
 use Rattle.djq_model.specs.Equality.{bytes_eq-decides}
 use Rattle.djq_model.specs.Listed.{Listed, listed_name, listed_of, members_of}
@@ -73,10 +72,6 @@ any_none p q (y ∷ xs) x e f = step (p y) refl e (q y) f (any_none p q xs x)
     step false g e true f more = ap p (sym (same f)) ∙ g
     step false g e false f more = more e f
 
-both_true : (b c : Bool) → (b && c) ≡ true → (b ≡ true) × (c ≡ true)
-both_true true c e = (refl, e)
-both_true false c e = absurd cc
-
 pub record Decided (k : Kept) (name : Bytes) : Type 0 where
   pub used : Bool
   pub uses : Uses k name used
@@ -93,7 +88,7 @@ decided k name = by_cursor (list_any over k.cursors) refl
 
     same_ids : (a b : CursorId) → same_id a b ≡ true → a ≡ b
     same_ids a b e =
-        let t = both_true (a.query.at == b.query.at) (a.cursor == b.cursor) e in
+        let t = and_parts (a.query.at == b.query.at) (a.cursor == b.cursor) e in
         ap₂ (λ (n : ℕ) (c : ℕ). (let i : CursorId = record { query = id_at n; cursor = c } in i))
         (eqb-true a.query.at b.query.at t.0) (eqb-true a.cursor b.cursor t.1)
 
@@ -140,10 +135,6 @@ or_false : (b c : Bool) → c ≡ false → (b || c) ≡ b
 or_false true c e = refl
 or_false false c e = e
 
-or_true : (b c : Bool) → c ≡ true → (b || c) ≡ true
-or_true true c e = refl
-or_true false c e = e
-
 -- what is found by a name is found by its id
 pub found_by_id : (rs : List Registered) (r : Registered) (p : Registered → Bool)
     → AllPairs (λ (x y : Registered). same_query x.id y.id ≡ false) rs → find p rs ≡ Some r
@@ -180,7 +171,7 @@ module _ (e : Kept) (b : IsEngine e) (us : List (Option Joined)) (order sessions
   engine_no_member =
       ap (λ qs. is_member qs name) (sym (engine_queries e b us order w))
       ∙ none_any (listed_at e.places us) (λ q. list_any (is_called name) (members_of q)) (query_places order)
-      (λ at there. let t = both_true (is_reader order at) (nat_lt at QUERIES)
+      (λ at there. let t = and_parts (is_reader order at) (nat_lt at QUERIES)
       (sym (reader_filter (λ i. nat_lt i QUERIES) order at) ∙ there) in
       ap (λ q. list_any (is_called name) (members_of q))
       (listed_seat e b us at (order_seat e b us order w at t.0 (ltb-true at QUERIES t.1))))
@@ -230,7 +221,7 @@ module _ (e : Kept) (b : IsEngine e) (us : List (Option Joined)) (order sessions
                 (λ _. old.store ≡ record old.store
                 { queries = drop_first (λ q. bytes_eq (listed_name q) name) old.store.queries }) (OutOfMemoryWhere ⊥)
                 (ap₂ (λ (o : Option Listed) (c : Bool). first_refusal ((is_none o, NoQuery) ∷ (c, InUse) ∷ [])) known
-                (or_true d.used (is_member old.store.queries name)
+                (or_right d.used (is_member old.store.queries name)
                 (subst (λ (n : Bytes). is_member old.store.queries n ≡ true) called
                 (seat_member e b us order w at s k j is among))));
             stays = refl;

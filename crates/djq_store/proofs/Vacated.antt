@@ -1,7 +1,6 @@
 -- A query that no union needs leaves its place in the engine, and with it the store.
 use Rattle.std.proofs.Common.{ℕ, zero, suc, List, [], ◌∷◌, ◌++◌, ◌+◌, ◌≡◌, ◌<◌, ◌⊎◌, inl, inr, Bool}
-use Rattle.std.proofs.Common.{true, false, refl, sym, ap, ap₂, ◌∙◌, subst, length, get_or, set}
-use Rattle.std.proofs.Common.{arith}
+use Rattle.std.proofs.Common.{true, false, refl, sym, ap, ap₂, ◌∙◌, subst, length, get_or, set, arith}
 use Rattle.std.specs.Prelude.{◌==◌, ◌&&◌, ◌||◌, not, Option, None, Some, IsSomeAnd, cond, count_by}
 use Rattle.std.specs.Prelude.{find, filter, map, nat_lt, option_to_list, option_map, All, Ok, ⊤}
 use Rattle.std.specs.List.{AllByRecursion}
@@ -15,7 +14,7 @@ use Rattle.djq_machine.specs.State.{Store}
 use Rattle.djq_live.specs.Live.{Live, IsShowable}
 use Rattle.djq_live.specs.Member.{query_at, queries_at, AreAlike}
 use Rattle.djq_reach.specs.Places.{is_reader}
-use Rattle.djq_reach.proofs.Reaching.{place_below}
+use Rattle.djq_reach.proofs.Reaching.{place_below, reader_there}
 use Rattle.djq_engine.specs.declared.cursor.QueryId.{QueryId}
 use Rattle.djq_engine.specs.Kept.{Kept, Held, Registered, SameCursors, TellsOf, DropsTelling}
 use Rattle.djq_engine.specs.Kept.{held_at, registered_at, registered_of, same_query, told_at}
@@ -32,6 +31,7 @@ use Rattle.djq_store.proofs.Held.{held_low, held_high}
 use Rattle.djq_store.proofs.Ordered.{Seat, seat_order, listed_seat, listed_low, registered_by_name, named_here}
 use Rattle.djq_store.proofs.Placed.{filter_long, map_long, told_low, told_high}
 use Rattle.djq_store.proofs.Seats.{Slot, cases_place, low_place, high_place}
+use Rattle.djq_deltas.proofs.Cases.{first_holds}
 
 -- the members of a union are the same where the vacated place isn't one
 module _ (gs gs' : List (Option Live)) (at : ℕ) (others : (i : ℕ) → (i ≡ at → ⊥) → query_at gs' i ≡ query_at gs i) where
@@ -90,20 +90,6 @@ map_filter f p (x ∷ xs) = step (p (f x)) (map_filter f p xs)
         ≡ map f (cond c (x ∷ filter (λ x. p (f x)) xs) (filter (λ x. p (f x)) xs))
     step true e = ap (λ l. f x ∷ l) e
     step false e = e
-
-reader_at : (xs : List ℕ) (k d : ℕ) → k < length xs → is_reader xs (get_or xs k d) ≡ true
-reader_at [] k d low = absurd (omega arith)
-reader_at (x ∷ xs) zero d low = ap (λ c. c || is_reader xs x) (eq-eqb x x refl)
-reader_at (x ∷ xs) (suc k) d low = ap (λ c. (x == get_or xs k d) || c) (reader_at xs k d (omega arith))
-    ∙ or_true (x == get_or xs k d)
-  where
-    or_true : (b : Bool) → (b || true) ≡ true
-    or_true true = refl
-    or_true false = refl
-
-and_left : (b c : Bool) → (b && c) ≡ true → b ≡ true
-and_left true c e = refl
-and_left false c e = absurd cc
 
 -- What the engine does where it drops the query of a place that no union needs.
 pub record Vacates (e e' : Kept) (us : List (Option Joined)) (name : Bytes) (at : ℕ) : Type 0 where
@@ -189,9 +175,9 @@ module _ (e e' : Kept) (us : List (Option Joined)) (order sessions affected : Li
       ap (is_reader (query_places order))
       (sym (ap (λ xs. get_or xs k d.id.at) w.queries
       ∙ get_or-map (λ (r : Registered). r.id.at) e.registered k d d.id.at low))
-      ∙ reader_at (query_places order) k d.id.at below in
+      ∙ reader_there (query_places order) k d.id.at below in
       let there : is_reader order x.id.at
-      ≡ true = and_left (is_reader order x.id.at) (nat_lt x.id.at QUERIES)
+      ≡ true = first_holds (is_reader order x.id.at) (nat_lt x.id.at QUERIES)
       (sym (reader_filter (λ i. nat_lt i QUERIES) order x.id.at) ∙ among) in
       let low_at : x.id.at < QUERIES = omega (arith, place_below e.places x.id.at placed.0 placed.1, v.before.few) in
       let is : listed_at e.places us x.id.at ≡ x.query = listed_low e.places us x.id.at placed.0 low_at placed.1

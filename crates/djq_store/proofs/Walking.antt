@@ -26,6 +26,8 @@ use Rattle.djq_store.specs.Places.{joined_at, union_watchers}
 use Rattle.djq_store.specs.Settling.{reads_some, touched_in, SettlesAt, is_settled, settling_steps, AreUnionsUnwatched}
 use Rattle.djq_store.proofs.ReadBy.{any_same}
 use Rattle.djq_store.proofs.Summing.{kept_was}
+use Rattle.djq_deltas.proofs.Cases.{or_false}
+use Rattle.djq_reach.proofs.Among.{or_true}
 
 -- what a list has at a place
 pub got : {A : Type 0} (xs : List A) (n : ℕ) (x : A) → slice_get xs n ≡ Some x → (n < length xs) × (get_or xs n x ≡ x)
@@ -37,9 +39,6 @@ got (y ∷ xs) zero x e = (omega arith, same e)
     same f = cc
 got (y ∷ xs) (suc n) x e = let g = got xs n x e in (omega (arith, g.0), g.1)
 
-pub got_there : {A : Type 0} (xs : List A) (n : ℕ) (x : A) → slice_get xs n ≡ Some x → Contains xs x
-got_there xs n x e = let g = got xs n x e in (n, g.0, g.1)
-
 -- ---- flags of places
 
 pub get_replicated : (n i : ℕ) → get_or (replicate n false) i false ≡ false
@@ -47,14 +46,6 @@ get_replicated zero zero = refl
 get_replicated zero (suc i) = refl
 get_replicated (suc n) zero = refl
 get_replicated (suc n) (suc i) = get_replicated n i
-
-or_true : (b : Bool) → (b || true) ≡ true
-or_true true = refl
-or_true false = refl
-
-or_false : (b : Bool) → (b || false) ≡ b
-or_false true = refl
-or_false false = refl
 
 pub reached_more : (flags : List Bool) (ids : List QueryId) (n : ℕ) (x : QueryId) → x.at < length flags
     → slice_get ids n ≡ Some x → ((i : ℕ) → get_or flags i false ≡ is_reached (take n ids) i)

@@ -5,7 +5,7 @@ use Rattle.std.specs.Prelude.{is_some, IsSomeAnd, filter, find, map, length, cou
 use Rattle.std.specs.Prelude.{slice_index_or, unwrap_or, All, AllPairs, Contains, ⊤}
 use Rattle.std.specs.List.{list_any}
 use Rattle.std.proofs.Common.{refl, sym, ap, ap₂, ◌∙◌, subst, inl, inr, arith, get_or}
-use Rattle.std.proofs.lemmas.Bool.{eqb-true, eq-eqb, false≢true, lt-ltb, ltb-true, le-ltb, cases_lt}
+use Rattle.std.proofs.lemmas.Bool.{eqb-true, eq-eqb, false≢true, lt-ltb, ltb-true, le-ltb, cases_lt, and_parts}
 use Rattle.std.proofs.lemmas.List.Elements.{All-nil, All-cons, All-head, All-tail, All-contains}
 use Rattle.std.proofs.lemmas.List.Kept.{AllPairs-cons, AllPairs-filter}
 use Rattle.std.proofs.lemmas.List.Sums.{sum_by-cons}
@@ -48,6 +48,7 @@ use Rattle.djq_store.proofs.ReadBy.{the_query, any_there}
 use Rattle.djq_store.proofs.Seats.{Slot, cases_place, low_place, high_place}
 use Rattle.djq_store.proofs.Slots.{slot_below, count_positive}
 use Rattle.djq_store.proofs.Summing.{sum_covered, sum_kept, sum_mapped, sum_fewer, kept_was}
+use Rattle.std.proofs.lemmas.Bool.{and_from}
 
 -- ---- lists
 
@@ -98,14 +99,6 @@ counted_slot p (o ∷ us) low = by (p o) refl (λ l. counted_slot p us l)
         let here : count_by p (o ∷ us) ≡ 0 + count_by p us =
         sum ∙ ap (λ (c : Bool). cond c 1 0 + count_by p us) e in
         let m = more (omega (arith, low, here)) in (suc m.0, m.1)
-
-and_true : (b c : Bool) → (b && c) ≡ true → (b ≡ true) × (c ≡ true)
-and_true true c e = (refl, e)
-and_true false c e = absurd cc
-
-both_true : (b c : Bool) → b ≡ true → c ≡ true → (b && c) ≡ true
-both_true true c e f = f
-both_true false c e f = absurd cc
 
 -- where nothing changed, a delta has nothing
 pub none_changed : (Before After : Tuple → Type 0) (changes : List Change) → IsDelta Before After changes
@@ -256,7 +249,7 @@ module _ (change : RowsChange) (relations : List Bytes) (turn : Turn) (e e' : Ke
       (engine_ordered e b.did.before us order w sessions r k) in (
         seen_as at,
         kept_there IsAffected (map seen_as order) (seen_as at)
-            (both_true (is_outdated change (seen_as at).query) (is_watched (seen_as at))
+            (and_from (is_outdated change (seen_as at).query) (is_watched (seen_as at))
             (ap (is_outdated change) listed ∙ outdated)
             (ap (λ n. nat_lt 0 n) (sessions_low at low) ∙ lt-ltb 0 (slice_index_or sessions at 0) some))
             there,
@@ -278,7 +271,7 @@ module _ (change : RowsChange) (relations : List Bytes) (turn : Turn) (e e' : Ke
           → (x : Registered) × Contains rs x × Contains (asked_r x) m
       by None there miss = absurd (false≢true miss)
       by (Some j) there want =
-          let both = and_true (nat_lt 0 j.watchers) (is_reader j.union.members m) want in
+          let both = and_parts (nat_lt 0 j.watchers) (is_reader j.union.members m) want in
           let joint : Joint us k = record { union = j; there = there } in
           let united = w.united k j there in
           let at = QUERIES + k in
@@ -290,7 +283,7 @@ module _ (change : RowsChange) (relations : List Bytes) (turn : Turn) (e e' : Ke
           ∙ any_there (λ i. is_some (change.outdater (a_query (q_at i)))) j.union.members m mine one in (
             seen_as at,
             kept_there IsAffected (map seen_as order) (seen_as at)
-                (both_true (is_outdated change (seen_as at).query) (is_watched (seen_as at))
+                (and_from (is_outdated change (seen_as at).query) (is_watched (seen_as at))
                 (ap (is_outdated change) (listed_joint e.places us k joint) ∙ reached)
                 (ap (λ n. nat_lt 0 n) (sessions_high k ∙ ap union_watchers there) ∙ both.0))
                 (seen_there e b.did.before us order w sessions at (joint_order e b.did.before us order w k joint)),
@@ -305,7 +298,7 @@ module _ (change : RowsChange) (relations : List Bytes) (turn : Turn) (e e' : Ke
   wanted m k hit =
       let r = mapped_was (λ (s : Registered). s.id.at) ers m k in
       let was = kept_was IsAffected e.registered r.0 r.1 in
-      let both = and_true (is_outdated change r.0.query) (is_watched r.0) was.1 in
+      let both = and_parts (is_outdated change r.0.query) (is_watched r.0) was.1 in
       subst (λ (i : ℕ). (x : Registered) × Contains rs x × Contains (asked_r x) i) r.2
       (by r.0 was.0 both.0 (ltb-true 0 r.0.watchers both.1)
       (subst (λ (i : ℕ). is_touched change (q_at i) ≡ true) (sym r.2) hit)
@@ -328,7 +321,7 @@ module _ (change : RowsChange) (relations : List Bytes) (turn : Turn) (e e' : Ke
       subst (λ (i : ℕ). Contains places i) (ap (λ (id : QueryId). id.at) s.id)
       (mapped_there (λ (r : Registered). r.id.at) ers s.registered
       (kept_there IsAffected e.registered s.registered
-      (both_true (is_outdated change s.registered.query) (is_watched s.registered) outdated
+      (and_from (is_outdated change s.registered.query) (is_watched s.registered) outdated
       (lt-ltb 0 s.registered.watchers some))
       (found_there e.registered (id_at m) s.registered s.found)))
 
@@ -349,7 +342,7 @@ module _ (change : RowsChange) (relations : List Bytes) (turn : Turn) (e e' : Ke
       let is : s.registered.query ≡ a_query (q_at m) = s.is ∙ ap a_query (sym (ap the_query s.there)) in
       let want : wants m (joined_at us k) ≡ true =
       ap (wants m) there
-      ∙ both_true (nat_lt 0 j.watchers) (is_reader j.union.members m) (lt-ltb 0 j.watchers some)
+      ∙ and_from (nat_lt 0 j.watchers) (is_reader j.union.members m) (lt-ltb 0 j.watchers some)
       (order_has j.union.members m was.0) in
       let many = count_positive (wants m) us k (slot_below us k j there) want in
       let sum = seat_watchers m s in
@@ -437,7 +430,7 @@ module _ (change : RowsChange) (relations : List Bytes) (turn : Turn) (e e' : Ke
     has : (r : Registered) → Contains rs r → Has r
     has r c =
         let was = kept_was IsAffected (map seen_as order) r c in
-        let both = and_true (is_outdated change r.query) (is_watched r) was.1 in
+        let both = and_parts (is_outdated change r.query) (is_watched r) was.1 in
         let at = mapped_was seen_as order r was.0 in
         subst Has at.2 (by at.0 (order_has order at.0 at.1)
         (ap (λ (x : Registered). is_outdated change x.query) at.2 ∙ both.0)

@@ -1,5 +1,5 @@
 -- What an input comes to in a mirror is all that it comes to: lines are cut in one way, and a line has one turn.
-use Rattle.std.specs.Prelude.{ℕ, List, [], ◌∷◌, ◌++◌, ◌≡◌, ◌≢◌, ◌||◌, ◌&&◌, Bool, true, false, not, Option, None, Some}
+use Rattle.std.specs.Prelude.{ℕ, List, [], ◌∷◌, ◌++◌, ◌≡◌, ◌≢◌, ◌||◌, ◌&&◌, Bool, true, not, Option, None, Some}
 use Rattle.std.specs.List.Sorted.{IsStrictlySortedBy}
 use Rattle.std.proofs.Common.{refl, sym, ap, ap₂, ◌∙◌, subst, append_assoc}
 use Rattle.std.proofs.lemmas.List.Elements.{All-head, All-tail}
@@ -8,13 +8,13 @@ use Rattle.djq_lines.specs.Reply.{line, cells_text}
 use Rattle.djq_mirror.specs.declared.mode.Mode.{Mode}
 use Rattle.djq_mirror.specs.Inputs.{lines_text, HasNoLf, FollowsAll, Stops}
 use Rattle.djq_mirror.specs.Mirror.{Held, at_first, Act, keep, clear, put, take_out, turn_of}
-use Rattle.djq_mirror.specs.Mirror.{may_act, may_turn, allows, has_text, IsInOrder, Acted, Turned}
-use Rattle.djq_mirror.specs.Mirror.{IsLine, Follows}
+use Rattle.djq_mirror.specs.Mirror.{may_act, may_turn, allows, has_text, IsInOrder, Acted, Turned, IsLine, Follows}
 use Rattle.djq_mirror.specs.Reading.{News, news_of}
 use Rattle.djq_mirror.specs.Replies.{Reply}
 use Rattle.djq_mirror.proofs.Telling.{reply_told}
 use Rattle.djq_mirror.proofs.Turning.{turn_told}
 use Rattle.djq_told.specs.Whole.{HeldAlone}
+use Rattle.djq_deltas.proofs.Cases.{not_both}
 
 -- ---- lines
 
@@ -106,10 +106,6 @@ line_alike name l a b a' b' h one two =
     turned_alike a b a' b' (turn_of name a.mode one.reply) h one.turned
     (subst (λ (t : Option (Mode × Act)). Turned b t b') turn two.turned)
 
-both_ways : (b : Bool) → b ≡ true → b ≡ false → ⊥
-both_ways true h k = absurd cc
-both_ways false h k = absurd cc
-
 -- ---- whole inputs
 
 in_order_behind : (name : Bytes) (old : Held) (ls : List Bytes) (new : Held) → FollowsAll name old ls new
@@ -160,7 +156,7 @@ stops_nowhere name a b h (l ∷ ls) [] a' b' bad (x ∷ behind) e one two own st
     ≡ turn_of name a.mode f.reply = ap (λ m. turn_of name m f.reply) still.mode in
     let allowed : allows name b' f.reply ≡ true =
     ap (may_turn b'.texts) turn ∙ may_alike a b' (turn_of name a.mode f.reply) still ∙ f.allowed in
-    both_ways (allows name b' f.reply) allowed (stops.1 f.reply here)
+    not_both (allows name b' f.reply) allowed (stops.1 f.reply here)
 stops_nowhere name a b h (l ∷ ls) (m ∷ ms) a' b' bad behind e one two own stops =
     let cut = one_front l m (lines_text ls) (lines_text ms ++ (bad ++ behind)) one.1 two.1
     (sym (line_then l (lines_text ls)) ∙ e ∙ append_assoc (line m) (lines_text ms) (bad ++ behind)

@@ -1,7 +1,6 @@
 -- What the cursors of one session have, along steps in which it opens and reads none.
 use Rattle.std.specs.Prelude.{ℕ, List, [], ◌∷◌, ◌==◌, ◌≡◌, ◌<◌, ◌≤◌, ◌++◌, ◌⊎◌, Bool, true, false}
-use Rattle.std.specs.Prelude.{not, cond, length, filter, find, Option, None, Some, MatchOption}
-use Rattle.std.specs.Prelude.{option_map, map, All}
+use Rattle.std.specs.Prelude.{not, cond, length, filter, find, Option, None, Some, MatchOption, option_map, map, All}
 use Rattle.std.proofs.Common.{refl, sym, ap, ◌∙◌, subst, inl, inr, arith}
 use Rattle.std.proofs.lemmas.Bool.{eqb-true, eq-eqb}
 use Rattle.std.proofs.lemmas.List.{length-map}
@@ -53,11 +52,13 @@ use Rattle.djq_laws.specs.Form.{
   Does,
 }
 use Rattle.djq_laws.proofs.Changing.{all_dropped, all_mapped}
-use Rattle.djq_laws.proofs.Finding.{some_and}
+use Rattle.djq_deltas.proofs.Cases.{some_there}
 use Rattle.djq_laws.proofs.Forms.{command_does, Reads, turned_down, carried_out, line_reads}
 use Rattle.djq_laws.proofs.Queueing.{session_changed, session_other}
 use Rattle.djq_laws.proofs.Doing.{closing, begun, closing_id, closing_cursors, rows_do}
 use Rattle.djq_told.proofs.Keeping.{change_keeps}
+use Rattle.djq_laws.proofs.Staying.{find_front}
+use Rattle.djq_laws.proofs.Telling.{find_mapped}
 
 abbrev pub OpenHas : (List Tuple → Bool → Type 0) → Position → Type 0
 OpenHas P (open_at given finished) = P given finished
@@ -95,26 +96,6 @@ find_kept p keep both (x ∷ xs) = by (p x) (keep x) refl refl (find_kept p keep
     by true false e f h = let yes = both x e in absurd (cc (yes, f))
     by false true e f h = ap (λ (r : Bool). cond r (Some x) (find p (filter keep xs))) e ∙ h
     by false false e f h = h
-
-find_front : (p : Session → Bool) (xs : List Session) (y x : Session) → find p xs ≡ Some x → find p (xs ++ y ∷ [])
-    ≡ Some x
-find_front p [] y x h = absurd cc
-find_front p (z ∷ zs) y x h = by (p z) h (λ k. find_front p zs y x k)
-  where
-    by : (b : Bool) → cond b (Some z) (find p zs) ≡ Some x → (find p zs ≡ Some x → find p (zs ++ y ∷ []) ≡ Some x)
-        → cond b (Some z) (find p (zs ++ y ∷ [])) ≡ Some x
-    by true k rest = k
-    by false k rest = rest k
-
-find_mapped : (p : Session → Bool) (f : Session → Session) → ((x : Session) → p (f x) ≡ p x) → (xs : List Session)
-    → find p (map f xs) ≡ option_map f (find p xs)
-find_mapped p f keeps [] = refl
-find_mapped p f keeps (x ∷ xs) = by (p x) (keeps x) (find_mapped p f keeps xs)
-  where
-    by : (b : Bool) → p (f x) ≡ b → find p (map f xs) ≡ option_map f (find p xs)
-        → cond (p (f x)) (Some (f x)) (find p (map f xs)) ≡ option_map f (cond b (Some x) (find p xs))
-    by true e h = rw e refl
-    by false e h = rw e h
 
 module _ (s : ℕ) (name : Bytes) (P : List Tuple → Bool → Type 0) where
   has_same : (old new : State) → new ≡ old → Has s name P old → Has s name P new
@@ -312,16 +293,16 @@ module _ (s : ℕ) (name : Bytes) (P : List Tuple → Bool → Type 0) where
             few = k.few;
           })
   has_acts old (fed t bytes) e mid calm h k =
-      let f = some_and (session_of old t) (λ x. FedStep old t bytes x e mid) h in
+      let f = some_there (session_of old t) (λ x. FedStep old t bytes x e mid) h in
       has_fed old t bytes e mid (f.0).cause f.2 k
   has_acts old (stepped t outcome) e mid calm h k =
-      let f = some_and (session_of old t) (λ x. (x.cause ≡ None) × FrontStep old t x outcome e mid) h in
+      let f = some_there (session_of old t) (λ x. (x.cause ≡ None) × FrontStep old t x outcome e mid) h in
       has_front old t f.0 outcome e mid calm f.2.1 k
   has_acts old (took t bytes) e mid calm h k =
-      let f = some_and (session_of old t) (λ x. TookStep old t bytes x e mid) h in
+      let f = some_there (session_of old t) (λ x. TookStep old t bytes x e mid) h in
       has_kept old mid t (λ y. record y { pending = f.2.1.0 }) (λ x. refl) (λ x. refl) f.2.1.2 k
   has_acts old (ended t) e mid calm h k =
-      let f = some_and (session_of old t) (λ x. EndedStep old t x e mid) h in
+      let f = some_there (session_of old t) (λ x. EndedStep old t x e mid) h in
       has_input old mid t _ _ _ (f.0).cause f.2 k
   has_acts old (closed t bytes) e mid calm h k =
       subst (λ (st : State). Has s name P st) (sym h.2) (record {

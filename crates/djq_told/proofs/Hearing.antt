@@ -1,8 +1,7 @@
 -- What a change of rows tells one session that goes on: the deltas of the queries that it watches,
 -- in order, and then the reply where the change was its own.
 use Rattle.std.specs.Prelude.{ℕ, List, [], ◌∷◌, ◌==◌, ◌≡◌, ◌<◌, ◌⊎◌, ◌++◌, Bool, true, false, cond}
-use Rattle.std.specs.Prelude.{Option, None, Some, MatchOption, option_map, find, map, All, AllPairs}
-use Rattle.std.specs.Prelude.{Contains}
+use Rattle.std.specs.Prelude.{Option, None, Some, MatchOption, option_map, map, All, AllPairs, Contains}
 use Rattle.std.specs.List.{list_any, flat_map}
 use Rattle.std.proofs.Common.{refl, sym, ap, ap₂, ◌∙◌, subst, inl, inr, arith, append_assoc, append-nil}
 use Rattle.std.proofs.lemmas.Bool.{eqb-true, eq-eqb, ne_eqb}
@@ -25,9 +24,9 @@ use Rattle.djq_machine.specs.Watch.{Delta, Telling, says_more, ends_more, watchi
 use Rattle.djq_machine.specs.Watch.{TellsWatcher, TellsSession, TellsDelta, RepliesLast, ChangeStep}
 use Rattle.djq_deltas.proofs.Lists.{nothing_there, first_or_later, mapped_there, pairs_head, pairs_tail}
 use Rattle.djq_laws.specs.Moved.{EndsByRun}
-use Rattle.djq_laws.proofs.Finding.{some_and}
+use Rattle.djq_deltas.proofs.Cases.{some_there}
 use Rattle.djq_laws.proofs.Queueing.{gaining, session_changed, session_other, queued_all}
-use Rattle.djq_laws.proofs.Telling.{IsOver, over_stays}
+use Rattle.djq_laws.proofs.Telling.{IsOver, over_stays, find_mapped}
 use Rattle.djq_laws.proofs.Containing.{found_there, found_passes}
 use Rattle.djq_told.proofs.Keeping.{beginning, session_keeps, delta_keeps}
 use Rattle.djq_told.specs.Told.{replies_text, delta_replies}
@@ -323,7 +322,7 @@ module _ (s : ℕ) (ws : List Bytes) where
           ((new ≡ says_more t reply m) ⊎
           ((list_any (λ part. part.0 == t) m.queued ≡ true) × (new ≡ ends_more t end_memory Memory m)))
           (λ c. new ≡ m)
-      f = some_and (session_of m.state t) (λ x. MatchOption x.cause
+      f = some_there (session_of m.state t) (λ x. MatchOption x.cause
           ((new ≡ says_more t reply m) ⊎
           ((list_any (λ part. part.0 == t) m.queued ≡ true) × (new ≡ ends_more t end_memory Memory m)))
           (λ c. new ≡ m)) h
@@ -341,16 +340,6 @@ module _ (s : ℕ) (ws : List Bytes) where
           (λ c. new ≡ m)) same f.2) k
 
 -- ---- the change
-
-find_mapped : (p : Session → Bool) (f : Session → Session) → ((x : Session) → p (f x) ≡ p x) → (xs : List Session)
-    → find p (map f xs) ≡ option_map f (find p xs)
-find_mapped p f keeps [] = refl
-find_mapped p f keeps (x ∷ xs) = by (p x) (keeps x) (find_mapped p f keeps xs)
-  where
-    by : (b : Bool) → p (f x) ≡ b → find p (map f xs) ≡ option_map f (find p xs)
-        → cond (p (f x)) (Some (f x)) (find p (map f xs)) ≡ option_map f (cond b (Some x) (find p xs))
-    by true e h = rw e refl
-    by false e h = rw e h
 
 module _ (s : ℕ) (x : Session) (old : State) (is : session_of old s ≡ Some x) where
   begun : (outcome : RowsOutcome) (store : Store) → Hears s x.watches (beginning old outcome store) []

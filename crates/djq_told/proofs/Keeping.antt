@@ -1,6 +1,6 @@
 -- What each part of a change keeps, the whole change keeps: as djq_laws has it for its own laws.
 use Rattle.std.specs.List.{list_any}
-use Rattle.std.specs.Prelude.{ℕ, [], ◌==◌, ◌≡◌, ◌⊎◌, true, cond, Option, None, Some, IsSome, MatchOption, option_map}
+use Rattle.std.specs.Prelude.{ℕ, [], ◌==◌, ◌≡◌, ◌⊎◌, true, cond, Option, None, Some, MatchOption}
 use Rattle.std.proofs.Common.{refl, sym, subst, inl, inr}
 use Rattle.djq_model.specs.Data.{Bytes}
 use Rattle.djq_model.specs.Listed.{listed_name}
@@ -8,31 +8,15 @@ use Rattle.djq_lines.specs.declared.answer.EndCause.{EndCause}
 use Rattle.djq_lines.specs.declared.answer.EndCause.TheVariants.{Slow, Memory}
 use Rattle.djq_lines.specs.Reply.{end_slow, end_memory}
 use Rattle.djq_machine.specs.State.{Store, State, Session, session_of, ids_of}
-use Rattle.djq_machine.specs.Effect.{Effect, queue_all}
+use Rattle.djq_machine.specs.Effect.{Effect}
 use Rattle.djq_machine.specs.Changes.{RowsOutcome, is_accepted, tried, changed}
-use Rattle.djq_machine.specs.Run.{to_session}
 use Rattle.djq_machine.specs.Call.{IsOpen}
-use Rattle.djq_machine.specs.Watch.{Delta, Telling, says_more, ends_more, watching, watcher_of}
+use Rattle.djq_machine.specs.Watch.{Delta, Telling, says_more, ends_more, watcher_of}
 use Rattle.djq_machine.specs.Watch.{TellsWatcher, TellsSession, TellsDelta, ChangeStep}
 use Rattle.djq_machine.proofs.Walks.{walk_keeps}
 use Rattle.djq_laws.specs.Moved.{EndsByRun}
-use Rattle.djq_laws.proofs.Finding.{some_and}
-use Rattle.djq_laws.proofs.Queueing.{gaining, queued_all}
-
--- A session that watches is open.
-watching_some : (q : Bytes) (o : Option Session) (x : Session) → watching q o ≡ Some x → IsSome o
-watching_some q None x e = absurd cc
-watching_some q (Some y) x e = refl
-
-before_gaining : (bytes : Bytes) (o : Option Session) → IsSome (option_map (gaining bytes) o) → IsSome o
-before_gaining bytes None h = h
-before_gaining bytes (Some x) h = refl
-
-watcher_open : (m : Telling) (q : Bytes) (s : ℕ) (x : Session) → watcher_of m q s ≡ Some x → IsOpen m.state s
-watcher_open m q s x e =
-    before_gaining (to_session s m.queued) (session_of m.state s)
-    (subst (λ (o : Option Session). IsSome o) (queued_all m.state m.queued s)
-    (watching_some q (session_of (queue_all m.state m.queued) s) x e))
+use Rattle.djq_deltas.proofs.Cases.{some_there}
+use Rattle.djq_laws.proofs.Told.{watcher_open}
 
 -- the beginning of a change
 abbrev pub beginning : State → RowsOutcome → Store → Telling
@@ -73,7 +57,7 @@ module _ (P : Telling → Type 0)
       (new : State)
       (h : ChangeStep old s outcome store reply e new) → P h.told → P h.last
   last_keeps old s outcome store reply e new h told =
-      let f = some_and (session_of h.told.state s) (λ x. MatchOption x.cause
+      let f = some_there (session_of h.told.state s) (λ x. MatchOption x.cause
       ((h.last ≡ says_more s reply h.told) ⊎
       ((list_any (λ part. part.0 == s) h.told.queued ≡ true) × (h.last ≡ ends_more s end_memory Memory h.told)))
       (λ c. h.last ≡ h.told)) h.replies in

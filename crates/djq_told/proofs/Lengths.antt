@@ -1,11 +1,9 @@
 -- A line is no shorter than the variables of the query that it says.
 use Rattle.std.specs.Prelude.{ℕ, List, [], ◌∷◌, ◌++◌, ◌==◌, ◌&&◌, ◌||◌, ◌≡◌, ◌≤◌, ◌+◌, ◌-◌, Bool}
-use Rattle.std.specs.Prelude.{true, false, cond, not, nat_le, length, take, slice_index, Option}
-use Rattle.std.specs.Prelude.{None, Some}
+use Rattle.std.specs.Prelude.{true, false, cond, not, length, take, Option, None, Some}
 use Rattle.std.specs.List.{AllZip}
-use Rattle.std.proofs.Common.{refl, sym, ap, ◌∙◌, arith}
-use Rattle.std.proofs.lemmas.Bool.{leb-false, leb-true}
-use Rattle.std.proofs.lemmas.List.{length-append, length-take-le}
+use Rattle.std.proofs.Common.{refl, ap, ◌∙◌, arith}
+use Rattle.std.proofs.lemmas.List.{length-append}
 use Rattle.djq_model.specs.Data.{Bytes}
 use Rattle.djq_model.specs.declared.query.Term.{Term}
 use Rattle.djq_model.specs.declared.query.Term.TheVariants.{Variable, Hole, Constant}
@@ -20,6 +18,7 @@ use Rattle.djq_lines.specs.Line.{too_long, a_line, before_lf, behind_lf, without
 use Rattle.djq_proto.specs.Saying.{Says, SaysAtom, SaysItem, SaysItems, SaysName, SaysTerm}
 use Rattle.djq_proto.specs.Saying.{list_tokens, more_tokens, atoms_among}
 use Rattle.djq_told.proofs.Weighing.{total, total_append}
+use Rattle.djq_laws.proofs.Short.{short_line}
 
 -- ---- what variables take: their bytes, and one before each
 
@@ -134,28 +133,6 @@ not_long : (a b : Bool) → (a || b) ≡ false → a ≡ false
 not_long true b f = absurd cc
 not_long false b f = refl
 
-without_cr_less : (bs : Bytes) → is_long bs ≡ false → length (without_cr bs) ≤ LINE_BYTES
-without_cr_less bs e = by (slice_index bs (length bs - 1) == 13) refl
-  where
-    few : length bs ≤ LINE_BYTES + 1
-    few = let less = leb-false (LINE_BYTES + 2) (length bs) (not_long _ _ e) in omega (arith, less)
-
-    whole : (slice_index bs (length bs - 1) == 13) ≡ false → (b : Bool) → nat_le (LINE_BYTES + 1) (length bs) ≡ b
-        → length bs ≤ LINE_BYTES
-    whole k false f = let less = leb-false (LINE_BYTES + 1) (length bs) f in omega (arith, less)
-    whole k true f =
-        let most = leb-true (LINE_BYTES + 1) (length bs) f in
-        let at : length bs - 1 ≡ LINE_BYTES = omega (arith, few, most) in
-        let ends = long_byte (nat_le (LINE_BYTES + 2) (length bs)) (nat_le (LINE_BYTES + 1) (length bs))
-        (slice_index bs LINE_BYTES == 13) e f in
-        let no : true ≡ false = sym ends ∙ ap (λ i. slice_index bs i == 13) (sym at) ∙ k in
-        absurd (cc no)
-
-    by : (b : Bool) → (slice_index bs (length bs - 1) == 13) ≡ b
-        → length (cond b (take (length bs - 1) bs) bs) ≤ LINE_BYTES
-    by true k = let less = length-take-le (length bs - 1) bs (omega arith) in omega (arith, less, few)
-    by false k = whole k (nat_le (LINE_BYTES + 1) (length bs)) refl
-
 front_less : (held l rest : Bytes) (long : Bool) (o : Option Bytes) → is_long (before_lf held) ≡ long
     → cond long too_long (line_or_dry (without_cr (before_lf held)) o) ≡ a_line l rest → length l ≤ LINE_BYTES
 front_less held l rest true o e is = absurd cc
@@ -163,7 +140,7 @@ front_less held l rest false None e is = absurd cc
 front_less held l rest false (Some behind) e is =
     let same : without_cr (before_lf held) ≡ l = cc in
     let size = ap length same in
-    let less = without_cr_less (before_lf held) e in
+    let less = short_line (before_lf held) e in
     omega (arith, size, less)
 
 pub line_less : (held l rest : Bytes) → front_of held ≡ a_line l rest → length l ≤ LINE_BYTES

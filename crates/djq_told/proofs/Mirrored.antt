@@ -2,8 +2,7 @@
 -- the query takes, step by step.
 use Rattle.std.specs.Prelude.{ℕ, List, [], ◌∷◌, ◌++◌, ◌==◌, ◌≡◌, ◌≤◌, ◌&&◌, Bool, true, false, not}
 use Rattle.std.specs.Prelude.{cond, length, filter, find, Option, None, Some, is_some, is_none}
-use Rattle.std.specs.Prelude.{IsSomeAnd, MatchOption, option_map, nat_le, map, Result, Ok, Err}
-use Rattle.std.specs.Prelude.{codes, All, Contains, ⊤}
+use Rattle.std.specs.Prelude.{IsSomeAnd, MatchOption, option_map, nat_le, map, Result, Ok, Err, codes, All, Contains, ⊤}
 use Rattle.std.proofs.Common.{refl, sym, ap, ap₂, ◌∙◌, subst, inl, inr, arith, append-nil}
 use Rattle.std.proofs.lemmas.Bool.{eqb-true, eq-eqb, and_parts}
 use Rattle.std.proofs.lemmas.List.Elements.{All-nil, All-cons, All-head, All-append, All-contains, All-weaker}
@@ -41,8 +40,8 @@ use Rattle.djq_laws.specs.Watched.{IsWatcher, WatchesAlong, batch_of, event_chan
 use Rattle.djq_laws.proofs.Answering.{SameAnswers}
 use Rattle.djq_laws.proofs.Changing.{all_found}
 use Rattle.djq_laws.proofs.Containing.{found_passes}
-use Rattle.djq_laws.proofs.Finding.{some_and}
-use Rattle.djq_laws.proofs.Forms.{none_holds, none_found, none_first, Reads, turned_down, carried_out, line_reads}
+use Rattle.djq_deltas.proofs.Cases.{some_there, nothing_of}
+use Rattle.djq_laws.proofs.Forms.{none_holds, none_first, Reads, turned_down, carried_out, line_reads}
 use Rattle.djq_laws.proofs.Giving.{step_gives}
 use Rattle.djq_laws.proofs.Queueing.{gaining, session_changed, stepped_cause, stepped as stepped_session}
 use Rattle.djq_laws.proofs.Sounding.{step_sound}
@@ -258,7 +257,7 @@ module _ (q : Listed) (s : ℕ) (old : State) (event : Event) (e : Effect) (new 
           (OutOfMemoryWhere ⊤)) k h.answer in
           let none = none_holds (open_refusal taken.store x.cursors c p) u (λ _. ⊤) (OutOfMemoryWhere ⊤) answered in
           let last = first_of ((nat_le CURSORS (length x.cursors), Limit) ∷ []) in
-          let absent = none_found (cursor_of x.cursors c)
+          let absent = nothing_of (cursor_of x.cursors c)
           (none_first (is_some (cursor_of x.cursors c)) Taken
           (cond (is_none (listed_of taken.store.queries p)) (Some NoQuery) last) none) in
           let empty = none_open x.cursors c absent names in
@@ -522,7 +521,7 @@ module _ (q : Listed) (s : ℕ) (old : State) (event : Event) (e : Effect) (new 
       w.registered) t a
 
   g : (y : Session) × (session_of new s ≡ Some y) × ((y.cause ≡ None) × (is_watching (listed_name q) y ≡ true))
-  g = some_and (session_of new s) (λ y. (y.cause ≡ None) × (is_watching (listed_name q) y ≡ true)) behind.watches
+  g = some_there (session_of new s) (λ y. (y.cause ≡ None) × (is_watching (listed_name q) y ≡ true)) behind.watches
 
   running : cause_of (step.mid) s ≡ None
   running = sym (stepped_cause old event e new step s) ∙ ap cause_in g.1 ∙ g.2.0
@@ -644,7 +643,7 @@ module _ (q : Listed) (s : ℕ) (old : State) (e : Effect) (new : State) (held :
         → Says'
     next_goes c count None found h = refuses NoCursor h
     next_goes c count (Some k) found h =
-        let f = some_and (listed_of old.store.queries k.query) (λ p. NextStepAt now s c p count k.position e (step.mid))
+        let f = some_there (listed_of old.store.queries k.query) (λ p. NextStepAt now s c p count k.position e (step.mid))
         h in
         let registered : listed_of old.store.queries k.query ≡ Some q =
         ap (λ n. listed_of old.store.queries n) (over_name c k found) ∙ before.registered in
@@ -698,8 +697,8 @@ module _ (q : Listed) (s : ℕ) (old : State) (e : Effect) (new : State) (held :
   run_goes : (l : Bytes) (step : Step old (stepped s (run l)) e new) → reading_talks (reading_of l) ≡ true
       → IsSomeAnd (session_of old s) (λ x. MayBeRead (listed_name q) x (reading_of l)) → Says'
   run_goes l step k may =
-      let f = some_and (session_of old s) (λ x. (x.cause ≡ None) × FrontStep old s x (run l) e (step.mid)) step.acts in
-      let p = some_and (session_of old s) (λ x. MayBeRead (listed_name q) x (reading_of l)) may in
+      let f = some_there (session_of old s) (λ x. (x.cause ≡ None) × FrontStep old s x (run l) e (step.mid)) step.acts in
+      let p = some_there (session_of old s) (λ x. MayBeRead (listed_name q) x (reading_of l)) may in
       let one = same_some (session_of old s) p.0 f.0 p.1 f.1 in
       reading_goes l step f.0 f.1 f.2.1.2.rest (reading_of l) refl k
       (subst (λ (y : Session). MayBeRead (listed_name q) y (reading_of l)) one p.2) f.2.1.2.then
@@ -777,7 +776,7 @@ pub watchers_are_well : (q : Listed) (s : ℕ) (old : State) → IsSoundState ol
     → CursorsGive old → IsSomeAnd (session_of old s) (λ x. x.cursors ≡ []) → (done : List Did)
     (new : State) (walk : WatchesAlong q s old done new) → ReadsAlong q s old done new walk → IsWell q s done new
 watchers_are_well q s old sound fine gives none done new walk reads =
-    let f = some_and (session_of old s) (λ x. x.cursors ≡ []) none in
+    let f = some_there (session_of old s) (λ x. x.cursors ≡ []) none in
     let begun : Mirrors q s old at_first = is_idle refl (record {
       session = f.0;
       is = f.1;

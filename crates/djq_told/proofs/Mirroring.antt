@@ -3,13 +3,11 @@ use Rattle.std.specs.Prelude.{ℕ, List, [], ◌∷◌, ◌++◌, ◌≡◌, ◌
 use Rattle.std.specs.Prelude.{cond, filter, Some, map, All, Contains}
 use Rattle.std.proofs.Common.{refl, sym, ap, ap₂, ◌∙◌, subst, inl, inr, append-nil, append_assoc}
 use Rattle.std.proofs.lemmas.List.Elements.{All-nil, All-cons, All-head, All-tail, All-append}
-use Rattle.std.proofs.lemmas.List.Elements.{All-contains, Contains-append_left}
-use Rattle.std.proofs.lemmas.List.Elements.{Contains-append_right}
+use Rattle.std.proofs.lemmas.List.Elements.{All-contains, Contains-append_left, Contains-append_right}
 use Rattle.djq_model.specs.declared.value.Value.{Value}
 use Rattle.djq_model.specs.Data.{Bytes, Tuple, bytes_eq, tuple_eq}
 use Rattle.djq_model.specs.Answer.{AreDifferent}
 use Rattle.djq_model.specs.Equality.{bytes_eq-decides, tuple_eq-decides}
-use Rattle.djq_value.specs.Token.{may_end}
 use Rattle.djq_value.specs.ValueText.{value_text}
 use Rattle.djq_value.specs.ReadValue.{literal_at}
 use Rattle.djq_value.proofs.Literals.{read_back}
@@ -32,6 +30,8 @@ use Rattle.djq_told.specs.Mirrored.{Passes, Shows}
 use Rattle.djq_told.proofs.Replying.{IsHarmless}
 use Rattle.djq_told.proofs.Sorting.{put_in, taken_out, has_put, has_out, sorted_put, sorted_out}
 use Rattle.djq_told.proofs.Sorting.{put_is, out_is, nothing_sorted}
+use Rattle.std.proofs.lemmas.Bool.{or_left, or_right, false_from_ne_true, or_cases}
+use Rattle.djq_mirror.proofs.Celling.{ends_cells}
 
 -- ---- one reply after the other
 
@@ -68,18 +68,14 @@ passes_told name old new (r ∷ rs) h k =
 
 -- ---- texts of tuples
 
-cells_end : (t : Tuple) → may_end (cells_text t) ≡ true
-cells_end [] = refl
-cells_end (v ∷ t) = refl
-
 pub same_cells : (t u : Tuple) → IsSayableRow t → IsSayableRow u → cells_text t ≡ cells_text u → t ≡ u
 same_cells [] [] h k e = refl
 same_cells [] (w ∷ u) h k e = absurd cc
 same_cells (v ∷ t) [] h k e = absurd cc
 same_cells (v ∷ t) (w ∷ u) h k e =
     let behind : value_text v ++ cells_text t ≡ value_text w ++ cells_text u = cc in
-    let first = read_back v (cells_text t) (All-head IsSayableValue v t h).0 (cells_end t) in
-    let second = read_back w (cells_text u) (All-head IsSayableValue w u k).0 (cells_end u) in
+    let first = read_back v (cells_text t) (All-head IsSayableValue v t h).0 (ends_cells t) in
+    let second = read_back w (cells_text u) (All-head IsSayableValue w u k).0 (ends_cells u) in
     let both : Some (v, cells_text t) ≡ Some (w, cells_text u) = sym first ∙ ap literal_at behind ∙ second in
     let parts = pair_same (v, cells_text t) (w, cells_text u) both in
     ap₂ (λ x xs. x ∷ xs) parts.0
@@ -92,18 +88,6 @@ same_cells (v ∷ t) (w ∷ u) h k e =
 same_bytes : (a : Bytes) → bytes_eq a a ≡ true
 same_bytes a = (bytes_eq-decides a a).1 refl
 
-or_split : (a b : Bool) → (a || b) ≡ true → (a ≡ true) ⊎ (b ≡ true)
-or_split true b e = inl refl
-or_split false b e = inr e
-
-or_left : (a b : Bool) → a ≡ true → (a || b) ≡ true
-or_left true b e = refl
-or_left false b e = absurd cc
-
-or_right : (a b : Bool) → b ≡ true → (a || b) ≡ true
-or_right true b e = refl
-or_right false b e = e
-
 and_split : (a b : Bool) → (not a && b) ≡ true → (a ≡ false) × (b ≡ true)
 and_split true b e = absurd cc
 and_split false b e = (refl, e)
@@ -111,10 +95,6 @@ and_split false b e = (refl, e)
 and_join : (a b : Bool) → a ≡ false → b ≡ true → (not a && b) ≡ true
 and_join true b e f = absurd cc
 and_join false b e f = f
-
-false_where : (b : Bool) → (b ≡ true → ⊥) → b ≡ false
-false_where true h = absurd (h refl)
-false_where false h = refl
 
 -- ---- one text is put in, or taken out
 
@@ -125,12 +105,12 @@ pub put_shown : (held : Held) (mode : Mode) (P Q : Tuple → Type 0) (t : Tuple)
     → (has_text held.texts (cells_text t) ≡ false)
     × Shows (record { mode = mode; texts = put_in (cells_text t) held.texts }) Q
 put_shown held mode P Q t h fine good absent from to = (
-  false_where (has_text held.texts (cells_text t)) (λ e.
+  false_from_ne_true (has_text held.texts (cells_text t)) (λ e.
       let k = h.texts (cells_text t) e in
       absent (subst P (same_cells k.0 t (fine k.0 k.1) good k.2) k.1)),
   record {
     order = sorted_put (cells_text t) held.texts h.order;
-    texts = λ u e. by u (or_split (bytes_eq u (cells_text t)) (has_text held.texts u)
+    texts = λ u e. by u (or_cases (bytes_eq u (cells_text t)) (has_text held.texts u)
         (sym (has_put (cells_text t) held.texts u) ∙ e));
     tuples = λ u q. has_put (cells_text t) held.texts (cells_text u) ∙ at u (from u q);
   },
@@ -168,7 +148,7 @@ out_shown held mode P Q t h fine there from to = (
         let k = from u q in
         has_out (cells_text t) held.texts (cells_text u)
         ∙ and_join (bytes_eq (cells_text u) (cells_text t)) (has_text held.texts (cells_text u))
-        (false_where (bytes_eq (cells_text u) (cells_text t)) (λ e.
+        (false_from_ne_true (bytes_eq (cells_text u) (cells_text t)) (λ e.
         k.1 (same_cells u t (fine u k.0) (fine t there) ((bytes_eq-decides (cells_text u) (cells_text t)).0 e))))
         (h.tuples u k.0);
   },
@@ -182,23 +162,20 @@ out_shown held mode P Q t h fine there from to = (
 
 -- ---- the deltas of the query
 
-told_itself : (name : Bytes) → bytes_eq name name ≡ true
-told_itself name = same_bytes name
-
 -- where it isn't live, it is idle behind a delta
 change_turns : (name : Bytes) (mode : Mode) (s : Sign) (t : Tuple)
     → turn_of name mode (changed s name t) ≡ Some (turn_of_change mode s (cells_text t))
 change_turns name Idle s t = ap (λ (b : Bool). Some (cond b (turn_of_change Idle s (cells_text t)) (Idle, keep)))
-    (told_itself name)
+    (same_bytes name)
 change_turns name Listing s t = ap
-    (λ (b : Bool). Some (cond b (turn_of_change Listing s (cells_text t)) (Listing, keep))) (told_itself name)
+    (λ (b : Bool). Some (cond b (turn_of_change Listing s (cells_text t)) (Listing, keep))) (same_bytes name)
 change_turns name Live s t = ap (λ (b : Bool). Some (cond b (turn_of_change Live s (cells_text t)) (Live, keep)))
-    (told_itself name)
+    (same_bytes name)
 
 count_turns : (name : Bytes) (mode : Mode) (n : ℕ) → turn_of name mode (counted name n) ≡ Some (turn_of_count mode)
-count_turns name Idle n = ap (λ (b : Bool). Some (cond b (turn_of_count Idle) (Idle, keep))) (told_itself name)
-count_turns name Listing n = ap (λ (b : Bool). Some (cond b (turn_of_count Listing) (Listing, keep))) (told_itself name)
-count_turns name Live n = ap (λ (b : Bool). Some (cond b (turn_of_count Live) (Live, keep))) (told_itself name)
+count_turns name Idle n = ap (λ (b : Bool). Some (cond b (turn_of_count Idle) (Idle, keep))) (same_bytes name)
+count_turns name Listing n = ap (λ (b : Bool). Some (cond b (turn_of_count Listing) (Listing, keep))) (same_bytes name)
+count_turns name Live n = ap (λ (b : Bool). Some (cond b (turn_of_count Live) (Live, keep))) (same_bytes name)
 
 abbrev pub idle_with : Held → Held
 idle_with held = record { mode = Idle; texts = held.texts }

@@ -17,12 +17,12 @@ use Rattle.djq_laws.specs.Sound.{IsStart}
 use Rattle.djq_laws.specs.Silent.{IsOver, OpensNone}
 use Rattle.djq_laws.proofs.Containing.{found_there, found_passes}
 use Rattle.djq_laws.proofs.Courses.{walk_then}
-use Rattle.djq_laws.proofs.Finding.{some_and}
+use Rattle.djq_deltas.proofs.Cases.{some_there}
 use Rattle.djq_laws.proofs.Telling.{some_of}
 use Rattle.djq_laws.proofs.Dropping.{Later, later as rises}
 use Rattle.djq_laws.proofs.Queueing.{stepped_open}
 use Rattle.djq_laws.proofs.Sending.{acts_moves, step_open}
-use Rattle.djq_laws.proofs.Silent.{all_above, all_apart, over_is_silent}
+use Rattle.djq_laws.proofs.Silent.{all_above, all_apart, over_is_silent, behind}
 use Rattle.djq_laws.proofs.Sounding.{start_sound}
 use Rattle.djq_told.specs.Mirrored.{EndsNow}
 use Rattle.djq_told.specs.Whole.{LeavesOff, GoesOnBehind, ReadsSinceOpened, OpensOnceOnly, OpenedAreReadBack}
@@ -115,9 +115,9 @@ opens_none s old (d ∷ done) new w spares there =
 ends_open : (s : ℕ) (old : State) (event : Event) (e : Effect) (new : State) → Step old event e new → EndsNow s event
     → IsOpen old s
 ends_open s old (ended t) e new h now =
-    let f = some_and (session_of old t) _ h.acts in subst (λ (i : ℕ). IsOpen old i) now (rw f.1 refl)
+    let f = some_there (session_of old t) _ h.acts in subst (λ (i : ℕ). IsOpen old i) now (rw f.1 refl)
 ends_open s old (closed t bytes) e new h now =
-    let f = some_and (session_of old t) _ h.acts.1 in subst (λ (i : ℕ). IsOpen old i) now (rw f.1 refl)
+    let f = some_there (session_of old t) _ h.acts.1 in subst (λ (i : ℕ). IsOpen old i) now (rw f.1 refl)
 ends_open s old (opened t) e new h now = absurd now
 ends_open s old (fed t bytes) e new h now = absurd now
 ends_open s old (stepped t outcome) e new h now = absurd now
@@ -125,11 +125,7 @@ ends_open s old (took t bytes) e new h now = absurd now
 
 -- ---- once
 
-behind : {A : Type 0} (P : A → Type 0) (xs ys : List A) → All P (xs ++ ys) → All P ys
-behind P [] ys h = h
-behind P (x ∷ xs) ys h = behind P xs ys (All-tail P x (xs ++ ys) h)
-
-front : {A : Type 0} (P : A → Type 0) (xs ys : List A) → All P (xs ++ ys) → All P xs
+pub front : {A : Type 0} (P : A → Type 0) (xs ys : List A) → All P (xs ++ ys) → All P xs
 front P [] ys h = All-nil P
 front P (x ∷ xs) ys h = All-cons P x xs (All-head P x (xs ++ ys) h) (front P xs ys (All-tail P x (xs ++ ys) h))
 

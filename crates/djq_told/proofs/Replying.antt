@@ -164,7 +164,7 @@ use Rattle.djq_machine.specs.Command.{
 use Rattle.djq_laws.specs.Sound.{IsSoundStore}
 use Rattle.djq_laws.proofs.Changing.{all_found}
 use Rattle.djq_laws.proofs.Forms.{done_of, none_holds}
-use Rattle.djq_laws.proofs.Finding.{some_and}
+use Rattle.djq_deltas.proofs.Cases.{some_there}
 use Rattle.djq_mirror.specs.declared.mode.Mode.{Mode}
 use Rattle.djq_mirror.specs.declared.mode.Mode.TheVariants.{Idle, Listing, Live}
 use Rattle.djq_mirror.specs.Mirror.{Act, keep, turn_of, turn_of_change, turn_of_count}
@@ -638,7 +638,7 @@ module _ (s : ℕ) (old : State) (t : ℕ) (x : Session) (c : Bytes) (count : �
       (one_line t _ e.queued _ (of_form _ (refused NoCursor) refl (λ name. refl) (λ u. (tt, tt)))
       (ap (λ (y : Effect). y.queued) h.0))
   next_replies (Some k) found h =
-      let f = some_and (listed_of old.store.queries k.query) (λ q. NextStepAt old t c q count k.position e new) h in
+      let f = some_there (listed_of old.store.queries k.query) (λ q. NextStepAt old t c q count k.position e new) h in
       next_at k found f.0 f.1 k.position refl f.2
 
 close_replies : {U : Type 0} (old : State) (s : ℕ) (c : Bytes) (o : Option Cursor) (e : Effect) (new : State)

@@ -158,7 +158,7 @@ use Rattle.djq_laws.specs.Form.{
   is_turned,
   is_refused,
 }
-use Rattle.djq_laws.proofs.Finding.{some_and}
+use Rattle.djq_deltas.proofs.Cases.{some_there}
 use Rattle.djq_laws.proofs.Forms.{add_does, command_does, Reads, turned_down, carried_out, line_reads}
 use Rattle.djq_laws.proofs.Queueing.{session_changed}
 use Rattle.djq_laws.proofs.Changing.{all_changed, all_found, all_dropped, all_mapped}
@@ -577,16 +577,16 @@ pub acts_kept : (old : State) (event : Event) (e : Effect) (mid : State) → Act
     → IsSayableState mid
 acts_kept old (opened s) e mid h k = opened_kept old mid s h.2 k
 acts_kept old (fed s bytes) e mid h k =
-    let f = some_and (session_of old s) (λ x. FedStep old s bytes x e mid) h in
+    let f = some_there (session_of old s) (λ x. FedStep old s bytes x e mid) h in
     fed_kept old s bytes e mid (f.0).cause f.2 k
 acts_kept old (stepped s outcome) e mid h k =
-    let f = some_and (session_of old s) (λ x. (x.cause ≡ None) × FrontStep old s x outcome e mid) h in
+    let f = some_there (session_of old s) (λ x. (x.cause ≡ None) × FrontStep old s x outcome e mid) h in
     front_kept old s f.0 outcome e mid f.1 f.2.1 k
 acts_kept old (took s bytes) e mid h k =
-    let f = some_and (session_of old s) (λ x. TookStep old s bytes x e mid) h in
+    let f = some_there (session_of old s) (λ x. TookStep old s bytes x e mid) h in
     others_stay old mid s (λ y. record y { pending = f.2.1.0 }) (λ x. refl) (λ x. refl) (λ x. refl) f.2.1.2 k
 acts_kept old (ended s) e mid h k =
-    let f = some_and (session_of old s) (λ x. EndedStep old s x e mid) h in
+    let f = some_there (session_of old s) (λ x. EndedStep old s x e mid) h in
     input_kept old mid s _ _ _ (f.0).cause f.2 k
 acts_kept old (closed s bytes) e mid h k =
     subst IsSayableState (sym h.2) (record {

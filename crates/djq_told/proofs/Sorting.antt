@@ -3,15 +3,15 @@ use Rattle.std.specs.Prelude.{List, [], ◌∷◌, ◌≡◌, ◌&&◌, ◌||◌
 use Rattle.std.specs.List.{AllByRecursion}
 use Rattle.std.specs.List.Sorted.{IsStrictlySortedBy}
 use Rattle.std.specs.Cmp.Lexicographic.{slice_cmp, nat_list_cmp_total}
-use Rattle.std.proofs.Common.{Ordering, Less, Equal, Greater}
+use Rattle.std.proofs.Common.{Ordering, Less, Equal, Greater, refl, sym, ap, ◌∙◌, subst}
 use Rattle.std.specs.Ordering.{nat_cmp, is_eq, ordering_reverse, match_ordering}
 use Rattle.std.specs.BTreeSet.{insert_key}
-use Rattle.std.proofs.Common.{refl, sym, ap, ◌∙◌, subst}
 use Rattle.std.proofs.lemmas.Map.Text.{is_eq-slice_cmp}
 use Rattle.std.proofs.lemmas.List.Kept.{IsStrictlySortedBy-filter}
 use Rattle.djq_model.specs.Data.{Bytes, bytes_eq}
 use Rattle.djq_model.specs.Equality.{bytes_eq-decides}
 use Rattle.djq_mirror.specs.Mirror.{has_text, IsInOrder}
+use Rattle.djq_mirror.proofs.Sets.{turned, twice, flipped}
 
 abbrev pub put_in : Bytes → List Bytes → List Bytes
 put_in t texts = insert_key (slice_cmp nat_cmp) texts t
@@ -20,15 +20,6 @@ abbrev pub taken_out : Bytes → List Bytes → List Bytes
 taken_out t texts = filter (λ u. not (bytes_eq u t)) texts
 
 -- ---- which texts are there
-
-or_turned : (a b c : Bool) → (a || (b || c)) ≡ (b || (a || c))
-or_turned true true c = refl
-or_turned true false c = refl
-or_turned false b c = refl
-
-or_twice : (a b : Bool) → (a || b) ≡ (a || (a || b))
-or_twice true b = refl
-or_twice false b = refl
 
 equal_same : (t x : Bytes) → slice_cmp nat_cmp t x ≡ Equal → t ≡ x
 equal_same t x e = (bytes_eq-decides t x).0 (sym (is_eq-slice_cmp t x) ∙ ap is_eq e)
@@ -45,9 +36,9 @@ has_put t (x ∷ texts) u = by (slice_cmp nat_cmp t x) refl (has_put t texts u)
     by Equal e h =
         let same = equal_same t x e in
         subst (λ (z : Bytes). (bytes_eq u x || has_text texts u) ≡ (bytes_eq u z || (bytes_eq u x || has_text texts u)))
-        (sym same) (or_twice (bytes_eq u x) (has_text texts u))
+        (sym same) (twice (bytes_eq u x) (has_text texts u))
     by Greater e h =
-        ap (λ (b : Bool). bytes_eq u x || b) h ∙ or_turned (bytes_eq u x) (bytes_eq u t) (has_text texts u)
+        ap (λ (b : Bool). bytes_eq u x || b) h ∙ turned (bytes_eq u x) (bytes_eq u t) (has_text texts u)
 
 pub has_out : (t : Bytes) (texts : List Bytes) (u : Bytes)
     → has_text (taken_out t texts) u ≡ (not (bytes_eq u t) && has_text texts u)
@@ -110,27 +101,13 @@ sorted_put t (x ∷ texts) h = by (slice_cmp nat_cmp t x) refl (sorted_put t tex
 pub sorted_out : (t : Bytes) (texts : List Bytes) → IsInOrder texts → IsInOrder (taken_out t texts)
 sorted_out t texts h = IsStrictlySortedBy-filter (slice_cmp nat_cmp) (λ u. not (bytes_eq u t)) texts h
 
--- as the mirror's definition has it
-turned_eq : (a b : Bytes) → bytes_eq a b ≡ bytes_eq b a
-turned_eq a b = by (bytes_eq a b) (bytes_eq b a) refl refl
-  where
-    by : (c d : Bool) → bytes_eq a b ≡ c → bytes_eq b a ≡ d → c ≡ d
-    by true true e f = refl
-    by false false e f = refl
-    by true false e f =
-        let yes : bytes_eq b a
-        ≡ true = (bytes_eq-decides b a).1 (sym ((bytes_eq-decides a b).0 e)) in absurd (cc (yes, f))
-    by false true e f =
-        let yes : bytes_eq a b
-        ≡ true = (bytes_eq-decides a b).1 (sym ((bytes_eq-decides b a).0 f)) in absurd (cc (yes, e))
-
 pub put_is : (t : Bytes) (texts : List Bytes) (u : Bytes) → has_text (put_in t texts) u
     ≡ (bytes_eq t u || has_text texts u)
-put_is t texts u = has_put t texts u ∙ ap (λ (b : Bool). b || has_text texts u) (turned_eq u t)
+put_is t texts u = has_put t texts u ∙ ap (λ (b : Bool). b || has_text texts u) (flipped u t)
 
 pub out_is : (t : Bytes) (texts : List Bytes) (u : Bytes)
     → has_text (taken_out t texts) u ≡ (not (bytes_eq t u) && has_text texts u)
-out_is t texts u = has_out t texts u ∙ ap (λ (b : Bool). not b && has_text texts u) (turned_eq u t)
+out_is t texts u = has_out t texts u ∙ ap (λ (b : Bool). not b && has_text texts u) (flipped u t)
 
 pub nothing_sorted : IsInOrder []
 unfolding IsStrictlySortedBy

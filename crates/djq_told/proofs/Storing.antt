@@ -134,7 +134,7 @@ use Rattle.djq_laws.specs.Form.{LearnsTexts}
 use Rattle.djq_laws.proofs.Forms.{done_of, none_holds, stays_learned, late_learned, refused_learned}
 use Rattle.djq_laws.proofs.Batches.{all_gain, is_behind, not_batched}
 use Rattle.djq_laws.proofs.Changing.{all_changed, all_found, all_dropped}
-use Rattle.djq_laws.proofs.Answering.{none_pass}
+use Rattle.djq_deltas.proofs.Growing.{none_any}
 use Rattle.djq_laws.proofs.Members.{under_names, under_registered}
 use Rattle.djq_laws.proofs.Apart.{without_dropped}
 use Rattle.djq_laws.proofs.Containing.{mapped_from}
@@ -149,6 +149,8 @@ use Rattle.djq_told.specs.Sayable.{
   IsSayableHeld,
   IsSayableStore,
 }
+use Rattle.djq_deltas.proofs.Cases.{not_false}
+use Rattle.std.proofs.lemmas.Nat.{mul-le}
 
 -- ---- conditions that all fail
 
@@ -164,10 +166,6 @@ all_fail (c ∷ cs) e = by c.0 refl e (λ f. all_fail cs f)
         → AllFail (c ∷ cs)
     by true k f more = absurd cc
     by false k f more = (k, more f)
-
-not_failed : (b : Bool) → not b ≡ false → b ≡ true
-not_failed true e = refl
-not_failed false e = absurd cc
 
 second_fails : (a b : Bool) → a ≡ true → (a && b) ≡ false → b ≡ false
 second_fails true b e f = f
@@ -456,14 +454,6 @@ atoms_small (q ∷ qs) all =
     let rest = atoms_small qs (All-tail (λ (p : Query). IsSayableListed (a_query p)) q qs all) in
     omega (arith, first, rest)
 
--- as many times as may be, so much at most
-times_small : (n x k b : ℕ) → n ≤ k → x ≤ b → n * x ≤ k * b
-times_small zero x k b few small = omega arith
-times_small (suc n) x zero b few small = absurd (omega (arith, few))
-times_small (suc n) x (suc k) b few small =
-    let rest = times_small n x k b (omega (arith, few)) small in
-    omega (arith, rest, small)
-
 -- each variable of the head of a query that isn't refused stands in its body
 some_pass : {A : Type 0} (p : A → Bool) (xs : List A) → list_any p xs ≡ true → (x : A) × Contains xs x × (p x ≡ true)
 some_pass p [] e = absurd cc
@@ -481,9 +471,9 @@ variable_is x (Constant v) e = absurd cc
 
 bound_where : (q : Query) → list_any (λ x. not (stands_in q.atoms x)) q.head ≡ false → IsBound q
 bound_where q e x c =
-    let stands = not_failed (stands_in q.atoms x)
+    let stands = not_false (stands_in q.atoms x)
     (All-contains (λ (y : Bytes). not (stands_in q.atoms y) ≡ false) q.head x
-    (none_pass (λ y. not (stands_in q.atoms y)) q.head e) c) in
+    (none_any (λ y. not (stands_in q.atoms y)) q.head e) c) in
     let a = some_pass (λ (m : Atom). list_any (is_variable x) m.terms) q.atoms stands in
     let t = some_pass (is_variable x) (a.0).terms a.2 in
     (a.0, a.1, subst (λ (u : Term). Contains (a.0).terms u) (variable_is x t.0 t.2) t.1)
@@ -572,9 +562,9 @@ union_small old name members r new h s most e =
     let wide = width_small d.0 all in
     let atoms = atoms_small d.0 all in
     let first : length d.0 * most_steps (width_of d.0) ≤ 8 * 33 =
-    times_small (length d.0) (most_steps (width_of d.0)) 8 33 (omega (arith, few, long)) (omega (arith, wide)) in
+    mul-le (length d.0) (most_steps (width_of d.0)) 8 33 (omega (arith, few, long)) (omega (arith, wide)) in
     let second : (length d.0 - 1) * atoms_of d.0 ≤ 8 * 256 =
-    times_small (length d.0 - 1) (atoms_of d.0) 8 256 (omega (arith, few, long)) (omega (arith, atoms, few, long)) in
+    mul-le (length d.0 - 1) (atoms_of d.0) 8 256 (omega (arith, few, long)) (omega (arith, atoms, few, long)) in
     let is = d.2 in
     omega (arith, is, first, second)
 

@@ -34,7 +34,7 @@ use Rattle.std.specs.Prelude.{
 }
 use Rattle.std.specs.List.{list_any, flat_map}
 use Rattle.std.proofs.Common.{refl, sym, ap, ap₂, ◌∙◌, subst, inl, inr, arith, append-nil}
-use Rattle.std.proofs.lemmas.Bool.{eqb-true, eq-eqb, ne_eqb}
+use Rattle.std.proofs.lemmas.Bool.{eqb-true}
 use Rattle.std.proofs.lemmas.List.Elements.{All-nil, All-cons, All-head, All-tail, All-append}
 use Rattle.std.proofs.lemmas.List.Elements.{All-filter, All-weaker, filter-append}
 use Rattle.djq_model.specs.declared.relation.Relation.{Relation}
@@ -47,11 +47,8 @@ use Rattle.djq_lines.specs.declared.answer.DeleteOutcome.{DeleteOutcome}
 use Rattle.djq_lines.specs.declared.answer.Refusal.{Refusal}
 use Rattle.djq_lines.specs.declared.answer.EndCause.{EndCause}
 use Rattle.djq_lines.specs.declared.answer.EndCause.TheVariants.{Input, Memory}
-use Rattle.djq_lines.specs.declared.answer.EndLine.TheVariants.{Long as long_line}
-use Rattle.djq_lines.specs.declared.answer.EndLine.TheVariants.{Slow as slow_line}
+use Rattle.djq_lines.specs.declared.answer.EndLine.TheVariants.{Long as long_line, Slow as slow_line}
 use Rattle.djq_lines.specs.declared.answer.EndLine.TheVariants.{Memory as memory_line}
-use Rattle.djq_lines.specs.declared.answer.Sign.{Sign}
-use Rattle.djq_lines.specs.declared.answer.Sign.TheVariants.{Came, Went}
 use Rattle.djq_lines.specs.declared.held.HeldRow.{HeldRow}
 use Rattle.djq_lines.specs.declared.command.Command.{Command}
 use Rattle.djq_lines.specs.declared.command.Command.TheVariants.{Add, Del, Done}
@@ -92,14 +89,14 @@ use Rattle.djq_laws.specs.Watched.{
 use Rattle.djq_laws.proofs.Adding.{deltas_add_up}
 use Rattle.djq_laws.proofs.Answering.{SameAnswers, reordered_same}
 use Rattle.djq_laws.proofs.Changing.{all_found}
-use Rattle.djq_laws.proofs.Finding.{some_and}
+use Rattle.djq_deltas.proofs.Cases.{some_there}
 use Rattle.djq_laws.proofs.Queueing.{session_changed, session_other, stepped_cause}
 use Rattle.djq_laws.proofs.Batches.{batched}
 use Rattle.djq_laws.proofs.Forms.{Reads, turned_down, carried_out, line_reads}
 use Rattle.djq_laws.proofs.Rows.{RowsMade, outdater_by, added, deleted}
 use Rattle.djq_laws.proofs.Sounding.{step_sound}
-use Rattle.djq_laws.proofs.Watched.{watchers_have_answers}
-use Rattle.djq_laws.proofs.Watching.{StepTells, is_quiet, is_told, change_store, queued_store, step_tells}
+use Rattle.djq_laws.proofs.Watched.{watchers_have_answers, number_none, number_one, listing_stays}
+use Rattle.djq_laws.proofs.Watching.{StepTells, is_quiet, is_told, change_store, queued_store, step_tells, changed_to}
 use Rattle.djq_told.specs.Told.{replies_text, is_told_of, delta_replies, WatchersAreToldExactly}
 use Rattle.djq_told.specs.Sayable.{IsSayableRelation, IsSayableListed, IsSayableStore, IsSayableSession, IsSayableState}
 use Rattle.djq_told.proofs.Printed.{IsFine, number_small, delta_fine, added_copies, left_copies}
@@ -133,20 +130,15 @@ use Rattle.djq_told.proofs.Replying.{
 
 -- ---- answers over rows in another order
 
-same_changed : (before rs rs' : List Relation) (q : Listed) → SameAnswers rs rs' q → (sign : Sign) (t : Tuple)
-    → HasChanged (AnswersOf before q) (AnswersOf rs q) sign t → HasChanged (AnswersOf before q) (AnswersOf rs' q) sign t
-same_changed before rs rs' q same Came t h = (same.there t h.0, h.1)
-same_changed before rs rs' q same Went t h = (h.0, λ a. h.1 (same.back t a))
-
 same_delta : (before rs rs' : List Relation) (q : Listed) (changes : List Change) → SameAnswers rs rs' q
     → IsDelta (AnswersOf before q) (AnswersOf rs q) changes → IsDelta (AnswersOf before q) (AnswersOf rs' q) changes
 same_delta before rs rs' q changes same h = record {
   different = h.different;
   changed = All-weaker (λ (c : Change). HasChanged (AnswersOf before q) (AnswersOf rs q) c.sign c.answer)
       (λ (c : Change). HasChanged (AnswersOf before q) (AnswersOf rs' q) c.sign c.answer)
-      (λ c k. same_changed before rs rs' q same c.sign c.answer k) changes h.changed;
+      (λ c k. changed_to before rs rs' q same c.sign c.answer k) changes h.changed;
   complete = λ sign t k. h.complete sign t
-      (same_changed before rs' rs q (record { there = same.back; back = same.there }) sign t k);
+      (changed_to before rs' rs q (record { there = same.back; back = same.there }) sign t k);
 }
 
 -- ---- one step
@@ -690,16 +682,16 @@ module _ (q : Listed) (s : ℕ) (old : State) (x : Session) (is : session_of old
   acts_say (opened t) e mid new same seq running h tells =
       quiet_says q s old.store new e.queued false false (nothing_quiet s e h.0) tells (inl refl)
   acts_say (fed t bytes) e mid new same seq running h tells =
-      let f = some_and (session_of old t) (λ z. FedStep old t bytes z e mid) h in
+      let f = some_there (session_of old t) (λ z. FedStep old t bytes z e mid) h in
       quiet_says q s old.store new e.queued false false (fed_quiet s old t bytes e mid (f.0).cause f.2) tells (inl refl)
   acts_say (stepped t outcome) e mid new same seq running h tells =
-      let f = some_and (session_of old t) (λ z. (z.cause ≡ None) × FrontStep old t z outcome e mid) h in
+      let f = some_there (session_of old t) (λ z. (z.cause ≡ None) × FrontStep old t z outcome e mid) h in
       front_says t f.0 f.1 outcome e mid new same seq running f.2.1 tells
   acts_say (took t bytes) e mid new same seq running h tells =
-      let f = some_and (session_of old t) (λ z. TookStep old t bytes z e mid) h in
+      let f = some_there (session_of old t) (λ z. TookStep old t bytes z e mid) h in
       quiet_says q s old.store new e.queued false false (nothing_quiet s e f.2.0) tells (inl refl)
   acts_say (ended t) e mid new same seq running h tells =
-      let f = some_and (session_of old t) (λ z. EndedStep old t z e mid) h in
+      let f = some_there (session_of old t) (λ z. EndedStep old t z e mid) h in
       quiet_says q s old.store new e.queued false false (ended_quiet s old t f.0 e mid f.2) tells (inl refl)
   acts_say (closed t bytes) e mid new same seq running h tells =
       quiet_says q s old.store new e.queued false false (nothing_quiet s e h.0) tells (inl refl)
@@ -708,9 +700,9 @@ pub step_says : (q : Listed) (s : ℕ) (old : State) (event : Event) (e : Effect
     → Step old event e new → IsWatcher q s old → IsWatcher q s new
     → StepSays q s old.store new.store e.queued (event_changes q old event) (event_talks s event) (Tame s old event e)
 step_says q s old event e new sound h before behind =
-    let f = some_and (session_of old s) (λ x. (x.cause ≡ None) × (is_watching (listed_name q) x ≡ true)) before.watches
+    let f = some_there (session_of old s) (λ x. (x.cause ≡ None) × (is_watching (listed_name q) x ≡ true)) before.watches
     in
-    let g = some_and (session_of new s) (λ x. (x.cause ≡ None) × (is_watching (listed_name q) x ≡ true)) behind.watches
+    let g = some_there (session_of new s) (λ x. (x.cause ≡ None) × (is_watching (listed_name q) x ≡ true)) behind.watches
     in
     let running : cause_of h.mid s ≡ None = sym (stepped_cause old event e new h s) ∙ ap cause_in g.1 ∙ g.2.0 in
     let now : new.store ≡ record (h.mid).store { relations = h.relations } =
@@ -727,32 +719,6 @@ step_says q s old event e new sound h before behind =
 out_more : (s : ℕ) (d : Did) (done : List Did) (rs ts : List Reply) → to_session s d.effect.queued ≡ replies_text rs
     → out s done ≡ replies_text ts → out s (d ∷ done) ≡ replies_text (rs ++ ts)
 out_more s d done rs ts e f = ap₂ (λ (xs ys : Bytes). xs ++ ys) e f ∙ sym (text_append rs ts)
-
-listing_stays : (old new : Store) (q : Listed) (ts : List Tuple) → SameAnswers old.relations new.relations q
-    → IsListing (AnswersOf old.relations q) ts → IsListing (AnswersOf new.relations q) ts
-listing_stays old new q ts same h = record {
-  different = h.different;
-  answers = All-weaker (AnswersOf old.relations q) (AnswersOf new.relations q) same.there ts h.answers;
-  complete = λ t a. h.complete t (same.back t a);
-}
-
-number_none : (q : Listed) (old : State) (event : Event) (new : State)
-    → (new.store.seq ≡ old.store.seq) ⊎ ((new.store.seq ≡ old.store.seq + 1) × (event_changes q old event ≡ false))
-    → number_by q old event new ≡ []
-number_none q old event new (inl e) = let same = eq-eqb new.store.seq old.store.seq e in rw same refl
-number_none q old event new (inr h) = step (not (new.store.seq == old.store.seq)) (event_changes q old event) h.1
-  where
-    step : (a b : Bool) → b ≡ false → cond (a && b) (new.store.seq ∷ []) [] ≡ []
-    step true true e = absurd cc
-    step true false e = refl
-    step false b e = refl
-
-number_one : (q : Listed) (old : State) (event : Event) (new : State) → new.store.seq ≡ old.store.seq + 1
-    → event_changes q old event ≡ true → number_by q old event new ≡ new.store.seq ∷ []
-number_one q old event new e k =
-    let apart : (new.store.seq == old.store.seq)
-    ≡ false = ne_eqb new.store.seq old.store.seq (λ same. omega (arith, e, same)) in
-    rw (apart, k) refl
 
 -- what is told along a run, but for the order of the numbers
 record TellsAlong (q : Listed) (s : ℕ) (old : State) (done : List Did) (new : State)

@@ -23,8 +23,7 @@ use Rattle.std.proofs.lemmas.Grind.{flat_map-append}
 use Rattle.std.proofs.lemmas.List.Elements.{All-nil, All-cons, All-append}
 use Rattle.djq_model.specs.Data.{Bytes, Tuple}
 use Rattle.djq_model.specs.Listed.{Listed, listed_name}
-use Rattle.djq_lines.specs.declared.answer.EndLine.TheVariants.{Long as long_line}
-use Rattle.djq_lines.specs.declared.answer.EndLine.TheVariants.{Slow as slow_line}
+use Rattle.djq_lines.specs.declared.answer.EndLine.TheVariants.{Long as long_line, Slow as slow_line}
 use Rattle.djq_lines.specs.declared.answer.EndLine.TheVariants.{Memory as memory_line}
 use Rattle.djq_lines.specs.declared.command.Command.{Command}
 use Rattle.djq_lines.specs.declared.held.HeldRow.{HeldRow}
@@ -48,7 +47,7 @@ use Rattle.djq_machine.specs.Call.{cause_of, cause_in}
 use Rattle.djq_laws.specs.Rising.{AreRising}
 use Rattle.djq_laws.specs.Sound.{IsSoundState, IsStart}
 use Rattle.djq_laws.proofs.Watching.{change_store}
-use Rattle.djq_laws.proofs.Finding.{some_and}
+use Rattle.djq_deltas.proofs.Cases.{some_there}
 use Rattle.djq_laws.proofs.Forms.{Reads as LineReads, turned_down, carried_out, line_reads}
 use Rattle.djq_laws.proofs.Giving.{step_gives, runs_give}
 use Rattle.djq_laws.proofs.Listing.{nothing_given}
@@ -231,16 +230,16 @@ module _ (s : ℕ) (old : State) (x : Session) (is : session_of old s ≡ Some x
       → Plain s e.queued (event_talks s event) (Tame s old event e)
   acts_plain (opened t) e mid running h = quiet_to s e.queued false (nothing_quiet s e h.0)
   acts_plain (fed t bytes) e mid running h =
-      let f = some_and (session_of old t) (λ z. FedStep old t bytes z e mid) h in
+      let f = some_there (session_of old t) (λ z. FedStep old t bytes z e mid) h in
       quiet_to s e.queued false (fed_quiet s old t bytes e mid (f.0).cause f.2)
   acts_plain (stepped t outcome) e mid running h =
-      let f = some_and (session_of old t) (λ z. (z.cause ≡ None) × FrontStep old t z outcome e mid) h in
+      let f = some_there (session_of old t) (λ z. (z.cause ≡ None) × FrontStep old t z outcome e mid) h in
       front_plain t f.0 f.1 outcome e mid running f.2.1
   acts_plain (took t bytes) e mid running h =
-      let f = some_and (session_of old t) (λ z. TookStep old t bytes z e mid) h in
+      let f = some_there (session_of old t) (λ z. TookStep old t bytes z e mid) h in
       quiet_to s e.queued false (nothing_quiet s e f.2.0)
   acts_plain (ended t) e mid running h =
-      let f = some_and (session_of old t) (λ z. EndedStep old t z e mid) h in
+      let f = some_there (session_of old t) (λ z. EndedStep old t z e mid) h in
       quiet_to s e.queued false (ended_quiet s old t f.0 e mid f.2)
   acts_plain (closed t bytes) e mid running h = quiet_to s e.queued false (nothing_quiet s e h.0)
 
@@ -318,8 +317,8 @@ waited s old sound fine gives [] new walk = record {
 }
 waited s old sound fine gives (d ∷ done) new walk =
     let h = walk.1 in
-    let f = some_and (session_of old s) (λ x. (x.cause ≡ None) × (x.watches ≡ []) × (x.cursors ≡ [])) h.before in
-    let g = some_and (session_of walk.0 s) (λ x. x.cause ≡ None) h.behind in
+    let f = some_there (session_of old s) (λ x. (x.cause ≡ None) × (x.watches ≡ []) × (x.cursors ≡ [])) h.before in
+    let g = some_there (session_of walk.0 s) (λ x. x.cause ≡ None) h.behind in
     let running : cause_of (h.step.mid) s ≡ None =
     sym (stepped_cause old d.event d.effect walk.0 h.step s) ∙ ap cause_in g.1 ∙ g.2 in
     let one = acts_plain s old f.0 f.1 sound.rising f.2.1 d.event d.effect (h.step.mid) running h.step.acts in
@@ -383,7 +382,7 @@ end_quiet : {U : Type 0} (s : ℕ) (old : State) (event : Event) (e : Effect) (m
     → Acts old event e mid
     → IsQuiet s e.queued false U
 end_quiet s old (ended t) e mid now h =
-    let f = some_and (session_of old t) (λ z. EndedStep old t z e mid) h in ended_quiet s old t f.0 e mid f.2
+    let f = some_there (session_of old t) (λ z. EndedStep old t z e mid) h in ended_quiet s old t f.0 e mid f.2
 end_quiet s old (closed t bytes) e mid now h = nothing_quiet s e h.0
 end_quiet s old (opened t) e mid now h = absurd now
 end_quiet s old (fed t bytes) e mid now h = absurd now

@@ -1,8 +1,8 @@
 -- The path from a node to the root.
-use Rattle.std.proofs.Common.{◌≡◌, ℕ, zero, suc, ◌+◌, ◌-◌, ◌<◌, ◌≤◌, Bool, true, false, List, []}
+use Rattle.std.proofs.Common.{◌≡◌, ℕ, zero, suc, ◌+◌, ◌-◌, ◌<◌, ◌≤◌, true, false, List, []}
 use Rattle.std.proofs.Common.{◌∷◌, length, Option, Some, None, is_some, find, refl, ap, subst, sym}
 use Rattle.std.proofs.Common.{◌∙◌, ◌||◌, ◌⊎◌, eqb, arith, inl, inr}
-use Rattle.std.proofs.lemmas.Bool.{cases_Bool, cases_eq, eqb-true, false≢true}
+use Rattle.std.proofs.lemmas.Bool.{cases_Bool, cases_eq, eqb-true, false≢true, or_cases}
 use Rattle.djq_tree.specs.declared.node.Node.{Node}
 use Rattle.djq_tree.specs.declared.node.Node.TheVariants.{Leaf, Trim, Meet}
 use Rattle.djq_tree.specs.Tree.{Tree, IsTree, node_at, has_child, IsRising, parent, climb, climb_on}
@@ -64,10 +64,6 @@ path_step nodes j rising =
     climb_enough nodes rising (length nodes) (suc (length nodes)) j (omega arith) (omega arith)
     ∙ climb_rest nodes j (parent nodes j)
 
-either : (a b : Bool) → (a || b) ≡ true → (a ≡ true) ⊎ (b ≡ true)
-either true b h = inl refl
-either false b h = inr h
-
 -- a step of the iterator
 pub next_step : (nodes : List Node) (o p : Option ℕ) (l : List ℕ) (j : ℕ) → IsRising nodes → rest_of nodes o ≡ l → o
     ≡ Some j → p ≡ parent nodes j → l ≡ j ∷ rest_of nodes p
@@ -81,7 +77,7 @@ rising_node t k j (Meet g d) s e h =
     let i = s.meet k g d e in
     let low = i.guard_lower in
     let low_side = i.side_lower in
-    elim (either (eqb g j) (eqb d j) h)
+    elim (or_cases (eqb g j) (eqb d j) h)
     [ inl x ↦ let same = eqb-true g j x in omega arith | inr x ↦ let same = eqb-true d j x in omega arith ]
 
 pub rising_of : (t : Tree) → IsTree t → IsRising t.nodes

@@ -210,7 +210,7 @@ leaves_counted t (suc k) s low =
           ∙ omega arith,
     )
 
-leaf_childless : (t : Tree) (i j : ℕ) → IsTree t → i < t.leaves → has_child (node_at t.nodes i) j ≡ true → ⊥
+pub leaf_childless : (t : Tree) (i j : ℕ) → IsTree t → i < t.leaves → has_child (node_at t.nodes i) j ≡ true → ⊥
 leaf_childless t i j s low h = false≢true (ap (λ (n : Node). has_child n j) (sym (s.leaf i low)) ∙ h)
 
 at_leaves : (t : Tree) → IsTree t → Counted t t.leaves

@@ -13,7 +13,7 @@ use Rattle.djq_tree.specs.Labels.{label_at}
 use Rattle.djq_tree.specs.Tree.{Tree, IsTree, node_at, has_child, parent}
 use Rattle.djq_tree.specs.Keys.{key_under, key_by, key_of}
 use Rattle.djq_tree.proofs.Finding.{lowest_is}
-use Rattle.djq_tree.proofs.Climbing.{parent_above, rising_of, no_parent}
+use Rattle.djq_tree.proofs.Climbing.{parent_above, rising_of, no_parent, up_within}
 
 -- a node with this child is its parent
 pub parent_of_child : (t : Tree) (k j : ℕ) → IsTree t → has_child (node_at t.nodes k) j ≡ true → k < length t.nodes
@@ -86,10 +86,6 @@ within_by t j (Some k) s e = within_under t j k (node_at t.nodes k) s refl
 pub key_within : (t : Tree) (j : ℕ) (l : List ℕ) → IsTree t → l ≡ key_of t j → subset l (label_at t.labels j) ≡ true
 key_within t j l s e = ap (λ (k : List ℕ). subset k (label_at t.labels j)) e ∙ within_by t j (parent t.nodes j) s refl
 
--- what the method meets on its way
-pub parent_within : (t : Tree) (j k : ℕ) → IsTree t → parent t.nodes j ≡ Some k → (j < k) × (k < length t.nodes)
-parent_within t j k s e = let u = parent_above t.nodes j k (rising_of t s) e in (u.0, u.1)
-
 pub side_within : (t : Tree) (k g d : ℕ) → IsTree t → k < length t.nodes → Meet g d ≡ node_at t.nodes k
     → d < length t.nodes
 side_within t k g d s within e = let i = (s.meet k g d (sym e)).side_lower in omega arith
@@ -97,7 +93,7 @@ side_within t k g d s within e = let i = (s.meet k g d (sym e)).side_lower in om
 pub parent_read : (t : Tree) (j : ℕ) (o : Option ℕ) → IsTree t → o ≡ parent t.nodes j
     → IfSome o (λ k. (j < k) × (k < length t.nodes))
 parent_read t j None s e = tt
-parent_read t j (Some k) s e = parent_within t j k s (sym e)
+parent_read t j (Some k) s e = up_within t j k s (sym e)
 
 pub key_read_trim : (t : Tree) (j k c : ℕ) (o : Option ℕ) (n : Node) (l : List ℕ) → o ≡ parent t.nodes j → o ≡ Some k
     → n ≡ node_at t.nodes k → n ≡ Trim c → l ≡ label_at t.labels k → l ≡ key_of t j

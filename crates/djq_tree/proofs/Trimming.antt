@@ -1,7 +1,6 @@
 -- How many nodes of a tree are trims: each loses a variable that no other one loses.
 use Rattle.std.proofs.Common.{◌≡◌, ℕ, zero, suc, ◌+◌, ◌-◌, ◌<◌, ◌≤◌, min, Bool, true, false, cond}
-use Rattle.std.proofs.Common.{List, [], ◌∷◌, length, take, drop, refl, ap, subst, sym, ◌∙◌, arith}
-use Rattle.std.proofs.Common.{inl, inr}
+use Rattle.std.proofs.Common.{List, [], ◌∷◌, length, take, drop, refl, ap, subst, sym, ◌∙◌, arith, inl, inr}
 use Rattle.std.specs.Prelude.{◌==◌}
 use Rattle.std.proofs.lemmas.List.{take_all, take-append-drop}
 use Rattle.std.proofs.lemmas.List.Sums.{sum_by-append}
@@ -206,7 +205,7 @@ second_trims_of t s =
 
 -- ---- levels are the second stage's trims
 
-no_levels : (t : Tree) (k : ℕ) → k ≤ t.second_stage → levels_below t k ≡ []
+pub no_levels : (t : Tree) (k : ℕ) → k ≤ t.second_stage → levels_below t k ≡ []
 no_levels t zero low = refl
 no_levels t (suc k) low = rw (lt-leb t.second_stage k (omega arith)) refl
 

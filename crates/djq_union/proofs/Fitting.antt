@@ -23,26 +23,14 @@ use Rattle.std.proofs.Common.{
 }
 use Rattle.std.specs.Prelude.{⊤, ◌↔◌, ◌||◌, Contains, filter, Option, None, Some}
 use Rattle.std.specs.Bool.{OnTrue, OnFalse}
-use Rattle.std.proofs.lemmas.Bool.{false≢true, OnTrue_at, OnFalse_at}
+use Rattle.std.proofs.lemmas.Bool.{false≢true, OnTrue_at, OnFalse_at, cases_Bool, or_left, or_right}
 use Rattle.std.proofs.lemmas.List.{length_push}
 use Rattle.std.proofs.lemmas.List.Elements.{All-nil, All-contains, Contains-push}
 use Rattle.djq_union.specs.Answers.{AreSome, AreAll, IsListing}
 use Rattle.djq_union.specs.Order.{merged}
 use Rattle.djq_union.specs.Union.{some_has, given_at, union_given, FitsFirst, UnionFits}
 use Rattle.djq_union.specs.Going.{GoesOn, MemberGoesOn, UnionGoesOn}
-use Rattle.djq_union.proofs.Lists.{
-  true_or_false,
-  both,
-  all_of,
-  AreOnce,
-  once_of,
-  different_of,
-  once_left,
-  counted_last,
-  uncounted_last,
-  pigeons,
-  reached,
-}
+use Rattle.djq_union.proofs.Lists.{both, all_of, AreOnce, once_of, different_of, once_left, counted_last, uncounted_last, pigeons, reached}
 use Rattle.djq_union.proofs.Merging.{
   own_last,
   shared_last,
@@ -52,14 +40,6 @@ use Rattle.djq_union.proofs.Merging.{
   own_or_later,
   merged_once,
 }
-
-or_left : (a b : Bool) → a ≡ true → (a || b) ≡ true
-or_left true b e = refl
-or_left false b e = absurd (false≢true e)
-
-or_right : (a b : Bool) → b ≡ true → (a || b) ≡ true
-or_right true b e = refl
-or_right false b e = e
 
 or_own : (a b : Bool) → (a || b) ≡ true → b ≡ false → a ≡ true
 or_own true b e f = refl
@@ -188,7 +168,7 @@ module _ {M S A : Type 0} (has : M → A → Bool) (given : M → S → List A) 
   merged_all : (m : M) (ms : List M) (xs ds : List A) → AreAll (has m) xs
       → AreAll (some_has has ms) ds
       → AreAll (some_has has (m ∷ ms)) (merged (some_has has ms) xs ds)
-  merged_all m ms xs ds first rest t is = elim (true_or_false (some_has has ms t)) [
+  merged_all m ms xs ds first rest t is = elim (cases_Bool (some_has has ms t)) [
     | inl later ↦ has_later (some_has has ms) xs ds t (rest t later)
     | inr own ↦ has_own (some_has has ms) xs ds t own
         (first t (or_own (has m t) (some_has has ms t) is own))
@@ -404,7 +384,7 @@ module _ {M S A : Type 0} (has : M → A → Bool) (given : M → S → List A) 
       let rest = union_given has given ms ss in
       let rests = all_apart m ms s ss h all in
       let even = h.0.step.even left in
-      elim (true_or_false (later t)) [
+      elim (cases_Bool (later t)) [
         | inl shared ↦
             elim (reached later old rest (once_has (has m) old h.0.some)
             (λ u there has_it. rests u has_it) t (rests t shared)) [

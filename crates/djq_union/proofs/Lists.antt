@@ -25,7 +25,7 @@ use Rattle.std.proofs.Common.{
   arith,
 }
 use Rattle.std.specs.Prelude.{⊤, All, Contains, filter}
-use Rattle.std.proofs.lemmas.Bool.{false≢true}
+use Rattle.std.proofs.lemmas.Bool.{false≢true, cases_Bool}
 use Rattle.std.proofs.lemmas.List.Kept.{AllPairs-cons}
 use Rattle.std.proofs.lemmas.List.Elements.{
   All-weaker,
@@ -36,10 +36,6 @@ use Rattle.std.proofs.lemmas.List.Elements.{
   Contains-push_cases,
 }
 use Rattle.djq_union.specs.Answers.{AreDifferent}
-
-pub true_or_false : (b : Bool) → (b ≡ true) ⊎ (b ≡ false)
-true_or_false true = inl refl
-true_or_false false = inr refl
 
 pub both : (b : Bool) → b ≡ true → b ≡ false → ⊥
 both b t f = false≢true (sym f ∙ t)
@@ -147,7 +143,7 @@ module _ {A : Type 0} where
     pub counted_last : (xs : List A) (a : A) → p a ≡ true
         → length (filter p (xs ++ a ∷ [])) ≡ length (filter p xs) + 1
     counted_last [] a e = counted a [] e
-    counted_last (x ∷ xs) a e = elim (true_or_false (p x)) [
+    counted_last (x ∷ xs) a e = elim (cases_Bool (p x)) [
       | inl yes_ ↦
           let here = counted x (xs ++ a ∷ []) yes_ in
           let there = counted x xs yes_ in
@@ -163,7 +159,7 @@ module _ {A : Type 0} where
     pub uncounted_last : (xs : List A) (a : A) → p a ≡ false
         → length (filter p (xs ++ a ∷ [])) ≡ length (filter p xs)
     uncounted_last [] a e = uncounted a [] e
-    uncounted_last (x ∷ xs) a e = elim (true_or_false (p x)) [
+    uncounted_last (x ∷ xs) a e = elim (cases_Bool (p x)) [
       | inl yes_ ↦
           let here = counted x (xs ++ a ∷ []) yes_ in
           let there = counted x xs yes_ in
@@ -191,7 +187,7 @@ module _ {A : Type 0} where
         → ((t : A) → Contains xs t → p t ≡ true → Contains ys t)
         → length (filter p xs) ≤ length ys
     pigeons [] ys once within = omega arith
-    pigeons (x ∷ xs) ys once within = elim (true_or_false (p x)) [
+    pigeons (x ∷ xs) ys once within = elim (cases_Bool (p x)) [
       | inl yes_ ↦
           let w = without ys x (within x (at_head x xs) yes_) in
           let here = counted x xs yes_ in
@@ -209,7 +205,7 @@ module _ {A : Type 0} where
         → ((t : A) → Contains xs t → p t ≡ true → Contains ys t) → (t : A) → Contains ys t
         → Contains xs t ⊎ (length (filter p xs) < length ys)
     reached [] ys once within t there = inr (let some = there.1 in omega (arith, some))
-    reached (x ∷ xs) ys once within t there = elim (true_or_false (p x)) [
+    reached (x ∷ xs) ys once within t there = elim (cases_Bool (p x)) [
       | inl yes_ ↦
           let w = without ys x (within x (at_head x xs) yes_) in
           let here = counted x xs yes_ in

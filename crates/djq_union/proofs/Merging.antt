@@ -23,17 +23,8 @@ use Rattle.std.proofs.Common.{
 }
 use Rattle.std.specs.Prelude.{Contains, filter}
 use Rattle.djq_union.specs.Order.{merged}
-use Rattle.djq_union.proofs.Lists.{
-  true_or_false,
-  both,
-  none_contained,
-  at_head,
-  in_tail,
-  head_or_tail,
-  AreOnce,
-  counted,
-  uncounted,
-}
+use Rattle.djq_union.proofs.Lists.{both, none_contained, at_head, in_tail, head_or_tail, AreOnce, counted, uncounted}
+use Rattle.std.proofs.lemmas.Bool.{cases_Bool}
 
 module _ {A : Type 0} (later : A → Bool) where
   -- ---- its cases
@@ -59,14 +50,14 @@ module _ {A : Type 0} (later : A → Bool) where
       → merged later (xs ++ a ∷ []) ds ≡ merged later xs ds ++ a ∷ []
   own_last [] [] a e even = own a [] [] e
   own_last [] (d ∷ ds) a e even = absurd (omega (arith, even))
-  own_last (x ∷ xs) [] a e even = elim (true_or_false (later x)) [
+  own_last (x ∷ xs) [] a e even = elim (cases_Bool (later x)) [
     | inl is ↦ absurd (let n = counted later x xs is in omega (arith, even, n))
     | inr isnt ↦
         own x (xs ++ a ∷ []) [] isnt
         ∙ ap (λ (l : List A). x ∷ l) (own_last xs [] a e (even ∙ uncounted later x xs isnt))
         ∙ ap (λ (l : List A). l ++ a ∷ []) (sym (own x xs [] isnt))
   ]
-  own_last (x ∷ xs) (d ∷ ds) a e even = elim (true_or_false (later x)) [
+  own_last (x ∷ xs) (d ∷ ds) a e even = elim (cases_Bool (later x)) [
     | inl is ↦
         shared x d (xs ++ a ∷ []) ds is
         ∙ ap (λ (l : List A). d ∷ l)
@@ -83,14 +74,14 @@ module _ {A : Type 0} (later : A → Bool) where
       → merged later (xs ++ a ∷ []) (ds ++ b ∷ []) ≡ merged later xs ds ++ b ∷ []
   shared_last [] [] a b e even = shared a b [] [] e
   shared_last [] (d ∷ ds) a b e even = absurd (omega (arith, even))
-  shared_last (x ∷ xs) [] a b e even = elim (true_or_false (later x)) [
+  shared_last (x ∷ xs) [] a b e even = elim (cases_Bool (later x)) [
     | inl is ↦ absurd (let n = counted later x xs is in omega (arith, even, n))
     | inr isnt ↦
         own x (xs ++ a ∷ []) (b ∷ []) isnt
         ∙ ap (λ (l : List A). x ∷ l) (shared_last xs [] a b e (even ∙ uncounted later x xs isnt))
         ∙ ap (λ (l : List A). l ++ b ∷ []) (sym (own x xs [] isnt))
   ]
-  shared_last (x ∷ xs) (d ∷ ds) a b e even = elim (true_or_false (later x)) [
+  shared_last (x ∷ xs) (d ∷ ds) a b e even = elim (cases_Bool (later x)) [
     | inl is ↦
         shared x d (xs ++ a ∷ []) (ds ++ b ∷ []) is
         ∙ ap (λ (l : List A). d ∷ l)
@@ -106,7 +97,7 @@ module _ {A : Type 0} (later : A → Bool) where
   pub later_last : (xs ds : List A) (b : A) → length (filter later xs) ≤ length ds
       → merged later xs (ds ++ b ∷ []) ≡ merged later xs ds ++ b ∷ []
   later_last [] ds b ahead = refl
-  later_last (x ∷ xs) [] b ahead = elim (true_or_false (later x)) [
+  later_last (x ∷ xs) [] b ahead = elim (cases_Bool (later x)) [
     | inl is ↦ absurd (let n = counted later x xs is in omega (arith, ahead, n))
     | inr isnt ↦
         own x xs (b ∷ []) isnt
@@ -114,7 +105,7 @@ module _ {A : Type 0} (later : A → Bool) where
         (later_last xs [] b (let n = uncounted later x xs isnt in omega (arith, ahead, n)))
         ∙ ap (λ (l : List A). l ++ b ∷ []) (sym (own x xs [] isnt))
   ]
-  later_last (x ∷ xs) (d ∷ ds) b ahead = elim (true_or_false (later x)) [
+  later_last (x ∷ xs) (d ∷ ds) b ahead = elim (cases_Bool (later x)) [
     | inl is ↦
         shared x d xs (ds ++ b ∷ []) is
         ∙ ap (λ (l : List A). d ∷ l)
@@ -135,7 +126,7 @@ module _ {A : Type 0} (later : A → Bool) where
   pub has_later : (xs ds : List A) (t : A) → Contains ds t → Contains (merged later xs ds) t
   has_later [] ds t h = h
   has_later (x ∷ xs) [] t h = absurd (none_contained t h)
-  has_later (x ∷ xs) (d ∷ ds) t h = elim (true_or_false (later x)) [
+  has_later (x ∷ xs) (d ∷ ds) t h = elim (cases_Bool (later x)) [
     | inl is ↦ along _ _ t (shared x d xs ds is) (elim (head_or_tail d ds t h) [
       | inl same ↦ subst (λ (u : A). Contains (d ∷ merged later xs ds) u) same
           (at_head d (merged later xs ds))
@@ -152,7 +143,7 @@ module _ {A : Type 0} (later : A → Bool) where
     | inl same ↦ along _ _ t (own x xs [] (ap later same ∙ e))
         (subst (λ (u : A). Contains (x ∷ merged later xs []) u) same
         (at_head x (merged later xs [])))
-    | inr there ↦ elim (true_or_false (later x)) [
+    | inr there ↦ elim (cases_Bool (later x)) [
       | inl is ↦ along _ _ t (skipped x xs is) (rest there [])
       | inr isnt ↦ along _ _ t (own x xs [] isnt)
           (in_tail x (merged later xs []) t (rest there []))
@@ -162,7 +153,7 @@ module _ {A : Type 0} (later : A → Bool) where
     | inl same ↦ along _ _ t (own x xs (d ∷ ds) (ap later same ∙ e))
         (subst (λ (u : A). Contains (x ∷ merged later xs (d ∷ ds)) u) same
         (at_head x (merged later xs (d ∷ ds))))
-    | inr there ↦ elim (true_or_false (later x)) [
+    | inr there ↦ elim (cases_Bool (later x)) [
       | inl is ↦ along _ _ t (shared x d xs ds is)
           (in_tail d (merged later xs ds) t (rest there ds))
       | inr isnt ↦ along _ _ t (own x xs (d ∷ ds) isnt)
@@ -186,7 +177,7 @@ module _ {A : Type 0} (later : A → Bool) where
   pub own_or_later : (xs ds : List A) (t : A) → Contains (merged later xs ds) t
       → (Contains xs t × (later t ≡ false)) ⊎ Contains ds t
   own_or_later [] ds t h = inr h
-  own_or_later (x ∷ xs) [] t h = elim (true_or_false (later x)) [
+  own_or_later (x ∷ xs) [] t h = elim (cases_Bool (later x)) [
     | inl is ↦ more_own x t xs [] [] (λ u c. c)
         (own_or_later xs [] t (along _ _ t (sym (skipped x xs is)) h))
     | inr isnt ↦
@@ -198,7 +189,7 @@ module _ {A : Type 0} (later : A → Bool) where
           | inr there ↦ more_own x t xs [] [] (λ u c. c) (own_or_later xs [] t there)
         ]
   ]
-  own_or_later (x ∷ xs) (d ∷ ds) t h = elim (true_or_false (later x)) [
+  own_or_later (x ∷ xs) (d ∷ ds) t h = elim (cases_Bool (later x)) [
     | inl is ↦
         elim (head_or_tail d (merged later xs ds) t (along _ _ t (sym (shared x d xs ds is)) h)) [
           | inl same ↦ inr (subst (λ (u : A). Contains (d ∷ ds) u) same (at_head d ds))
@@ -224,7 +215,7 @@ module _ {A : Type 0} (later : A → Bool) where
   pub merged_once : (xs ds : List A) → AreOnce xs → AreOnce ds
       → ((t : A) → Contains ds t → later t ≡ true) → AreOnce (merged later xs ds)
   merged_once [] ds first rest only = rest
-  merged_once (x ∷ xs) [] first rest only = elim (true_or_false (later x)) [
+  merged_once (x ∷ xs) [] first rest only = elim (cases_Bool (later x)) [
     | inl is ↦ once_along _ _ (skipped x xs is) (merged_once xs [] first.1 rest only)
     | inr isnt ↦ once_along _ _ (own x xs [] isnt) (
       λ there. elim (own_or_later xs [] x there) [
@@ -234,7 +225,7 @@ module _ {A : Type 0} (later : A → Bool) where
       merged_once xs [] first.1 rest only,
     )
   ]
-  merged_once (x ∷ xs) (d ∷ ds) first rest only = elim (true_or_false (later x)) [
+  merged_once (x ∷ xs) (d ∷ ds) first rest only = elim (cases_Bool (later x)) [
     | inl is ↦ once_along _ _ (shared x d xs ds is) (
       λ there. elim (own_or_later xs ds d there) [
         | inl again ↦ both (later d) (only d (at_head d ds)) again.1

@@ -30,11 +30,12 @@ use Rattle.std.proofs.lemmas.List.{take-append-drop, take_all, take_more}
 use Rattle.std.proofs.lemmas.List.Elements.{Contains-append_left}
 use Rattle.std.proofs.lemmas.List.Folds.{Any-from_list_any, list_any-from_Any}
 use Rattle.djq_union.specs.Answers.{AreSome, AreAll, IsListing}
-use Rattle.djq_union.proofs.Lists.{true_or_false, all_of, AreOnce, once_of, different_of}
+use Rattle.djq_union.proofs.Lists.{all_of, AreOnce, once_of, different_of}
+use Rattle.std.proofs.lemmas.Bool.{cases_Bool}
 use Rattle.djq_union.proofs.Fitting.{one_left}
 
 nat_le_or_lt : (n s : ℕ) → (n ≤ s) ⊎ (s < n)
-nat_le_or_lt n s = elim (true_or_false (nat_lt s n)) [
+nat_le_or_lt n s = elim (cases_Bool (nat_lt s n)) [
   | inl low ↦ inr (ltb-true s n low)
   | inr past ↦ inl (ltb-false s n past)
 ]

@@ -63,7 +63,7 @@ one_type Text Text e = refl
 one_type Int Text e = absurd cc
 one_type Text Int e = absurd cc
 
-all_types : (cs ds : List ColumnType) → same_types cs ds ≡ true → cs ≡ ds
+pub all_types : (cs ds : List ColumnType) → same_types cs ds ≡ true → cs ≡ ds
 all_types [] [] e = refl
 all_types [] (d ∷ ds) e = absurd cc
 all_types (c ∷ cs) [] e = absurd cc

@@ -1,6 +1,6 @@
 mod Lists
 mod Placed
-mod Heads
+pub mod Heads
 mod Values
 mod Advancing
 mod Counting

@@ -15,8 +15,7 @@ use Rattle.djq_model.specs.Data.{Bytes}
 use Rattle.djq_model.specs.declared.value.Value.{Value}
 use Rattle.djq_model.specs.declared.value.Value.TheVariants.{Int, Text}
 use Rattle.djq_value.specs.Token.{Token, word, text, open_paren, close_paren, comma, arrow}
-use Rattle.djq_value.specs.Token.{operator, stray, behind_spaces, ends_word, may_end, token_at}
-use Rattle.djq_value.specs.Token.{token_front}
+use Rattle.djq_value.specs.Token.{operator, stray, behind_spaces, ends_word, may_end, token_at, token_front}
 use Rattle.djq_value.specs.Literal.{digits_value, integer_of, is_digit, is_small_value, literal_of, minus, natural_of}
 use Rattle.djq_value.specs.Spelling.{IsSpaces, IsToken, MayFollow, text_of}
 use Rattle.djq_value.specs.ReadValue.{IsLiteral, literal_at, literal_in}
@@ -38,7 +37,7 @@ record IsWritten (n : ℕ) (ds : Bytes) : Type 0 where
   digits : list_all is_digit ds ≡ true
   value : digits_value 0 ds ≡ n
 
-digit_is : (d : ℕ) → d < 10 → is_digit (48 + d) ≡ true
+pub digit_is : (d : ℕ) → d < 10 → is_digit (48 + d) ≡ true
 digit_is d h = and_from _ _ (le-leb 48 (48 + d) (omega arith)) (le-leb (48 + d) 57 (omega arith))
 
 one_digit : (n : ℕ) → n < 10 → IsWritten n ((48 + n) ∷ [])
@@ -55,11 +54,11 @@ more_digits n ds h w = record {
 written : (n : ℕ) → n < 2 ^ 64 → IsWritten n (decimal n)
 written n h = decimal_by_steps IsWritten one_digit more_digits n h
 
-natural_written : (n : ℕ) → n < 2 ^ 64 → natural_of (decimal n) ≡ Some n
+pub natural_written : (n : ℕ) → n < 2 ^ 64 → natural_of (decimal n) ≡ Some n
 natural_written n h = let w = written n h in natural-some (decimal n) w.some ∙ cond-true _ _ _ w.digits
     ∙ ap (λ k. Some k) w.value
 
-digit_bounds : (d : ℕ) → is_digit d ≡ true → (48 ≤ d) × (d ≤ 57)
+pub digit_bounds : (d : ℕ) → is_digit d ≡ true → (48 ≤ d) × (d ≤ 57)
 digit_bounds d h = let parts = and_parts (leb 48 d) (leb d 57) h in (leb-true 48 d parts.0, leb-true d 57 parts.1)
 
 pub integer_digits : (ds : Bytes) → 0 < length ds → list_all is_digit ds ≡ true → integer_of ds

@@ -7,7 +7,7 @@ use Rattle.djq_core.specs.Views.{loading_in}
 use Rattle.djq.specs.Logged.{disk_seen, log_seen}
 use Rattle.djq.specs.Parts.{OpensLog}
 use Rattle.djq.proofs.Logging.{begins_empty, ended_begins, unended_begins}
-use Rattle.djq.proofs.Replaying.{match_so}
+use Rattle.djq_follow.proofs.Leaving.{either}
 use Rattle.djq.proofs.log.open_log.Goals as goal
 
 pub returns-in_default : goal.returns-in_default
@@ -43,7 +43,7 @@ returns-in-Ok g c =
     let ended = c.end_batch.ensures in
     subst (λ (path : Option (Bor Bytes)). OpensLog (log_seen path first last) c.end_batch.result start counted loaded)
     (sym c.in-Some.is)
-    (match_so c.end_batch.result _ _ _ _
+    (either c.end_batch.result _ _ _ _
     (λ log ends. ended_begins path first mid last c.in-Ok.journal log end new state start counted loaded then.listing
     c.in-Ok.ensures ends refl ended.rest ended.listing)
     (λ status cant. unended_begins path first mid last c.in-Ok.journal status end state counted loaded then.listing

@@ -6,14 +6,7 @@ use Rattle.djq_reach.specs.Reaching.{AllAt, Reach, Renews}
 use Rattle.djq_reach.specs.Tending.{AreUnwatched, TellsAt, Tends, Empties}
 use Rattle.djq_reach.specs.Grouping.{CanComeBy, CostsBy, Leads, WorksBy, reached, rows_in, times_back}
 use Rattle.djq_engine.proofs.batch.take_groups.Goals as goal
-
-on_ok : {X E : Type 0} {A B C : Type 0} (r : Result X E) → (A → B → C) → OnOk r A → OnOk r B → OnOk r C
-on_ok (Ok x) f a b = f a b
-on_ok (Err x) f a b = tt
-
-on_err : {X E : Type 0} {A B C : Type 0} (r : Result X E) → (A → B → C) → OnErr r A → OnErr r B → OnErr r C
-on_err (Ok x) f a b = tt
-on_err (Err x) f a b = f a b
+use Rattle.djq_reach.proofs.Tending.{on_both, on_refused}
 
 either : {X E : Type 0} {A B C : Type 0} (r : Result X E) → (A → C) → (B → C) → OnOk r A → OnErr r B → C
 either (Ok x) f g a b = f a
@@ -39,7 +32,7 @@ take_in_batch-requires-clause-watched g c = ap (λ (ws : List ℕ). length ws) c
 
 pub returns-clause-taken : goal.returns-clause-taken
 returns-clause-taken g c =
-    on_ok c.take_in_batch.result
+    on_both c.take_in_batch.result
     (λ reach tends. record {
       reach = λ d here.
           subst (λ (rs : List (List ℕ)). Reach (reached rs c.args.groups.now) (Renews c.args.parts.now.catalog)
@@ -64,7 +57,7 @@ returns-clause-taken g c =
 
 pub returns-clause-given : goal.returns-clause-given
 returns-clause-given g c =
-    on_err c.take_in_batch.result
+    on_refused c.take_in_batch.result
     (λ reach empties. record {
       reach = λ d here.
           subst (λ (rs : List (List ℕ)). Reach (reached rs c.args.groups.now) (Renews d) c.args.parts.now.queries.items

@@ -13,7 +13,8 @@ use Rattle.djq_reach.specs.Tending.{AreUnwatched, AreShown, Costs, Tends, TellsA
 use Rattle.djq_engine.proofs.Carrying.{readers_kept}
 use Rattle.djq_reach.proofs.Tending.{tells_show, tends_quiet}
 use Rattle.djq_engine.proofs.Tending.{counts_rows, shown_tended, tells_rows}
-use Rattle.djq_engine.proofs.Storing.{catalog_same, has_copies, places_read, gone_once, can_go, drop_carries}
+use Rattle.djq_engine.proofs.Storing.{has_copies, places_read, gone_once, can_go, drop_carries}
+use Rattle.djq_live.proofs.Moving.{same_catalog}
 use Rattle.djq_engine.proofs.change.drop_cells.Goals as goal
 
 pub returns-in-Left-clause-deletes : goal.returns-in-Left-clause-deletes
@@ -38,7 +39,7 @@ returns-in-Absent-clause-deletes g c row stand =
     let old = c.args.parts.now in
     let gone = (subst (λ (o : DeleteOutcome). DeletesRow old.catalog.relations c.args.id.at row o
     c.delete_row.new.self.relations) c.in-Absent.is (c.delete_row.ensures.deletes row stand)) in
-    (gone.0, catalog_same old.catalog c.delete_row.new.self gone.1 c.delete_row.ensures.texts, refl, refl)
+    (gone.0, same_catalog old.catalog c.delete_row.new.self gone.1 c.delete_row.ensures.texts, refl, refl)
 
 pub returns-in-Absent-clause-shown : goal.returns-in-Absent-clause-shown
 returns-in-Absent-clause-shown g c =

@@ -13,20 +13,8 @@ use Rattle.djq_reach.specs.Tending.{AreShown, AreUnwatched, Costs, Shows, Tends,
 use Rattle.djq_engine.proofs.Carrying.{readers_kept}
 use Rattle.djq_reach.proofs.Tending.{tends_apart, tends_quiet}
 use Rattle.djq_engine.proofs.Tending.{counts_rows, shown_tended, tells_rows}
-use Rattle.djq_engine.proofs.Storing.{
-  came,
-  came_new,
-  can_come,
-  catalog_back,
-  catalog_same,
-  has_copies,
-  places_once,
-  places_read,
-  put_carries,
-  stand_now,
-  unput_carries,
-  wait_carries,
-}
+use Rattle.djq_engine.proofs.Storing.{came, came_new, can_come, catalog_back, has_copies, places_once, places_read, put_carries, stand_now, unput_carries, wait_carries}
+use Rattle.djq_live.proofs.Moving.{same_catalog}
 use Rattle.djq_engine.proofs.change.put_cells.Goals as goal
 
 pub unreachable-requires : goal.unreachable-requires
@@ -58,7 +46,7 @@ returns-in-Err-Full-clause-adds g c row stand =
     let old = c.args.parts.now in
     let adds = subst (λ (r : RowsRefusal). AddsRow old.catalog.relations c.args.id.at row (Err r)
     c.add_row.new.self.relations) c.in-Err-Full.field-0-is (c.in-Err-Full.ensures.adds row stand) in
-    (adds.0, catalog_same old.catalog c.add_row.new.self adds.1 c.add_row.ensures.texts, refl, refl)
+    (adds.0, same_catalog old.catalog c.add_row.new.self adds.1 c.add_row.ensures.texts, refl, refl)
 
 pub returns-in-Err-Full-clause-shown : goal.returns-in-Err-Full-clause-shown
 returns-in-Err-Full-clause-shown g c =
@@ -70,7 +58,7 @@ returns-in-Err-NoMem-clause-adds g c row stand =
     let old = c.args.parts.now in
     let adds = subst (λ (r : RowsRefusal). AddsRow old.catalog.relations c.args.id.at row (Err r)
     c.add_row.new.self.relations) c.in-Err-NoMem.field-0-is (c.in-Err-NoMem.ensures.adds row stand) in
-    let same = catalog_same old.catalog c.add_row.new.self adds.2 c.add_row.ensures.texts in (
+    let same = same_catalog old.catalog c.add_row.new.self adds.2 c.add_row.ensures.texts in (
       adds.0,
       record {
         catalog = same;

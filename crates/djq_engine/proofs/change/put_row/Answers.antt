@@ -10,7 +10,7 @@ use Rattle.djq_reach.specs.Places.{is_reader, log_at, place_at, readers_at, watc
 use Rattle.djq_engine.specs.Changing.{CountsRows, IsDeltaWith}
 use Rattle.djq_engine.proofs.Tending.{shown_more}
 use Rattle.djq_engine.proofs.Carrying.{sound_texts}
-use Rattle.djq_engine.proofs.Judged.{fits_length}
+use Rattle.djq_live.proofs.Rowing.{fits_long}
 use Rattle.djq_engine.proofs.Storing.{
   adds_to,
   all_stay,
@@ -28,7 +28,7 @@ use Rattle.djq_engine.proofs.change.put_row.Goals as goal
 pub intern_cells-requires : goal.intern_cells-requires
 intern_cells-requires g c = omega (
   arith,
-  fits_length (relation_at c.args.parts.now.catalog.relations c.args.id.at).types c.args.row.now c.requires.suits,
+  fits_long (relation_at c.args.parts.now.catalog.relations c.args.id.at).types c.args.row.now c.requires.suits,
   (c.laws.ensures.kept c.args.id.at no_relation c.requires.there).narrow,
 )
 

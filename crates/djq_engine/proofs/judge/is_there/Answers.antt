@@ -1,12 +1,12 @@
 use Rattle.std.proofs.Common.{arith}
 use Rattle.djq_rows.specs.Catalog.{no_relation, relation_at}
-use Rattle.djq_engine.proofs.Judged.{fits_length}
+use Rattle.djq_live.proofs.Rowing.{fits_long}
 use Rattle.djq_engine.proofs.judge.is_there.Goals as goal
 
 pub cells-requires : goal.cells-requires
 cells-requires g c = omega (
   arith,
-  fits_length (relation_at c.args.catalog.now.relations c.args.id.at).types c.args.row.now
+  fits_long (relation_at c.args.catalog.now.relations c.args.id.at).types c.args.row.now
       c.requires.suits,
   (c.laws.ensures.kept c.args.id.at no_relation c.requires.there).narrow,
 )

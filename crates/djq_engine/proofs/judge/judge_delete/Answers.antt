@@ -3,19 +3,14 @@ use Rattle.std.specs.Prelude.{IfNone}
 use Rattle.djq_model.specs.Data.{has_row}
 use Rattle.djq_rows.specs.Catalog.{StandForRow, no_relation, relation_at, rows_at}
 use Rattle.djq_rows.specs.Changes.{TellsCells, told}
-use Rattle.djq_engine.proofs.Judged.{
-  fits_length,
-  delete_absent,
-  delete_limited,
-  delete_passes,
-  delete_several,
-}
+use Rattle.djq_engine.proofs.Judged.{delete_absent, delete_limited, delete_passes, delete_several}
+use Rattle.djq_live.proofs.Rowing.{fits_long}
 use Rattle.djq_engine.proofs.judge.judge_delete.Goals as goal
 
 pub write_cells-requires : goal.write_cells-requires
 write_cells-requires g c = omega (
   arith,
-  fits_length (relation_at c.args.catalog.now.relations c.in_ok-relation.relation.at).types
+  fits_long (relation_at c.args.catalog.now.relations c.in_ok-relation.relation.at).types
       c.args.row.now c.in_ok-relation.ensures.ok.suits,
   (c.laws.ensures.kept c.in_ok-relation.relation.at no_relation
       c.in_ok-relation.ensures.ok.below).narrow,

@@ -8,7 +8,8 @@ use Rattle.djq_rows.specs.Cells.{HaveCells, cells_of}
 use Rattle.djq_rows.specs.Catalog.{StandForRow, no_relation, relation_at, rows_at}
 use Rattle.djq_engine.specs.Judging.{bare, Suits}
 use Rattle.djq_engine.proofs.GivenUp.{suits_found}
-use Rattle.djq_engine.proofs.Judged.{fits_length, suited_none}
+use Rattle.djq_engine.proofs.Judged.{suited_none}
+use Rattle.djq_live.proofs.Rowing.{fits_long}
 use Rattle.djq_engine.proofs.TakenBack.{held_back, last_suits, row_there, suits_last}
 use Rattle.djq_engine.proofs.putting.take_row_back.Goals as goal
 
@@ -30,7 +31,7 @@ cells-requires g c =
     c.in-Some.ensures.2 in
     omega (
       arith,
-      fits_length (relation_at now c.in-Some.id.at).types h.row suits.suits,
+      fits_long (relation_at now c.in-Some.id.at).types h.row suits.suits,
       (c.laws.ensures.kept c.in-Some.id.at no_relation c.in-Some.ensures.0).narrow,
       ap (λ (row : Tuple). length row) c.as_slice.ensures,
     )

@@ -3,16 +3,8 @@ use Rattle.djq_index.specs.declared.place.Place.{Place}
 use Rattle.djq_index.specs.declared.raw.Raw.{Raw}
 use Rattle.djq_index.specs.Table.{IsAt}
 use Rattle.djq_index.specs.Raw.{entries_of, IsNoted}
-use Rattle.djq_index.proofs.Inserting.{
-  slot_notes,
-  came_bare,
-  came_inserted,
-  came_at,
-  unlaid_refuses,
-  refused_bare,
-  refused_entries,
-  on_err_of,
-}
+use Rattle.djq_index.proofs.Inserting.{slot_notes, came_bare, came_inserted, came_at, unlaid_refuses, refused_bare, refused_entries}
+use Rattle.djq_arena.proofs.Filling.{on_err}
 use Rattle.djq_index.proofs.Bounding.{entries_length}
 use Rattle.djq_index.proofs.raw.insert_bare.Goals as goal
 
@@ -36,7 +28,7 @@ pub returns-in_err-slot-clause-refused : goal.returns-in_err-slot-clause-refused
 returns-in_err-slot-clause-refused c =
     let b : Raw = record c.args.raw.now { rows = c.lay.new.rows; notes = c.lay.new.notes } in
     let r = unlaid_refuses c.args.raw.now b c.in_err-slot.ensures.refused refl refl refl in
-    on_err_of c.from_residual.result _ (refused_entries c.args.raw.now b r)
+    on_err c.from_residual.result _ (refused_entries c.args.raw.now b r)
 
 pub sign-requires : goal.sign-requires
 sign-requires c =

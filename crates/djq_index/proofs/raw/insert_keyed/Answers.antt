@@ -5,24 +5,8 @@ use Rattle.djq_index.specs.declared.raw.Raw.{Raw}
 use Rattle.djq_index.specs.Tuple.{pick}
 use Rattle.djq_index.specs.Table.{IsAt}
 use Rattle.djq_index.specs.Raw.{entries_of, IsReady, IsNoted, IsSeat}
-use Rattle.djq_index.proofs.Inserting.{
-  slot_notes,
-  slot_links,
-  slot_number,
-  head_ends,
-  last_links,
-  came_bare,
-  came_heads,
-  came_inserted,
-  came_at,
-  Refuses,
-  unlaid_refuses,
-  RefusesHead,
-  refused_bare,
-  refused_heads,
-  refused_entries,
-  on_err_of,
-}
+use Rattle.djq_index.proofs.Inserting.{slot_notes, slot_links, slot_number, head_ends, last_links, came_bare, came_heads, came_inserted, came_at, Refuses, unlaid_refuses, RefusesHead, refused_bare, refused_heads, refused_entries}
+use Rattle.djq_arena.proofs.Filling.{on_err}
 use Rattle.djq_index.proofs.Bounding.{entries_length}
 use Rattle.djq_index.proofs.Heading.{few_heads}
 use Rattle.djq_index.proofs.raw.insert_keyed.Goals as goal
@@ -76,7 +60,7 @@ returns-in_err-slot-clause-refused c =
       links = c.lay_linked.new.links;
     } in
     let r = unlaid_refuses c.args.raw.now b c.in_err-slot.ensures.refused refl refl refl in
-    on_err_of c.from_residual.result _ (refused_entries c.args.raw.now b r)
+    on_err c.from_residual.result _ (refused_entries c.args.raw.now b r)
 
 pub returns-in-Err-clause-raw : goal.returns-in-Err-clause-raw
 returns-in-Err-clause-raw c =

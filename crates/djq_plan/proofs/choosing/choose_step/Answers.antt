@@ -1,7 +1,8 @@
 use Rattle.std.proofs.Common.{arith, false, ◌≡◌, ◌∙◌, ap, sym, List, ℕ}
 use Rattle.djq_hyper.specs.Hypergraph.{difference}
 use Rattle.djq_tree.specs.Choosing.{removable}
-use Rattle.djq_plan.proofs.Rules.{read, removable_by, has_by, trim_is, trim_none}
+use Rattle.djq_plan.proofs.Rules.{removable_by, has_by, trim_is, trim_none}
+use Rattle.djq_hyper.proofs.Checking.{read_at}
 use Rattle.djq_plan.proofs.choosing.choose_step.Goals as goal
 
 pub returns-then-not-is_empty : goal.returns-then-not-is_empty
@@ -9,7 +10,7 @@ returns-then-not-is_empty c =
     let e : c.difference-removed.result ≡ removable c.args.keep c.args.labels.now c.loop-place.place =
     removable_by c.args.keep c.args.labels.now c.loop-place.place c.own_variables-own.result c.difference-removed.result
     c.index-labels-place.result c.own_variables-own.ensures
-    (read c.args.labels.now c.loop-place.place c.index-labels-place.result (omega arith) c.index-labels-place.is)
+    (read_at c.args.labels.now c.loop-place.place c.index-labels-place.result (omega arith) c.index-labels-place.is)
     (c.difference-removed.ensures ∙ ap (λ (k : List ℕ). difference k c.args.keep) c.intersection.ensures) in
     trim_is c.args.keep c.args.labels.now c.loop-place.place c.difference-removed.result (omega arith)
     (has_by c.args.keep c.args.labels.now c.loop-place.place c.difference-removed.result false e

@@ -1,12 +1,13 @@
 use Rattle.std.proofs.Common.{rules, arith, true}
-use Rattle.djq_plan.proofs.Rules.{read, inside_read, cover_is, cover_none}
+use Rattle.djq_plan.proofs.Rules.{inside_read, cover_is, cover_none}
+use Rattle.djq_hyper.proofs.Checking.{read_at}
 use Rattle.djq_plan.proofs.choosing.find_cover.Goals as goal
 
 pub returns-then-is_inside : goal.returns-then-is_inside
 returns-then-is_inside c = cover_is c.args.labels.now c.args.place c.loop-other.other (omega arith)
     (inside_read c.args.labels.now c.args.place c.loop-other.other _ _ _ true
-    (read c.args.labels.now c.args.place c.index-labels-place.result (omega arith) c.index-labels-place.is)
-    (read c.args.labels.now c.loop-other.other c.index-labels-other.result (omega arith) c.index-labels-other.is)
+    (read_at c.args.labels.now c.args.place c.index-labels-place.result (omega arith) c.index-labels-place.is)
+    (read_at c.args.labels.now c.loop-other.other c.index-labels-other.result (omega arith) c.index-labels-other.is)
     c.is_inside.ensures (search rules)) c.loop-other.invariant
 
 pub returns : goal.returns

@@ -1,12 +1,13 @@
 use Rattle.std.proofs.Common.{rules, arith}
-use Rattle.djq_plan.proofs.Rules.{read, equal_read, twin_is, twin_none}
+use Rattle.djq_plan.proofs.Rules.{equal_read, twin_is, twin_none}
+use Rattle.djq_hyper.proofs.Checking.{read_at}
 use Rattle.djq_plan.proofs.choosing.find_twin.Goals as goal
 
 pub returns-then-are_equal : goal.returns-then-are_equal
 returns-then-are_equal c = twin_is c.args.labels.now c.args.place c.loop-other.other (omega arith) (omega arith)
     (equal_read c.args.labels.now c.args.place c.loop-other.other _ _ _
-    (read c.args.labels.now c.args.place c.index-labels-place.result (omega arith) c.index-labels-place.is)
-    (read c.args.labels.now c.loop-other.other c.index-labels-other.result (omega arith) c.index-labels-other.is)
+    (read_at c.args.labels.now c.args.place c.index-labels-place.result (omega arith) c.index-labels-place.is)
+    (read_at c.args.labels.now c.loop-other.other c.index-labels-other.result (omega arith) c.index-labels-other.is)
     c.are_equal.ensures (search rules)) c.loop-other.invariant
 
 pub returns : goal.returns

@@ -5,7 +5,7 @@ use Rattle.djq_index.proofs.Tuples.{one_true}
 use Rattle.djq_tree.specs.Tree.{node_at, has_child}
 use Rattle.djq_reduct.specs.Tables.{entries_at}
 use Rattle.djq_propagate.proofs.Going.{has_table}
-use Rattle.djq_propagate.proofs.Touching.{marks_length}
+use Rattle.djq_index.proofs.Clearing.{length_marks}
 use Rattle.djq_propagate.proofs.path.clear_above.Goals as goal
 
 pub node-requires : goal.node-requires
@@ -41,7 +41,7 @@ returns-then-has_child-clause-counted g c =
     ≡ 1 * (1 + n) = ap (λ (x : ℕ). x * (1 + n))
     (one_true (has_child (node_at c.args.tree.now.nodes c.args.up) c.args.at)
     (ap (λ n. has_child n c.args.at) (sym c.node.ensures) ∙ sym c.has_child.ensures ∙ c.if-has_child.true)) in omega
-    (arith, c.clear_at.ensures.counted, marks_length (entries_at c.args.tables.now.items c.args.up), h c.args.up)
+    (arith, c.clear_at.ensures.counted, length_marks (entries_at c.args.tables.now.items c.args.up), h c.args.up)
 
 pub returns-clause-next : goal.returns-clause-next
 returns-clause-next g c =

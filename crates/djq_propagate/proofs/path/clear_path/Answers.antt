@@ -4,7 +4,7 @@ use Rattle.djq_tree.specs.Tree.{node_at, has_child}
 use Rattle.djq_reduct.specs.Tables.{entries_at}
 use Rattle.djq_propagate.specs.Updates.{HasCleared, steps}
 use Rattle.djq_propagate.proofs.Going.{has_table}
-use Rattle.djq_propagate.proofs.Touching.{marks_length}
+use Rattle.djq_index.proofs.Clearing.{length_marks}
 use Rattle.djq_reduct.proofs.Paths.{path_zero}
 use Rattle.djq_propagate.proofs.Paths.{path_next, steps_none, steps_more, steps_count, cleared_leaf, cleared_more}
 use Rattle.djq_propagate.proofs.Updating.{leaf_within}
@@ -26,7 +26,7 @@ loop-up-init g c =
           ≡ 1 * (1 + n) = ap (λ (x : ℕ). (1 + x) * (1 + n)) (steps_none c.args.tree.now.nodes c.args.leaf) in omega (
             arith,
             c.clear_at.ensures.counted,
-            marks_length (entries_at c.args.tables.now.items c.args.leaf),
+            length_marks (entries_at c.args.tables.now.items c.args.leaf),
             h
                 c.args.leaf,
           );

@@ -2,7 +2,8 @@ use Rattle.std.proofs.Common.{ℕ, true, refl, sym, subst, arith, length, length
 use Rattle.std.proofs.lemmas.List.Elements.{All-contains}
 use Rattle.djq_engine.specs.declared.cursor.QueryId.{QueryId}
 use Rattle.djq_lines.specs.declared.limits.TheConstants.{QUERIES}
-use Rattle.djq_store.proofs.Walking.{get_replicated, got_there, reached_more}
+use Rattle.djq_store.proofs.Walking.{get_replicated, reached_more}
+use Rattle.djq_gains.proofs.Members.{got}
 use Rattle.djq_store.proofs.affecting.reached_places.Goals as goal
 
 pub loop-nth-init : goal.loop-nth-init
@@ -11,13 +12,13 @@ loop-nth-init c = record { long = refl; each = λ i. get_replicated 256 i }
 pub bounds-reached-affected : goal.bounds-reached-affected
 bounds-reached-affected c =
     All-contains (λ (id : QueryId). id.at < QUERIES) c.args.engine.now.affected c.affected.result c.requires
-    (got_there c.args.engine.now.affected c.loop-nth.nth c.affected.result c.affected.ensures)
+    (got c.args.engine.now.affected c.loop-nth.nth c.affected.result c.affected.ensures)
 
 pub loop-nth-preserved : goal.loop-nth-preserved
 loop-nth-preserved c =
     let low : c.affected.result.at < QUERIES =
     All-contains (λ (id : QueryId). id.at < QUERIES) c.args.engine.now.affected c.affected.result c.requires
-    (got_there c.args.engine.now.affected c.loop-nth.nth c.affected.result c.affected.ensures) in
+    (got c.args.engine.now.affected c.loop-nth.nth c.affected.result c.affected.ensures) in
     record {
       long = length-set c.loop-nth.reached c.affected.result.at true ∙ c.loop-nth.invariant.long;
       each = reached_more c.loop-nth.reached c.args.engine.now.affected c.loop-nth.nth c.affected.result

@@ -4,7 +4,8 @@ use Rattle.djq_lines.specs.declared.answer.Refusal.{Refusal}
 use Rattle.djq_model.specs.Listed.{a_query}
 use Rattle.djq_live.specs.Member.{query_at}
 use Rattle.djq_store.specs.Asking.{TellsOf}
-use Rattle.djq_store.proofs.Having.{some_there, asked_more, atoms_part, counted_more, counted_part}
+use Rattle.djq_store.proofs.Having.{asked_more, atoms_part, counted_more, counted_part}
+use Rattle.djq_deltas.proofs.Cases.{some_there}
 use Rattle.djq_store.proofs.Having.{one_has, one_refuses, all_lack, all_there}
 use Rattle.djq_store.proofs.asking.some_has.Goals as goal
 

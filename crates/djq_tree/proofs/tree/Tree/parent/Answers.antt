@@ -1,15 +1,15 @@
 use Rattle.std.proofs.Common.{List, subst, ap, ◌∙◌}
 use Rattle.djq_tree.specs.declared.node.Node.{Node}
 use Rattle.djq_tree.specs.Tree.{Tree, IsTree, parent}
-use Rattle.djq_tree.proofs.Keying.{parent_read, parent_within}
-use Rattle.djq_tree.proofs.Climbing.{rising_of}
+use Rattle.djq_tree.proofs.Keying.{parent_read}
+use Rattle.djq_tree.proofs.Climbing.{up_within, rising_of}
 use Rattle.djq_tree.proofs.tree.Tree.parent.Goals as goal
 
 pub parent_of-requires-clause-rising : goal.parent_of-requires-clause-rising
 parent_of-requires-clause-rising c = rw c.deref.ensures.value (rising_of _ c.self.invariant)
 
 pub returns-in-Some-clause-above : goal.returns-in-Some-clause-above
-returns-in-Some-clause-above c = parent_within c.args.self.now c.args.at c.in-Some.up
+returns-in-Some-clause-above c = up_within c.args.self.now c.args.at c.in-Some.up
     (subst IsTree c.self.view_is c.self.invariant) c.in-Some.ensures
 
 pub returns-in-None-clause-above : goal.returns-in-None-clause-above
