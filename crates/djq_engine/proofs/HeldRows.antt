@@ -184,7 +184,7 @@ all_queries st (x ∷ xs) = all_queries (with_held st x) xs ∙ held_queries st 
 
 -- ---- what suits a relation suits it still
 
-pub refusal_by : Option Relation → Tuple → Option Refusal
+unfoldable pub refusal_by : Option Relation → Tuple → Option Refusal
 refusal_by o row =
     first_of ((is_none o, NoRelation) ∷ (not (length row == length (types_of o)), Arity) ∷
     (not (fits (types_of o) row), WrongType) ∷ [])
