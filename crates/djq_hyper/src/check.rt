@@ -142,13 +142,13 @@ mod tests {
     }
 
     #[test]
-    fn lists_go_in_and_out(rt: HostRuntime) -> Result<(), Fail> {
+    fn keeps_lists(rt: HostRuntime) -> Result<(), Fail> {
         let edges = edges_of(rt.alloc(), &[&[0, 1], &[]])?;
         assert!(rt; edges.len() == 2 && !edges.is_empty());
         assert!(rt; edges.get(0).len() == 2);
-        let copy = Edges::from_sets(edges.copy(rt.alloc())?.into_sets());
+        let copy = edges.copy(rt.alloc())?;
         assert_eq!(rt; copy.as_slice(), edges.as_slice());
-        let tree = JoinTree::from_links(tree_of(rt.alloc(), &[(0, 0), (1, 0)])?.into_links());
+        let tree = tree_of(rt.alloc(), &[(0, 0), (1, 0)])?;
         assert!(rt; tree.len() == 2 && !tree.is_empty());
         assert!(rt;
             tree.as_slice() == [Link { edge: 0, parent: 0 }, Link { edge: 1, parent: 0 }].as_slice()

@@ -49,14 +49,6 @@ impl Edges {
         Edges { sets }
     }
 
-    /// The edges as a list, which is moved out.
-    pub fn into_sets(self) -> Vec<VarSet>
-        ensures { result.items ≡ self }
-    {
-        let Edges { sets } = self;
-        sets
-    }
-
     /// A copy.
     pub fn copy(&self, alloc: Global) -> Result<Edges, AllocError>
         ensures { IfOk result (λ e. e ≡ self.now) }

@@ -41,21 +41,6 @@ impl JoinTree {
         }
     }
 
-    /// The tree of a list of links, which is moved in.
-    pub fn from_links(links: Vec<Link>) -> JoinTree
-        ensures { result ≡ links.items }
-    {
-        JoinTree { links }
-    }
-
-    /// The links as a list, which is moved out.
-    pub fn into_links(self) -> Vec<Link>
-        ensures { result.items ≡ self }
-    {
-        let JoinTree { links } = self;
-        links
-    }
-
     /// Puts a link behind the others.
     pub fn push(&mut self, link: Link) -> Result<(), AllocError>
         ensures ok { OnOk result (self.new ≡ self.old ++ link ∷ []) }

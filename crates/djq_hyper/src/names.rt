@@ -29,21 +29,6 @@ impl Names {
         }
     }
 
-    /// The names of a list, which is moved in.
-    pub fn from_texts(texts: Vec<Vec<u8>>) -> Names
-        ensures { result ≡ map (λ t. t.items) texts.items }
-    {
-        Names { texts }
-    }
-
-    /// The names as a list, which is moved out.
-    pub fn into_texts(self) -> Vec<Vec<u8>>
-        ensures { map (λ t. t.items) result.items ≡ self }
-    {
-        let Names { texts } = self;
-        texts
-    }
-
     /// Puts a copy of a name behind the others.
     pub fn push(&mut self, alloc: Global, name: &[u8]) -> Result<(), AllocError>
         ensures ok { OnOk result (self.new ≡ self.old ++ name.now ∷ []) }
@@ -88,7 +73,6 @@ mod tests {
         assert!(rt; names.is_empty());
         names.push(rt.alloc(), b"r")?;
         names.push(rt.alloc(), b"item")?;
-        let names = Names::from_texts(names.into_texts());
         assert_eq!(rt; names.len(), 2);
         assert_eq!(rt; names.get(1), b"item".as_slice());
         Ok(())

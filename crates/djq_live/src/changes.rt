@@ -1,12 +1,6 @@
-ghost use Rattle.djq_live.specs.Changes.{OverStays, OverGains, OverLoses};
+ghost use Rattle.djq_live.specs.Changes.{OverGains, OverLoses};
 ghost use Rattle.djq_live.specs.Changes.{AddedCame, DeletedWent, CopiesKeepRows};
 ghost use Rattle.djq_live.specs.Changes.{LeafIsEmpty, LeafGains, LeafIsFilled};
-
-/// Where no rows change, the reducts stay those of the query, however many texts and relations more
-/// there are.
-pub fn over_stays()
-    ensures { OverStays }
-{}
 
 /// Where rows came into a relation, the reducts are those of the query once each leaf over the
 /// relation has gained the tuples that put into its atom give one of them.

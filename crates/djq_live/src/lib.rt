@@ -37,7 +37,7 @@
 pub use build::intern_constants;
 pub use changes::{
     added_came, copies_keep_rows, deleted_went, leaf_gains, leaf_is_empty, leaf_is_filled,
-    over_gains, over_loses, over_stays,
+    over_gains, over_loses,
 };
 pub use fault::query_fault_of;
 pub use laws::{

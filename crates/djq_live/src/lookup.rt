@@ -1,6 +1,6 @@
 ghost use Rattle.std.specs.Prelude.{◌≡◌, ◌↔◌, ◌+◌, ◌<◌, ◌≤◌, ℕ, true, nat_lt, length, map};
 ghost use Rattle.std.specs.List.{list_all};
-ghost use Rattle.djq_model.specs.Typed.{is_of, fits};
+ghost use Rattle.djq_model.specs.Typed.{fits};
 ghost use Rattle.djq_reduct.specs.Columns.{column};
 ghost use Rattle.djq_hyper.specs.Hypergraph.{member};
 ghost use Rattle.djq_live.specs.Asked.{column_of};
@@ -12,17 +12,6 @@ use djq_query::Variable;
 use djq_reduct::{Answer, Cells, Reducts};
 use djq_steps::Tally;
 use std::sync::ledger::Ledger;
-
-/// Whether a value is of a column's type.
-fn is_of(column: ColumnType, value: &Value) -> bool
-    ensures { result ≡ is_of column value.now }
-{
-    match (column, value) {
-        (ColumnType::Int, Value::Int(_)) => true,
-        (ColumnType::Text, Value::Text(_)) => true,
-        _ => false,
-    }
-}
 
 /// The type of the columns where a variable stands.
 pub(crate) fn column_at(variables: &[Variable], variable: usize) -> ColumnType
@@ -39,7 +28,7 @@ pub(crate) fn suits_head(variables: &[Variable], head: &[usize], tuple: &[Value]
     ensures { result ≡ fits (map (column_of variables.now) head.now) tuple.now }
 {
     for at in 0..head.len() {
-        if !is_of(column_at(variables, head[at]), &tuple[at]) {
+        if !column_at(variables, head[at]).admits(&tuple[at]) {
             return false;
         }
     }

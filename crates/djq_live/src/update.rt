@@ -4,7 +4,7 @@ ghost use Rattle.djq_model.specs.Data.{Tuple};
 ghost use Rattle.djq_reduct.specs.Reducts.{SameTables};
 ghost use Rattle.djq_rows.specs.Catalog.{Catalog as CatalogModel};
 ghost use Rattle.djq_live.specs.Batching.{GrowsBy};
-ghost use Rattle.djq_live.specs.Changes.{Came, CameAll, Went, HasSameRows};
+ghost use Rattle.djq_live.specs.Changes.{Came, CameAll, Went};
 ghost use Rattle.djq_live.specs.Cursors.{outdated_slots};
 ghost use Rattle.djq_live.specs.Live.{IsKept, IsLive, SameQuery};
 ghost use Rattle.djq_live.specs.Stepping.{GrowsByOne, HasMore};
@@ -22,7 +22,6 @@ ghost use Rattle.djq_live.specs.Updating.{
 };
 
 use crate::batch::{add_all_to_leaves, give_all_from_leaves, tuples_of_all};
-use crate::changes::over_stays;
 use crate::live::LiveQuery;
 use crate::stepping::{add_to_leaves, give_from_leaves, take_from_leaves};
 use djq_cursor::DeltaLog;
@@ -259,12 +258,5 @@ impl LiveQuery {
         ensures live { (c : CatalogModel) → IsKept c self.old → IsLive c self.new }
     {
         self.cursors.outdate(relation, seq);
-    }
-
-    /// It is kept over a later catalog with the same rows, and its cursors go on. It does nothing.
-    pub fn stays(&self)
-        ensures { (c d : CatalogModel) → HasSameRows c d → IsLive c self.now → IsLive d self.now }
-    {
-        over_stays();
     }
 }

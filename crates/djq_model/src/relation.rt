@@ -1,6 +1,6 @@
 use crate::name::Name;
 use crate::sequence::Sequence;
-use crate::value::Row;
+use crate::value::{Row, Value};
 
 /// What the cells of a column hold.
 #[derive(Clone, Copy, Debug, PartialEq, Eq)]
@@ -9,6 +9,22 @@ pub enum ColumnType {
     Int,
     /// Texts.
     Text,
+}
+
+impl ColumnType {
+    ghost use Rattle.std.specs.Prelude.{◌≡◌};
+    ghost use Rattle.djq_model.specs.Typed.{is_of};
+
+    /// Whether a value is of this type.
+    pub fn admits(self, value: &Value) -> bool
+        ensures { result ≡ is_of self value.now }
+    {
+        match (self, value) {
+            (ColumnType::Int, Value::Int(_)) => true,
+            (ColumnType::Text, Value::Text(_)) => true,
+            _ => false,
+        }
+    }
 }
 
 /// The types of a relation's columns.

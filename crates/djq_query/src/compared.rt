@@ -9,7 +9,6 @@ ghost use Rattle.djq_lines.specs.QueryFault.{
 };
 ghost use Rattle.djq_lines.specs.Variables.{stands_in as stands_in_atoms};
 
-use crate::places::is_of;
 use crate::relations::{Relations, columns_of};
 use crate::variables::stands_in;
 use djq_model::{Atom, ColumnType, Comparison, Operator, Term};
@@ -33,7 +32,7 @@ fn is_miscompared(comparison: &Comparison, term: &Term, column: ColumnType) -> b
     match term {
         Term::Variable(name) => {
             *name == comparison.variable
-                && !(is_of(column, &comparison.constant) && has_order(comparison.operator, column))
+                && !(column.admits(&comparison.constant) && has_order(comparison.operator, column))
         }
         Term::Hole => false,
         Term::Constant(_) => false,

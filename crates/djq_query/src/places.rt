@@ -4,7 +4,6 @@ ghost use Rattle.std.specs.List.{list_any};
 ghost use Rattle.djq_model.specs.Data.{relation_of};
 ghost use Rattle.djq_lines.specs.Columns as spec;
 ghost use Rattle.djq_lines.specs.Columns.{
-  is_of as is_of_type,
   columns_of as columns_named,
   same_type as are_same,
 };
@@ -12,18 +11,7 @@ ghost use Rattle.djq_lines.specs.QueryFault.{any_column, any_place, is_misfit, i
 ghost use Rattle.djq_query.specs.Clashes.{clashes_with, mixes};
 
 use crate::relations::{Relations, columns_of};
-use djq_model::{Atom, ColumnType, Name, Term, Value};
-
-/// Whether a value is of a column's type.
-pub(crate) fn is_of(column: ColumnType, value: &Value) -> bool
-    ensures { result ≡ is_of_type column value.now }
-{
-    match (column, value) {
-        (ColumnType::Int, Value::Int(_)) => true,
-        (ColumnType::Text, Value::Text(_)) => true,
-        _ => false,
-    }
-}
+use djq_model::{Atom, ColumnType, Name, Term};
 
 // Whether two columns are of one type.
 fn same_type(column: ColumnType, other: ColumnType) -> bool
@@ -41,7 +29,7 @@ fn is_misfit(term: &Term, column: ColumnType) -> bool
     ensures { result ≡ is_misfit term.now column }
 {
     match term {
-        Term::Constant(value) => !is_of(column, value),
+        Term::Constant(value) => !column.admits(value),
         Term::Variable(_) => false,
         Term::Hole => false,
     }

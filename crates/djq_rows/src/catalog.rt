@@ -405,16 +405,5 @@ fn are_typed(types: &[ColumnType], row: &[Value]) -> bool
     types
         .iter()
         .zip(row.iter())
-        .all(|(column, value)| is_typed(*column, value))
-}
-
-/// Whether a value is of a column's type.
-fn is_typed(column: ColumnType, value: &Value) -> bool
-    ensures { result ≡ is_of column value.now }
-{
-    match (column, value) {
-        (ColumnType::Int, Value::Int(_)) => true,
-        (ColumnType::Text, Value::Text(_)) => true,
-        _ => false,
-    }
+        .all(|(column, value)| column.admits(value))
 }

@@ -2,9 +2,7 @@ ghost use Rattle.std.specs.Prelude.{◌≡◌, ◌≤◌, None};
 
 use super::*;
 use djq_lines::limits::{CURSORS, REPLY_BYTES};
-use djq_lines::{
-    AddOutcome, DeleteOutcome, EndCause, EndLine, HeldRow, QueryOutcome, Refusal, Sign,
-};
+use djq_lines::{AddOutcome, DeleteOutcome, EndCause, EndLine, HeldRow, QueryOutcome, Refusal};
 use djq_model::{Name, NoMem, Row, Sequence, Value};
 use djq_proto::Front;
 use std::alloc::Global;
@@ -233,16 +231,6 @@ fn listings_are_queued(rt: HostRuntime) -> Result<(), Fail> {
     session.queue_last(true)?;
     assert_eq!(rt; session.pending().len(), 2500 * 7 + 4);
     assert!(rt; session.pending().ends_with(b"\n= -2 1\nend\n"));
-    Ok(())
-}
-
-#[test]
-fn changes_are_queued(rt: HostRuntime) -> Result<(), Fail> {
-    let row = a_row(rt.alloc())?;
-    let mut session = Numbered::new(rt.alloc())?;
-    session.queue_change(Sign::Went, &Name::new(b"q"), &row)?;
-    session.queue_at(&Name::new(b"q"), 7)?;
-    assert_eq!(rt; session.pending(), b"- q -2 1\nat q 7\n".as_slice());
     Ok(())
 }
 

@@ -1,6 +1,6 @@
 // What a session is answered. Short replies stand in the room that `keep` made before the command.
 ghost use Rattle.std.specs.Prelude.{◌+◌, ◌≤◌, ◌++◌, codes};
-ghost use Rattle.djq_lines.specs.Reply.{add_reply, answer_line, at_line, change_line};
+ghost use Rattle.djq_lines.specs.Reply.{add_reply, answer_line};
 ghost use Rattle.djq_lines.specs.Reply.{delete_reply, done_reply, has_reply, held_reply, last_line};
 ghost use Rattle.djq_lines.specs.Reply.{ok_reply, query_reply, refusal_line, shape_reply};
 ghost use Rattle.djq_lines.specs.Reply.{stale_line, union_reply, watch_reply};
@@ -8,12 +8,12 @@ ghost use Rattle.djq_lines.specs.declared.limits.TheConstants.{LAST_LINE_BYTES, 
 ghost use Rattle.djq_session.specs.Dialog.{MayQueue, Replies};
 
 use super::Session;
-use djq_lines::{AddOutcome, DeleteOutcome, QueryOutcome, Refusal, Shape, Sign};
+use djq_lines::{AddOutcome, DeleteOutcome, QueryOutcome, Refusal, Shape};
 use djq_model::{Answered, Name, NoMem};
 use djq_reply::{
-    put_answer, put_at, put_change, put_explained, put_last, put_registered, say_added, say_batch,
-    say_batch_done, say_deleted, say_done, say_has, say_held, say_opened, say_refused, say_shape,
-    say_stale, say_union, say_watched,
+    put_answer, put_explained, put_last, put_registered, say_added, say_batch, say_batch_done,
+    say_deleted, say_done, say_has, say_held, say_opened, say_refused, say_shape, say_stale,
+    say_union, say_watched,
 };
 
 impl<C: Copy, Q: Copy + PartialEq> Session<C, Q> {
@@ -147,35 +147,6 @@ impl<C: Copy, Q: Copy + PartialEq> Session<C, Q> {
         ensures { MayQueue self.old self.new (answer_line (A.values answer.now)) result }
     {
         put_answer(answer, &mut self.output)
-    }
-
-    /// An answer of a query that came or went is queued.
-    ///
-    /// # Errors
-    ///
-    /// `NoMem` only where the room was too small and can't grow; all is as before.
-    pub fn queue_change<A: Answered>(
-        &mut self,
-        sign: Sign,
-        query: &Name,
-        answer: &A,
-    ) -> Result<(), NoMem>
-        ensures { MayQueue self.old self.new (change_line sign query.now (A.values answer.now))
-            result }
-    {
-        put_change(sign, query, answer, &mut self.output)
-    }
-
-    /// The line behind the answers of a query that came or went is queued: the number of the
-    /// change.
-    ///
-    /// # Errors
-    ///
-    /// `NoMem` only where the room was too small and can't grow; all is as before.
-    pub fn queue_at(&mut self, query: &Name, seq: u64) -> Result<(), NoMem>
-        ensures { MayQueue self.old self.new (at_line query.now seq) result }
-    {
-        put_at(query, seq, &mut self.output)
     }
 
     /// The lines that explain the tree of a query or the members of a union are queued, and `end` behind
