@@ -240,7 +240,7 @@ impl LiveQuery {
             self.now.reducts.tree) }
     {
         let relations = relation_names(alloc, &self.query)?;
-        let variables = variable_names(alloc, &self.query)?;
+        let variables = variable_names(alloc, self.numbered.variables())?;
         let lines = self
             .reducts
             .tree()

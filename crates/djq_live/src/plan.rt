@@ -3,7 +3,9 @@ ghost use Rattle.std.specs.Prelude.{◌≡◌, ◌<◌, None, IfOk, IfErr, lengt
 ghost use Rattle.djq_lines.specs.Hypergraph.{edges_of, head_of};
 ghost use Rattle.djq_lines.specs.QueryFault.{query_fault};
 ghost use Rattle.djq_plan.specs.Plan.{IsRefusal};
-ghost use Rattle.djq_query.specs.Numbered.{IsNumbered};
+ghost use Rattle.djq_lines.specs.Variables.{variables_of};
+ghost use Rattle.djq_model.specs.declared.query.Query.{Query as AskedQuery};
+ghost use Rattle.djq_query.specs.Numbered.{IsNumbered, labels};
 ghost use Rattle.djq_live.specs.Planning.{IsPlanned, IsUnplanned};
 
 use crate::fault::Shown;
@@ -11,7 +13,7 @@ use crate::rest::name_rest;
 use djq_lines::NamedRest;
 use djq_model::{NoMem, Query};
 use djq_plan::{PlanRefusal, plan};
-use djq_query::{NumberedQuery, number};
+use djq_query::{NumberedQuery, Variable, number};
 use djq_rows::Catalog;
 use djq_tree::Tree;
 use std::alloc::Global;
@@ -66,16 +68,16 @@ fn number_query(alloc: Global, catalog: &Catalog, query: &Query) -> Result<Numbe
 }
 
 // Why a query has no plan, with the names of its variables.
-fn name_refusal(alloc: Global, query: &Query, refusal: PlanRefusal) -> Unplanned
-    requires { IsRefusal (edges_of query.now) (head_of query.now) refusal }
-    ensures { IsUnplanned query.now result }
+fn name_refusal(alloc: Global, variables: &[Variable], refusal: PlanRefusal) -> Unplanned
+    ensures { (q : AskedQuery) → labels variables.now ≡ variables_of q.atoms
+        → IsRefusal (edges_of q) (head_of q) refusal → IsUnplanned q result }
 {
     match refusal {
-        PlanRefusal::Cyclic(rest) => match name_rest(alloc, query, &rest) {
+        PlanRefusal::Cyclic(rest) => match name_rest(alloc, variables, &rest) {
             Ok(named) => Unplanned::Cyclic(named),
             Err(NoMem) => Unplanned::NoMem,
         },
-        PlanRefusal::NotConnex(rest) => match name_rest(alloc, query, &rest) {
+        PlanRefusal::NotConnex(rest) => match name_rest(alloc, variables, &rest) {
             Ok(named) => Unplanned::NotConnex(named),
             Err(NoMem) => Unplanned::NoMem,
         },
@@ -107,6 +109,6 @@ pub fn plan_query(
     head.rises();
     match plan(alloc, &edges, &head) {
         Ok(tree) => Ok(PlannedQuery { numbered, tree }),
-        Err(refusal) => Err(name_refusal(alloc, query, refusal)),
+        Err(refusal) => Err(name_refusal(alloc, numbered.variables(), refusal)),
     }
 }

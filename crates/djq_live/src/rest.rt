@@ -1,12 +1,16 @@
 //! The rest of a query that isn't free-connex, as it is told.
 ghost use Rattle.std.specs.Prelude.{◌≡◌, IfOk, OnOk};
 ghost use Rattle.djq_lines.specs.Rest.{is_before, IsNamedRest};
+ghost use Rattle.djq_lines.specs.Variables.{variables_of};
+ghost use Rattle.djq_model.specs.declared.query.Query.{Query};
+ghost use Rattle.djq_query.specs.Numbered.{labels};
 ghost use Rattle.djq_live.specs.Ordering.{with_edge, in_order, IsPlaceFor};
 
 use crate::names::variable_names;
 use djq_hyper::{Edges, VarSet};
 use djq_lines::NamedRest;
-use djq_model::{NoMem, Query};
+use djq_model::NoMem;
+use djq_query::Variable;
 use std::alloc::Global;
 
 // Whether an edge comes before another one in lexical order.
@@ -63,11 +67,16 @@ fn in_order(alloc: Global, edges: &Edges) -> Result<Edges, NoMem>
     Ok(Edges::from_sets(sorted))
 }
 
-/// A rest of a query's reduction, with the variables' names.
-pub(crate) fn name_rest(alloc: Global, query: &Query, rest: &Edges) -> Result<NamedRest, NoMem>
-    ensures { IfOk result (IsNamedRest query.now rest.now) }
+/// A rest of a query's reduction, with the names of the query's variables.
+pub(crate) fn name_rest(
+    alloc: Global,
+    variables: &[Variable],
+    rest: &Edges,
+) -> Result<NamedRest, NoMem>
+    ensures { IfOk result (λ named. (q : Query) → labels variables.now ≡ variables_of q.atoms
+        → IsNamedRest q rest.now named) }
 {
     let edges = in_order(alloc, rest)?;
-    let names = variable_names(alloc, query)?;
+    let names = variable_names(alloc, variables)?;
     Ok(NamedRest { edges, names })
 }

@@ -4,7 +4,8 @@ use Rattle.djq_lines.specs.Variables.{variables_of}
 use Rattle.djq_hyper.specs.JoinTree.{IsFreeConnex}
 use Rattle.djq_tree.specs.Growing.{IsTreeOf}
 use Rattle.djq_plan.specs.Plan.{IsRefusal}
-use Rattle.djq_live.proofs.Graphs.{edges_are, edges_long, head_is, head_covered}
+use Rattle.djq_query.specs.Numbered.{labels}
+use Rattle.djq_live.proofs.Graphs.{named_labels, edges_are, edges_long, head_is, head_covered}
 use Rattle.djq_live.proofs.plan.plan_query.Goals as goal
 
 pub plan-requires-clause-some : goal.plan-requires-clause-some
@@ -27,8 +28,8 @@ plan-requires-clause-head c =
     c.in_ok-edges.edges c.head_variables-head.result c.requires.sound c.in_ok-numbered.ensures
     c.in_ok-edges.ensures.edges c.head_variables-head.ensures
 
-pub name_refusal-requires : goal.name_refusal-requires
-name_refusal-requires c =
+pub returns-in-Err-clause-refused : goal.returns-in-Err-clause-refused
+returns-in-Err-clause-refused c =
     let q = c.args.query.now in
     let e : c.in_ok-edges.edges ≡ edges_of q =
     edges_are c.args.catalog.now.relations q c.in_ok-numbered.numbered c.in_ok-edges.edges
@@ -38,9 +39,12 @@ name_refusal-requires c =
     head_is c.args.catalog.now.relations q c.in_ok-numbered.numbered
     c.head_variables-head.result c.requires.sound c.in_ok-numbered.ensures c.within.ensures
     c.rises.ensures c.head_variables-head.ensures in
-    subst (λ (f : List ℕ). IsRefusal (edges_of q) f c.in-Err.refusal) h
+    c.name_refusal.ensures q
+    (ap labels c.variables.ensures
+    ∙ named_labels c.args.catalog.now.relations q c.in_ok-numbered.numbered c.requires.sound c.in_ok-numbered.ensures)
+    (subst (λ (f : List ℕ). IsRefusal (edges_of q) f c.in-Err.refusal) h
     (subst (λ (es : List (List ℕ)). IsRefusal es c.head_variables-head.result c.in-Err.refusal) e
-    c.in-Err.ensures.refused)
+    c.in-Err.ensures.refused))
 
 pub returns-in-Ok-clause-planned : goal.returns-in-Ok-clause-planned
 returns-in-Ok-clause-planned c =
