@@ -37,7 +37,8 @@ use Rattle.djq_reduct.specs.Answers.{on_node, IsAnswerOf}
 use Rattle.djq_cursor.specs.Menus.{has, AreOnce}
 use Rattle.djq_cursor.specs.Levels.{IsLevel, source, group_at, step}
 use Rattle.djq_cursor.specs.Walk.{AreAlike}
-use Rattle.djq_cursor.proofs.Columns.{Within, cell, cells_same, pick_written, written_else, written_there, length_written, tuple_same}
+use Rattle.djq_cursor.proofs.Columns.{Within, cell, cells_same, pick_written, written_else, written_there}
+use Rattle.djq_cursor.proofs.Columns.{length_written, tuple_same}
 use Rattle.djq_reduct.proofs.Readings.{within_of}
 use Rattle.djq_cursor.proofs.Outs.{
   root_or_late,

@@ -32,7 +32,8 @@ many_zero : (key : List ℕ) (w : List ℕ) → many key [] w ≡ 0
 unfolding many
 many_zero key w = refl
 
-module _ (a : Raw) (rows : Rows) (notes : List Note) (i : ℕ) (u : List ℕ) (r : IsLaid a.rows rows a.notes.items notes i u) where
+module _ (a : Raw) (rows : Rows) (notes : List Note) (i : ℕ) (u : List ℕ)
+    (r : IsLaid a.rows rows a.notes.items notes i u) where
   laid_slots : slots rows.rows ≡ slots_at (entries_of a) ++ i ∷ []
   laid_slots = ap slots r.laid ∙ slots_row a.rows.rows (record { slot = i; cells = u }) []
       ∙ ap₂ (λ (xs ys : List ℕ). xs ++ i ∷ ys) (sym (slots_are a.notes.items a.rows.rows)) slots_none
@@ -58,7 +59,8 @@ module _ (a : Raw) (rows : Rows) (notes : List Note) (i : ℕ) (u : List ℕ) (r
 
 -- the tuple is there
 module _ (m : Bool) (a b : Raw) (rows : Rows) (notes : List Note) (i h : ℕ) (u : List ℕ) (raw : IsBare a)
-    (plain : m ≡ false → marks (entries_of a) ≡ []) (absent : cnt (entries_of a) u ≡ 0) (r : IsLaid a.rows rows a.notes.items notes i u)
+    (plain : m ≡ false → marks (entries_of a) ≡ []) (absent : cnt (entries_of a) u ≡ 0)
+    (r : IsLaid a.rows rows a.notes.items notes i u)
     (f : IsNoted m a b rows notes i h) where
   pub came_entries : entries_of b
       ≡ entries_of a ++ (record { at = record { slot = i }; tuple = u; supports = 1; marked = m }) ∷ []

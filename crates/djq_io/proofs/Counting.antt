@@ -10,7 +10,8 @@ use Rattle.djq_io.specs.Failing.{is_due, after_call, failed_count, CountsDown}
 abbrev due_count : List ℕ → ℕ
 due_count calls = count_by (λ call. nat_eq call 1) calls
 
-pub count_step : {X : Type 0} (p : X → Bool) (x : X) (xs : List X) → count_by p (x ∷ xs) ≡ cond (p x) 1 0 + count_by p xs
+pub count_step : {X : Type 0} (p : X → Bool) (x : X) (xs : List X)
+    → count_by p (x ∷ xs) ≡ cond (p x) 1 0 + count_by p xs
 count_step p x xs = sum_by-cons (λ y. cond (p y) 1 0) x xs
 
 pub one_counted : (call : ℕ) → cond (nat_eq (call - 1) 0) 1 0 ≡ cond (nat_eq call 0) 1 0 + cond (nat_eq call 1) 1 0

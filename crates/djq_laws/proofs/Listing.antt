@@ -181,7 +181,8 @@ use Rattle.djq_laws.proofs.Changing.{all_found}
 use Rattle.djq_laws.proofs.Touching.{says_to, said}
 use Rattle.djq_machine.specs.Gives.{PositionGives, CursorsGive}
 use Rattle.djq_laws.proofs.Live.{listed}
-use Rattle.djq_laws.proofs.Forms.{none_holds, none_first, next_does, command_does, Reads, turned_down, carried_out, line_reads}
+use Rattle.djq_laws.proofs.Forms.{none_holds, none_first, next_does, command_does, Reads, turned_down, carried_out}
+use Rattle.djq_laws.proofs.Forms.{line_reads}
 use Rattle.djq_laws.proofs.Doing.{closing, begun, closing_id, closing_cursors, rows_do}
 use Rattle.djq_laws.proofs.Giving.{runs_give}
 use Rattle.djq_laws.proofs.Sounding.{

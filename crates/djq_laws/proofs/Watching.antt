@@ -340,9 +340,11 @@ pub step_tells : (q : Listed) (s : ℕ) (old : State) (event : Event) (e : Effec
     → IsWatcher q s old → IsWatcher q s new
     → StepTells q s old.store new.store e.queued (event_changes q old event)
 step_tells q s old event e new h before behind =
-    let f = some_there (session_of old s) (λ x. (x.cause ≡ None) × (is_watching (listed_name q) x ≡ true)) before.watches
+    let f = some_there (session_of old s) (λ x. (x.cause ≡ None) × (is_watching (listed_name q) x ≡ true))
+    before.watches
     in
-    let g = some_there (session_of new s) (λ x. (x.cause ≡ None) × (is_watching (listed_name q) x ≡ true)) behind.watches
+    let g = some_there (session_of new s) (λ x. (x.cause ≡ None) × (is_watching (listed_name q) x ≡ true))
+    behind.watches
     in
     let watches = and_some (session_of old s) (λ x. is_watching (listed_name q) x ≡ true) f.0 f.1 f.2.1 in
     let running : cause_of h.mid s ≡ None = sym (stepped_cause old event e new h s) ∙ ap cause_in g.1 ∙ g.2.0 in

@@ -643,7 +643,8 @@ module _ (q : Listed) (s : ℕ) (old : State) (e : Effect) (new : State) (held :
         → Says'
     next_goes c count None found h = refuses NoCursor h
     next_goes c count (Some k) found h =
-        let f = some_there (listed_of old.store.queries k.query) (λ p. NextStepAt now s c p count k.position e (step.mid))
+        let f = some_there (listed_of old.store.queries k.query)
+        (λ p. NextStepAt now s c p count k.position e (step.mid))
         h in
         let registered : listed_of old.store.queries k.query ≡ Some q =
         ap (λ n. listed_of old.store.queries n) (over_name c k found) ∙ before.registered in
@@ -697,7 +698,8 @@ module _ (q : Listed) (s : ℕ) (old : State) (e : Effect) (new : State) (held :
   run_goes : (l : Bytes) (step : Step old (stepped s (run l)) e new) → reading_talks (reading_of l) ≡ true
       → IsSomeAnd (session_of old s) (λ x. MayBeRead (listed_name q) x (reading_of l)) → Says'
   run_goes l step k may =
-      let f = some_there (session_of old s) (λ x. (x.cause ≡ None) × FrontStep old s x (run l) e (step.mid)) step.acts in
+      let f = some_there (session_of old s) (λ x. (x.cause ≡ None) × FrontStep old s x (run l) e (step.mid))
+      step.acts in
       let p = some_there (session_of old s) (λ x. MayBeRead (listed_name q) x (reading_of l)) may in
       let one = same_some (session_of old s) p.0 f.0 p.1 f.1 in
       reading_goes l step f.0 f.1 f.2.1.2.rest (reading_of l) refl k

@@ -700,9 +700,11 @@ pub step_says : (q : Listed) (s : ℕ) (old : State) (event : Event) (e : Effect
     → Step old event e new → IsWatcher q s old → IsWatcher q s new
     → StepSays q s old.store new.store e.queued (event_changes q old event) (event_talks s event) (Tame s old event e)
 step_says q s old event e new sound h before behind =
-    let f = some_there (session_of old s) (λ x. (x.cause ≡ None) × (is_watching (listed_name q) x ≡ true)) before.watches
+    let f = some_there (session_of old s) (λ x. (x.cause ≡ None) × (is_watching (listed_name q) x ≡ true))
+    before.watches
     in
-    let g = some_there (session_of new s) (λ x. (x.cause ≡ None) × (is_watching (listed_name q) x ≡ true)) behind.watches
+    let g = some_there (session_of new s) (λ x. (x.cause ≡ None) × (is_watching (listed_name q) x ≡ true))
+    behind.watches
     in
     let running : cause_of h.mid s ≡ None = sym (stepped_cause old event e new h s) ∙ ap cause_in g.1 ∙ g.2.0 in
     let now : new.store ≡ record (h.mid).store { relations = h.relations } =

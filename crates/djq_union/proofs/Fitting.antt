@@ -30,7 +30,8 @@ use Rattle.djq_union.specs.Answers.{AreSome, AreAll, IsListing}
 use Rattle.djq_union.specs.Order.{merged}
 use Rattle.djq_union.specs.Union.{some_has, given_at, union_given, FitsFirst, UnionFits}
 use Rattle.djq_union.specs.Going.{GoesOn, MemberGoesOn, UnionGoesOn}
-use Rattle.djq_union.proofs.Lists.{both, all_of, AreOnce, once_of, different_of, once_left, counted_last, uncounted_last, pigeons, reached}
+use Rattle.djq_union.proofs.Lists.{both, all_of, AreOnce, once_of, different_of, once_left, counted_last}
+use Rattle.djq_union.proofs.Lists.{uncounted_last, pigeons, reached}
 use Rattle.djq_union.proofs.Merging.{
   own_last,
   shared_last,

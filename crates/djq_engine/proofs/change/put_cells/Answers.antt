@@ -13,7 +13,8 @@ use Rattle.djq_reach.specs.Tending.{AreShown, AreUnwatched, Costs, Shows, Tends,
 use Rattle.djq_engine.proofs.Carrying.{readers_kept}
 use Rattle.djq_reach.proofs.Tending.{tends_apart, tends_quiet}
 use Rattle.djq_engine.proofs.Tending.{counts_rows, shown_tended, tells_rows}
-use Rattle.djq_engine.proofs.Storing.{came, came_new, can_come, catalog_back, has_copies, places_once, places_read, put_carries, stand_now, unput_carries, wait_carries}
+use Rattle.djq_engine.proofs.Storing.{came, came_new, can_come, catalog_back, has_copies, places_once, places_read}
+use Rattle.djq_engine.proofs.Storing.{put_carries, stand_now, unput_carries, wait_carries}
 use Rattle.djq_live.proofs.Moving.{same_catalog}
 use Rattle.djq_engine.proofs.change.put_cells.Goals as goal
 

@@ -3,7 +3,8 @@ use Rattle.djq_index.specs.declared.place.Place.{Place}
 use Rattle.djq_index.specs.declared.raw.Raw.{Raw}
 use Rattle.djq_index.specs.Table.{IsAt}
 use Rattle.djq_index.specs.Raw.{entries_of, IsNoted}
-use Rattle.djq_index.proofs.Inserting.{slot_notes, came_bare, came_inserted, came_at, unlaid_refuses, refused_bare, refused_entries}
+use Rattle.djq_index.proofs.Inserting.{slot_notes, came_bare, came_inserted, came_at, unlaid_refuses, refused_bare}
+use Rattle.djq_index.proofs.Inserting.{refused_entries}
 use Rattle.djq_arena.proofs.Filling.{on_err}
 use Rattle.djq_index.proofs.Bounding.{entries_length}
 use Rattle.djq_index.proofs.raw.insert_bare.Goals as goal

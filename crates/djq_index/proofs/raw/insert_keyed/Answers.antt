@@ -5,7 +5,9 @@ use Rattle.djq_index.specs.declared.raw.Raw.{Raw}
 use Rattle.djq_index.specs.Tuple.{pick}
 use Rattle.djq_index.specs.Table.{IsAt}
 use Rattle.djq_index.specs.Raw.{entries_of, IsReady, IsNoted, IsSeat}
-use Rattle.djq_index.proofs.Inserting.{slot_notes, slot_links, slot_number, head_ends, last_links, came_bare, came_heads, came_inserted, came_at, Refuses, unlaid_refuses, RefusesHead, refused_bare, refused_heads, refused_entries}
+use Rattle.djq_index.proofs.Inserting.{slot_notes, slot_links, slot_number, head_ends, last_links, came_bare}
+use Rattle.djq_index.proofs.Inserting.{came_heads, came_inserted, came_at, Refuses, unlaid_refuses, RefusesHead}
+use Rattle.djq_index.proofs.Inserting.{refused_bare, refused_heads, refused_entries}
 use Rattle.djq_arena.proofs.Filling.{on_err}
 use Rattle.djq_index.proofs.Bounding.{entries_length}
 use Rattle.djq_index.proofs.Heading.{few_heads}
@@ -239,7 +241,8 @@ returns-in-Ok-clause-raw c =
       marked = s.noted.marked;
     } in
     came_bare c.args.marked c.args.raw.now c.settle.new.raw c.lay_linked.new.rows c.lay_linked.new.notes.items
-    c.in_ok-slot.slot c.in-Ok.head c.args.tuple.now c.requires.raw c.requires.plain c.requires.absent c.in_ok-slot.ensures.laid n
+    c.in_ok-slot.slot c.in-Ok.head c.args.tuple.now c.requires.raw c.requires.plain c.requires.absent
+    c.in_ok-slot.ensures.laid n
 
 pub returns-in-Ok-clause-heads : goal.returns-in-Ok-clause-heads
 returns-in-Ok-clause-heads c =

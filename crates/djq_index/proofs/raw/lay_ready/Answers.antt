@@ -6,5 +6,9 @@ pub cover_notes-requires-clause-room : goal.cover_notes-requires-clause-room
 cover_notes-requires-clause-room c =
     elim (cases_eq (length c.args.rows.now.rows) c.args.rows.now.room) [
       | inl full ↦ inr (c.requires.room full)
-      | inr other ↦ inl (let fits = c.in_ok-slot.ensures.reused other in omega (arith, fits, c.requires.ready.room_notes))
+      | inr other ↦ inl (let fits = c.in_ok-slot.ensures.reused other in omega (
+        arith,
+        fits,
+        c.requires.ready.room_notes,
+      ))
     ]

@@ -1110,7 +1110,8 @@ returns-clause-places g c =
           (c.as_slice-order.ensures ∙ c.take_groups.ensures.rest.order);
       room = omega (arith, c.self.invariant.1.room, c.take_groups.ensures.rest.room, c.affect_reached.ensures.room);
     } in
-    subst (λ (k : Kept). KeepsPlaces (is_tried (tried (batch_outcome k.store held (Ok count)))) k (kept_in new)) c.self.view_is
+    subst (λ (k : Kept). KeepsPlaces (is_tried (tried (batch_outcome k.store held (Ok count)))) k (kept_in new))
+    c.self.view_is
     (taken_places old mid new c.self.invariant.0 c.self.invariant.1 held start groups count
     (filled_mid old c.self.invariant.0 held d groups count c.cells_stay.ensures c.laws.ensures c.laws-2.ensures
     suit p learned.0 learned.1 c.live_stays.ensures (λ e. omega (arith, e, c.if-count-eq0.false)) mid

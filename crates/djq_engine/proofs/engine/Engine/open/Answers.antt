@@ -95,4 +95,5 @@ returns-in_default-clause-places c =
 pub returns-in_default-open_at-clause-places : goal.returns-in_default-open_at-clause-places
 returns-in_default-open_at-clause-places c =
     rw (← c.self.view_is)
-    (keeps_equal (λ q. false) c.self.inside.parts.queries.items c.open_at.new.queries.items c.in_default-open_at.ensures.err)
+    (keeps_equal (λ q. false) c.self.inside.parts.queries.items c.open_at.new.queries.items
+    c.in_default-open_at.ensures.err)
