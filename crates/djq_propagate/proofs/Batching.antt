@@ -17,7 +17,7 @@ use Rattle.djq_reduct.specs.Reducts.{IsReducts, SameTables}
 use Rattle.djq_reduct.specs.Marks.{IsBare}
 use Rattle.djq_reduct.proofs.Family.{one_family}
 use Rattle.djq_propagate.specs.Sizes.{size, AreAtMost}
-use Rattle.djq_propagate.specs.Walks.{Lived, Died, Refused, Fewer, CameAs}
+use Rattle.djq_propagate.specs.Walks.{InsertedUpwards, RemovedUpwards, Refused, Fewer, CameAs}
 use Rattle.djq_propagate.specs.Updates.{HasAtMost, HasKept, paths}
 use Rattle.djq_propagate.specs.Batches.{times, AreNew, AreThere, HaveCome, HaveGone, HasGainedAll, HasLostAll}
 use Rattle.djq_propagate.proofs.Families.{tuples_same}
@@ -76,7 +76,7 @@ come_none t ts a [] r = record { sound = r; leaf = λ v. omega arith; others = �
 come_none t ts a (u ∷ us) r = record { sound = r; leaf = λ v. omega arith; others = λ j v low apart. refl }
 
 pub come_more : (t : Tree) (old mid new : List Table) (a i : ℕ) (us : List (List ℕ)) (u : List ℕ) → a < t.leaves
-    → i < length us → u ≡ slice_index_or us i u → HaveCome t old mid a (take i us) → Lived t mid new a u
+    → i < length us → u ≡ slice_index_or us i u → HaveCome t old mid a (take i us) → InsertedUpwards t mid new a u
     → HaveCome t old new a (take (i + 1) us)
 come_more t old mid new a i us u h less e x l = record {
   sound = reducts_lived t mid new a u x.sound h l;
@@ -147,7 +147,7 @@ gone_none t ts a [] r = record { sound = r; leaf = λ v. omega arith; others = �
 gone_none t ts a (u ∷ us) r = record { sound = r; leaf = λ v. omega arith; others = λ j v low apart. refl }
 
 pub gone_more : (t : Tree) (old mid new : List Table) (a i : ℕ) (us : List (List ℕ)) (u : List ℕ) → a < t.leaves
-    → i < length us → u ≡ slice_index_or us i u → HaveGone t old mid a (take i us) → Died t mid new a u
+    → i < length us → u ≡ slice_index_or us i u → HaveGone t old mid a (take i us) → RemovedUpwards t mid new a u
     → HaveGone t old new a (take (i + 1) us)
 gone_more t old mid new a i us u h less e x d = record {
   sound = reducts_died t mid new a u x.sound h d;

@@ -17,7 +17,7 @@ use Rattle.djq_tree.proofs.Climbing.{rising_of}
 use Rattle.djq_reduct.specs.Tables.{no_table, table_at, entries_at, key_at}
 use Rattle.djq_reduct.specs.Reducts.{IsReductOf, IsFamily, AreReduced}
 use Rattle.djq_reduct.proofs.Family.{apart_at, entries_past}
-use Rattle.djq_propagate.specs.Walks.{Changed, Ready, Began, Righted, IsUnder, Refused, Stayed}
+use Rattle.djq_propagate.specs.Walks.{Changed, Ready, ChangedOnlyAt, ReducedAbove, IsUnder, Refused, UnchangedAbove}
 
 -- in one family each tuple stands once at most in a table
 pub apart_of : (t : Tree) (ts : List Table) → IsFamily t ts → (k : ℕ) → AreApart (entries_at ts k)
@@ -140,7 +140,7 @@ other_child t k n j i c s u apart child same = apart
     (s.one_parent j i k (subst (λ (x : ℕ). has_child (node_at t.nodes i) x ≡ true) same child) (child_of t k n j u))
 
 -- the equations of the nodes other than j and its parent don't read the table of j
-pub apart_keeps : (t : Tree) (was now new : List Table) (j k : ℕ) (n : Node) (i : ℕ) → Began t was now j
+pub apart_keeps : (t : Tree) (was now new : List Table) (j k : ℕ) (n : Node) (i : ℕ) → ChangedOnlyAt t was now j
     → IsUnder t k n j → IsFamily t new → i ≢ k → i ≢ j → j < i → i < length t.nodes
     → ((v : List ℕ) → supp (entries_at new i) v ≡ supp (entries_at now i) v)
     → ((v : List ℕ) → cnt (entries_at new i) v ≡ cnt (entries_at now i) v)
@@ -156,11 +156,11 @@ apart_keeps t was now new j k n i b u f not_k not_j above within s own kids =
     ∙ ap (λ (es : List Entry). cnt es v) (b.changed.others c other))
     (same_keys t was new b.ready.family f)
 
-pub now_family : (t : Tree) (was now : List Table) (j : ℕ) → Began t was now j → IsFamily t now
+pub now_family : (t : Tree) (was now : List Table) (j : ℕ) → ChangedOnlyAt t was now j → IsFamily t now
 now_family t was now j b = b.changed.family t b.ready.family
 
 -- above the parent all is ts it was
-pub ready_up : (t : Tree) (was now : List Table) (j k : ℕ) (n : Node) → Began t was now j → IsUnder t k n j
+pub ready_up : (t : Tree) (was now : List Table) (j k : ℕ) (n : Node) → ChangedOnlyAt t was now j → IsUnder t k n j
     → Ready t now k
 ready_up t was now j k n b u =
     let low = lower_of t k n j b.ready.family.is_tree u in
@@ -175,7 +175,7 @@ ready_up t was now j k n b u =
     }
 
 -- where the parent's tuples stay, so do the equations above it
-pub above_same : (t : Tree) (was now new : List Table) (j k : ℕ) (n : Node) → Began t was now j → IsUnder t k n j
+pub above_same : (t : Tree) (was now new : List Table) (j k : ℕ) (n : Node) → ChangedOnlyAt t was now j → IsUnder t k n j
     → Changed now new k → ((v : List ℕ) → cnt (entries_at new k) v ≡ cnt (entries_at now k) v)
     → AreReduced t new (k + 1)
 above_same t was now new j k n b u c same =
@@ -193,9 +193,9 @@ above_same t was now new j k n b u c same =
     }
 
 -- the node k, the parent of j, is right again, and so are those above it: so all above j are
-pub righted : (t : Tree) (was now new : List Table) (j k : ℕ) (n : Node) → Began t was now j → IsUnder t k n j
+pub righted : (t : Tree) (was now new : List Table) (j k : ℕ) (n : Node) → ChangedOnlyAt t was now j → IsUnder t k n j
     → IsFamily t new → ((i : ℕ) → i < k → entries_at new i ≡ entries_at now i)
-    → IsReductOf n new k → AreReduced t new (k + 1) → Righted t now new j
+    → IsReductOf n new k → AreReduced t new (k + 1) → ReducedAbove t now new j
 righted t was now new j k n b u f low here above =
     let lower = lower_of t k n j b.ready.family.is_tree u in
     record {
@@ -218,14 +218,14 @@ righted t was now new j k n b u f low here above =
     }
 
 -- nothing is to be done at the parent
-pub idle : (t : Tree) (was now : List Table) (j k : ℕ) (n : Node) → Began t was now j → IsUnder t k n j
-    → IsReductOf n now k → Righted t now now j
+pub idle : (t : Tree) (was now : List Table) (j k : ℕ) (n : Node) → ChangedOnlyAt t was now j → IsUnder t k n j
+    → IsReductOf n now k → ReducedAbove t now now j
 idle t was now j k n b u here = righted t was now now j k n b u (now_family t was now j b) (λ i less. refl) here
     (ready_up t was now j k n b u).reduced
 
 -- or there is no parent
-pub topmost : (t : Tree) (was now : List Table) (j : ℕ) → Began t was now j → j + 1 ≡ length t.nodes
-    → Righted t now now j
+pub topmost : (t : Tree) (was now : List Table) (j : ℕ) → ChangedOnlyAt t was now j → j + 1 ≡ length t.nodes
+    → ReducedAbove t now now j
 topmost t was now j b top = record {
   family = now_family t was now j b;
   at = refl;
@@ -235,7 +235,7 @@ topmost t was now j b top = record {
 
 -- a refusal above is one here
 pub stayed : (t : Tree) (now new : List Table) (j k : ℕ) (n : Node) → IsTree t → IsUnder t k n j → Refused t now new k
-    → Stayed t now new j
+    → UnchangedAbove t now new j
 stayed t now new j k n s u r =
     let lower = lower_of t k n j s u in
     let under : (i : ℕ) → i < k → entries_at new i

@@ -20,7 +20,7 @@ use Rattle.djq_reduct.specs.Reducts.{IsReductOf, IsReducts, IsFamily}
 use Rattle.djq_reduct.specs.Tables.{entries_at, key_at}
 use Rattle.djq_propagate.specs.Touches.{IsTouched, IsTouchedUp, HaveFew, CanWalk, IsWalked, IsStep, reach, cost}
 use Rattle.djq_propagate.specs.Updates.{HasTaken}
-use Rattle.djq_propagate.specs.Walks.{Changed, Lived, Died, CameAs}
+use Rattle.djq_propagate.specs.Walks.{Changed, InsertedUpwards, RemovedUpwards, CameAs}
 use Rattle.djq_propagate.proofs.Families.{once, tuples_same, reduced_same}
 use Rattle.djq_propagate.proofs.Marking.{reach_agrees, guard_some, bare_mid, covered_mid}
 use Rattle.djq_propagate.proofs.Measuring.{length_less}
@@ -75,7 +75,7 @@ marks_once t ts k f v = omega (arith, once t ts f k v, cnt_split (entries_at ts 
 
 -- ---- where marks begin
 
-pub one_lived : (t : Tree) (old new : List Table) (a : ℕ) (u : List ℕ) → Lived t old new a u
+pub one_lived : (t : Tree) (old new : List Table) (a : ℕ) (u : List ℕ) → InsertedUpwards t old new a u
     → OneMore (entries_at old a) (entries_at new a)
 one_lived t old new a u l = record {
   tuple = u;
@@ -86,7 +86,7 @@ one_lived t old new a u l = record {
   ];
 }
 
-pub one_died : (t : Tree) (old new : List Table) (a : ℕ) (u : List ℕ) → Died t old new a u
+pub one_died : (t : Tree) (old new : List Table) (a : ℕ) (u : List ℕ) → RemovedUpwards t old new a u
     → OneMore (entries_at new a) (entries_at old a)
 one_died t old new a u d = record {
   tuple = u;
@@ -99,7 +99,7 @@ one_died t old new a u d = record {
 
 -- what came is marked, and that is one tuple in each table
 pub few_lived : (t : Tree) (old new : List Table) (a : ℕ) (u : List ℕ) → HasEqualMeets t → IsReducts (both t old)
-    → a < t.leaves → IsBare old → Lived t old new a u → CameAs true old new → HaveFew new
+    → a < t.leaves → IsBare old → InsertedUpwards t old new a u → CameAs true old new → HaveFew new
 few_lived t old new a u meets r leaf bare l p =
     let s = reducts_lived t old new a u r leaf l in
     let one_at = one_more t old new a meets r s

@@ -25,24 +25,24 @@ use Rattle.djq_reduct.specs.Columns.{column, columns}
 use Rattle.djq_reduct.specs.Tables.{entries_at, key_at, width_at}
 use Rattle.djq_reduct.specs.Reducts.{IsReductOf, IsFamily}
 use Rattle.djq_reduct.proofs.Family.{trim_law, meet_law}
-use Rattle.djq_propagate.specs.Walks.{Changed, Ready, Lived, Refused, Began, Righted, Stayed}
+use Rattle.djq_propagate.specs.Walks.{Changed, Ready, InsertedUpwards, Refused, ChangedOnlyAt, ReducedAbove, UnchangedAbove}
 use Rattle.djq_propagate.specs.Walks.{IsUnder, IsGrown, IsEmptied, IsFull}
 use Rattle.djq_propagate.proofs.Sides.{group_once, group_has, take_le, take_all, cut_new, cond_one}
 use Rattle.djq_propagate.proofs.Families.{once, apart_of, same_keys, child_of, lower_of, now_family}
 use Rattle.djq_propagate.proofs.Families.{ready_up, above_same, righted, idle, below_up, reduced_same, agree_from}
 
 -- the equation of a parent, before its child changed
-pub law_of : (t : Tree) (was now : List Table) (j k : ℕ) (n : Node) → Began t was now j → IsUnder t k n j
+pub law_of : (t : Tree) (was now : List Table) (j k : ℕ) (n : Node) → ChangedOnlyAt t was now j → IsUnder t k n j
     → IsReductOf n was k
 law_of t was now j k n b u =
     let low = lower_of t k n j b.ready.family.is_tree u in
     subst (λ (m : Node). IsReductOf m was k) u.node (b.ready.reduced.at k (omega arith) u.within)
 
-pub same_up : (t : Tree) (was now : List Table) (j k : ℕ) (n : Node) → Began t was now j → IsUnder t k n j
+pub same_up : (t : Tree) (was now : List Table) (j k : ℕ) (n : Node) → ChangedOnlyAt t was now j → IsUnder t k n j
     → entries_at now k ≡ entries_at was k
 same_up t was now j k n b u = let low = lower_of t k n j b.ready.family.is_tree u in b.changed.others k (omega arith)
 
-pub keys_now : (t : Tree) (was now : List Table) (j : ℕ) → Began t was now j → (k : ℕ) → key_at now k ≡ key_at was k
+pub keys_now : (t : Tree) (was now : List Table) (j : ℕ) → ChangedOnlyAt t was now j → (k : ℕ) → key_at now k ≡ key_at was k
 keys_now t was now j b k = same_keys t was now b.ready.family (now_family t was now j b) k
 
 -- widths of labels and keys
@@ -76,7 +76,7 @@ pub trim_wide : (t : Tree) (ts : List Table) (j k : ℕ) (v w : List ℕ) → Is
 trim_wide t ts j k v w f h u e = ap (λ (x : List ℕ). length x) e ∙ pick_length (key_at ts j) v ∙ trim_key t ts j k f h u
     ∙ sym (f.keyed k u.within).width
 
-trim_equation : {m : Bool} (t : Tree) (was now new : List Table) (j k : ℕ) (u w : List ℕ) → Began t was now j
+trim_equation : {m : Bool} (t : Tree) (was now new : List Table) (j k : ℕ) (u w : List ℕ) → ChangedOnlyAt t was now j
     → IsUnder t k (Trim j) j → IsFamily t new → entries_at new j ≡ entries_at now j
     → InsertedAs m (key_at was j) (entries_at was j) (entries_at now j) u → w ≡ pick (key_at now j) u
     → ((v : List ℕ) → supp (entries_at new k) v ≡ supp (entries_at now k) v + one (same w v))
@@ -96,10 +96,10 @@ trim_equation {m} t was now new j k u w b x f stay i e gain v =
     omega (arith, gain v)
 
 -- the projection was there
-pub trim_raised : {m : Bool} (t : Tree) (was now new : List Table) (j k : ℕ) (u w : List ℕ) → Began t was now j
+pub trim_raised : {m : Bool} (t : Tree) (was now new : List Table) (j k : ℕ) (u w : List ℕ) → ChangedOnlyAt t was now j
     → InsertedAs m (key_at was j) (entries_at was j) (entries_at now j) u → IsUnder t k (Trim j) j → Changed now new k
     → Supported (entries_at now k) (entries_at new k) w (supp (entries_at now k) w) (supp (entries_at now k) w + 1) → w
-    ≡ pick (key_at now j) u → Righted t now new j
+    ≡ pick (key_at now j) u → ReducedAbove t now new j
 trim_raised {m} t was now new j k u w b i x c s e =
     let low = lower_of t k (Trim j) j b.ready.family.is_tree x in
     let f = c.family t (now_family t was now j b) in
@@ -110,14 +110,14 @@ trim_raised {m} t was now new j k u w b i x c s e =
     (supported_cnt (entries_at now k) (entries_at new k) w (supp (entries_at now k) w)
     (supp (entries_at now k) w + 1) s))
 
-lived_low : (t : Tree) (now new : List Table) (k : ℕ) (w : List ℕ) → IsTree t → Lived t now new k w → (i : ℕ) → i < k
+lived_low : (t : Tree) (now new : List Table) (k : ℕ) (w : List ℕ) → IsTree t → InsertedUpwards t now new k w → (i : ℕ) → i < k
     → entries_at new i ≡ entries_at now i
 lived_low t now new k w s l i less = l.below i (below_up t k i s less)
 
 -- it came
-pub trim_lived : {m : Bool} (t : Tree) (was now new : List Table) (j k : ℕ) (u w : List ℕ) → Began t was now j
-    → InsertedAs m (key_at was j) (entries_at was j) (entries_at now j) u → IsUnder t k (Trim j) j → Lived t now new k w
-    → w ≡ pick (key_at now j) u → Righted t now new j
+pub trim_lived : {m : Bool} (t : Tree) (was now new : List Table) (j k : ℕ) (u w : List ℕ) → ChangedOnlyAt t was now j
+    → InsertedAs m (key_at was j) (entries_at was j) (entries_at now j) u → IsUnder t k (Trim j) j → InsertedUpwards t now new k w
+    → w ≡ pick (key_at now j) u → ReducedAbove t now new j
 trim_lived {m} t was now new j k u w b i x l e =
     let s = b.ready.family.is_tree in
     let low = lower_of t k (Trim j) j s x in
@@ -127,7 +127,7 @@ trim_lived {m} t was now new j k u w b i x l e =
     l.reduced
 
 -- a trim's tuple has no more supports than there is room for
-pub trim_room : {m : Bool} (t : Tree) (was now : List Table) (j k : ℕ) (u w : List ℕ) → Began t was now j
+pub trim_room : {m : Bool} (t : Tree) (was now : List Table) (j k : ℕ) (u w : List ℕ) → ChangedOnlyAt t was now j
     → InsertedAs m (key_at was j) (entries_at was j) (entries_at now j) u → IsUnder t k (Trim j) j
     → length (entries_at now j) ≤ 4294967295 → supp (entries_at now k) w < 4294967295
 trim_room {m} t was now j k u w b i x small =
@@ -140,7 +140,7 @@ trim_room {m} t was now j k u w b i x small =
     )
 
 -- a tuple that came wasn't there
-pub was_absent : {m : Bool} (t : Tree) (was now : List Table) (j : ℕ) (u : List ℕ) → Began t was now j
+pub was_absent : {m : Bool} (t : Tree) (was now : List Table) (j : ℕ) (u : List ℕ) → ChangedOnlyAt t was now j
     → InsertedAs m (key_at was j) (entries_at was j) (entries_at now j) u → cnt (entries_at was j) u ≡ 0
 was_absent {m} t was now j u b i =
     omega (
@@ -162,7 +162,7 @@ pub guard_wide : (t : Tree) (ts : List Table) (j s k : ℕ) → IsFamily t ts �
 guard_wide t ts j s k f h u = (f.keyed k u.within).width
     ∙ ap (λ (l : List ℕ). length l) (f.is_tree.meet k j s u.node).guard ∙ sym (f.keyed j h).width
 
-pub guard_absent : {m : Bool} (t : Tree) (was now : List Table) (j s k : ℕ) (u : List ℕ) → Began t was now j
+pub guard_absent : {m : Bool} (t : Tree) (was now : List Table) (j s k : ℕ) (u : List ℕ) → ChangedOnlyAt t was now j
     → InsertedAs m (key_at was j) (entries_at was j) (entries_at now j) u → IsUnder t k (Meet j s) j
     → cnt (entries_at now k) u ≡ 0
 guard_absent {m} t was now j s k u b i x =
@@ -176,7 +176,7 @@ guard_absent {m} t was now j s k u b i x =
     ap (λ (es : List Entry). cnt es u) (same_up t was now j k (Meet j s) b x)
     ∙ cnt_none (entries_at was k) u (b.ready.family.supported k) zero_supp
 
-pub side_stays : (t : Tree) (was now : List Table) (j s k : ℕ) → Began t was now j → IsUnder t k (Meet j s) j
+pub side_stays : (t : Tree) (was now : List Table) (j s k : ℕ) → ChangedOnlyAt t was now j → IsUnder t k (Meet j s) j
     → entries_at now s ≡ entries_at was s
 side_stays t was now j s k b x = let m = b.ready.family.is_tree.meet k j s x.node in let apart = m.apart in
     b.changed.others s (omega arith)
@@ -188,7 +188,7 @@ times_one u v f n h =
       | inr other ↦ (let e = one_other u v other in rw e (omega arith))
     ]
 
-guard_equation : {m : Bool} (t : Tree) (was now new : List Table) (j s k : ℕ) (u : List ℕ) (n : ℕ) → Began t was now j
+guard_equation : {m : Bool} (t : Tree) (was now new : List Table) (j s k : ℕ) (u : List ℕ) (n : ℕ) → ChangedOnlyAt t was now j
     → IsUnder t k (Meet j s) j → IsFamily t new → entries_at new j ≡ entries_at now j → entries_at new s
     ≡ entries_at now s
     → InsertedAs m (key_at was j) (entries_at was j) (entries_at now j) u
@@ -224,9 +224,9 @@ guard_equation {m} t was now new j s k u n b x f stay side i has gain v =
 
 -- the side has the projection
 pub guard_lived : {m : Bool} (t : Tree) (was now new : List Table) (j s k : ℕ) (u : List ℕ) (p : Place)
-    → Began t was now j → InsertedAs m (key_at was j) (entries_at was j) (entries_at now j) u → IsUnder t k (Meet j s) j
-    → Lived t now new k u
-    → IsAt (entries_at now s) p (pick (key_at now j) u) → Righted t now new j
+    → ChangedOnlyAt t was now j → InsertedAs m (key_at was j) (entries_at was j) (entries_at now j) u → IsUnder t k (Meet j s) j
+    → InsertedUpwards t now new k u
+    → IsAt (entries_at now s) p (pick (key_at now j) u) → ReducedAbove t now new j
 guard_lived {m} t was now new j s k u p b i x l a =
     let tree = b.ready.family.is_tree in
     let m = tree.meet k j s x.node in
@@ -244,9 +244,9 @@ guard_lived {m} t was now new j s k u p b i x l a =
     l.reduced
 
 -- it doesn't
-pub guard_idle : {m : Bool} (t : Tree) (was now : List Table) (j s k : ℕ) (u : List ℕ) → Began t was now j
+pub guard_idle : {m : Bool} (t : Tree) (was now : List Table) (j s k : ℕ) (u : List ℕ) → ChangedOnlyAt t was now j
     → InsertedAs m (key_at was j) (entries_at was j) (entries_at now j) u → IsUnder t k (Meet j s) j
-    → cnt (entries_at now s) (pick (key_at now j) u) ≡ 0 → Righted t now now j
+    → cnt (entries_at now s) (pick (key_at now j) u) ≡ 0 → ReducedAbove t now now j
 guard_idle {m} t was now j s k u b i x none =
     idle t was now j k (Meet j s) b x
     (guard_equation t was now now j s k u 0 b x (now_family t was now j b) refl refl i none (λ v. omega arith))
@@ -263,7 +263,7 @@ meet_high t k g s h e =
     differ x = cc
 
 -- at a side: none of the group that comes was there
-pub side_none : {m : Bool} (t : Tree) (was now : List Table) (g j k : ℕ) (u v : List ℕ) → Began t was now j
+pub side_none : {m : Bool} (t : Tree) (was now : List Table) (g j k : ℕ) (u v : List ℕ) → ChangedOnlyAt t was now j
     → InsertedAs m (key_at was j) (entries_at was j) (entries_at now j) u → IsUnder t k (Meet g j) j
     → pick (key_at now g) v ≡ u → supp (entries_at now k) v ≡ 0
 side_none {m} t was now g j k u v b i x here =
@@ -278,7 +278,7 @@ side_none {m} t was now g j k u v b i x here =
     ap (λ (es : List Entry). supp es v) (same_up t was now j k (Meet g j) b x) ∙ omega arith
 
 pub side_absent : {m : Bool} (t : Tree) (was now mid : List Table) (g j k i : ℕ) (u : List ℕ) (e : Entry)
-    → Began t was now j → InsertedAs m (key_at was j) (entries_at was j) (entries_at now j) u → IsUnder t k (Meet g j) j
+    → ChangedOnlyAt t was now j → InsertedAs m (key_at was j) (entries_at was j) (entries_at now j) u → IsUnder t k (Meet g j) j
     → IsGrown t now mid k (take i (grp (key_at now g) (entries_at now g) u)) → grp (key_at now g) (entries_at now g) u
     ≡ take i (grp (key_at now g) (entries_at now g) u) ++ e ∷ drop (i + 1) (grp (key_at now g) (entries_at now g) u)
     → cnt (entries_at mid k) e.tuple ≡ 0
@@ -293,10 +293,10 @@ side_absent {m} t was now mid g j k i u e b ins x grown cut =
     (omega (arith, grown.came e.tuple, side_none t was now g j k u e.tuple b ins x has.1))
 
 -- the whole group came
-pub side_righted : {mark : Bool} (t : Tree) (was now new : List Table) (g j k i : ℕ) (u : List ℕ) → Began t was now j
+pub side_righted : {mark : Bool} (t : Tree) (was now new : List Table) (g j k i : ℕ) (u : List ℕ) → ChangedOnlyAt t was now j
     → InsertedAs mark (key_at was j) (entries_at was j) (entries_at now j) u → IsUnder t k (Meet g j) j
     → IsGrown t now new k (take i (grp (key_at now g) (entries_at now g) u))
-    → drop i (grp (key_at now g) (entries_at now g) u) ≡ [] → Righted t now new j
+    → drop i (grp (key_at now g) (entries_at now g) u) ≡ [] → ReducedAbove t now new j
 unfolding IsReductOf
 side_righted {mark} t was now new g j k i u b ins x grown ends = righted t was now new j k (Meet g j) b x grown.family
     grown.low equation grown.reduced
@@ -340,7 +340,7 @@ side_righted {mark} t was now new g j k i u b ins x grown ends = righted t was n
         omega (arith, grown.came v, take_all (grp (key_at now g) (entries_at now g) u) i v ends)
 
 -- a refusal above, and what came before it
-pub side_full : {m : Bool} (t : Tree) (was now mid after : List Table) (g j k i : ℕ) (u : List ℕ) → Began t was now j
+pub side_full : {m : Bool} (t : Tree) (was now mid after : List Table) (g j k i : ℕ) (u : List ℕ) → ChangedOnlyAt t was now j
     → InsertedAs m (key_at was j) (entries_at was j) (entries_at now j) u → IsUnder t k (Meet g j) j
     → IsGrown t now mid k (take i (grp (key_at now g) (entries_at now g) u)) → Refused t mid after k
     → IsFull (entries_at after k) (take i (grp (key_at now g) (entries_at now g) u))
@@ -370,10 +370,10 @@ same_group t now mid after g k i u es s f low grown r =
     ap₂ (λ (ks : List ℕ) (ds : List Entry). take i (grp ks ds u)) (same_keys t now after f r.family g)
     (r.below g (below_up t k g s low) ∙ grown.low g low)
 
-pub side_stayed : (t : Tree) (was now mid after new : List Table) (g j k i : ℕ) (u : List ℕ) → Began t was now j
+pub side_stayed : (t : Tree) (was now mid after new : List Table) (g j k i : ℕ) (u : List ℕ) → ChangedOnlyAt t was now j
     → IsUnder t k (Meet g j) j
     → IsGrown t now mid k (take i (grp (key_at now g) (entries_at now g) u)) → Refused t mid after k
-    → IsEmptied t after new k (take i (grp (key_at after g) (entries_at after g) u)) → Stayed t now new j
+    → IsEmptied t after new k (take i (grp (key_at after g) (entries_at after g) u)) → UnchangedAbove t now new j
 side_stayed t was now mid after new g j k i u b x grown r e = record {
   family = e.family;
   at = low j m.side_lower;
@@ -416,7 +416,7 @@ side_stayed t was now mid after new g j k i u b x grown r e = record {
 pub refused_here : {m : Bool} (t : Tree) (old mid after new : List Table) (j : ℕ) (u : List ℕ) → Ready t old j
     → cnt (entries_at old j) u ≡ 0 → Changed old mid j
     → InsertedAs m (key_at old j) (entries_at old j) (entries_at mid j) u
-    → Stayed t mid after j → Changed after new j → Removed (entries_at after j) (entries_at new j) u
+    → UnchangedAbove t mid after j → Changed after new j → Removed (entries_at after j) (entries_at new j) u
     → Refused t old new j
 refused_here {m} t old mid after new j u r absent c i s d x = record {
   family = d.family t s.family;
@@ -454,7 +454,7 @@ refused_here {m} t old mid after new j u r absent c i s d x = record {
 
 -- the node has gained it, and those above are right
 pub lived_here : {m : Bool} (t : Tree) (old mid new : List Table) (j : ℕ) (u : List ℕ) → Changed old mid j
-    → InsertedAs m (key_at old j) (entries_at old j) (entries_at mid j) u → Righted t mid new j → Lived t old new j u
+    → InsertedAs m (key_at old j) (entries_at old j) (entries_at mid j) u → ReducedAbove t mid new j → InsertedUpwards t old new j u
 lived_here {m} t old mid new j u c i r = record {
   family = r.family;
   mark = m;

@@ -14,19 +14,19 @@ use Rattle.djq_tree.specs.Tree.{Tree, IsTree, IsMeet}
 use Rattle.djq_reduct.specs.Tables.{entries_at, key_at}
 use Rattle.djq_reduct.specs.Reducts.{IsReductOf, IsFamily}
 use Rattle.djq_reduct.proofs.Family.{trim_law, meet_law}
-use Rattle.djq_propagate.specs.Walks.{Changed, Died, Began, Righted, IsUnder, IsEmptied, IsFull}
+use Rattle.djq_propagate.specs.Walks.{Changed, RemovedUpwards, ChangedOnlyAt, ReducedAbove, IsUnder, IsEmptied, IsFull}
 use Rattle.djq_propagate.proofs.Families.{once, apart_of, same_keys, lower_of, now_family}
 use Rattle.djq_propagate.proofs.Families.{above_same, righted, idle, below_up}
 use Rattle.djq_propagate.proofs.Sides.{group_has, take_le, take_all, cond_one}
 use Rattle.djq_propagate.proofs.Gains.{law_of, same_up, keys_now, side_stays}
 
 -- a tuple that went was there once
-pub was_there : (t : Tree) (was now : List Table) (j : ℕ) (u : List ℕ) → Began t was now j
+pub was_there : (t : Tree) (was now : List Table) (j : ℕ) (u : List ℕ) → ChangedOnlyAt t was now j
     → Removed (entries_at was j) (entries_at now j) u → cnt (entries_at was j) u ≡ 1
 was_there t was now j u b r = omega
     (arith, removed_cnt (entries_at was j) (entries_at now j) u r u, one_same u, once t was b.ready.family j u)
 
-trim_equation : (t : Tree) (was now new : List Table) (j k : ℕ) (u w : List ℕ) → Began t was now j
+trim_equation : (t : Tree) (was now new : List Table) (j k : ℕ) (u w : List ℕ) → ChangedOnlyAt t was now j
     → IsUnder t k (Trim j) j → IsFamily t new → entries_at new j ≡ entries_at now j
     → Removed (entries_at was j) (entries_at now j) u → w ≡ pick (key_at now j) u
     → ((v : List ℕ) → supp (entries_at now k) v ≡ supp (entries_at new k) v + one (same w v))
@@ -46,7 +46,7 @@ trim_equation t was now new j k u w b x f stay r e loss v =
     omega (arith, loss v)
 
 -- a trim has the projection
-pub trim_some : (t : Tree) (was now : List Table) (j k : ℕ) (u w : List ℕ) → Began t was now j
+pub trim_some : (t : Tree) (was now : List Table) (j k : ℕ) (u w : List ℕ) → ChangedOnlyAt t was now j
     → Removed (entries_at was j) (entries_at now j) u → IsUnder t k (Trim j) j → w ≡ pick (key_at now j) u
     → 0 < supp (entries_at now k) w
 trim_some t was now j k u w b r x e =
@@ -66,10 +66,10 @@ step_down true n h = omega arith
 step_down false n h = refl
 
 -- it keeps other supports
-pub trim_lowered : (t : Tree) (was now new : List Table) (j k : ℕ) (u w : List ℕ) → Began t was now j
+pub trim_lowered : (t : Tree) (was now new : List Table) (j k : ℕ) (u w : List ℕ) → ChangedOnlyAt t was now j
     → Removed (entries_at was j) (entries_at now j) u → IsUnder t k (Trim j) j → Changed now new k
     → Supported (entries_at now k) (entries_at new k) w (supp (entries_at now k) w) (supp (entries_at now k) w - 1) → w
-    ≡ pick (key_at now j) u → Righted t now new j
+    ≡ pick (key_at now j) u → ReducedAbove t now new j
 trim_lowered t was now new j k u w b r x c s e =
     let low = lower_of t k (Trim j) j b.ready.family.is_tree x in
     let f = c.family t (now_family t was now j b) in
@@ -86,15 +86,15 @@ trim_lowered t was now new j k u w b r x c s e =
     (supported_cnt (entries_at now k) (entries_at new k) w (supp (entries_at now k) w)
     (supp (entries_at now k) w - 1) s))
 
-died_low : (t : Tree) (now new : List Table) (k : ℕ) (w : List ℕ) → IsTree t → Died t now new k w → (i : ℕ) → i < k
+died_low : (t : Tree) (now new : List Table) (k : ℕ) (w : List ℕ) → IsTree t → RemovedUpwards t now new k w → (i : ℕ) → i < k
     → entries_at new i ≡ entries_at now i
 died_low t now new k w s d i less = d.below i (below_up t k i s less)
 
 -- it was the last one
-pub trim_died : (t : Tree) (was now new : List Table) (j k : ℕ) (u w : List ℕ) → Began t was now j
-    → Removed (entries_at was j) (entries_at now j) u → IsUnder t k (Trim j) j → Died t now new k w → w
+pub trim_died : (t : Tree) (was now new : List Table) (j k : ℕ) (u w : List ℕ) → ChangedOnlyAt t was now j
+    → Removed (entries_at was j) (entries_at now j) u → IsUnder t k (Trim j) j → RemovedUpwards t now new k w → w
     ≡ pick (key_at now j) u
-    → supp (entries_at now k) w ≤ 1 → Righted t now new j
+    → supp (entries_at now k) w ≤ 1 → ReducedAbove t now new j
 trim_died t was now new j k u w b r x d e last =
     let s = b.ready.family.is_tree in
     let low = lower_of t k (Trim j) j s x in
@@ -111,14 +111,14 @@ trim_died t was now new j k u w b r x d e last =
     d.reduced
 
 -- it can't be missing
-pub trim_missing : (t : Tree) (was now : List Table) (j k : ℕ) (u w : List ℕ) → Began t was now j
+pub trim_missing : (t : Tree) (was now : List Table) (j k : ℕ) (u w : List ℕ) → ChangedOnlyAt t was now j
     → Removed (entries_at was j) (entries_at now j) u → IsUnder t k (Trim j) j → w ≡ pick (key_at now j) u
     → cnt (entries_at now k) w ≡ 0 → ⊥
 trim_missing t was now j k u w b r x e none =
     let some = trim_some t was now j k u w b r x e in
     omega (arith, supp_none (entries_at now k) w none)
 
-guard_supp : (t : Tree) (was now : List Table) (j s k : ℕ) (u : List ℕ) → Began t was now j
+guard_supp : (t : Tree) (was now : List Table) (j s k : ℕ) (u : List ℕ) → ChangedOnlyAt t was now j
     → Removed (entries_at was j) (entries_at now j) u → IsUnder t k (Meet j s) j → supp (entries_at now k) u
     ≡ cnt (entries_at was s) (pick (key_at was j) u)
 guard_supp t was now j s k u b r x =
@@ -138,7 +138,7 @@ times_cond u v f =
       | inr other ↦ (let k = one_other u v other in rw (k, other) (omega arith))
     ]
 
-guard_equation : (t : Tree) (was now new : List Table) (j s k : ℕ) (u : List ℕ) → Began t was now j
+guard_equation : (t : Tree) (was now new : List Table) (j s k : ℕ) (u : List ℕ) → ChangedOnlyAt t was now j
     → IsUnder t k (Meet j s) j → IsFamily t new → entries_at new j ≡ entries_at now j → entries_at new s
     ≡ entries_at now s
     → Removed (entries_at was j) (entries_at now j) u
@@ -174,9 +174,9 @@ guard_equation t was now new j s k u b x f stay side r loss v =
     distributes a b c = omega arith
 
 -- the meet has it
-pub guard_died : (t : Tree) (was now new : List Table) (j s k : ℕ) (u : List ℕ) → Began t was now j
-    → Removed (entries_at was j) (entries_at now j) u → IsUnder t k (Meet j s) j → Died t now new k u
-    → Righted t now new j
+pub guard_died : (t : Tree) (was now new : List Table) (j s k : ℕ) (u : List ℕ) → ChangedOnlyAt t was now j
+    → Removed (entries_at was j) (entries_at now j) u → IsUnder t k (Meet j s) j → RemovedUpwards t now new k u
+    → ReducedAbove t now new j
 guard_died t was now new j s k u b r x d =
     let tree = b.ready.family.is_tree in
     let m = tree.meet k j s x.node in
@@ -191,16 +191,16 @@ cond_none true n h = h
 cond_none false n h = refl
 
 -- it doesn't
-pub guard_idle : (t : Tree) (was now : List Table) (j s k : ℕ) (u : List ℕ) → Began t was now j
+pub guard_idle : (t : Tree) (was now : List Table) (j s k : ℕ) (u : List ℕ) → ChangedOnlyAt t was now j
     → Removed (entries_at was j) (entries_at now j) u → IsUnder t k (Meet j s) j → cnt (entries_at now k) u ≡ 0
-    → Righted t now now j
+    → ReducedAbove t now now j
 guard_idle t was now j s k u b r x none =
     idle t was now j k (Meet j s) b x
     (guard_equation t was now now j s k u b x (now_family t was now j b) refl refl r
     (λ v. omega (arith, cond_none (same u v) (supp (entries_at now k) u) (supp_none (entries_at now k) u none))))
 
 -- at a side: the whole group is there, with one support each
-pub side_full : (t : Tree) (was now : List Table) (g j k n : ℕ) (u : List ℕ) → Began t was now j
+pub side_full : (t : Tree) (was now : List Table) (g j k n : ℕ) (u : List ℕ) → ChangedOnlyAt t was now j
     → Removed (entries_at was j) (entries_at now j) u → IsUnder t k (Meet g j) j
     → IsFull (entries_at now k) (take n (grp (key_at now g) (entries_at now g) u))
 side_full t was now g j k n u b r x = record {
@@ -226,10 +226,10 @@ side_full t was now g j k n u b r x = record {
 }
 
 -- the whole group went
-pub side_righted : (t : Tree) (was now new : List Table) (g j k n : ℕ) (u : List ℕ) → Began t was now j
+pub side_righted : (t : Tree) (was now new : List Table) (g j k n : ℕ) (u : List ℕ) → ChangedOnlyAt t was now j
     → Removed (entries_at was j) (entries_at now j) u → IsUnder t k (Meet g j) j
     → IsEmptied t now new k (take n (grp (key_at now g) (entries_at now g) u))
-    → drop n (grp (key_at now g) (entries_at now g) u) ≡ [] → Righted t now new j
+    → drop n (grp (key_at now g) (entries_at now g) u) ≡ [] → ReducedAbove t now new j
 unfolding IsReductOf
 side_righted t was now new g j k n u b r x gone ends = righted t was now new j k (Meet g j) b x gone.family gone.low
     equation gone.reduced
@@ -279,7 +279,7 @@ side_righted t was now new g j k n u b r x gone ends = righted t was now new j k
 
 -- the node has lost it, and those above are right
 pub died_here : (t : Tree) (old mid new : List Table) (j : ℕ) (u : List ℕ) → Changed old mid j
-    → Removed (entries_at old j) (entries_at mid j) u → Righted t mid new j → Died t old new j u
+    → Removed (entries_at old j) (entries_at mid j) u → ReducedAbove t mid new j → RemovedUpwards t old new j u
 died_here t old mid new j u c r x = record {
   family = x.family;
   loses = subst (λ (es : List Entry). Removed (entries_at old j) es u) (sym x.at) r;

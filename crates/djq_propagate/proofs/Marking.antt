@@ -19,7 +19,7 @@ use Rattle.djq_reduct.specs.Reducts.{IsReductOf, IsFamily, IsReducts}
 use Rattle.djq_reduct.proofs.Family.{trim_law, meet_law}
 use Rattle.djq_reduct.specs.Marks.{path_at, on_path, IsOff, IsBare, agreeing, AgreeAt, ArePlainAt}
 use Rattle.djq_propagate.specs.Walks.{CameAs}
-use Rattle.djq_propagate.specs.Touches.{IsTouched, IsTouchedUp, gate, reach, IsCovered, CanWalk, IsWalked}
+use Rattle.djq_propagate.specs.Touches.{IsTouched, IsTouchedUp, is_marked_by, reach, IsCovered, CanWalk, IsWalked}
 use Rattle.djq_propagate.proofs.Families.{once, same_keys, tuples_same, reduced_same, trim_has, guard_has, side_has}
 use Rattle.djq_propagate.proofs.Sides.{present}
 use Rattle.djq_propagate.proofs.Touching.{gate_open, gate_test}
@@ -44,7 +44,7 @@ pub reach_agrees : (n : Node) (going : Bool) (j : ℕ) (ts : List Table) (es : L
 unfolding reach agreeing
 reach_agrees (Leaf a) going j ts es w h = h
 reach_agrees (Trim c) going j ts es w h = first_some (many (key_at ts c) es w)
-    (one (gate going (many (key_at ts c) (plain (entries_at ts c)) w))) h
+    (one (is_marked_by going (many (key_at ts c) (plain (entries_at ts c)) w))) h
 reach_agrees (Meet g s) going j ts es w h = by_side (g == j) (cnt es w) (cnt (entries_at ts g) w)
     (cnt es (pick (key_at ts g) w)) h
   where
@@ -58,10 +58,10 @@ agree_reaches : (n : Node) (j : ℕ) (ts : List Table) (es : List Entry) (w : Li
 unfolding reach agreeing
 agree_reaches (Leaf a) j ts es w guards h = h
 agree_reaches (Trim c) j ts es w guards h =
-    both_some (many (key_at ts c) es w) (one (gate false (many (key_at ts c) (plain (entries_at ts c)) w))) h
+    both_some (many (key_at ts c) es w) (one (is_marked_by false (many (key_at ts c) (plain (entries_at ts c)) w))) h
     (omega (
       arith,
-      one_true (gate false (many (key_at ts c) (plain (entries_at ts c)) w))
+      one_true (is_marked_by false (many (key_at ts c) (plain (entries_at ts c)) w))
           (gate_open (many (key_at ts c) (plain (entries_at ts c)) w)),
     ))
 agree_reaches (Meet g s) j ts es w guards h = by_side (g == j) (cnt es w) (cnt (entries_at ts g) w)
@@ -143,10 +143,10 @@ meet_numbers K M P G Pg Mg (suc s) k k1 g g1 s1 up down comes only =
           [ inl g_some ↦ absurd (let h = down (omega arith) in omega arith) | inr no_g ↦ omega arith ]
     ]
 
-gate_shut : (n : ℕ) → 0 < n → gate true n ≡ false
+gate_shut : (n : ℕ) → 0 < n → is_marked_by true n ≡ false
 gate_shut n h = gate_test n ∙ ne_eqb n 0 (λ (e : n ≡ 0). absurd (omega arith))
 
-gate_zero : (n : ℕ) → n ≡ 0 → gate true n ≡ true
+gate_zero : (n : ℕ) → n ≡ 0 → is_marked_by true n ≡ true
 gate_zero n h = gate_test n ∙ eq-eqb n 0 h
 
 trim_step : (t : Tree) (ts us : List Table) (c k : ℕ) → IsFamily t ts → c < k → IsReductOf (Trim c) ts k
@@ -172,11 +172,11 @@ trim_step t ts us c k f low law none x w =
         | inr bad ↦ absurd (
             let there : 0 < cnt (entries_at ts k) w = omega arith in
             let s = cnt_supp (entries_at ts k) w (f.supported k) there in
-            let g = one_true (gate true (many (key_at ts c) (plain (entries_at ts c)) w))
+            let g = one_true (is_marked_by true (many (key_at ts c) (plain (entries_at ts c)) w))
             (gate_zero (many (key_at ts c) (plain (entries_at ts c)) w) (omega arith)) in
             let m = x.comes w there
             (both_some (many (key_at ts c) (marks (entries_at ts c)) w)
-            (one (gate true (many (key_at ts c) (plain (entries_at ts c)) w))) (omega arith) (omega arith)) in
+            (one (is_marked_by true (many (key_at ts c) (plain (entries_at ts c)) w))) (omega arith) (omega arith)) in
             omega arith)
       ]),
       (λ some.
@@ -186,10 +186,10 @@ trim_step t ts us c k f low law none x w =
             | inl marked ↦ absurd (
                 let o = x.only w marked in
                 let r : 0 < many (key_at ts c) (marks (entries_at ts c)) w * one
-                (gate true (many (key_at ts c) (plain (entries_at ts c)) w)) = omega arith in
+                (is_marked_by true (many (key_at ts c) (plain (entries_at ts c)) w)) = omega arith in
                 let g = second_some (many (key_at ts c) (marks (entries_at ts c)) w)
-                (one (gate true (many (key_at ts c) (plain (entries_at ts c)) w))) r in
-                let z = one_false (gate true (many (key_at ts c) (plain (entries_at ts c)) w))
+                (one (is_marked_by true (many (key_at ts c) (plain (entries_at ts c)) w))) r in
+                let z = one_false (is_marked_by true (many (key_at ts c) (plain (entries_at ts c)) w))
                 (gate_shut (many (key_at ts c) (plain (entries_at ts c)) w) p) in
                 omega arith)
             | inr no_mark ↦ omega arith

@@ -27,7 +27,7 @@ use Rattle.djq_reduct.specs.Marks.{on_path, IsOff}
 use Rattle.djq_propagate.specs.Sizes.{size}
 use Rattle.djq_propagate.specs.Updates.{steps, HasAtMost, HasTaken, HasGained, HasLost, paths}
 use Rattle.djq_index.proofs.Changing.{inserted_length, length_middle}
-use Rattle.djq_propagate.specs.Walks.{Lived}
+use Rattle.djq_propagate.specs.Walks.{InsertedUpwards}
 use Rattle.djq_propagate.specs.Touches.{IsTouched, IsTouchedUp}
 use Rattle.djq_propagate.proofs.Families.{once, apart_of, tuples_same}
 use Rattle.djq_propagate.proofs.Paths.{on_high, off_same}
@@ -415,14 +415,14 @@ put_all_counted t old mid new a us n x y z r c up s some few first second =
 
 -- of one tuple
 pub put_by : (t : Tree) (old mid : List Table) (a : ℕ) (u : List ℕ) (n x y z : ℕ) → IsReducts (both t old)
-    → a < t.leaves → Lived t old mid a u → 1 ≤ n → ((i : ℕ) → length (entries_at mid i) ≤ length (entries_at old i) + n)
+    → a < t.leaves → InsertedUpwards t old mid a u → 1 ≤ n → ((i : ℕ) → length (entries_at mid i) ≤ length (entries_at old i) + n)
     → y + 1 + 4 * size old ≤ x + 4 * size mid → z ≤ y + steps t.nodes a (length t.nodes) * (1 + 5 * n)
     → z ≤ x + 10 * (paths t * n)
 put_by t old mid a u n x y z r h l some grows first second = put_all_by t old mid a (u ∷ []) n x y z r
     (lived_come t old mid a u r h l) some grows (omega arith) second
 
 pub put_counted : (t : Tree) (old mid new : List Table) (a : ℕ) (u : List ℕ) (n x y z : ℕ) → IsReducts (both t old)
-    → a < t.leaves → Lived t old mid a u → IsTouchedUp t mid new a → IsReducts (both t new) → HasAtMost (both t new) n
+    → a < t.leaves → InsertedUpwards t old mid a u → IsTouchedUp t mid new a → IsReducts (both t new) → HasAtMost (both t new) n
     → y + 1 + 4 * size old ≤ x + 4 * size mid
     → ((m : ℕ) → ((i : ℕ) → length (entries_at mid i) ≤ m) → z ≤ y + steps t.nodes a (length t.nodes) * (1 + 5 * m))
     → z ≤ x + 10 * (paths t * n)

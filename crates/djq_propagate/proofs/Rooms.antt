@@ -18,7 +18,7 @@ use Rattle.djq_reduct.specs.Reducts.{IsReducts, IsFamily, AreReduced}
 use Rattle.djq_reduct.proofs.Family.{entries_past, meet_law}
 use Rattle.djq_propagate.specs.Sizes.{size, AreAtMost}
 use Rattle.djq_propagate.specs.Updates.{HasAtMost, paths}
-use Rattle.djq_propagate.specs.Walks.{Changed, Began, IsUnder, IsGrown}
+use Rattle.djq_propagate.specs.Walks.{Changed, ChangedOnlyAt, IsUnder, IsGrown}
 use Rattle.djq_propagate.proofs.Families.{once, apart_of, tuples_same, now_family}
 use Rattle.djq_propagate.proofs.Sides.{group_once, group_has, take_le, cut_new}
 use Rattle.djq_propagate.proofs.Gains.{law_of, same_up, meet_high, side_absent}
@@ -84,7 +84,7 @@ most_more {m} old new n j u c i h room = record {
 }
 
 -- then there is room above: at a trim, at a guard's meet
-pub trim_fits : {m : Bool} (t : Tree) (was now : List Table) (j k n : ℕ) (u : List ℕ) → Began t was now j
+pub trim_fits : {m : Bool} (t : Tree) (was now : List Table) (j k n : ℕ) (u : List ℕ) → ChangedOnlyAt t was now j
     → InsertedAs m (key_at was j) (entries_at was j) (entries_at now j) u → IsUnder t k (Trim j) j
     → length (entries_at now j) ≤ n → length (entries_at now k) < n
 trim_fits {m} t was now j k n u b i x h =
@@ -96,7 +96,7 @@ trim_fits {m} t was now j k n u b i x h =
       h,
     )
 
-pub guard_fits : {m : Bool} (t : Tree) (was now : List Table) (j s k n : ℕ) (u : List ℕ) → Began t was now j
+pub guard_fits : {m : Bool} (t : Tree) (was now : List Table) (j s k n : ℕ) (u : List ℕ) → ChangedOnlyAt t was now j
     → InsertedAs m (key_at was j) (entries_at was j) (entries_at now j) u → IsUnder t k (Meet j s) j
     → length (entries_at now j) ≤ n → length (entries_at now k) < n
 guard_fits {m} t was now j s k n u b i x h =
@@ -125,7 +125,7 @@ over t ts n from f r high low (suc m) k less =
 
 -- at a side's meet, for the next one of the guard's group
 pub next_fits : {m : Bool} (t : Tree) (was now mid : List Table) (g j k i : ℕ) (u : List ℕ) (e : Entry)
-    → Began t was now j → InsertedAs m (key_at was j) (entries_at was j) (entries_at now j) u → IsUnder t k (Meet g j) j
+    → ChangedOnlyAt t was now j → InsertedAs m (key_at was j) (entries_at was j) (entries_at now j) u → IsUnder t k (Meet g j) j
     → IsGrown t now mid k (take i (grp (key_at now g) (entries_at now g) u)) → grp (key_at now g) (entries_at now g) u
     ≡ take i (grp (key_at now g) (entries_at now g) u) ++ e ∷ drop (i + 1) (grp (key_at now g) (entries_at now g) u)
     → length (entries_at mid k) + 1 ≤ length (entries_at now g)
@@ -181,7 +181,7 @@ next_fits {m} t was now mid g j k i u e b ins x grown cut = let l = length_less 
         ]
 
 pub side_fits : {m : Bool} (t : Tree) (was now mid : List Table) (g j k i n : ℕ) (u : List ℕ) (e : Entry)
-    → Began t was now j → InsertedAs m (key_at was j) (entries_at was j) (entries_at now j) u → IsUnder t k (Meet g j) j
+    → ChangedOnlyAt t was now j → InsertedAs m (key_at was j) (entries_at was j) (entries_at now j) u → IsUnder t k (Meet g j) j
     → IsGrown t now mid k (take i (grp (key_at now g) (entries_at now g) u)) → grp (key_at now g) (entries_at now g) u
     ≡ take i (grp (key_at now g) (entries_at now g) u) ++ e ∷ drop (i + 1) (grp (key_at now g) (entries_at now g) u)
     → AreAtMost now n → (length (entries_at mid k) < n) × AreAtMost mid n

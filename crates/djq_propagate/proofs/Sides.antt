@@ -15,7 +15,7 @@ use Rattle.djq_index.proofs.Groups.{cnt_grp}
 use Rattle.djq_index.proofs.Changing.{inserted_supp, removed_supp}
 use Rattle.djq_tree.specs.Tree.{Tree}
 use Rattle.djq_reduct.specs.Tables.{entries_at, key_at}
-use Rattle.djq_propagate.specs.Walks.{Ready, Lived, Died, IsFull, IsGrown, IsEmptied}
+use Rattle.djq_propagate.specs.Walks.{Ready, InsertedUpwards, RemovedUpwards, IsFull, IsGrown, IsEmptied}
 use Rattle.djq_propagate.proofs.Families.{apart_of, below_up}
 
 -- a group's tuples
@@ -118,7 +118,7 @@ grown_ready t old mid k es within g = record { family = g.family; within = withi
 
 -- one more came
 pub grown_more : (t : Tree) (old mid new : List Table) (k : ℕ) (g : List Entry) (i : ℕ) (e : Entry)
-    → IsGrown t old mid k (take i g) → Lived t mid new k e.tuple → g ≡ take i g ++ e ∷ drop (i + 1) g
+    → IsGrown t old mid k (take i g) → InsertedUpwards t mid new k e.tuple → g ≡ take i g ++ e ∷ drop (i + 1) g
     → IsGrown t old new k (take (i + 1) g)
 grown_more t old mid new k g i e was l cut = record {
   family = l.family;
@@ -162,7 +162,7 @@ cond_one false n h = refl
 
 -- one more went
 pub emptied_more : (t : Tree) (old mid new : List Table) (k : ℕ) (g : List Entry) (i : ℕ) (e : Entry)
-    → IsEmptied t old mid k (take i g) → Died t mid new k e.tuple → supp (entries_at mid k) e.tuple ≡ 1 → g
+    → IsEmptied t old mid k (take i g) → RemovedUpwards t mid new k e.tuple → supp (entries_at mid k) e.tuple ≡ 1 → g
     ≡ take i g ++ e ∷ drop (i + 1) g → IsEmptied t old new k (take (i + 1) g)
 emptied_more t old mid new k g i e was d has cut = record {
   family = d.family;

@@ -25,7 +25,7 @@ use Rattle.djq_reduct.specs.Tables.{entries_at, key_at}
 use Rattle.djq_reduct.specs.Reducts.{IsFamily}
 use Rattle.djq_propagate.specs.Walks.{Changed, IsUnder}
 use Rattle.djq_index.proofs.Walking.{WalkCut}
-use Rattle.djq_propagate.specs.Touches.{IsTouched, IsStep, gate, reach_one, reach, cost_one, cost}
+use Rattle.djq_propagate.specs.Touches.{IsTouched, IsStep, is_marked_by, reach_one, reach, cost_one, cost}
 use Rattle.djq_propagate.proofs.Families.{once, apart_of, tuples_same, guard_has}
 use Rattle.djq_propagate.proofs.Sides.{cut_cnt, head_none}
 use Rattle.djq_index.proofs.Tuples.{one_false}
@@ -125,19 +125,19 @@ last_of : (t : Tree) (ts : List Table) (k : ℕ) → IsFamily t ts → AreLast (
 unfolding key_at entries_at
 last_of t ts k f = (f.sound k).last
 
-pub gate_open : (n : ℕ) → gate false n ≡ true
-unfolding gate
+pub gate_open : (n : ℕ) → is_marked_by false n ≡ true
+unfolding is_marked_by
 gate_open n = refl
 
-pub gate_test : (n : ℕ) → gate true n ≡ (n == 0)
-unfolding gate
+pub gate_test : (n : ℕ) → is_marked_by true n ≡ (n == 0)
+unfolding is_marked_by
 gate_test n = refl
 
 empty_many : (ks : List ℕ) (w : List ℕ) (es : List Entry) → many ks (plain es) w ≤ many ks es w
 empty_many ks w es = omega (arith, many_split ks es w)
 
 pub gate_none : (ks : List ℕ) (es : List Entry) (w : List ℕ) → head_at (grp ks es w) ≡ None → true
-    ≡ gate true (many ks (plain es) w)
+    ≡ is_marked_by true (many ks (plain es) w)
 gate_none ks es w h =
     let e : length (grp ks es w) ≡ 0 = ap (λ (xs : List Entry). length xs) (head_none (grp ks es w) h) in
     sym (gate_test (many ks (plain es) w)
@@ -189,7 +189,7 @@ entry_mark ks es w e rest h is =
 
 pub gate_first : (t : Tree) (ts : List Table) (k : ℕ) (w : List ℕ) (p : Place) (b : Bool)
     (x : IsFirst (key_at ts k) (entries_at ts k) w p) → IsFamily t ts → b ≡ is_marked (entries_at ts k) x.entry.tuple
-    → b ≡ gate true (many (key_at ts k) (plain (entries_at ts k)) w)
+    → b ≡ is_marked_by true (many (key_at ts k) (plain (entries_at ts k)) w)
 gate_first t ts k w p b x f e =
     let m = e ∙ entry_mark (key_at ts k) (entries_at ts k) w x.entry x.rest (apart_of t ts f k) x.is in
     elim (cases_Bool x.entry.marked) [
@@ -205,18 +205,18 @@ gate_first t ts k w p b x f e =
 
 -- a trim
 pub reach_yes : (j : ℕ) (ts : List Table) (u v w : List ℕ) (going b : Bool) → w ≡ pick (key_at ts j) u → b
-    ≡ gate going (many (key_at ts j) (plain (entries_at ts j)) w) → b ≡ true → reach_one (Trim j) going j ts u v
+    ≡ is_marked_by going (many (key_at ts j) (plain (entries_at ts j)) w) → b ≡ true → reach_one (Trim j) going j ts u v
     ≡ one (same w v)
 unfolding reach_one
 reach_yes j ts u v w going b e g yes_gate =
     elim (same_cases w v) [
       | inl here ↦ (
-          let open_gate : one (gate going (many (key_at ts j) (plain (entries_at ts j)) v))
-          ≡ 1 = one_true (gate going (many (key_at ts j) (plain (entries_at ts j)) v))
-          (ap (λ (x : List ℕ). gate going (many (key_at ts j) (plain (entries_at ts j)) x)) (sym here) ∙ sym g
+          let open_gate : one (is_marked_by going (many (key_at ts j) (plain (entries_at ts j)) v))
+          ≡ 1 = one_true (is_marked_by going (many (key_at ts j) (plain (entries_at ts j)) v))
+          (ap (λ (x : List ℕ). is_marked_by going (many (key_at ts j) (plain (entries_at ts j)) x)) (sym here) ∙ sym g
           ∙ yes_gate) in
           let k : one (same (pick (key_at ts j) u) v) * one
-          (gate going (many (key_at ts j) (plain (entries_at ts j)) v))
+          (is_marked_by going (many (key_at ts j) (plain (entries_at ts j)) v))
           ≡ one (same (pick (key_at ts j) u) v) * 1 = ap (λ (n : ℕ). one (same (pick (key_at ts j) u) v) * n)
           open_gate in
           omega (arith, ap (λ (x : List ℕ). one (same x v)) e))
@@ -224,24 +224,24 @@ reach_yes j ts u v w going b e g yes_gate =
           let none : one (same (pick (key_at ts j) u) v) ≡ 0 = ap (λ (x : List ℕ). one (same x v)) (sym e)
           ∙ one_other w v other in
           let k : one (same (pick (key_at ts j) u) v) * one
-          (gate going (many (key_at ts j) (plain (entries_at ts j)) v))
-          ≡ 0 * one (gate going (many (key_at ts j) (plain (entries_at ts j)) v)) = ap
-          (λ (n : ℕ). n * one (gate going (many (key_at ts j) (plain (entries_at ts j)) v))) none in
+          (is_marked_by going (many (key_at ts j) (plain (entries_at ts j)) v))
+          ≡ 0 * one (is_marked_by going (many (key_at ts j) (plain (entries_at ts j)) v)) = ap
+          (λ (n : ℕ). n * one (is_marked_by going (many (key_at ts j) (plain (entries_at ts j)) v))) none in
           omega (arith, one_other w v other))
     ]
 
 pub reach_no : (j : ℕ) (ts : List Table) (u v w : List ℕ) (going b : Bool) → w ≡ pick (key_at ts j) u → b
-    ≡ gate going (many (key_at ts j) (plain (entries_at ts j)) w) → b ≡ false → reach_one (Trim j) going j ts u v ≡ 0
+    ≡ is_marked_by going (many (key_at ts j) (plain (entries_at ts j)) w) → b ≡ false → reach_one (Trim j) going j ts u v ≡ 0
 unfolding reach_one
 reach_no j ts u v w going b e g no_gate =
     elim (same_cases w v) [
       | inl here ↦ (
-          let shut : one (gate going (many (key_at ts j) (plain (entries_at ts j)) v))
-          ≡ 0 = one_false (gate going (many (key_at ts j) (plain (entries_at ts j)) v))
-          (ap (λ (x : List ℕ). gate going (many (key_at ts j) (plain (entries_at ts j)) x)) (sym here) ∙ sym g
+          let shut : one (is_marked_by going (many (key_at ts j) (plain (entries_at ts j)) v))
+          ≡ 0 = one_false (is_marked_by going (many (key_at ts j) (plain (entries_at ts j)) v))
+          (ap (λ (x : List ℕ). is_marked_by going (many (key_at ts j) (plain (entries_at ts j)) x)) (sym here) ∙ sym g
           ∙ no_gate) in
           let k : one (same (pick (key_at ts j) u) v) * one
-          (gate going (many (key_at ts j) (plain (entries_at ts j)) v))
+          (is_marked_by going (many (key_at ts j) (plain (entries_at ts j)) v))
           ≡ one (same (pick (key_at ts j) u) v) * 0 = ap (λ (n : ℕ). one (same (pick (key_at ts j) u) v) * n) shut
           in
           omega arith)
@@ -249,9 +249,9 @@ reach_no j ts u v w going b e g no_gate =
           let none : one (same (pick (key_at ts j) u) v) ≡ 0 = ap (λ (x : List ℕ). one (same x v)) (sym e)
           ∙ one_other w v other in
           let k : one (same (pick (key_at ts j) u) v) * one
-          (gate going (many (key_at ts j) (plain (entries_at ts j)) v))
-          ≡ 0 * one (gate going (many (key_at ts j) (plain (entries_at ts j)) v)) = ap
-          (λ (n : ℕ). n * one (gate going (many (key_at ts j) (plain (entries_at ts j)) v))) none in
+          (is_marked_by going (many (key_at ts j) (plain (entries_at ts j)) v))
+          ≡ 0 * one (is_marked_by going (many (key_at ts j) (plain (entries_at ts j)) v)) = ap
+          (λ (n : ℕ). n * one (is_marked_by going (many (key_at ts j) (plain (entries_at ts j)) v))) none in
           omega arith)
     ]
 
@@ -295,7 +295,7 @@ pub reach_still : (n : Node) (going : Bool) (j : ℕ) (ts us : List Table) (u v 
 unfolding reach_one
 reach_still (Leaf a) going j ts us u v keys kids = refl
 reach_still (Trim c) going j ts us u v keys kids = ap₂
-    (λ (ks : List ℕ) (es : List Entry). one (same (pick ks u) v) * one (gate going (many ks (plain es) v))) (keys c)
+    (λ (ks : List ℕ) (es : List Entry). one (same (pick ks u) v) * one (is_marked_by going (many ks (plain es) v))) (keys c)
     (kids c (eq-eqb c c refl))
 reach_still (Meet g s) going j ts us u v keys kids = ap₂
     (λ (ks : List ℕ) (es : List Entry). cond (g == j) (one (same u v)) (cnt (grp ks es u) v)) (keys g)
@@ -340,10 +340,10 @@ pub reach_more : (n : Node) (going : Bool) (j : ℕ) (ts : List Table) (g : List
 unfolding reach reach_one
 reach_more (Leaf a) going j ts g i e v h = refl
 reach_more (Trim c) going j ts g i e v h =
-    ap (λ (x : ℕ). x * one (gate going (many (key_at ts c) (plain (entries_at ts c)) v)))
+    ap (λ (x : ℕ). x * one (is_marked_by going (many (key_at ts c) (plain (entries_at ts c)) v)))
     (cut_many (key_at ts c) g i e v h)
     ∙ spread (many (key_at ts c) (take i g) v) (one (same (pick (key_at ts c) e.tuple) v))
-    (one (gate going (many (key_at ts c) (plain (entries_at ts c)) v)))
+    (one (is_marked_by going (many (key_at ts c) (plain (entries_at ts c)) v)))
 reach_more (Meet c s) going j ts g i e v h =
     cond_sum (c == j) (cnt (take (i + 1) g) v) (cnt (take i g) v) (one (same e.tuple v))
     (cnt (entries_at ts c) v * cnt (take (i + 1) g) (pick (key_at ts c) v))

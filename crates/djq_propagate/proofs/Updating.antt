@@ -16,7 +16,7 @@ use Rattle.djq_reduct.specs.Tables.{entries_at, key_at}
 use Rattle.djq_reduct.specs.Reducts.{Reducts, IsReducts, IsReductOf, IsFamily, AreReduced, SameTables}
 use Rattle.djq_reduct.proofs.Family.{leaf_law, one_family}
 use Rattle.djq_reduct.specs.Marks.{on_path, IsOff, IsBare, AreOnPath, IsWithout}
-use Rattle.djq_propagate.specs.Walks.{Ready, Lived, Died, Refused, Fewer, CameAs, IsBelow}
+use Rattle.djq_propagate.specs.Walks.{Ready, InsertedUpwards, RemovedUpwards, Refused, Fewer, CameAs, IsBelow}
 use Rattle.djq_propagate.specs.Touches.{IsTouched, IsTouchedUp, CanWalk, IsWalked}
 use Rattle.djq_propagate.specs.Batches.{times, HaveCome, HasInsertedAll, HasGainedAll}
 use Rattle.djq_propagate.specs.Updates.{HasInserted, HasMarked, HasKept, HasDropped, HasTaken}
@@ -85,7 +85,7 @@ reducts_from t old new a r h f up below here = record {
 }
 
 pub reducts_lived : (t : Tree) (old new : List Table) (a : ℕ) (u : List ℕ) → IsReducts (both t old) → a < t.leaves
-    → Lived t old new a u → IsReducts (both t new)
+    → InsertedUpwards t old new a u → IsReducts (both t new)
 reducts_lived t old new a u r h l =
     reducts_from t old new a r h l.family l.reduced l.below
     (λ v. omega (
@@ -97,7 +97,7 @@ reducts_lived t old new a u r h l =
     ))
 
 pub reducts_died : (t : Tree) (old new : List Table) (a : ℕ) (u : List ℕ) → IsReducts (both t old) → a < t.leaves
-    → Died t old new a u → IsReducts (both t new)
+    → RemovedUpwards t old new a u → IsReducts (both t new)
 reducts_died t old new a u r h d =
     let unit : supp (entries_at old a) u
     ≡ 1 = omega (
@@ -153,7 +153,7 @@ refused_kept t old new a r x b = record {
 
 -- an update without marks
 pub gained_all : (t : Tree) (old new : List Table) (a : ℕ) (u : List ℕ) → IsReducts (both t old) → a < t.leaves
-    → IsBare new → Lived t old new a u → HasGained (both t old) (both t new) a u
+    → IsBare new → InsertedUpwards t old new a u → HasGained (both t old) (both t new) a u
 gained_all t old new a u r h b l = record {
   sound = reducts_lived t old new a u r h l;
   tree = refl;
@@ -164,7 +164,7 @@ gained_all t old new a u r h b l = record {
 }
 
 pub lost_all : (t : Tree) (old new : List Table) (a : ℕ) (u : List ℕ) → IsReducts (both t old) → a < t.leaves
-    → IsBare new → Died t old new a u → HasLost (both t old) (both t new) a u
+    → IsBare new → RemovedUpwards t old new a u → HasLost (both t old) (both t new) a u
 lost_all t old new a u r h b d = record {
   sound = reducts_died t old new a u r h d;
   tree = refl;
@@ -180,7 +180,7 @@ unfolding times
 times_one u v = omega arith
 
 pub lived_come : (t : Tree) (old new : List Table) (a : ℕ) (u : List ℕ) → IsReducts (both t old) → a < t.leaves
-    → Lived t old new a u → HaveCome t old new a (u ∷ [])
+    → InsertedUpwards t old new a u → HaveCome t old new a (u ∷ [])
 lived_come t old new a u r h l = record {
   sound = reducts_lived t old new a u r h l;
   leaf = λ v. omega (
@@ -203,7 +203,7 @@ can_come t old mid a us r b x p = record {
 }
 
 pub can_insert : (t : Tree) (old mid : List Table) (a : ℕ) (u : List ℕ) → IsReducts (both t old) → a < t.leaves
-    → IsBare old → Lived t old mid a u → CameAs true old mid → CanWalk t mid a false
+    → IsBare old → InsertedUpwards t old mid a u → CameAs true old mid → CanWalk t mid a false
 can_insert t old mid a u r h b l p = can_come t old mid a (u ∷ []) r b (lived_come t old mid a u r h l) p
 
 pub can_remove : (t : Tree) (old mid : List Table) (a : ℕ) (f : List ℕ → ℕ) → IsReducts (both t old) → a < t.leaves
@@ -283,7 +283,7 @@ inserted_one old new a u x = record
     { sound = x.sound; without = x.without; marked = λ v. x.marked v ∙ times_one u v; are_marks = x.are_marks }
 
 pub inserted_all : (t : Tree) (old mid new : List Table) (a : ℕ) (u : List ℕ) → IsReducts (both t old) → a < t.leaves
-    → IsBare old → Lived t old mid a u → CameAs true old mid → IsTouchedUp t mid new a
+    → IsBare old → InsertedUpwards t old mid a u → CameAs true old mid → IsTouchedUp t mid new a
     → IsWalked t mid new a false (length t.nodes) → HasInserted (both t old) (both t new) a u
 inserted_all t old mid new a u r h b l p x walk = inserted_one (both t old) (both t new) a u
     (all_inserted t old mid new a (u ∷ []) r h b (lived_come t old mid a u r h l) p x walk)
@@ -341,7 +341,7 @@ taking_none t ts a r = record
     { sound = r; unmarked = λ v. refl; others = λ j v low apart. refl; lesser = fewer_refl ts }
 
 pub taking_more : (t : Tree) (old mid new : List Table) (a : ℕ) (u : List ℕ) → a < t.leaves → IsTaking t old mid a
-    → Died t mid new a u → Fewer mid new → 0 < cnt (marks (entries_at mid a)) u → IsTaking t old new a
+    → RemovedUpwards t mid new a u → Fewer mid new → 0 < cnt (marks (entries_at mid a)) u → IsTaking t old new a
 taking_more t old mid new a u h x d w marked = record {
   sound = reducts_died t mid new a u x.sound h d;
   unmarked = λ v. stays v ∙ x.unmarked v;

@@ -22,21 +22,21 @@ pub record IsTouched (t : Tree) (old new : List Table) (k : ℕ) (f : List ℕ �
 
 -- whether a trim's tuple with so many unmarked ones of its child is to be marked: where tuples are to go,
 -- only if all of them are
-unfoldable pub gate : Bool → ℕ → Bool
-gate false n = true
-gate true n = n == 0
+unfoldable pub is_marked_by : Bool → ℕ → Bool
+is_marked_by false n = true
+is_marked_by true n = n == 0
 
 -- what a marked tuple u of the child j reaches at a node, and what the marked tuples es reach
 unfoldable pub reach_one : Node → Bool → ℕ → List Table → List ℕ → List ℕ → ℕ
 reach_one (Leaf a) going j ts u w = 0
 reach_one (Trim c) going j ts u w = one (same (pick (key_at ts c) u) w) * one
-    (gate going (many (key_at ts c) (plain (entries_at ts c)) w))
+    (is_marked_by going (many (key_at ts c) (plain (entries_at ts c)) w))
 reach_one (Meet g s) going j ts u w = cond (g == j) (one (same u w)) (cnt (grp (key_at ts g) (entries_at ts g) u) w)
 
 unfoldable pub reach : Node → Bool → ℕ → List Table → List Entry → List ℕ → ℕ
 reach (Leaf a) going j ts es w = 0
 reach (Trim c) going j ts es w = many (key_at ts c) es w * one
-    (gate going (many (key_at ts c) (plain (entries_at ts c)) w))
+    (is_marked_by going (many (key_at ts c) (plain (entries_at ts c)) w))
 reach (Meet g s) going j ts es w = cond (g == j) (cnt es w) (cnt (entries_at ts g) w * cnt es (pick (key_at ts g) w))
 
 -- what it counts

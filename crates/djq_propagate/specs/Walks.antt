@@ -33,7 +33,7 @@ abbrev pub IsBelow : Tree → ℕ → ℕ → Type 0
 IsBelow t j i = (i ≢ j) × ((k : ℕ) → has_child (node_at t.nodes k) j ≡ true → i < k)
 
 -- the node j has gained the tuple u, and those above it what it brings
-pub record Lived (t : Tree) (old new : List Table) (j : ℕ) (u : List ℕ) : Type 0 where
+pub record InsertedUpwards (t : Tree) (old new : List Table) (j : ℕ) (u : List ℕ) : Type 0 where
   pub family : IsFamily t new
   pub mark : Bool
   pub gains : InsertedAs mark (key_at old j) (entries_at old j) (entries_at new j) u
@@ -41,7 +41,7 @@ pub record Lived (t : Tree) (old new : List Table) (j : ℕ) (u : List ℕ) : Ty
   pub reduced : AreReduced t new (j + 1)
 
 -- the node j has lost the tuple u, and those above it what it took away
-pub record Died (t : Tree) (old new : List Table) (j : ℕ) (u : List ℕ) : Type 0 where
+pub record RemovedUpwards (t : Tree) (old new : List Table) (j : ℕ) (u : List ℕ) : Type 0 where
   pub family : IsFamily t new
   pub loses : Removed (entries_at old j) (entries_at new j) u
   pub below : (i : ℕ) → IsBelow t j i → entries_at new i ≡ entries_at old i
@@ -54,30 +54,30 @@ pub record Refused (t : Tree) (old new : List Table) (j : ℕ) : Type 0 where
   pub below : (i : ℕ) → IsBelow t j i → entries_at new i ≡ entries_at old i
 
 -- the table of the node j has changed, and those above it were right before
-pub record Began (t : Tree) (was now : List Table) (j : ℕ) : Type 0 where
+pub record ChangedOnlyAt (t : Tree) (was now : List Table) (j : ℕ) : Type 0 where
   pub ready : Ready t was j
   pub changed : Changed was now j
 
 pub record Gaining (t : Tree) (now : List Table) (j : ℕ) (u : List ℕ) : Type 0 where
   pub was : List Table
-  pub began : Began t was now j
+  pub began : ChangedOnlyAt t was now j
   pub mark : Bool
   pub gains : InsertedAs mark (key_at was j) (entries_at was j) (entries_at now j) u
 
 pub record Losing (t : Tree) (now : List Table) (j : ℕ) (u : List ℕ) : Type 0 where
   pub was : List Table
-  pub began : Began t was now j
+  pub began : ChangedOnlyAt t was now j
   pub loses : Removed (entries_at was j) (entries_at now j) u
 
 -- the tables above the node j are right again
-pub record Righted (t : Tree) (old new : List Table) (j : ℕ) : Type 0 where
+pub record ReducedAbove (t : Tree) (old new : List Table) (j : ℕ) : Type 0 where
   pub family : IsFamily t new
   pub at : entries_at new j ≡ entries_at old j
   pub below : (i : ℕ) → IsBelow t j i → entries_at new i ≡ entries_at old i
   pub reduced : AreReduced t new (j + 1)
 
 -- or all is as it was, but for the order in groups above the node j
-pub record Stayed (t : Tree) (old new : List Table) (j : ℕ) : Type 0 where
+pub record UnchangedAbove (t : Tree) (old new : List Table) (j : ℕ) : Type 0 where
   pub family : IsFamily t new
   pub at : entries_at new j ≡ entries_at old j
   pub supports : (i : ℕ) (v : List ℕ) → supp (entries_at new i) v ≡ supp (entries_at old i) v

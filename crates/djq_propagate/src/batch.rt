@@ -8,7 +8,7 @@ ghost use Rattle.djq_propagate.specs.Batches.{AreNew, AreThere, HasInsertedAll, 
 ghost use Rattle.djq_propagate.specs.Bounds.{after_insert, after_refusal, after_add, after_take};
 ghost use Rattle.djq_propagate.specs.Updates.{HasKept, HasAtMost};
 
-use crate::many::{kill_all, live_all};
+use crate::many::{remove_all, insert_all};
 use crate::path::touch_path;
 use djq_reduct::{Cells, Reducts};
 use djq_steps::Tally;
@@ -36,7 +36,7 @@ pub fn insert_leaf_many<L: Ledger>(
     ensures counted { IfOk result (λ _. (n : ℕ) → 0 < n → HasAtMost reducts.new n → tally.new ≤ after_insert reducts.old.tree n tally.old) }
     ensures bounded { OnErr result ((n : ℕ) → HasAtMost reducts.old n → length (entries_at reducts.old.tables leaf) + length tuples.now ≤ n → tally.new ≤ after_refusal reducts.old.tree n tally.old) }
 {
-    live_all(
+    insert_all(
         &reducts.tree,
         &mut reducts.tables,
         leaf,
@@ -65,7 +65,7 @@ pub fn add_leaf_many<L: Ledger>(
     ensures counted { IfOk result (λ _. (n : ℕ) → HasAtMost reducts.new n → tally.new ≤ after_add reducts.old.tree n tally.old) }
     ensures bounded { OnErr result ((n : ℕ) → HasAtMost reducts.old n → length (entries_at reducts.old.tables leaf) + length tuples.now ≤ n → tally.new ≤ after_refusal reducts.old.tree n tally.old) }
 {
-    live_all(
+    insert_all(
         &reducts.tree,
         &mut reducts.tables,
         leaf,
@@ -90,7 +90,7 @@ pub fn drop_leaf_many<L: Ledger>(
     ensures lost { HasLostAll reducts.old reducts.new leaf tuples.now }
     ensures counted { (n : ℕ) → HasAtMost reducts.old n → tally.new ≤ after_take reducts.old.tree n tally.old }
 {
-    kill_all(
+    remove_all(
         &reducts.tree,
         &mut reducts.tables,
         leaf,

@@ -40,8 +40,8 @@
 #![tactic(auto)]
 
 mod batch;
-mod kill;
-mod live;
+mod removal;
+mod insertion;
 mod many;
 mod path;
 mod tables;

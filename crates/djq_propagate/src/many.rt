@@ -10,8 +10,8 @@ ghost use Rattle.djq_propagate.specs.Walks.{CameAs, Fewer};
 ghost use Rattle.djq_propagate.specs.Updates.{HasAtMost, HasKept};
 ghost use Rattle.djq_propagate.specs.Batches.{AreNew, AreThere, HaveCome, HaveGone};
 
-use crate::kill::kill_tuple;
-use crate::live::live;
+use crate::removal::find_and_remove;
+use crate::insertion::insert_tuple;
 use djq_index::Table;
 use djq_reduct::Cells;
 use djq_steps::Tally;
@@ -21,7 +21,7 @@ use std::sync::ledger::Ledger;
 
 /// Puts tuples into a leaf, and what they bring into the tables above; they come marked or not. Where one
 /// is refused for want of memory, those before it are taken out again.
-pub(crate) fn live_all<L: Ledger>(
+pub(crate) fn insert_all<L: Ledger>(
     tree: &Tree,
     tables: &mut Vec<Table>,
     leaf: usize,
@@ -41,10 +41,10 @@ pub(crate) fn live_all<L: Ledger>(
     ensures bounded { OnErr result ((n : ℕ) → HasAtMost (record { tree = tree.now; tables = tables.old.items }) n → length (entries_at tables.old.items leaf) + length tuples.now ≤ n → tally.new + 9 * size tables.old.items ≤ tally.old + 9 * (n * length tree.now.nodes)) }
 {
     for i in 0..tuples.len() {
-        match live(tree, tables, leaf, tuples[i].as_slice(), marked, tally) {
+        match insert_tuple(tree, tables, leaf, tuples[i].as_slice(), marked, tally) {
             Ok(()) => {}
             Err(error) => {
-                kill_all(tree, tables, leaf, tuples, i, tally);
+                remove_all(tree, tables, leaf, tuples, i, tally);
                 return Err(error);
             }
         }
@@ -53,7 +53,7 @@ pub(crate) fn live_all<L: Ledger>(
 }
 
 /// Takes the first `count` of some tuples out of a leaf, and what goes with them out of the tables above.
-pub(crate) fn kill_all<L: Ledger>(
+pub(crate) fn remove_all<L: Ledger>(
     tree: &Tree,
     tables: &mut Vec<Table>,
     leaf: usize,
@@ -70,6 +70,6 @@ pub(crate) fn kill_all<L: Ledger>(
     ensures counted { tally.new + 5 * size tables.new.items ≤ tally.old + 5 * size tables.old.items }
 {
     for i in 0..count {
-        kill_tuple(tree, tables, leaf, tuples[i].as_slice(), tally);
+        find_and_remove(tree, tables, leaf, tuples[i].as_slice(), tally);
     }
 }

@@ -12,7 +12,7 @@ ghost use Rattle.djq_propagate.specs.Touches.{CanWalk, HaveFew, IsTouched, IsTou
 ghost use Rattle.djq_propagate.specs.Walks.{Changed};
 ghost use Rattle.djq_propagate.specs.Updates.{HasCleared, HasTaken, steps};
 
-use crate::kill::kill;
+use crate::removal::remove_tuple;
 use crate::tables::{clear_at, first_marked_at, len_at, read_at};
 use crate::touch::touch_step;
 use djq_index::Table;
@@ -140,7 +140,7 @@ pub(crate) fn take_marked<L: Ledger>(
         match first_marked_at(tables, leaf, tally) {
             Some(place) => {
                 read_at(tables, leaf, place, &mut tuple);
-                kill(tree, tables, leaf, place, tuple.as_slice(), tally);
+                remove_tuple(tree, tables, leaf, place, tuple.as_slice(), tally);
             }
             None => {
                 return;

@@ -8,7 +8,7 @@ ghost use Rattle.djq_tree.specs.Tree.{node_at};
 ghost use Rattle.djq_tree.specs.declared.node.Node.TheVariants.{Trim};
 ghost use Rattle.djq_reduct.specs.Tables.{entries_at, key_at, width_at};
 ghost use Rattle.djq_reduct.specs.Reducts.{IsFamily};
-ghost use Rattle.djq_propagate.specs.Touches.{IsTouched, IsStep, gate, reach_one, reach, cost_one};
+ghost use Rattle.djq_propagate.specs.Touches.{IsTouched, IsStep, is_marked_by, reach_one, reach, cost_one};
 ghost use Rattle.djq_propagate.specs.Walks.{IsUnder};
 
 use crate::tables::{
@@ -46,7 +46,7 @@ pub(crate) fn touch_tuple<L: Ledger>(
 }
 
 /// Whether a trim's tuple is to be marked; where its child's tuples are to go, only if all are marked.
-fn is_going<L: Ledger>(
+fn is_to_be_marked<L: Ledger>(
     tree: &Tree,
     tables: &Vec<Table>,
     at: usize,
@@ -56,7 +56,7 @@ fn is_going<L: Ledger>(
 ) -> bool
     requires family { IsFamily tree.now tables.now.items }
     requires within { at < length tree.now.nodes }
-    ensures going { result ≡ gate going (many (key_at tables.now.items at) (plain (entries_at tables.now.items at)) cells.now) }
+    ensures going { result ≡ is_marked_by going (many (key_at tables.now.items at) (plain (entries_at tables.now.items at)) cells.now) }
     ensures counted { tally.new ≤ tally.old + 1 }
 {
     if going {
@@ -89,7 +89,7 @@ fn touch_part<L: Ledger>(
     let mut part = Cells::new(0);
     part_of(tables, at, tuple, &mut part);
     let cells = part.as_slice();
-    if is_going(tree, tables, at, cells, going, tally) {
+    if is_to_be_marked(tree, tables, at, cells, going, tally) {
         touch_tuple(tree, tables, up, cells, tally);
     }
 }

@@ -13,8 +13,8 @@ ghost use Rattle.djq_propagate.specs.Touches.{HaveFew};
 ghost use Rattle.djq_propagate.specs.Updates.{HasInserted, HasMarked, HasKept, HasDropped, HasGained, HasLost, HasAtMost};
 ghost use Rattle.djq_propagate.specs.Bounds.{after_insert, after_refusal, after_mark, after_keep, after_drop, after_add, after_take, HasVariables, AddUp};
 
-use crate::kill::kill_tuple;
-use crate::live::live;
+use crate::removal::find_and_remove;
+use crate::insertion::insert_tuple;
 use crate::path::{clear_path, take_marked, touch_path};
 use crate::touch::touch_tuple;
 use djq_reduct::Reducts;
@@ -45,7 +45,7 @@ pub fn insert_leaf<L: Ledger>(
     ensures flat { IfOk result (λ _. HasEqualMeets reducts.old.tree → tally.new ≤ after_insert reducts.old.tree 1 tally.old) }
     ensures flat_refused { OnErr result (HasEqualMeets reducts.old.tree → tally.new ≤ after_refusal reducts.old.tree 1 tally.old) }
 {
-    live(&reducts.tree, &mut reducts.tables, leaf, tuple, true, tally)?;
+    insert_tuple(&reducts.tree, &mut reducts.tables, leaf, tuple, true, tally)?;
     touch_path(&reducts.tree, &mut reducts.tables, leaf, false, tally);
     Ok(())
 }
@@ -70,7 +70,7 @@ pub fn add_leaf<L: Ledger>(
     ensures flat { IfOk result (λ _. HasEqualMeets reducts.old.tree → tally.new ≤ after_add reducts.old.tree 1 tally.old) }
     ensures flat_refused { OnErr result (HasEqualMeets reducts.old.tree → tally.new ≤ after_refusal reducts.old.tree 1 tally.old) }
 {
-    live(
+    insert_tuple(
         &reducts.tree,
         &mut reducts.tables,
         leaf,
@@ -91,7 +91,7 @@ pub fn drop_leaf<L: Ledger>(reducts: &mut Reducts, leaf: usize, tuple: &[u64], t
     ensures counted { (n : ℕ) → HasAtMost reducts.old n → tally.new ≤ after_take reducts.old.tree n tally.old }
     ensures flat { HasEqualMeets reducts.old.tree → tally.new ≤ after_take reducts.old.tree 1 tally.old }
 {
-    kill_tuple(&reducts.tree, &mut reducts.tables, leaf, tuple, tally);
+    find_and_remove(&reducts.tree, &mut reducts.tables, leaf, tuple, tally);
 }
 
 /// Marks a tuple of a leaf, and what goes with it, for a removal that [`finish_removal`] ends. It takes no

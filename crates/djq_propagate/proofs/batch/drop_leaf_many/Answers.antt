@@ -8,34 +8,34 @@ use Rattle.djq_propagate.proofs.Plains.{fewer_bare}
 use Rattle.djq_propagate.proofs.Updating.{rest_kept}
 use Rattle.djq_propagate.proofs.batch.drop_leaf_many.Goals as goal
 
-pub kill_all-requires-clause-there : goal.kill_all-requires-clause-there
-kill_all-requires-clause-there g c =
+pub remove_all-requires-clause-there : goal.remove_all-requires-clause-there
+remove_all-requires-clause-there g c =
     subst (λ (us : List (List ℕ)). AreThere (entries_at c.reducts.inside.tables.items c.args.leaf) us)
     (sym (take-length c.args.tuples.now)) (rw (← c.reducts.view_is) at c.requires.there)
 
 pub returns-clause-lost : goal.returns-clause-lost
 returns-clause-lost g c = rw (← c.reducts.view_is) (
-    all_lost c.reducts.inside.tree c.reducts.inside.tables.items c.kill_all.new.tables.items c.args.leaf
-    c.args.tuples.now (fewer_bare c.reducts.inside.tables.items c.kill_all.new.tables.items c.kill_all.ensures.fewer
+    all_lost c.reducts.inside.tree c.reducts.inside.tables.items c.remove_all.new.tables.items c.args.leaf
+    c.args.tuples.now (fewer_bare c.reducts.inside.tables.items c.remove_all.new.tables.items c.remove_all.ensures.fewer
     (rw (← c.reducts.view_is) at c.requires.bare))
     (subst (λ (us : List (List ℕ)). HaveGone c.reducts.inside.tree c.reducts.inside.tables.items
-    c.kill_all.new.tables.items c.args.leaf us) (take-length c.args.tuples.now) c.kill_all.ensures.gone))
+    c.remove_all.new.tables.items c.args.leaf us) (take-length c.args.tuples.now) c.remove_all.ensures.gone))
 
 pub returns-clause-counted : goal.returns-clause-counted
 returns-clause-counted g c = rw (← c.reducts.view_is) (
     λ n few.
-    gone_by c.reducts.inside.tree c.reducts.inside.tables.items c.kill_all.new.tables.items c.args.leaf
-    c.args.tuples.now n c.args.tally.now c.kill_all.new.tally c.reducts.invariant.0
+    gone_by c.reducts.inside.tree c.reducts.inside.tables.items c.remove_all.new.tables.items c.args.leaf
+    c.args.tuples.now n c.args.tally.now c.remove_all.new.tally c.reducts.invariant.0
     (subst (λ (us : List (List ℕ)). HaveGone c.reducts.inside.tree c.reducts.inside.tables.items
-    c.kill_all.new.tables.items c.args.leaf us) (take-length c.args.tuples.now) c.kill_all.ensures.gone)
+    c.remove_all.new.tables.items c.args.leaf us) (take-length c.args.tuples.now) c.remove_all.ensures.gone)
     (λ i. let s = sized c.reducts.inside.tree c.reducts.inside.tables.items n c.reducts.invariant.0 few i in omega
-    arith) c.kill_all.ensures.counted)
+    arith) c.remove_all.ensures.counted)
 
 pub invariant_of-reducts : goal.invariant_of-reducts
 invariant_of-reducts g c =
     rest_kept c.reducts.invariant
-    (all_lost c.reducts.inside.tree c.reducts.inside.tables.items c.kill_all.new.tables.items c.args.leaf
-    c.args.tuples.now (fewer_bare c.reducts.inside.tables.items c.kill_all.new.tables.items c.kill_all.ensures.fewer
+    (all_lost c.reducts.inside.tree c.reducts.inside.tables.items c.remove_all.new.tables.items c.args.leaf
+    c.args.tuples.now (fewer_bare c.reducts.inside.tables.items c.remove_all.new.tables.items c.remove_all.ensures.fewer
     (rw (← c.reducts.view_is) at c.requires.bare))
     (subst (λ (us : List (List ℕ)). HaveGone c.reducts.inside.tree c.reducts.inside.tables.items
-    c.kill_all.new.tables.items c.args.leaf us) (take-length c.args.tuples.now) c.kill_all.ensures.gone)).sound
+    c.remove_all.new.tables.items c.args.leaf us) (take-length c.args.tuples.now) c.remove_all.ensures.gone)).sound

@@ -8,71 +8,71 @@ use Rattle.djq_propagate.proofs.Updating.{rest_kept, both, can_come, all_inserte
 use Rattle.djq_propagate.proofs.batch.insert_leaf_many.Goals as goal
 
 pub touch_path-requires-clause-family : goal.touch_path-requires-clause-family
-touch_path-requires-clause-family g c = c.in_ok-live_all.ensures.come.sound.family
+touch_path-requires-clause-family g c = c.in_ok-insert_all.ensures.come.sound.family
 
 pub touch_path-requires-clause-leaf : goal.touch_path-requires-clause-leaf
 touch_path-requires-clause-leaf g c = rw (← c.reducts.view_is) at c.requires.leaf
 
 pub touch_path-requires-clause-can : goal.touch_path-requires-clause-can
 touch_path-requires-clause-can g c =
-    can_come c.reducts.inside.tree c.reducts.inside.tables.items c.live_all.new.tables.items c.args.leaf
+    can_come c.reducts.inside.tree c.reducts.inside.tables.items c.insert_all.new.tables.items c.args.leaf
     c.args.tuples.now
-    c.reducts.invariant.0 (rw (← c.reducts.view_is) at c.requires.bare) c.in_ok-live_all.ensures.come
-    c.in_ok-live_all.ensures.plain
+    c.reducts.invariant.0 (rw (← c.reducts.view_is) at c.requires.bare) c.in_ok-insert_all.ensures.come
+    c.in_ok-insert_all.ensures.plain
 
 pub returns-clause-inserted : goal.returns-clause-inserted
 returns-clause-inserted g c = rw (← c.reducts.view_is) (
-    all_inserted c.reducts.inside.tree c.reducts.inside.tables.items c.live_all.new.tables.items
+    all_inserted c.reducts.inside.tree c.reducts.inside.tables.items c.insert_all.new.tables.items
     c.touch_path.new.tables.items
     c.args.leaf c.args.tuples.now c.reducts.invariant.0 (rw (← c.reducts.view_is) at c.requires.leaf)
-    (rw (← c.reducts.view_is) at c.requires.bare) c.in_ok-live_all.ensures.come
-    c.in_ok-live_all.ensures.plain c.touch_path.ensures.touched c.touch_path.ensures.walked)
+    (rw (← c.reducts.view_is) at c.requires.bare) c.in_ok-insert_all.ensures.come
+    c.in_ok-insert_all.ensures.plain c.touch_path.ensures.touched c.touch_path.ensures.walked)
 
 pub returns-clause-counted : goal.returns-clause-counted
 returns-clause-counted g c = rw (← c.reducts.view_is) (
     λ n some few.
-    let come = c.in_ok-live_all.ensures.come in
-    let all = all_inserted c.reducts.inside.tree c.reducts.inside.tables.items c.live_all.new.tables.items
+    let come = c.in_ok-insert_all.ensures.come in
+    let all = all_inserted c.reducts.inside.tree c.reducts.inside.tables.items c.insert_all.new.tables.items
     c.touch_path.new.tables.items c.args.leaf c.args.tuples.now c.reducts.invariant.0
     (rw (← c.reducts.view_is) at c.requires.leaf) (rw (← c.reducts.view_is) at c.requires.bare)
-    come c.in_ok-live_all.ensures.plain c.touch_path.ensures.touched c.touch_path.ensures.walked in
-    put_all_counted c.reducts.inside.tree c.reducts.inside.tables.items c.live_all.new.tables.items
+    come c.in_ok-insert_all.ensures.plain c.touch_path.ensures.touched c.touch_path.ensures.walked in
+    put_all_counted c.reducts.inside.tree c.reducts.inside.tables.items c.insert_all.new.tables.items
     c.touch_path.new.tables.items
-    c.args.leaf c.args.tuples.now n c.args.tally.now c.live_all.new.tally c.touch_path.new.tally c.reducts.invariant.0
-    come c.touch_path.ensures.touched all.sound some few c.in_ok-live_all.ensures.counted
+    c.args.leaf c.args.tuples.now n c.args.tally.now c.insert_all.new.tally c.touch_path.new.tally c.reducts.invariant.0
+    come c.touch_path.ensures.touched all.sound some few c.in_ok-insert_all.ensures.counted
     c.touch_path.ensures.counted)
 
-pub returns-in_err-live_all-clause-refused : goal.returns-in_err-live_all-clause-refused
-returns-in_err-live_all-clause-refused g c = rw (← c.reducts.view_is) (
+pub returns-in_err-insert_all-clause-refused : goal.returns-in_err-insert_all-clause-refused
+returns-in_err-insert_all-clause-refused g c = rw (← c.reducts.view_is) (
     on_err c.from_residual.result
     (HasKept (both c.reducts.inside.tree c.reducts.inside.tables.items)
-    (both c.reducts.inside.tree c.live_all.new.tables.items)) c.in_err-live_all.ensures.refused)
+    (both c.reducts.inside.tree c.insert_all.new.tables.items)) c.in_err-insert_all.ensures.refused)
 
-pub returns-in_err-live_all-clause-bounded : goal.returns-in_err-live_all-clause-bounded
-returns-in_err-live_all-clause-bounded g c = rw (← c.reducts.view_is) (
+pub returns-in_err-insert_all-clause-bounded : goal.returns-in_err-insert_all-clause-bounded
+returns-in_err-insert_all-clause-bounded g c = rw (← c.reducts.view_is) (
     on_err c.from_residual.result
     ((n : ℕ) → HasAtMost (both c.reducts.inside.tree c.reducts.inside.tables.items) n
     → length (entries_at c.reducts.inside.tables.items c.args.leaf) + length c.args.tuples.now ≤ n
-    → c.live_all.new.tally ≤ c.args.tally.now + 18 * (paths c.reducts.inside.tree * n))
+    → c.insert_all.new.tally ≤ c.args.tally.now + 18 * (paths c.reducts.inside.tree * n))
     (λ n few room. refusal_bounded c.reducts.inside.tree c.reducts.inside.tables.items n c.args.tally.now
-    c.live_all.new.tally c.reducts.invariant.0 (c.in_err-live_all.ensures.bounded n few room)))
+    c.insert_all.new.tally c.reducts.invariant.0 (c.in_err-insert_all.ensures.bounded n few room)))
 
-pub returns-in_err-live_all-clause-inserted : goal.returns-in_err-live_all-clause-inserted
-returns-in_err-live_all-clause-inserted g c = search rules
+pub returns-in_err-insert_all-clause-inserted : goal.returns-in_err-insert_all-clause-inserted
+returns-in_err-insert_all-clause-inserted g c = search rules
 
-pub returns-in_err-live_all-clause-counted : goal.returns-in_err-live_all-clause-counted
-returns-in_err-live_all-clause-counted g c = search rules
+pub returns-in_err-insert_all-clause-counted : goal.returns-in_err-insert_all-clause-counted
+returns-in_err-insert_all-clause-counted g c = search rules
 
 pub invariant_of-reducts : goal.invariant_of-reducts
 invariant_of-reducts g c =
     rest_kept c.reducts.invariant
-    c.in_err-live_all.ensures.refused.sound
+    c.in_err-insert_all.ensures.refused.sound
 
 pub invariant_of-reducts-2 : goal.invariant_of-reducts-2
 invariant_of-reducts-2 g c =
     rest_kept c.reducts.invariant
-    (all_inserted c.reducts.inside.tree c.reducts.inside.tables.items c.live_all.new.tables.items
+    (all_inserted c.reducts.inside.tree c.reducts.inside.tables.items c.insert_all.new.tables.items
     c.touch_path.new.tables.items
     c.args.leaf c.args.tuples.now c.reducts.invariant.0 (rw (← c.reducts.view_is) at c.requires.leaf)
-    (rw (← c.reducts.view_is) at c.requires.bare) c.in_ok-live_all.ensures.come
-    c.in_ok-live_all.ensures.plain c.touch_path.ensures.touched c.touch_path.ensures.walked).sound
+    (rw (← c.reducts.view_is) at c.requires.bare) c.in_ok-insert_all.ensures.come
+    c.in_ok-insert_all.ensures.plain c.touch_path.ensures.touched c.touch_path.ensures.walked).sound

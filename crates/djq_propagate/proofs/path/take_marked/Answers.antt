@@ -3,7 +3,7 @@ use Rattle.djq_index.specs.Table.{IsAt}
 use Rattle.djq_index.specs.Entries.{marks}
 use Rattle.djq_index.proofs.Changing.{removed_length}
 use Rattle.djq_reduct.specs.Tables.{entries_at}
-use Rattle.djq_propagate.specs.Walks.{Died}
+use Rattle.djq_propagate.specs.Walks.{RemovedUpwards}
 use Rattle.djq_propagate.proofs.Gains.{width_narrow}
 use Rattle.djq_propagate.proofs.Sides.{head_none}
 use Rattle.djq_propagate.proofs.Going.{has_table, as_live}
@@ -30,8 +30,8 @@ first_marked_at-requires g c =
     has_table c.args.tree.now c.loop-done.tables.items c.args.leaf c.loop-done.invariant.taking.sound.family
     (leaf_within c.args.tree.now c.args.leaf c.requires.reducts.family.is_tree c.requires.leaf)
 
-pub kill-requires-clause-ready : goal.kill-requires-clause-ready
-kill-requires-clause-ready g c =
+pub remove_tuple-requires-clause-ready : goal.remove_tuple-requires-clause-ready
+remove_tuple-requires-clause-ready g c =
     ready_leaf c.args.tree.now c.loop-done.tables.items c.args.leaf c.loop-done.invariant.taking.sound c.requires.leaf
 
 pub read_at-requires-clause-within : goal.read_at-requires-clause-within
@@ -50,8 +50,8 @@ read_at-requires-clause-live g c =
     (sym c.first_marked_at.ensures.found ∙ c.in-Some.is) in
     as_live (entries_at c.loop-done.tables.items c.args.leaf) c.in-Some.place m.tuple m.is_at
 
-pub kill-requires-clause-lies : goal.kill-requires-clause-lies
-kill-requires-clause-lies g c =
+pub remove_tuple-requires-clause-lies : goal.remove_tuple-requires-clause-lies
+remove_tuple-requires-clause-lies g c =
     let m = first_mark (entries_at c.loop-done.tables.items c.args.leaf) c.in-Some.place
     (sym c.first_marked_at.ensures.found ∙ c.in-Some.is) in
     subst (λ (u : List ℕ). IsAt (entries_at c.loop-done.tables.items c.args.leaf) c.in-Some.place u)
@@ -66,18 +66,18 @@ pub loop-done-preserved : goal.loop-done-preserved
 loop-done-preserved g c =
     let m = first_mark (entries_at c.loop-done.tables.items c.args.leaf) c.in-Some.place
     (sym c.first_marked_at.ensures.found ∙ c.in-Some.is) in
-    let died = subst (λ (u : List ℕ). Died c.args.tree.now c.loop-done.tables.items c.kill.new.tables.items c.args.leaf
-    u) (c.as_slice.ensures ∙ c.read_at.ensures.tuple m.tuple m.is_at) c.kill.ensures.died in
+    let died = subst (λ (u : List ℕ). RemovedUpwards c.args.tree.now c.loop-done.tables.items c.remove_tuple.new.tables.items c.args.leaf
+    u) (c.as_slice.ensures ∙ c.read_at.ensures.tuple m.tuple m.is_at) c.remove_tuple.ensures.died in
     record {
-      taking = taking_more c.args.tree.now c.args.tables.now.items c.loop-done.tables.items c.kill.new.tables.items
-          c.args.leaf m.tuple c.requires.leaf c.loop-done.invariant.taking died c.kill.ensures.fewer m.some;
+      taking = taking_more c.args.tree.now c.args.tables.now.items c.loop-done.tables.items c.remove_tuple.new.tables.items
+          c.args.leaf m.tuple c.requires.leaf c.loop-done.invariant.taking died c.remove_tuple.ensures.fewer m.some;
       few = omega (
         arith,
         c.loop-done.invariant.few,
         removed_length (entries_at c.loop-done.tables.items c.args.leaf)
-            (entries_at c.kill.new.tables.items c.args.leaf) m.tuple died.loses,
+            (entries_at c.remove_tuple.new.tables.items c.args.leaf) m.tuple died.loses,
       );
-      counted = omega (arith, c.loop-done.invariant.counted, c.kill.ensures.counted, c.first_marked_at.ensures.counted);
+      counted = omega (arith, c.loop-done.invariant.counted, c.remove_tuple.ensures.counted, c.first_marked_at.ensures.counted);
     }
 
 pub returns-in-None-clause-taken : goal.returns-in-None-clause-taken

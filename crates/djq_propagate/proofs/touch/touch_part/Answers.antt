@@ -24,12 +24,12 @@ pub part_of-requires-clause-wide : goal.part_of-requires-clause-wide
 part_of-requires-clause-wide g c =
     c.requires.wide
 
-pub is_going-requires-clause-family : goal.is_going-requires-clause-family
-is_going-requires-clause-family g c =
+pub is_to_be_marked-requires-clause-family : goal.is_to_be_marked-requires-clause-family
+is_to_be_marked-requires-clause-family g c =
     c.requires.family
 
-pub is_going-requires-clause-within : goal.is_going-requires-clause-within
-is_going-requires-clause-within g c =
+pub is_to_be_marked-requires-clause-within : goal.is_to_be_marked-requires-clause-within
+is_to_be_marked-requires-clause-within g c =
     c.requires.within
 
 pub touch_tuple-requires-clause-family : goal.touch_tuple-requires-clause-family
@@ -40,31 +40,31 @@ pub touch_tuple-requires-clause-within : goal.touch_tuple-requires-clause-within
 touch_tuple-requires-clause-within g c =
     c.requires.under.within
 
-pub returns-then-is_going-clause-touched : goal.returns-then-is_going-clause-touched
-returns-then-is_going-clause-touched g c =
+pub returns-then-is_to_be_marked-clause-touched : goal.returns-then-is_to_be_marked-clause-touched
+returns-then-is_to_be_marked-clause-touched g c =
     touched_as c.args.tree.now c.args.tables.now.items c.touch_tuple.new.tables.items c.args.up
     (λ v. one (same c.as_slice-cells.result.now v))
     (λ v. reach_one (Trim c.args.at) c.args.going c.args.at c.args.tables.now.items c.args.tuple.now v)
     c.touch_tuple.ensures.touched
     (λ v. reach_yes c.args.at c.args.tables.now.items c.args.tuple.now v c.as_slice-cells.result.now c.args.going
-    c.is_going.result (c.as_slice-cells.ensures ∙ c.part_of.ensures) c.is_going.ensures.going c.if-is_going.true)
+    c.is_to_be_marked.result (c.as_slice-cells.ensures ∙ c.part_of.ensures) c.is_to_be_marked.ensures.going c.if-is_to_be_marked.true)
 
-pub returns-then-is_going-clause-counted : goal.returns-then-is_going-clause-counted
-returns-then-is_going-clause-counted g c =
-    omega (arith, c.is_going.ensures.counted, c.touch_tuple.ensures.counted)
+pub returns-then-is_to_be_marked-clause-counted : goal.returns-then-is_to_be_marked-clause-counted
+returns-then-is_to_be_marked-clause-counted g c =
+    omega (arith, c.is_to_be_marked.ensures.counted, c.touch_tuple.ensures.counted)
 
-pub returns-else-is_going-clause-touched : goal.returns-else-is_going-clause-touched
-returns-else-is_going-clause-touched g c =
+pub returns-else-is_to_be_marked-clause-touched : goal.returns-else-is_to_be_marked-clause-touched
+returns-else-is_to_be_marked-clause-touched g c =
     touched_none c.args.tree.now c.args.tables.now.items c.args.up
     (λ v. reach_one (Trim c.args.at) c.args.going c.args.at c.args.tables.now.items c.args.tuple.now v)
     c.requires.family (λ v there some. absurd
     (omega (
       arith,
       reach_no c.args.at c.args.tables.now.items c.args.tuple.now v c.as_slice-cells.result.now
-          c.args.going c.is_going.result (c.as_slice-cells.ensures ∙ c.part_of.ensures) c.is_going.ensures.going
-          c.if-is_going.false,
+          c.args.going c.is_to_be_marked.result (c.as_slice-cells.ensures ∙ c.part_of.ensures) c.is_to_be_marked.ensures.going
+          c.if-is_to_be_marked.false,
     )))
 
-pub returns-else-is_going-clause-counted : goal.returns-else-is_going-clause-counted
-returns-else-is_going-clause-counted g c =
-    omega (arith, c.is_going.ensures.counted)
+pub returns-else-is_to_be_marked-clause-counted : goal.returns-else-is_to_be_marked-clause-counted
+returns-else-is_to_be_marked-clause-counted g c =
+    omega (arith, c.is_to_be_marked.ensures.counted)

@@ -13,60 +13,60 @@ use Rattle.djq_propagate.proofs.Rooms.{few_nodes, put_bounded}
 use Rattle.djq_propagate.specs.Updates.{HasAtMost, paths}
 use Rattle.djq_propagate.proofs.update.insert_leaf.Goals as goal
 
-pub live-requires-clause-ready : goal.live-requires-clause-ready
-live-requires-clause-ready g c =
+pub insert_tuple-requires-clause-ready : goal.insert_tuple-requires-clause-ready
+insert_tuple-requires-clause-ready g c =
     ready_leaf c.reducts.inside.tree c.reducts.inside.tables.items c.args.leaf c.reducts.invariant.0
     (rw (← c.reducts.view_is) at c.requires.leaf)
 
-pub live-requires-clause-absent : goal.live-requires-clause-absent
-live-requires-clause-absent g c =
+pub insert_tuple-requires-clause-absent : goal.insert_tuple-requires-clause-absent
+insert_tuple-requires-clause-absent g c =
     rw (← c.reducts.view_is) at c.requires.absent
 
-pub live-requires-clause-few : goal.live-requires-clause-few
-live-requires-clause-few g c =
+pub insert_tuple-requires-clause-few : goal.insert_tuple-requires-clause-few
+insert_tuple-requires-clause-few g c =
     rw (← c.reducts.view_is) at c.requires.few
 
-pub live-requires-clause-wide : goal.live-requires-clause-wide
-live-requires-clause-wide g c =
+pub insert_tuple-requires-clause-wide : goal.insert_tuple-requires-clause-wide
+insert_tuple-requires-clause-wide g c =
     (rw (← c.reducts.view_is) at c.requires.wide) ∙ sym (c.reducts.invariant.0.family.keyed c.args.leaf
     (leaf_within c.reducts.inside.tree c.args.leaf c.reducts.invariant.0.family.is_tree
     (rw (← c.reducts.view_is) at c.requires.leaf))).width
 
-pub returns-in_err-live-clause-inserted : goal.returns-in_err-live-clause-inserted
-returns-in_err-live-clause-inserted g c =
+pub returns-in_err-insert_tuple-clause-inserted : goal.returns-in_err-insert_tuple-clause-inserted
+returns-in_err-insert_tuple-clause-inserted g c =
     search rules
 
-pub returns-in_err-live-clause-refused : goal.returns-in_err-live-clause-refused
-returns-in_err-live-clause-refused g c = rw (← c.reducts.view_is) (
+pub returns-in_err-insert_tuple-clause-refused : goal.returns-in_err-insert_tuple-clause-refused
+returns-in_err-insert_tuple-clause-refused g c = rw (← c.reducts.view_is) (
     on_err c.from_residual.result
     (HasKept (both c.reducts.inside.tree c.reducts.inside.tables.items)
-    (both c.reducts.inside.tree c.live.new.tables.items))
-    (refused_kept c.reducts.inside.tree c.reducts.inside.tables.items c.live.new.tables.items c.args.leaf
-    c.reducts.invariant.0 c.in_err-live.ensures.refused
-    (bare_same c.reducts.inside.tree c.reducts.inside.tables.items c.live.new.tables.items
+    (both c.reducts.inside.tree c.insert_tuple.new.tables.items))
+    (refused_kept c.reducts.inside.tree c.reducts.inside.tables.items c.insert_tuple.new.tables.items c.args.leaf
+    c.reducts.invariant.0 c.in_err-insert_tuple.ensures.refused
+    (bare_same c.reducts.inside.tree c.reducts.inside.tables.items c.insert_tuple.new.tables.items
     c.reducts.invariant.0.family
-    c.in_err-live.ensures.refused.family c.in_err-live.ensures.refused.supports c.live.ensures.plain
+    c.in_err-insert_tuple.ensures.refused.family c.in_err-insert_tuple.ensures.refused.supports c.insert_tuple.ensures.plain
     (rw (← c.reducts.view_is) at c.requires.bare))))
 
-pub returns-in_err-live-clause-bounded : goal.returns-in_err-live-clause-bounded
-returns-in_err-live-clause-bounded g c = rw (← c.reducts.view_is) (
+pub returns-in_err-insert_tuple-clause-bounded : goal.returns-in_err-insert_tuple-clause-bounded
+returns-in_err-insert_tuple-clause-bounded g c = rw (← c.reducts.view_is) (
     on_err c.from_residual.result
     ((n : ℕ) → HasAtMost (both c.reducts.inside.tree c.reducts.inside.tables.items) n
     → length (entries_at c.reducts.inside.tables.items c.args.leaf) < n
-    → c.live.new.tally ≤ c.args.tally.now + 18 * (paths c.reducts.inside.tree * n))
+    → c.insert_tuple.new.tally ≤ c.args.tally.now + 18 * (paths c.reducts.inside.tree * n))
     (λ n few room. put_bounded c.reducts.inside.tree c.reducts.inside.tables.items c.args.leaf n c.args.tally.now
-    c.live.new.tally c.reducts.invariant.0 few room c.in_err-live.ensures.bounded))
+    c.insert_tuple.new.tally c.reducts.invariant.0 few room c.in_err-insert_tuple.ensures.bounded))
 
 pub touch_path-requires-clause-family : goal.touch_path-requires-clause-family
 touch_path-requires-clause-family g c =
-    c.in_ok-live.ensures.ok.family
+    c.in_ok-insert_tuple.ensures.ok.family
 
 pub touch_path-requires-clause-can : goal.touch_path-requires-clause-can
 touch_path-requires-clause-can g c =
-    can_insert c.reducts.inside.tree c.reducts.inside.tables.items c.live.new.tables.items c.args.leaf
+    can_insert c.reducts.inside.tree c.reducts.inside.tables.items c.insert_tuple.new.tables.items c.args.leaf
     c.args.tuple.now
     c.reducts.invariant.0 (rw (← c.reducts.view_is) at c.requires.leaf) (rw (← c.reducts.view_is) at c.requires.bare)
-    c.in_ok-live.ensures.ok c.live.ensures.plain
+    c.in_ok-insert_tuple.ensures.ok c.insert_tuple.ensures.plain
 
 pub touch_path-requires-clause-leaf : goal.touch_path-requires-clause-leaf
 touch_path-requires-clause-leaf g c =
@@ -74,86 +74,86 @@ touch_path-requires-clause-leaf g c =
 
 pub returns-clause-inserted : goal.returns-clause-inserted
 returns-clause-inserted g c = rw (← c.reducts.view_is) (
-    inserted_all c.reducts.inside.tree c.reducts.inside.tables.items c.live.new.tables.items
+    inserted_all c.reducts.inside.tree c.reducts.inside.tables.items c.insert_tuple.new.tables.items
     c.touch_path.new.tables.items
     c.args.leaf c.args.tuple.now c.reducts.invariant.0 (rw (← c.reducts.view_is) at c.requires.leaf)
-    (rw (← c.reducts.view_is) at c.requires.bare) c.in_ok-live.ensures.ok
-    c.live.ensures.plain c.touch_path.ensures.touched c.touch_path.ensures.walked)
+    (rw (← c.reducts.view_is) at c.requires.bare) c.in_ok-insert_tuple.ensures.ok
+    c.insert_tuple.ensures.plain c.touch_path.ensures.touched c.touch_path.ensures.walked)
 
 pub returns-clause-counted : goal.returns-clause-counted
 returns-clause-counted g c = rw (← c.reducts.view_is) (
-    λ n few. put_counted c.reducts.inside.tree c.reducts.inside.tables.items c.live.new.tables.items
+    λ n few. put_counted c.reducts.inside.tree c.reducts.inside.tables.items c.insert_tuple.new.tables.items
     c.touch_path.new.tables.items
-    c.args.leaf c.args.tuple.now n c.args.tally.now c.live.new.tally c.touch_path.new.tally c.reducts.invariant.0
-    (rw (← c.reducts.view_is) at c.requires.leaf) c.in_ok-live.ensures.ok c.touch_path.ensures.touched
-    (inserted_all c.reducts.inside.tree c.reducts.inside.tables.items c.live.new.tables.items
+    c.args.leaf c.args.tuple.now n c.args.tally.now c.insert_tuple.new.tally c.touch_path.new.tally c.reducts.invariant.0
+    (rw (← c.reducts.view_is) at c.requires.leaf) c.in_ok-insert_tuple.ensures.ok c.touch_path.ensures.touched
+    (inserted_all c.reducts.inside.tree c.reducts.inside.tables.items c.insert_tuple.new.tables.items
     c.touch_path.new.tables.items
     c.args.leaf c.args.tuple.now c.reducts.invariant.0 (rw (← c.reducts.view_is) at c.requires.leaf)
-    (rw (← c.reducts.view_is) at c.requires.bare) c.in_ok-live.ensures.ok
-    c.live.ensures.plain c.touch_path.ensures.touched c.touch_path.ensures.walked).sound few
-    c.in_ok-live.ensures.counted c.touch_path.ensures.counted)
+    (rw (← c.reducts.view_is) at c.requires.bare) c.in_ok-insert_tuple.ensures.ok
+    c.insert_tuple.ensures.plain c.touch_path.ensures.touched c.touch_path.ensures.walked).sound few
+    c.in_ok-insert_tuple.ensures.counted c.touch_path.ensures.counted)
 
-pub returns-in_err-live-clause-counted : goal.returns-in_err-live-clause-counted
-returns-in_err-live-clause-counted g c =
+pub returns-in_err-insert_tuple-clause-counted : goal.returns-in_err-insert_tuple-clause-counted
+returns-in_err-insert_tuple-clause-counted g c =
     search rules
 
 pub returns-clause-few : goal.returns-clause-few
 returns-clause-few g c = rw (← c.reducts.view_is) (
     λ meets. c.touch_path.ensures.few meets
-    (few_lived c.reducts.inside.tree c.reducts.inside.tables.items c.live.new.tables.items c.args.leaf
+    (few_lived c.reducts.inside.tree c.reducts.inside.tables.items c.insert_tuple.new.tables.items c.args.leaf
     c.args.tuple.now meets
     c.reducts.invariant.0 (rw (← c.reducts.view_is) at c.requires.leaf) (rw (← c.reducts.view_is) at c.requires.bare)
-    c.in_ok-live.ensures.ok c.live.ensures.plain))
+    c.in_ok-insert_tuple.ensures.ok c.insert_tuple.ensures.plain))
 
 pub returns-clause-flat : goal.returns-clause-flat
 returns-clause-flat g c = rw (← c.reducts.view_is) (
     λ meets.
     let t = c.reducts.inside.tree in
     let old = c.reducts.inside.tables.items in
-    let mid = c.live.new.tables.items in
-    let l = c.in_ok-live.ensures.ok in
-    put_by t old mid c.args.leaf c.args.tuple.now 1 c.args.tally.now c.live.new.tally c.touch_path.new.tally
+    let mid = c.insert_tuple.new.tables.items in
+    let l = c.in_ok-insert_tuple.ensures.ok in
+    put_by t old mid c.args.leaf c.args.tuple.now 1 c.args.tally.now c.insert_tuple.new.tally c.touch_path.new.tally
     c.reducts.invariant.0 (rw (← c.reducts.view_is) at c.requires.leaf) l (omega arith)
     (more_length t old mid c.args.leaf meets c.reducts.invariant.0
     (reducts_lived t old mid c.args.leaf c.args.tuple.now c.reducts.invariant.0
     (rw (← c.reducts.view_is) at c.requires.leaf) l) (λ j v low apart. ap (λ (es : List Entry). cnt es v)
     (l.below j (leaf_below t c.args.leaf j c.reducts.invariant.0.family.is_tree low apart)))
-    (one_lived t old mid c.args.leaf c.args.tuple.now l)) c.in_ok-live.ensures.counted
+    (one_lived t old mid c.args.leaf c.args.tuple.now l)) c.in_ok-insert_tuple.ensures.counted
     (c.touch_path.ensures.flat meets (few_lived t old mid c.args.leaf c.args.tuple.now meets c.reducts.invariant.0
     (rw (← c.reducts.view_is) at c.requires.leaf) (rw (← c.reducts.view_is) at c.requires.bare) l
-    c.live.ensures.plain)))
+    c.insert_tuple.ensures.plain)))
 
-pub returns-in_err-live-clause-few : goal.returns-in_err-live-clause-few
-returns-in_err-live-clause-few g c =
+pub returns-in_err-insert_tuple-clause-few : goal.returns-in_err-insert_tuple-clause-few
+returns-in_err-insert_tuple-clause-few g c =
     search rules
 
-pub returns-in_err-live-clause-flat : goal.returns-in_err-live-clause-flat
-returns-in_err-live-clause-flat g c =
+pub returns-in_err-insert_tuple-clause-flat : goal.returns-in_err-insert_tuple-clause-flat
+returns-in_err-insert_tuple-clause-flat g c =
     search rules
 
-pub returns-in_err-live-clause-flat_refused : goal.returns-in_err-live-clause-flat_refused
-returns-in_err-live-clause-flat_refused g c = rw (← c.reducts.view_is) (
+pub returns-in_err-insert_tuple-clause-flat_refused : goal.returns-in_err-insert_tuple-clause-flat_refused
+returns-in_err-insert_tuple-clause-flat_refused g c = rw (← c.reducts.view_is) (
     on_err c.from_residual.result
-    (HasEqualMeets c.reducts.inside.tree → c.live.new.tally ≤ c.args.tally.now + 18 *
+    (HasEqualMeets c.reducts.inside.tree → c.insert_tuple.new.tally ≤ c.args.tally.now + 18 *
     (paths c.reducts.inside.tree * 1))
-    (λ meets. let h = c.in_err-live.ensures.flat meets in let n = few_nodes c.reducts.inside.tree
+    (λ meets. let h = c.in_err-insert_tuple.ensures.flat meets in let n = few_nodes c.reducts.inside.tree
     c.reducts.invariant.0.family.is_tree in omega arith))
 
 pub invariant_of-reducts : goal.invariant_of-reducts
 invariant_of-reducts g c =
     rest_kept c.reducts.invariant
-    (refused_kept c.reducts.inside.tree c.reducts.inside.tables.items c.live.new.tables.items c.args.leaf
-    c.reducts.invariant.0 c.in_err-live.ensures.refused
-    (bare_same c.reducts.inside.tree c.reducts.inside.tables.items c.live.new.tables.items
+    (refused_kept c.reducts.inside.tree c.reducts.inside.tables.items c.insert_tuple.new.tables.items c.args.leaf
+    c.reducts.invariant.0 c.in_err-insert_tuple.ensures.refused
+    (bare_same c.reducts.inside.tree c.reducts.inside.tables.items c.insert_tuple.new.tables.items
     c.reducts.invariant.0.family
-    c.in_err-live.ensures.refused.family c.in_err-live.ensures.refused.supports c.live.ensures.plain
+    c.in_err-insert_tuple.ensures.refused.family c.in_err-insert_tuple.ensures.refused.supports c.insert_tuple.ensures.plain
     (rw (← c.reducts.view_is) at c.requires.bare))).sound
 
 pub invariant_of-reducts-2 : goal.invariant_of-reducts-2
 invariant_of-reducts-2 g c =
     rest_kept c.reducts.invariant
-    (inserted_all c.reducts.inside.tree c.reducts.inside.tables.items c.live.new.tables.items
+    (inserted_all c.reducts.inside.tree c.reducts.inside.tables.items c.insert_tuple.new.tables.items
     c.touch_path.new.tables.items
     c.args.leaf c.args.tuple.now c.reducts.invariant.0 (rw (← c.reducts.view_is) at c.requires.leaf)
-    (rw (← c.reducts.view_is) at c.requires.bare) c.in_ok-live.ensures.ok
-    c.live.ensures.plain c.touch_path.ensures.touched c.touch_path.ensures.walked).sound
+    (rw (← c.reducts.view_is) at c.requires.bare) c.in_ok-insert_tuple.ensures.ok
+    c.insert_tuple.ensures.plain c.touch_path.ensures.touched c.touch_path.ensures.walked).sound

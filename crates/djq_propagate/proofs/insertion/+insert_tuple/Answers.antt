@@ -6,7 +6,7 @@ use Rattle.djq_tree.specs.Flat.{HasEqualMeets}
 use Rattle.djq_reduct.specs.Tables.{entries_at, key_at}
 use Rattle.djq_propagate.specs.Sizes.{size, AreAtMost}
 use Rattle.std.proofs.Common.{rules}
-use Rattle.djq_propagate.specs.Walks.{Lived, Refused, Righted, Stayed, IsFull}
+use Rattle.djq_propagate.specs.Walks.{InsertedUpwards, Refused, ReducedAbove, UnchangedAbove, IsFull}
 use Rattle.djq_propagate.proofs.Families.{lower_of, now_family, ready_up, topmost, stayed}
 use Rattle.djq_propagate.proofs.Plains.{bare_at, still_bare, plain_refl, plain_trans, inserted_same}
 use Rattle.djq_propagate.proofs.Plains.{raised_same, removed_fewer, back_same}
@@ -23,50 +23,50 @@ use Rattle.djq_propagate.proofs.Going.{plain_none}
 use Rattle.djq_propagate.proofs.Tabling.{part_none, part_one}
 use Rattle.djq_propagate.proofs.Rooms.{room_size, most_more, trim_fits, guard_fits, next_fits, side_fits, side_bounded}
 use Rattle.djq_propagate.proofs.Refusing.{side_flat}
-use Rattle.djq_propagate.proofs.live.+live.Goals as goal
+use Rattle.djq_propagate.proofs.insertion.+insert_tuple.Goals as goal
 
-pub live-insert_at-requires-clause-within : goal.live-insert_at-requires-clause-within
-live-insert_at-requires-clause-within g t c =
+pub insert_tuple-insert_at-requires-clause-within : goal.insert_tuple-insert_at-requires-clause-within
+insert_tuple-insert_at-requires-clause-within g t c =
     has_table c.args.tree.now c.args.tables.now.items c.args.at c.requires.ready.family c.requires.ready.within
 
-pub live-insert_at-requires-clause-absent : goal.live-insert_at-requires-clause-absent
-live-insert_at-requires-clause-absent g t c =
+pub insert_tuple-insert_at-requires-clause-absent : goal.insert_tuple-insert_at-requires-clause-absent
+insert_tuple-insert_at-requires-clause-absent g t c =
     c.requires.absent
 
-pub live-insert_at-requires-clause-wide : goal.live-insert_at-requires-clause-wide
-live-insert_at-requires-clause-wide g t c =
+pub insert_tuple-insert_at-requires-clause-wide : goal.insert_tuple-insert_at-requires-clause-wide
+insert_tuple-insert_at-requires-clause-wide g t c =
     c.requires.wide
 
-pub live-insert_at-requires-clause-plain : goal.live-insert_at-requires-clause-plain
-live-insert_at-requires-clause-plain g t c =
+pub insert_tuple-insert_at-requires-clause-plain : goal.insert_tuple-insert_at-requires-clause-plain
+insert_tuple-insert_at-requires-clause-plain g t c =
     λ e. bare_at c.args.tables.now.items c.args.at (c.requires.bare e)
 
-pub live-insert_at-requires-clause-few : goal.live-insert_at-requires-clause-few
-live-insert_at-requires-clause-few g t c =
+pub insert_tuple-insert_at-requires-clause-few : goal.insert_tuple-insert_at-requires-clause-few
+insert_tuple-insert_at-requires-clause-few g t c =
     c.requires.few
 
-pub live-returns-in_err-place-clause-ok : goal.live-returns-in_err-place-clause-ok
-live-returns-in_err-place-clause-ok g t c =
+pub insert_tuple-returns-in_err-place-clause-ok : goal.insert_tuple-returns-in_err-place-clause-ok
+insert_tuple-returns-in_err-place-clause-ok g t c =
     search rules
 
-pub live-returns-in_err-place-clause-refused : goal.live-returns-in_err-place-clause-refused
-live-returns-in_err-place-clause-refused g t c =
+pub insert_tuple-returns-in_err-place-clause-refused : goal.insert_tuple-returns-in_err-place-clause-refused
+insert_tuple-returns-in_err-place-clause-refused g t c =
     on_err c.from_residual.result
     (Refused c.args.tree.now c.args.tables.now.items c.insert_at.new.tables.items c.args.at)
     (refused_none c.args.tree.now c.args.tables.now.items c.insert_at.new.tables.items c.args.at
     c.requires.ready.family c.insert_at.ensures.changed c.in_err-place.ensures.refused)
 
-pub live-returns-in_err-place-clause-plain : goal.live-returns-in_err-place-clause-plain
-live-returns-in_err-place-clause-plain g t c =
+pub insert_tuple-returns-in_err-place-clause-plain : goal.insert_tuple-returns-in_err-place-clause-plain
+insert_tuple-returns-in_err-place-clause-plain g t c =
     plain_none c.args.tables.now.items c.insert_at.new.tables.items c.args.at c.insert_at.ensures.changed
     c.in_err-place.ensures.refused
 
-pub live-returns-in_err-place-clause-counted : goal.live-returns-in_err-place-clause-counted
-live-returns-in_err-place-clause-counted g t c =
+pub insert_tuple-returns-in_err-place-clause-counted : goal.insert_tuple-returns-in_err-place-clause-counted
+insert_tuple-returns-in_err-place-clause-counted g t c =
     search rules
 
-pub live-returns-in_err-place-clause-bounded : goal.live-returns-in_err-place-clause-bounded
-live-returns-in_err-place-clause-bounded g t c =
+pub insert_tuple-returns-in_err-place-clause-bounded : goal.insert_tuple-returns-in_err-place-clause-bounded
+insert_tuple-returns-in_err-place-clause-bounded g t c =
     on_err c.from_residual.result
     ((n : ℕ) → AreAtMost c.args.tables.now.items n → length (entries_at c.args.tables.now.items c.args.at) < n
     → c.insert_at.new.tally + 9 * size c.args.tables.now.items ≤ c.args.tally.now + 9 *
@@ -78,8 +78,8 @@ live-returns-in_err-place-clause-bounded g t c =
           c.args.at c.requires.ready.family c.requires.ready.within few room,
     ))
 
-pub live-rise-requires : goal.live-rise-requires
-live-rise-requires g t c κs hκ =
+pub insert_tuple-insert_above-requires : goal.insert_tuple-insert_above-requires
+insert_tuple-insert_above-requires g t c κs hκ =
     let d = c.decreases in (
       omega arith,
       (
@@ -106,29 +106,29 @@ live-rise-requires g t c κs hκ =
       ),
     )
 
-pub live-remove_at-requires-clause-within : goal.live-remove_at-requires-clause-within
-live-remove_at-requires-clause-within g t c =
-    has_table c.args.tree.now c.rise.new.tables.items c.args.at c.in-Err.ensures.refused.family c.requires.ready.within
+pub insert_tuple-remove_at-requires-clause-within : goal.insert_tuple-remove_at-requires-clause-within
+insert_tuple-remove_at-requires-clause-within g t c =
+    has_table c.args.tree.now c.insert_above.new.tables.items c.args.at c.in-Err.ensures.refused.family c.requires.ready.within
 
-pub live-remove_at-requires-clause-live : goal.live-remove_at-requires-clause-live
-live-remove_at-requires-clause-live g t c =
-    as_live (entries_at c.rise.new.tables.items c.args.at) c.in_ok-place.place c.args.tuple.now
-    (moved_at (entries_at c.insert_at.new.tables.items c.args.at) (entries_at c.rise.new.tables.items c.args.at)
+pub insert_tuple-remove_at-requires-clause-live : goal.insert_tuple-remove_at-requires-clause-live
+insert_tuple-remove_at-requires-clause-live g t c =
+    as_live (entries_at c.insert_above.new.tables.items c.args.at) c.in_ok-place.place c.args.tuple.now
+    (moved_at (entries_at c.insert_at.new.tables.items c.args.at) (entries_at c.insert_above.new.tables.items c.args.at)
     c.in_ok-place.place c.args.tuple.now c.in-Err.ensures.refused.at c.in_ok-place.ensures.lies)
 
-pub live-returns-in-Ok-clause-ok : goal.live-returns-in-Ok-clause-ok
-live-returns-in-Ok-clause-ok g t c =
-    lived_here c.args.tree.now c.args.tables.now.items c.insert_at.new.tables.items c.rise.new.tables.items c.args.at
+pub insert_tuple-returns-in-Ok-clause-ok : goal.insert_tuple-returns-in-Ok-clause-ok
+insert_tuple-returns-in-Ok-clause-ok g t c =
+    lived_here c.args.tree.now c.args.tables.now.items c.insert_at.new.tables.items c.insert_above.new.tables.items c.args.at
     c.args.tuple.now c.insert_at.ensures.changed c.in_ok-place.ensures.inserted c.in-Ok.ensures.ok
 
-pub live-returns-in-Ok-clause-plain : goal.live-returns-in-Ok-clause-plain
-live-returns-in-Ok-clause-plain g t c =
-    plain_trans c.args.tables.now.items c.insert_at.new.tables.items c.rise.new.tables.items
+pub insert_tuple-returns-in-Ok-clause-plain : goal.insert_tuple-returns-in-Ok-clause-plain
+insert_tuple-returns-in-Ok-clause-plain g t c =
+    plain_trans c.args.tables.now.items c.insert_at.new.tables.items c.insert_above.new.tables.items
     (inserted_same c.args.tables.now.items c.insert_at.new.tables.items c.args.at c.args.tuple.now
-    c.insert_at.ensures.changed c.in_ok-place.ensures.inserted) c.rise.ensures.plain
+    c.insert_at.ensures.changed c.in_ok-place.ensures.inserted) c.insert_above.ensures.plain
 
-pub live-returns-in-Ok-clause-counted : goal.live-returns-in-Ok-clause-counted
-live-returns-in-Ok-clause-counted g t c =
+pub insert_tuple-returns-in-Ok-clause-counted : goal.insert_tuple-returns-in-Ok-clause-counted
+insert_tuple-returns-in-Ok-clause-counted g t c =
     omega (
       arith,
       c.insert_at.ensures.counted,
@@ -139,37 +139,37 @@ live-returns-in-Ok-clause-counted g t c =
       c.in-Ok.ensures.counted,
     )
 
-pub live-returns-in-Err-clause-refused : goal.live-returns-in-Err-clause-refused
-live-returns-in-Err-clause-refused g t c =
-    (refused_here c.args.tree.now c.args.tables.now.items c.insert_at.new.tables.items c.rise.new.tables.items
+pub insert_tuple-returns-in-Err-clause-refused : goal.insert_tuple-returns-in-Err-clause-refused
+insert_tuple-returns-in-Err-clause-refused g t c =
+    (refused_here c.args.tree.now c.args.tables.now.items c.insert_at.new.tables.items c.insert_above.new.tables.items
     c.remove_at.new.tables.items c.args.at c.args.tuple.now c.requires.ready c.requires.absent
     c.insert_at.ensures.changed c.in_ok-place.ensures.inserted c.in-Err.ensures.refused c.remove_at.ensures.changed
     (c.remove_at.ensures.removed c.args.tuple.now
-    (moved_at (entries_at c.insert_at.new.tables.items c.args.at) (entries_at c.rise.new.tables.items c.args.at)
+    (moved_at (entries_at c.insert_at.new.tables.items c.args.at) (entries_at c.insert_above.new.tables.items c.args.at)
     c.in_ok-place.place c.args.tuple.now c.in-Err.ensures.refused.at c.in_ok-place.ensures.lies)))
 
-pub live-returns-in-Err-clause-plain : goal.live-returns-in-Err-clause-plain
-live-returns-in-Err-clause-plain g t c =
-    back_same c.args.tree.now c.args.tables.now.items c.rise.new.tables.items c.remove_at.new.tables.items
+pub insert_tuple-returns-in-Err-clause-plain : goal.insert_tuple-returns-in-Err-clause-plain
+insert_tuple-returns-in-Err-clause-plain g t c =
+    back_same c.args.tree.now c.args.tables.now.items c.insert_above.new.tables.items c.remove_at.new.tables.items
     c.requires.ready.family c.in-Err.ensures.refused.family
     (c.remove_at.ensures.changed.family c.args.tree.now c.in-Err.ensures.refused.family)
-    (plain_trans c.args.tables.now.items c.insert_at.new.tables.items c.rise.new.tables.items
+    (plain_trans c.args.tables.now.items c.insert_at.new.tables.items c.insert_above.new.tables.items
     (inserted_same c.args.tables.now.items c.insert_at.new.tables.items c.args.at c.args.tuple.now
-    c.insert_at.ensures.changed c.in_ok-place.ensures.inserted) c.rise.ensures.plain)
-    (removed_fewer c.rise.new.tables.items c.remove_at.new.tables.items c.args.at c.args.tuple.now
+    c.insert_at.ensures.changed c.in_ok-place.ensures.inserted) c.insert_above.ensures.plain)
+    (removed_fewer c.insert_above.new.tables.items c.remove_at.new.tables.items c.args.at c.args.tuple.now
     c.remove_at.ensures.changed
     (c.remove_at.ensures.removed c.args.tuple.now
-    (moved_at (entries_at c.insert_at.new.tables.items c.args.at) (entries_at c.rise.new.tables.items c.args.at)
+    (moved_at (entries_at c.insert_at.new.tables.items c.args.at) (entries_at c.insert_above.new.tables.items c.args.at)
     c.in_ok-place.place c.args.tuple.now c.in-Err.ensures.refused.at c.in_ok-place.ensures.lies)))
-    (refused_here c.args.tree.now c.args.tables.now.items c.insert_at.new.tables.items c.rise.new.tables.items
+    (refused_here c.args.tree.now c.args.tables.now.items c.insert_at.new.tables.items c.insert_above.new.tables.items
     c.remove_at.new.tables.items c.args.at c.args.tuple.now c.requires.ready c.requires.absent
     c.insert_at.ensures.changed c.in_ok-place.ensures.inserted c.in-Err.ensures.refused c.remove_at.ensures.changed
     (c.remove_at.ensures.removed c.args.tuple.now
-    (moved_at (entries_at c.insert_at.new.tables.items c.args.at) (entries_at c.rise.new.tables.items c.args.at)
+    (moved_at (entries_at c.insert_at.new.tables.items c.args.at) (entries_at c.insert_above.new.tables.items c.args.at)
     c.in_ok-place.place c.args.tuple.now c.in-Err.ensures.refused.at c.in_ok-place.ensures.lies))).supports
 
-pub live-returns-in-Err-clause-bounded : goal.live-returns-in-Err-clause-bounded
-live-returns-in-Err-clause-bounded g t c =
+pub insert_tuple-returns-in-Err-clause-bounded : goal.insert_tuple-returns-in-Err-clause-bounded
+insert_tuple-returns-in-Err-clause-bounded g t c =
     λ n few room. omega (
       arith,
       c.insert_at.ensures.counted,
@@ -182,16 +182,16 @@ live-returns-in-Err-clause-bounded g t c =
       c.remove_at.ensures.counted,
     )
 
-pub rise-parent-requires : goal.rise-parent-requires
-rise-parent-requires g t c =
+pub insert_above-parent-requires : goal.insert_above-parent-requires
+insert_above-parent-requires g t c =
     c.requires.gaining.began.ready.within
 
-pub rise-node-requires : goal.rise-node-requires
-rise-node-requires g t c =
+pub insert_above-node-requires : goal.insert_above-node-requires
+insert_above-node-requires g t c =
     c.in-Some.ensures.above.1
 
-pub rise-rise_trim-requires : goal.rise-rise_trim-requires
-rise-rise_trim-requires g t c κs hκ =
+pub insert_above-insert_above_trim-requires : goal.insert_above-insert_above_trim-requires
+insert_above-insert_above_trim-requires g t c κs hκ =
     let d = c.decreases in (
       omega arith,
       (
@@ -211,8 +211,8 @@ rise-rise_trim-requires g t c κs hκ =
       ),
     )
 
-pub rise-rise_guard-requires : goal.rise-rise_guard-requires
-rise-rise_guard-requires g t c κs hκ =
+pub insert_above-insert_above_guard-requires : goal.insert_above-insert_above_guard-requires
+insert_above-insert_above_guard-requires g t c κs hκ =
     let d = c.decreases in (
       omega arith,
       (
@@ -233,8 +233,8 @@ rise-rise_guard-requires g t c κs hκ =
       ),
     )
 
-pub rise-rise_side-requires : goal.rise-rise_side-requires
-rise-rise_side-requires g t c κs hκ =
+pub insert_above-insert_above_side-requires : goal.insert_above-insert_above_side-requires
+insert_above-insert_above_side-requires g t c κs hκ =
     let d = c.decreases in (
       omega arith,
       (
@@ -253,122 +253,122 @@ rise-rise_side-requires g t c κs hκ =
       ),
     )
 
-pub rise-returns-in-None-clause-ok : goal.rise-returns-in-None-clause-ok
-rise-returns-in-None-clause-ok g t c =
+pub insert_above-returns-in-None-clause-ok : goal.insert_above-returns-in-None-clause-ok
+insert_above-returns-in-None-clause-ok g t c =
     topmost c.args.tree.now c.requires.gaining.was c.args.tables.now.items c.args.at c.requires.gaining.began
     c.in-None.ensures.root
 
-pub rise-returns-in-None-clause-plain : goal.rise-returns-in-None-clause-plain
-rise-returns-in-None-clause-plain g t c =
+pub insert_above-returns-in-None-clause-plain : goal.insert_above-returns-in-None-clause-plain
+insert_above-returns-in-None-clause-plain g t c =
     plain_refl c.args.tables.now.items
 
-pub rise-returns-in-None-clause-counted : goal.rise-returns-in-None-clause-counted
-rise-returns-in-None-clause-counted g t c =
+pub insert_above-returns-in-None-clause-counted : goal.insert_above-returns-in-None-clause-counted
+insert_above-returns-in-None-clause-counted g t c =
     omega arith
 
-pub rise-returns-in-Leaf-clause-ok : goal.rise-returns-in-Leaf-clause-ok
-rise-returns-in-Leaf-clause-ok g t c =
+pub insert_above-returns-in-Leaf-clause-ok : goal.insert_above-returns-in-Leaf-clause-ok
+insert_above-returns-in-Leaf-clause-ok g t c =
     absurd (under_leaf c.args.tree.now c.args.at c.in-Some.up _ c.parent.result c.node.result
     c.requires.gaining.began.ready.family.is_tree c.parent.ensures.parent c.in-Some.is c.node.ensures c.in-Leaf.is)
 
-pub rise-returns-in-Leaf-clause-plain : goal.rise-returns-in-Leaf-clause-plain
-rise-returns-in-Leaf-clause-plain g t c =
+pub insert_above-returns-in-Leaf-clause-plain : goal.insert_above-returns-in-Leaf-clause-plain
+insert_above-returns-in-Leaf-clause-plain g t c =
     plain_refl c.args.tables.now.items
 
-pub rise-returns-in-Leaf-clause-counted : goal.rise-returns-in-Leaf-clause-counted
-rise-returns-in-Leaf-clause-counted g t c =
+pub insert_above-returns-in-Leaf-clause-counted : goal.insert_above-returns-in-Leaf-clause-counted
+insert_above-returns-in-Leaf-clause-counted g t c =
     omega arith
 
-pub rise-returns-in-Trim-clause-ok : goal.rise-returns-in-Trim-clause-ok
-rise-returns-in-Trim-clause-ok g t c =
-    c.rise_trim.ensures.ok
+pub insert_above-returns-in-Trim-clause-ok : goal.insert_above-returns-in-Trim-clause-ok
+insert_above-returns-in-Trim-clause-ok g t c =
+    c.insert_above_trim.ensures.ok
 
-pub rise-returns-in-Trim-clause-refused : goal.rise-returns-in-Trim-clause-refused
-rise-returns-in-Trim-clause-refused g t c =
-    c.rise_trim.ensures.refused
+pub insert_above-returns-in-Trim-clause-refused : goal.insert_above-returns-in-Trim-clause-refused
+insert_above-returns-in-Trim-clause-refused g t c =
+    c.insert_above_trim.ensures.refused
 
-pub rise-returns-in-Trim-clause-plain : goal.rise-returns-in-Trim-clause-plain
-rise-returns-in-Trim-clause-plain g t c =
-    c.rise_trim.ensures.plain
+pub insert_above-returns-in-Trim-clause-plain : goal.insert_above-returns-in-Trim-clause-plain
+insert_above-returns-in-Trim-clause-plain g t c =
+    c.insert_above_trim.ensures.plain
 
-pub rise-returns-in-Trim-clause-counted : goal.rise-returns-in-Trim-clause-counted
-rise-returns-in-Trim-clause-counted g t c =
-    c.rise_trim.ensures.counted
+pub insert_above-returns-in-Trim-clause-counted : goal.insert_above-returns-in-Trim-clause-counted
+insert_above-returns-in-Trim-clause-counted g t c =
+    c.insert_above_trim.ensures.counted
 
-pub rise-returns-in-Trim-clause-bounded : goal.rise-returns-in-Trim-clause-bounded
-rise-returns-in-Trim-clause-bounded g t c =
-    c.rise_trim.ensures.bounded
+pub insert_above-returns-in-Trim-clause-bounded : goal.insert_above-returns-in-Trim-clause-bounded
+insert_above-returns-in-Trim-clause-bounded g t c =
+    c.insert_above_trim.ensures.bounded
 
-pub rise-returns-then-guard-at-clause-ok : goal.rise-returns-then-guard-at-clause-ok
-rise-returns-then-guard-at-clause-ok g t c =
-    c.rise_guard.ensures.ok
+pub insert_above-returns-then-guard-at-clause-ok : goal.insert_above-returns-then-guard-at-clause-ok
+insert_above-returns-then-guard-at-clause-ok g t c =
+    c.insert_above_guard.ensures.ok
 
-pub rise-returns-then-guard-at-clause-refused : goal.rise-returns-then-guard-at-clause-refused
-rise-returns-then-guard-at-clause-refused g t c =
-    c.rise_guard.ensures.refused
+pub insert_above-returns-then-guard-at-clause-refused : goal.insert_above-returns-then-guard-at-clause-refused
+insert_above-returns-then-guard-at-clause-refused g t c =
+    c.insert_above_guard.ensures.refused
 
-pub rise-returns-then-guard-at-clause-plain : goal.rise-returns-then-guard-at-clause-plain
-rise-returns-then-guard-at-clause-plain g t c =
-    c.rise_guard.ensures.plain
+pub insert_above-returns-then-guard-at-clause-plain : goal.insert_above-returns-then-guard-at-clause-plain
+insert_above-returns-then-guard-at-clause-plain g t c =
+    c.insert_above_guard.ensures.plain
 
-pub rise-returns-then-guard-at-clause-counted : goal.rise-returns-then-guard-at-clause-counted
-rise-returns-then-guard-at-clause-counted g t c =
-    c.rise_guard.ensures.counted
+pub insert_above-returns-then-guard-at-clause-counted : goal.insert_above-returns-then-guard-at-clause-counted
+insert_above-returns-then-guard-at-clause-counted g t c =
+    c.insert_above_guard.ensures.counted
 
-pub rise-returns-then-guard-at-clause-bounded : goal.rise-returns-then-guard-at-clause-bounded
-rise-returns-then-guard-at-clause-bounded g t c =
-    c.rise_guard.ensures.bounded
+pub insert_above-returns-then-guard-at-clause-bounded : goal.insert_above-returns-then-guard-at-clause-bounded
+insert_above-returns-then-guard-at-clause-bounded g t c =
+    c.insert_above_guard.ensures.bounded
 
-pub rise-returns-else-guard-at-clause-ok : goal.rise-returns-else-guard-at-clause-ok
-rise-returns-else-guard-at-clause-ok g t c =
-    c.rise_side.ensures.ok
+pub insert_above-returns-else-guard-at-clause-ok : goal.insert_above-returns-else-guard-at-clause-ok
+insert_above-returns-else-guard-at-clause-ok g t c =
+    c.insert_above_side.ensures.ok
 
-pub rise-returns-else-guard-at-clause-refused : goal.rise-returns-else-guard-at-clause-refused
-rise-returns-else-guard-at-clause-refused g t c =
-    c.rise_side.ensures.refused
+pub insert_above-returns-else-guard-at-clause-refused : goal.insert_above-returns-else-guard-at-clause-refused
+insert_above-returns-else-guard-at-clause-refused g t c =
+    c.insert_above_side.ensures.refused
 
-pub rise-returns-else-guard-at-clause-plain : goal.rise-returns-else-guard-at-clause-plain
-rise-returns-else-guard-at-clause-plain g t c =
-    c.rise_side.ensures.plain
+pub insert_above-returns-else-guard-at-clause-plain : goal.insert_above-returns-else-guard-at-clause-plain
+insert_above-returns-else-guard-at-clause-plain g t c =
+    c.insert_above_side.ensures.plain
 
-pub rise-returns-else-guard-at-clause-counted : goal.rise-returns-else-guard-at-clause-counted
-rise-returns-else-guard-at-clause-counted g t c =
-    c.rise_side.ensures.counted
+pub insert_above-returns-else-guard-at-clause-counted : goal.insert_above-returns-else-guard-at-clause-counted
+insert_above-returns-else-guard-at-clause-counted g t c =
+    c.insert_above_side.ensures.counted
 
-pub rise-returns-else-guard-at-clause-bounded : goal.rise-returns-else-guard-at-clause-bounded
-rise-returns-else-guard-at-clause-bounded g t c =
-    c.rise_side.ensures.bounded
+pub insert_above-returns-else-guard-at-clause-bounded : goal.insert_above-returns-else-guard-at-clause-bounded
+insert_above-returns-else-guard-at-clause-bounded g t c =
+    c.insert_above_side.ensures.bounded
 
-pub rise_guard-is_small_at-requires : goal.rise_guard-is_small_at-requires
-rise_guard-is_small_at-requires g t c =
+pub insert_above_guard-is_small_at-requires : goal.insert_above_guard-is_small_at-requires
+insert_above_guard-is_small_at-requires g t c =
     has_table c.args.tree.now c.args.tables.now.items c.args.at
     (now_family c.args.tree.now c.requires.gaining.was c.args.tables.now.items c.args.at c.requires.gaining.began)
     c.requires.gaining.began.ready.within
 
-pub rise_guard-find_part-requires-clause-within : goal.rise_guard-find_part-requires-clause-within
-rise_guard-find_part-requires-clause-within g t c =
+pub insert_above_guard-find_part-requires-clause-within : goal.insert_above_guard-find_part-requires-clause-within
+insert_above_guard-find_part-requires-clause-within g t c =
     has_table c.args.tree.now c.args.tables.now.items c.args.at
     (now_family c.args.tree.now c.requires.gaining.was c.args.tables.now.items c.args.at c.requires.gaining.began)
     c.requires.gaining.began.ready.within
 
-pub rise_guard-find_part-requires-clause-narrow : goal.rise_guard-find_part-requires-clause-narrow
-rise_guard-find_part-requires-clause-narrow g t c =
+pub insert_above_guard-find_part-requires-clause-narrow : goal.insert_above_guard-find_part-requires-clause-narrow
+insert_above_guard-find_part-requires-clause-narrow g t c =
     width_narrow c.args.tree.now c.args.tables.now.items c.args.at
     (now_family c.args.tree.now c.requires.gaining.was c.args.tables.now.items c.args.at c.requires.gaining.began)
     c.requires.gaining.began.ready.within
 
-pub rise_guard-find_part-requires-clause-few : goal.rise_guard-find_part-requires-clause-few
-rise_guard-find_part-requires-clause-few g t c =
+pub insert_above_guard-find_part-requires-clause-few : goal.insert_above_guard-find_part-requires-clause-few
+insert_above_guard-find_part-requires-clause-few g t c =
     guard_few c.args.tree.now c.args.tables.now.items c.args.at c.args.side c.args.up
     (now_family c.args.tree.now c.requires.gaining.was c.args.tables.now.items c.args.at c.requires.gaining.began)
     c.requires.gaining.began.ready.within c.requires.under
 
-pub rise_guard-find_part-requires-clause-wide : goal.rise_guard-find_part-requires-clause-wide
-rise_guard-find_part-requires-clause-wide g t c =
+pub insert_above_guard-find_part-requires-clause-wide : goal.insert_above_guard-find_part-requires-clause-wide
+insert_above_guard-find_part-requires-clause-wide g t c =
     c.requires.wide
 
-pub rise_guard-find_part-requires-clause-there : goal.rise_guard-find_part-requires-clause-there
-rise_guard-find_part-requires-clause-there g t c =
+pub insert_above_guard-find_part-requires-clause-there : goal.insert_above_guard-find_part-requires-clause-there
+insert_above_guard-find_part-requires-clause-there g t c =
     let m = c.requires.gaining.began.ready.family.is_tree.meet c.args.up c.args.at c.args.side c.requires.under.node in
     let ms = m.side_lower in
     let within = c.requires.under.within in
@@ -376,8 +376,8 @@ rise_guard-find_part-requires-clause-there g t c =
     (now_family c.args.tree.now c.requires.gaining.was c.args.tables.now.items c.args.at c.requires.gaining.began)
     (omega arith)
 
-pub rise_guard-live-requires : goal.rise_guard-live-requires
-rise_guard-live-requires g t c κs hκ =
+pub insert_above_guard-insert_tuple-requires : goal.insert_above_guard-insert_tuple-requires
+insert_above_guard-insert_tuple-requires g t c κs hκ =
     let low = lower_of c.args.tree.now c.args.up (Meet c.args.at c.args.side) c.args.at
     c.requires.gaining.began.ready.family.is_tree c.requires.under in
     let within = c.requires.under.within in
@@ -410,42 +410,42 @@ rise_guard-live-requires g t c κs hκ =
       ),
     )
 
-pub rise_guard-returns-in-Some-clause-ok : goal.rise_guard-returns-in-Some-clause-ok
-rise_guard-returns-in-Some-clause-ok g t c =
-    ok_map c.live.result (Lived c.args.tree.now c.args.tables.now.items c.live.new.tables.items c.args.up
-    c.args.tuple.now) (Righted c.args.tree.now c.args.tables.now.items c.live.new.tables.items c.args.at)
-    (λ l. guard_lived c.args.tree.now c.requires.gaining.was c.args.tables.now.items c.live.new.tables.items
+pub insert_above_guard-returns-in-Some-clause-ok : goal.insert_above_guard-returns-in-Some-clause-ok
+insert_above_guard-returns-in-Some-clause-ok g t c =
+    ok_map c.insert_tuple.result (InsertedUpwards c.args.tree.now c.args.tables.now.items c.insert_tuple.new.tables.items c.args.up
+    c.args.tuple.now) (ReducedAbove c.args.tree.now c.args.tables.now.items c.insert_tuple.new.tables.items c.args.at)
+    (λ l. guard_lived c.args.tree.now c.requires.gaining.was c.args.tables.now.items c.insert_tuple.new.tables.items
     c.args.at c.args.side c.args.up c.args.tuple.now c.in-Some._place c.requires.gaining.began
     c.requires.gaining.gains c.requires.under l
-    c.in-Some.ensures.found) c.live.ensures.ok
+    c.in-Some.ensures.found) c.insert_tuple.ensures.ok
 
-pub rise_guard-returns-in-Some-clause-refused : goal.rise_guard-returns-in-Some-clause-refused
-rise_guard-returns-in-Some-clause-refused g t c =
-    err_map c.live.result (Refused c.args.tree.now c.args.tables.now.items c.live.new.tables.items c.args.up)
-    (Stayed c.args.tree.now c.args.tables.now.items c.live.new.tables.items c.args.at)
-    (λ r. stayed c.args.tree.now c.args.tables.now.items c.live.new.tables.items c.args.at c.args.up
+pub insert_above_guard-returns-in-Some-clause-refused : goal.insert_above_guard-returns-in-Some-clause-refused
+insert_above_guard-returns-in-Some-clause-refused g t c =
+    err_map c.insert_tuple.result (Refused c.args.tree.now c.args.tables.now.items c.insert_tuple.new.tables.items c.args.up)
+    (UnchangedAbove c.args.tree.now c.args.tables.now.items c.insert_tuple.new.tables.items c.args.at)
+    (λ r. stayed c.args.tree.now c.args.tables.now.items c.insert_tuple.new.tables.items c.args.at c.args.up
     (Meet c.args.at c.args.side) c.requires.gaining.began.ready.family.is_tree c.requires.under r)
-    c.live.ensures.refused
+    c.insert_tuple.ensures.refused
 
-pub rise_guard-returns-in-Some-clause-plain : goal.rise_guard-returns-in-Some-clause-plain
-rise_guard-returns-in-Some-clause-plain g t c =
-    c.live.ensures.plain
+pub insert_above_guard-returns-in-Some-clause-plain : goal.insert_above_guard-returns-in-Some-clause-plain
+insert_above_guard-returns-in-Some-clause-plain g t c =
+    c.insert_tuple.ensures.plain
 
-pub rise_guard-returns-in-Some-clause-counted : goal.rise_guard-returns-in-Some-clause-counted
-rise_guard-returns-in-Some-clause-counted g t c =
-    ok_map c.live.result (c.live.new.tally + 1 + 4 * size c.args.tables.now.items ≤ c.find_part.new.tally + 4 * size
-    c.live.new.tables.items)
-    (c.live.new.tally + 4 * size c.args.tables.now.items ≤ c.args.tally.now + 2 + 4 * size c.live.new.tables.items)
-    (λ h. omega (arith, h, c.find_part.ensures.counted)) c.live.ensures.counted
+pub insert_above_guard-returns-in-Some-clause-counted : goal.insert_above_guard-returns-in-Some-clause-counted
+insert_above_guard-returns-in-Some-clause-counted g t c =
+    ok_map c.insert_tuple.result (c.insert_tuple.new.tally + 1 + 4 * size c.args.tables.now.items ≤ c.find_part.new.tally + 4 * size
+    c.insert_tuple.new.tables.items)
+    (c.insert_tuple.new.tally + 4 * size c.args.tables.now.items ≤ c.args.tally.now + 2 + 4 * size c.insert_tuple.new.tables.items)
+    (λ h. omega (arith, h, c.find_part.ensures.counted)) c.insert_tuple.ensures.counted
 
-pub rise_guard-returns-in-Some-clause-bounded : goal.rise_guard-returns-in-Some-clause-bounded
-rise_guard-returns-in-Some-clause-bounded g t c =
-    err_map c.live.result
+pub insert_above_guard-returns-in-Some-clause-bounded : goal.insert_above_guard-returns-in-Some-clause-bounded
+insert_above_guard-returns-in-Some-clause-bounded g t c =
+    err_map c.insert_tuple.result
     ((n : ℕ) → AreAtMost c.args.tables.now.items n → length (entries_at c.args.tables.now.items c.args.up) < n
-    → c.live.new.tally + 9 * size c.args.tables.now.items ≤ c.find_part.new.tally + 9 *
+    → c.insert_tuple.new.tally + 9 * size c.args.tables.now.items ≤ c.find_part.new.tally + 9 *
     (n * length c.args.tree.now.nodes))
     ((n : ℕ) → AreAtMost c.args.tables.now.items n
-    → c.live.new.tally + 9 * size c.args.tables.now.items ≤ c.args.tally.now + 7 + 9 *
+    → c.insert_tuple.new.tally + 9 * size c.args.tables.now.items ≤ c.args.tally.now + 7 + 9 *
     (n * length c.args.tree.now.nodes))
     (λ h n few. omega (
       arith,
@@ -454,30 +454,30 @@ rise_guard-returns-in-Some-clause-bounded g t c =
           (guard_fits c.args.tree.now c.requires.gaining.was c.args.tables.now.items c.args.at c.args.side c.args.up n
           c.args.tuple.now c.requires.gaining.began c.requires.gaining.gains c.requires.under (few.each c.args.at)),
     ))
-    c.live.ensures.bounded
+    c.insert_tuple.ensures.bounded
 
-pub rise_guard-returns-in-None-clause-ok : goal.rise_guard-returns-in-None-clause-ok
-rise_guard-returns-in-None-clause-ok g t c =
+pub insert_above_guard-returns-in-None-clause-ok : goal.insert_above_guard-returns-in-None-clause-ok
+insert_above_guard-returns-in-None-clause-ok g t c =
     guard_idle c.args.tree.now c.requires.gaining.was c.args.tables.now.items c.args.at c.args.side c.args.up
     c.args.tuple.now c.requires.gaining.began c.requires.gaining.gains c.requires.under
     c.in-None.ensures.found
 
-pub rise_guard-returns-in-None-clause-plain : goal.rise_guard-returns-in-None-clause-plain
-rise_guard-returns-in-None-clause-plain g t c =
+pub insert_above_guard-returns-in-None-clause-plain : goal.insert_above_guard-returns-in-None-clause-plain
+insert_above_guard-returns-in-None-clause-plain g t c =
     plain_refl c.args.tables.now.items
 
-pub rise_guard-returns-in-None-clause-counted : goal.rise_guard-returns-in-None-clause-counted
-rise_guard-returns-in-None-clause-counted g t c =
+pub insert_above_guard-returns-in-None-clause-counted : goal.insert_above_guard-returns-in-None-clause-counted
+insert_above_guard-returns-in-None-clause-counted g t c =
     omega (arith, c.find_part.ensures.counted)
 
-pub rise_trim-column_of-requires : goal.rise_trim-column_of-requires
-rise_trim-column_of-requires g t c =
+pub insert_above_trim-column_of-requires : goal.insert_above_trim-column_of-requires
+insert_above_trim-column_of-requires g t c =
     has_table c.args.tree.now c.args.tables.now.items c.args.at
     (now_family c.args.tree.now c.requires.gaining.was c.args.tables.now.items c.args.at c.requires.gaining.began)
     c.requires.gaining.began.ready.within
 
-pub rise_trim-rise_part-requires : goal.rise_trim-rise_part-requires
-rise_trim-rise_part-requires g t c κs hκ =
+pub insert_above_trim-insert_above_part-requires : goal.insert_above_trim-insert_above_part-requires
+insert_above_trim-insert_above_part-requires g t c κs hκ =
     let d = c.decreases in (
       omega arith,
       (
@@ -499,14 +499,14 @@ rise_trim-rise_part-requires g t c κs hκ =
       ),
     )
 
-pub rise_trim-has_no_column-requires : goal.rise_trim-has_no_column-requires
-rise_trim-has_no_column-requires g t c =
+pub insert_above_trim-has_no_column-requires : goal.insert_above_trim-has_no_column-requires
+insert_above_trim-has_no_column-requires g t c =
     has_table c.args.tree.now c.args.tables.now.items c.args.at
     (now_family c.args.tree.now c.requires.gaining.was c.args.tables.now.items c.args.at c.requires.gaining.began)
     c.requires.gaining.began.ready.within
 
-pub rise_trim-rise_part-requires-then-has_no_column : goal.rise_trim-rise_part-requires-then-has_no_column
-rise_trim-rise_part-requires-then-has_no_column g t c κs hκ =
+pub insert_above_trim-insert_above_part-requires-then-has_no_column : goal.insert_above_trim-insert_above_part-requires-then-has_no_column
+insert_above_trim-insert_above_part-requires-then-has_no_column g t c κs hκ =
     let d = c.decreases in (
       omega arith,
       (
@@ -527,15 +527,15 @@ rise_trim-rise_part-requires-then-has_no_column g t c κs hκ =
       ),
     )
 
-pub rise_trim-rise_wide-requires : goal.rise_trim-rise_wide-requires
-rise_trim-rise_wide-requires g t c κs hκ =
+pub insert_above_trim-insert_above_wide-requires : goal.insert_above_trim-insert_above_wide-requires
+insert_above_trim-insert_above_wide-requires g t c κs hκ =
     let d = c.decreases in (
       omega arith,
       (hκ, (c.requires.gaining, (c.requires.wide, (c.requires.under, c.requires.bare)))),
     )
 
-pub rise_wide-rise_part-requires : goal.rise_wide-rise_part-requires
-rise_wide-rise_part-requires g t c κs hκ =
+pub insert_above_wide-insert_above_part-requires : goal.insert_above_wide-insert_above_part-requires
+insert_above_wide-insert_above_part-requires g t c κs hκ =
     let d = c.decreases in (
       omega arith,
       (
@@ -550,48 +550,48 @@ rise_wide-rise_part-requires g t c κs hκ =
       ),
     )
 
-pub rise_wide-part_of-requires-clause-within : goal.rise_wide-part_of-requires-clause-within
-rise_wide-part_of-requires-clause-within g t c =
+pub insert_above_wide-part_of-requires-clause-within : goal.insert_above_wide-part_of-requires-clause-within
+insert_above_wide-part_of-requires-clause-within g t c =
     has_table c.args.tree.now c.args.tables.now.items c.args.at
     (now_family c.args.tree.now c.requires.gaining.was c.args.tables.now.items c.args.at c.requires.gaining.began)
     c.requires.gaining.began.ready.within
 
-pub rise_wide-part_of-requires-clause-narrow : goal.rise_wide-part_of-requires-clause-narrow
-rise_wide-part_of-requires-clause-narrow g t c =
+pub insert_above_wide-part_of-requires-clause-narrow : goal.insert_above_wide-part_of-requires-clause-narrow
+insert_above_wide-part_of-requires-clause-narrow g t c =
     width_narrow c.args.tree.now c.args.tables.now.items c.args.at
     (now_family c.args.tree.now c.requires.gaining.was c.args.tables.now.items c.args.at c.requires.gaining.began)
     c.requires.gaining.began.ready.within
 
-pub rise_wide-part_of-requires-clause-few : goal.rise_wide-part_of-requires-clause-few
-rise_wide-part_of-requires-clause-few g t c =
+pub insert_above_wide-part_of-requires-clause-few : goal.insert_above_wide-part_of-requires-clause-few
+insert_above_wide-part_of-requires-clause-few g t c =
     trim_few c.args.tree.now c.args.tables.now.items c.args.at c.args.up
     (now_family c.args.tree.now c.requires.gaining.was c.args.tables.now.items c.args.at c.requires.gaining.began)
     c.requires.gaining.began.ready.within c.requires.under
 
-pub rise_wide-part_of-requires-clause-wide : goal.rise_wide-part_of-requires-clause-wide
-rise_wide-part_of-requires-clause-wide g t c =
+pub insert_above_wide-part_of-requires-clause-wide : goal.insert_above_wide-part_of-requires-clause-wide
+insert_above_wide-part_of-requires-clause-wide g t c =
     c.requires.wide
 
-pub rise_part-find_at-requires : goal.rise_part-find_at-requires
-rise_part-find_at-requires g t c =
+pub insert_above_part-find_at-requires : goal.insert_above_part-find_at-requires
+insert_above_part-find_at-requires g t c =
     has_table c.args.tree.now c.args.tables.now.items c.args.up
     (now_family c.args.tree.now c.requires.gaining.was c.args.tables.now.items c.args.at c.requires.gaining.began)
     c.requires.under.within
 
-pub rise_part-is_small_at-requires : goal.rise_part-is_small_at-requires
-rise_part-is_small_at-requires g t c =
+pub insert_above_part-is_small_at-requires : goal.insert_above_part-is_small_at-requires
+insert_above_part-is_small_at-requires g t c =
     has_table c.args.tree.now c.args.tables.now.items c.args.at
     (now_family c.args.tree.now c.requires.gaining.was c.args.tables.now.items c.args.at c.requires.gaining.began)
     c.requires.gaining.began.ready.within
 
-pub rise_part-raise_at-requires-clause-within : goal.rise_part-raise_at-requires-clause-within
-rise_part-raise_at-requires-clause-within g t c =
+pub insert_above_part-raise_at-requires-clause-within : goal.insert_above_part-raise_at-requires-clause-within
+insert_above_part-raise_at-requires-clause-within g t c =
     has_table c.args.tree.now c.args.tables.now.items c.args.up
     (now_family c.args.tree.now c.requires.gaining.was c.args.tables.now.items c.args.at c.requires.gaining.began)
     c.requires.under.within
 
-pub rise_part-raise_at-requires-clause-room : goal.rise_part-raise_at-requires-clause-room
-rise_part-raise_at-requires-clause-room g t c =
+pub insert_above_part-raise_at-requires-clause-room : goal.insert_above_part-raise_at-requires-clause-room
+insert_above_part-raise_at-requires-clause-room g t c =
     record {
       tuple = c.args.cells.now;
       is_at = c.in-Some.ensures.found;
@@ -601,8 +601,8 @@ rise_part-raise_at-requires-clause-room g t c =
           c.requires.gaining.began c.requires.gaining.gains c.requires.under c.is_small_at.ensures;
     }
 
-pub rise_part-live-requires : goal.rise_part-live-requires
-rise_part-live-requires g t c κs hκ =
+pub insert_above_part-insert_tuple-requires : goal.insert_above_part-insert_tuple-requires
+insert_above_part-insert_tuple-requires g t c κs hκ =
     let low = lower_of c.args.tree.now c.args.up (Trim c.args.at) c.args.at
     c.requires.gaining.began.ready.family.is_tree c.requires.under in
     let within = c.requires.under.within in
@@ -633,23 +633,23 @@ rise_part-live-requires g t c κs hκ =
       ),
     )
 
-pub rise_part-returns-in-Some-clause-ok : goal.rise_part-returns-in-Some-clause-ok
-rise_part-returns-in-Some-clause-ok g t c =
+pub insert_above_part-returns-in-Some-clause-ok : goal.insert_above_part-returns-in-Some-clause-ok
+insert_above_part-returns-in-Some-clause-ok g t c =
     trim_raised c.args.tree.now c.requires.gaining.was c.args.tables.now.items c.raise_at.new.tables.items c.args.at
     c.args.up c.args.tuple.now c.args.cells.now c.requires.gaining.began c.requires.gaining.gains
     c.requires.under c.raise_at.ensures.changed
     (c.raise_at.ensures.raised c.args.cells.now c.in-Some.ensures.found)
     c.requires.part
 
-pub rise_part-returns-in-Some-clause-plain : goal.rise_part-returns-in-Some-clause-plain
-rise_part-returns-in-Some-clause-plain g t c =
+pub insert_above_part-returns-in-Some-clause-plain : goal.insert_above_part-returns-in-Some-clause-plain
+insert_above_part-returns-in-Some-clause-plain g t c =
     raised_same c.args.tables.now.items c.raise_at.new.tables.items c.args.up c.args.cells.now
     (supp (entries_at c.args.tables.now.items c.args.up) c.args.cells.now)
     ((supp (entries_at c.args.tables.now.items c.args.up) c.args.cells.now) + 1)
     c.raise_at.ensures.changed (c.raise_at.ensures.raised c.args.cells.now c.in-Some.ensures.found)
 
-pub rise_part-returns-in-Some-clause-counted : goal.rise_part-returns-in-Some-clause-counted
-rise_part-returns-in-Some-clause-counted g t c =
+pub insert_above_part-returns-in-Some-clause-counted : goal.insert_above_part-returns-in-Some-clause-counted
+insert_above_part-returns-in-Some-clause-counted g t c =
     omega (
       arith,
       c.find_at.ensures.counted,
@@ -662,40 +662,40 @@ rise_part-returns-in-Some-clause-counted g t c =
           (c.raise_at.ensures.raised c.args.cells.now c.in-Some.ensures.found),
     )
 
-pub rise_part-returns-in-None-clause-ok : goal.rise_part-returns-in-None-clause-ok
-rise_part-returns-in-None-clause-ok g t c =
-    ok_map c.live.result (Lived c.args.tree.now c.args.tables.now.items c.live.new.tables.items c.args.up
-    c.args.cells.now) (Righted c.args.tree.now c.args.tables.now.items c.live.new.tables.items c.args.at)
-    (λ l. trim_lived c.args.tree.now c.requires.gaining.was c.args.tables.now.items c.live.new.tables.items
+pub insert_above_part-returns-in-None-clause-ok : goal.insert_above_part-returns-in-None-clause-ok
+insert_above_part-returns-in-None-clause-ok g t c =
+    ok_map c.insert_tuple.result (InsertedUpwards c.args.tree.now c.args.tables.now.items c.insert_tuple.new.tables.items c.args.up
+    c.args.cells.now) (ReducedAbove c.args.tree.now c.args.tables.now.items c.insert_tuple.new.tables.items c.args.at)
+    (λ l. trim_lived c.args.tree.now c.requires.gaining.was c.args.tables.now.items c.insert_tuple.new.tables.items
     c.args.at c.args.up c.args.tuple.now c.args.cells.now c.requires.gaining.began
-    c.requires.gaining.gains c.requires.under l c.requires.part) c.live.ensures.ok
+    c.requires.gaining.gains c.requires.under l c.requires.part) c.insert_tuple.ensures.ok
 
-pub rise_part-returns-in-None-clause-refused : goal.rise_part-returns-in-None-clause-refused
-rise_part-returns-in-None-clause-refused g t c =
-    err_map c.live.result (Refused c.args.tree.now c.args.tables.now.items c.live.new.tables.items c.args.up)
-    (Stayed c.args.tree.now c.args.tables.now.items c.live.new.tables.items c.args.at)
-    (λ r. stayed c.args.tree.now c.args.tables.now.items c.live.new.tables.items c.args.at c.args.up
-    (Trim c.args.at) c.requires.gaining.began.ready.family.is_tree c.requires.under r) c.live.ensures.refused
+pub insert_above_part-returns-in-None-clause-refused : goal.insert_above_part-returns-in-None-clause-refused
+insert_above_part-returns-in-None-clause-refused g t c =
+    err_map c.insert_tuple.result (Refused c.args.tree.now c.args.tables.now.items c.insert_tuple.new.tables.items c.args.up)
+    (UnchangedAbove c.args.tree.now c.args.tables.now.items c.insert_tuple.new.tables.items c.args.at)
+    (λ r. stayed c.args.tree.now c.args.tables.now.items c.insert_tuple.new.tables.items c.args.at c.args.up
+    (Trim c.args.at) c.requires.gaining.began.ready.family.is_tree c.requires.under r) c.insert_tuple.ensures.refused
 
-pub rise_part-returns-in-None-clause-plain : goal.rise_part-returns-in-None-clause-plain
-rise_part-returns-in-None-clause-plain g t c =
-    c.live.ensures.plain
+pub insert_above_part-returns-in-None-clause-plain : goal.insert_above_part-returns-in-None-clause-plain
+insert_above_part-returns-in-None-clause-plain g t c =
+    c.insert_tuple.ensures.plain
 
-pub rise_part-returns-in-None-clause-counted : goal.rise_part-returns-in-None-clause-counted
-rise_part-returns-in-None-clause-counted g t c =
-    ok_map c.live.result (c.live.new.tally + 1 + 4 * size c.args.tables.now.items ≤ c.find_at.new.tally + 4 * size
-    c.live.new.tables.items)
-    (c.live.new.tally + 4 * size c.args.tables.now.items ≤ c.args.tally.now + 2 + 4 * size c.live.new.tables.items)
-    (λ h. omega (arith, h, c.find_at.ensures.counted)) c.live.ensures.counted
+pub insert_above_part-returns-in-None-clause-counted : goal.insert_above_part-returns-in-None-clause-counted
+insert_above_part-returns-in-None-clause-counted g t c =
+    ok_map c.insert_tuple.result (c.insert_tuple.new.tally + 1 + 4 * size c.args.tables.now.items ≤ c.find_at.new.tally + 4 * size
+    c.insert_tuple.new.tables.items)
+    (c.insert_tuple.new.tally + 4 * size c.args.tables.now.items ≤ c.args.tally.now + 2 + 4 * size c.insert_tuple.new.tables.items)
+    (λ h. omega (arith, h, c.find_at.ensures.counted)) c.insert_tuple.ensures.counted
 
-pub rise_part-returns-in-None-clause-bounded : goal.rise_part-returns-in-None-clause-bounded
-rise_part-returns-in-None-clause-bounded g t c =
-    err_map c.live.result
+pub insert_above_part-returns-in-None-clause-bounded : goal.insert_above_part-returns-in-None-clause-bounded
+insert_above_part-returns-in-None-clause-bounded g t c =
+    err_map c.insert_tuple.result
     ((n : ℕ) → AreAtMost c.args.tables.now.items n → length (entries_at c.args.tables.now.items c.args.up) < n
-    → c.live.new.tally + 9 * size c.args.tables.now.items ≤ c.find_at.new.tally + 9 *
+    → c.insert_tuple.new.tally + 9 * size c.args.tables.now.items ≤ c.find_at.new.tally + 9 *
     (n * length c.args.tree.now.nodes))
     ((n : ℕ) → AreAtMost c.args.tables.now.items n
-    → c.live.new.tally + 9 * size c.args.tables.now.items ≤ c.args.tally.now + 7 + 9 *
+    → c.insert_tuple.new.tally + 9 * size c.args.tables.now.items ≤ c.args.tally.now + 7 + 9 *
     (n * length c.args.tree.now.nodes))
     (λ h n few. omega (
       arith,
@@ -705,10 +705,10 @@ rise_part-returns-in-None-clause-bounded g t c =
           c.args.tuple.now
           c.requires.gaining.began c.requires.gaining.gains c.requires.under (few.each c.args.at)),
     ))
-    c.live.ensures.bounded
+    c.insert_tuple.ensures.bounded
 
-pub rise_side-is_small_at-requires : goal.rise_side-is_small_at-requires
-rise_side-is_small_at-requires g t c =
+pub insert_above_side-is_small_at-requires : goal.insert_above_side-is_small_at-requires
+insert_above_side-is_small_at-requires g t c =
     let m = c.requires.gaining.began.ready.family.is_tree.meet c.args.up c.args.guard c.args.at c.requires.under.node in
     let mg = m.guard_lower in
     let within = c.requires.under.within in
@@ -716,8 +716,8 @@ rise_side-is_small_at-requires g t c =
     (now_family c.args.tree.now c.requires.gaining.was c.args.tables.now.items c.args.at c.requires.gaining.began)
     (omega arith)
 
-pub rise_side-len_at-count-requires : goal.rise_side-len_at-count-requires
-rise_side-len_at-count-requires g t c =
+pub insert_above_side-len_at-count-requires : goal.insert_above_side-len_at-count-requires
+insert_above_side-len_at-count-requires g t c =
     let m = c.requires.gaining.began.ready.family.is_tree.meet c.args.up c.args.guard c.args.at c.requires.under.node in
     let mg = m.guard_lower in
     let within = c.requires.under.within in
@@ -725,8 +725,8 @@ rise_side-len_at-count-requires g t c =
     (now_family c.args.tree.now c.requires.gaining.was c.args.tables.now.items c.args.at c.requires.gaining.began)
     (omega arith)
 
-pub rise_side-first_at-next-requires : goal.rise_side-first_at-next-requires
-rise_side-first_at-next-requires g t c =
+pub insert_above_side-first_at-next-requires : goal.insert_above_side-first_at-next-requires
+insert_above_side-first_at-next-requires g t c =
     let m = c.requires.gaining.began.ready.family.is_tree.meet c.args.up c.args.guard c.args.at c.requires.under.node in
     let mg = m.guard_lower in
     let within = c.requires.under.within in
@@ -734,8 +734,8 @@ rise_side-first_at-next-requires g t c =
     (now_family c.args.tree.now c.requires.gaining.was c.args.tables.now.items c.args.at c.requires.gaining.began)
     (omega arith)
 
-pub rise_side-loop-done-init : goal.rise_side-loop-done-init
-rise_side-loop-done-init g t c =
+pub insert_above_side-loop-done-init : goal.insert_above_side-loop-done-init
+insert_above_side-loop-done-init g t c =
     record {
       next = c.first_at-next.ensures.found;
       grown = grown_none c.args.tree.now c.args.tables.now.items c.args.up
@@ -747,22 +747,22 @@ rise_side-loop-done-init g t c =
       counted = omega (arith, c.first_at-next.ensures.counted);
     }
 
-pub rise_side-read_at-requires-clause-within : goal.rise_side-read_at-requires-clause-within
-rise_side-read_at-requires-clause-within g t c =
+pub insert_above_side-read_at-requires-clause-within : goal.insert_above_side-read_at-requires-clause-within
+insert_above_side-read_at-requires-clause-within g t c =
     let m = c.requires.gaining.began.ready.family.is_tree.meet c.args.up c.args.guard c.args.at c.requires.under.node in
     let mg = m.guard_lower in
     let within = c.requires.under.within in
     has_table c.args.tree.now c.loop-done.tables.items c.args.guard c.loop-done.invariant.grown.family (omega arith)
 
-pub rise_side-read_at-requires-clause-narrow : goal.rise_side-read_at-requires-clause-narrow
-rise_side-read_at-requires-clause-narrow g t c =
+pub insert_above_side-read_at-requires-clause-narrow : goal.insert_above_side-read_at-requires-clause-narrow
+insert_above_side-read_at-requires-clause-narrow g t c =
     let m = c.requires.gaining.began.ready.family.is_tree.meet c.args.up c.args.guard c.args.at c.requires.under.node in
     let mg = m.guard_lower in
     let within = c.requires.under.within in
     width_narrow c.args.tree.now c.loop-done.tables.items c.args.guard c.loop-done.invariant.grown.family (omega arith)
 
-pub rise_side-read_at-requires-clause-live : goal.rise_side-read_at-requires-clause-live
-rise_side-read_at-requires-clause-live g t c =
+pub insert_above_side-read_at-requires-clause-live : goal.insert_above_side-read_at-requires-clause-live
+insert_above_side-read_at-requires-clause-live g t c =
     let k = cut_of (grp (key_at c.args.tables.now.items c.args.guard) (entries_at c.args.tables.now.items c.args.guard)
     c.args.tuple.now) c.loop-done.done c.loop-done.next c.in-Some.place c.loop-done.invariant.next c.in-Some.is in
     as_live (entries_at c.loop-done.tables.items c.args.guard) c.in-Some.place k.entry.tuple
@@ -774,8 +774,8 @@ rise_side-read_at-requires-clause-live g t c =
     (cut_at (key_at c.args.tables.now.items c.args.guard) (entries_at c.args.tables.now.items c.args.guard)
     c.args.tuple.now c.loop-done.done c.in-Some.place k))
 
-pub rise_side-live-requires : goal.rise_side-live-requires
-rise_side-live-requires g t c κs hκ =
+pub insert_above_side-insert_tuple-requires : goal.insert_above_side-insert_tuple-requires
+insert_above_side-insert_tuple-requires g t c κs hκ =
     let m = c.requires.gaining.began.ready.family.is_tree.meet c.args.up c.args.guard c.args.at c.requires.under.node in
     let mg = m.guard_lower in
     let within = c.requires.under.within in
@@ -831,22 +831,22 @@ rise_side-live-requires g t c κs hκ =
       ),
     )
 
-pub rise_side-empty_group-requires-clause-ready : goal.rise_side-empty_group-requires-clause-ready
-rise_side-empty_group-requires-clause-ready g t c =
-    refused_ready c.args.tree.now c.args.tables.now.items c.loop-done.tables.items c.live.new.tables.items c.args.up
+pub insert_above_side-remove_group_from_meet-requires-clause-ready : goal.insert_above_side-remove_group_from_meet-requires-clause-ready
+insert_above_side-remove_group_from_meet-requires-clause-ready g t c =
+    refused_ready c.args.tree.now c.args.tables.now.items c.loop-done.tables.items c.insert_tuple.new.tables.items c.args.up
     (take c.loop-done.done
     (grp (key_at c.args.tables.now.items c.args.guard) (entries_at c.args.tables.now.items c.args.guard)
     c.args.tuple.now)) c.requires.under.within c.loop-done.invariant.grown c.in-Err.ensures.refused
 
-pub rise_side-empty_group-requires-clause-lower : goal.rise_side-empty_group-requires-clause-lower
-rise_side-empty_group-requires-clause-lower g t c =
+pub insert_above_side-remove_group_from_meet-requires-clause-lower : goal.insert_above_side-remove_group_from_meet-requires-clause-lower
+insert_above_side-remove_group_from_meet-requires-clause-lower g t c =
     (c.requires.gaining.began.ready.family.is_tree.meet c.args.up c.args.guard c.args.at
     c.requires.under.node).guard_lower
 
-pub rise_side-empty_group-requires-clause-full : goal.rise_side-empty_group-requires-clause-full
-rise_side-empty_group-requires-clause-full g t c =
-    subst (λ (es : List Entry). IsFull (entries_at c.live.new.tables.items c.args.up) es)
-    (sym (same_group c.args.tree.now c.args.tables.now.items c.loop-done.tables.items c.live.new.tables.items
+pub insert_above_side-remove_group_from_meet-requires-clause-full : goal.insert_above_side-remove_group_from_meet-requires-clause-full
+insert_above_side-remove_group_from_meet-requires-clause-full g t c =
+    subst (λ (es : List Entry). IsFull (entries_at c.insert_tuple.new.tables.items c.args.up) es)
+    (sym (same_group c.args.tree.now c.args.tables.now.items c.loop-done.tables.items c.insert_tuple.new.tables.items
     c.args.guard c.args.up c.loop-done.done c.args.tuple.now
     (take c.loop-done.done
     (grp (key_at c.args.tables.now.items c.args.guard) (entries_at c.args.tables.now.items c.args.guard)
@@ -855,31 +855,31 @@ rise_side-empty_group-requires-clause-full g t c =
     (c.requires.gaining.began.ready.family.is_tree.meet c.args.up c.args.guard c.args.at
     c.requires.under.node).guard_lower c.loop-done.invariant.grown c.in-Err.ensures.refused))
     (side_full c.args.tree.now c.requires.gaining.was c.args.tables.now.items c.loop-done.tables.items
-    c.live.new.tables.items c.args.guard c.args.at c.args.up c.loop-done.done c.args.tuple.now
+    c.insert_tuple.new.tables.items c.args.guard c.args.at c.args.up c.loop-done.done c.args.tuple.now
     c.requires.gaining.began c.requires.gaining.gains c.requires.under c.loop-done.invariant.grown
     c.in-Err.ensures.refused)
 
-pub rise_side-returns-in-Err-clause-refused : goal.rise_side-returns-in-Err-clause-refused
-rise_side-returns-in-Err-clause-refused g t c =
+pub insert_above_side-returns-in-Err-clause-refused : goal.insert_above_side-returns-in-Err-clause-refused
+insert_above_side-returns-in-Err-clause-refused g t c =
     (side_stayed c.args.tree.now c.requires.gaining.was c.args.tables.now.items c.loop-done.tables.items
-    c.live.new.tables.items c.empty_group.new.tables.items c.args.guard c.args.at c.args.up c.loop-done.done
+    c.insert_tuple.new.tables.items c.remove_group_from_meet.new.tables.items c.args.guard c.args.at c.args.up c.loop-done.done
     c.args.tuple.now c.requires.gaining.began c.requires.under c.loop-done.invariant.grown c.in-Err.ensures.refused
-    c.empty_group.ensures.emptied)
+    c.remove_group_from_meet.ensures.emptied)
 
-pub rise_side-returns-in-Err-clause-plain : goal.rise_side-returns-in-Err-clause-plain
-rise_side-returns-in-Err-clause-plain g t c =
-    back_same c.args.tree.now c.args.tables.now.items c.live.new.tables.items c.empty_group.new.tables.items
+pub insert_above_side-returns-in-Err-clause-plain : goal.insert_above_side-returns-in-Err-clause-plain
+insert_above_side-returns-in-Err-clause-plain g t c =
+    back_same c.args.tree.now c.args.tables.now.items c.insert_tuple.new.tables.items c.remove_group_from_meet.new.tables.items
     (now_family c.args.tree.now c.requires.gaining.was c.args.tables.now.items c.args.at c.requires.gaining.began)
-    c.in-Err.ensures.refused.family c.empty_group.ensures.emptied.family
-    (plain_trans c.args.tables.now.items c.loop-done.tables.items c.live.new.tables.items
-    c.loop-done.invariant.unchanged c.live.ensures.plain) c.empty_group.ensures.fewer
+    c.in-Err.ensures.refused.family c.remove_group_from_meet.ensures.emptied.family
+    (plain_trans c.args.tables.now.items c.loop-done.tables.items c.insert_tuple.new.tables.items
+    c.loop-done.invariant.unchanged c.insert_tuple.ensures.plain) c.remove_group_from_meet.ensures.fewer
     (side_stayed c.args.tree.now c.requires.gaining.was c.args.tables.now.items c.loop-done.tables.items
-    c.live.new.tables.items c.empty_group.new.tables.items c.args.guard c.args.at c.args.up c.loop-done.done
+    c.insert_tuple.new.tables.items c.remove_group_from_meet.new.tables.items c.args.guard c.args.at c.args.up c.loop-done.done
     c.args.tuple.now c.requires.gaining.began c.requires.under c.loop-done.invariant.grown c.in-Err.ensures.refused
-    c.empty_group.ensures.emptied).supports
+    c.remove_group_from_meet.ensures.emptied).supports
 
-pub rise_side-returns-in-Err-clause-bounded : goal.rise_side-returns-in-Err-clause-bounded
-rise_side-returns-in-Err-clause-bounded g t c =
+pub insert_above_side-returns-in-Err-clause-bounded : goal.insert_above_side-returns-in-Err-clause-bounded
+insert_above_side-returns-in-Err-clause-bounded g t c =
     λ n few.
     let k = cut_of (grp (key_at c.args.tables.now.items c.args.guard) (entries_at c.args.tables.now.items c.args.guard)
     c.args.tuple.now) c.loop-done.done c.loop-done.next c.in-Some.place c.loop-done.invariant.next c.in-Some.is in
@@ -887,32 +887,32 @@ rise_side-returns-in-Err-clause-bounded g t c =
     c.args.guard c.args.at c.args.up c.loop-done.done n c.args.tuple.now k.entry c.requires.gaining.began
     c.requires.gaining.gains c.requires.under c.loop-done.invariant.grown k.is few in
     let back = side_stayed c.args.tree.now c.requires.gaining.was c.args.tables.now.items c.loop-done.tables.items
-    c.live.new.tables.items c.empty_group.new.tables.items c.args.guard c.args.at c.args.up c.loop-done.done
+    c.insert_tuple.new.tables.items c.remove_group_from_meet.new.tables.items c.args.guard c.args.at c.args.up c.loop-done.done
     c.args.tuple.now c.requires.gaining.began c.requires.under c.loop-done.invariant.grown c.in-Err.ensures.refused
-    c.empty_group.ensures.emptied in
-    side_bounded c.args.tree.now c.args.tables.now.items c.loop-done.tables.items c.live.new.tables.items
-    c.empty_group.new.tables.items (n * length c.args.tree.now.nodes) c.args.tally.now c.loop-done.tally
-    c.live.new.tally c.empty_group.new.tally
+    c.remove_group_from_meet.ensures.emptied in
+    side_bounded c.args.tree.now c.args.tables.now.items c.loop-done.tables.items c.insert_tuple.new.tables.items
+    c.remove_group_from_meet.new.tables.items (n * length c.args.tree.now.nodes) c.args.tally.now c.loop-done.tally
+    c.insert_tuple.new.tally c.remove_group_from_meet.new.tally
     (now_family c.args.tree.now c.requires.gaining.was c.args.tables.now.items c.args.at c.requires.gaining.began)
-    c.loop-done.invariant.grown.family c.in-Err.ensures.refused.family c.empty_group.ensures.emptied.family
+    c.loop-done.invariant.grown.family c.in-Err.ensures.refused.family c.remove_group_from_meet.ensures.emptied.family
     c.in-Err.ensures.refused.supports back.supports c.loop-done.invariant.counted
-    (c.in-Err.ensures.bounded n fits.1 fits.0) c.empty_group.ensures.counted
+    (c.in-Err.ensures.bounded n fits.1 fits.0) c.remove_group_from_meet.ensures.counted
 
-pub rise_side-next_at-next-requires-clause-within : goal.rise_side-next_at-next-requires-clause-within
-rise_side-next_at-next-requires-clause-within g t c =
+pub insert_above_side-next_at-next-requires-clause-within : goal.insert_above_side-next_at-next-requires-clause-within
+insert_above_side-next_at-next-requires-clause-within g t c =
     let m = c.requires.gaining.began.ready.family.is_tree.meet c.args.up c.args.guard c.args.at c.requires.under.node in
     let mg = m.guard_lower in
     let within = c.requires.under.within in
-    has_table c.args.tree.now c.live.new.tables.items c.args.guard c.in-Ok.ensures.ok.family (omega arith)
+    has_table c.args.tree.now c.insert_tuple.new.tables.items c.args.guard c.in-Ok.ensures.ok.family (omega arith)
 
-pub rise_side-next_at-next-requires-clause-live : goal.rise_side-next_at-next-requires-clause-live
-rise_side-next_at-next-requires-clause-live g t c =
+pub insert_above_side-next_at-next-requires-clause-live : goal.insert_above_side-next_at-next-requires-clause-live
+insert_above_side-next_at-next-requires-clause-live g t c =
     let k = cut_of (grp (key_at c.args.tables.now.items c.args.guard) (entries_at c.args.tables.now.items c.args.guard)
     c.args.tuple.now) c.loop-done.done c.loop-done.next c.in-Some.place c.loop-done.invariant.next c.in-Some.is in
-    let n = (grown_more c.args.tree.now c.args.tables.now.items c.loop-done.tables.items c.live.new.tables.items
+    let n = (grown_more c.args.tree.now c.args.tables.now.items c.loop-done.tables.items c.insert_tuple.new.tables.items
     c.args.up (grp (key_at c.args.tables.now.items c.args.guard) (entries_at c.args.tables.now.items c.args.guard)
     c.args.tuple.now) c.loop-done.done k.entry c.loop-done.invariant.grown
-    (subst (λ (w : List ℕ). Lived c.args.tree.now c.loop-done.tables.items c.live.new.tables.items c.args.up w)
+    (subst (λ (w : List ℕ). InsertedUpwards c.args.tree.now c.loop-done.tables.items c.insert_tuple.new.tables.items c.args.up w)
     (c.as_slice.ensures ∙ c.read_at.ensures.tuple k.entry.tuple
     (moved_at (entries_at c.args.tables.now.items c.args.guard) (entries_at c.loop-done.tables.items c.args.guard)
     c.in-Some.place k.entry.tuple
@@ -921,27 +921,27 @@ rise_side-next_at-next-requires-clause-live g t c =
     c.requires.under.node).guard_lower)
     (cut_at (key_at c.args.tables.now.items c.args.guard) (entries_at c.args.tables.now.items c.args.guard)
     c.args.tuple.now c.loop-done.done c.in-Some.place k))) c.in-Ok.ensures.ok) k.is) in
-    as_live (entries_at c.live.new.tables.items c.args.guard) c.in-Some.place k.entry.tuple
-    (moved_at (entries_at c.args.tables.now.items c.args.guard) (entries_at c.live.new.tables.items c.args.guard)
+    as_live (entries_at c.insert_tuple.new.tables.items c.args.guard) c.in-Some.place k.entry.tuple
+    (moved_at (entries_at c.args.tables.now.items c.args.guard) (entries_at c.insert_tuple.new.tables.items c.args.guard)
     c.in-Some.place k.entry.tuple
     (n.low c.args.guard (c.requires.gaining.began.ready.family.is_tree.meet c.args.up c.args.guard c.args.at
     c.requires.under.node).guard_lower)
     (cut_at (key_at c.args.tables.now.items c.args.guard) (entries_at c.args.tables.now.items c.args.guard)
     c.args.tuple.now c.loop-done.done c.in-Some.place k))
 
-pub rise_side-loop-done-smaller : goal.rise_side-loop-done-smaller
-rise_side-loop-done-smaller g t c =
+pub insert_above_side-loop-done-smaller : goal.insert_above_side-loop-done-smaller
+insert_above_side-loop-done-smaller g t c =
     let h = c.loop-done-test.true in
     omega arith
 
-pub rise_side-loop-done-preserved : goal.rise_side-loop-done-preserved
-rise_side-loop-done-preserved g t c =
+pub insert_above_side-loop-done-preserved : goal.insert_above_side-loop-done-preserved
+insert_above_side-loop-done-preserved g t c =
     let k = cut_of (grp (key_at c.args.tables.now.items c.args.guard) (entries_at c.args.tables.now.items c.args.guard)
     c.args.tuple.now) c.loop-done.done c.loop-done.next c.in-Some.place c.loop-done.invariant.next c.in-Some.is in
-    let n = (grown_more c.args.tree.now c.args.tables.now.items c.loop-done.tables.items c.live.new.tables.items
+    let n = (grown_more c.args.tree.now c.args.tables.now.items c.loop-done.tables.items c.insert_tuple.new.tables.items
     c.args.up (grp (key_at c.args.tables.now.items c.args.guard) (entries_at c.args.tables.now.items c.args.guard)
     c.args.tuple.now) c.loop-done.done k.entry c.loop-done.invariant.grown
-    (subst (λ (w : List ℕ). Lived c.args.tree.now c.loop-done.tables.items c.live.new.tables.items c.args.up w)
+    (subst (λ (w : List ℕ). InsertedUpwards c.args.tree.now c.loop-done.tables.items c.insert_tuple.new.tables.items c.args.up w)
     (c.as_slice.ensures ∙ c.read_at.ensures.tuple k.entry.tuple
     (moved_at (entries_at c.args.tables.now.items c.args.guard) (entries_at c.loop-done.tables.items c.args.guard)
     c.in-Some.place k.entry.tuple
@@ -957,19 +957,19 @@ rise_side-loop-done-preserved g t c =
           c.args.tuple.now)) k.entry
           (drop (c.loop-done.done + 1)
           (grp (key_at c.args.tables.now.items c.args.guard) (entries_at c.args.tables.now.items c.args.guard)
-          c.args.tuple.now)) (group_still c.args.tree.now c.args.tables.now.items c.live.new.tables.items c.args.guard
+          c.args.tuple.now)) (group_still c.args.tree.now c.args.tables.now.items c.insert_tuple.new.tables.items c.args.guard
           c.args.tuple.now (now_family c.args.tree.now c.requires.gaining.was c.args.tables.now.items c.args.at
           c.requires.gaining.began) n.family
           (n.low c.args.guard (c.requires.gaining.began.ready.family.is_tree.meet c.args.up c.args.guard c.args.at
           c.requires.under.node).guard_lower) ∙ k.is) k.at;
       grown = n;
-      unchanged = plain_trans c.args.tables.now.items c.loop-done.tables.items c.live.new.tables.items
-          c.loop-done.invariant.unchanged c.live.ensures.plain;
+      unchanged = plain_trans c.args.tables.now.items c.loop-done.tables.items c.insert_tuple.new.tables.items
+          c.loop-done.invariant.unchanged c.insert_tuple.ensures.plain;
       counted = omega (arith, c.loop-done.invariant.counted, c.in-Ok.ensures.counted, c.next_at-next.ensures.counted);
     }
 
-pub rise_side-returns-in-None-clause-ok : goal.rise_side-returns-in-None-clause-ok
-rise_side-returns-in-None-clause-ok g t c =
+pub insert_above_side-returns-in-None-clause-ok : goal.insert_above_side-returns-in-None-clause-ok
+insert_above_side-returns-in-None-clause-ok g t c =
     side_righted c.args.tree.now c.requires.gaining.was c.args.tables.now.items c.loop-done.tables.items c.args.guard
     c.args.at c.args.up c.loop-done.done c.args.tuple.now c.requires.gaining.began c.requires.gaining.gains
     c.requires.under c.loop-done.invariant.grown
@@ -977,16 +977,16 @@ rise_side-returns-in-None-clause-ok g t c =
     (grp (key_at c.args.tables.now.items c.args.guard) (entries_at c.args.tables.now.items c.args.guard)
     c.args.tuple.now)) (sym c.loop-done.invariant.next ∙ c.in-None.is))
 
-pub rise_side-returns-in-None-clause-plain : goal.rise_side-returns-in-None-clause-plain
-rise_side-returns-in-None-clause-plain g t c =
+pub insert_above_side-returns-in-None-clause-plain : goal.insert_above_side-returns-in-None-clause-plain
+insert_above_side-returns-in-None-clause-plain g t c =
     c.loop-done.invariant.unchanged
 
-pub rise_side-returns-in-None-clause-counted : goal.rise_side-returns-in-None-clause-counted
-rise_side-returns-in-None-clause-counted g t c =
+pub insert_above_side-returns-in-None-clause-counted : goal.insert_above_side-returns-in-None-clause-counted
+insert_above_side-returns-in-None-clause-counted g t c =
     omega (arith, c.loop-done.invariant.counted)
 
-pub rise_side-returns-clause-ok : goal.rise_side-returns-clause-ok
-rise_side-returns-clause-ok g t c =
+pub insert_above_side-returns-clause-ok : goal.insert_above_side-returns-clause-ok
+insert_above_side-returns-clause-ok g t c =
     let h = c.loop-done-test.false in
     let x = c.loop-done.auto.done-end in
     side_righted c.args.tree.now c.requires.gaining.was c.args.tables.now.items c.loop-done.tables.items c.args.guard
@@ -995,71 +995,71 @@ rise_side-returns-clause-ok g t c =
     (drop_group (key_at c.args.tables.now.items c.args.guard) (entries_at c.args.tables.now.items c.args.guard)
     c.args.tuple.now c.loop-done.done (omega (arith, c.len_at-count.ensures)))
 
-pub rise_side-returns-clause-plain : goal.rise_side-returns-clause-plain
-rise_side-returns-clause-plain g t c =
+pub insert_above_side-returns-clause-plain : goal.insert_above_side-returns-clause-plain
+insert_above_side-returns-clause-plain g t c =
     c.loop-done.invariant.unchanged
 
-pub rise_side-returns-clause-counted : goal.rise_side-returns-clause-counted
-rise_side-returns-clause-counted g t c =
+pub insert_above_side-returns-clause-counted : goal.insert_above_side-returns-clause-counted
+insert_above_side-returns-clause-counted g t c =
     omega (arith, c.loop-done.invariant.counted)
 
-pub live-returns-in_err-place-clause-flat : goal.live-returns-in_err-place-clause-flat
-live-returns-in_err-place-clause-flat g t c =
+pub insert_tuple-returns-in_err-place-clause-flat : goal.insert_tuple-returns-in_err-place-clause-flat
+insert_tuple-returns-in_err-place-clause-flat g t c =
     on_err c.from_residual.result
     (HasEqualMeets c.args.tree.now
     → c.insert_at.new.tally ≤ c.args.tally.now + 5 * (length c.args.tree.now.nodes - c.args.at))
     (λ meets. let within = c.requires.ready.within in omega (arith, c.insert_at.ensures.counted))
 
-pub live-returns-in-Err-clause-flat : goal.live-returns-in-Err-clause-flat
-live-returns-in-Err-clause-flat g t c =
+pub insert_tuple-returns-in-Err-clause-flat : goal.insert_tuple-returns-in-Err-clause-flat
+insert_tuple-returns-in-Err-clause-flat g t c =
     λ meets. omega (arith, c.insert_at.ensures.counted, c.in-Err.ensures.flat meets, c.remove_at.ensures.counted)
 
-pub rise-returns-in-Trim-clause-flat : goal.rise-returns-in-Trim-clause-flat
-rise-returns-in-Trim-clause-flat g t c =
-    c.rise_trim.ensures.flat
+pub insert_above-returns-in-Trim-clause-flat : goal.insert_above-returns-in-Trim-clause-flat
+insert_above-returns-in-Trim-clause-flat g t c =
+    c.insert_above_trim.ensures.flat
 
-pub rise-returns-then-guard-at-clause-flat : goal.rise-returns-then-guard-at-clause-flat
-rise-returns-then-guard-at-clause-flat g t c =
-    c.rise_guard.ensures.flat
+pub insert_above-returns-then-guard-at-clause-flat : goal.insert_above-returns-then-guard-at-clause-flat
+insert_above-returns-then-guard-at-clause-flat g t c =
+    c.insert_above_guard.ensures.flat
 
-pub rise-returns-else-guard-at-clause-flat : goal.rise-returns-else-guard-at-clause-flat
-rise-returns-else-guard-at-clause-flat g t c =
-    c.rise_side.ensures.flat
+pub insert_above-returns-else-guard-at-clause-flat : goal.insert_above-returns-else-guard-at-clause-flat
+insert_above-returns-else-guard-at-clause-flat g t c =
+    c.insert_above_side.ensures.flat
 
-pub rise_guard-returns-in-Some-clause-flat : goal.rise_guard-returns-in-Some-clause-flat
-rise_guard-returns-in-Some-clause-flat g t c =
-    err_map c.live.result
+pub insert_above_guard-returns-in-Some-clause-flat : goal.insert_above_guard-returns-in-Some-clause-flat
+insert_above_guard-returns-in-Some-clause-flat g t c =
+    err_map c.insert_tuple.result
     (HasEqualMeets c.args.tree.now
-    → c.live.new.tally ≤ c.find_part.new.tally + 5 * (length c.args.tree.now.nodes - c.args.up))
+    → c.insert_tuple.new.tally ≤ c.find_part.new.tally + 5 * (length c.args.tree.now.nodes - c.args.up))
     (HasEqualMeets c.args.tree.now
-    → c.live.new.tally + 2 ≤ c.args.tally.now + 5 * (length c.args.tree.now.nodes - c.args.at))
+    → c.insert_tuple.new.tally + 2 ≤ c.args.tally.now + 5 * (length c.args.tree.now.nodes - c.args.at))
     (λ h meets. let low = lower_of c.args.tree.now c.args.up (Meet c.args.at c.args.side) c.args.at
     c.requires.gaining.began.ready.family.is_tree c.requires.under in let within = c.requires.under.within in omega
-    (arith, c.find_part.ensures.counted, h meets)) c.live.ensures.flat
+    (arith, c.find_part.ensures.counted, h meets)) c.insert_tuple.ensures.flat
 
-pub rise_part-returns-in-None-clause-flat : goal.rise_part-returns-in-None-clause-flat
-rise_part-returns-in-None-clause-flat g t c =
-    err_map c.live.result
+pub insert_above_part-returns-in-None-clause-flat : goal.insert_above_part-returns-in-None-clause-flat
+insert_above_part-returns-in-None-clause-flat g t c =
+    err_map c.insert_tuple.result
     (HasEqualMeets c.args.tree.now
-    → c.live.new.tally ≤ c.find_at.new.tally + 5 * (length c.args.tree.now.nodes - c.args.up))
+    → c.insert_tuple.new.tally ≤ c.find_at.new.tally + 5 * (length c.args.tree.now.nodes - c.args.up))
     (HasEqualMeets c.args.tree.now
-    → c.live.new.tally + 2 ≤ c.args.tally.now + 5 * (length c.args.tree.now.nodes - c.args.at))
+    → c.insert_tuple.new.tally + 2 ≤ c.args.tally.now + 5 * (length c.args.tree.now.nodes - c.args.at))
     (λ h meets. let low = lower_of c.args.tree.now c.args.up (Trim c.args.at) c.args.at
     c.requires.gaining.began.ready.family.is_tree c.requires.under in let within = c.requires.under.within in omega
-    (arith, c.find_at.ensures.counted, h meets)) c.live.ensures.flat
+    (arith, c.find_at.ensures.counted, h meets)) c.insert_tuple.ensures.flat
 
-pub rise_side-returns-in-Err-clause-flat : goal.rise_side-returns-in-Err-clause-flat
-rise_side-returns-in-Err-clause-flat g t c =
+pub insert_above_side-returns-in-Err-clause-flat : goal.insert_above_side-returns-in-Err-clause-flat
+insert_above_side-returns-in-Err-clause-flat g t c =
     λ meets.
     let k = cut_of (grp (key_at c.args.tables.now.items c.args.guard) (entries_at c.args.tables.now.items c.args.guard)
     c.args.tuple.now) c.loop-done.done c.loop-done.next c.in-Some.place c.loop-done.invariant.next c.in-Some.is in
     let back = side_stayed c.args.tree.now c.requires.gaining.was c.args.tables.now.items c.loop-done.tables.items
-    c.live.new.tables.items c.empty_group.new.tables.items c.args.guard c.args.at c.args.up c.loop-done.done
+    c.insert_tuple.new.tables.items c.remove_group_from_meet.new.tables.items c.args.guard c.args.at c.args.up c.loop-done.done
     c.args.tuple.now c.requires.gaining.began c.requires.under c.loop-done.invariant.grown c.in-Err.ensures.refused
-    c.empty_group.ensures.emptied in
+    c.remove_group_from_meet.ensures.emptied in
     side_flat c.args.tree.now c.requires.gaining.was c.args.tables.now.items c.loop-done.tables.items
-    c.live.new.tables.items c.empty_group.new.tables.items c.args.guard c.args.at c.args.up c.loop-done.done
-    c.args.tally.now c.loop-done.tally c.live.new.tally c.empty_group.new.tally c.args.tuple.now k.entry
+    c.insert_tuple.new.tables.items c.remove_group_from_meet.new.tables.items c.args.guard c.args.at c.args.up c.loop-done.done
+    c.args.tally.now c.loop-done.tally c.insert_tuple.new.tally c.remove_group_from_meet.new.tally c.args.tuple.now k.entry
     meets c.requires.gaining.began c.requires.under c.loop-done.invariant.grown k.is c.in-Err.ensures.refused.family
-    c.empty_group.ensures.emptied.family c.in-Err.ensures.refused.supports back.supports
-    c.loop-done.invariant.counted (c.in-Err.ensures.flat meets) c.empty_group.ensures.counted
+    c.remove_group_from_meet.ensures.emptied.family c.in-Err.ensures.refused.supports back.supports
+    c.loop-done.invariant.counted (c.in-Err.ensures.flat meets) c.remove_group_from_meet.ensures.counted

@@ -2,7 +2,7 @@ use Rattle.std.proofs.Common.{◌+◌, ◌*◌, ◌≤◌, take}
 use Rattle.djq_propagate.specs.Batches.{HaveCome}
 use Rattle.djq_propagate.specs.Sizes.{size}
 use Rattle.djq_propagate.specs.Walks.{CameAs}
-use Rattle.djq_propagate.proofs.many.live_all.Given as goal
+use Rattle.djq_propagate.proofs.many.insert_all.Given as goal
 
 abbrev pub invariant-loop-i : goal.invariant-loop-i
 invariant-loop-i g l = record {

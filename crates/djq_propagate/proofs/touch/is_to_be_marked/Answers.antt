@@ -1,10 +1,10 @@
 use Rattle.std.proofs.Common.{Bool, ap, sym, ◌∙◌, arith}
 use Rattle.djq_index.specs.Entries.{many, plain}
 use Rattle.djq_reduct.specs.Tables.{entries_at, key_at}
-use Rattle.djq_propagate.specs.Touches.{gate}
+use Rattle.djq_propagate.specs.Touches.{is_marked_by}
 use Rattle.djq_propagate.proofs.Going.{has_table, as_live}
 use Rattle.djq_propagate.proofs.Touching.{gate_open, gate_none, first_is, gate_first}
-use Rattle.djq_propagate.proofs.touch.is_going.Goals as goal
+use Rattle.djq_propagate.proofs.touch.is_to_be_marked.Goals as goal
 
 pub first_at-requires : goal.first_at-requires
 first_at-requires g c =
@@ -26,7 +26,7 @@ returns-in-Some-clause-going g c =
     c.args.cells.now c.in-Some.place (sym c.first_at.ensures.found ∙ c.in-Some.is) in
     gate_first c.args.tree.now c.args.tables.now.items c.args.at c.args.cells.now c.in-Some.place c.marked_at.result x
     c.requires.family (c.marked_at.ensures x.entry.tuple x.is_at)
-    ∙ ap (λ (b : Bool). gate b
+    ∙ ap (λ (b : Bool). is_marked_by b
     (many (key_at c.args.tables.now.items c.args.at) (plain (entries_at c.args.tables.now.items c.args.at))
     c.args.cells.now)) (sym c.if-going.true)
 
@@ -38,7 +38,7 @@ pub returns-in-None-clause-going : goal.returns-in-None-clause-going
 returns-in-None-clause-going g c =
     gate_none (key_at c.args.tables.now.items c.args.at) (entries_at c.args.tables.now.items c.args.at) c.args.cells.now
     (sym c.first_at.ensures.found ∙ c.in-None.is)
-    ∙ ap (λ (b : Bool). gate b
+    ∙ ap (λ (b : Bool). is_marked_by b
     (many (key_at c.args.tables.now.items c.args.at) (plain (entries_at c.args.tables.now.items c.args.at))
     c.args.cells.now)) (sym c.if-going.true)
 
@@ -48,7 +48,7 @@ returns-in-None-clause-counted g c =
 
 pub returns-else-going-clause-going : goal.returns-else-going-clause-going
 returns-else-going-clause-going g c =
-    sym (ap (λ (b : Bool). gate b
+    sym (ap (λ (b : Bool). is_marked_by b
     (many (key_at c.args.tables.now.items c.args.at) (plain (entries_at c.args.tables.now.items c.args.at))
     c.args.cells.now)) c.if-going.false
     ∙ gate_open (many (key_at c.args.tables.now.items c.args.at)

@@ -8,9 +8,9 @@ ghost use Rattle.djq_tree.specs.Flat.{HasEqualMeets};
 ghost use Rattle.djq_reduct.specs.Tables.{entries_at, key_at, width_at};
 ghost use Rattle.djq_reduct.specs.Marks.{IsBare};
 ghost use Rattle.djq_propagate.specs.Sizes.{size, AreAtMost};
-ghost use Rattle.djq_propagate.specs.Walks.{Ready, Lived, Refused, Gaining, Righted, Stayed, CameAs, IsUnder};
+ghost use Rattle.djq_propagate.specs.Walks.{Ready, InsertedUpwards, Refused, Gaining, ReducedAbove, UnchangedAbove, CameAs, IsUnder};
 
-use crate::kill::empty_group;
+use crate::removal::remove_group_from_meet;
 use crate::tables::{
     column_of, find_at, find_part, first_at, has_no_column, insert_at, is_small_at, len_at,
     next_at, part_of, raise_at, read_at, remove_at,
@@ -24,8 +24,8 @@ use std::sync::ledger::Ledger;
 
 /// Puts a tuple into the table of a node, and what it brings into the tables above; they come marked or
 /// not. Where there is no memory, all tables hold the same tuples as before.
-#[cycle(live)]
-pub(crate) fn live<L: Ledger>(
+#[cycle(insert_tuple)]
+pub(crate) fn insert_tuple<L: Ledger>(
     tree: &Tree,
     tables: &mut Vec<Table>,
     at: usize,
@@ -38,7 +38,7 @@ pub(crate) fn live<L: Ledger>(
     requires wide { length tuple.now ≡ width_at tables.old.items at }
     requires few { length (entries_at tables.old.items at) < 4294967295 }
     requires bare { marked ≡ false → IsBare tables.old.items }
-    ensures ok { IfOk result (λ _. Lived tree.now tables.old.items tables.new.items at tuple.now) }
+    ensures ok { IfOk result (λ _. InsertedUpwards tree.now tables.old.items tables.new.items at tuple.now) }
     ensures refused { OnErr result (Refused tree.now tables.old.items tables.new.items at) }
     ensures plain { CameAs marked tables.old.items tables.new.items }
     ensures counted { IfOk result (λ _. tally.new + 1 + 4 * size tables.old.items ≤ tally.old + 4 * size tables.new.items) }
@@ -46,7 +46,7 @@ pub(crate) fn live<L: Ledger>(
     ensures flat { OnErr result (HasEqualMeets tree.now → tally.new ≤ tally.old + 5 * (length tree.now.nodes - at)) }
 {
     let place = insert_at(tables, at, tuple, marked, tally)?;
-    match rise(tree, tables, at, tuple, marked, tally) {
+    match insert_above(tree, tables, at, tuple, marked, tally) {
         Ok(()) => Ok(()),
         Err(error) => {
             remove_at(tables, at, place, tally);
@@ -56,8 +56,8 @@ pub(crate) fn live<L: Ledger>(
 }
 
 /// The same for a tuple that is already in its node's table.
-#[cycle(live)]
-fn rise<L: Ledger>(
+#[cycle(insert_tuple)]
+fn insert_above<L: Ledger>(
     tree: &Tree,
     tables: &mut Vec<Table>,
     at: usize,
@@ -68,8 +68,8 @@ fn rise<L: Ledger>(
     requires gaining { Gaining tree.now tables.old.items at tuple.now }
     requires wide { length tuple.now ≡ width_at tables.old.items at }
     requires bare { marked ≡ false → IsBare tables.old.items }
-    ensures ok { IfOk result (λ _. Righted tree.now tables.old.items tables.new.items at) }
-    ensures refused { OnErr result (Stayed tree.now tables.old.items tables.new.items at) }
+    ensures ok { IfOk result (λ _. ReducedAbove tree.now tables.old.items tables.new.items at) }
+    ensures refused { OnErr result (UnchangedAbove tree.now tables.old.items tables.new.items at) }
     ensures plain { CameAs marked tables.old.items tables.new.items }
     ensures counted { IfOk result (λ _. tally.new + 4 * size tables.old.items ≤ tally.old + 2 + 4 * size tables.new.items) }
     ensures bounded { OnErr result ((n : ℕ) → AreAtMost tables.old.items n → tally.new + 9 * size tables.old.items ≤ tally.old + 7 + 9 * (n * length tree.now.nodes)) }
@@ -79,12 +79,12 @@ fn rise<L: Ledger>(
         None => Ok(()),
         Some(up) => match tree.node(up) {
             Node::Leaf { .. } => Ok(()),
-            Node::Trim { .. } => rise_trim(tree, tables, at, up, tuple, marked, tally),
+            Node::Trim { .. } => insert_above_trim(tree, tables, at, up, tuple, marked, tally),
             Node::Meet { guard, side } => {
                 if guard == at {
-                    rise_guard(tree, tables, at, side, up, tuple, marked, tally)
+                    insert_above_guard(tree, tables, at, side, up, tuple, marked, tally)
                 } else {
-                    rise_side(tree, tables, at, guard, up, tuple, marked, tally)
+                    insert_above_side(tree, tables, at, guard, up, tuple, marked, tally)
                 }
             }
         },
@@ -93,8 +93,8 @@ fn rise<L: Ledger>(
 
 /// To a trim a tuple brings its projection, or one support more of it. Most projections have one cell or none,
 /// and need no room.
-#[cycle(live)]
-fn rise_trim<L: Ledger>(
+#[cycle(insert_tuple)]
+fn insert_above_trim<L: Ledger>(
     tree: &Tree,
     tables: &mut Vec<Table>,
     at: usize,
@@ -107,29 +107,29 @@ fn rise_trim<L: Ledger>(
     requires wide { length tuple.now ≡ width_at tables.old.items at }
     requires under { IsUnder tree.now up (Trim at) at }
     requires bare { marked ≡ false → IsBare tables.old.items }
-    ensures ok { IfOk result (λ _. Righted tree.now tables.old.items tables.new.items at) }
-    ensures refused { OnErr result (Stayed tree.now tables.old.items tables.new.items at) }
+    ensures ok { IfOk result (λ _. ReducedAbove tree.now tables.old.items tables.new.items at) }
+    ensures refused { OnErr result (UnchangedAbove tree.now tables.old.items tables.new.items at) }
     ensures plain { CameAs marked tables.old.items tables.new.items }
     ensures counted { IfOk result (λ _. tally.new + 4 * size tables.old.items ≤ tally.old + 2 + 4 * size tables.new.items) }
     ensures bounded { OnErr result ((n : ℕ) → AreAtMost tables.old.items n → tally.new + 9 * size tables.old.items ≤ tally.old + 7 + 9 * (n * length tree.now.nodes)) }
     ensures flat { OnErr result (HasEqualMeets tree.now → tally.new + 2 ≤ tally.old + 5 * (length tree.now.nodes - at)) }
 {
     match column_of(tables, at) {
-        Some(column) => { rise_part(tree, tables, at, up, tuple, &[tuple[column]], marked, tally) }
+        Some(column) => { insert_above_part(tree, tables, at, up, tuple, &[tuple[column]], marked, tally) }
         None => {
             if has_no_column(tables, at) {
-                rise_part(tree, tables, at, up, tuple, &[], marked, tally)
+                insert_above_part(tree, tables, at, up, tuple, &[], marked, tally)
             } else {
-                rise_wide(tree, tables, at, up, tuple, marked, tally)
+                insert_above_wide(tree, tables, at, up, tuple, marked, tally)
             }
         }
     }
 }
 
 /// The same for a projection to any columns.
-#[cycle(live)]
+#[cycle(insert_tuple)]
 #[inline(never)]
-fn rise_wide<L: Ledger>(
+fn insert_above_wide<L: Ledger>(
     tree: &Tree,
     tables: &mut Vec<Table>,
     at: usize,
@@ -142,8 +142,8 @@ fn rise_wide<L: Ledger>(
     requires wide { length tuple.now ≡ width_at tables.old.items at }
     requires under { IsUnder tree.now up (Trim at) at }
     requires bare { marked ≡ false → IsBare tables.old.items }
-    ensures ok { IfOk result (λ _. Righted tree.now tables.old.items tables.new.items at) }
-    ensures refused { OnErr result (Stayed tree.now tables.old.items tables.new.items at) }
+    ensures ok { IfOk result (λ _. ReducedAbove tree.now tables.old.items tables.new.items at) }
+    ensures refused { OnErr result (UnchangedAbove tree.now tables.old.items tables.new.items at) }
     ensures plain { CameAs marked tables.old.items tables.new.items }
     ensures counted { IfOk result (λ _. tally.new + 4 * size tables.old.items ≤ tally.old + 2 + 4 * size tables.new.items) }
     ensures bounded { OnErr result ((n : ℕ) → AreAtMost tables.old.items n → tally.new + 9 * size tables.old.items ≤ tally.old + 7 + 9 * (n * length tree.now.nodes)) }
@@ -151,13 +151,13 @@ fn rise_wide<L: Ledger>(
 {
     let mut part = Cells::new(0);
     part_of(tables, at, tuple, &mut part);
-    rise_part(tree, tables, at, up, tuple, part.as_slice(), marked, tally)
+    insert_above_part(tree, tables, at, up, tuple, part.as_slice(), marked, tally)
 }
 
 /// The same for a tuple whose projection is known.
-#[cycle(live)]
+#[cycle(insert_tuple)]
 #[inline(always)]
-fn rise_part<L: Ledger>(
+fn insert_above_part<L: Ledger>(
     tree: &Tree,
     tables: &mut Vec<Table>,
     at: usize,
@@ -172,8 +172,8 @@ fn rise_part<L: Ledger>(
     requires under { IsUnder tree.now up (Trim at) at }
     requires part { cells.now ≡ pick (key_at tables.old.items at) tuple.now }
     requires bare { marked ≡ false → IsBare tables.old.items }
-    ensures ok { IfOk result (λ _. Righted tree.now tables.old.items tables.new.items at) }
-    ensures refused { OnErr result (Stayed tree.now tables.old.items tables.new.items at) }
+    ensures ok { IfOk result (λ _. ReducedAbove tree.now tables.old.items tables.new.items at) }
+    ensures refused { OnErr result (UnchangedAbove tree.now tables.old.items tables.new.items at) }
     ensures plain { CameAs marked tables.old.items tables.new.items }
     ensures counted { IfOk result (λ _. tally.new + 4 * size tables.old.items ≤ tally.old + 2 + 4 * size tables.new.items) }
     ensures bounded { OnErr result ((n : ℕ) → AreAtMost tables.old.items n → tally.new + 9 * size tables.old.items ≤ tally.old + 7 + 9 * (n * length tree.now.nodes)) }
@@ -185,13 +185,13 @@ fn rise_part<L: Ledger>(
             raise_at(tables, up, place, tally);
             Ok(())
         }
-        None => live(tree, tables, up, cells, marked, tally),
+        None => insert_tuple(tree, tables, up, cells, marked, tally),
     }
 }
 
 /// To a meet a tuple of its guard brings itself, where the side has its projection.
-#[cycle(live)]
-fn rise_guard<L: Ledger>(
+#[cycle(insert_tuple)]
+fn insert_above_guard<L: Ledger>(
     tree: &Tree,
     tables: &mut Vec<Table>,
     at: usize,
@@ -205,8 +205,8 @@ fn rise_guard<L: Ledger>(
     requires wide { length tuple.now ≡ width_at tables.old.items at }
     requires under { IsUnder tree.now up (Meet at side) at }
     requires bare { marked ≡ false → IsBare tables.old.items }
-    ensures ok { IfOk result (λ _. Righted tree.now tables.old.items tables.new.items at) }
-    ensures refused { OnErr result (Stayed tree.now tables.old.items tables.new.items at) }
+    ensures ok { IfOk result (λ _. ReducedAbove tree.now tables.old.items tables.new.items at) }
+    ensures refused { OnErr result (UnchangedAbove tree.now tables.old.items tables.new.items at) }
     ensures plain { CameAs marked tables.old.items tables.new.items }
     ensures counted { IfOk result (λ _. tally.new + 4 * size tables.old.items ≤ tally.old + 2 + 4 * size tables.new.items) }
     ensures bounded { OnErr result ((n : ℕ) → AreAtMost tables.old.items n → tally.new + 9 * size tables.old.items ≤ tally.old + 7 + 9 * (n * length tree.now.nodes)) }
@@ -214,14 +214,14 @@ fn rise_guard<L: Ledger>(
 {
     is_small_at(tables, at);
     match find_part(tables, at, side, tuple, tally) {
-        Some(_place) => live(tree, tables, up, tuple, marked, tally),
+        Some(_place) => insert_tuple(tree, tables, up, tuple, marked, tally),
         None => Ok(()),
     }
 }
 
 /// To a meet a tuple of its side brings the guard's tuples that project to it.
-#[cycle(live)]
-fn rise_side<L: Ledger>(
+#[cycle(insert_tuple)]
+fn insert_above_side<L: Ledger>(
     tree: &Tree,
     tables: &mut Vec<Table>,
     at: usize,
@@ -234,8 +234,8 @@ fn rise_side<L: Ledger>(
     requires gaining { Gaining tree.now tables.old.items at tuple.now }
     requires under { IsUnder tree.now up (Meet guard at) at }
     requires bare { marked ≡ false → IsBare tables.old.items }
-    ensures ok { IfOk result (λ _. Righted tree.now tables.old.items tables.new.items at) }
-    ensures refused { OnErr result (Stayed tree.now tables.old.items tables.new.items at) }
+    ensures ok { IfOk result (λ _. ReducedAbove tree.now tables.old.items tables.new.items at) }
+    ensures refused { OnErr result (UnchangedAbove tree.now tables.old.items tables.new.items at) }
     ensures plain { CameAs marked tables.old.items tables.new.items }
     ensures counted { IfOk result (λ _. tally.new + 4 * size tables.old.items ≤ tally.old + 2 + 4 * size tables.new.items) }
     ensures bounded { OnErr result ((n : ℕ) → AreAtMost tables.old.items n → tally.new + 9 * size tables.old.items ≤ tally.old + 7 + 9 * (n * length tree.now.nodes)) }
@@ -249,10 +249,10 @@ fn rise_side<L: Ledger>(
         match next {
             Some(place) => {
                 read_at(tables, guard, place, &mut part);
-                match live(tree, tables, up, part.as_slice(), marked, tally) {
+                match insert_tuple(tree, tables, up, part.as_slice(), marked, tally) {
                     Ok(()) => {}
                     Err(error) => {
-                        empty_group(tree, tables, guard, up, tuple, done, tally);
+                        remove_group_from_meet(tree, tables, guard, up, tuple, done, tally);
                         return Err(error);
                     }
                 }

@@ -2,7 +2,7 @@ use Rattle.std.proofs.Common.{◌+◌, ◌*◌, ◌≤◌, take}
 use Rattle.djq_propagate.specs.Batches.{HaveGone}
 use Rattle.djq_propagate.specs.Sizes.{size}
 use Rattle.djq_propagate.specs.Walks.{Fewer}
-use Rattle.djq_propagate.proofs.many.kill_all.Given as goal
+use Rattle.djq_propagate.proofs.many.remove_all.Given as goal
 
 abbrev pub invariant-loop-i : goal.invariant-loop-i
 invariant-loop-i g l = record {

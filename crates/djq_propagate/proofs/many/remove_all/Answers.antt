@@ -3,7 +3,7 @@ use Rattle.djq_propagate.specs.Batches.{HaveGone}
 use Rattle.djq_propagate.proofs.Batching.{read_as, gone_none, gone_more, next_held}
 use Rattle.djq_propagate.proofs.Plains.{fewer_refl, fewer_trans}
 use Rattle.djq_propagate.proofs.Updating.{ready_leaf}
-use Rattle.djq_propagate.proofs.many.kill_all.Goals as goal
+use Rattle.djq_propagate.proofs.many.remove_all.Goals as goal
 
 pub loop-i-init : goal.loop-i-init
 loop-i-init g c = record {
@@ -13,12 +13,12 @@ loop-i-init g c = record {
   counted = omega arith;
 }
 
-pub kill_tuple-requires-clause-ready : goal.kill_tuple-requires-clause-ready
-kill_tuple-requires-clause-ready g c = ready_leaf c.args.tree.now c.loop-i.tables.items c.args.leaf
+pub find_and_remove-requires-clause-ready : goal.find_and_remove-requires-clause-ready
+find_and_remove-requires-clause-ready g c = ready_leaf c.args.tree.now c.loop-i.tables.items c.args.leaf
     c.loop-i.invariant.gone.sound c.requires.leaf
 
-pub kill_tuple-requires-clause-there : goal.kill_tuple-requires-clause-there
-kill_tuple-requires-clause-there g c =
+pub find_and_remove-requires-clause-there : goal.find_and_remove-requires-clause-there
+find_and_remove-requires-clause-there g c =
     next_held c.args.tree.now c.args.tables.now.items c.loop-i.tables.items c.args.leaf c.loop-i.i c.args.count
     c.args.tuples.now _ c.requires.there c.loop-i.invariant.gone c.loop-i-test.true c.requires.count
     (read_as c.args.tuples.now c.loop-i.i c.index-tuples-i.result c.as_slice.result.now c.as_slice.ensures
@@ -26,14 +26,14 @@ kill_tuple-requires-clause-there g c =
 
 pub loop-i-preserved : goal.loop-i-preserved
 loop-i-preserved g c = record {
-  gone = gone_more c.args.tree.now c.args.tables.now.items c.loop-i.tables.items c.kill_tuple.new.tables.items
+  gone = gone_more c.args.tree.now c.args.tables.now.items c.loop-i.tables.items c.find_and_remove.new.tables.items
       c.args.leaf c.loop-i.i c.args.tuples.now _ c.requires.leaf
       (let h = c.loop-i-test.true in let n = c.requires.count in omega arith)
       (read_as c.args.tuples.now c.loop-i.i c.index-tuples-i.result c.as_slice.result.now c.as_slice.ensures
-      c.index-tuples-i.is) c.loop-i.invariant.gone c.kill_tuple.ensures.died;
-  lesser = fewer_trans c.args.tables.now.items c.loop-i.tables.items c.kill_tuple.new.tables.items
-      c.loop-i.invariant.lesser c.kill_tuple.ensures.fewer;
-  counted = omega (arith, c.loop-i.invariant.counted, c.kill_tuple.ensures.counted);
+      c.index-tuples-i.is) c.loop-i.invariant.gone c.find_and_remove.ensures.died;
+  lesser = fewer_trans c.args.tables.now.items c.loop-i.tables.items c.find_and_remove.new.tables.items
+      c.loop-i.invariant.lesser c.find_and_remove.ensures.fewer;
+  counted = omega (arith, c.loop-i.invariant.counted, c.find_and_remove.ensures.counted);
 }
 
 pub returns-clause-gone : goal.returns-clause-gone

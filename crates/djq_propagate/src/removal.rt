@@ -7,7 +7,7 @@ ghost use Rattle.djq_index.specs.Table.{IsAt};
 ghost use Rattle.djq_tree.specs.declared.node.Node.TheVariants.{Trim, Meet};
 ghost use Rattle.djq_reduct.specs.Tables.{entries_at, key_at, width_at};
 ghost use Rattle.djq_propagate.specs.Sizes.{size};
-ghost use Rattle.djq_propagate.specs.Walks.{Ready, Died, Losing, Righted, Fewer, IsUnder, IsEmptied, IsFull};
+ghost use Rattle.djq_propagate.specs.Walks.{Ready, RemovedUpwards, Losing, ReducedAbove, Fewer, IsUnder, IsEmptied, IsFull};
 
 use crate::tables::{
     column_of, find_at, first_at, has_no_column, is_shared_at, len_at, lower_at, next_at, part_of,
@@ -21,8 +21,8 @@ use std::sync::ledger::Ledger;
 
 /// Takes a tuple out of the table of a node, at its place, and out of the tables above what stands by it
 /// alone.
-#[cycle(kill)]
-pub(crate) fn kill<L: Ledger>(
+#[cycle(remove_tuple)]
+pub(crate) fn remove_tuple<L: Ledger>(
     tree: &Tree,
     tables: &mut Vec<Table>,
     at: usize,
@@ -32,17 +32,17 @@ pub(crate) fn kill<L: Ledger>(
 )
     requires ready { Ready tree.now tables.old.items at }
     requires lies { IsAt (entries_at tables.old.items at) place tuple.now }
-    ensures died { Died tree.now tables.old.items tables.new.items at tuple.now }
+    ensures died { RemovedUpwards tree.now tables.old.items tables.new.items at tuple.now }
     ensures fewer { Fewer tables.old.items tables.new.items }
     ensures counted { tally.new + 2 + 5 * size tables.new.items ≤ tally.old + 5 * size tables.old.items }
 {
     remove_at(tables, at, place, tally);
-    fall(tree, tables, at, tuple, tally);
+    remove_above(tree, tables, at, tuple, tally);
 }
 
 /// The same for a tuple that its node's table has lost already.
-#[cycle(kill)]
-fn fall<L: Ledger>(
+#[cycle(remove_tuple)]
+fn remove_above<L: Ledger>(
     tree: &Tree,
     tables: &mut Vec<Table>,
     at: usize,
@@ -51,7 +51,7 @@ fn fall<L: Ledger>(
 )
     requires losing { Losing tree.now tables.old.items at tuple.now }
     requires wide { length tuple.now ≡ width_at tables.old.items at }
-    ensures righted { Righted tree.now tables.old.items tables.new.items at }
+    ensures righted { ReducedAbove tree.now tables.old.items tables.new.items at }
     ensures fewer { Fewer tables.old.items tables.new.items }
     ensures counted { tally.new + 5 * size tables.new.items ≤ tally.old + 2 + 5 * size tables.old.items }
 {
@@ -59,12 +59,12 @@ fn fall<L: Ledger>(
         None => {}
         Some(up) => match tree.node(up) {
             Node::Leaf { .. } => {}
-            Node::Trim { .. } => fall_trim(tree, tables, at, up, tuple, tally),
+            Node::Trim { .. } => remove_above_trim(tree, tables, at, up, tuple, tally),
             Node::Meet { guard, side } => {
                 if guard == at {
-                    fall_guard(tree, tables, at, side, up, tuple, tally);
+                    remove_above_guard(tree, tables, at, side, up, tuple, tally);
                 } else {
-                    fall_side(tree, tables, at, guard, up, tuple, tally);
+                    remove_above_side(tree, tables, at, guard, up, tuple, tally);
                 }
             }
         },
@@ -73,8 +73,8 @@ fn fall<L: Ledger>(
 
 /// From a trim a tuple takes a support of its projection, and the last one with it. Most projections have one cell
 /// or none, and need no room.
-#[cycle(kill)]
-fn fall_trim<L: Ledger>(
+#[cycle(remove_tuple)]
+fn remove_above_trim<L: Ledger>(
     tree: &Tree,
     tables: &mut Vec<Table>,
     at: usize,
@@ -85,26 +85,26 @@ fn fall_trim<L: Ledger>(
     requires losing { Losing tree.now tables.old.items at tuple.now }
     requires wide { length tuple.now ≡ width_at tables.old.items at }
     requires under { IsUnder tree.now up (Trim at) at }
-    ensures righted { Righted tree.now tables.old.items tables.new.items at }
+    ensures righted { ReducedAbove tree.now tables.old.items tables.new.items at }
     ensures fewer { Fewer tables.old.items tables.new.items }
     ensures counted { tally.new + 5 * size tables.new.items ≤ tally.old + 2 + 5 * size tables.old.items }
 {
     match column_of(tables, at) {
-        Some(column) => fall_part(tree, tables, at, up, tuple, &[tuple[column]], tally),
+        Some(column) => remove_above_part(tree, tables, at, up, tuple, &[tuple[column]], tally),
         None => {
             if has_no_column(tables, at) {
-                fall_part(tree, tables, at, up, tuple, &[], tally);
+                remove_above_part(tree, tables, at, up, tuple, &[], tally);
             } else {
-                fall_wide(tree, tables, at, up, tuple, tally);
+                remove_above_wide(tree, tables, at, up, tuple, tally);
             }
         }
     }
 }
 
 /// The same for a projection to any columns.
-#[cycle(kill)]
+#[cycle(remove_tuple)]
 #[inline(never)]
-fn fall_wide<L: Ledger>(
+fn remove_above_wide<L: Ledger>(
     tree: &Tree,
     tables: &mut Vec<Table>,
     at: usize,
@@ -115,19 +115,19 @@ fn fall_wide<L: Ledger>(
     requires losing { Losing tree.now tables.old.items at tuple.now }
     requires wide { length tuple.now ≡ width_at tables.old.items at }
     requires under { IsUnder tree.now up (Trim at) at }
-    ensures righted { Righted tree.now tables.old.items tables.new.items at }
+    ensures righted { ReducedAbove tree.now tables.old.items tables.new.items at }
     ensures fewer { Fewer tables.old.items tables.new.items }
     ensures counted { tally.new + 5 * size tables.new.items ≤ tally.old + 2 + 5 * size tables.old.items }
 {
     let mut part = Cells::new(0);
     part_of(tables, at, tuple, &mut part);
-    fall_part(tree, tables, at, up, tuple, part.as_slice(), tally);
+    remove_above_part(tree, tables, at, up, tuple, part.as_slice(), tally);
 }
 
 /// The same for a tuple whose projection is known.
-#[cycle(kill)]
+#[cycle(remove_tuple)]
 #[inline(always)]
-fn fall_part<L: Ledger>(
+fn remove_above_part<L: Ledger>(
     tree: &Tree,
     tables: &mut Vec<Table>,
     at: usize,
@@ -140,7 +140,7 @@ fn fall_part<L: Ledger>(
     requires wide { length tuple.now ≡ width_at tables.old.items at }
     requires under { IsUnder tree.now up (Trim at) at }
     requires part { cells.now ≡ pick (key_at tables.old.items at) tuple.now }
-    ensures righted { Righted tree.now tables.old.items tables.new.items at }
+    ensures righted { ReducedAbove tree.now tables.old.items tables.new.items at }
     ensures fewer { Fewer tables.old.items tables.new.items }
     ensures counted { tally.new + 5 * size tables.new.items ≤ tally.old + 2 + 5 * size tables.old.items }
 {
@@ -149,7 +149,7 @@ fn fall_part<L: Ledger>(
             if is_shared_at(tables, up, place) {
                 lower_at(tables, up, place, tally);
             } else {
-                kill(tree, tables, up, place, cells, tally);
+                remove_tuple(tree, tables, up, place, cells, tally);
             }
         }
         None => {}
@@ -157,8 +157,8 @@ fn fall_part<L: Ledger>(
 }
 
 /// From a meet a tuple of its guard takes itself.
-#[cycle(kill)]
-fn fall_guard<L: Ledger>(
+#[cycle(remove_tuple)]
+fn remove_above_guard<L: Ledger>(
     tree: &Tree,
     tables: &mut Vec<Table>,
     at: usize,
@@ -169,19 +169,19 @@ fn fall_guard<L: Ledger>(
 )
     requires losing { Losing tree.now tables.old.items at tuple.now }
     requires under { IsUnder tree.now up (Meet at side) at }
-    ensures righted { Righted tree.now tables.old.items tables.new.items at }
+    ensures righted { ReducedAbove tree.now tables.old.items tables.new.items at }
     ensures fewer { Fewer tables.old.items tables.new.items }
     ensures counted { tally.new + 5 * size tables.new.items ≤ tally.old + 2 + 5 * size tables.old.items }
 {
     match find_at(tables, up, tuple, tally) {
-        Some(place) => kill(tree, tables, up, place, tuple, tally),
+        Some(place) => remove_tuple(tree, tables, up, place, tuple, tally),
         None => {}
     }
 }
 
 /// From a meet a tuple of its side takes the guard's tuples that project to it.
-#[cycle(kill)]
-fn fall_side<L: Ledger>(
+#[cycle(remove_tuple)]
+fn remove_above_side<L: Ledger>(
     tree: &Tree,
     tables: &mut Vec<Table>,
     at: usize,
@@ -192,17 +192,17 @@ fn fall_side<L: Ledger>(
 )
     requires losing { Losing tree.now tables.old.items at tuple.now }
     requires under { IsUnder tree.now up (Meet guard at) at }
-    ensures righted { Righted tree.now tables.old.items tables.new.items at }
+    ensures righted { ReducedAbove tree.now tables.old.items tables.new.items at }
     ensures fewer { Fewer tables.old.items tables.new.items }
     ensures counted { tally.new + 5 * size tables.new.items ≤ tally.old + 2 + 5 * size tables.old.items }
 {
     let count = len_at(tables, guard);
-    empty_group(tree, tables, guard, up, tuple, count, tally);
+    remove_group_from_meet(tree, tables, guard, up, tuple, count, tally);
 }
 
 /// Takes the first `count` tuples of a group of a meet's guard out of the meet.
-#[cycle(kill)]
-pub(crate) fn empty_group<L: Ledger>(
+#[cycle(remove_tuple)]
+pub(crate) fn remove_group_from_meet<L: Ledger>(
     tree: &Tree,
     tables: &mut Vec<Table>,
     guard: usize,
@@ -224,7 +224,7 @@ pub(crate) fn empty_group<L: Ledger>(
         match next {
             Some(place) => {
                 read_at(tables, guard, place, &mut part);
-                kill_tuple(tree, tables, up, part.as_slice(), tally);
+                find_and_remove(tree, tables, up, part.as_slice(), tally);
                 next = next_at(tables, guard, place, tally);
             }
             None => {
@@ -234,9 +234,9 @@ pub(crate) fn empty_group<L: Ledger>(
     }
 }
 
-/// Takes a tuple out of the table of a node, as `kill` does.
-#[cycle(kill)]
-pub(crate) fn kill_tuple<L: Ledger>(
+/// Takes a tuple out of the table of a node, as `remove_tuple` does.
+#[cycle(remove_tuple)]
+pub(crate) fn find_and_remove<L: Ledger>(
     tree: &Tree,
     tables: &mut Vec<Table>,
     at: usize,
@@ -245,12 +245,12 @@ pub(crate) fn kill_tuple<L: Ledger>(
 )
     requires ready { Ready tree.now tables.old.items at }
     requires there { 0 < cnt (entries_at tables.old.items at) tuple.now }
-    ensures died { Died tree.now tables.old.items tables.new.items at tuple.now }
+    ensures died { RemovedUpwards tree.now tables.old.items tables.new.items at tuple.now }
     ensures fewer { Fewer tables.old.items tables.new.items }
     ensures counted { tally.new + 1 + 5 * size tables.new.items ≤ tally.old + 5 * size tables.old.items }
 {
     match find_at(tables, at, tuple, tally) {
-        Some(place) => kill(tree, tables, at, place, tuple, tally),
+        Some(place) => remove_tuple(tree, tables, at, place, tuple, tally),
         None => {}
     }
 }
