@@ -78,7 +78,7 @@ pub fn leave(links: &mut Vec<Pair>, ends: &mut Ends, pair: &Pair)
 }
 
 /// The ends of a chain that a slot has entered.
-pub fn grown(ends: &Ends, slot: u32) -> Ends
+pub fn ends_after_push(ends: &Ends, slot: u32) -> Ends
     requires { slot < 4294967295 }
     ensures { result ≡ extended slot ends.now }
 {

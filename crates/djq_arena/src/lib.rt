@@ -33,7 +33,7 @@ mod link;
 mod store;
 
 pub use arena::Arena;
-pub use chain::{Ends, Pair, enter, grown, leave, pair_of};
+pub use chain::{Ends, Pair, ends_after_push, enter, leave, pair_of};
 pub use link::Link;
 pub use store::hash_of;
 

@@ -3,7 +3,7 @@ ghost use Rattle.djq_arena.specs.Rows.{slots, IsAbsent, IsRow};
 ghost use Rattle.djq_arena.specs.Store.{mixed, hash, class, cells_at, AreListed, IsPrepared, IsPut, IsTaken, IsRenewed, IsSound, IsLoose, IsLinked, IsUnlinked, IsSame, IsReleased, IsTidy, HasRoom, Holds, live_of, rows_of};
 ghost use Rattle.djq_arena.specs.Buckets.{link_at, Stands, IsBehind, IsUnlisted};
 
-use crate::chain::{Ends, Pair, enter, follow, grown, leave, pair_of};
+use crate::chain::{Ends, Pair, enter, follow, ends_after_push, leave, pair_of};
 use crate::link::Link;
 use std::alloc::{AllocError, Global};
 
@@ -55,7 +55,7 @@ pub fn hash_of(cells: &[u64]) -> u64
 
 /// The bucket of a row with this hash, of so many.
 #[tactic(auto, unfolding(crate::specs::Store::class))]
-fn class_by(buckets: usize, code: u64) -> usize
+fn bucket_by(buckets: usize, code: u64) -> usize
     requires { 0 < buckets }
     ensures class { (u : List ℕ) → code ≡ hash u → result ≡ class buckets u }
     ensures within { result < buckets }
@@ -64,12 +64,12 @@ fn class_by(buckets: usize, code: u64) -> usize
 }
 
 /// The bucket of a row, of so many.
-fn class_of(buckets: usize, cells: &[u64]) -> usize
+fn bucket_of_row(buckets: usize, cells: &[u64]) -> usize
     requires { 0 < buckets }
     ensures class { result ≡ class buckets cells.now }
     ensures within { result < buckets }
 {
-    class_by(buckets, hash_of(cells))
+    bucket_by(buckets, hash_of(cells))
 }
 
 /// The cells in a slot.
@@ -84,23 +84,23 @@ pub fn cells_of(store: &Store, slot: u32) -> &[u64]
 }
 
 /// The bucket of a row with this hash.
-fn class_in(store: &Store, code: u64) -> usize
+fn bucket_in(store: &Store, code: u64) -> usize
     requires { 0 < length store.now.heads.items }
     ensures class { (u : List ℕ) → code ≡ hash u → result ≡ class (length store.now.heads.items) u }
     ensures within { result < length store.now.heads.items }
 {
-    class_by(store.heads.len(), code)
+    bucket_by(store.heads.len(), code)
 }
 
 /// The bucket of the row in a slot.
-fn class_at(store: &Store, slot: u32) -> usize
+fn bucket_at(store: &Store, slot: u32) -> usize
     requires cells { length store.now.cells.items ≡ length store.now.order.items * store.now.width }
     requires slot { slot < length store.now.order.items }
     requires some { 0 < length store.now.heads.items }
     ensures class { result ≡ class (length store.now.heads.items) (cells_at store.now.width store.now.cells.items slot) }
     ensures within { result < length store.now.heads.items }
 {
-    class_in(store, hash_of(cells_of(store, slot)))
+    bucket_in(store, hash_of(cells_of(store, slot)))
 }
 
 /// Whether these cells are the same. Rows are short, so that a loop costs less than a call.
@@ -151,7 +151,7 @@ fn head_of(store: &Store, code: u64) -> Link
     requires { 0 < length store.now.heads.items }
     ensures { (u : List ℕ) → code ≡ hash u → result ≡ link_at store.now.heads.items (class (length store.now.heads.items) u) }
 {
-    link_of(&store.heads, class_in(store, code))
+    link_of(&store.heads, bucket_in(store, code))
 }
 
 /// The slot of a row with these cells: a walk through its bucket, from the head on. It is laid out wherever it is
@@ -197,7 +197,7 @@ pub fn find(store: &Store, cells: &[u64], code: u64) -> Option<u32>
 }
 
 /// Puts a slot at the head of its bucket.
-fn enlist(bucket: &mut Vec<Link>, heads: &mut Vec<Link>, class: usize, slot: u32)
+fn push_bucket(bucket: &mut Vec<Link>, heads: &mut Vec<Link>, class: usize, slot: u32)
     requires class { class < length heads.old.items }
     requires slot { slot < length bucket.old.items }
     requires number { slot < 4294967295 }
@@ -251,10 +251,10 @@ pub fn link(store: &mut Store, slot: u32, code: u64)
     requires here { code ≡ hash (cells_at store.old.width store.old.cells.items slot) }
     ensures linked { IsLinked store.old store.new slot }
 {
-    let class = class_in(store, code);
-    enlist(&mut store.bucket, &mut store.heads, class, slot);
+    let class = bucket_in(store, code);
+    push_bucket(&mut store.bucket, &mut store.heads, class, slot);
     enter(&mut store.order, store.live.last, slot);
-    store.live = grown(&store.live, slot);
+    store.live = ends_after_push(&store.live, slot);
     store.len += 1;
 }
 
@@ -264,7 +264,7 @@ pub fn unlink(store: &mut Store, slot: u32)
     requires held { Holds (live_of store.old) slot }
     ensures unlinked { IsUnlinked store.old store.new slot }
 {
-    let class = class_at(store, slot);
+    let class = bucket_at(store, slot);
     unlist(&mut store.bucket, &mut store.heads, class, slot);
     let neighbours = pair_of(&store.order, slot);
     leave(&mut store.order, &mut store.live, &neighbours);
@@ -392,7 +392,7 @@ fn list_all(bucket: &mut [Link], heads: &mut [Link], cells: &[u64], width: usize
     ensures buckets { length heads.new ≡ length heads.old }
 {
     for slot in 0..bucket.len() {
-        let class = class_of(heads.len(), cells_among(cells, width, slot));
+        let class = bucket_of_row(heads.len(), cells_among(cells, width, slot));
         bucket[slot] = link_among(heads, class);
         heads[class] = Link::to(slot as u32);
     }
@@ -568,7 +568,7 @@ pub fn renew(store: &mut Store, slot: u32)
     let neighbours = pair_of(&store.order, slot);
     leave(&mut store.order, &mut store.live, &neighbours);
     enter(&mut store.order, store.live.last, slot);
-    store.live = grown(&store.live, slot);
+    store.live = ends_after_push(&store.live, slot);
 }
 
 /// A store without rows. It fails only out of memory.

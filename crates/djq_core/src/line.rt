@@ -31,7 +31,7 @@ use djq_store::{CursorId, Store};
 use std::alloc::Global;
 
 // Runs a command that isn't on a row, and tells what is left to do.
-fn obey<L: Ledgers>(
+fn run_command<L: Ledgers>(
     alloc: Global,
     engine: &mut Store,
     session: &mut Session<CursorId, Name>,
@@ -206,7 +206,7 @@ fn run_other<L: Ledgers>(
                 session.refuse(Refusal::Misplaced);
                 return Left::Nothing { kept: false };
             }
-            obey(alloc, engine, session, command, steps)
+            run_command(alloc, engine, session, command, steps)
         }
         Err(refusal) => {
             session.refuse(refusal_of(refusal));

@@ -101,12 +101,12 @@ find_front {A = A} p (x ∷ xs) ys front = by (p x) refl (λ f. find_front p xs 
     by false e rest = rest (λ y k. sym (ap (λ b. b || list_any p xs) e) ∙ front y k)
 
 -- a name that passes, and of which a row came, is among those of the rows
-came_passes : (st : Store) (xs : List HeldRow) (p : Bytes → Bool) (name : Bytes) → p name ≡ true → has_come st xs name
+other_queries_stay : (st : Store) (xs : List HeldRow) (p : Bytes → Bool) (name : Bytes) → p name ≡ true → has_come st xs name
     ≡ true
     → list_any p (map (λ (h : HeldRow). h.relation) xs) ≡ true
-came_passes st [] p name pass hit = absurd (false≢true hit)
-came_passes st (x ∷ xs) p name pass hit =
-    by (bytes_eq x.relation name) refl (is_there st x) hit (came_passes (with_held st x) xs p name pass)
+other_queries_stay st [] p name pass hit = absurd (false≢true hit)
+other_queries_stay st (x ∷ xs) p name pass hit =
+    by (bytes_eq x.relation name) refl (is_there st x) hit (other_queries_stay (with_held st x) xs p name pass)
   where
     rest : Bool
     rest = list_any p (map (λ (h : HeldRow). h.relation) xs)
@@ -125,7 +125,7 @@ module _ (st : Store) (held : List HeldRow) (first : ℕ) (c : ComeFirst st held
   same_read : (q : Listed) → first_read (take first held) (has_come st held) q ≡ first_read held (has_come st held) q
   same_read q =
       sym (find_front passes names (map (λ (h : HeldRow). h.relation) (drop first held))
-      (λ name e. came_passes st (take first held) passes name e
+      (λ name e. other_queries_stay st (take first held) passes name e
       (c name (and_parts (has_come st held name) (listed_reads q name) e).0)))
       ∙ ap (find passes) (sym (map-append (λ (h : HeldRow). h.relation) (take first held) (drop first held))
       ∙ ap (map (λ (h : HeldRow). h.relation)) (take-append-drop first held))

@@ -13,7 +13,7 @@ ghost use Rattle.djq_engine.specs.Taking.{reached_in, LeadsHere, TakesGroups, La
 ghost use Rattle.djq_engine.specs.Watching.{CountsBatch, TellsChange, batch_times};
 
 use crate::engine::Engine;
-use crate::judge::suited;
+use crate::judge::relation_for_row;
 use crate::outdating::{affect_reached, give_up, outdate_came};
 use crate::parts::Parts;
 use crate::putting::{Came, put_all, take_back};
@@ -21,7 +21,7 @@ use djq_deltas::deltas_exist;
 use djq_lines::{HeldRow, Refusal};
 use djq_live::{heads_are_bound, leaves_are_small, live_stays, showable_stays};
 use djq_model::{Name, NoMem, Value};
-use djq_reach::{Group, take_in_batch};
+use djq_reach::{Group, insert_batch_into_readers};
 use djq_rows::cells_stay;
 use djq_steps::{Ledgers, Steps};
 
@@ -57,7 +57,7 @@ fn take_groups<L: Ledgers>(
 {
     let readers = parts.readers.as_slice();
     let watchers = parts.watchers.as_slice();
-    take_in_batch(
+    insert_batch_into_readers(
         &mut parts.queries,
         watchers,
         &mut parts.logs,
@@ -77,7 +77,7 @@ impl Engine {
     pub fn held_ok(&self, name: &Name, row: &[Value]) -> Result<(), Refusal>
         ensures { TellsSuits self.now.store name.now row.now result }
     {
-        match suited(&self.parts.catalog, name, row) {
+        match relation_for_row(&self.parts.catalog, name, row) {
             Ok(_id) => Ok(()),
             Err(refusal) => Err(refusal),
         }

@@ -17,11 +17,11 @@ use djq_dict::InternRefusal;
 use djq_index::Cells;
 use djq_lines::{AddOutcome, DeleteOutcome};
 use djq_live::{
-    added_came, came_passes, copies_keep_rows, deleted_went, live_stays, showable_stays,
+    added_came, other_queries_stay, copies_keep_rows, deleted_went, live_stays, showable_stays,
     went_passes,
 };
 use djq_model::Value;
-use djq_reach::{let_out, take_in};
+use djq_reach::{delete_from_readers, insert_into_readers};
 use djq_rows::{RelationId, RowsRefusal, texts_stay};
 use djq_steps::{Ledgers, Steps};
 
@@ -71,7 +71,7 @@ fn put_cells<L: Ledgers>(
     deleted_went();
     copies_keep_rows();
     live_stays();
-    came_passes();
+    other_queries_stay();
     parts.catalog.laws();
     match parts.catalog.add_row(id, cells, &mut steps.rows) {
         Ok(AddOutcome::First) => {}
@@ -86,7 +86,7 @@ fn put_cells<L: Ledgers>(
     parts.catalog.laws();
     let places = parts.readers[id.at].as_slice();
     let watchers = parts.watchers.as_slice();
-    match take_in(
+    match insert_into_readers(
         &mut parts.queries,
         watchers,
         &mut parts.logs,
@@ -208,7 +208,7 @@ pub fn drop_cells<L: Ledgers>(
     parts.catalog.laws();
     let places = parts.readers[id.at].as_slice();
     let watchers = parts.watchers.as_slice();
-    let_out(
+    delete_from_readers(
         &mut parts.queries,
         watchers,
         &mut parts.logs,

@@ -21,7 +21,7 @@ use std::sync::ledger::Ledger;
 /// # Errors
 ///
 /// `NoRelation`, `Arity`, `WrongType`: the first condition that holds.
-pub fn suited(catalog: &Catalog, name: &Name, row: &[Value]) -> Result<RelationId, Refusal>
+pub fn relation_for_row(catalog: &Catalog, name: &Name, row: &[Value]) -> Result<RelationId, Refusal>
     ensures ok { IfOk result (λ id. Suits catalog.now.relations name.now row.now id.at) }
     ensures err { IfErr result (λ r.
         first_of (row_refusals (bare catalog.now.relations 0) name.now row.now) ≡ Some r) }
@@ -62,7 +62,7 @@ fn is_there<L: Ledger>(
 /// # Errors
 ///
 /// `NoRelation`, `Arity`, `WrongType`, `Limit`: the first condition that holds.
-pub fn judge_add<L: Ledger>(
+pub fn check_add<L: Ledger>(
     catalog: &Catalog,
     name: &Name,
     row: &[Value],
@@ -73,7 +73,7 @@ pub fn judge_add<L: Ledger>(
     ensures err { IfErr result (λ r.
         add_refusal (bare catalog.now.relations seq) name.now row.now ≡ Some r) }
 {
-    let id = suited(catalog, name, row)?;
+    let id = relation_for_row(catalog, name, row)?;
     if catalog.row_count(id) < ROWS && seq != LAST_SEQ {
         return Ok(id);
     }
@@ -89,7 +89,7 @@ pub fn judge_add<L: Ledger>(
 /// # Errors
 ///
 /// `Limit` where the row isn't there, and the relation or the number of changes is at its limit.
-pub fn judge_held<L: Ledger>(
+pub fn check_held<L: Ledger>(
     catalog: &Catalog,
     held: &HeldRow,
     seq: u64,
@@ -120,7 +120,7 @@ pub fn judge_held<L: Ledger>(
 /// # Errors
 ///
 /// `NoRelation`, `Arity`, `WrongType`, `Limit`: the first condition that holds.
-pub fn judge_delete<L: Ledger>(
+pub fn check_delete<L: Ledger>(
     catalog: &Catalog,
     name: &Name,
     row: &[Value],
@@ -132,7 +132,7 @@ pub fn judge_delete<L: Ledger>(
     ensures err { IfErr result (λ r.
         delete_refusal (bare catalog.now.relations seq) name.now row.now ≡ Some r) }
 {
-    let relation = suited(catalog, name, row)?;
+    let relation = relation_for_row(catalog, name, row)?;
     catalog.laws();
     if !catalog.write_cells(row, cells) {
         return Ok(None);

@@ -16,7 +16,7 @@ use djq_cursor::DeltaLog;
 use djq_lines::HeldRow;
 use djq_live::LiveQuery;
 use djq_model::{Name, Sequence};
-use djq_reach::{Group, age, empty_logs};
+use djq_reach::{Group, outdate, empty_logs};
 use djq_rows::{Catalog, RelationId};
 
 // The logs of all queries that read a relation are emptied.
@@ -63,7 +63,7 @@ fn empty_held(
 }
 
 // The open cursors of all queries that read a relation become stale by it.
-fn outdate_readers(
+fn outdate_named(
     queries: &mut Vec<Option<LiveQuery>>,
     readers: &Vec<Sequence<usize>>,
     catalog: &Catalog,
@@ -75,7 +75,7 @@ fn outdate_readers(
     ensures { AgesAll (by_relation relation.now) seq queries.old.items queries.new.items }
 {
     match catalog.id(relation) {
-        Some(id) => age(queries, readers[id.at].as_slice(), *relation, seq),
+        Some(id) => outdate(queries, readers[id.at].as_slice(), *relation, seq),
         None => unreachable!(),
     }
 }
@@ -95,7 +95,7 @@ fn outdate_held(
         queries.old.items queries.new.items }
 {
     for at in 0..held.len() {
-        outdate_readers(queries, readers, catalog, &held[at].relation, seq);
+        outdate_named(queries, readers, catalog, &held[at].relation, seq);
     }
 }
 
@@ -125,7 +125,7 @@ fn outdate_grouped(
         unreachable!()
     };
     if has_group(groups, id) {
-        age(queries, readers[id.at].as_slice(), *relation, seq);
+        outdate(queries, readers[id.at].as_slice(), *relation, seq);
     }
 }
 

@@ -8,13 +8,13 @@ ghost use Rattle.djq_engine.specs.Judging.{bare};
 ghost use Rattle.djq_engine.specs.Putting.{bare_of, placed, IsStoreOf, PutsRow, PutsOne, JoinsGroup, PutsAll};
 ghost use Rattle.djq_engine.specs.Putting.{ComeFirst, RefusesAll, WentIn, WentInAll};
 
-use crate::judge::judge_held;
+use crate::judge::check_held;
 use djq_dict::InternRefusal;
 use djq_index::Cells;
 use djq_lines::{AddOutcome, HeldRow, Refusal};
 use djq_model::{NoMem, Sequence};
 use djq_reach::Group;
-use djq_rows::{Catalog, RelationId, RowsRefusal, cells_stay, names_tell, texts_stay};
+use djq_rows::{Catalog, RelationId, RowsRefusal, cells_stay, rows_by_name_or_place, texts_stay};
 use djq_steps::Tally;
 use std::alloc::Global;
 use std::sync::ledger::Ledger;
@@ -47,7 +47,7 @@ fn put_row<L: Ledger>(
     ensures stays { OnErr result (catalog.new.relations ≡ catalog.old.relations) }
 {
     catalog.laws();
-    let id = judge_held(catalog, held, seq, tally)?;
+    let id = check_held(catalog, held, seq, tally)?;
     match catalog.intern_cells(held.row.as_slice(), cells) {
         Ok(()) => {}
         Err(InternRefusal::Full) => return Err(Refusal::Limit),
@@ -106,7 +106,7 @@ fn take_row_back<L: Ledger>(catalog: &mut Catalog, held: &HeldRow, tally: &mut T
         → catalog.new.relations ≡ st.relations }
     ensures texts { catalog.new.texts ≡ catalog.old.texts }
 {
-    names_tell();
+    rows_by_name_or_place();
     catalog.laws();
     let Some(id) = catalog.id(&held.relation) else {
         unreachable!()
@@ -153,7 +153,7 @@ fn put_one<L: Ledger>(
         StopsAt (bare_of catalog.old seq) held.now catalog.new.texts r) }
     ensures stays { OnErr result (catalog.new.relations ≡ catalog.old.relations) }
 {
-    names_tell();
+    rows_by_name_or_place();
     texts_stay();
     catalog.laws();
     let relation = match put_row(catalog, held, cells, seq, tally) {
@@ -207,7 +207,7 @@ pub fn put_all<L: Ledger>(
     ensures stays { OnErr result (catalog.new.relations ≡ catalog.old.relations) }
     ensures learned { (more : List Bytes) × (catalog.new.texts ≡ catalog.old.texts ++ more) }
 {
-    names_tell();
+    rows_by_name_or_place();
     texts_stay();
     cells_stay();
     catalog.laws();

@@ -12,7 +12,7 @@ ghost use Rattle.djq_engine.specs.Watching.{TellsChange, CountsUpdates, add_time
 
 use crate::change::{drop_cells, put_row};
 use crate::engine::Engine;
-use crate::judge::{judge_add, judge_delete};
+use crate::judge::{check_add, check_delete};
 use crate::parts::Parts;
 use djq_deltas::deltas_exist;
 use djq_dict::InternRefusal;
@@ -21,8 +21,8 @@ use djq_lines::limits::{COLUMNS, RELATIONS};
 use djq_lines::{AddOutcome, DeleteOutcome, Refusal};
 use djq_live::{LiveQuery, heads_are_bound, leaves_are_small, live_stays, showable_stays};
 use djq_model::{Name, NoMem, Sequence, Types, Value};
-use djq_reach::{age, empty_logs};
-use djq_rows::{RelationId, names_tell, texts_stay};
+use djq_reach::{outdate, empty_logs};
+use djq_rows::{RelationId, rows_by_name_or_place, texts_stay};
 use djq_steps::{Ledgers, Steps};
 
 // The queries that read a relation are the affected ones from now on. They are few, so that a loop costs less
@@ -59,7 +59,7 @@ fn some_cursor(queries: &[Option<LiveQuery>], places: &[usize]) -> bool
 // The open cursors over a relation become stale, by a change of the present number. Its name is copied
 // here alone.
 #[inline(never)]
-fn age_open(parts: &mut Parts, id: RelationId, name: &Name)
+fn outdate_open(parts: &mut Parts, id: RelationId, name: &Name)
     requires within { id.at < length parts.old.readers.items }
     requires once { AreOnce (readers_at parts.old.readers.items id.at) }
     requires there { AllAt (readers_at parts.old.readers.items id.at) parts.old.queries.items
@@ -67,11 +67,11 @@ fn age_open(parts: &mut Parts, id: RelationId, name: &Name)
     ensures { AgesReaders id.at name.now parts.old parts.new }
 {
     let places = parts.readers[id.at].as_slice();
-    age(&mut parts.queries, places, *name, parts.seq);
+    outdate(&mut parts.queries, places, *name, parts.seq);
 }
 
 // They do, where there is one.
-fn age_readers(parts: &mut Parts, id: RelationId, name: &Name)
+fn outdate_readers(parts: &mut Parts, id: RelationId, name: &Name)
     requires within { id.at < length parts.old.readers.items }
     requires once { AreOnce (readers_at parts.old.readers.items id.at) }
     requires there { AllAt (readers_at parts.old.readers.items id.at) parts.old.queries.items
@@ -79,7 +79,7 @@ fn age_readers(parts: &mut Parts, id: RelationId, name: &Name)
     ensures { AgesReaders id.at name.now parts.old parts.new }
 {
     if some_cursor(parts.queries.as_slice(), parts.readers[id.at].as_slice()) {
-        age_open(parts, id, name);
+        outdate_open(parts, id, name);
     }
 }
 
@@ -158,14 +158,14 @@ impl Engine {
             (tried (add_outcome (row_in self.old.store.relations name.now row.now) result)))
             self.old self.new }
     {
-        names_tell();
+        rows_by_name_or_place();
         deltas_exist();
         heads_are_bound();
         leaves_are_small();
         texts_stay();
         showable_stays();
         self.parts.catalog.laws();
-        let id = judge_add(
+        let id = check_add(
             &self.parts.catalog,
             name,
             row,
@@ -178,13 +178,13 @@ impl Engine {
             Err(InternRefusal::Full) => return Err(Refusal::Limit),
             Err(InternRefusal::NoMem) => {
                 empty_logs(&mut self.parts.logs, self.parts.readers[id.at].as_slice());
-                age_readers(&mut self.parts, id, name);
+                outdate_readers(&mut self.parts, id, name);
                 return Err(Refusal::NoMemory);
             }
         }
         self.parts.seq += 1;
         affect(&mut self.parts.affected, &self.parts.readers, id);
-        age_readers(&mut self.parts, id, name);
+        outdate_readers(&mut self.parts, id, name);
         Ok(AddOutcome::First)
     }
 
@@ -219,14 +219,14 @@ impl Engine {
             (tried (delete_outcome (row_out self.old.store.relations name.now row.now) result)))
             self.old self.new }
     {
-        names_tell();
+        rows_by_name_or_place();
         deltas_exist();
         heads_are_bound();
         leaves_are_small();
         showable_stays();
         self.parts.catalog.laws();
         let mut cells = Cells::new(0);
-        let judged = judge_delete(
+        let judged = check_delete(
             &self.parts.catalog,
             name,
             row,
@@ -244,7 +244,7 @@ impl Engine {
         }
         self.parts.seq += 1;
         affect(&mut self.parts.affected, &self.parts.readers, relation);
-        age_readers(&mut self.parts, relation, name);
+        outdate_readers(&mut self.parts, relation, name);
         Ok(DeleteOutcome::Last)
     }
 }

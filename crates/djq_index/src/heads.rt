@@ -6,7 +6,7 @@ ghost use Rattle.djq_index.specs.Tuple.{pick};
 ghost use Rattle.djq_index.specs.Table.{AreColumns};
 ghost use Rattle.djq_index.specs.Raw.{ends_at};
 
-use djq_arena::{Arena, Ends, Link, Pair, enter, grown, leave, pair_of};
+use djq_arena::{Arena, Ends, Link, Pair, enter, ends_after_push, leave, pair_of};
 use std::alloc::AllocError;
 
 /// The ends that a head knows.
@@ -28,11 +28,11 @@ pub fn join(links: &mut Vec<Pair>, ends: &mut Vec<Ends>, slot: u32, head: u32)
 {
     let known = known_ends(ends, head);
     enter(links, known.last, slot);
-    ends[head as usize] = grown(&known, slot);
+    ends[head as usize] = ends_after_push(&known, slot);
 }
 
 /// Takes a slot out of its group.
-pub fn part(links: &mut Vec<Pair>, ends: &mut Vec<Ends>, slot: u32, head: u32)
+pub fn unlink(links: &mut Vec<Pair>, ends: &mut Vec<Ends>, slot: u32, head: u32)
     requires slot { slot < length links.old.items }
     requires head { head < length ends.old.items }
     requires prev { IsWithin (length links.old.items) (pair_at links.old.items slot).prev }
@@ -106,7 +106,7 @@ fn grow_ends(ends: &mut Vec<Ends>) -> Result<(), AllocError>
 }
 
 /// A new head, of an empty group, with these cells of this hash.
-pub fn found(
+pub fn new_head(
     keys: &mut Arena,
     ends: &mut Vec<Ends>,
     cells: &[u64],

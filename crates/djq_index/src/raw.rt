@@ -8,7 +8,7 @@ ghost use Rattle.djq_index.specs.Changes.{InsertedAs, Removed, Touched};
 ghost use Rattle.djq_index.specs.Raw.{IsBare, AreHeads, CanTake, IsLaid, IsSlotFor, IsUnlaid, IsNoted, IsMarked, entries_of, slots_at, place_of, note_at, ends_at, IsSeat, IsSettled, passed, entries_in, AreTrailing, without_mark, HasNoRoomForHead};
 ghost use Rattle.djq_arena.specs.Store.{beside};
 
-use crate::heads::{cell_at, found, join, part, project, prune};
+use crate::heads::{cell_at, new_head, join, unlink, project, prune};
 use crate::kind::Kind;
 use crate::place::Place;
 use djq_arena::{Arena, Ends, Link, Pair, hash_of};
@@ -110,7 +110,7 @@ fn grow_links(links: &mut Vec<Pair>) -> Result<(), AllocError>
 /// Lays a tuple into a slot, behind all others. A new slot finds room for its note. Where there is no memory, the rows
 /// stay as they were.
 #[inline(always)]
-fn lay_ready(rows: &mut Arena, notes: &mut Vec<Note>, tuple: &[u64]) -> Result<u32, AllocError>
+fn append_row_ready(rows: &mut Arena, notes: &mut Vec<Note>, tuple: &[u64]) -> Result<u32, AllocError>
     requires ready { CanTake rows.old notes.old.items tuple.now }
     requires room { IsFull rows.old → vec_len notes.old < vec_capacity notes.old }
     ensures laid { IfOk result (λ slot. IsLaid rows.old rows.new notes.old.items notes.new.items slot tuple.now) }
@@ -126,7 +126,7 @@ fn lay_ready(rows: &mut Arena, notes: &mut Vec<Note>, tuple: &[u64]) -> Result<u
 /// The same where a new slot may find no room for its note. It stands apart, so that a tuple for which there is room
 /// saves fewer registers.
 #[inline(never)]
-fn lay_growing(rows: &mut Arena, notes: &mut Vec<Note>, tuple: &[u64]) -> Result<u32, AllocError>
+fn append_row_growing(rows: &mut Arena, notes: &mut Vec<Note>, tuple: &[u64]) -> Result<u32, AllocError>
     requires full { IsFull rows.old }
     requires ready { CanTake rows.old notes.old.items tuple.now }
     ensures laid { IfOk result (λ slot. IsLaid rows.old rows.new notes.old.items notes.new.items slot tuple.now) }
@@ -134,25 +134,25 @@ fn lay_growing(rows: &mut Arena, notes: &mut Vec<Note>, tuple: &[u64]) -> Result
     ensures refused { OnErr result (IsUnlaid rows.old rows.new notes.old.items notes.new.items) }
 {
     notes.reserve(1)?;
-    lay_ready(rows, notes, tuple)
+    append_row_ready(rows, notes, tuple)
 }
 
 /// Lays a tuple into a slot, behind all others. Where there is no memory, the rows stay as they were.
-fn lay(rows: &mut Arena, notes: &mut Vec<Note>, tuple: &[u64]) -> Result<u32, AllocError>
+fn append_row(rows: &mut Arena, notes: &mut Vec<Note>, tuple: &[u64]) -> Result<u32, AllocError>
     requires ready { CanTake rows.old notes.old.items tuple.now }
     ensures laid { IfOk result (λ slot. IsLaid rows.old rows.new notes.old.items notes.new.items slot tuple.now) }
     ensures slot { IfOk result (λ slot. IsSlotFor rows.old rows.new slot) }
     ensures refused { OnErr result (IsUnlaid rows.old rows.new notes.old.items notes.new.items) }
 {
     if rows.is_full() && notes.len() == notes.capacity() {
-        lay_growing(rows, notes, tuple)
+        append_row_growing(rows, notes, tuple)
     } else {
-        lay_ready(rows, notes, tuple)
+        append_row_ready(rows, notes, tuple)
     }
 }
 
 /// Lays a tuple into a slot that has neighbours.
-fn lay_linked(
+fn append_linked_row(
     rows: &mut Arena,
     notes: &mut Vec<Note>,
     links: &mut Vec<Pair>,
@@ -169,7 +169,7 @@ fn lay_linked(
     if rows.is_full() && links.len() == links.capacity() {
         grow_links(links)?;
     }
-    let slot = lay(rows, notes, tuple)?;
+    let slot = append_row(rows, notes, tuple)?;
     cover_links(links, slot);
     Ok(slot)
 }
@@ -191,13 +191,13 @@ fn head_of(keys: &mut Arena, ends: &mut Vec<Ends>, cells: &[u64]) -> Result<u32,
     let code = hash_of(cells);
     match keys.find_hashed(cells, code) {
         Some(head) => Ok(head),
-        None => found(keys, ends, cells, code),
+        None => new_head(keys, ends, cells, code),
     }
 }
 
 /// The head of a tuple's group, by a key of any columns. It stands apart: most keys have one column.
 #[inline(never)]
-fn seat_wide(
+fn find_or_make_wide_head(
     keys: &mut Arena,
     ends: &mut Vec<Ends>,
     cells: &mut Vec<u64>,
@@ -222,7 +222,7 @@ fn seat_wide(
 }
 
 /// The head of a tuple's group, which is made where there is none.
-fn seat(
+fn find_or_make_head(
     keys: &mut Arena,
     ends: &mut Vec<Ends>,
     cells: &mut Vec<u64>,
@@ -244,7 +244,7 @@ fn seat(
 {
     match key {
         [column] => head_of(keys, ends, &[cell_at(tuple, *column)]),
-        _ => seat_wide(keys, ends, cells, key, tuple),
+        _ => find_or_make_wide_head(keys, ends, cells, key, tuple),
     }
 }
 
@@ -259,7 +259,7 @@ fn or_slot(marked: Option<u32>, slot: u32) -> Option<u32>
 }
 
 /// The first marked slot, once this one, which is followed by `next`, is gone.
-fn pass(marked: Option<u32>, slot: u32, next: Option<u32>) -> Option<u32>
+fn first_mark_without(marked: Option<u32>, slot: u32, next: Option<u32>) -> Option<u32>
     ensures { result ≡ passed marked slot next }
 {
     match marked {
@@ -300,7 +300,7 @@ fn with_slot(first: Option<u32>, slot: u32, marked: bool) -> Option<u32>
 }
 
 /// Gives a laid tuple one support, and its mark, if any.
-fn sign(raw: &mut Raw, slot: u32, head: u32, marked: bool)
+fn init_note(raw: &mut Raw, slot: u32, head: u32, marked: bool)
     requires { slot < length raw.old.notes.items }
     ensures noted { IsNoted marked raw.old raw.new raw.old.rows raw.old.notes.items slot head }
     ensures links { raw.new.links.items ≡ raw.old.links.items }
@@ -332,7 +332,7 @@ fn mark(raw: &mut Raw, slot: u32)
 }
 
 /// Puts a laid tuple behind its group, marked or not and with one support.
-fn settle(raw: &mut Raw, slot: u32, head: u32, marked: bool)
+fn append_to_group(raw: &mut Raw, slot: u32, head: u32, marked: bool)
     requires notes { slot < length raw.old.notes.items }
     requires links { slot < length raw.old.links.items }
     requires number { slot < 4294967295 }
@@ -341,7 +341,7 @@ fn settle(raw: &mut Raw, slot: u32, head: u32, marked: bool)
     ensures settled { IsSettled marked raw.old raw.new raw.old.rows raw.old.notes.items raw.old.links.items raw.old.keys raw.old.ends.items slot head }
 {
     join(&mut raw.links, &mut raw.ends, slot, head);
-    sign(raw, slot, head, marked);
+    init_note(raw, slot, head, marked);
 }
 
 /// Puts a tuple that isn't there behind the group of its head.
@@ -362,8 +362,8 @@ pub fn insert_keyed(raw: &mut Raw, tuple: &[u64], marked: bool) -> Result<Place,
     ensures key { raw.new.key.items ≡ raw.old.key.items }
     ensures width { raw.new.rows.width ≡ raw.old.rows.width }
 {
-    let slot = lay_linked(&mut raw.rows, &mut raw.notes, &mut raw.links, tuple)?;
-    match seat(
+    let slot = append_linked_row(&mut raw.rows, &mut raw.notes, &mut raw.links, tuple)?;
+    match find_or_make_head(
         &mut raw.keys,
         &mut raw.ends,
         &mut raw.cells,
@@ -375,7 +375,7 @@ pub fn insert_keyed(raw: &mut Raw, tuple: &[u64], marked: bool) -> Result<Place,
             Err(e)
         }
         Ok(head) => {
-            settle(raw, slot, head, marked);
+            append_to_group(raw, slot, head, marked);
             Ok(Place::new(slot))
         }
     }
@@ -397,8 +397,8 @@ pub fn insert_bare(raw: &mut Raw, tuple: &[u64], marked: bool) -> Result<Place, 
     ensures key { raw.new.key.items ≡ raw.old.key.items }
     ensures width { raw.new.rows.width ≡ raw.old.rows.width }
 {
-    let slot = lay(&mut raw.rows, &mut raw.notes, tuple)?;
-    sign(raw, slot, 0, marked);
+    let slot = append_row(&mut raw.rows, &mut raw.notes, tuple)?;
+    init_note(raw, slot, 0, marked);
     Ok(Place::new(slot))
 }
 
@@ -416,8 +416,8 @@ pub fn remove_keyed(raw: &mut Raw, place: Place)
 {
     let slot = place.slot();
     let head = note_of(&raw.notes, slot).head;
-    raw.marked = pass(raw.marked, slot, raw.rows.next(slot));
-    part(&mut raw.links, &mut raw.ends, slot, head);
+    raw.marked = first_mark_without(raw.marked, slot, raw.rows.next(slot));
+    unlink(&mut raw.links, &mut raw.ends, slot, head);
     prune(&mut raw.keys, &raw.ends, head);
     withdraw(&mut raw.rows, slot);
 }
@@ -433,7 +433,7 @@ pub fn remove_bare(raw: &mut Raw, place: Place)
     ensures width { raw.new.rows.width ≡ raw.old.rows.width }
 {
     let slot = place.slot();
-    raw.marked = pass(raw.marked, slot, raw.rows.next(slot));
+    raw.marked = first_mark_without(raw.marked, slot, raw.rows.next(slot));
     withdraw(&mut raw.rows, slot);
 }
 
@@ -451,7 +451,7 @@ pub fn touch_keyed(raw: &mut Raw, place: Place)
 {
     let slot = place.slot();
     let note = note_of(&raw.notes, slot);
-    part(&mut raw.links, &mut raw.ends, slot, note.head);
+    unlink(&mut raw.links, &mut raw.ends, slot, note.head);
     join(&mut raw.links, &mut raw.ends, slot, note.head);
     renew(&mut raw.rows, slot);
     mark(raw, slot);

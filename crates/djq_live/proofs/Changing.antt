@@ -302,8 +302,8 @@ over_stays c d q n ps r h rows = record {
       h.asked.catalog rows.later low (rows.same m.relation low) (λ u. refl) holds);
 }
 
-pub over_gains : OverGains
-over_gains c d q n ps r s at cells new h came change = record {
+pub leaves_after_insert : OverGains
+leaves_after_insert c d q n ps r s at cells new h came change = record {
   asked = asked_later c d q n came.later h.asked;
   reducts = change.reducts;
   head = λ x. head_same r s x change.tree ∙ h.head x;

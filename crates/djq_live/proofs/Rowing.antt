@@ -53,7 +53,7 @@ use Rattle.djq_live.specs.Stepping.{Lacks, LacksAll, Has, ChangesBelow, AreLeave
 use Rattle.djq_live.proofs.Heads.{has_at}
 use Rattle.djq_live.proofs.Rows.{row_fits, row_cells}
 use Rattle.djq_live.proofs.Later.{asked_later, atom_at, cells_later}
-use Rattle.djq_live.proofs.Changing.{stands_in, over_gains, over_loses}
+use Rattle.djq_live.proofs.Changing.{stands_in, leaves_after_insert, over_loses}
 use Rattle.djq_live.proofs.Listings.{late_differs}
 use Rattle.djq_live.proofs.Members.{in_left}
 use Rattle.djq_live.proofs.Giving.{gives_once, one_of, only_one}
@@ -229,7 +229,7 @@ pub added_kept : (c d : Catalog) (l : Live) (s : Reducts) (at : ℕ) (cells : Li
     l.patterns (length (l.numbered).atoms) l.reducts s
     → IsKept d (record l { reducts = s })
 added_kept c d l s at cells new h came change = record {
-  over = over_gains c d l.query l.numbered l.patterns l.reducts s at cells new h.over came
+  over = leaves_after_insert c d l.query l.numbered l.patterns l.reducts s at cells new h.over came
       (leaves_change (λ p before after. GainsAll p cells before after) at l.numbered l.patterns
       l.reducts s change);
   named = tree_named l s change.tree h.named;

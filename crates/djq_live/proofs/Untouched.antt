@@ -37,7 +37,7 @@ use Rattle.djq_live.specs.Staying.{StaysOver, LiveStays, CamePasses, CameAllPass
 use Rattle.djq_reduct.proofs.Readings.{member_on}
 use Rattle.djq_hyper.proofs.Rising.{member_here}
 use Rattle.djq_live.proofs.Showing.{head_stands}
-use Rattle.djq_live.proofs.Changing.{over_stays, over_gains, over_loses}
+use Rattle.djq_live.proofs.Changing.{over_stays, leaves_after_insert, over_loses}
 use Rattle.djq_live.proofs.Terms.{heads}
 
 -- ---- values, once more texts are known
@@ -153,7 +153,7 @@ unchanged Changes c at l none live = record {
 pub came_all_lives : CameAllPasses
 came_all_lives c d at cells rows l came low none live =
     kept_so c d l came.later live
-    (over_gains c d l.query l.numbered l.patterns l.reducts l.reducts at cells rows
+    (leaves_after_insert c d l.query l.numbered l.patterns l.reducts l.reducts at cells rows
     live.kept.over came (unchanged (λ p old new. GainsAll p cells old new) c at l none live))
 
 pub came_lives : CamePasses

@@ -4,7 +4,7 @@ ghost use Rattle.djq_live.specs.Changes.{LeafIsEmpty, LeafGains, LeafIsFilled};
 
 /// Where rows came into a relation, the reducts are those of the query once each leaf over the
 /// relation has gained the tuples that put into its atom give one of them.
-pub fn over_gains()
+pub fn leaves_after_insert()
     ensures { OverGains }
 {}
 

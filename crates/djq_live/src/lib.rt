@@ -37,7 +37,7 @@
 pub use build::intern_constants;
 pub use changes::{
     added_came, copies_keep_rows, deleted_went, leaf_gains, leaf_is_empty, leaf_is_filled,
-    over_gains, over_loses,
+    leaves_after_insert, over_loses,
 };
 pub use fault::query_fault_of;
 pub use laws::{
@@ -51,7 +51,7 @@ pub use member::{
     cells_tell_values, had_cells_stand, head_types_are, queries_are_kept, showable_cells_stand,
 };
 pub use plan::{PlannedQuery, Unplanned, plan_query};
-pub use staying::{came_all_passes, came_passes, live_stays, went_passes};
+pub use staying::{came_all_passes, other_queries_stay, live_stays, went_passes};
 
 mod batch;
 mod bind;

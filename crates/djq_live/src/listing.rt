@@ -25,7 +25,7 @@ ghost use Rattle.djq_live.specs.Reading.{NextGives, MoreGives, next_steps, Opens
 
 use crate::live::LiveQuery;
 use crate::lookup::{has_cells, suits_head};
-use crate::reads::{look, read};
+use crate::reads::{has_more, read};
 use djq_cursor::Cursor;
 use djq_lines::Refusal;
 use djq_model::{Lent, Name, NoMem, Value};
@@ -123,7 +123,7 @@ impl LiveQuery {
         ensures counted { (c : CatalogModel) → IsLive c self.old → listing.new ≤ listing.old
             + most_steps (length self.old.query.head) }
     {
-        look(self.cursors.progress_mut(slot), &self.reducts, listing)
+        has_more(self.cursors.progress_mut(slot), &self.reducts, listing)
     }
 
     /// Whether a tuple suits the query's answers.

@@ -36,7 +36,7 @@ pub fn read<L: Ledger>(
 }
 
 /// Whether a cursor that isn't stale has an answer left.
-pub fn look<L: Ledger>(
+pub fn has_more<L: Ledger>(
     progress: &mut Progress<Cursor>,
     reducts: &Reducts,
     listing: &mut Tally<L>,

@@ -8,7 +8,7 @@ pub fn live_stays()
 {}
 
 /// Where a row came, so it is with each query that doesn't read its relation.
-pub fn came_passes()
+pub fn other_queries_stay()
     ensures { CamePasses }
 {}
 

@@ -91,7 +91,7 @@ fn add_and_tell<L: Ledgers>(
 }
 
 // Takes a tuple out of a leaf that has it, and tells of the answers that go.
-fn take_and_tell<L: Ledgers>(
+fn delete_and_tell<L: Ledgers>(
     reducts: &mut Reducts,
     leaf: usize,
     tuple: &[u64],
@@ -157,7 +157,7 @@ fn add_to_leaf<L: Ledgers>(
 }
 
 // Takes the tuple of a row, where there is one, out of a leaf that has it.
-fn take_from_leaf<L: Ledgers>(
+fn delete_from_leaf<L: Ledgers>(
     reducts: &mut Reducts,
     pattern: &Pattern,
     leaf: usize,
@@ -184,7 +184,7 @@ fn take_from_leaf<L: Ledgers>(
         return;
     };
     if wanted {
-        take_and_tell(reducts, leaf, tuple, log, steps);
+        delete_and_tell(reducts, leaf, tuple, log, steps);
         return;
     }
     drop_leaf(reducts, leaf, tuple, &mut steps.update);
@@ -241,7 +241,7 @@ pub(crate) fn add_to_leaves<L: Ledgers>(
 }
 
 /// Takes the tuples of a row out of the leaves over a relation, leaf after leaf, up to a leaf.
-pub(crate) fn take_from_leaves<L: Ledgers>(
+pub(crate) fn delete_from_leaves<L: Ledgers>(
     reducts: &mut Reducts,
     atoms: &[NumberedAtom],
     patterns: &[Pattern],
@@ -273,7 +273,7 @@ pub(crate) fn take_from_leaves<L: Ledgers>(
             continue;
         }
         let pattern = &patterns[leaf];
-        take_from_leaf(reducts, pattern, leaf, cells, wanted, log, steps);
+        delete_from_leaf(reducts, pattern, leaf, cells, wanted, log, steps);
     }
 }
 

@@ -246,7 +246,7 @@ fn list<L: Ledgers>(
     })
 }
 
-fn look<L: Ledgers>(
+fn has_more<L: Ledgers>(
     alloc: Global,
     catalog: &mut Catalog,
     steps: &mut Steps<L>,
@@ -261,7 +261,7 @@ fn see<L: Ledgers>(rt: &HostRuntime, catalog: &mut Catalog, blanks: Blanks) -> R
     requires rows { blanks.rows.name ≡ L.rows }
 {
     let mut steps = Steps::<L>::new(rt, blanks);
-    look(rt.alloc(), catalog, &mut steps)
+    has_more(rt.alloc(), catalog, &mut steps)
 }
 
 /// Whether these are two answers, in either order.

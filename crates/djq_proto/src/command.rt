@@ -48,13 +48,13 @@ fn read_tokens(alloc: Global, lexer: &mut Lexer<'_>) -> Result<Command, LineRefu
         return Err(LineRefusal::Syntax);
     };
     match read_keyword(word) {
-        Some(keyword) => read_behind(alloc, keyword, lexer),
+        Some(keyword) => read_arguments(alloc, keyword, lexer),
         None => Err(LineRefusal::Syntax),
     }
 }
 
 // What stands behind a keyword.
-fn read_behind(
+fn read_arguments(
     alloc: Global,
     keyword: Keyword,
     lexer: &mut Lexer<'_>,

@@ -11,8 +11,8 @@ ghost use Rattle.djq_reach.specs.Grouping.{reached, relations_of, rows_in, times
 
 use crate::group::Group;
 use crate::places::is_watched;
-use crate::reach::{empty_logs, ready};
-use crate::rows::{give_all_back, take_in_all};
+use crate::reach::{empty_logs, clear_if};
+use crate::rows::{give_all_back, insert_all_into_readers};
 use djq_cursor::DeltaLog;
 use djq_live::LiveQuery;
 use djq_model::{NoMem, Sequence};
@@ -36,7 +36,7 @@ fn clear_watched(logs: &mut Vec<DeltaLog>, watchers: &[u32], places: &[usize])
     for nth in 0..places.len() {
         let at = places[nth];
         let wanted = is_watched(watchers, at);
-        ready(&mut logs[at], wanted);
+        clear_if(&mut logs[at], wanted);
     }
 }
 
@@ -70,7 +70,7 @@ fn empty_all(logs: &mut Vec<DeltaLog>, readers: &[Sequence<usize>], groups: &[Gr
 }
 
 // The queries that read a relation of the groups give their rows back, the last group first.
-fn give_groups<L: Ledgers>(
+fn give_groups_back<L: Ledgers>(
     queries: &mut Vec<Option<LiveQuery>>,
     readers: &[Sequence<usize>],
     groups: &[Group],
@@ -112,7 +112,7 @@ fn give_groups<L: Ledgers>(
 ///
 /// `NoMem` out of memory; answers are as before, and the logs of all these queries are empty. What
 /// was counted is so many times as much as the group has rows, and two times more.
-pub fn take_in_batch<L: Ledgers>(
+pub fn insert_batch_into_readers<L: Ledgers>(
     queries: &mut Vec<Option<LiveQuery>>,
     watchers: &[u32],
     logs: &mut Vec<DeltaLog>,
@@ -154,10 +154,10 @@ pub fn take_in_batch<L: Ledgers>(
         let group = &groups[at];
         let places = places_of(readers, group);
         let rows = group.rows.as_slice();
-        match take_in_all(queries, watchers, logs, places, group.relation, rows, steps) {
+        match insert_all_into_readers(queries, watchers, logs, places, group.relation, rows, steps) {
             Ok(()) => {}
             Err(error) => {
-                give_groups(queries, readers, &groups[..at], steps);
+                give_groups_back(queries, readers, &groups[..at], steps);
                 empty_all(logs, readers, groups);
                 return Err(error);
             }

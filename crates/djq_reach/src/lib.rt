@@ -1,11 +1,11 @@
 //! What a change of rows does to the queries in their places, and to their logs.
 //!
-//! [`take_in`] and [`let_out`] hand a row that came or went to the queries in these places, one
-//! after another; [`empty_logs`] and [`age`] empty their logs and make their cursors stale. Who reads
+//! [`insert_into_readers`] and [`delete_from_readers`] hand a row that came or went to the queries in these places, one
+//! after another; [`empty_logs`] and [`outdate`] empty their logs and make their cursors stale. Who reads
 //! the relation, and in which place, the caller says: no other place is looked at.
 //!
-//! [`take_in_batch`] hands over groups of rows, each of a relation: group after group, and a group to
-//! all queries that read its relation ([`take_in_all`]). A log tells then what came by all groups
+//! [`insert_batch_into_readers`] hands over groups of rows, each of a relation: group after group, and a group to
+//! all queries that read its relation ([`insert_all_into_readers`]). A log tells then what came by all groups
 //! together.
 //!
 //! It keeps nothing, and it knows no catalog, no names and no sessions. A query is djq_live's, and
@@ -30,11 +30,11 @@
 //! go again along a chain with one row less at each step.
 #![tactic(auto)]
 
-pub use batch::take_in_batch;
+pub use batch::insert_batch_into_readers;
 pub use group::Group;
 pub use places::is_watched;
-pub use reach::{age, empty_logs, let_out, take_in};
-pub use rows::take_in_all;
+pub use reach::{delete_from_readers, empty_logs, insert_into_readers, outdate};
+pub use rows::insert_all_into_readers;
 
 mod batch;
 mod group;

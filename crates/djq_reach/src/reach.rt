@@ -15,7 +15,7 @@ use djq_rows::RelationId;
 use djq_steps::{Ledgers, Steps};
 
 /// A log is made ready to tell anew, where that is wanted.
-pub(crate) fn ready(log: &mut DeltaLog, wanted: bool)
+pub(crate) fn clear_if(log: &mut DeltaLog, wanted: bool)
     ensures { Readies wanted log.old log.new }
 {
     if wanted {
@@ -24,7 +24,7 @@ pub(crate) fn ready(log: &mut DeltaLog, wanted: bool)
 }
 
 // A query takes in a row that came. Where it is watched, its log tells anew which answers came.
-fn take_one<L: Ledgers>(
+fn insert_into_query<L: Ledgers>(
     query: &mut LiveQuery,
     wanted: bool,
     log: &mut DeltaLog,
@@ -45,12 +45,12 @@ fn take_one<L: Ledgers>(
     ensures refusal { OnErr result (CountsEither 3 query.old relation.at
         steps.old.update steps.new.update) }
 {
-    ready(log, wanted);
+    clear_if(log, wanted);
     query.add(relation, cells, wanted, log, steps)
 }
 
 // A query lets out a row that went. Where it is watched, its log tells anew which answers went.
-fn let_one<L: Ledgers>(
+fn delete_from_query<L: Ledgers>(
     query: &mut LiveQuery,
     wanted: bool,
     log: &mut DeltaLog,
@@ -66,12 +66,12 @@ fn let_one<L: Ledgers>(
         query.old relation.at steps.old.listing steps.new.listing }
     ensures updates { CountsEither 1 query.old relation.at steps.old.update steps.new.update }
 {
-    ready(log, wanted);
+    clear_if(log, wanted);
     query.delete(relation, cells, wanted, log, steps);
 }
 
 // The query in a place takes in a row that came.
-fn take_at<L: Ledgers>(
+fn insert_at<L: Ledgers>(
     queries: &mut Vec<Option<LiveQuery>>,
     watchers: &[u32],
     logs: &mut Vec<DeltaLog>,
@@ -102,13 +102,13 @@ fn take_at<L: Ledgers>(
 {
     let wanted = is_watched(watchers, at);
     match &mut queries[at] {
-        Some(query) => take_one(query, wanted, &mut logs[at], relation, cells, steps),
+        Some(query) => insert_into_query(query, wanted, &mut logs[at], relation, cells, steps),
         None => unreachable!(),
     }
 }
 
 // It lets out a row that went.
-fn let_at<L: Ledgers>(
+fn delete_at<L: Ledgers>(
     queries: &mut Vec<Option<LiveQuery>>,
     watchers: &[u32],
     logs: &mut Vec<DeltaLog>,
@@ -134,13 +134,13 @@ fn let_at<L: Ledgers>(
 {
     let wanted = is_watched(watchers, at);
     match &mut queries[at] {
-        Some(query) => let_one(query, wanted, &mut logs[at], relation, cells, steps),
+        Some(query) => delete_from_query(query, wanted, &mut logs[at], relation, cells, steps),
         None => unreachable!(),
     }
 }
 
 // It gives back a row that it took in.
-fn give_at<L: Ledgers>(
+fn give_back_at<L: Ledgers>(
     queries: &mut Vec<Option<LiveQuery>>,
     at: usize,
     relation: RelationId,
@@ -161,7 +161,7 @@ fn give_at<L: Ledgers>(
 }
 
 // Its open cursors become stale.
-fn age_at(queries: &mut Vec<Option<LiveQuery>>, at: usize, relation: Name, seq: u64)
+fn outdate_at(queries: &mut Vec<Option<LiveQuery>>, at: usize, relation: Name, seq: u64)
     requires { IsSomeAnd (place_at queries.old.items at) (λ l. ⊤) }
     ensures { Reach (at ∷ []) (Ages relation seq) queries.old.items queries.new.items }
 {
@@ -179,7 +179,7 @@ fn age_at(queries: &mut Vec<Option<LiveQuery>>, at: usize, relation: Name, seq: 
 ///
 /// `NoMem` out of memory; answers are as before. What was counted is at most three times as much, and
 /// of flat queries twice.
-pub fn take_in<L: Ledgers>(
+pub fn insert_into_readers<L: Ledgers>(
     queries: &mut Vec<Option<LiveQuery>>,
     watchers: &[u32],
     logs: &mut Vec<DeltaLog>,
@@ -211,7 +211,7 @@ pub fn take_in<L: Ledgers>(
         steps.old.update steps.new.update) }
 {
     for at in 0..places.len() {
-        match take_at(queries, watchers, logs, places[at], relation, cells, steps) {
+        match insert_at(queries, watchers, logs, places[at], relation, cells, steps) {
             Ok(()) => {}
             Err(error) => {
                 give_back(queries, &places[..at], relation, cells, steps);
@@ -239,13 +239,13 @@ fn give_back<L: Ledgers>(
         steps.old.update steps.new.update }
 {
     for at in 0..places.len() {
-        give_at(queries, places[at], relation, cells, steps);
+        give_back_at(queries, places[at], relation, cells, steps);
     }
 }
 
 /// The queries in these places let out a row that went out of a relation, and the logs of those
 /// that are watched tell anew which answers went. It takes no memory but the logs'.
-pub fn let_out<L: Ledgers>(
+pub fn delete_from_readers<L: Ledgers>(
     queries: &mut Vec<Option<LiveQuery>>,
     watchers: &[u32],
     logs: &mut Vec<DeltaLog>,
@@ -270,7 +270,7 @@ pub fn let_out<L: Ledgers>(
         steps.old.update steps.new.update }
 {
     for at in 0..places.len() {
-        let_at(queries, watchers, logs, places[at], relation, cells, steps);
+        delete_at(queries, watchers, logs, places[at], relation, cells, steps);
     }
 }
 
@@ -285,12 +285,12 @@ pub fn empty_logs(logs: &mut Vec<DeltaLog>, places: &[usize])
 }
 
 /// The open cursors of the queries in these places become stale, by a change of a relation.
-pub fn age(queries: &mut Vec<Option<LiveQuery>>, places: &[usize], relation: Name, seq: u64)
+pub fn outdate(queries: &mut Vec<Option<LiveQuery>>, places: &[usize], relation: Name, seq: u64)
     requires once { AreOnce places.now }
     requires there { AllAt places.now queries.old.items (λ l. ⊤) }
     ensures { Reach places.now (Ages relation seq) queries.old.items queries.new.items }
 {
     for at in 0..places.len() {
-        age_at(queries, places[at], relation, seq);
+        outdate_at(queries, places[at], relation, seq);
     }
 }

@@ -19,7 +19,7 @@ use djq_steps::{Ledgers, Steps};
 
 // The query in a place takes in rows that came. Where it is watched, its log tells, behind what it
 // told, which answers came.
-fn take_rows_at<L: Ledgers>(
+fn insert_rows_at<L: Ledgers>(
     queries: &mut Vec<Option<LiveQuery>>,
     watchers: &[u32],
     logs: &mut Vec<DeltaLog>,
@@ -56,7 +56,7 @@ fn take_rows_at<L: Ledgers>(
 }
 
 // A query gives back rows that it took in, the last one first.
-fn give_rows<L: Ledgers>(
+fn give_rows_back<L: Ledgers>(
     query: &mut LiveQuery,
     relation: RelationId,
     rows: &[Cells],
@@ -76,7 +76,7 @@ fn give_rows<L: Ledgers>(
 }
 
 // The query in a place gives them back.
-fn give_rows_at<L: Ledgers>(
+fn give_rows_back_at<L: Ledgers>(
     queries: &mut Vec<Option<LiveQuery>>,
     at: usize,
     relation: RelationId,
@@ -91,7 +91,7 @@ fn give_rows_at<L: Ledgers>(
         steps.old.update steps.new.update }
 {
     match &mut queries[at] {
-        Some(query) => give_rows(query, relation, rows, steps),
+        Some(query) => give_rows_back(query, relation, rows, steps),
         None => unreachable!(),
     }
 }
@@ -103,7 +103,7 @@ fn give_rows_at<L: Ledgers>(
 /// # Errors
 ///
 /// `NoMem` out of memory; answers are as before, and what the logs in these places tell is of no use.
-pub fn take_in_all<L: Ledgers>(
+pub fn insert_all_into_readers<L: Ledgers>(
     queries: &mut Vec<Option<LiveQuery>>,
     watchers: &[u32],
     logs: &mut Vec<DeltaLog>,
@@ -134,7 +134,7 @@ pub fn take_in_all<L: Ledgers>(
         (length rows.now) (length rows.now + 2) steps.old.update steps.new.update) }
 {
     for at in 0..places.len() {
-        match take_rows_at(queries, watchers, logs, places[at], relation, rows, steps) {
+        match insert_rows_at(queries, watchers, logs, places[at], relation, rows, steps) {
             Ok(()) => {}
             Err(error) => {
                 give_all_back(queries, &places[..at], relation, rows, steps);
@@ -162,6 +162,6 @@ pub(crate) fn give_all_back<L: Ledgers>(
         steps.old.update steps.new.update }
 {
     for at in 0..places.len() {
-        give_rows_at(queries, places[at], relation, rows, steps);
+        give_rows_back_at(queries, places[at], relation, rows, steps);
     }
 }

@@ -16,6 +16,6 @@ pub fn texts_stay()
 {}
 
 /// A relation's rows may be changed by its name or by its place.
-pub fn names_tell()
+pub fn rows_by_name_or_place()
     ensures { NamesTell }
 {}

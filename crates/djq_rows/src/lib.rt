@@ -35,7 +35,7 @@ mod rows;
 mod walk;
 
 pub use catalog::Catalog;
-pub use laws::{cells_differ, cells_stay, names_tell, texts_stay};
+pub use laws::{cells_differ, cells_stay, rows_by_name_or_place, texts_stay};
 pub use refusal::RowsRefusal;
 pub use relation_id::RelationId;
 pub use walk::Walk;

@@ -530,5 +530,5 @@ fn has_laws() {
     cells_differ();
     cells_stay();
     texts_stay();
-    names_tell();
+    rows_by_name_or_place();
 }

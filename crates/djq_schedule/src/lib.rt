@@ -28,7 +28,7 @@
 mod line;
 mod schedule;
 mod sent;
-mod sofar;
+mod sessions_so_far;
 #[cfg(test)]
 mod tests;
 

@@ -3,7 +3,7 @@ ghost use Rattle.djq_schedule.specs.Schedule.{before, behind, rest_of, lines_of,
 ghost use Rattle.djq_schedule.specs.Made.{in_grammar, AddsLine, IsMade, Refuses};
 
 use crate::line::{Keyword, read_order, split_at};
-use crate::sofar::Sofar;
+use crate::sessions_so_far::SessionsSoFar;
 use djq_io::{Coming, Incoming, MemHub, Piece};
 use std::alloc::{AllocError, Global};
 
@@ -29,7 +29,7 @@ pub fn schedule_hub(alloc: Global, bytes: &[u8]) -> Result<MemHub, ScheduleRefus
     ensures { MatchResult result (IsMade bytes.now) (Refuses bytes.now) }
 {
     let mut hub = MemHub::new(alloc);
-    let mut sofar = Sofar::new(alloc);
+    let mut sofar = SessionsSoFar::new(alloc);
     let mut rest = bytes;
     let mut number: u64 = 0;
     'lines: while !rest.is_empty() {
@@ -74,7 +74,7 @@ fn next_line(bytes: &[u8]) -> (&[u8], &[u8])
 fn add_line(
     alloc: Global,
     hub: &mut MemHub,
-    sofar: &mut Sofar,
+    sofar: &mut SessionsSoFar,
     line: &[u8],
 ) -> Result<bool, AllocError>
     ensures { IfOk result (λ added. AddsLine added sofar.old hub.old line.now sofar.new hub.new) }
@@ -90,7 +90,7 @@ fn add_line(
 }
 
 /// What a line says, where it is in the grammar.
-fn read_standing<'a>(sofar: &Sofar, line: &'a [u8]) -> Option<(Keyword, u64, Option<&'a [u8]>)>
+fn read_standing<'a>(sofar: &SessionsSoFar, line: &'a [u8]) -> Option<(Keyword, u64, Option<&'a [u8]>)>
     ensures { option_map (λ o. (o.0, (o.1, option_map (λ text. text.now) o.2))) result ≡ in_grammar
         sofar.now line.now }
 {

@@ -218,10 +218,10 @@ abbrev pub live_with : List Bytes → Held
 live_with texts = record { mode = Live; texts = texts }
 
 -- a change that is put in or taken out
-came_passes : (name : Bytes) (held : Held) (t : Tuple) → held.mode ≡ Live → has_text held.texts (cells_text t) ≡ false
+other_queries_stay : (name : Bytes) (held : Held) (t : Tuple) → held.mode ≡ Live → has_text held.texts (cells_text t) ≡ false
     → IsInOrder (put_in (cells_text t) held.texts)
     → Passes name held (changed Came name t ∷ []) (live_with (put_in (cells_text t) held.texts))
-came_passes name held t mode none order =
+other_queries_stay name held t mode none order =
     let turn : turn_of name held.mode (changed Came name t) ≡ Some (Live, put (cells_text t)) =
     change_turns name held.mode Came t ∙ ap (λ (m : Mode). Some (turn_of_change m Came (cells_text t))) mode in (
       live_with (put_in (cells_text t) held.texts),
@@ -406,7 +406,7 @@ module _ (Before After : Tuple → Type 0)
           (λ a. came_absent cs t all a) (λ u a. came_from cs t u a) (λ u a. came_to cs t all apart u a) in
           goes (changed Came name t) (ap (λ (x : Sign). changed x name t) e)
           (live_with (put_in (cells_text t) held.texts))
-          (came_passes name held t mode both.0 both.1.order)
+          (other_queries_stay name held t mode both.0 both.1.order)
           (more (live_with (put_in (cells_text t) held.texts)) refl both.1)
       by Went e more =
           let is : c ≡ (going t) = ap (λ (x : Sign). record { sign = x; answer = t }) e in

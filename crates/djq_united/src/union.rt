@@ -21,7 +21,7 @@ ghost use Rattle.djq_united.specs.Reading.{OpensIn, NextGives, MoreGives, read_s
 ghost use Rattle.djq_live.specs.Staying.{HasSameShape};
 ghost use Rattle.djq_united.specs.Staying.{KeepMembers};
 
-use crate::reads::{look, read};
+use crate::reads::{has_more, read};
 use djq_live::{LiveQuery, Next};
 use djq_model::{Name, NoMem, Sequence};
 use djq_reduct::Answer;
@@ -146,7 +146,7 @@ impl LiveUnion {
     {
         let members = self.members.as_slice();
         let progress = self.cursors.progress_mut(slot);
-        look(progress, queries, members, listing)
+        has_more(progress, queries, members, listing)
     }
 
     /// Makes its open cursors stale, by a change of a relation of this number. Then it goes with

@@ -3,27 +3,27 @@ use Rattle.djq_arena.specs.Store.{cells_at}
 use Rattle.djq_arena.proofs.Storing.{last_in_order, links}
 use Rattle.djq_arena.proofs.store.link.Goals as goal
 
-pub enlist-requires-clause-slot : goal.enlist-requires-clause-slot
-enlist-requires-clause-slot c = rw c.requires.sound.store.pairs c.requires.loose.within
+pub push_bucket-requires-clause-slot : goal.push_bucket-requires-clause-slot
+push_bucket-requires-clause-slot c = rw c.requires.sound.store.pairs c.requires.loose.within
 
 pub enter-requires-clause-last : goal.enter-requires-clause-last
 enter-requires-clause-last c = last_in_order c.args.store.now c.requires.sound
 
 pub returns : goal.returns
 returns c = record {
-  linked = links c.args.store.now _ c.args.slot c.class_in-class.result c.requires.sound c.requires.loose
+  linked = links c.args.store.now _ c.args.slot c.bucket_in-class.result c.requires.sound c.requires.loose
       (record {
         width = refl;
         cells = refl;
         order = c.enter.ensures;
-        live = c.grown-store.ensures;
-        bucket = c.enlist.ensures.bucket;
-        heads = c.enlist.ensures.heads;
+        live = c.ends_after_push-store.ensures;
+        bucket = c.push_bucket.ensures.bucket;
+        heads = c.push_bucket.ensures.heads;
         free = refl;
         len = refl;
         spare = refl;
       })
-      c.class_in-class.ensures.within
-      (c.class_in-class.ensures.class (cells_at c.args.store.now.width c.args.store.now.cells.items c.args.slot)
+      c.bucket_in-class.ensures.within
+      (c.bucket_in-class.ensures.class (cells_at c.args.store.now.width c.args.store.now.cells.items c.args.slot)
       c.requires.here);
 }

@@ -20,9 +20,9 @@ pub loop-slot-preserved : goal.loop-slot-preserved
 loop-slot-preserved c = record {
   listed = rw (c.link_among.ensures, c.to.ensures)
       (listed_more c.args.width c.args.cells.now c.loop-slot.bucket c.loop-slot.heads c.loop-slot.slot
-      c.class_of-class.result c.loop-slot.invariant.listed
-      (omega (arith, c.loop-slot-test.true, c.loop-slot.invariant.slots)) c.class_of-class.ensures.within
-      (c.class_of-class.ensures.class ∙ ap (λ (u : List ℕ). class (length c.loop-slot.heads) u) c.cells_among.ensures));
+      c.bucket_of_row-class.result c.loop-slot.invariant.listed
+      (omega (arith, c.loop-slot-test.true, c.loop-slot.invariant.slots)) c.bucket_of_row-class.ensures.within
+      (c.bucket_of_row-class.ensures.class ∙ ap (λ (u : List ℕ). class (length c.loop-slot.heads) u) c.cells_among.ensures));
   slots = length-set c.loop-slot.bucket c.loop-slot.slot c.link_among.result ∙ c.loop-slot.invariant.slots;
-  buckets = length-set c.loop-slot.heads c.class_of-class.result c.to.result ∙ c.loop-slot.invariant.buckets;
+  buckets = length-set c.loop-slot.heads c.bucket_of_row-class.result c.to.result ∙ c.loop-slot.invariant.buckets;
 }

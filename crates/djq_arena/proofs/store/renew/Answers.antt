@@ -30,8 +30,8 @@ pub enter-requires-clause-number : goal.enter-requires-clause-number
 enter-requires-clause-number c = omega
     (arith, held_within c.args.store.now c.args.slot c.requires.sound c.requires.held, c.requires.sound.store.numbers)
 
-pub grown-store-requires : goal.grown-store-requires
-grown-store-requires c = omega
+pub ends_after_push-store-requires : goal.ends_after_push-store-requires
+ends_after_push-store-requires c = omega
     (arith, held_within c.args.store.now c.args.slot c.requires.sound c.requires.held, c.requires.sound.store.numbers)
 
 pub returns : goal.returns
@@ -45,7 +45,7 @@ returns c =
             width = refl;
             cells = refl;
             order = c.enter.ensures ∙ ap₂ (λ (e : Ends) (ls : List Pair). entered e.last c.args.slot ls) ends without;
-            live = c.grown-store.ensures ∙ ap (λ (e : Ends). extended c.args.slot e) ends;
+            live = c.ends_after_push-store.ensures ∙ ap (λ (e : Ends). extended c.args.slot e) ends;
             bucket = refl;
             heads = refl;
             free = refl;

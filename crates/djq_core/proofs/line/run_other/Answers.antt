@@ -14,11 +14,11 @@ use Rattle.djq_core.proofs.Leaving.{line_leaves}
 use Rattle.djq_core.proofs.Saying.{misplaced_said, other, reads_as, refused_alone, runnable}
 use Rattle.djq_core.proofs.line.run_other.Goals as goal
 
-pub obey-requires-clause-runnable : goal.obey-requires-clause-runnable
-obey-requires-clause-runnable g c = runnable (take c.args.end c.held.result.now) c.in-Ok.command c.in-Ok.ensures
+pub run_command-requires-clause-runnable : goal.run_command-requires-clause-runnable
+run_command-requires-clause-runnable g c = runnable (take c.args.end c.held.result.now) c.in-Ok.command c.in-Ok.ensures
 
-pub obey-requires-clause-other : goal.obey-requires-clause-other
-obey-requires-clause-other g c =
+pub run_command-requires-clause-other : goal.run_command-requires-clause-other
+run_command-requires-clause-other g c =
     other (take c.args.end c.args.session.now.held) c.in-Ok.command
     (subst (λ (bs : Bytes). Reads (take c.args.end bs) (Ok c.in-Ok.command)) c.held.ensures c.in-Ok.ensures)
     c.requires.other
@@ -28,8 +28,8 @@ returns-else-is_for_batch g c =
     let old = c.args.session.now in
     let line = take c.args.end old.held in
     let said = subst (λ (bs : Bytes). Reads (take c.args.end bs) (Ok c.in-Ok.command)) c.held.ensures c.in-Ok.ensures in
-    line_leaves c.obey.result c.args.engine.now old c.take_line.new.self line (drop c.args.rest old.held)
-    c.in-Ok.command c.obey.new.engine c.obey.new.session c.args.steps.now.listing c.obey.new.steps.listing
+    line_leaves c.run_command.result c.args.engine.now old c.take_line.new.self line (drop c.args.rest old.held)
+    c.in-Ok.command c.run_command.new.engine c.run_command.new.session c.args.steps.now.listing c.run_command.new.steps.listing
     c.requires.front c.take_line.ensures c.requires.said c.requires.few c.requires.ready.running c.requires.ready.room
     (reads_as line c.in-Ok.command said)
     (λ h. (
@@ -37,7 +37,7 @@ returns-else-is_for_batch g c =
       ap
           (λ (o : Option (List HeldRow)). is_misplaced o c.in-Ok.command) c.requires.alone
           ∙ (sym c.is_for_batch.ensures ∙ c.if-is_for_batch.false),
-    )) c.obey.ensures
+    )) c.run_command.ensures
 
 pub returns-in-Err : goal.returns-in-Err
 returns-in-Err g c =

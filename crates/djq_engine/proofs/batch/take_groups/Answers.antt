@@ -12,12 +12,12 @@ either : {X E : Type 0} {A B C : Type 0} (r : Result X E) → (A → C) → (B �
 either (Ok x) f g a b = f a
 either (Err x) f g a b = g b
 
-pub take_in_batch-requires-clause-once : goal.take_in_batch-requires-clause-once
-take_in_batch-requires-clause-once g c = subst (λ (rs : List (List ℕ)). (r : ℕ) → AreOnce (readers_at rs r))
+pub insert_batch_into_readers-requires-clause-once : goal.insert_batch_into_readers-requires-clause-once
+insert_batch_into_readers-requires-clause-once g c = subst (λ (rs : List (List ℕ)). (r : ℕ) → AreOnce (readers_at rs r))
     (sym c.as_slice-readers.ensures.value) c.requires.once
 
-pub take_in_batch-requires-clause-can : goal.take_in_batch-requires-clause-can
-take_in_batch-requires-clause-can g c =
+pub insert_batch_into_readers-requires-clause-can : goal.insert_batch_into_readers-requires-clause-can
+insert_batch_into_readers-requires-clause-can g c =
     subst (λ (rs : List (List ℕ)). CanComeBy rs c.args.groups.now c.args.parts.now.queries.items)
     (sym c.as_slice-readers.ensures.value) (record {
       before = c.requires.can.0;
@@ -26,17 +26,17 @@ take_in_batch-requires-clause-can g c =
       kept = c.requires.can.1.kept;
     })
 
-pub take_in_batch-requires-clause-watched : goal.take_in_batch-requires-clause-watched
-take_in_batch-requires-clause-watched g c = ap (λ (ws : List ℕ). length ws) c.as_slice-watchers.ensures.value
+pub insert_batch_into_readers-requires-clause-watched : goal.insert_batch_into_readers-requires-clause-watched
+insert_batch_into_readers-requires-clause-watched g c = ap (λ (ws : List ℕ). length ws) c.as_slice-watchers.ensures.value
     ∙ c.requires.watched
 
 pub returns-clause-taken : goal.returns-clause-taken
 returns-clause-taken g c =
-    on_both c.take_in_batch.result
+    on_both c.insert_batch_into_readers.result
     (λ reach tends. record {
       reach = λ d here.
           subst (λ (rs : List (List ℕ)). Reach (reached rs c.args.groups.now) (Renews c.args.parts.now.catalog)
-          c.args.parts.now.queries.items c.take_in_batch.new.queries.items) c.as_slice-readers.ensures.value
+          c.args.parts.now.queries.items c.insert_batch_into_readers.new.queries.items) c.as_slice-readers.ensures.value
           (reach d c.args.parts.now.catalog
           (subst (λ (rs : List (List ℕ)). Leads rs c.args.groups.now c.args.parts.now.queries.items d
           c.args.parts.now.catalog) (sym c.as_slice-readers.ensures.value) here.leads)
@@ -46,22 +46,22 @@ returns-clause-taken g c =
           subst (λ (ws : List ℕ). Tends (reached c.args.parts.now.readers.items c.args.groups.now)
           (TellsAt ws (λ x y (what : ⊤). Leads c.args.parts.now.readers.items c.args.groups.now
           c.args.parts.now.queries.items x y))
-          c.args.parts.now.queries.items c.args.parts.now.logs.items c.take_in_batch.new.logs.items)
+          c.args.parts.now.queries.items c.args.parts.now.logs.items c.insert_batch_into_readers.new.logs.items)
           c.as_slice-watchers.ensures.value
           (subst (λ (rs : List (List ℕ)). Tends (reached rs c.args.groups.now)
           (TellsAt c.as_slice-watchers.result.now
           (λ x y (what : ⊤). Leads rs c.args.groups.now c.args.parts.now.queries.items x y))
-          c.args.parts.now.queries.items c.args.parts.now.logs.items c.take_in_batch.new.logs.items)
+          c.args.parts.now.queries.items c.args.parts.now.logs.items c.insert_batch_into_readers.new.logs.items)
           c.as_slice-readers.ensures.value tends);
-    }) c.take_in_batch.ensures.taken c.take_in_batch.ensures.tells
+    }) c.insert_batch_into_readers.ensures.taken c.insert_batch_into_readers.ensures.tells
 
 pub returns-clause-given : goal.returns-clause-given
 returns-clause-given g c =
-    on_refused c.take_in_batch.result
+    on_refused c.insert_batch_into_readers.result
     (λ reach empties. record {
       reach = λ d here.
           subst (λ (rs : List (List ℕ)). Reach (reached rs c.args.groups.now) (Renews d) c.args.parts.now.queries.items
-          c.take_in_batch.new.queries.items) c.as_slice-readers.ensures.value
+          c.insert_batch_into_readers.new.queries.items) c.as_slice-readers.ensures.value
           (reach d c.args.parts.now.catalog
           (subst (λ (rs : List (List ℕ)). Leads rs c.args.groups.now c.args.parts.now.queries.items d
           c.args.parts.now.catalog) (sym c.as_slice-readers.ensures.value) here.leads)
@@ -69,21 +69,21 @@ returns-clause-given g c =
           (λ l. IsKept d l)) (sym c.as_slice-readers.ensures.value) here.kept));
       empties =
           subst (λ (rs : List (List ℕ)). Empties (reached rs c.args.groups.now) c.args.parts.now.logs.items
-          c.take_in_batch.new.logs.items) c.as_slice-readers.ensures.value empties;
-    }) c.take_in_batch.ensures.given c.take_in_batch.ensures.emptied
+          c.insert_batch_into_readers.new.logs.items) c.as_slice-readers.ensures.value empties;
+    }) c.insert_batch_into_readers.ensures.given c.insert_batch_into_readers.ensures.emptied
 
 pub returns-clause-counted : goal.returns-clause-counted
 returns-clause-counted g c =
     subst (λ (ws : List ℕ). CostsBy c.args.parts.now.readers.items c.args.groups.now ws c.args.parts.now.queries.items
-    c.args.steps.now.listing c.take_in_batch.new.steps.listing) c.as_slice-watchers.ensures.value
+    c.args.steps.now.listing c.insert_batch_into_readers.new.steps.listing) c.as_slice-watchers.ensures.value
     (subst (λ (rs : List (List ℕ)). CostsBy rs c.args.groups.now c.as_slice-watchers.result.now
-    c.args.parts.now.queries.items c.args.steps.now.listing c.take_in_batch.new.steps.listing)
+    c.args.parts.now.queries.items c.args.steps.now.listing c.insert_batch_into_readers.new.steps.listing)
     c.as_slice-readers.ensures.value
-    c.take_in_batch.ensures.counted)
+    c.insert_batch_into_readers.ensures.counted)
 
 pub returns-clause-unlisted : goal.returns-clause-unlisted
 returns-clause-unlisted g c none =
-    c.take_in_batch.ensures.unlisted
+    c.insert_batch_into_readers.ensures.unlisted
     (subst (λ (ws : List ℕ). AreUnwatched ws (reached c.as_slice-readers.result.now c.args.groups.now))
     (sym c.as_slice-watchers.ensures.value)
     (subst (λ (rs : List (List ℕ)). AreUnwatched c.args.parts.now.watchers.items (reached rs c.args.groups.now))
@@ -97,20 +97,20 @@ returns-clause-rest g c = record {
   watchers = refl;
   affected = refl;
   room = refl;
-  long = either c.take_in_batch.result (λ t. t.long) (λ e. e.long) c.take_in_batch.ensures.tells
-      c.take_in_batch.ensures.emptied;
+  long = either c.insert_batch_into_readers.result (λ t. t.long) (λ e. e.long) c.insert_batch_into_readers.ensures.tells
+      c.insert_batch_into_readers.ensures.emptied;
 }
 
 pub returns-clause-updates : goal.returns-clause-updates
 returns-clause-updates g c =
-    subst (λ (rs : List (List ℕ)). OnOk c.take_in_batch.result
+    subst (λ (rs : List (List ℕ)). OnOk c.insert_batch_into_readers.result
     (WorksBy rs c.args.groups.now c.args.parts.now.queries.items (rows_in c.args.groups.now) (λ x. 1)
-    c.args.steps.now.update c.take_in_batch.new.steps.update))
-    c.as_slice-readers.ensures.value c.take_in_batch.ensures.updates
+    c.args.steps.now.update c.insert_batch_into_readers.new.steps.update))
+    c.as_slice-readers.ensures.value c.insert_batch_into_readers.ensures.updates
 
 pub returns-clause-refusal : goal.returns-clause-refusal
 returns-clause-refusal g c =
-    subst (λ (rs : List (List ℕ)). OnErr c.take_in_batch.result
+    subst (λ (rs : List (List ℕ)). OnErr c.insert_batch_into_readers.result
     (WorksBy rs c.args.groups.now c.args.parts.now.queries.items (rows_in c.args.groups.now) times_back
-    c.args.steps.now.update c.take_in_batch.new.steps.update))
-    c.as_slice-readers.ensures.value c.take_in_batch.ensures.refusal
+    c.args.steps.now.update c.insert_batch_into_readers.new.steps.update))
+    c.as_slice-readers.ensures.value c.insert_batch_into_readers.ensures.refusal

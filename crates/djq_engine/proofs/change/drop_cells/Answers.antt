@@ -46,8 +46,8 @@ returns-in-Absent-clause-shown g c =
     subst (λ (ts : List Bytes). AreShown ts c.args.parts.now.queries.items c.args.parts.now.logs.items)
     (sym c.delete_row.ensures.texts) c.requires.tended.shown
 
-pub let_out-requires-clause-once : goal.let_out-requires-clause-once
-let_out-requires-clause-once g c =
+pub delete_from_readers-requires-clause-once : goal.delete_from_readers-requires-clause-once
+delete_from_readers-requires-clause-once g c =
     let old = c.args.parts.now in
     let d = c.delete_row.new.self in
     let row = c.requires.row.0 in
@@ -62,8 +62,8 @@ let_out-requires-clause-once g c =
     (places_read old.readers.items c.args.id.at c.index.result.now c.as_slice-places.result.now
     (omega (arith, c.requires.there, c.requires.whole.long)) c.index.ensures c.as_slice-places.ensures)
 
-pub let_out-requires-clause-can : goal.let_out-requires-clause-can
-let_out-requires-clause-can g c =
+pub delete_from_readers-requires-clause-can : goal.delete_from_readers-requires-clause-can
+delete_from_readers-requires-clause-can g c =
     let old = c.args.parts.now in
     let d = c.delete_row.new.self in
     let row = c.requires.row.0 in
@@ -96,7 +96,7 @@ returns-clause-deletes g c row stand =
               c.requires.whole c.as_slice-places.result.now
               (places_read old.readers.items c.args.id.at c.index.result.now c.as_slice-places.result.now
               (omega (arith, c.requires.there, c.requires.whole.long)) c.index.ensures c.as_slice-places.ensures)
-              c.went_passes.ensures c.let_out.new.queries.items c.let_out.ensures.reach;
+              c.went_passes.ensures c.delete_from_readers.new.queries.items c.delete_from_readers.ensures.reach;
         };
       },
     )
@@ -115,11 +115,11 @@ returns-clause-tells g c row stand =
     (omega (arith, c.requires.there, c.requires.whole.long)) c.index.ensures c.as_slice-places.ensures)
     row (c.deleted_went.ensures old.catalog d c.args.id.at c.args.cells.now row c.laws-2.ensures c.requires.there
     was.stand c.delete_row.ensures.texts gone.2)
-    (without_copies (counted_at old.catalog.relations c.args.id.at) row) gone.2 old.logs.items c.let_out.new.logs.items
+    (without_copies (counted_at old.catalog.relations c.args.id.at) row) gone.2 old.logs.items c.delete_from_readers.new.logs.items
     (subst (λ (ws : List ℕ). Tends c.as_slice-places.result.now
     (TellsAt ws (λ x y. Went x y c.args.id.at c.args.cells.now)) old.queries.items old.logs.items
-    c.let_out.new.logs.items) c.as_slice-watchers.ensures.value
-    c.let_out.ensures.tells)
+    c.delete_from_readers.new.logs.items) c.as_slice-watchers.ensures.value
+    c.delete_from_readers.ensures.tells)
 
 pub returns-clause-counted : goal.returns-clause-counted
 returns-clause-counted g c row stand =
@@ -136,11 +136,11 @@ returns-clause-counted g c row stand =
     row (c.deleted_went.ensures old.catalog d c.args.id.at c.args.cells.now row c.laws-2.ensures c.requires.there
     was.stand c.delete_row.ensures.texts gone.2)
     (without_copies (counted_at old.catalog.relations c.args.id.at) row) gone.2 c.args.steps.now.listing
-    c.let_out.new.steps.listing
+    c.delete_from_readers.new.steps.listing
     (subst (λ (ws : List ℕ). Costs (λ x y. Went x y c.args.id.at c.args.cells.now) c.as_slice-places.result.now ws
-    old.queries.items c.args.id.at c.args.steps.now.listing c.let_out.new.steps.listing)
+    old.queries.items c.args.id.at c.args.steps.now.listing c.delete_from_readers.new.steps.listing)
     c.as_slice-watchers.ensures.value
-    c.let_out.ensures.counted)
+    c.delete_from_readers.ensures.counted)
 
 pub returns-clause-shown : goal.returns-clause-shown
 returns-clause-shown g c =
@@ -152,10 +152,10 @@ returns-clause-shown g c =
     c.in-Last.is (c.delete_row.ensures.deletes c.requires.row.0 c.requires.row.1)) in
     let was : IsOld old.catalog c.args.id.at c.args.cells.now row =
     record { stand = c.requires.row.1; there = gone.0 } in
-    let tells = c.let_out.ensures.tells in
-    subst (λ (ts : List Bytes). AreShown ts old.queries.items c.let_out.new.logs.items) (sym c.delete_row.ensures.texts)
+    let tells = c.delete_from_readers.ensures.tells in
+    subst (λ (ts : List Bytes). AreShown ts old.queries.items c.delete_from_readers.new.logs.items) (sym c.delete_row.ensures.texts)
     (shown_tended (λ x y. Went x y c.args.id.at c.args.cells.now) old.catalog d old.queries.items
-    c.as_slice-places.result.now old.logs.items c.let_out.new.logs.items row
+    c.as_slice-places.result.now old.logs.items c.delete_from_readers.new.logs.items row
     (subst (λ (ps : List ℕ). AllAt ps old.queries.items (λ l. IsKept old.catalog l))
     (sym (places_read old.readers.items c.args.id.at c.index.result.now c.as_slice-places.result.now
     (omega (arith, c.requires.there, c.requires.whole.long)) c.index.ensures c.as_slice-places.ensures))
@@ -164,18 +164,18 @@ returns-clause-shown g c =
     (c.deleted_went.ensures old.catalog d c.args.id.at c.args.cells.now row c.laws-2.ensures c.requires.there was.stand
     c.delete_row.ensures.texts gone.2) c.delete_row.ensures.texts
     (tells_show (λ x y. Went x y c.args.id.at c.args.cells.now) c.as_slice-watchers.result.now
-    c.as_slice-places.result.now old.queries.items old.logs.items c.let_out.new.logs.items tells)
+    c.as_slice-places.result.now old.queries.items old.logs.items c.delete_from_readers.new.logs.items tells)
     c.requires.tended.shown)
 
 pub returns-clause-quiet : goal.returns-clause-quiet
 returns-clause-quiet g c i l there e =
     let old = c.args.parts.now in
     tends_quiet (λ x y. Went x y c.args.id.at c.args.cells.now) old.watchers.items c.as_slice-places.result.now
-    old.queries.items old.logs.items c.let_out.new.logs.items
+    old.queries.items old.logs.items c.delete_from_readers.new.logs.items
     (subst (λ (ws : List ℕ). Tends c.as_slice-places.result.now
     (TellsAt ws (λ x y. Went x y c.args.id.at c.args.cells.now)) old.queries.items old.logs.items
-    c.let_out.new.logs.items) c.as_slice-watchers.ensures.value
-    c.let_out.ensures.tells) i l there
+    c.delete_from_readers.new.logs.items) c.as_slice-watchers.ensures.value
+    c.delete_from_readers.ensures.tells) i l there
     (ap (λ (ps : List ℕ). is_reader ps i && watched_at old.watchers.items i)
     (places_read old.readers.items c.args.id.at c.index.result.now c.as_slice-places.result.now
     (omega (arith, c.requires.there, c.requires.whole.long)) c.index.ensures c.as_slice-places.ensures) ∙ e)
@@ -184,16 +184,16 @@ pub returns-clause-updates : goal.returns-clause-updates
 returns-clause-updates g c =
     let old = c.args.parts.now in
     subst (λ (ps : List ℕ). Works ps old.queries.items c.args.id.at 1 c.args.steps.now.update
-    c.let_out.new.steps.update)
+    c.delete_from_readers.new.steps.update)
     (places_read old.readers.items c.args.id.at c.index.result.now c.as_slice-places.result.now
     (omega (arith, c.requires.there, c.requires.whole.long)) c.index.ensures c.as_slice-places.ensures)
-    c.let_out.ensures.updates
+    c.delete_from_readers.ensures.updates
 
 pub returns-clause-unlisted : goal.returns-clause-unlisted
 returns-clause-unlisted g c none =
     let old = c.args.parts.now in
     let places = places_read old.readers.items c.args.id.at c.index.result.now c.as_slice-places.result.now
     (omega (arith, c.requires.there, c.requires.whole.long)) c.index.ensures c.as_slice-places.ensures in
-    c.let_out.ensures.unlisted
+    c.delete_from_readers.ensures.unlisted
     (subst (λ (ws : List ℕ). AreUnwatched ws c.as_slice-places.result.now) (sym c.as_slice-watchers.ensures.value)
     (subst (λ (ps : List ℕ). AreUnwatched old.watchers.items ps) (sym places) none))

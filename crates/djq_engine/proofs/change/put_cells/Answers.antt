@@ -83,8 +83,8 @@ returns-in-Err-NoMem-clause-listed g c row stand f deltas = omega arith
 pub returns-in-Err-NoMem-clause-refusal : goal.returns-in-Err-NoMem-clause-refusal
 returns-in-Err-NoMem-clause-refusal g c n flat few = omega arith
 
-pub take_in-requires-clause-once : goal.take_in-requires-clause-once
-take_in-requires-clause-once g c =
+pub insert_into_readers-requires-clause-once : goal.insert_into_readers-requires-clause-once
+insert_into_readers-requires-clause-once g c =
     let old = c.args.parts.now in
     let d = c.add_row.new.self in
     let row = c.requires.row.0 in
@@ -98,8 +98,8 @@ take_in-requires-clause-once g c =
     (places_read old.readers.items c.args.id.at c.index.result.now c.as_slice-places.result.now
     (omega (arith, c.requires.there, c.requires.whole.long)) c.index.ensures c.as_slice-places.ensures)
 
-pub take_in-requires-clause-can : goal.take_in-requires-clause-can
-take_in-requires-clause-can g c =
+pub insert_into_readers-requires-clause-can : goal.insert_into_readers-requires-clause-can
+insert_into_readers-requires-clause-can g c =
     let old = c.args.parts.now in
     let d = c.add_row.new.self in
     let row = c.requires.row.0 in
@@ -131,7 +131,7 @@ returns-in-Ok-clause-adds g c row stand =
               old.queries.items old.order old.readers.items c.requires.whole c.as_slice-places.result.now
               (places_read old.readers.items c.args.id.at c.index.result.now c.as_slice-places.result.now
               (omega (arith, c.requires.there, c.requires.whole.long)) c.index.ensures c.as_slice-places.ensures)
-              c.added_came.ensures c.came_passes.ensures c.take_in.new.queries.items c.in-Ok.ensures.taken;
+              c.added_came.ensures c.other_queries_stay.ensures c.insert_into_readers.new.queries.items c.in-Ok.ensures.taken;
         };
       },
     )
@@ -157,7 +157,7 @@ returns-in-Err-clause-adds g c row stand =
             old.queries.items old.order old.readers.items c.requires.whole c.as_slice-places.result.now
             (places_read old.readers.items c.args.id.at c.index.result.now c.as_slice-places.result.now
             (omega (arith, c.requires.there, c.requires.whole.long)) c.index.ensures c.as_slice-places.ensures)
-            c.added_came.ensures c.deleted_went.ensures c.take_in.new.queries.items c.in-Err.ensures.given
+            c.added_came.ensures c.deleted_went.ensures c.insert_into_readers.new.queries.items c.in-Err.ensures.given
             c.delete_row.new.self back;
       },
     )
@@ -176,10 +176,10 @@ returns-in-Ok-clause-tells g c row stand =
     (omega (arith, c.requires.there, c.requires.whole.long)) c.index.ensures c.as_slice-places.ensures)
     row (came old.catalog d c.args.id.at c.requires.there c.args.cells.now row new c.laws.ensures c.laws-2.ensures
     c.add_row.ensures.texts adds.2 c.added_came.ensures)
-    (with_row (counted_at old.catalog.relations c.args.id.at) row) adds.2 old.logs.items c.take_in.new.logs.items
+    (with_row (counted_at old.catalog.relations c.args.id.at) row) adds.2 old.logs.items c.insert_into_readers.new.logs.items
     (subst (λ (ws : List ℕ). Tends c.as_slice-places.result.now
     (TellsAt ws (λ x y. Came x y c.args.id.at c.args.cells.now)) old.queries.items old.logs.items
-    c.take_in.new.logs.items) c.as_slice-watchers.ensures.value
+    c.insert_into_readers.new.logs.items) c.as_slice-watchers.ensures.value
     c.in-Ok.ensures.tells)
 
 pub returns-in-Ok-clause-counted : goal.returns-in-Ok-clause-counted
@@ -197,11 +197,11 @@ returns-in-Ok-clause-counted g c row stand =
     row (came old.catalog d c.args.id.at c.requires.there c.args.cells.now row new c.laws.ensures c.laws-2.ensures
     c.add_row.ensures.texts adds.2 c.added_came.ensures)
     (with_row (counted_at old.catalog.relations c.args.id.at) row) adds.2 c.args.steps.now.listing
-    c.take_in.new.steps.listing
+    c.insert_into_readers.new.steps.listing
     (subst (λ (ws : List ℕ). Costs (λ x y. Came x y c.args.id.at c.args.cells.now) c.as_slice-places.result.now ws
-    old.queries.items c.args.id.at c.args.steps.now.listing c.take_in.new.steps.listing)
+    old.queries.items c.args.id.at c.args.steps.now.listing c.insert_into_readers.new.steps.listing)
     c.as_slice-watchers.ensures.value
-    c.take_in.ensures.counted)
+    c.insert_into_readers.ensures.counted)
 
 pub returns-in-Err-clause-listed : goal.returns-in-Err-clause-listed
 returns-in-Err-clause-listed g c row stand =
@@ -218,11 +218,11 @@ returns-in-Err-clause-listed g c row stand =
     row (came old.catalog d c.args.id.at c.requires.there c.args.cells.now row new c.laws.ensures c.laws-2.ensures
     c.add_row.ensures.texts adds.2 c.added_came.ensures)
     (with_row (counted_at old.catalog.relations c.args.id.at) row) adds.2 c.args.steps.now.listing
-    c.take_in.new.steps.listing
+    c.insert_into_readers.new.steps.listing
     (subst (λ (ws : List ℕ). Costs (λ x y. Came x y c.args.id.at c.args.cells.now) c.as_slice-places.result.now ws
-    old.queries.items c.args.id.at c.args.steps.now.listing c.take_in.new.steps.listing)
+    old.queries.items c.args.id.at c.args.steps.now.listing c.insert_into_readers.new.steps.listing)
     c.as_slice-watchers.ensures.value
-    c.take_in.ensures.counted)
+    c.insert_into_readers.ensures.counted)
 
 pub returns-in-Ok-clause-shown : goal.returns-in-Ok-clause-shown
 returns-in-Ok-clause-shown g c =
@@ -233,16 +233,16 @@ returns-in-Ok-clause-shown g c =
     d.relations)
     c.in-Ok-First.field-0-is (c.in-Ok-First.ensures.adds c.requires.row.0 c.requires.row.1)) in
     let new = came_new old.catalog c.args.id.at c.args.cells.now row d.relations c.requires.row.1 adds in
-    subst (λ (ts : List Bytes). AreShown ts old.queries.items c.take_in.new.logs.items) (sym c.add_row.ensures.texts)
+    subst (λ (ts : List Bytes). AreShown ts old.queries.items c.insert_into_readers.new.logs.items) (sym c.add_row.ensures.texts)
     (shown_tended (λ x y. Came x y c.args.id.at c.args.cells.now) old.catalog d old.queries.items
-    c.as_slice-places.result.now old.logs.items c.take_in.new.logs.items row
+    c.as_slice-places.result.now old.logs.items c.insert_into_readers.new.logs.items row
     (subst (λ (ps : List ℕ). AllAt ps old.queries.items (λ l. IsKept old.catalog l))
     (sym (places_read old.readers.items c.args.id.at c.index.result.now c.as_slice-places.result.now
     (omega (arith, c.requires.there, c.requires.whole.long)) c.index.ensures c.as_slice-places.ensures))
     (readers_kept old.catalog old.queries.items old.order old.readers.items c.requires.whole c.args.id.at
     c.requires.there))
     (came old.catalog d c.args.id.at c.requires.there c.args.cells.now row new c.laws.ensures c.laws-2.ensures
-    c.add_row.ensures.texts adds.2 c.added_came.ensures) c.add_row.ensures.texts c.take_in.ensures.shows
+    c.add_row.ensures.texts adds.2 c.added_came.ensures) c.add_row.ensures.texts c.insert_into_readers.ensures.shows
     c.requires.tended.shown)
 
 pub returns-in-Err-clause-shown : goal.returns-in-Err-clause-shown
@@ -254,27 +254,27 @@ returns-in-Err-clause-shown g c =
     d.relations)
     c.in-Ok-First.field-0-is (c.in-Ok-First.ensures.adds c.requires.row.0 c.requires.row.1)) in
     let new = came_new old.catalog c.args.id.at c.args.cells.now row d.relations c.requires.row.1 adds in
-    subst (λ (ts : List Bytes). AreShown ts old.queries.items c.take_in.new.logs.items)
+    subst (λ (ts : List Bytes). AreShown ts old.queries.items c.insert_into_readers.new.logs.items)
     (sym (c.delete_row.ensures.texts ∙ c.add_row.ensures.texts))
     (shown_tended (λ x y. Came x y c.args.id.at c.args.cells.now) old.catalog d old.queries.items
-    c.as_slice-places.result.now old.logs.items c.take_in.new.logs.items row
+    c.as_slice-places.result.now old.logs.items c.insert_into_readers.new.logs.items row
     (subst (λ (ps : List ℕ). AllAt ps old.queries.items (λ l. IsKept old.catalog l))
     (sym (places_read old.readers.items c.args.id.at c.index.result.now c.as_slice-places.result.now
     (omega (arith, c.requires.there, c.requires.whole.long)) c.index.ensures c.as_slice-places.ensures))
     (readers_kept old.catalog old.queries.items old.order old.readers.items c.requires.whole c.args.id.at
     c.requires.there))
     (came old.catalog d c.args.id.at c.requires.there c.args.cells.now row new c.laws.ensures c.laws-2.ensures
-    c.add_row.ensures.texts adds.2 c.added_came.ensures) c.add_row.ensures.texts c.take_in.ensures.shows
+    c.add_row.ensures.texts adds.2 c.added_came.ensures) c.add_row.ensures.texts c.insert_into_readers.ensures.shows
     c.requires.tended.shown)
 
 pub returns-in-Ok-clause-quiet : goal.returns-in-Ok-clause-quiet
 returns-in-Ok-clause-quiet g c i l there e =
     let old = c.args.parts.now in
     tends_quiet (λ x y. Came x y c.args.id.at c.args.cells.now) old.watchers.items c.as_slice-places.result.now
-    old.queries.items old.logs.items c.take_in.new.logs.items
+    old.queries.items old.logs.items c.insert_into_readers.new.logs.items
     (subst (λ (ws : List ℕ). Tends c.as_slice-places.result.now
     (TellsAt ws (λ x y. Came x y c.args.id.at c.args.cells.now)) old.queries.items old.logs.items
-    c.take_in.new.logs.items) c.as_slice-watchers.ensures.value
+    c.insert_into_readers.new.logs.items) c.as_slice-watchers.ensures.value
     c.in-Ok.ensures.tells) i l there
     (ap (λ (ps : List ℕ). is_reader ps i && watched_at old.watchers.items i)
     (places_read old.readers.items c.args.id.at c.index.result.now c.as_slice-places.result.now
@@ -284,7 +284,7 @@ pub returns-in-Err-clause-apart : goal.returns-in-Err-clause-apart
 returns-in-Err-clause-apart g c i l there e =
     let old = c.args.parts.now in
     tends_apart (Shows (λ x y. Came x y c.args.id.at c.args.cells.now)) c.as_slice-places.result.now old.queries.items
-    old.logs.items c.take_in.new.logs.items c.take_in.ensures.shows i
+    old.logs.items c.insert_into_readers.new.logs.items c.insert_into_readers.ensures.shows i
     (ap (λ (ps : List ℕ). is_reader ps i)
     (places_read old.readers.items c.args.id.at c.index.result.now c.as_slice-places.result.now
     (omega (arith, c.requires.there, c.requires.whole.long)) c.index.ensures c.as_slice-places.ensures) ∙ e)
@@ -293,7 +293,7 @@ pub returns-in-Ok-clause-updates : goal.returns-in-Ok-clause-updates
 returns-in-Ok-clause-updates g c =
     let old = c.args.parts.now in
     subst (λ (ps : List ℕ). Works ps old.queries.items c.args.id.at 1 c.args.steps.now.update
-    c.take_in.new.steps.update)
+    c.insert_into_readers.new.steps.update)
     (places_read old.readers.items c.args.id.at c.index.result.now c.as_slice-places.result.now
     (omega (arith, c.requires.there, c.requires.whole.long)) c.index.ensures c.as_slice-places.ensures)
     c.in-Ok.ensures.updates
@@ -302,7 +302,7 @@ pub returns-in-Err-clause-refusal : goal.returns-in-Err-clause-refusal
 returns-in-Err-clause-refusal g c =
     let old = c.args.parts.now in
     subst (λ (ps : List ℕ). Works ps old.queries.items c.args.id.at 3 c.args.steps.now.update
-    c.take_in.new.steps.update)
+    c.insert_into_readers.new.steps.update)
     (places_read old.readers.items c.args.id.at c.index.result.now c.as_slice-places.result.now
     (omega (arith, c.requires.there, c.requires.whole.long)) c.index.ensures c.as_slice-places.ensures)
     c.in-Err.ensures.refusal
@@ -312,7 +312,7 @@ returns-in-Ok-clause-unlisted g c none =
     let old = c.args.parts.now in
     let places = places_read old.readers.items c.args.id.at c.index.result.now c.as_slice-places.result.now
     (omega (arith, c.requires.there, c.requires.whole.long)) c.index.ensures c.as_slice-places.ensures in
-    c.take_in.ensures.unlisted
+    c.insert_into_readers.ensures.unlisted
     (subst (λ (ws : List ℕ). AreUnwatched ws c.as_slice-places.result.now) (sym c.as_slice-watchers.ensures.value)
     (subst (λ (ps : List ℕ). AreUnwatched old.watchers.items ps) (sym places) none))
 
@@ -321,6 +321,6 @@ returns-in-Err-clause-unlisted g c none =
     let old = c.args.parts.now in
     let places = places_read old.readers.items c.args.id.at c.index.result.now c.as_slice-places.result.now
     (omega (arith, c.requires.there, c.requires.whole.long)) c.index.ensures c.as_slice-places.ensures in
-    c.take_in.ensures.unlisted
+    c.insert_into_readers.ensures.unlisted
     (subst (λ (ws : List ℕ). AreUnwatched ws c.as_slice-places.result.now) (sym c.as_slice-watchers.ensures.value)
     (subst (λ (ps : List ℕ). AreUnwatched old.watchers.items ps) (sym places) none))

@@ -66,7 +66,7 @@ loop-at-preserved g c =
           subst (λ (xs : List HeldRow). PutsAll st xs c.put_one.new.catalog (c.loop-at.count + c.in-Ok.came)
           c.put_one.new.groups.items)
           (sym (next_row c.args.held.now c.loop-at.at x low c.index-held-at.is))
-          (put_more c.names_tell.ensures c.texts_stay.ensures c.cells_stay.ensures st
+          (put_more c.rows_by_name_or_place.ensures c.texts_stay.ensures c.cells_stay.ensures st
           (take c.loop-at.at c.args.held.now) c.loop-at.catalog c.loop-at.count c.loop-at.groups.items
           (c.loop-at.invariant.puts st s) x c.args.seq s.seq c.laws-in-loop-at.ensures c.in-Ok.came
           c.put_one.new.catalog c.put_one.new.groups.items one);

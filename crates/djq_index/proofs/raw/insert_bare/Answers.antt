@@ -9,8 +9,8 @@ use Rattle.djq_arena.proofs.Filling.{on_err}
 use Rattle.djq_index.proofs.Bounding.{entries_length}
 use Rattle.djq_index.proofs.raw.insert_bare.Goals as goal
 
-pub lay-requires : goal.lay-requires
-lay-requires c = record {
+pub append_row-requires : goal.append_row-requires
+append_row-requires c = record {
   ready = record {
     rows_law = c.requires.raw.rows;
     wide = c.requires.wide;
@@ -21,25 +21,25 @@ lay-requires c = record {
 
 pub returns-in_err-slot-clause-raw : goal.returns-in_err-slot-clause-raw
 returns-in_err-slot-clause-raw c =
-    let b : Raw = record c.args.raw.now { rows = c.lay.new.rows; notes = c.lay.new.notes } in
+    let b : Raw = record c.args.raw.now { rows = c.append_row.new.rows; notes = c.append_row.new.notes } in
     let r = unlaid_refuses c.args.raw.now b c.in_err-slot.ensures.refused refl refl refl in
     refused_bare c.args.raw.now b c.requires.raw r
 
 pub returns-in_err-slot-clause-refused : goal.returns-in_err-slot-clause-refused
 returns-in_err-slot-clause-refused c =
-    let b : Raw = record c.args.raw.now { rows = c.lay.new.rows; notes = c.lay.new.notes } in
+    let b : Raw = record c.args.raw.now { rows = c.append_row.new.rows; notes = c.append_row.new.notes } in
     let r = unlaid_refuses c.args.raw.now b c.in_err-slot.ensures.refused refl refl refl in
     on_err c.from_residual.result _ (refused_entries c.args.raw.now b r)
 
-pub sign-requires : goal.sign-requires
-sign-requires c =
-    slot_notes c.args.raw.now c.lay.new.rows c.lay.new.notes.items c.in_ok-slot.slot
+pub init_note-requires : goal.init_note-requires
+init_note-requires c =
+    slot_notes c.args.raw.now c.append_row.new.rows c.append_row.new.notes.items c.in_ok-slot.slot
     c.args.tuple.now c.in_ok-slot.ensures.laid
 
 pub returns-clause-raw : goal.returns-clause-raw
 returns-clause-raw c =
-    let s = c.sign.ensures.noted in
-    let n : IsNoted c.args.marked c.args.raw.now c.sign.new.raw c.lay.new.rows c.lay.new.notes.items
+    let s = c.init_note.ensures.noted in
+    let n : IsNoted c.args.marked c.args.raw.now c.init_note.new.raw c.append_row.new.rows c.append_row.new.notes.items
     c.in_ok-slot.slot 0 = record {
       kind = s.kind;
       key = s.key;
@@ -47,13 +47,13 @@ returns-clause-raw c =
       notes_are = s.notes_are;
       marked = s.marked;
     } in
-    came_bare c.args.marked c.args.raw.now c.sign.new.raw c.lay.new.rows c.lay.new.notes.items
+    came_bare c.args.marked c.args.raw.now c.init_note.new.raw c.append_row.new.rows c.append_row.new.notes.items
     c.in_ok-slot.slot 0 c.args.tuple.now c.requires.raw c.requires.plain c.requires.absent c.in_ok-slot.ensures.laid n
 
 pub returns-clause-inserted : goal.returns-clause-inserted
 returns-clause-inserted c =
-    let s = c.sign.ensures.noted in
-    let n : IsNoted c.args.marked c.args.raw.now c.sign.new.raw c.lay.new.rows c.lay.new.notes.items
+    let s = c.init_note.ensures.noted in
+    let n : IsNoted c.args.marked c.args.raw.now c.init_note.new.raw c.append_row.new.rows c.append_row.new.notes.items
     c.in_ok-slot.slot 0 = record {
       kind = s.kind;
       key = s.key;
@@ -61,13 +61,13 @@ returns-clause-inserted c =
       notes_are = s.notes_are;
       marked = s.marked;
     } in
-    came_inserted c.args.marked c.args.raw.now c.sign.new.raw c.lay.new.rows c.lay.new.notes.items
+    came_inserted c.args.marked c.args.raw.now c.init_note.new.raw c.append_row.new.rows c.append_row.new.notes.items
     c.in_ok-slot.slot 0 c.args.tuple.now c.requires.raw c.requires.plain c.requires.absent c.in_ok-slot.ensures.laid n
 
 pub returns-clause-at : goal.returns-clause-at
 returns-clause-at c =
-    let s = c.sign.ensures.noted in
-    let n : IsNoted c.args.marked c.args.raw.now c.sign.new.raw c.lay.new.rows c.lay.new.notes.items
+    let s = c.init_note.ensures.noted in
+    let n : IsNoted c.args.marked c.args.raw.now c.init_note.new.raw c.append_row.new.rows c.append_row.new.notes.items
     c.in_ok-slot.slot 0 = record {
       kind = s.kind;
       key = s.key;
@@ -75,6 +75,6 @@ returns-clause-at c =
       notes_are = s.notes_are;
       marked = s.marked;
     } in
-    subst (λ (p : Place). IsAt (entries_of c.sign.new.raw) p c.args.tuple.now) (sym c.new.ensures)
-    (came_at c.args.marked c.args.raw.now c.sign.new.raw c.lay.new.rows c.lay.new.notes.items
+    subst (λ (p : Place). IsAt (entries_of c.init_note.new.raw) p c.args.tuple.now) (sym c.new.ensures)
+    (came_at c.args.marked c.args.raw.now c.init_note.new.raw c.append_row.new.rows c.append_row.new.notes.items
     c.in_ok-slot.slot 0 c.args.tuple.now c.requires.raw c.requires.plain c.requires.absent c.in_ok-slot.ensures.laid n)

@@ -13,23 +13,23 @@ use Rattle.djq_index.proofs.Bounding.{entries_length}
 use Rattle.djq_index.proofs.Heading.{few_heads}
 use Rattle.djq_index.proofs.raw.insert_keyed.Goals as goal
 
-pub lay_linked-requires-clause-ready : goal.lay_linked-requires-clause-ready
-lay_linked-requires-clause-ready c = record {
+pub append_linked_row-requires-clause-ready : goal.append_linked_row-requires-clause-ready
+append_linked_row-requires-clause-ready c = record {
   rows_law = c.requires.raw.rows;
   wide = c.requires.wide;
   few = subst (λ (n : ℕ). n < 4294967295) (entries_length c.args.raw.now) c.requires.few;
   room_notes = c.requires.raw.notes;
 }
 
-pub seat-requires-clause-few : goal.seat-requires-clause-few
-seat-requires-clause-few c = omega (arith, few_heads c.args.raw.now c.requires.heads, c.requires.few)
+pub find_or_make_head-requires-clause-few : goal.find_or_make_head-requires-clause-few
+find_or_make_head-requires-clause-few c = omega (arith, few_heads c.args.raw.now c.requires.heads, c.requires.few)
 
 pub returns-in_err-slot-clause-raw : goal.returns-in_err-slot-clause-raw
 returns-in_err-slot-clause-raw c =
     let b : Raw = record c.args.raw.now {
-      rows = c.lay_linked.new.rows;
-      notes = c.lay_linked.new.notes;
-      links = c.lay_linked.new.links;
+      rows = c.append_linked_row.new.rows;
+      notes = c.append_linked_row.new.notes;
+      links = c.append_linked_row.new.links;
     } in
     let r = unlaid_refuses c.args.raw.now b c.in_err-slot.ensures.refused refl refl refl in
     refused_bare c.args.raw.now b c.requires.raw r
@@ -37,9 +37,9 @@ returns-in_err-slot-clause-raw c =
 pub returns-in_err-slot-clause-heads : goal.returns-in_err-slot-clause-heads
 returns-in_err-slot-clause-heads c =
     let b : Raw = record c.args.raw.now {
-      rows = c.lay_linked.new.rows;
-      notes = c.lay_linked.new.notes;
-      links = c.lay_linked.new.links;
+      rows = c.append_linked_row.new.rows;
+      notes = c.append_linked_row.new.notes;
+      links = c.append_linked_row.new.links;
     } in
     let r = unlaid_refuses c.args.raw.now b c.in_err-slot.ensures.refused refl refl refl in
     let h : RefusesHead c.args.raw.now b = record {
@@ -57,9 +57,9 @@ returns-in_err-slot-clause-heads c =
 pub returns-in_err-slot-clause-refused : goal.returns-in_err-slot-clause-refused
 returns-in_err-slot-clause-refused c =
     let b : Raw = record c.args.raw.now {
-      rows = c.lay_linked.new.rows;
-      notes = c.lay_linked.new.notes;
-      links = c.lay_linked.new.links;
+      rows = c.append_linked_row.new.rows;
+      notes = c.append_linked_row.new.notes;
+      links = c.append_linked_row.new.links;
     } in
     let r = unlaid_refuses c.args.raw.now b c.in_err-slot.ensures.refused refl refl refl in
     on_err c.from_residual.result _ (refused_entries c.args.raw.now b r)
@@ -68,11 +68,11 @@ pub returns-in-Err-clause-raw : goal.returns-in-Err-clause-raw
 returns-in-Err-clause-raw c =
     let b : Raw = record c.args.raw.now {
       rows = c.withdraw.new.rows;
-      notes = c.lay_linked.new.notes;
-      links = c.lay_linked.new.links;
-      keys = c.seat.new.keys;
-      ends = c.seat.new.ends;
-      cells = c.seat.new.cells;
+      notes = c.append_linked_row.new.notes;
+      links = c.append_linked_row.new.links;
+      keys = c.find_or_make_head.new.keys;
+      ends = c.find_or_make_head.new.ends;
+      cells = c.find_or_make_head.new.cells;
     } in
     let r : Refuses c.args.raw.now b = record {
       kind = refl;
@@ -96,11 +96,11 @@ pub returns-in-Err-clause-heads : goal.returns-in-Err-clause-heads
 returns-in-Err-clause-heads c =
     let b : Raw = record c.args.raw.now {
       rows = c.withdraw.new.rows;
-      notes = c.lay_linked.new.notes;
-      links = c.lay_linked.new.links;
-      keys = c.seat.new.keys;
-      ends = c.seat.new.ends;
-      cells = c.seat.new.cells;
+      notes = c.append_linked_row.new.notes;
+      links = c.append_linked_row.new.links;
+      keys = c.find_or_make_head.new.keys;
+      ends = c.find_or_make_head.new.ends;
+      cells = c.find_or_make_head.new.cells;
     } in
     let r : Refuses c.args.raw.now b = record {
       kind = refl;
@@ -134,11 +134,11 @@ pub returns-in-Err-clause-refused : goal.returns-in-Err-clause-refused
 returns-in-Err-clause-refused c =
     let b : Raw = record c.args.raw.now {
       rows = c.withdraw.new.rows;
-      notes = c.lay_linked.new.notes;
-      links = c.lay_linked.new.links;
-      keys = c.seat.new.keys;
-      ends = c.seat.new.ends;
-      cells = c.seat.new.cells;
+      notes = c.append_linked_row.new.notes;
+      links = c.append_linked_row.new.links;
+      keys = c.find_or_make_head.new.keys;
+      ends = c.find_or_make_head.new.ends;
+      cells = c.find_or_make_head.new.cells;
     } in
     let r : Refuses c.args.raw.now b = record {
       kind = refl;
@@ -158,15 +158,15 @@ returns-in-Err-clause-refused c =
     } in
     refused_entries c.args.raw.now b r
 
-pub settle-requires-clause-notes : goal.settle-requires-clause-notes
-settle-requires-clause-notes c =
-    slot_notes c.args.raw.now c.lay_linked.new.rows c.lay_linked.new.notes.items c.in_ok-slot.slot
+pub append_to_group-requires-clause-notes : goal.append_to_group-requires-clause-notes
+append_to_group-requires-clause-notes c =
+    slot_notes c.args.raw.now c.append_linked_row.new.rows c.append_linked_row.new.notes.items c.in_ok-slot.slot
     c.args.tuple.now c.in_ok-slot.ensures.laid
 
-pub settle-requires-clause-links : goal.settle-requires-clause-links
-settle-requires-clause-links c =
-    let r : IsReady c.args.raw.now c.lay_linked.new.rows c.lay_linked.new.notes.items
-    c.lay_linked.new.links.items c.seat.new.keys c.seat.new.ends.items c.in_ok-slot.slot
+pub append_to_group-requires-clause-links : goal.append_to_group-requires-clause-links
+append_to_group-requires-clause-links c =
+    let r : IsReady c.args.raw.now c.append_linked_row.new.rows c.append_linked_row.new.notes.items
+    c.append_linked_row.new.links.items c.find_or_make_head.new.keys c.find_or_make_head.new.ends.items c.in_ok-slot.slot
     c.in-Ok.head c.args.tuple.now = record {
       laid = c.in_ok-slot.ensures.laid;
       room_links = c.in_ok-slot.ensures.links;
@@ -175,23 +175,23 @@ settle-requires-clause-links c =
       keys_law = c.in-Ok.ensures.rows;
       keys_width = c.in-Ok.ensures.width;
       room_ends = c.in-Ok.ensures.ends;
-      seat = subst (λ (key : List ℕ). IsSeat c.args.raw.now.keys.rows c.seat.new.keys.rows
-          c.args.raw.now.ends.items c.seat.new.ends.items c.in-Ok.head
+      seat = subst (λ (key : List ℕ). IsSeat c.args.raw.now.keys.rows c.find_or_make_head.new.keys.rows
+          c.args.raw.now.ends.items c.find_or_make_head.new.ends.items c.in-Ok.head
           (pick key c.args.tuple.now)) c.as_slice.ensures.value c.in-Ok.ensures.seated;
     } in
-    slot_links c.args.raw.now c.lay_linked.new.rows c.lay_linked.new.notes.items
-    c.lay_linked.new.links.items c.seat.new.keys c.seat.new.ends.items c.in_ok-slot.slot
+    slot_links c.args.raw.now c.append_linked_row.new.rows c.append_linked_row.new.notes.items
+    c.append_linked_row.new.links.items c.find_or_make_head.new.keys c.find_or_make_head.new.ends.items c.in_ok-slot.slot
     c.in-Ok.head c.args.tuple.now c.requires.heads r
 
-pub settle-requires-clause-number : goal.settle-requires-clause-number
-settle-requires-clause-number c =
-    slot_number c.args.raw.now c.lay_linked.new.rows c.lay_linked.new.notes.items
+pub append_to_group-requires-clause-number : goal.append_to_group-requires-clause-number
+append_to_group-requires-clause-number c =
+    slot_number c.args.raw.now c.append_linked_row.new.rows c.append_linked_row.new.notes.items
     c.in_ok-slot.slot c.args.tuple.now c.in_ok-slot.ensures.laid
 
-pub settle-requires-clause-head : goal.settle-requires-clause-head
-settle-requires-clause-head c =
-    let r : IsReady c.args.raw.now c.lay_linked.new.rows c.lay_linked.new.notes.items
-    c.lay_linked.new.links.items c.seat.new.keys c.seat.new.ends.items c.in_ok-slot.slot
+pub append_to_group-requires-clause-head : goal.append_to_group-requires-clause-head
+append_to_group-requires-clause-head c =
+    let r : IsReady c.args.raw.now c.append_linked_row.new.rows c.append_linked_row.new.notes.items
+    c.append_linked_row.new.links.items c.find_or_make_head.new.keys c.find_or_make_head.new.ends.items c.in_ok-slot.slot
     c.in-Ok.head c.args.tuple.now = record {
       laid = c.in_ok-slot.ensures.laid;
       room_links = c.in_ok-slot.ensures.links;
@@ -200,18 +200,18 @@ settle-requires-clause-head c =
       keys_law = c.in-Ok.ensures.rows;
       keys_width = c.in-Ok.ensures.width;
       room_ends = c.in-Ok.ensures.ends;
-      seat = subst (λ (key : List ℕ). IsSeat c.args.raw.now.keys.rows c.seat.new.keys.rows
-          c.args.raw.now.ends.items c.seat.new.ends.items c.in-Ok.head
+      seat = subst (λ (key : List ℕ). IsSeat c.args.raw.now.keys.rows c.find_or_make_head.new.keys.rows
+          c.args.raw.now.ends.items c.find_or_make_head.new.ends.items c.in-Ok.head
           (pick key c.args.tuple.now)) c.as_slice.ensures.value c.in-Ok.ensures.seated;
     } in
-    head_ends c.args.raw.now c.lay_linked.new.rows c.lay_linked.new.notes.items
-    c.lay_linked.new.links.items c.seat.new.keys c.seat.new.ends.items c.in_ok-slot.slot
+    head_ends c.args.raw.now c.append_linked_row.new.rows c.append_linked_row.new.notes.items
+    c.append_linked_row.new.links.items c.find_or_make_head.new.keys c.find_or_make_head.new.ends.items c.in_ok-slot.slot
     c.in-Ok.head c.args.tuple.now c.requires.heads r
 
-pub settle-requires-clause-last : goal.settle-requires-clause-last
-settle-requires-clause-last c =
-    let r : IsReady c.args.raw.now c.lay_linked.new.rows c.lay_linked.new.notes.items
-    c.lay_linked.new.links.items c.seat.new.keys c.seat.new.ends.items c.in_ok-slot.slot
+pub append_to_group-requires-clause-last : goal.append_to_group-requires-clause-last
+append_to_group-requires-clause-last c =
+    let r : IsReady c.args.raw.now c.append_linked_row.new.rows c.append_linked_row.new.notes.items
+    c.append_linked_row.new.links.items c.find_or_make_head.new.keys c.find_or_make_head.new.ends.items c.in_ok-slot.slot
     c.in-Ok.head c.args.tuple.now = record {
       laid = c.in_ok-slot.ensures.laid;
       room_links = c.in_ok-slot.ensures.links;
@@ -220,19 +220,19 @@ settle-requires-clause-last c =
       keys_law = c.in-Ok.ensures.rows;
       keys_width = c.in-Ok.ensures.width;
       room_ends = c.in-Ok.ensures.ends;
-      seat = subst (λ (key : List ℕ). IsSeat c.args.raw.now.keys.rows c.seat.new.keys.rows
-          c.args.raw.now.ends.items c.seat.new.ends.items c.in-Ok.head
+      seat = subst (λ (key : List ℕ). IsSeat c.args.raw.now.keys.rows c.find_or_make_head.new.keys.rows
+          c.args.raw.now.ends.items c.find_or_make_head.new.ends.items c.in-Ok.head
           (pick key c.args.tuple.now)) c.as_slice.ensures.value c.in-Ok.ensures.seated;
     } in
-    last_links c.args.raw.now c.lay_linked.new.rows c.lay_linked.new.notes.items
-    c.lay_linked.new.links.items c.seat.new.keys c.seat.new.ends.items c.in_ok-slot.slot
+    last_links c.args.raw.now c.append_linked_row.new.rows c.append_linked_row.new.notes.items
+    c.append_linked_row.new.links.items c.find_or_make_head.new.keys c.find_or_make_head.new.ends.items c.in_ok-slot.slot
     c.in-Ok.head c.args.tuple.now c.requires.heads r
 
 pub returns-in-Ok-clause-raw : goal.returns-in-Ok-clause-raw
 returns-in-Ok-clause-raw c =
-    let s = c.settle.ensures.settled in
-    let n : IsNoted c.args.marked c.args.raw.now c.settle.new.raw c.lay_linked.new.rows
-    c.lay_linked.new.notes.items c.in_ok-slot.slot c.in-Ok.head =
+    let s = c.append_to_group.ensures.settled in
+    let n : IsNoted c.args.marked c.args.raw.now c.append_to_group.new.raw c.append_linked_row.new.rows
+    c.append_linked_row.new.notes.items c.in_ok-slot.slot c.in-Ok.head =
     record {
       kind = s.noted.kind;
       key = s.noted.key;
@@ -240,14 +240,14 @@ returns-in-Ok-clause-raw c =
       notes_are = s.noted.notes_are;
       marked = s.noted.marked;
     } in
-    came_bare c.args.marked c.args.raw.now c.settle.new.raw c.lay_linked.new.rows c.lay_linked.new.notes.items
+    came_bare c.args.marked c.args.raw.now c.append_to_group.new.raw c.append_linked_row.new.rows c.append_linked_row.new.notes.items
     c.in_ok-slot.slot c.in-Ok.head c.args.tuple.now c.requires.raw c.requires.plain c.requires.absent
     c.in_ok-slot.ensures.laid n
 
 pub returns-in-Ok-clause-heads : goal.returns-in-Ok-clause-heads
 returns-in-Ok-clause-heads c =
-    let r : IsReady c.args.raw.now c.lay_linked.new.rows c.lay_linked.new.notes.items
-    c.lay_linked.new.links.items c.seat.new.keys c.seat.new.ends.items c.in_ok-slot.slot
+    let r : IsReady c.args.raw.now c.append_linked_row.new.rows c.append_linked_row.new.notes.items
+    c.append_linked_row.new.links.items c.find_or_make_head.new.keys c.find_or_make_head.new.ends.items c.in_ok-slot.slot
     c.in-Ok.head c.args.tuple.now = record {
       laid = c.in_ok-slot.ensures.laid;
       room_links = c.in_ok-slot.ensures.links;
@@ -256,13 +256,13 @@ returns-in-Ok-clause-heads c =
       keys_law = c.in-Ok.ensures.rows;
       keys_width = c.in-Ok.ensures.width;
       room_ends = c.in-Ok.ensures.ends;
-      seat = subst (λ (key : List ℕ). IsSeat c.args.raw.now.keys.rows c.seat.new.keys.rows
-          c.args.raw.now.ends.items c.seat.new.ends.items c.in-Ok.head
+      seat = subst (λ (key : List ℕ). IsSeat c.args.raw.now.keys.rows c.find_or_make_head.new.keys.rows
+          c.args.raw.now.ends.items c.find_or_make_head.new.ends.items c.in-Ok.head
           (pick key c.args.tuple.now)) c.as_slice.ensures.value c.in-Ok.ensures.seated;
     } in
-    let s = c.settle.ensures.settled in
-    let n : IsNoted c.args.marked c.args.raw.now c.settle.new.raw c.lay_linked.new.rows
-    c.lay_linked.new.notes.items c.in_ok-slot.slot c.in-Ok.head =
+    let s = c.append_to_group.ensures.settled in
+    let n : IsNoted c.args.marked c.args.raw.now c.append_to_group.new.raw c.append_linked_row.new.rows
+    c.append_linked_row.new.notes.items c.in_ok-slot.slot c.in-Ok.head =
     record {
       kind = s.noted.kind;
       key = s.noted.key;
@@ -270,8 +270,8 @@ returns-in-Ok-clause-heads c =
       notes_are = s.noted.notes_are;
       marked = s.noted.marked;
     } in
-    came_heads c.args.marked c.args.raw.now c.settle.new.raw c.lay_linked.new.rows c.lay_linked.new.notes.items
-    c.lay_linked.new.links.items c.seat.new.keys c.seat.new.ends.items c.in_ok-slot.slot
+    came_heads c.args.marked c.args.raw.now c.append_to_group.new.raw c.append_linked_row.new.rows c.append_linked_row.new.notes.items
+    c.append_linked_row.new.links.items c.find_or_make_head.new.keys c.find_or_make_head.new.ends.items c.in_ok-slot.slot
     c.in-Ok.head c.args.tuple.now c.requires.raw c.requires.plain c.requires.heads c.requires.absent r
     (record {
       noted = n;
@@ -282,9 +282,9 @@ returns-in-Ok-clause-heads c =
 
 pub returns-in-Ok-clause-inserted : goal.returns-in-Ok-clause-inserted
 returns-in-Ok-clause-inserted c =
-    let s = c.settle.ensures.settled in
-    let n : IsNoted c.args.marked c.args.raw.now c.settle.new.raw c.lay_linked.new.rows
-    c.lay_linked.new.notes.items c.in_ok-slot.slot c.in-Ok.head =
+    let s = c.append_to_group.ensures.settled in
+    let n : IsNoted c.args.marked c.args.raw.now c.append_to_group.new.raw c.append_linked_row.new.rows
+    c.append_linked_row.new.notes.items c.in_ok-slot.slot c.in-Ok.head =
     record {
       kind = s.noted.kind;
       key = s.noted.key;
@@ -292,15 +292,15 @@ returns-in-Ok-clause-inserted c =
       notes_are = s.noted.notes_are;
       marked = s.noted.marked;
     } in
-    came_inserted c.args.marked c.args.raw.now c.settle.new.raw c.lay_linked.new.rows
-    c.lay_linked.new.notes.items c.in_ok-slot.slot c.in-Ok.head c.args.tuple.now
+    came_inserted c.args.marked c.args.raw.now c.append_to_group.new.raw c.append_linked_row.new.rows
+    c.append_linked_row.new.notes.items c.in_ok-slot.slot c.in-Ok.head c.args.tuple.now
     c.requires.raw c.requires.plain c.requires.absent c.in_ok-slot.ensures.laid n
 
 pub returns-in-Ok-clause-at : goal.returns-in-Ok-clause-at
 returns-in-Ok-clause-at c =
-    let s = c.settle.ensures.settled in
-    let n : IsNoted c.args.marked c.args.raw.now c.settle.new.raw c.lay_linked.new.rows
-    c.lay_linked.new.notes.items c.in_ok-slot.slot c.in-Ok.head =
+    let s = c.append_to_group.ensures.settled in
+    let n : IsNoted c.args.marked c.args.raw.now c.append_to_group.new.raw c.append_linked_row.new.rows
+    c.append_linked_row.new.notes.items c.in_ok-slot.slot c.in-Ok.head =
     record {
       kind = s.noted.kind;
       key = s.noted.key;
@@ -308,8 +308,8 @@ returns-in-Ok-clause-at c =
       notes_are = s.noted.notes_are;
       marked = s.noted.marked;
     } in
-    subst (λ (p : Place). IsAt (entries_of c.settle.new.raw) p c.args.tuple.now)
+    subst (λ (p : Place). IsAt (entries_of c.append_to_group.new.raw) p c.args.tuple.now)
     (sym c.new.ensures)
-    (came_at c.args.marked c.args.raw.now c.settle.new.raw c.lay_linked.new.rows
-    c.lay_linked.new.notes.items c.in_ok-slot.slot c.in-Ok.head c.args.tuple.now
+    (came_at c.args.marked c.args.raw.now c.append_to_group.new.raw c.append_linked_row.new.rows
+    c.append_linked_row.new.notes.items c.in_ok-slot.slot c.in-Ok.head c.args.tuple.now
     c.requires.raw c.requires.plain c.requires.absent c.in_ok-slot.ensures.laid n)

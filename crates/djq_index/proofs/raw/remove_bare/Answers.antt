@@ -25,19 +25,19 @@ withdraw-requires c =
 pub returns-clause-raw : goal.returns-clause-raw
 returns-clause-raw c =
     let f = find_row c.args.raw.now c.args.place c.requires.live.tuple c.requires.live.is_at in
-    let b : Raw = record c.args.raw.now { rows = c.withdraw.new.rows; marked = c.pass-raw.result } in
+    let b : Raw = record c.args.raw.now { rows = c.withdraw.new.rows; marked = c.first_mark_without-raw.result } in
     let l : Leaves c.args.raw.now b c.args.place.slot c.next.result = leaves_from c.args.raw.now b
     c.args.place.slot c.slot-slot.result c.next.result c.slot-slot.ensures refl refl
     c.withdraw.ensures.rows c.withdraw.ensures.width c.withdraw.ensures.room
-    c.withdraw.ensures.removed refl c.pass-raw.ensures c.next.ensures in
+    c.withdraw.ensures.removed refl c.first_mark_without-raw.ensures c.next.ensures in
     gone_bare c.args.raw.now b c.args.place c.requires.live.tuple c.next.result c.requires.raw f l
 
 pub returns-clause-removed : goal.returns-clause-removed
 returns-clause-removed c = λ u at.
     let f = find_row c.args.raw.now c.args.place u at in
-    let b : Raw = record c.args.raw.now { rows = c.withdraw.new.rows; marked = c.pass-raw.result } in
+    let b : Raw = record c.args.raw.now { rows = c.withdraw.new.rows; marked = c.first_mark_without-raw.result } in
     let l : Leaves c.args.raw.now b c.args.place.slot c.next.result = leaves_from c.args.raw.now b
     c.args.place.slot c.slot-slot.result c.next.result c.slot-slot.ensures refl refl
     c.withdraw.ensures.rows c.withdraw.ensures.width c.withdraw.ensures.room
-    c.withdraw.ensures.removed refl c.pass-raw.ensures c.next.ensures in
+    c.withdraw.ensures.removed refl c.first_mark_without-raw.ensures c.next.ensures in
     gone_removed c.args.raw.now b c.args.place u c.next.result c.requires.raw f l

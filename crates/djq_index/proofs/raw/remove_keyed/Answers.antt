@@ -34,8 +34,8 @@ next-requires c =
     rw c.slot-slot.ensures
     (its_held c.args.raw.now c.args.place c.requires.live.tuple c.requires.raw f)
 
-pub part-requires-clause-slot : goal.part-requires-clause-slot
-part-requires-clause-slot c =
+pub unlink-requires-clause-slot : goal.unlink-requires-clause-slot
+unlink-requires-clause-slot c =
     let f = find_row c.args.raw.now c.args.place c.requires.live.tuple c.requires.live.is_at in
     rw c.slot-slot.ensures (omega (
       arith,
@@ -43,8 +43,8 @@ part-requires-clause-slot c =
       c.requires.heads.links,
     ))
 
-pub part-requires-clause-head : goal.part-requires-clause-head
-part-requires-clause-head c =
+pub unlink-requires-clause-head : goal.unlink-requires-clause-head
+unlink-requires-clause-head c =
     let f = find_row c.args.raw.now c.args.place c.requires.live.tuple c.requires.live.is_at in
     let h : c.note_of-head.result.head ≡
     (note_at c.args.raw.now.notes.items c.args.place.slot).head = ap (λ (n : Note). n.head)
@@ -52,15 +52,15 @@ part-requires-clause-head c =
     rw h (its_head_room c.args.raw.now c.args.place c.requires.live.tuple c.requires.raw
     c.requires.heads f)
 
-pub part-requires-clause-prev : goal.part-requires-clause-prev
-part-requires-clause-prev c =
+pub unlink-requires-clause-prev : goal.unlink-requires-clause-prev
+unlink-requires-clause-prev c =
     let f = find_row c.args.raw.now c.args.place c.requires.live.tuple c.requires.live.is_at in
     rw c.slot-slot.ensures
     (its_prev_within c.args.raw.now c.args.place c.requires.live.tuple c.requires.raw
     c.requires.heads f)
 
-pub part-requires-clause-next : goal.part-requires-clause-next
-part-requires-clause-next c =
+pub unlink-requires-clause-next : goal.unlink-requires-clause-next
+unlink-requires-clause-next c =
     let f = find_row c.args.raw.now c.args.place c.requires.live.tuple c.requires.live.is_at in
     rw c.slot-slot.ensures
     (its_next_within c.args.raw.now c.args.place c.requires.live.tuple c.requires.raw
@@ -81,7 +81,7 @@ prune-requires-clause-head c =
     let h : c.note_of-head.result.head ≡
     (note_at c.args.raw.now.notes.items c.args.place.slot).head = ap (λ (n : Note). n.head)
     (c.note_of-head.ensures ∙ ap (note_at c.args.raw.now.notes.items) c.slot-slot.ensures) in
-    rw (c.part.ensures.ends, length-set, h)
+    rw (c.unlink.ensures.ends, length-set, h)
     (its_head_room c.args.raw.now c.args.place c.requires.live.tuple c.requires.raw
     c.requires.heads f)
 
@@ -99,15 +99,15 @@ returns-clause-raw c =
     (c.note_of-head.ensures ∙ ap (note_at c.args.raw.now.notes.items) c.slot-slot.ensures) in
     let b : Raw = record c.args.raw.now {
       rows = c.withdraw.new.rows;
-      links = c.part.new.links;
+      links = c.unlink.new.links;
       keys = c.prune.new.keys;
-      ends = c.part.new.ends;
-      marked = c.pass-raw.result;
+      ends = c.unlink.new.ends;
+      marked = c.first_mark_without-raw.result;
     } in
     let l : Leaves c.args.raw.now b c.args.place.slot c.next.result = leaves_from c.args.raw.now b
     c.args.place.slot c.slot-slot.result c.next.result c.slot-slot.ensures refl refl
     c.withdraw.ensures.rows c.withdraw.ensures.width c.withdraw.ensures.room
-    c.withdraw.ensures.removed refl c.pass-raw.ensures c.next.ensures in
+    c.withdraw.ensures.removed refl c.first_mark_without-raw.ensures c.next.ensures in
     gone_bare c.args.raw.now b c.args.place c.requires.live.tuple c.next.result c.requires.raw f l
 
 pub returns-clause-heads : goal.returns-clause-heads
@@ -118,20 +118,20 @@ returns-clause-heads c =
     (c.note_of-head.ensures ∙ ap (note_at c.args.raw.now.notes.items) c.slot-slot.ensures) in
     let b : Raw = record c.args.raw.now {
       rows = c.withdraw.new.rows;
-      links = c.part.new.links;
+      links = c.unlink.new.links;
       keys = c.prune.new.keys;
-      ends = c.part.new.ends;
-      marked = c.pass-raw.result;
+      ends = c.unlink.new.ends;
+      marked = c.first_mark_without-raw.result;
     } in
     let l : Leaves c.args.raw.now b c.args.place.slot c.next.result = leaves_from c.args.raw.now b
     c.args.place.slot c.slot-slot.result c.next.result c.slot-slot.ensures refl refl
     c.withdraw.ensures.rows c.withdraw.ensures.width c.withdraw.ensures.room
-    c.withdraw.ensures.removed refl c.pass-raw.ensures c.next.ensures in
+    c.withdraw.ensures.removed refl c.first_mark_without-raw.ensures c.next.ensures in
     gone_heads c.args.raw.now b c.args.place c.requires.live.tuple c.next.result c.requires.raw
     c.requires.heads f
     (goes_from c.args.raw.now b c.args.place.slot c.slot-slot.result
-    c.note_of-head.result.head c.next.result c.slot-slot.ensures h l c.part.ensures.links
-    c.part.ensures.ends c.prune.ensures.rows c.prune.ensures.width c.prune.ensures.room
+    c.note_of-head.result.head c.next.result c.slot-slot.ensures h l c.unlink.ensures.links
+    c.unlink.ensures.ends c.prune.ensures.rows c.prune.ensures.width c.prune.ensures.room
     c.prune.ensures.emptied c.prune.ensures.kept)
 
 pub returns-clause-removed : goal.returns-clause-removed
@@ -139,13 +139,13 @@ returns-clause-removed c = λ u at.
     let f = find_row c.args.raw.now c.args.place u at in
     let b : Raw = record c.args.raw.now {
       rows = c.withdraw.new.rows;
-      links = c.part.new.links;
+      links = c.unlink.new.links;
       keys = c.prune.new.keys;
-      ends = c.part.new.ends;
-      marked = c.pass-raw.result;
+      ends = c.unlink.new.ends;
+      marked = c.first_mark_without-raw.result;
     } in
     let l : Leaves c.args.raw.now b c.args.place.slot c.next.result = leaves_from c.args.raw.now b
     c.args.place.slot c.slot-slot.result c.next.result c.slot-slot.ensures refl refl
     c.withdraw.ensures.rows c.withdraw.ensures.width c.withdraw.ensures.room
-    c.withdraw.ensures.removed refl c.pass-raw.ensures c.next.ensures in
+    c.withdraw.ensures.removed refl c.first_mark_without-raw.ensures c.next.ensures in
     gone_removed c.args.raw.now b c.args.place u c.next.result c.requires.raw f l

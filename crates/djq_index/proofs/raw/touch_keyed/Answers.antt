@@ -36,8 +36,8 @@ note_of-note-requires c =
       c.requires.raw.notes,
     ))
 
-pub part-requires-clause-slot : goal.part-requires-clause-slot
-part-requires-clause-slot c =
+pub unlink-requires-clause-slot : goal.unlink-requires-clause-slot
+unlink-requires-clause-slot c =
     let f = find_row c.args.raw.now c.args.place c.requires.unmarked.tuple
     c.requires.unmarked.is_at in
     rw c.slot-slot.ensures (omega (
@@ -46,8 +46,8 @@ part-requires-clause-slot c =
       c.requires.heads.links,
     ))
 
-pub part-requires-clause-head : goal.part-requires-clause-head
-part-requires-clause-head c =
+pub unlink-requires-clause-head : goal.unlink-requires-clause-head
+unlink-requires-clause-head c =
     let f = find_row c.args.raw.now c.args.place c.requires.unmarked.tuple
     c.requires.unmarked.is_at in
     let n : c.note_of-note.result ≡ note_at c.args.raw.now.notes.items c.args.place.slot =
@@ -57,16 +57,16 @@ part-requires-clause-head c =
     rw h (its_head_room c.args.raw.now c.args.place c.requires.unmarked.tuple c.requires.raw
     c.requires.heads f)
 
-pub part-requires-clause-prev : goal.part-requires-clause-prev
-part-requires-clause-prev c =
+pub unlink-requires-clause-prev : goal.unlink-requires-clause-prev
+unlink-requires-clause-prev c =
     let f = find_row c.args.raw.now c.args.place c.requires.unmarked.tuple
     c.requires.unmarked.is_at in
     rw c.slot-slot.ensures
     (its_prev_within c.args.raw.now c.args.place c.requires.unmarked.tuple c.requires.raw
     c.requires.heads f)
 
-pub part-requires-clause-next : goal.part-requires-clause-next
-part-requires-clause-next c =
+pub unlink-requires-clause-next : goal.unlink-requires-clause-next
+unlink-requires-clause-next c =
     let f = find_row c.args.raw.now c.args.place c.requires.unmarked.tuple
     c.requires.unmarked.is_at in
     rw c.slot-slot.ensures
@@ -77,7 +77,7 @@ pub join-requires-clause-slot : goal.join-requires-clause-slot
 join-requires-clause-slot c =
     let f = find_row c.args.raw.now c.args.place c.requires.unmarked.tuple
     c.requires.unmarked.is_at in
-    rw (c.part.ensures.links, length-left, c.slot-slot.ensures) (omega (
+    rw (c.unlink.ensures.links, length-left, c.slot-slot.ensures) (omega (
       arith,
       its_room c.args.raw.now c.args.place c.requires.unmarked.tuple c.requires.raw f,
       c.requires.heads.links,
@@ -98,7 +98,7 @@ join-requires-clause-head c =
     c.note_of-note.ensures ∙ ap (note_at c.args.raw.now.notes.items) c.slot-slot.ensures in
     let h : c.note_of-note.result.head ≡
     (note_at c.args.raw.now.notes.items c.args.place.slot).head = ap (λ (m : Note). m.head) n in
-    rw (c.part.ensures.ends, length-set, h)
+    rw (c.unlink.ensures.ends, length-set, h)
     (its_head_room c.args.raw.now c.args.place c.requires.unmarked.tuple c.requires.raw
     c.requires.heads f)
 
@@ -111,12 +111,12 @@ join-requires-clause-last c =
     let h : c.note_of-note.result.head ≡
     (note_at c.args.raw.now.notes.items c.args.place.slot).head = ap (λ (m : Note). m.head) n in
     subst (λ (ls : List Pair). IsWithin (length ls)
-    (ends_at c.part.new.ends.items c.note_of-note.result.head).last) (sym
-    (c.part.ensures.links
+    (ends_at c.unlink.new.ends.items c.note_of-note.result.head).last) (sym
+    (c.unlink.ensures.links
     ∙ ap (λ (i : ℕ). left
     (pair_at c.args.raw.now.links.items i) c.args.raw.now.links.items) c.slot-slot.ensures))
     (its_last_within c.args.raw.now c.args.place c.requires.unmarked.tuple c.requires.raw
-    c.requires.heads f c.note_of-note.result.head c.part.new.ends.items h (c.part.ensures.ends
+    c.requires.heads f c.note_of-note.result.head c.unlink.new.ends.items h (c.unlink.ensures.ends
     ∙ ap (λ (i : ℕ). slice_set c.args.raw.now.ends.items c.note_of-note.result.head (shrunk
     (pair_at c.args.raw.now.links.items i)
     (ends_at c.args.raw.now.ends.items c.note_of-note.result.head))) c.slot-slot.ensures))
@@ -184,8 +184,8 @@ returns-clause-heads c =
     touched_heads c.args.raw.now c.mark.new.raw c.args.place c.requires.unmarked.tuple
     c.requires.raw c.requires.heads f c.requires.unmarked.plain c.requires.unmarked.is_at
     (touches_from c.args.raw.now m c.mark.new.raw c.args.place.slot c.slot-slot.result
-    c.note_of-note.result c.slot-slot.ensures n k c.mark.ensures c.part.new.ends.items
-    c.part.ensures.ends c.part.new.links.items c.part.ensures.links c.join.ensures.links
+    c.note_of-note.result c.slot-slot.ensures n k c.mark.ensures c.unlink.new.ends.items
+    c.unlink.ensures.ends c.unlink.new.links.items c.unlink.ensures.links c.join.ensures.links
     c.join.ensures.ends refl)
 
 pub returns-clause-touched : goal.returns-clause-touched

@@ -27,7 +27,7 @@ loop-nth-preserved c =
     c.args.logs.now.items c.loop-nth.logs.items _
     (watched_more c.args.watchers.now c.args.places.now c.loop-nth.nth 0 i c.loop-nth-test.true refl)
     c.loop-nth.invariant
-    (clears_at c.loop-nth.logs.items i (watched_at c.args.watchers.now i) c.index_mut.result.now c.ready.new.log
+    (clears_at c.loop-nth.logs.items i (watched_at c.args.watchers.now i) c.index_mut.result.now c.clear_if.new.log
     (omega (arith, there, c.loop-nth.invariant.long)) c.index_mut.ensures.value
-    (subst (λ (b : Bool). Readies b c.index_mut.result.now c.ready.new.log) c.is_watched-wanted.ensures
-    c.ready.ensures))
+    (subst (λ (b : Bool). Readies b c.index_mut.result.now c.clear_if.new.log) c.is_watched-wanted.ensures
+    c.clear_if.ensures))

@@ -17,8 +17,8 @@ returns-clause-updates g c =
     works_front c.args.places.now c.loop-at.at c.args.queries.now.items c.args.relation.at 1 c.args.steps.now.update
     c.loop-at.steps.update c.loop-at.invariant.works
 
-pub give_at-requires : goal.give_at-requires
-give_at-requires g c =
+pub give_back_at-requires : goal.give_back_at-requires
+give_back_at-requires g c =
     still (LetsOut c.args.relation.at c.args.cells.now) c.args.places.now c.loop-at.at 0
     c.args.queries.now.items c.loop-at.queries.items
     (λ l. CanDelete l c.args.relation.at c.args.cells.now) c.requires.once c.loop-at-test.true
@@ -29,11 +29,11 @@ give_at-requires g c =
 pub loop-at-preserved : goal.loop-at-preserved
 loop-at-preserved g c = record {
   reach = reach_next (LetsOut c.args.relation.at c.args.cells.now) c.args.places.now c.loop-at.at 0
-      c.args.queries.now.items c.loop-at.queries.items c.give_at.new.queries.items
-      c.requires.once c.loop-at-test.true c.loop-at.invariant.reach c.give_at.ensures.reach;
+      c.args.queries.now.items c.loop-at.queries.items c.give_back_at.new.queries.items
+      c.requires.once c.loop-at-test.true c.loop-at.invariant.reach c.give_back_at.ensures.reach;
   works = works_next (LetsOut c.args.relation.at c.args.cells.now) c.args.places.now c.loop-at.at 0
       c.args.queries.now.items c.loop-at.queries.items c.args.relation.at 1 c.args.steps.now.update
-      c.loop-at.steps.update c.give_at.new.steps.update
-      c.requires.once c.loop-at-test.true c.loop-at.invariant.reach c.loop-at.invariant.works c.give_at.ensures.updates;
-  counted = c.give_at.ensures.counted ∙ c.loop-at.invariant.counted;
+      c.loop-at.steps.update c.give_back_at.new.steps.update
+      c.requires.once c.loop-at-test.true c.loop-at.invariant.reach c.loop-at.invariant.works c.give_back_at.ensures.updates;
+  counted = c.give_back_at.ensures.counted ∙ c.loop-at.invariant.counted;
 }

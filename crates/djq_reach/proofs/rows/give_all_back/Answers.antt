@@ -22,8 +22,8 @@ returns-clause-updates g c =
     c.args.queries.now.items c.args.steps.now.update
     c.loop-at.steps.update c.loop-at.invariant.works
 
-pub give_rows_at-requires : goal.give_rows_at-requires
-give_rows_at-requires g c =
+pub give_rows_back_at-requires : goal.give_rows_back_at-requires
+give_rows_back_at-requires g c =
     still (LetsOutAll c.args.relation.at c.args.rows.now) c.args.places.now c.loop-at.at 0
     c.args.queries.now.items c.loop-at.queries.items
     (λ l. CanGiveAll l c.args.relation.at c.args.rows.now) c.requires.once c.loop-at-test.true
@@ -34,14 +34,14 @@ give_rows_at-requires g c =
 pub loop-at-preserved : goal.loop-at-preserved
 loop-at-preserved g c = record {
   reach = reach_next (LetsOutAll c.args.relation.at c.args.rows.now) c.args.places.now c.loop-at.at 0
-      c.args.queries.now.items c.loop-at.queries.items c.give_rows_at.new.queries.items
-      c.requires.once c.loop-at-test.true c.loop-at.invariant.reach c.give_rows_at.ensures.reach;
+      c.args.queries.now.items c.loop-at.queries.items c.give_rows_back_at.new.queries.items
+      c.requires.once c.loop-at-test.true c.loop-at.invariant.reach c.give_rows_back_at.ensures.reach;
   works = bounds_next (λ n l. HasAtMost l.reducts n)
       (λ n o. work_of c.args.relation.at (length c.args.rows.now) (n + 0) false o)
       (LetsOutAll c.args.relation.at c.args.rows.now) c.args.places.now c.loop-at.at 0
       c.args.queries.now.items c.loop-at.queries.items c.args.steps.now.update
-      c.loop-at.steps.update c.give_rows_at.new.steps.update
+      c.loop-at.steps.update c.give_rows_back_at.new.steps.update
       c.requires.once c.loop-at-test.true c.loop-at.invariant.reach c.loop-at.invariant.works
-      c.give_rows_at.ensures.updates;
-  counted = c.give_rows_at.ensures.counted ∙ c.loop-at.invariant.counted;
+      c.give_rows_back_at.ensures.updates;
+  counted = c.give_rows_back_at.ensures.counted ∙ c.loop-at.invariant.counted;
 }

@@ -93,8 +93,8 @@ returns-in-Err-Full-clause-adds g c =
     (λ (r : InternRefusal). AddsTo c.in_ok-id.id.at c.args.row.now c.self.inside.parts (Err r) c.put_row.new.parts)
     c.in-Err-Full.field-0-is c.in-Err-Full.ensures.adds) c.put_row.ensures.rest.order c.put_row.ensures.rest.seq)
 
-pub age_readers-requires-clause-once : goal.age_readers-requires-clause-once
-age_readers-requires-clause-once g c =
+pub outdate_readers-requires-clause-once : goal.outdate_readers-requires-clause-once
+outdate_readers-requires-clause-once g c =
     let lacks = subst (λ (r : InternRefusal). AddsTo c.in_ok-id.id.at c.args.row.now c.self.inside.parts (Err r)
     c.put_row.new.parts) c.in-Err-NoMem.field-0-is c.in-Err-NoMem.ensures.adds in
     mid_once c.self.inside.parts (record c.put_row.new.parts { logs = c.empty_logs.new.logs }) c.self.invariant.0
@@ -102,8 +102,8 @@ age_readers-requires-clause-once g c =
     lacks.1.carries c.put_row.ensures.rest.readers c.put_row.ensures.rest.order
     (names_kept c.self.inside.parts.catalog c.put_row.new.parts.catalog lacks.1.relations)
 
-pub age_readers-requires-clause-there : goal.age_readers-requires-clause-there
-age_readers-requires-clause-there g c =
+pub outdate_readers-requires-clause-there : goal.outdate_readers-requires-clause-there
+outdate_readers-requires-clause-there g c =
     let lacks = subst (λ (r : InternRefusal). AddsTo c.in_ok-id.id.at c.args.row.now c.self.inside.parts (Err r)
     c.put_row.new.parts) c.in-Err-NoMem.field-0-is c.in-Err-NoMem.ensures.adds in
     mid_there c.self.inside.parts (record c.put_row.new.parts { logs = c.empty_logs.new.logs }) c.self.invariant.0
@@ -118,15 +118,15 @@ invariant_of-self-in-Err-NoMem g c =
       (aged c.self.inside.parts (record c.put_row.new.parts { logs = c.empty_logs.new.logs }) c.self.invariant.0
           c.in_ok-id.id.at c.in_ok-id.ensures.ok.relation.below
           lacks.1.carries c.put_row.ensures.rest.readers c.put_row.ensures.rest.order
-          (names_kept c.self.inside.parts.catalog c.put_row.new.parts.catalog lacks.1.relations) c.age_readers.new.parts
-          c.args.name.now c.in_ok-id.ensures.ok.relation.named c.age_readers.ensures).whole,
+          (names_kept c.self.inside.parts.catalog c.put_row.new.parts.catalog lacks.1.relations) c.outdate_readers.new.parts
+          c.args.name.now c.in_ok-id.ensures.ok.relation.named c.outdate_readers.ensures).whole,
       tended_now c.self.inside.parts (record c.put_row.new.parts { logs = c.empty_logs.new.logs })
-          c.age_readers.new.parts
+          c.outdate_readers.new.parts
           c.in_ok-id.id.at c.args.name.now
           (subst (λ (r : InternRefusal). AddsTo c.in_ok-id.id.at c.args.row.now c.self.inside.parts (Err r)
           c.put_row.new.parts) c.in-Err-NoMem.field-0-is c.in-Err-NoMem.ensures.adds).1.carries
           c.put_row.ensures.rest.watchers c.put_row.ensures.rest.order (c.empty_logs.ensures.long
-          ∙ c.put_row.ensures.rest.long) c.age_readers.ensures c.self.invariant.1
+          ∙ c.put_row.ensures.rest.long) c.outdate_readers.ensures c.self.invariant.1
           (room_kept c.self.inside.parts c.put_row.new.parts c.self.invariant.1 c.put_row.ensures.rest)
           (shown_emptied c.put_row.new.parts.catalog.texts c.self.inside.parts.queries.items c.as_slice.result.now
           c.put_row.new.parts.logs.items c.empty_logs.new.logs.items c.empty_logs.ensures c.put_row.ensures.shown),
@@ -140,11 +140,11 @@ returns-in-Err-NoMem-clause-outdates g c =
     ((aged c.self.inside.parts (record c.put_row.new.parts { logs = c.empty_logs.new.logs }) c.self.invariant.0
     c.in_ok-id.id.at c.in_ok-id.ensures.ok.relation.below
     lacks.1.carries c.put_row.ensures.rest.readers c.put_row.ensures.rest.order
-    (names_kept c.self.inside.parts.catalog c.put_row.new.parts.catalog lacks.1.relations) c.age_readers.new.parts
-    c.args.name.now c.in_ok-id.ensures.ok.relation.named c.age_readers.ensures).cursors)
+    (names_kept c.self.inside.parts.catalog c.put_row.new.parts.catalog lacks.1.relations) c.outdate_readers.new.parts
+    c.args.name.now c.in_ok-id.ensures.ok.relation.named c.outdate_readers.ensures).cursors)
 
-pub age_readers-requires-2-clause-once : goal.age_readers-requires-2-clause-once
-age_readers-requires-2-clause-once g c =
+pub outdate_readers-requires-2-clause-once : goal.outdate_readers-requires-2-clause-once
+outdate_readers-requires-2-clause-once g c =
     let came = subst (λ (o : AddOutcome). AddsTo c.in_ok-id.id.at c.args.row.now c.self.inside.parts (Ok o)
     c.put_row.new.parts) c.in-Ok-First.field-0-is c.in-Ok-First.ensures.adds in
     mid_once c.self.inside.parts
@@ -155,8 +155,8 @@ age_readers-requires-2-clause-once g c =
     (with_row (counted_at c.self.inside.parts.catalog.relations c.in_ok-id.id.at) c.args.row.now)
     c.in_ok-id.ensures.ok.relation.below came.1.has.relations)
 
-pub age_readers-requires-2-clause-there : goal.age_readers-requires-2-clause-there
-age_readers-requires-2-clause-there g c =
+pub outdate_readers-requires-2-clause-there : goal.outdate_readers-requires-2-clause-there
+outdate_readers-requires-2-clause-there g c =
     let came = subst (λ (o : AddOutcome). AddsTo c.in_ok-id.id.at c.args.row.now c.self.inside.parts (Ok o)
     c.put_row.new.parts) c.in-Ok-First.field-0-is c.in-Ok-First.ensures.adds in
     mid_there c.self.inside.parts
@@ -177,16 +177,16 @@ invariant_of-self-2 g c =
           came.1.has.carries c.put_row.ensures.rest.readers c.put_row.ensures.rest.order
           (same_names c.self.inside.parts.catalog c.put_row.new.parts.catalog c.in_ok-id.id.at
           (with_row (counted_at c.self.inside.parts.catalog.relations c.in_ok-id.id.at) c.args.row.now)
-          c.in_ok-id.ensures.ok.relation.below came.1.has.relations) c.age_readers-2.new.parts c.args.name.now
-          c.in_ok-id.ensures.ok.relation.named c.age_readers-2.ensures).whole,
+          c.in_ok-id.ensures.ok.relation.below came.1.has.relations) c.outdate_readers-2.new.parts c.args.name.now
+          c.in_ok-id.ensures.ok.relation.named c.outdate_readers-2.ensures).whole,
       tended_now c.self.inside.parts
           (record c.put_row.new.parts { seq = c.put_row.new.parts.seq + 1; affected = c.affect.new.affected })
-          c.age_readers-2.new.parts c.in_ok-id.id.at c.args.name.now
+          c.outdate_readers-2.new.parts c.in_ok-id.id.at c.args.name.now
           (subst (λ (o : AddOutcome). AddsTo c.in_ok-id.id.at c.args.row.now c.self.inside.parts (Ok o)
           c.put_row.new.parts)
           c.in-Ok-First.field-0-is c.in-Ok-First.ensures.adds).1.has.carries
           c.put_row.ensures.rest.watchers c.put_row.ensures.rest.order c.put_row.ensures.rest.long
-          c.age_readers-2.ensures
+          c.outdate_readers-2.ensures
           c.self.invariant.1
           (omega (
             arith,
@@ -205,8 +205,8 @@ returns-clause-outdates g c =
     came.1.has.carries c.put_row.ensures.rest.readers c.put_row.ensures.rest.order
     (same_names c.self.inside.parts.catalog c.put_row.new.parts.catalog c.in_ok-id.id.at
     (with_row (counted_at c.self.inside.parts.catalog.relations c.in_ok-id.id.at) c.args.row.now)
-    c.in_ok-id.ensures.ok.relation.below came.1.has.relations) c.age_readers-2.new.parts c.args.name.now
-    c.in_ok-id.ensures.ok.relation.named c.age_readers-2.ensures).cursors)
+    c.in_ok-id.ensures.ok.relation.below came.1.has.relations) c.outdate_readers-2.new.parts c.args.name.now
+    c.in_ok-id.ensures.ok.relation.named c.outdate_readers-2.ensures).cursors)
 
 pub returns-clause-adds : goal.returns-clause-adds
 returns-clause-adds g c =
@@ -214,19 +214,19 @@ returns-clause-adds g c =
     c.put_row.new.parts) c.in-Ok-First.field-0-is c.in-Ok-First.ensures.adds in
     rw (← c.self.view_is)
     (add_done c.self.inside.parts c.args.name.now c.args.row.now c.in_ok-id.id.at c.in_ok-id.ensures.ok
-    c.names_tell.ensures
-    c.laws.ensures.names c.put_row.new.parts c.age_readers-2.new.parts
+    c.rows_by_name_or_place.ensures
+    c.laws.ensures.names c.put_row.new.parts c.outdate_readers-2.new.parts
     came.0
-    came.1 c.age_readers-2.ensures.catalog
-    (c.age_readers-2.ensures.rest.seq ∙ ap (λ n. n + 1) c.put_row.ensures.rest.seq)
+    came.1 c.outdate_readers-2.ensures.catalog
+    (c.outdate_readers-2.ensures.rest.seq ∙ ap (λ n. n + 1) c.put_row.ensures.rest.seq)
     (aged c.self.inside.parts
     (record c.put_row.new.parts { seq = c.put_row.new.parts.seq + 1; affected = c.affect.new.affected })
     c.self.invariant.0 c.in_ok-id.id.at c.in_ok-id.ensures.ok.relation.below
     came.1.has.carries c.put_row.ensures.rest.readers c.put_row.ensures.rest.order
     (same_names c.self.inside.parts.catalog c.put_row.new.parts.catalog c.in_ok-id.id.at
     (with_row (counted_at c.self.inside.parts.catalog.relations c.in_ok-id.id.at) c.args.row.now)
-    c.in_ok-id.ensures.ok.relation.below came.1.has.relations) c.age_readers-2.new.parts c.args.name.now
-    c.in_ok-id.ensures.ok.relation.named c.age_readers-2.ensures).queries)
+    c.in_ok-id.ensures.ok.relation.below came.1.has.relations) c.outdate_readers-2.new.parts c.args.name.now
+    c.in_ok-id.ensures.ok.relation.named c.outdate_readers-2.ensures).queries)
 
 pub returns-in-Err-NoMem-clause-adds : goal.returns-in-Err-NoMem-clause-adds
 returns-in-Err-NoMem-clause-adds g c =
@@ -234,14 +234,14 @@ returns-in-Err-NoMem-clause-adds g c =
     c.put_row.new.parts) c.in-Err-NoMem.field-0-is c.in-Err-NoMem.ensures.adds in
     rw (← c.self.view_is)
     (add_lacking c.self.inside.parts c.args.name.now c.args.row.now c.in_ok-id.id.at c.in_ok-id.ensures.ok
-    c.put_row.new.parts c.age_readers.new.parts
+    c.put_row.new.parts c.outdate_readers.new.parts
     lacks.0
-    lacks.1 c.age_readers.ensures.catalog (c.age_readers.ensures.rest.seq ∙ c.put_row.ensures.rest.seq)
+    lacks.1 c.outdate_readers.ensures.catalog (c.outdate_readers.ensures.rest.seq ∙ c.put_row.ensures.rest.seq)
     (aged c.self.inside.parts (record c.put_row.new.parts { logs = c.empty_logs.new.logs }) c.self.invariant.0
     c.in_ok-id.id.at c.in_ok-id.ensures.ok.relation.below
     lacks.1.carries c.put_row.ensures.rest.readers c.put_row.ensures.rest.order
-    (names_kept c.self.inside.parts.catalog c.put_row.new.parts.catalog lacks.1.relations) c.age_readers.new.parts
-    c.args.name.now c.in_ok-id.ensures.ok.relation.named c.age_readers.ensures).queries)
+    (names_kept c.self.inside.parts.catalog c.put_row.new.parts.catalog lacks.1.relations) c.outdate_readers.new.parts
+    c.args.name.now c.in_ok-id.ensures.ok.relation.named c.outdate_readers.ensures).queries)
 
 pub returns-in_err-id-clause-tells : goal.returns-in_err-id-clause-tells
 returns-in_err-id-clause-tells g c =
@@ -277,25 +277,25 @@ pub returns-in-Err-NoMem-clause-watches : goal.returns-in-Err-NoMem-clause-watch
 returns-in-Err-NoMem-clause-watches g c =
     rw (← c.self.view_is)
     (registered_now c.self.inside.parts (record c.put_row.new.parts { logs = c.empty_logs.new.logs })
-    c.age_readers.new.parts c.in_ok-id.id.at c.args.name.now
+    c.outdate_readers.new.parts c.in_ok-id.id.at c.args.name.now
     (subst (λ (r : InternRefusal). AddsTo c.in_ok-id.id.at c.args.row.now c.self.inside.parts (Err r)
     c.put_row.new.parts)
     c.in-Err-NoMem.field-0-is c.in-Err-NoMem.ensures.adds).1.carries
     c.put_row.ensures.rest.watchers c.put_row.ensures.rest.order (c.empty_logs.ensures.long
-    ∙ c.put_row.ensures.rest.long) c.age_readers.ensures)
+    ∙ c.put_row.ensures.rest.long) c.outdate_readers.ensures)
 
 pub returns-in-Err-NoMem-clause-tells : goal.returns-in-Err-NoMem-clause-tells
 returns-in-Err-NoMem-clause-tells g c =
     let old = c.self.inside.parts in
     let mid = c.put_row.new.parts in
-    let new = c.age_readers.new.parts in
+    let new = c.outdate_readers.new.parts in
     let lacks = (subst (λ (r : InternRefusal). AddsTo c.in_ok-id.id.at c.args.row.now c.self.inside.parts (Err r)
     c.put_row.new.parts) c.in-Err-NoMem.field-0-is c.in-Err-NoMem.ensures.adds).1 in
     let m = c.in_ok-id.ensures.ok in
     let alike = alike_now old (record mid { logs = c.empty_logs.new.logs }) new c.in_ok-id.id.at c.args.name.now
     lacks.carries
     c.put_row.ensures.rest.watchers c.put_row.ensures.rest.order (c.empty_logs.ensures.long
-    ∙ c.put_row.ensures.rest.long) c.age_readers.ensures in
+    ∙ c.put_row.ensures.rest.long) c.outdate_readers.ensures in
     let places = places_read mid.readers.items c.in_ok-id.id.at c.index.result.now c.as_slice.result.now
     (readers_within old mid c.self.invariant.0 c.in_ok-id.id.at m.relation.below c.put_row.ensures.rest.readers)
     c.index.ensures c.as_slice.ensures in
@@ -304,31 +304,31 @@ returns-in-Err-NoMem-clause-tells g c =
     rw (← c.self.view_is)
     (adds_refused old c.self.invariant.0 c.args.name.now c.args.row.now c.in_ok-id.id.at m.relation
     c.deltas_exist.ensures
-    c.heads_are_bound.ensures c.names_tell.ensures c.laws.ensures.names
+    c.heads_are_bound.ensures c.rows_by_name_or_place.ensures c.laws.ensures.names
     c.args.steps.now.listing c.put_row.new.steps.listing
     (subst (λ (r : InternRefusal). IfLacking (Err r)
     (CountsRows c.in_ok-id.id.at
     (with_row (counted_at c.self.inside.parts.catalog.relations c.in_ok-id.id.at) c.args.row.now) c.self.inside.parts
     c.args.steps.now.listing c.put_row.new.steps.listing)) c.in-Err-NoMem.field-0-is c.in-Err-NoMem.ensures.listed)
     new
-    (affected_same old new (c.age_readers.ensures.rest.affected ∙ c.put_row.ensures.rest.affected))
+    (affected_same old new (c.outdate_readers.ensures.rest.affected ∙ c.put_row.ensures.rest.affected))
     (discards_by old mid new c.self.invariant.0 c.in_ok-id.id.at m.relation.below c.put_row.ensures.rest.readers
     (subst (λ (r : InternRefusal). IfLacking (Err r)
     (KeepsLogs (reads_at c.self.inside.parts c.in_ok-id.id.at) c.self.inside.parts c.put_row.new.parts))
     c.in-Err-NoMem.field-0-is c.in-Err-NoMem.ensures.apart)
     (subst (λ (ls : List Log). Empties (readers_at mid.readers.items c.in_ok-id.id.at) mid.logs.items ls)
-    (sym c.age_readers.ensures.logs) empties) alike)
+    (sym c.outdate_readers.ensures.logs) empties) alike)
     (told_lacking c.showable_stays.ensures c.texts_stay.ensures old mid new c.in_ok-id.id.at c.args.row.now lacks
-    c.age_readers.ensures.catalog c.self.invariant.1 alike))
+    c.outdate_readers.ensures.catalog c.self.invariant.1 alike))
 
 pub returns-clause-watches : goal.returns-clause-watches
 returns-clause-watches g c =
     rw (← c.self.view_is) (registered_now c.self.inside.parts
     (record c.put_row.new.parts { seq = c.put_row.new.parts.seq + 1; affected = c.affect.new.affected })
-    c.age_readers-2.new.parts c.in_ok-id.id.at c.args.name.now
+    c.outdate_readers-2.new.parts c.in_ok-id.id.at c.args.name.now
     (subst (λ (o : AddOutcome). AddsTo c.in_ok-id.id.at c.args.row.now c.self.inside.parts (Ok o) c.put_row.new.parts)
     c.in-Ok-First.field-0-is c.in-Ok-First.ensures.adds).1.has.carries
-    c.put_row.ensures.rest.watchers c.put_row.ensures.rest.order c.put_row.ensures.rest.long c.age_readers-2.ensures)
+    c.put_row.ensures.rest.watchers c.put_row.ensures.rest.order c.put_row.ensures.rest.long c.outdate_readers-2.ensures)
 
 pub returns-clause-tells : goal.returns-clause-tells
 returns-clause-tells g c =
@@ -336,31 +336,31 @@ returns-clause-tells g c =
     c.put_row.new.parts) c.in-Ok-First.field-0-is c.in-Ok-First.ensures.adds in
     rw (← c.self.view_is)
     (adds_done c.self.inside.parts c.self.invariant.0 c.args.name.now c.args.row.now c.in_ok-id.id.at
-    c.in_ok-id.ensures.ok.relation c.deltas_exist.ensures c.heads_are_bound.ensures c.names_tell.ensures
+    c.in_ok-id.ensures.ok.relation c.deltas_exist.ensures c.heads_are_bound.ensures c.rows_by_name_or_place.ensures
     c.laws.ensures.names
     c.args.steps.now.listing c.put_row.new.steps.listing
     (record c.put_row.new.parts { seq = c.put_row.new.parts.seq + 1; affected = c.affect.new.affected })
-    c.age_readers-2.new.parts c.age_readers-2.ensures.logs c.age_readers-2.ensures.catalog
+    c.outdate_readers-2.new.parts c.outdate_readers-2.ensures.logs c.outdate_readers-2.ensures.catalog
     (alike_now c.self.inside.parts (record c.put_row.new.parts {
       seq = c.put_row.new.parts.seq + 1;
       affected = c.affect.new.affected;
-    }) c.age_readers-2.new.parts c.in_ok-id.id.at c.args.name.now
+    }) c.outdate_readers-2.new.parts c.in_ok-id.id.at c.args.name.now
     came.1.has.carries
-    c.put_row.ensures.rest.watchers c.put_row.ensures.rest.order c.put_row.ensures.rest.long c.age_readers-2.ensures)
-    (c.age_readers-2.ensures.rest.affected ∙ c.affect.ensures.items
+    c.put_row.ensures.rest.watchers c.put_row.ensures.rest.order c.put_row.ensures.rest.long c.outdate_readers-2.ensures)
+    (c.outdate_readers-2.ensures.rest.affected ∙ c.affect.ensures.items
     ∙ ap (λ (rs : List (List ℕ)). readers_at rs c.in_ok-id.id.at) c.put_row.ensures.rest.readers)
     (subst (λ (o : AddOutcome). IfCame (Ok o)
     (KeepsLogs (tells_at c.self.inside.parts c.in_ok-id.id.at) c.self.inside.parts c.put_row.new.parts))
     c.in-Ok-First.field-0-is c.in-Ok-First.ensures.quiet)
     (told_put c.showable_stays.ensures c.texts_stay.ensures c.self.inside.parts c.put_row.new.parts
-    c.age_readers-2.new.parts c.in_ok-id.id.at c.args.row.now came.1 c.age_readers-2.ensures.catalog
+    c.outdate_readers-2.new.parts c.in_ok-id.id.at c.args.row.now came.1 c.outdate_readers-2.ensures.catalog
     c.self.invariant.1
     (alike_now c.self.inside.parts (record c.put_row.new.parts {
       seq = c.put_row.new.parts.seq + 1;
       affected = c.affect.new.affected;
-    }) c.age_readers-2.new.parts c.in_ok-id.id.at c.args.name.now
+    }) c.outdate_readers-2.new.parts c.in_ok-id.id.at c.args.name.now
     came.1.has.carries
-    c.put_row.ensures.rest.watchers c.put_row.ensures.rest.order c.put_row.ensures.rest.long c.age_readers-2.ensures))
+    c.put_row.ensures.rest.watchers c.put_row.ensures.rest.order c.put_row.ensures.rest.long c.outdate_readers-2.ensures))
     (subst (λ (o : AddOutcome). IfCame (Ok o)
     (CountsRows c.in_ok-id.id.at
     (with_row (counted_at c.self.inside.parts.catalog.relations c.in_ok-id.id.at) c.args.row.now) c.self.inside.parts
@@ -443,7 +443,7 @@ returns-in-Ok-More-clause-adds g c =
     c.put_row.new.parts) c.in-Ok-More.field-0-is c.in-Ok-More.ensures.adds) in
     rw (← c.self.view_is)
     (add_further c.self.inside.parts c.args.name.now c.args.row.now c.in_ok-id.id.at c.in_ok-id.ensures.ok
-    c.names_tell.ensures c.laws.ensures.names c.put_row.new.parts c.in-Ok-More.copies more
+    c.rows_by_name_or_place.ensures c.laws.ensures.names c.put_row.new.parts c.in-Ok-More.copies more
     c.put_row.ensures.rest.order c.put_row.ensures.rest.seq)
 
 pub returns-in-Ok-More-clause-outdates : goal.returns-in-Ok-More-clause-outdates
@@ -534,14 +534,14 @@ pub returns-in-Err-NoMem-clause-places : goal.returns-in-Err-NoMem-clause-places
 returns-in-Err-NoMem-clause-places g c =
     rw (← c.self.view_is)
     (keeps_changed c.self.inside.parts (record c.put_row.new.parts { logs = c.empty_logs.new.logs })
-    c.age_readers.new.parts
+    c.outdate_readers.new.parts
     c.self.invariant.0
     c.in_ok-id.id.at c.args.name.now (row_in c.self.inside.parts.catalog.relations c.args.name.now c.args.row.now).after
     c.in_ok-id.ensures.ok.relation.below c.in_ok-id.ensures.ok.relation.named
     (subst (λ (r : InternRefusal). AddsTo c.in_ok-id.id.at c.args.row.now c.self.inside.parts (Err r)
     c.put_row.new.parts)
     c.in-Err-NoMem.field-0-is c.in-Err-NoMem.ensures.adds).1.carries
-    c.put_row.ensures.rest.readers c.age_readers.ensures)
+    c.put_row.ensures.rest.readers c.outdate_readers.ensures)
 
 pub returns-in-Ok-More-clause-places : goal.returns-in-Ok-More-clause-places
 returns-in-Ok-More-clause-places g c =
@@ -553,9 +553,9 @@ pub returns-clause-places : goal.returns-clause-places
 returns-clause-places g c =
     rw (← c.self.view_is) (keeps_changed c.self.inside.parts
     (record c.put_row.new.parts { seq = c.put_row.new.parts.seq + 1; affected = c.affect.new.affected })
-    c.age_readers-2.new.parts c.self.invariant.0
+    c.outdate_readers-2.new.parts c.self.invariant.0
     c.in_ok-id.id.at c.args.name.now (row_in c.self.inside.parts.catalog.relations c.args.name.now c.args.row.now).after
     c.in_ok-id.ensures.ok.relation.below c.in_ok-id.ensures.ok.relation.named
     (subst (λ (o : AddOutcome). AddsTo c.in_ok-id.id.at c.args.row.now c.self.inside.parts (Ok o) c.put_row.new.parts)
     c.in-Ok-First.field-0-is c.in-Ok-First.ensures.adds).1.has.carries
-    c.put_row.ensures.rest.readers c.age_readers-2.ensures)
+    c.put_row.ensures.rest.readers c.outdate_readers-2.ensures)

@@ -55,14 +55,14 @@ use Rattle.djq_engine.proofs.Working.{counts_updates}
 use Rattle.djq_engine.proofs.Enlisted.{unwatched_readers}
 use Rattle.djq_engine.proofs.engine.Engine.del.Goals as goal
 
-pub age_readers-requires-clause-once : goal.age_readers-requires-clause-once
-age_readers-requires-clause-once g c =
+pub outdate_readers-requires-clause-once : goal.outdate_readers-requires-clause-once
+outdate_readers-requires-clause-once g c =
     let may = subst (λ (j : Option RelationId). JudgesDelete c.self.inside.parts.catalog c.args.name.now c.args.row.now
-    c.self.inside.parts.seq c.judge_delete.new.cells j) c.in-Some.is c.in_ok-judged.ensures.ok in
+    c.self.inside.parts.seq c.check_delete.new.cells j) c.in-Some.is c.in_ok-judged.ensures.ok in
     let stand = subst (λ (cells : List ℕ). StandForRow c.self.inside.parts.catalog c.in-Some.relation.at cells
     c.args.row.now) (sym c.as_slice.ensures)
     (stands c.self.inside.parts c.args.name.now c.args.row.now
-    (record { relation = c.in-Some.relation; cells = c.judge_delete.new.cells }) may) in
+    (record { relation = c.in-Some.relation; cells = c.check_delete.new.cells }) may) in
     let went = subst (λ (o : DeleteOutcome). DeletesFrom c.in-Some.relation.at c.args.row.now c.self.inside.parts o
     c.drop_cells.new.parts) c.in-Last.is (c.drop_cells.ensures.deletes c.args.row.now stand) in
     mid_once c.self.inside.parts
@@ -73,14 +73,14 @@ age_readers-requires-clause-once g c =
     (without_copies (counted_at c.self.inside.parts.catalog.relations c.in-Some.relation.at) c.args.row.now)
     may.relation.below went.2.has.relations)
 
-pub age_readers-requires-clause-there : goal.age_readers-requires-clause-there
-age_readers-requires-clause-there g c =
+pub outdate_readers-requires-clause-there : goal.outdate_readers-requires-clause-there
+outdate_readers-requires-clause-there g c =
     let may = subst (λ (j : Option RelationId). JudgesDelete c.self.inside.parts.catalog c.args.name.now c.args.row.now
-    c.self.inside.parts.seq c.judge_delete.new.cells j) c.in-Some.is c.in_ok-judged.ensures.ok in
+    c.self.inside.parts.seq c.check_delete.new.cells j) c.in-Some.is c.in_ok-judged.ensures.ok in
     let stand = subst (λ (cells : List ℕ). StandForRow c.self.inside.parts.catalog c.in-Some.relation.at cells
     c.args.row.now) (sym c.as_slice.ensures)
     (stands c.self.inside.parts c.args.name.now c.args.row.now
-    (record { relation = c.in-Some.relation; cells = c.judge_delete.new.cells }) may) in
+    (record { relation = c.in-Some.relation; cells = c.check_delete.new.cells }) may) in
     let went = subst (λ (o : DeleteOutcome). DeletesFrom c.in-Some.relation.at c.args.row.now c.self.inside.parts o
     c.drop_cells.new.parts) c.in-Last.is (c.drop_cells.ensures.deletes c.args.row.now stand) in
     mid_there c.self.inside.parts
@@ -94,11 +94,11 @@ age_readers-requires-clause-there g c =
 pub invariant_of-self-2 : goal.invariant_of-self-2
 invariant_of-self-2 g c =
     let may = subst (λ (j : Option RelationId). JudgesDelete c.self.inside.parts.catalog c.args.name.now c.args.row.now
-    c.self.inside.parts.seq c.judge_delete.new.cells j) c.in-Some.is c.in_ok-judged.ensures.ok in
+    c.self.inside.parts.seq c.check_delete.new.cells j) c.in-Some.is c.in_ok-judged.ensures.ok in
     let stand = subst (λ (cells : List ℕ). StandForRow c.self.inside.parts.catalog c.in-Some.relation.at cells
     c.args.row.now) (sym c.as_slice.ensures)
     (stands c.self.inside.parts c.args.name.now c.args.row.now
-    (record { relation = c.in-Some.relation; cells = c.judge_delete.new.cells }) may) in
+    (record { relation = c.in-Some.relation; cells = c.check_delete.new.cells }) may) in
     let went = subst (λ (o : DeleteOutcome). DeletesFrom c.in-Some.relation.at c.args.row.now c.self.inside.parts o
     c.drop_cells.new.parts) c.in-Last.is (c.drop_cells.ensures.deletes c.args.row.now stand) in (
       (aged c.self.inside.parts
@@ -107,11 +107,11 @@ invariant_of-self-2 g c =
           went.2.has.carries c.drop_cells.ensures.rest.readers c.drop_cells.ensures.rest.order
           (same_names c.self.inside.parts.catalog c.drop_cells.new.parts.catalog c.in-Some.relation.at
           (without_copies (counted_at c.self.inside.parts.catalog.relations c.in-Some.relation.at) c.args.row.now)
-          may.relation.below went.2.has.relations) c.age_readers.new.parts c.args.name.now may.relation.named
-          c.age_readers.ensures).whole,
+          may.relation.below went.2.has.relations) c.outdate_readers.new.parts c.args.name.now may.relation.named
+          c.outdate_readers.ensures).whole,
       tended_now c.self.inside.parts
           (record c.drop_cells.new.parts { seq = c.drop_cells.new.parts.seq + 1; affected = c.affect.new.affected })
-          c.age_readers.new.parts c.in-Some.relation.at c.args.name.now
+          c.outdate_readers.new.parts c.in-Some.relation.at c.args.name.now
           (subst (λ (o : DeleteOutcome). DeletesFrom c.in-Some.relation.at c.args.row.now c.self.inside.parts o
           c.drop_cells.new.parts) c.in-Last.is
           (c.drop_cells.ensures.deletes c.args.row.now
@@ -119,11 +119,11 @@ invariant_of-self-2 g c =
           c.args.row.now)
           (sym c.as_slice.ensures)
           (stands c.self.inside.parts c.args.name.now c.args.row.now
-          (record { relation = c.in-Some.relation; cells = c.judge_delete.new.cells })
+          (record { relation = c.in-Some.relation; cells = c.check_delete.new.cells })
           (subst (λ (j : Option RelationId). JudgesDelete c.self.inside.parts.catalog c.args.name.now c.args.row.now
-          c.self.inside.parts.seq c.judge_delete.new.cells j) c.in-Some.is c.in_ok-judged.ensures.ok))))).2.has.carries
+          c.self.inside.parts.seq c.check_delete.new.cells j) c.in-Some.is c.in_ok-judged.ensures.ok))))).2.has.carries
           c.drop_cells.ensures.rest.watchers c.drop_cells.ensures.rest.order c.drop_cells.ensures.rest.long
-          c.age_readers.ensures c.self.invariant.1
+          c.outdate_readers.ensures c.self.invariant.1
           (omega (
             arith,
             room_kept c.self.inside.parts c.drop_cells.new.parts c.self.invariant.1 c.drop_cells.ensures.rest,
@@ -134,34 +134,34 @@ invariant_of-self-2 g c =
 pub returns-clause-deletes : goal.returns-clause-deletes
 returns-clause-deletes g c =
     let may = subst (λ (j : Option RelationId). JudgesDelete c.self.inside.parts.catalog c.args.name.now c.args.row.now
-    c.self.inside.parts.seq c.judge_delete.new.cells j) c.in-Some.is c.in_ok-judged.ensures.ok in
+    c.self.inside.parts.seq c.check_delete.new.cells j) c.in-Some.is c.in_ok-judged.ensures.ok in
     let stand = subst (λ (cells : List ℕ). StandForRow c.self.inside.parts.catalog c.in-Some.relation.at cells
     c.args.row.now) (sym c.as_slice.ensures)
     (stands c.self.inside.parts c.args.name.now c.args.row.now
-    (record { relation = c.in-Some.relation; cells = c.judge_delete.new.cells }) may) in
+    (record { relation = c.in-Some.relation; cells = c.check_delete.new.cells }) may) in
     let went = subst (λ (o : DeleteOutcome). DeletesFrom c.in-Some.relation.at c.args.row.now c.self.inside.parts o
     c.drop_cells.new.parts) c.in-Last.is (c.drop_cells.ensures.deletes c.args.row.now stand) in
     rw (← c.self.view_is) (delete_done c.self.inside.parts c.args.name.now c.args.row.now
-    (record { relation = c.in-Some.relation; cells = c.judge_delete.new.cells }) may c.names_tell.ensures
-    c.laws.ensures.names c.drop_cells.new.parts c.age_readers.new.parts
-    went c.age_readers.ensures.catalog (c.age_readers.ensures.rest.seq ∙ ap (λ n. n + 1) c.drop_cells.ensures.rest.seq)
+    (record { relation = c.in-Some.relation; cells = c.check_delete.new.cells }) may c.rows_by_name_or_place.ensures
+    c.laws.ensures.names c.drop_cells.new.parts c.outdate_readers.new.parts
+    went c.outdate_readers.ensures.catalog (c.outdate_readers.ensures.rest.seq ∙ ap (λ n. n + 1) c.drop_cells.ensures.rest.seq)
     (aged c.self.inside.parts
     (record c.drop_cells.new.parts { seq = c.drop_cells.new.parts.seq + 1; affected = c.affect.new.affected })
     c.self.invariant.0 c.in-Some.relation.at may.relation.below
     went.2.has.carries c.drop_cells.ensures.rest.readers c.drop_cells.ensures.rest.order
     (same_names c.self.inside.parts.catalog c.drop_cells.new.parts.catalog c.in-Some.relation.at
     (without_copies (counted_at c.self.inside.parts.catalog.relations c.in-Some.relation.at) c.args.row.now)
-    may.relation.below went.2.has.relations) c.age_readers.new.parts c.args.name.now may.relation.named
-    c.age_readers.ensures).queries)
+    may.relation.below went.2.has.relations) c.outdate_readers.new.parts c.args.name.now may.relation.named
+    c.outdate_readers.ensures).queries)
 
 pub returns-clause-outdates : goal.returns-clause-outdates
 returns-clause-outdates g c =
     let may = subst (λ (j : Option RelationId). JudgesDelete c.self.inside.parts.catalog c.args.name.now c.args.row.now
-    c.self.inside.parts.seq c.judge_delete.new.cells j) c.in-Some.is c.in_ok-judged.ensures.ok in
+    c.self.inside.parts.seq c.check_delete.new.cells j) c.in-Some.is c.in_ok-judged.ensures.ok in
     let stand = subst (λ (cells : List ℕ). StandForRow c.self.inside.parts.catalog c.in-Some.relation.at cells
     c.args.row.now) (sym c.as_slice.ensures)
     (stands c.self.inside.parts c.args.name.now c.args.row.now
-    (record { relation = c.in-Some.relation; cells = c.judge_delete.new.cells }) may) in
+    (record { relation = c.in-Some.relation; cells = c.check_delete.new.cells }) may) in
     let went = subst (λ (o : DeleteOutcome). DeletesFrom c.in-Some.relation.at c.args.row.now c.self.inside.parts o
     c.drop_cells.new.parts) c.in-Last.is (c.drop_cells.ensures.deletes c.args.row.now stand) in
     rw (← c.self.view_is) ((aged c.self.inside.parts
@@ -170,8 +170,8 @@ returns-clause-outdates g c =
     went.2.has.carries c.drop_cells.ensures.rest.readers c.drop_cells.ensures.rest.order
     (same_names c.self.inside.parts.catalog c.drop_cells.new.parts.catalog c.in-Some.relation.at
     (without_copies (counted_at c.self.inside.parts.catalog.relations c.in-Some.relation.at) c.args.row.now)
-    may.relation.below went.2.has.relations) c.age_readers.new.parts c.args.name.now may.relation.named
-    c.age_readers.ensures).cursors)
+    may.relation.below went.2.has.relations) c.outdate_readers.new.parts c.args.name.now may.relation.named
+    c.outdate_readers.ensures).cursors)
 
 pub returns-in_err-judged-clause-tells : goal.returns-in_err-judged-clause-tells
 returns-in_err-judged-clause-tells g c =
@@ -190,57 +190,57 @@ pub returns-clause-watches : goal.returns-clause-watches
 returns-clause-watches g c =
     rw (← c.self.view_is) (registered_now c.self.inside.parts
     (record c.drop_cells.new.parts { seq = c.drop_cells.new.parts.seq + 1; affected = c.affect.new.affected })
-    c.age_readers.new.parts c.in-Some.relation.at c.args.name.now
+    c.outdate_readers.new.parts c.in-Some.relation.at c.args.name.now
     (subst (λ (o : DeleteOutcome). DeletesFrom c.in-Some.relation.at c.args.row.now c.self.inside.parts o
     c.drop_cells.new.parts) c.in-Last.is
     (c.drop_cells.ensures.deletes c.args.row.now
     (subst (λ (cells : List ℕ). StandForRow c.self.inside.parts.catalog c.in-Some.relation.at cells c.args.row.now)
     (sym c.as_slice.ensures)
     (stands c.self.inside.parts c.args.name.now c.args.row.now
-    (record { relation = c.in-Some.relation; cells = c.judge_delete.new.cells })
+    (record { relation = c.in-Some.relation; cells = c.check_delete.new.cells })
     (subst (λ (j : Option RelationId). JudgesDelete c.self.inside.parts.catalog c.args.name.now c.args.row.now
-    c.self.inside.parts.seq c.judge_delete.new.cells j) c.in-Some.is c.in_ok-judged.ensures.ok))))).2.has.carries
+    c.self.inside.parts.seq c.check_delete.new.cells j) c.in-Some.is c.in_ok-judged.ensures.ok))))).2.has.carries
     c.drop_cells.ensures.rest.watchers c.drop_cells.ensures.rest.order c.drop_cells.ensures.rest.long
-    c.age_readers.ensures)
+    c.outdate_readers.ensures)
 
 pub returns-clause-tells : goal.returns-clause-tells
 returns-clause-tells g c =
     let may = subst (λ (j : Option RelationId). JudgesDelete c.self.inside.parts.catalog c.args.name.now c.args.row.now
-    c.self.inside.parts.seq c.judge_delete.new.cells j) c.in-Some.is c.in_ok-judged.ensures.ok in
+    c.self.inside.parts.seq c.check_delete.new.cells j) c.in-Some.is c.in_ok-judged.ensures.ok in
     let stand = subst (λ (cells : List ℕ). StandForRow c.self.inside.parts.catalog c.in-Some.relation.at cells
     c.args.row.now) (sym c.as_slice.ensures)
     (stands c.self.inside.parts c.args.name.now c.args.row.now
-    (record { relation = c.in-Some.relation; cells = c.judge_delete.new.cells }) may) in
+    (record { relation = c.in-Some.relation; cells = c.check_delete.new.cells }) may) in
     let went = subst (λ (o : DeleteOutcome). DeletesFrom c.in-Some.relation.at c.args.row.now c.self.inside.parts o
     c.drop_cells.new.parts) c.in-Last.is (c.drop_cells.ensures.deletes c.args.row.now stand) in
     rw (← c.self.view_is)
     (deletes_done c.self.inside.parts c.self.invariant.0 c.args.name.now c.args.row.now c.in-Some.relation.at
     may.relation
-    c.deltas_exist.ensures c.heads_are_bound.ensures c.names_tell.ensures c.laws.ensures.names
+    c.deltas_exist.ensures c.heads_are_bound.ensures c.rows_by_name_or_place.ensures c.laws.ensures.names
     c.args.steps.now.listing c.drop_cells.new.steps.listing
     (record c.drop_cells.new.parts { seq = c.drop_cells.new.parts.seq + 1; affected = c.affect.new.affected })
-    c.age_readers.new.parts c.age_readers.ensures.logs c.age_readers.ensures.catalog
+    c.outdate_readers.new.parts c.outdate_readers.ensures.logs c.outdate_readers.ensures.catalog
     (alike_now c.self.inside.parts (record c.drop_cells.new.parts {
       seq = c.drop_cells.new.parts.seq + 1;
       affected = c.affect.new.affected;
-    }) c.age_readers.new.parts c.in-Some.relation.at c.args.name.now
+    }) c.outdate_readers.new.parts c.in-Some.relation.at c.args.name.now
     went.2.has.carries
     c.drop_cells.ensures.rest.watchers c.drop_cells.ensures.rest.order c.drop_cells.ensures.rest.long
-    c.age_readers.ensures)
-    (c.age_readers.ensures.rest.affected ∙ c.affect.ensures.items
+    c.outdate_readers.ensures)
+    (c.outdate_readers.ensures.rest.affected ∙ c.affect.ensures.items
     ∙ ap (λ (rs : List (List ℕ)). readers_at rs c.in-Some.relation.at) c.drop_cells.ensures.rest.readers)
     (subst (λ (o : DeleteOutcome). IfWent o
     (KeepsLogs (tells_at c.self.inside.parts c.in-Some.relation.at) c.self.inside.parts c.drop_cells.new.parts))
     c.in-Last.is c.drop_cells.ensures.quiet)
-    (told_drop c.showable_stays.ensures c.self.inside.parts c.drop_cells.new.parts c.age_readers.new.parts
-    c.in-Some.relation.at c.args.row.now went.2 c.age_readers.ensures.catalog c.self.invariant.1
+    (told_drop c.showable_stays.ensures c.self.inside.parts c.drop_cells.new.parts c.outdate_readers.new.parts
+    c.in-Some.relation.at c.args.row.now went.2 c.outdate_readers.ensures.catalog c.self.invariant.1
     (alike_now c.self.inside.parts (record c.drop_cells.new.parts {
       seq = c.drop_cells.new.parts.seq + 1;
       affected = c.affect.new.affected;
-    }) c.age_readers.new.parts c.in-Some.relation.at c.args.name.now
+    }) c.outdate_readers.new.parts c.in-Some.relation.at c.args.name.now
     went.2.has.carries
     c.drop_cells.ensures.rest.watchers c.drop_cells.ensures.rest.order c.drop_cells.ensures.rest.long
-    c.age_readers.ensures))
+    c.outdate_readers.ensures))
     ((subst (λ (o : DeleteOutcome). IfWent o
     ((r : Tuple) → StandForRow c.self.inside.parts.catalog c.in-Some.relation.at c.as_slice.result.now r
     → CountsRows c.in-Some.relation.at
@@ -264,7 +264,7 @@ returns-in_default-clause-updates g c =
 pub returns-clause-updates : goal.returns-clause-updates
 returns-clause-updates g c =
     let m = (subst (λ (j : Option RelationId). JudgesDelete c.self.inside.parts.catalog c.args.name.now c.args.row.now
-    c.self.inside.parts.seq c.judge_delete.new.cells j) c.in-Some.is c.in_ok-judged.ensures.ok) in
+    c.self.inside.parts.seq c.check_delete.new.cells j) c.in-Some.is c.in_ok-judged.ensures.ok) in
     rw (← c.self.view_is)
     (counts_updates c.self.inside.parts c.self.invariant.0 c.in-Some.relation.at m.relation.below c.args.name.now
     m.relation.named _ c.leaves_are_small.ensures
@@ -276,23 +276,23 @@ returns-clause-updates g c =
 pub invariant_of-self : goal.invariant_of-self
 invariant_of-self g c =
     let may = subst (λ (j : Option RelationId). JudgesDelete c.self.inside.parts.catalog c.args.name.now c.args.row.now
-    c.self.inside.parts.seq c.judge_delete.new.cells j) c.in-Some.is c.in_ok-judged.ensures.ok in
+    c.self.inside.parts.seq c.check_delete.new.cells j) c.in-Some.is c.in_ok-judged.ensures.ok in
     let gone = (subst (λ (o : DeleteOutcome). DeletesFrom c.in-Some.relation.at c.args.row.now c.self.inside.parts o
     c.drop_cells.new.parts) c.in-Left.is
     (c.drop_cells.ensures.deletes c.args.row.now
     (subst (λ (cells : List ℕ). StandForRow c.self.inside.parts.catalog c.in-Some.relation.at cells c.args.row.now)
     (sym c.as_slice.ensures)
     (stands c.self.inside.parts c.args.name.now c.args.row.now
-    (record { relation = c.in-Some.relation; cells = c.judge_delete.new.cells }) may)))) in
+    (record { relation = c.in-Some.relation; cells = c.check_delete.new.cells }) may)))) in
     let gone = (subst (λ (o : DeleteOutcome). DeletesFrom c.in-Some.relation.at c.args.row.now c.self.inside.parts o
     c.drop_cells.new.parts) c.in-Left.is
     (c.drop_cells.ensures.deletes c.args.row.now
     (subst (λ (cells : List ℕ). StandForRow c.self.inside.parts.catalog c.in-Some.relation.at cells c.args.row.now)
     (sym c.as_slice.ensures)
     (stands c.self.inside.parts c.args.name.now c.args.row.now
-    (record { relation = c.in-Some.relation; cells = c.judge_delete.new.cells })
+    (record { relation = c.in-Some.relation; cells = c.check_delete.new.cells })
     (subst (λ (j : Option RelationId). JudgesDelete c.self.inside.parts.catalog c.args.name.now c.args.row.now
-    c.self.inside.parts.seq c.judge_delete.new.cells j) c.in-Some.is c.in_ok-judged.ensures.ok))))) in (
+    c.self.inside.parts.seq c.check_delete.new.cells j) c.in-Some.is c.in_ok-judged.ensures.ok))))) in (
       copied_whole c.self.inside.parts c.drop_cells.new.parts c.in-Some.relation.at c.args.row.now c.in-Left.copies
           c.self.invariant.0 may.relation.below gone.3 c.drop_cells.ensures.rest,
       tended_still c.self.inside.parts c.drop_cells.new.parts c.self.invariant.1 c.drop_cells.ensures.rest
@@ -303,16 +303,16 @@ invariant_of-self g c =
 pub returns-in-Left-clause-deletes : goal.returns-in-Left-clause-deletes
 returns-in-Left-clause-deletes g c =
     let may = subst (λ (j : Option RelationId). JudgesDelete c.self.inside.parts.catalog c.args.name.now c.args.row.now
-    c.self.inside.parts.seq c.judge_delete.new.cells j) c.in-Some.is c.in_ok-judged.ensures.ok in
+    c.self.inside.parts.seq c.check_delete.new.cells j) c.in-Some.is c.in_ok-judged.ensures.ok in
     let gone = (subst (λ (o : DeleteOutcome). DeletesFrom c.in-Some.relation.at c.args.row.now c.self.inside.parts o
     c.drop_cells.new.parts) c.in-Left.is
     (c.drop_cells.ensures.deletes c.args.row.now
     (subst (λ (cells : List ℕ). StandForRow c.self.inside.parts.catalog c.in-Some.relation.at cells c.args.row.now)
     (sym c.as_slice.ensures)
     (stands c.self.inside.parts c.args.name.now c.args.row.now
-    (record { relation = c.in-Some.relation; cells = c.judge_delete.new.cells }) may)))) in
+    (record { relation = c.in-Some.relation; cells = c.check_delete.new.cells }) may)))) in
     rw (← c.self.view_is) (delete_one c.self.inside.parts c.args.name.now c.args.row.now
-    (record { relation = c.in-Some.relation; cells = c.judge_delete.new.cells }) may c.names_tell.ensures
+    (record { relation = c.in-Some.relation; cells = c.check_delete.new.cells }) may c.rows_by_name_or_place.ensures
     c.laws.ensures.names c.drop_cells.new.parts c.in-Left.copies gone c.drop_cells.ensures.rest.order
     c.drop_cells.ensures.rest.seq)
 
@@ -324,9 +324,9 @@ returns-in-Left-clause-outdates g c =
     (subst (λ (cells : List ℕ). StandForRow c.self.inside.parts.catalog c.in-Some.relation.at cells c.args.row.now)
     (sym c.as_slice.ensures)
     (stands c.self.inside.parts c.args.name.now c.args.row.now
-    (record { relation = c.in-Some.relation; cells = c.judge_delete.new.cells })
+    (record { relation = c.in-Some.relation; cells = c.check_delete.new.cells })
     (subst (λ (j : Option RelationId). JudgesDelete c.self.inside.parts.catalog c.args.name.now c.args.row.now
-    c.self.inside.parts.seq c.judge_delete.new.cells j) c.in-Some.is c.in_ok-judged.ensures.ok))))) in
+    c.self.inside.parts.seq c.check_delete.new.cells j) c.in-Some.is c.in_ok-judged.ensures.ok))))) in
     rw (← c.self.view_is)
     (copied_cursors c.self.inside.parts c.drop_cells.new.parts c.in-Some.relation.at c.args.row.now c.in-Left.copies
     gone.3)
@@ -339,9 +339,9 @@ returns-in-Left-clause-watches g c =
     (subst (λ (cells : List ℕ). StandForRow c.self.inside.parts.catalog c.in-Some.relation.at cells c.args.row.now)
     (sym c.as_slice.ensures)
     (stands c.self.inside.parts c.args.name.now c.args.row.now
-    (record { relation = c.in-Some.relation; cells = c.judge_delete.new.cells })
+    (record { relation = c.in-Some.relation; cells = c.check_delete.new.cells })
     (subst (λ (j : Option RelationId). JudgesDelete c.self.inside.parts.catalog c.args.name.now c.args.row.now
-    c.self.inside.parts.seq c.judge_delete.new.cells j) c.in-Some.is c.in_ok-judged.ensures.ok))))) in
+    c.self.inside.parts.seq c.check_delete.new.cells j) c.in-Some.is c.in_ok-judged.ensures.ok))))) in
     rw (← c.self.view_is)
     (registered_still c.self.inside.parts c.drop_cells.new.parts c.drop_cells.ensures.rest gone.3.queries)
 
@@ -353,9 +353,9 @@ returns-in-Left-clause-tells g c =
     (subst (λ (cells : List ℕ). StandForRow c.self.inside.parts.catalog c.in-Some.relation.at cells c.args.row.now)
     (sym c.as_slice.ensures)
     (stands c.self.inside.parts c.args.name.now c.args.row.now
-    (record { relation = c.in-Some.relation; cells = c.judge_delete.new.cells })
+    (record { relation = c.in-Some.relation; cells = c.check_delete.new.cells })
     (subst (λ (j : Option RelationId). JudgesDelete c.self.inside.parts.catalog c.args.name.now c.args.row.now
-    c.self.inside.parts.seq c.judge_delete.new.cells j) c.in-Some.is c.in_ok-judged.ensures.ok))))) in
+    c.self.inside.parts.seq c.check_delete.new.cells j) c.in-Some.is c.in_ok-judged.ensures.ok))))) in
     rw (← c.self.view_is)
     (tells_nothing (kept_in c.self.inside.parts) (kept_in c.drop_cells.new.parts) c.args.steps.now.listing
     c.drop_cells.new.steps.listing
@@ -378,9 +378,9 @@ invariant_of-self-in-Absent g c =
     (subst (λ (cells : List ℕ). StandForRow c.self.inside.parts.catalog c.in-Some.relation.at cells c.args.row.now)
     (sym c.as_slice.ensures)
     (stands c.self.inside.parts c.args.name.now c.args.row.now
-    (record { relation = c.in-Some.relation; cells = c.judge_delete.new.cells })
+    (record { relation = c.in-Some.relation; cells = c.check_delete.new.cells })
     (subst (λ (j : Option RelationId). JudgesDelete c.self.inside.parts.catalog c.args.name.now c.args.row.now
-    c.self.inside.parts.seq c.judge_delete.new.cells j) c.in-Some.is c.in_ok-judged.ensures.ok))))) in (
+    c.self.inside.parts.seq c.check_delete.new.cells j) c.in-Some.is c.in_ok-judged.ensures.ok))))) in (
       same_whole c.self.inside.parts c.drop_cells.new.parts c.self.invariant.0 gone.1 gone.2 c.drop_cells.ensures.rest,
       tended_still c.self.inside.parts c.drop_cells.new.parts c.self.invariant.1 c.drop_cells.ensures.rest gone.2
           c.drop_cells.ensures.shown,
@@ -389,16 +389,16 @@ invariant_of-self-in-Absent g c =
 pub returns-in-Absent-clause-deletes : goal.returns-in-Absent-clause-deletes
 returns-in-Absent-clause-deletes g c =
     let may = subst (λ (j : Option RelationId). JudgesDelete c.self.inside.parts.catalog c.args.name.now c.args.row.now
-    c.self.inside.parts.seq c.judge_delete.new.cells j) c.in-Some.is c.in_ok-judged.ensures.ok in
+    c.self.inside.parts.seq c.check_delete.new.cells j) c.in-Some.is c.in_ok-judged.ensures.ok in
     let gone = (subst (λ (o : DeleteOutcome). DeletesFrom c.in-Some.relation.at c.args.row.now c.self.inside.parts o
     c.drop_cells.new.parts) c.in-Absent.is
     (c.drop_cells.ensures.deletes c.args.row.now
     (subst (λ (cells : List ℕ). StandForRow c.self.inside.parts.catalog c.in-Some.relation.at cells c.args.row.now)
     (sym c.as_slice.ensures)
     (stands c.self.inside.parts c.args.name.now c.args.row.now
-    (record { relation = c.in-Some.relation; cells = c.judge_delete.new.cells }) may)))) in
+    (record { relation = c.in-Some.relation; cells = c.check_delete.new.cells }) may)))) in
     rw (← c.self.view_is) (delete_none c.self.inside.parts c.args.name.now c.args.row.now
-    (record { relation = c.in-Some.relation; cells = c.judge_delete.new.cells }) may c.drop_cells.new.parts gone
+    (record { relation = c.in-Some.relation; cells = c.check_delete.new.cells }) may c.drop_cells.new.parts gone
     c.drop_cells.ensures.rest.order c.drop_cells.ensures.rest.seq)
 
 pub returns-in-Absent-clause-outdates : goal.returns-in-Absent-clause-outdates
@@ -409,9 +409,9 @@ returns-in-Absent-clause-outdates g c =
     (subst (λ (cells : List ℕ). StandForRow c.self.inside.parts.catalog c.in-Some.relation.at cells c.args.row.now)
     (sym c.as_slice.ensures)
     (stands c.self.inside.parts c.args.name.now c.args.row.now
-    (record { relation = c.in-Some.relation; cells = c.judge_delete.new.cells })
+    (record { relation = c.in-Some.relation; cells = c.check_delete.new.cells })
     (subst (λ (j : Option RelationId). JudgesDelete c.self.inside.parts.catalog c.args.name.now c.args.row.now
-    c.self.inside.parts.seq c.judge_delete.new.cells j) c.in-Some.is c.in_ok-judged.ensures.ok))))) in
+    c.self.inside.parts.seq c.check_delete.new.cells j) c.in-Some.is c.in_ok-judged.ensures.ok))))) in
     rw (← c.self.view_is)
     (λ id. ap₂ (λ (x : Catalog) (qs : List (Option Live)). held_at (held_from x.texts zero qs) id) gone.1 gone.2)
 
@@ -423,9 +423,9 @@ returns-in-Absent-clause-watches g c =
     (subst (λ (cells : List ℕ). StandForRow c.self.inside.parts.catalog c.in-Some.relation.at cells c.args.row.now)
     (sym c.as_slice.ensures)
     (stands c.self.inside.parts c.args.name.now c.args.row.now
-    (record { relation = c.in-Some.relation; cells = c.judge_delete.new.cells })
+    (record { relation = c.in-Some.relation; cells = c.check_delete.new.cells })
     (subst (λ (j : Option RelationId). JudgesDelete c.self.inside.parts.catalog c.args.name.now c.args.row.now
-    c.self.inside.parts.seq c.judge_delete.new.cells j) c.in-Some.is c.in_ok-judged.ensures.ok))))) in
+    c.self.inside.parts.seq c.check_delete.new.cells j) c.in-Some.is c.in_ok-judged.ensures.ok))))) in
     rw (← c.self.view_is) (registered_still c.self.inside.parts c.drop_cells.new.parts c.drop_cells.ensures.rest gone.2)
 
 pub returns-in-Absent-clause-tells : goal.returns-in-Absent-clause-tells
@@ -436,9 +436,9 @@ returns-in-Absent-clause-tells g c =
     (subst (λ (cells : List ℕ). StandForRow c.self.inside.parts.catalog c.in-Some.relation.at cells c.args.row.now)
     (sym c.as_slice.ensures)
     (stands c.self.inside.parts c.args.name.now c.args.row.now
-    (record { relation = c.in-Some.relation; cells = c.judge_delete.new.cells })
+    (record { relation = c.in-Some.relation; cells = c.check_delete.new.cells })
     (subst (λ (j : Option RelationId). JudgesDelete c.self.inside.parts.catalog c.args.name.now c.args.row.now
-    c.self.inside.parts.seq c.judge_delete.new.cells j) c.in-Some.is c.in_ok-judged.ensures.ok))))) in
+    c.self.inside.parts.seq c.check_delete.new.cells j) c.in-Some.is c.in_ok-judged.ensures.ok))))) in
     rw (← c.self.view_is)
     (tells_nothing (kept_in c.self.inside.parts) (kept_in c.drop_cells.new.parts) c.args.steps.now.listing
     c.drop_cells.new.steps.listing
@@ -459,7 +459,7 @@ returns-in-Left-clause-unlisted g c =
     rw (← c.self.view_is)
     (λ none. let may = subst (λ (j : Option RelationId). JudgesDelete c.self.inside.parts.catalog c.args.name.now
     c.args.row.now
-    c.self.inside.parts.seq c.judge_delete.new.cells j) c.in-Some.is c.in_ok-judged.ensures.ok in
+    c.self.inside.parts.seq c.check_delete.new.cells j) c.in-Some.is c.in_ok-judged.ensures.ok in
     c.drop_cells.ensures.unlisted
     (unwatched_readers c.self.inside.parts.catalog c.self.inside.parts.queries.items c.self.inside.parts.order
     c.self.inside.parts.readers.items c.self.inside.parts.watchers.items c.self.invariant.0
@@ -470,7 +470,7 @@ returns-in-Absent-clause-unlisted g c =
     rw (← c.self.view_is)
     (λ none. let may = subst (λ (j : Option RelationId). JudgesDelete c.self.inside.parts.catalog c.args.name.now
     c.args.row.now
-    c.self.inside.parts.seq c.judge_delete.new.cells j) c.in-Some.is c.in_ok-judged.ensures.ok in
+    c.self.inside.parts.seq c.check_delete.new.cells j) c.in-Some.is c.in_ok-judged.ensures.ok in
     c.drop_cells.ensures.unlisted
     (unwatched_readers c.self.inside.parts.catalog c.self.inside.parts.queries.items c.self.inside.parts.order
     c.self.inside.parts.readers.items c.self.inside.parts.watchers.items c.self.invariant.0
@@ -481,7 +481,7 @@ returns-clause-unlisted g c =
     rw (← c.self.view_is)
     (λ none. let may = subst (λ (j : Option RelationId). JudgesDelete c.self.inside.parts.catalog c.args.name.now
     c.args.row.now
-    c.self.inside.parts.seq c.judge_delete.new.cells j) c.in-Some.is c.in_ok-judged.ensures.ok in
+    c.self.inside.parts.seq c.check_delete.new.cells j) c.in-Some.is c.in_ok-judged.ensures.ok in
     c.drop_cells.ensures.unlisted
     (unwatched_readers c.self.inside.parts.catalog c.self.inside.parts.queries.items c.self.inside.parts.order
     c.self.inside.parts.readers.items c.self.inside.parts.watchers.items c.self.invariant.0
@@ -490,7 +490,7 @@ returns-clause-unlisted g c =
 pub affect-requires-clause-within : goal.affect-requires-clause-within
 affect-requires-clause-within g c =
     let may = subst (λ (j : Option RelationId). JudgesDelete c.self.inside.parts.catalog c.args.name.now c.args.row.now
-    c.self.inside.parts.seq c.judge_delete.new.cells j) c.in-Some.is c.in_ok-judged.ensures.ok in
+    c.self.inside.parts.seq c.check_delete.new.cells j) c.in-Some.is c.in_ok-judged.ensures.ok in
     readers_within c.self.inside.parts c.drop_cells.new.parts c.self.invariant.0 c.in-Some.relation.at
     may.relation.below
     c.drop_cells.ensures.rest.readers
@@ -498,7 +498,7 @@ affect-requires-clause-within g c =
 pub affect-requires-clause-room : goal.affect-requires-clause-room
 affect-requires-clause-room g c =
     let may = subst (λ (j : Option RelationId). JudgesDelete c.self.inside.parts.catalog c.args.name.now c.args.row.now
-    c.self.inside.parts.seq c.judge_delete.new.cells j) c.in-Some.is c.in_ok-judged.ensures.ok in
+    c.self.inside.parts.seq c.check_delete.new.cells j) c.in-Some.is c.in_ok-judged.ensures.ok in
     readers_few c.self.inside.parts c.drop_cells.new.parts c.self.invariant.0 c.in-Some.relation.at may.relation.below
     c.drop_cells.ensures.rest c.self.invariant.1
 
@@ -519,9 +519,9 @@ returns-in-Left-clause-places g c =
     (subst (λ (cells : List ℕ). StandForRow c.self.inside.parts.catalog c.in-Some.relation.at cells c.args.row.now)
     (sym c.as_slice.ensures)
     (stands c.self.inside.parts c.args.name.now c.args.row.now
-    (record { relation = c.in-Some.relation; cells = c.judge_delete.new.cells })
+    (record { relation = c.in-Some.relation; cells = c.check_delete.new.cells })
     (subst (λ (j : Option RelationId). JudgesDelete c.self.inside.parts.catalog c.args.name.now c.args.row.now
-    c.self.inside.parts.seq c.judge_delete.new.cells j) c.in-Some.is c.in_ok-judged.ensures.ok))))) in
+    c.self.inside.parts.seq c.check_delete.new.cells j) c.in-Some.is c.in_ok-judged.ensures.ok))))) in
     rw (← c.self.view_is)
     (keeps_equal _ c.self.inside.parts.queries.items c.drop_cells.new.parts.queries.items gone.3.queries)
 
@@ -533,25 +533,25 @@ returns-in-Absent-clause-places g c =
     (subst (λ (cells : List ℕ). StandForRow c.self.inside.parts.catalog c.in-Some.relation.at cells c.args.row.now)
     (sym c.as_slice.ensures)
     (stands c.self.inside.parts c.args.name.now c.args.row.now
-    (record { relation = c.in-Some.relation; cells = c.judge_delete.new.cells })
+    (record { relation = c.in-Some.relation; cells = c.check_delete.new.cells })
     (subst (λ (j : Option RelationId). JudgesDelete c.self.inside.parts.catalog c.args.name.now c.args.row.now
-    c.self.inside.parts.seq c.judge_delete.new.cells j) c.in-Some.is c.in_ok-judged.ensures.ok))))) in
+    c.self.inside.parts.seq c.check_delete.new.cells j) c.in-Some.is c.in_ok-judged.ensures.ok))))) in
     rw (← c.self.view_is) (keeps_equal _ c.self.inside.parts.queries.items c.drop_cells.new.parts.queries.items gone.2)
 
 pub returns-clause-places : goal.returns-clause-places
 returns-clause-places g c =
     let may = subst (λ (j : Option RelationId). JudgesDelete c.self.inside.parts.catalog c.args.name.now c.args.row.now
-    c.self.inside.parts.seq c.judge_delete.new.cells j) c.in-Some.is c.in_ok-judged.ensures.ok in
+    c.self.inside.parts.seq c.check_delete.new.cells j) c.in-Some.is c.in_ok-judged.ensures.ok in
     let stand = subst (λ (cells : List ℕ). StandForRow c.self.inside.parts.catalog c.in-Some.relation.at cells
     c.args.row.now) (sym c.as_slice.ensures)
     (stands c.self.inside.parts c.args.name.now c.args.row.now
-    (record { relation = c.in-Some.relation; cells = c.judge_delete.new.cells }) may) in
+    (record { relation = c.in-Some.relation; cells = c.check_delete.new.cells }) may) in
     let went = subst (λ (o : DeleteOutcome). DeletesFrom c.in-Some.relation.at c.args.row.now c.self.inside.parts o
     c.drop_cells.new.parts) c.in-Last.is (c.drop_cells.ensures.deletes c.args.row.now stand) in
     rw (← c.self.view_is) (keeps_changed c.self.inside.parts
     (record c.drop_cells.new.parts { seq = c.drop_cells.new.parts.seq + 1; affected = c.affect.new.affected })
-    c.age_readers.new.parts c.self.invariant.0
+    c.outdate_readers.new.parts c.self.invariant.0
     c.in-Some.relation.at c.args.name.now
     (row_out c.self.inside.parts.catalog.relations c.args.name.now c.args.row.now).after may.relation.below
     may.relation.named went.2.has.carries
-    c.drop_cells.ensures.rest.readers c.age_readers.ensures)
+    c.drop_cells.ensures.rest.readers c.outdate_readers.ensures)

@@ -12,8 +12,8 @@ use Rattle.djq_live.proofs.Living.{
 }
 use Rattle.djq_live.proofs.live.LiveQuery.delete.Goals as goal
 
-pub take_from_leaves-requires-clause-leaves : goal.take_from_leaves-requires-clause-leaves
-take_from_leaves-requires-clause-leaves g c =
+pub delete_from_leaves-requires-clause-leaves : goal.delete_from_leaves-requires-clause-leaves
+delete_from_leaves-requires-clause-leaves g c =
     let l : Live = record {
       query = c.self.inside.query;
       numbered = c.self.inside.numbered;
@@ -25,11 +25,11 @@ take_from_leaves-requires-clause-leaves g c =
     c.as_slice-patterns.result.now c.atoms-atoms.ensures c.as_slice-patterns.ensures.value
     (can_delete l c.args.self.now c.args.relation.at c.args.cells.now c.self.view_is c.requires)
 
-pub take_from_leaves-requires-clause-end : goal.take_from_leaves-requires-clause-end
-take_from_leaves-requires-clause-end g c = omega arith
+pub delete_from_leaves-requires-clause-end : goal.delete_from_leaves-requires-clause-end
+delete_from_leaves-requires-clause-end g c = omega arith
 
-pub take_from_leaves-requires-clause-there : goal.take_from_leaves-requires-clause-there
-take_from_leaves-requires-clause-there g c =
+pub delete_from_leaves-requires-clause-there : goal.delete_from_leaves-requires-clause-there
+delete_from_leaves-requires-clause-there g c =
     let l : Live = record {
       query = c.self.inside.query;
       numbered = c.self.inside.numbered;
@@ -41,8 +41,8 @@ take_from_leaves-requires-clause-there g c =
     c.as_slice-patterns.result.now c.atoms-atoms.ensures c.as_slice-patterns.ensures.value
     (can_delete l c.args.self.now c.args.relation.at c.args.cells.now c.self.view_is c.requires)
 
-pub take_from_leaves-requires-clause-bare : goal.take_from_leaves-requires-clause-bare
-take_from_leaves-requires-clause-bare g c =
+pub delete_from_leaves-requires-clause-bare : goal.delete_from_leaves-requires-clause-bare
+delete_from_leaves-requires-clause-bare g c =
     let l : Live = record {
       query = c.self.inside.query;
       numbered = c.self.inside.numbered;
@@ -62,9 +62,9 @@ returns-clause-deleted g c =
       reducts = c.self.inside.reducts;
       cursors = c.self.inside.cursors;
     } in
-    follows_went l c.args.self.now c.take_from_leaves.new.reducts c.args.relation.at
+    follows_went l c.args.self.now c.delete_from_leaves.new.reducts c.args.relation.at
     c.args.cells.now c.atoms-atoms.result.now c.as_slice-patterns.result.now c.self.view_is
-    c.atoms-atoms.ensures c.as_slice-patterns.ensures.value c.take_from_leaves.ensures.lost
+    c.atoms-atoms.ensures c.as_slice-patterns.ensures.value c.delete_from_leaves.ensures.lost
 
 pub returns-clause-same : goal.returns-clause-same
 returns-clause-same g c =
@@ -75,8 +75,8 @@ returns-clause-same g c =
       reducts = c.self.inside.reducts;
       cursors = c.self.inside.cursors;
     } in
-    same_query l c.args.self.now c.take_from_leaves.new.reducts c.self.view_is
-    c.take_from_leaves.ensures.lost.tree
+    same_query l c.args.self.now c.delete_from_leaves.new.reducts c.self.view_is
+    c.delete_from_leaves.ensures.lost.tree
 
 pub returns-clause-log : goal.returns-clause-log
 returns-clause-log g c =
@@ -87,12 +87,12 @@ returns-clause-log g c =
       reducts = c.self.inside.reducts;
       cursors = c.self.inside.cursors;
     } in
-    logs_went c.args.wanted l c.args.self.now c.take_from_leaves.new.reducts c.args.relation.at
+    logs_went c.args.wanted l c.args.self.now c.delete_from_leaves.new.reducts c.args.relation.at
     c.args.cells.now c.atoms-atoms.result.now c.as_slice-patterns.result.now
-    (length c.self.inside.reducts.tree.head) _ c.args.log.now c.take_from_leaves.new.log
-    c.args.steps.now.listing c.take_from_leaves.new.steps.listing c.self.view_is
-    c.atoms-atoms.ensures c.as_slice-patterns.ensures.value c.take_from_leaves.ensures.fewer
-    c.take_from_leaves.ensures.lost c.take_from_leaves.ensures.listed
+    (length c.self.inside.reducts.tree.head) _ c.args.log.now c.delete_from_leaves.new.log
+    c.args.steps.now.listing c.delete_from_leaves.new.steps.listing c.self.view_is
+    c.atoms-atoms.ensures c.as_slice-patterns.ensures.value c.delete_from_leaves.ensures.fewer
+    c.delete_from_leaves.ensures.lost c.delete_from_leaves.ensures.listed
 
 pub returns-clause-counted : goal.returns-clause-counted
 returns-clause-counted g c =
@@ -103,12 +103,12 @@ returns-clause-counted g c =
       reducts = c.self.inside.reducts;
       cursors = c.self.inside.cursors;
     } in
-    counts_went c.args.wanted l c.args.self.now c.take_from_leaves.new.reducts
+    counts_went c.args.wanted l c.args.self.now c.delete_from_leaves.new.reducts
     c.args.relation.at c.args.cells.now c.atoms-atoms.result.now c.as_slice-patterns.result.now
-    c.args.log.now c.take_from_leaves.new.log c.args.steps.now.listing
-    c.take_from_leaves.new.steps.listing c.self.view_is c.atoms-atoms.ensures
-    c.as_slice-patterns.ensures.value c.take_from_leaves.ensures.fewer
-    c.take_from_leaves.ensures.lost c.take_from_leaves.ensures.listed
+    c.args.log.now c.delete_from_leaves.new.log c.args.steps.now.listing
+    c.delete_from_leaves.new.steps.listing c.self.view_is c.atoms-atoms.ensures
+    c.as_slice-patterns.ensures.value c.delete_from_leaves.ensures.fewer
+    c.delete_from_leaves.ensures.lost c.delete_from_leaves.ensures.listed
 
 pub returns-clause-updates : goal.returns-clause-updates
 returns-clause-updates g c =
@@ -122,8 +122,8 @@ returns-clause-updates g c =
     let can = can_delete l c.args.self.now c.args.relation.at c.args.cells.now c.self.view_is
     c.requires in
     counts_all l c.args.self.now c.args.relation.at c.atoms-atoms.result.now
-    (length c.atoms-atoms.result.now) c.args.steps.now.update c.take_from_leaves.new.steps.update
-    c.self.view_is c.atoms-atoms.ensures (can.before, can.kept) c.take_from_leaves.ensures.updates
+    (length c.atoms-atoms.result.now) c.args.steps.now.update c.delete_from_leaves.new.steps.update
+    c.self.view_is c.atoms-atoms.ensures (can.before, can.kept) c.delete_from_leaves.ensures.updates
 
 pub returns-clause-flat : goal.returns-clause-flat
 returns-clause-flat g c =
@@ -137,5 +137,5 @@ returns-clause-flat g c =
     let can = can_delete l c.args.self.now c.args.relation.at c.args.cells.now c.self.view_is
     c.requires in
     counts_flat l c.args.self.now c.args.relation.at c.atoms-atoms.result.now
-    (length c.atoms-atoms.result.now) c.args.steps.now.update c.take_from_leaves.new.steps.update
-    c.self.view_is c.atoms-atoms.ensures (can.before, can.kept) c.take_from_leaves.ensures.updates
+    (length c.atoms-atoms.result.now) c.args.steps.now.update c.delete_from_leaves.new.steps.update
+    c.self.view_is c.atoms-atoms.ensures (can.before, can.kept) c.delete_from_leaves.ensures.updates

@@ -3,18 +3,18 @@ use Rattle.djq_live.proofs.Advancing.{more_gives, slot_fits}
 use Rattle.djq_live.proofs.Asking.{narrow}
 use Rattle.djq_live.proofs.live.LiveQuery.more.Goals as goal
 
-pub look-requires-clause-fits : goal.look-requires-clause-fits
-look-requires-clause-fits g c =
+pub has_more-requires-clause-fits : goal.has_more-requires-clause-fits
+has_more-requires-clause-fits g c =
     slot_fits _ c.args.self.now c.args.slot _ c.self.view_is c.requires.fits
     c.progress_mut.ensures.value
 
 pub returns-clause-gives : goal.returns-clause-gives
 returns-clause-gives g c cat live =
-    more_gives cat _ c.args.self.now c.args.slot _ _ c.look.result c.self.view_is live
-    c.progress_mut.ensures.value c.look.ensures.looks
+    more_gives cat _ c.args.self.now c.args.slot _ _ c.has_more.result c.self.view_is live
+    c.progress_mut.ensures.value c.has_more.ensures.looks
 
 pub returns-clause-counted : goal.returns-clause-counted
 returns-clause-counted g c cat live =
     let short = narrow cat _ c.args.self.now c.self.view_is live in
-    let counted = c.look.ensures.counted in
+    let counted = c.has_more.ensures.counted in
     omega arith

@@ -1,13 +1,13 @@
 use Rattle.djq_united.proofs.Advancing.{fits_seen, more_seen}
 use Rattle.djq_united.proofs.union.LiveUnion.more.Goals as goal
 
-pub look-requires-clause-fits : goal.look-requires-clause-fits
-look-requires-clause-fits g c =
+pub has_more-requires-clause-fits : goal.has_more-requires-clause-fits
+has_more-requires-clause-fits g c =
     fits_seen c.args.queries.now _ c.args.self.now c.as_slice-members.result.now c.args.slot _
     c.self.view_is c.as_slice-members.ensures c.requires.united c.progress_mut-progress.ensures.value
 
 pub returns-clause-gives : goal.returns-clause-gives
 returns-clause-gives g c = λ d kept.
     more_seen d c.args.queries.now _ c.args.self.now c.as_slice-members.result.now c.args.slot _ _
-    c.look.result c.self.view_is c.as_slice-members.ensures kept c.requires.united
-    c.progress_mut-progress.ensures.value c.look.ensures.looks
+    c.has_more.result c.self.view_is c.as_slice-members.ensures kept c.requires.united
+    c.progress_mut-progress.ensures.value c.has_more.ensures.looks
