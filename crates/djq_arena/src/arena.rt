@@ -1,4 +1,5 @@
-ghost use Rattle.std.specs.Prelude.{◌≡◌, ◌↔◌, IsTrue, ℕ, ◌+◌, ◌<◌, ◌≤◌, ◌==◌, max, List, [], ◌∷◌, ◌++◌, length, IfOk, OnErr, MatchOption};
+ghost use Rattle.std.specs.Prelude.{◌≡◌, ◌↔◌, IsTrue, ℕ, ◌+◌, ◌<◌, ◌≤◌, ◌==◌, max, List, [], ◌∷◌};
+ghost use Rattle.std.specs.Prelude.{◌++◌, length, IfOk, OnErr, MatchOption};
 ghost use Rattle.djq_arena.specs.Chains.{first_of, last_of};
 ghost use Rattle.djq_arena.specs.Rows.{Row, slots, IsAbsent, IsRow, IsHeld, IsFull, AreRows};
 ghost use Rattle.djq_arena.specs.Store.{hash};
@@ -100,7 +101,8 @@ impl Arena {
     pub fn push(&mut self, cells: &[u64]) -> Result<u32, AllocError>
         requires wide { length cells.now ≡ self.old.width }
         requires few { length self.old.rows < 4294967295 }
-        ensures pushed { IfOk result (λ slot. self.new.rows ≡ self.old.rows ++ record { slot = slot; cells = cells.now } ∷ []) }
+        ensures pushed { IfOk result (λ slot. self.new.rows ≡ self.old.rows
+            ++ record { slot = slot; cells = cells.now } ∷ []) }
         ensures room { IfOk result (λ slot. self.new.room ≡ max self.old.room (slot + 1)) }
         ensures slot { IfOk result (λ slot. slot ≤ self.old.room) }
         ensures reused { IfOk result (λ slot. ¬ IsFull self.old → slot < self.old.room) }
@@ -116,7 +118,8 @@ impl Arena {
         requires wide { length cells.now ≡ self.old.width }
         requires coded { code ≡ hash cells.now }
         requires few { length self.old.rows < 4294967295 }
-        ensures pushed { IfOk result (λ slot. self.new.rows ≡ self.old.rows ++ record { slot = slot; cells = cells.now } ∷ []) }
+        ensures pushed { IfOk result (λ slot. self.new.rows ≡ self.old.rows
+            ++ record { slot = slot; cells = cells.now } ∷ []) }
         ensures room { IfOk result (λ slot. self.new.room ≡ max self.old.room (slot + 1)) }
         ensures slot { IfOk result (λ slot. slot ≤ self.old.room) }
         ensures reused { IfOk result (λ slot. ¬ IsFull self.old → slot < self.old.room) }
@@ -130,7 +133,8 @@ impl Arena {
     /// Takes the row in a slot out.
     pub fn remove(&mut self, slot: u32)
         requires { IsHeld self.old.rows slot }
-        ensures removed { (xs : List Row) (r : Row) (ys : List Row) → self.old.rows ≡ xs ++ r ∷ ys → r.slot ≡ slot → self.new.rows ≡ xs ++ ys }
+        ensures removed { (xs : List Row) (r : Row) (ys : List Row) → self.old.rows ≡ xs ++ r ∷ ys
+            → r.slot ≡ slot → self.new.rows ≡ xs ++ ys }
         ensures room { self.new.room ≡ self.old.room }
         ensures width { self.new.width ≡ self.old.width }
     {
@@ -140,7 +144,8 @@ impl Arena {
     /// Puts the row in a slot behind all others. It keeps its slot.
     pub fn renew(&mut self, slot: u32)
         requires { IsHeld self.old.rows slot }
-        ensures renewed { (xs : List Row) (r : Row) (ys : List Row) → self.old.rows ≡ xs ++ r ∷ ys → r.slot ≡ slot → self.new.rows ≡ (xs ++ ys) ++ r ∷ [] }
+        ensures renewed { (xs : List Row) (r : Row) (ys : List Row) → self.old.rows ≡ xs ++ r ∷ ys
+            → r.slot ≡ slot → self.new.rows ≡ (xs ++ ys) ++ r ∷ [] }
         ensures room { self.new.room ≡ self.old.room }
         ensures width { self.new.width ≡ self.old.width }
     {
@@ -150,7 +155,8 @@ impl Arena {
     /// The cells of the row in a slot.
     pub fn cells(&self, slot: u32) -> &[u64]
         requires { IsHeld self.now.rows slot }
-        ensures { (xs : List Row) (r : Row) (ys : List Row) → self.now.rows ≡ xs ++ r ∷ ys → r.slot ≡ slot → result.now ≡ r.cells }
+        ensures { (xs : List Row) (r : Row) (ys : List Row) → self.now.rows ≡ xs ++ r ∷ ys
+            → r.slot ≡ slot → result.now ≡ r.cells }
     {
         cells_of(&self.store, slot)
     }
@@ -172,7 +178,8 @@ impl Arena {
     /// The slot of the row that came next after the one in a slot.
     pub fn next(&self, slot: u32) -> Option<u32>
         requires { IsHeld self.now.rows slot }
-        ensures { (xs : List Row) (r : Row) (ys : List Row) → self.now.rows ≡ xs ++ r ∷ ys → r.slot ≡ slot → result ≡ first_of (slots ys) }
+        ensures { (xs : List Row) (r : Row) (ys : List Row) → self.now.rows ≡ xs ++ r ∷ ys
+            → r.slot ≡ slot → result ≡ first_of (slots ys) }
     {
         pair_of(&self.store.order, slot).next.get()
     }
@@ -180,7 +187,8 @@ impl Arena {
     /// The slot of the row that came before the one in a slot.
     pub fn prev(&self, slot: u32) -> Option<u32>
         requires { IsHeld self.now.rows slot }
-        ensures { (xs : List Row) (r : Row) (ys : List Row) → self.now.rows ≡ xs ++ r ∷ ys → r.slot ≡ slot → result ≡ last_of (slots xs) }
+        ensures { (xs : List Row) (r : Row) (ys : List Row) → self.now.rows ≡ xs ++ r ∷ ys
+            → r.slot ≡ slot → result ≡ last_of (slots xs) }
     {
         pair_of(&self.store.order, slot).prev.get()
     }

@@ -1,9 +1,14 @@
-ghost use Rattle.std.specs.Prelude.{◌≡◌, ◌≢◌, ◌+◌, ◌*◌, ◌<◌, ◌≤◌, ◌++◌, [], length, take, drop, Some, None, ℕ, IfOk, OnErr, slice_set, replicate, IsTrue, ◌↔◌, MatchOption, List, vec_len, vec_capacity};
+ghost use Rattle.std.specs.Prelude.{◌≡◌, ◌≢◌, ◌+◌, ◌*◌, ◌<◌, ◌≤◌, ◌++◌, [], length, take, drop};
+ghost use Rattle.std.specs.Prelude.{Some, None, ℕ, IfOk, OnErr, slice_set, replicate, IsTrue, ◌↔◌};
+ghost use Rattle.std.specs.Prelude.{MatchOption, List, vec_len, vec_capacity};
 ghost use Rattle.djq_arena.specs.Rows.{slots, IsAbsent, IsRow};
-ghost use Rattle.djq_arena.specs.Store.{mixed, hash, class, cells_at, AreListed, IsPrepared, IsPut, IsTaken, IsRenewed, IsSound, IsLoose, IsLinked, IsUnlinked, IsSame, IsReleased, IsTidy, HasRoom, Holds, live_of, rows_of};
+ghost use Rattle.djq_arena.specs.Store.{mixed, hash, class, cells_at, AreListed, IsPrepared, IsPut};
+ghost use Rattle.djq_arena.specs.Store.{IsTaken, IsRenewed, IsSound, IsLoose, IsLinked, IsUnlinked};
+ghost use Rattle.djq_arena.specs.Store.{IsSame, IsReleased, IsTidy, HasRoom, Holds, live_of};
+ghost use Rattle.djq_arena.specs.Store.{rows_of};
 ghost use Rattle.djq_arena.specs.Buckets.{link_at, Stands, IsBehind, IsUnlisted};
 
-use crate::chain::{Ends, Pair, enter, follow, ends_after_push, leave, pair_of};
+use crate::chain::{Ends, Pair, ends_after_push, enter, follow, leave, pair_of};
 use crate::link::Link;
 use std::alloc::{AllocError, Global};
 
@@ -97,7 +102,8 @@ fn bucket_at(store: &Store, slot: u32) -> usize
     requires cells { length store.now.cells.items ≡ length store.now.order.items * store.now.width }
     requires slot { slot < length store.now.order.items }
     requires some { 0 < length store.now.heads.items }
-    ensures class { result ≡ class (length store.now.heads.items) (cells_at store.now.width store.now.cells.items slot) }
+    ensures class { result ≡ class (length store.now.heads.items)
+        (cells_at store.now.width store.now.cells.items slot) }
     ensures within { result < length store.now.heads.items }
 {
     bucket_in(store, hash_of(cells_of(store, slot)))
@@ -149,7 +155,8 @@ fn link_of(links: &Vec<Link>, at: usize) -> Link
 /// The head of the bucket that a row with this hash is in.
 fn head_of(store: &Store, code: u64) -> Link
     requires { 0 < length store.now.heads.items }
-    ensures { (u : List ℕ) → code ≡ hash u → result ≡ link_at store.now.heads.items (class (length store.now.heads.items) u) }
+    ensures { (u : List ℕ) → code ≡ hash u → result ≡ link_at store.now.heads.items
+        (class (length store.now.heads.items) u) }
 {
     link_of(&store.heads, bucket_in(store, code))
 }
@@ -160,7 +167,8 @@ fn head_of(store: &Store, code: u64) -> Link
 fn find_from(store: &Store, head: Link, cells: &[u64]) -> Option<u32>
     requires sound { IsSound store.now }
     requires head { head ≡ link_at store.now.heads.items (class (length store.now.heads.items) cells.now) }
-    ensures { MatchOption result (IsAbsent (rows_of store.now) cells.now) (λ slot. IsRow (rows_of store.now) slot cells.now) }
+    ensures { MatchOption result (IsAbsent (rows_of store.now) cells.now)
+        (λ slot. IsRow (rows_of store.now) slot cells.now) }
 {
     let mut at = head;
     while let Some(slot) = at.get() {
@@ -177,7 +185,8 @@ fn find_from(store: &Store, head: Link, cells: &[u64]) -> Option<u32>
 fn find_any(store: &Store, head: Link, cells: &[u64]) -> Option<u32>
     requires sound { IsSound store.now }
     requires head { head ≡ link_at store.now.heads.items (class (length store.now.heads.items) cells.now) }
-    ensures { MatchOption result (IsAbsent (rows_of store.now) cells.now) (λ slot. IsRow (rows_of store.now) slot cells.now) }
+    ensures { MatchOption result (IsAbsent (rows_of store.now) cells.now)
+        (λ slot. IsRow (rows_of store.now) slot cells.now) }
 {
     find_from(store, head, cells)
 }
@@ -186,7 +195,8 @@ fn find_any(store: &Store, head: Link, cells: &[u64]) -> Option<u32>
 pub fn find(store: &Store, cells: &[u64], code: u64) -> Option<u32>
     requires sound { IsSound store.now }
     requires coded { code ≡ hash cells.now }
-    ensures { MatchOption result (IsAbsent (rows_of store.now) cells.now) (λ slot. IsRow (rows_of store.now) slot cells.now) }
+    ensures { MatchOption result (IsAbsent (rows_of store.now) cells.now)
+        (λ slot. IsRow (rows_of store.now) slot cells.now) }
 {
     let head = head_of(store, code);
     match cells {

@@ -37,9 +37,9 @@ use Rattle.djq_index.specs.declared.place.Place.{Place}
 use Rattle.djq_index.specs.Tuple.{same, pick, one}
 use Rattle.djq_index.specs.Entries.{
   Entry,
-  cnt,
-  many,
-  grp,
+  count_of,
+  group_size,
+  group_of,
   marks,
   plain,
   is_marked,
@@ -91,51 +91,51 @@ unfolding plain
 plain_nil = refl
 
 plain_grp : (key : List ℕ) (es : List Entry) (w : List ℕ)
-    → plain (grp key es w) ≡ grp key (plain es) w
+    → plain (group_of key es w) ≡ group_of key (plain es) w
 plain_grp key [] w = ap plain (grp_nil key w) ∙ plain_nil
-    ∙ sym (ap (λ (fs : List Entry). grp key fs w) plain_nil ∙ grp_nil key w)
+    ∙ sym (ap (λ (fs : List Entry). group_of key fs w) plain_nil ∙ grp_nil key w)
 plain_grp key (e ∷ es) w =
     let r = plain_grp key es w in
     elim (cases_Bool (same (pick key e.tuple) w)) [
       | inl in_group ↦
           elim (cases_Bool e.marked) [
             | inl marked ↦ ap plain (grp_yes key e es w in_group)
-                ∙ plain_yes e (grp key es w) marked ∙ r
-                ∙ sym (ap (λ (fs : List Entry). grp key fs w) (plain_yes e es marked))
+                ∙ plain_yes e (group_of key es w) marked ∙ r
+                ∙ sym (ap (λ (fs : List Entry). group_of key fs w) (plain_yes e es marked))
             | inr unmarked ↦
-                ap plain (grp_yes key e es w in_group) ∙ plain_no e (grp key es w) unmarked
+                ap plain (grp_yes key e es w in_group) ∙ plain_no e (group_of key es w) unmarked
                 ∙ ap (λ (fs : List Entry). e ∷ fs) r
-                ∙ sym (ap (λ (fs : List Entry). grp key fs w) (plain_no e es unmarked)
+                ∙ sym (ap (λ (fs : List Entry). group_of key fs w) (plain_no e es unmarked)
                 ∙ grp_yes key e (plain es) w in_group)
           ]
       | inr other ↦
           elim (cases_Bool e.marked) [
             | inl marked ↦ ap plain (grp_no key e es w other) ∙ r
-                ∙ sym (ap (λ (fs : List Entry). grp key fs w) (plain_yes e es marked))
+                ∙ sym (ap (λ (fs : List Entry). group_of key fs w) (plain_yes e es marked))
             | inr unmarked ↦ ap plain (grp_no key e es w other) ∙ r
-                ∙ sym (ap (λ (fs : List Entry). grp key fs w) (plain_no e es unmarked)
+                ∙ sym (ap (λ (fs : List Entry). group_of key fs w) (plain_no e es unmarked)
                 ∙ grp_no key e (plain es) w other)
           ]
     ]
 
 last_first : (key : List ℕ) (e : Entry) (es : List Entry) → AreLast key (e ∷ es) → e.marked ≡ true
-    → many key (plain es) (pick key e.tuple) ≡ 0
+    → group_size key (plain es) (pick key e.tuple) ≡ 0
 unfolding AreLast
 last_first key e es h = h.0
 
 pub trail : (key : List ℕ) (es : List Entry) (w : List ℕ) → AreLast key es
-    → grp key es w ≡ plain (grp key es w) ++ marks (grp key es w)
+    → group_of key es w ≡ plain (group_of key es w) ++ marks (group_of key es w)
 trail key [] w h = subst (λ (g : List Entry). g ≡ plain g ++ marks g) (sym (grp_nil key w))
     (sym (ap (λ (p : List Entry). p ++ marks []) plain_nil ∙ marks_nil))
 trail key (e ∷ es) w h =
-    let g = grp key es w in
+    let g = group_of key es w in
     let r = trail key es w (last_rest key e es h) in
     elim (cases_Bool (same (pick key e.tuple) w)) [
       | inl in_group ↦
           subst (λ (f : List Entry). f ≡ plain f ++ marks f) (sym (grp_yes key e es w in_group))
           (elim (cases_Bool e.marked) [
             | inl marked ↦
-                let none : many key (plain es) w ≡ 0 = ap (λ (v : List ℕ). many key (plain es) v)
+                let none : group_size key (plain es) w ≡ 0 = ap (λ (v : List ℕ). group_size key (plain es) v)
                 (sym (same_is (pick key e.tuple) w in_group)) ∙ last_first key e es h marked in
                 let bare : plain g ≡ [] = nil_from_length (plain g)
                 (ap (λ (l : List Entry). length l) (plain_grp key es w)
@@ -285,11 +285,11 @@ last_none r k w o h e is = none_of (part (group_entries r k w))
 -- ---- one step backwards
 
 -- whether a tuple is marked, by counts
-marked_by : (es : List Entry) (u : List ℕ) → AreApart es → 0 < cnt (marks es) u
+marked_by : (es : List Entry) (u : List ℕ) → AreApart es → 0 < count_of (marks es) u
     → is_marked es u ≡ true
 marked_by es u h some = (let c = marked_cnt es u h in true_from_one (is_marked es u) (omega arith))
 
-unmarked_by : (es : List Entry) (u : List ℕ) → AreApart es → cnt (marks es) u ≡ 0
+unmarked_by : (es : List Entry) (u : List ℕ) → AreApart es → count_of (marks es) u ≡ 0
     → is_marked es u ≡ false
 unmarked_by es u h none =
     let c = marked_cnt es u h in
@@ -327,7 +327,7 @@ pub record Marked (r : Reducts) (c : Choice) (o : Option Place) (here before : B
 -- what a table says of the place before
 abbrev pub SaysPrev : List ℕ → List Entry → Place → Option Place → Type 0
 SaysPrev key es p o = (w : List ℕ) (xs : List Entry) (e : Entry) (ys : List Entry)
-    → grp key es w ≡ xs ++ e ∷ ys → e.at ≡ p → o ≡ last_at xs
+    → group_of key es w ≡ xs ++ e ∷ ys → e.at ≡ p → o ≡ last_at xs
 
 -- in a group's part, what comes behind the choice
 pub record Later (r : Reducts) (c : Choice) (w : List ℕ) (o : Option Place) : Type 0 where
@@ -362,8 +362,8 @@ step_all r c w o here before back h m none on e =
     let g = group_entries r c.level w in
     let u = chosen r c in
     let in_group = group_says key es w u on in
-    let unmarked : cnt (marks es) u ≡ 0 =
-    elim (cases_lt 0 (cnt (marks es) u)) [
+    let unmarked : count_of (marks es) u ≡ 0 =
+    elim (cases_lt 0 (count_of (marks es) u)) [
       | inl some ↦ absurd
           (let p = group_marked key es w u some
           (let o = one_true (same (pick key u) w) (is_same (pick key u) w in_group.1) in omega
@@ -398,13 +398,13 @@ step_some r c w o here before front e [] h m some on is says =
     ∙ append_assoc b.front (b.entry ∷ []) (marks g) in
     let i = inside_group key es w b.front b.entry (marks g) whole in
     let a = subst (λ (p : Place). IsAt es p b.entry.tuple) b.at (at_inside es b.entry i) in
-    let in_plain : 0 < cnt (plain g) b.entry.tuple = there (plain g) b.front b.entry []
+    let in_plain : 0 < count_of (plain g) b.entry.tuple = there (plain g) b.front b.entry []
     b.entry.tuple b.is refl in
-    let groups : cnt (plain g) b.entry.tuple ≡ cnt (grp key (plain es) w) b.entry.tuple = ap
-    (λ (l : List Entry). cnt l b.entry.tuple) (plain_grp key es w) in
+    let groups : count_of (plain g) b.entry.tuple ≡ count_of (group_of key (plain es) w) b.entry.tuple = ap
+    (λ (l : List Entry). count_of l b.entry.tuple) (plain_grp key es w) in
     let product = cnt_grp key (plain es) w b.entry.tuple in
     let in_table =
-    (both_positive (cnt (plain es) b.entry.tuple) (one (same (pick key b.entry.tuple) w))
+    (both_positive (count_of (plain es) b.entry.tuple) (one (same (pick key b.entry.tuple) w))
     (omega arith)).0 in
     let split = cnt_split es b.entry.tuple in
     let once = cnt_once es b.entry.tuple apart in
@@ -513,7 +513,7 @@ if_last r c n key es o (Some p) here before h l at same_key same says m is = tt
 
 pub if_first : (r : Reducts) (k n : ℕ) (key : List ℕ) (es : List Entry) (w : List ℕ)
     (o : Option Place) → IsReducts r → n ≡ source r.tree k → key ≡ key_at r.tables n
-    → es ≡ entries_at r.tables n → o ≡ last_at (grp key es w)
+    → es ≡ entries_at r.tables n → o ≡ last_at (group_of key es w)
     → IfSome o (λ p. IsFirstAt r (changed_at r k w) (record { level = k; place = p }))
 if_first r k n key es w None h at same_key same e = tt
 if_first r k n key es w (Some p) h at same_key same e = last_some r k w (Some p) p h
@@ -521,7 +521,7 @@ if_first r k n key es w (Some p) h at same_key same e = last_some r k w (Some p)
 
 pub if_empty : (r : Reducts) (k n : ℕ) (key : List ℕ) (es : List Entry) (w : List ℕ)
     (o : Option Place) → IsReducts r → n ≡ source r.tree k → key ≡ key_at r.tables n
-    → es ≡ entries_at r.tables n → o ≡ last_at (grp key es w)
+    → es ≡ entries_at r.tables n → o ≡ last_at (group_of key es w)
     → IfNone o (changed_at r k w ≡ [])
 if_empty r k n key es w None h at same_key same e = last_none r k w None h
     (e ∙ ap last_at (same_group r k n key es w at same_key same)) refl
@@ -533,14 +533,14 @@ pub prior_live : (key : List ℕ) (es : List Entry) (p q : Place) (o : Option Pl
 prior_live key es p q o l says found =
     let a = l.is_at in
     let w = pick key a.entry.tuple in
-    let split : grp key es w ≡ grp key a.front w ++ a.entry ∷ grp key a.back w = ap
-    (λ (fs : List Entry). grp key fs w) a.is ∙ group_middle key a.front a.entry a.back w refl in
-    let b = back_cut (grp key a.front w) q
-    (sym (says w (grp key a.front w) a.entry (grp key a.back w) split a.at) ∙ found) in
-    let whole : grp key es w ≡ b.front ++ b.entry ∷ (a.entry ∷ grp key a.back w) = split
-    ∙ ap (λ (f : List Entry). f ++ a.entry ∷ grp key a.back w) b.is
-    ∙ append_assoc b.front (b.entry ∷ []) (a.entry ∷ grp key a.back w) in
-    let i = inside_group key es w b.front b.entry (a.entry ∷ grp key a.back w) whole in
+    let split : group_of key es w ≡ group_of key a.front w ++ a.entry ∷ group_of key a.back w = ap
+    (λ (fs : List Entry). group_of key fs w) a.is ∙ group_middle key a.front a.entry a.back w refl in
+    let b = back_cut (group_of key a.front w) q
+    (sym (says w (group_of key a.front w) a.entry (group_of key a.back w) split a.at) ∙ found) in
+    let whole : group_of key es w ≡ b.front ++ b.entry ∷ (a.entry ∷ group_of key a.back w) = split
+    ∙ ap (λ (f : List Entry). f ++ a.entry ∷ group_of key a.back w) b.is
+    ∙ append_assoc b.front (b.entry ∷ []) (a.entry ∷ group_of key a.back w) in
+    let i = inside_group key es w b.front b.entry (a.entry ∷ group_of key a.back w) whole in
     subst (λ (x : Place). IsLive es x) b.at
     (live es b.entry.at b.entry.tuple (at_inside es b.entry i))
 
@@ -577,11 +577,11 @@ live_in r c n es l at same = subst (λ (fs : List Entry). IsLive fs c.place)
 -- ---- the root
 
 pub root_none : (r : Reducts) (es : List Entry) → es ≡ entries_at r.tables (length r.tree.nodes - 1)
-    → cnt es [] ≡ 0 → root_marked r ≡ false
+    → count_of es [] ≡ 0 → root_marked r ≡ false
 unfolding root_marked
 root_none r es e none =
-    ap (λ (fs : List Entry). nat_lt 0 (cnt (marks fs) [])) (sym e)
-    ∙ le-ltb 0 (cnt (marks es) []) (let s = cnt_split es [] in omega arith)
+    ap (λ (fs : List Entry). nat_lt 0 (count_of (marks fs) [])) (sym e)
+    ∙ le-ltb 0 (count_of (marks es) []) (let s = cnt_split es [] in omega arith)
 
 pub root_found : (r : Reducts) (es : List Entry) (b : Bool) → IsReducts r
     → es ≡ entries_at r.tables (length r.tree.nodes - 1) → b ≡ is_marked es [] → b ≡ root_marked r
@@ -593,10 +593,10 @@ root_found r es b h e is =
     is
     ∙ elim (cases_Bool (is_marked es [])) [
       | inl yes_mark ↦ yes_mark
-          ∙ sym (lt-ltb 0 (cnt (marks es) [])
+          ∙ sym (lt-ltb 0 (count_of (marks es) [])
           (let o = one_true (is_marked es []) yes_mark in omega arith))
       | inr no_mark ↦ no_mark
-          ∙ sym (le-ltb 0 (cnt (marks es) [])
+          ∙ sym (le-ltb 0 (count_of (marks es) [])
           (let o = one_false (is_marked es []) no_mark in omega arith))
     ]
-    ∙ ap (λ (fs : List Entry). nat_lt 0 (cnt (marks fs) [])) e
+    ∙ ap (λ (fs : List Entry). nat_lt 0 (count_of (marks fs) [])) e

@@ -29,7 +29,7 @@ use Rattle.std.specs.Prelude.{◌&&◌, nat_lt, MatchOption}
 use Rattle.std.proofs.lemmas.Bool.{cases_lt, cases_eq, false≢true, lt-ltb}
 use Rattle.djq_hyper.specs.Hypergraph.{one}
 use Rattle.djq_index.specs.declared.place.Place.{Place}
-use Rattle.djq_index.specs.Entries.{Entry, cnt}
+use Rattle.djq_index.specs.Entries.{Entry, count_of}
 use Rattle.djq_index.specs.Table.{IsAt}
 use Rattle.djq_index.proofs.Apart.{there}
 use Rattle.djq_tree.specs.declared.node.Node.{Node}
@@ -113,20 +113,20 @@ one_more t j b low e =
 
 pub looked_up : (r : Reducts) (j : ℕ) (es : List Entry) (u a : List ℕ) (o : Option Place)
     → es ≡ entries_at r.tables j → u ≡ on_node r.tree j a
-    → MatchOption o (cnt es u ≡ 0) (λ p. IsAt es p u) → is_some o ≡ true → IsIn r j a
+    → MatchOption o (count_of es u ≡ 0) (λ p. IsAt es p u) → is_some o ≡ true → IsIn r j a
 looked_up r j es u a None e is h some = absurd (false≢true some)
 looked_up r j es u a (Some p) e is h some =
-    subst (λ (v : List ℕ). 0 < cnt (entries_at r.tables j) v) is
-    (subst (λ (fs : List Entry). 0 < cnt fs u) e
+    subst (λ (v : List ℕ). 0 < count_of (entries_at r.tables j) v) is
+    (subst (λ (fs : List Entry). 0 < count_of fs u) e
     (there es h.front h.entry h.back u h.is h.tuple))
 
 pub not_there : (r : Reducts) (j : ℕ) (es : List Entry) (u a : List ℕ) (o : Option Place)
     → es ≡ entries_at r.tables j → u ≡ on_node r.tree j a
-    → MatchOption o (cnt es u ≡ 0) (λ p. IsAt es p u) → is_some o ≡ false → IsIn r j a → ⊥
+    → MatchOption o (count_of es u ≡ 0) (λ p. IsAt es p u) → is_some o ≡ false → IsIn r j a → ⊥
 not_there r j es u a None e is h none there =
-    let z : cnt (entries_at r.tables j) (on_node r.tree j a) ≡ 0 = sym
-    (ap (λ (fs : List Entry). cnt fs (on_node r.tree j a)) e)
-    ∙ ap (λ (v : List ℕ). cnt es v) (sym is) ∙ h in
+    let z : count_of (entries_at r.tables j) (on_node r.tree j a) ≡ 0 = sym
+    (ap (λ (fs : List Entry). count_of fs (on_node r.tree j a)) e)
+    ∙ ap (λ (v : List ℕ). count_of es v) (sym is) ∙ h in
     omega arith
 not_there r j es u a (Some p) e is h none there = absurd (false≢true (sym none))
 

@@ -25,7 +25,7 @@ use Rattle.std.specs.Prelude.{◌==◌, ◌||◌}
 use Rattle.std.proofs.lemmas.Bool.{cases_eq, cases_lt, eqb-true, or_cases}
 use Rattle.djq_hyper.specs.Hypergraph.{member}
 use Rattle.djq_index.specs.Tuple.{pick}
-use Rattle.djq_index.specs.Entries.{Entry, cnt, supp, many}
+use Rattle.djq_index.specs.Entries.{Entry, count_of, supports_of, group_size}
 use Rattle.djq_index.proofs.Apart.{cnt_supp, supp_none}
 use Rattle.djq_index.proofs.Columns.{pick_nil}
 use Rattle.djq_tree.specs.declared.node.Node.{Node}
@@ -80,7 +80,7 @@ key_picks t c k s w = pick_pick t.head (label_at t.labels k) (label_at t.labels 
 
 -- the projection on a node is in its table
 abbrev pub IsIn : Reducts → ℕ → List ℕ → Type 0
-IsIn r j s = 0 < cnt (entries_at r.tables j) (on_node r.tree j s)
+IsIn r j s = 0 < count_of (entries_at r.tables j) (on_node r.tree j s)
 
 key_is : (r : Reducts) (c : ℕ) (l : List ℕ) → IsReducts r → c < length r.tree.nodes
     → key_of r.tree c ≡ l → key_at r.tables c ≡ columns (label_at r.tree.labels c) l
@@ -101,8 +101,8 @@ meet_key r k g d h within e =
     (let low = (h.family.is_tree.meet k g d e).guard_lower in key_is r g (label_at r.tree.labels d)
     h (omega arith) (key_of_guard r.tree k g d h.family.is_tree e))
 
-pub supp_cnt : (es : List Entry) (u : List ℕ) → 0 < supp es u → 0 < cnt es u
-supp_cnt es u h = elim (cases_lt 0 (cnt es u))
+pub supp_cnt : (es : List Entry) (u : List ℕ) → 0 < supports_of es u → 0 < count_of es u
+supp_cnt es u h = elim (cases_lt 0 (count_of es u))
     [ inl low ↦ low | inr high ↦ absurd (let z = supp_none es u (omega arith) in omega arith) ]
 
 trim_within : (t : Tree) (k c : ℕ) → IsTree t → node_at t.nodes k ≡ Trim c
@@ -111,8 +111,8 @@ trim_within t k c s e = within_of (label_at t.labels k) (label_at t.labels c) (s
 
 -- a trim's tuple has a tuple of the child, and the other way round
 pub trim_down : (r : Reducts) (k c : ℕ) (w : List ℕ) → IsReducts r → k < length r.tree.nodes
-    → node_at r.tree.nodes k ≡ Trim c → 0 < cnt (entries_at r.tables k) w
-    → 0 < many (key_at r.tables c) (entries_at r.tables c) w
+    → node_at r.tree.nodes k ≡ Trim c → 0 < count_of (entries_at r.tables k) w
+    → 0 < group_size (key_at r.tables c) (entries_at r.tables c) w
 trim_down r k c w h within e there =
     let law = trim_law (node_at r.tree.nodes k) c r.tables k e (h.reduced.at k (omega arith) within)
     w in
@@ -144,15 +144,15 @@ guard_pick r k g d s h within e =
 
 meet_product : (r : Reducts) (k g d : ℕ) (s : List ℕ) → IsReducts r → k < length r.tree.nodes
     → node_at r.tree.nodes k ≡ Meet g d
-    → supp (entries_at r.tables k) (on_node r.tree k s) ≡ cnt (entries_at r.tables g)
-    (on_node r.tree g s) * cnt (entries_at r.tables d) (on_node r.tree d s)
+    → supports_of (entries_at r.tables k) (on_node r.tree k s) ≡ count_of (entries_at r.tables g)
+    (on_node r.tree g s) * count_of (entries_at r.tables d) (on_node r.tree d s)
 meet_product r k g d s h within e =
     meet_law (node_at r.tree.nodes k) g d r.tables k e (h.reduced.at k (omega arith) within)
     (on_node r.tree k s)
     ∙ ap₂ (λ (a b : ℕ). a * b)
-    (ap (λ (u : List ℕ). cnt (entries_at r.tables g) u)
+    (ap (λ (u : List ℕ). count_of (entries_at r.tables g) u)
     (node_label r.tree k g s (h.family.is_tree.meet k g d e).guard))
-    (ap (λ (u : List ℕ). cnt (entries_at r.tables d) u) (guard_pick r k g d s h within e))
+    (ap (λ (u : List ℕ). count_of (entries_at r.tables d) u) (guard_pick r k g d s h within e))
 
 -- a meet's projection is in its table exactly where its children's are
 pub meet_down : (r : Reducts) (k g d : ℕ) (s : List ℕ) → IsReducts r → k < length r.tree.nodes
@@ -160,15 +160,15 @@ pub meet_down : (r : Reducts) (k g d : ℕ) (s : List ℕ) → IsReducts r → k
 meet_down r k g d s h within e there =
     let p = meet_product r k g d s h within e in
     let q = cnt_supp (entries_at r.tables k) (on_node r.tree k s) (h.family.supported k) there in
-    both_positive (cnt (entries_at r.tables g) (on_node r.tree g s))
-    (cnt (entries_at r.tables d) (on_node r.tree d s)) (omega arith)
+    both_positive (count_of (entries_at r.tables g) (on_node r.tree g s))
+    (count_of (entries_at r.tables d) (on_node r.tree d s)) (omega arith)
 
 pub meet_up : (r : Reducts) (k g d : ℕ) (s : List ℕ) → IsReducts r → k < length r.tree.nodes
     → node_at r.tree.nodes k ≡ Meet g d → IsIn r g s → IsIn r d s → IsIn r k s
 meet_up r k g d s h within e guard side =
     let p = meet_product r k g d s h within e in
-    let q = product_positive (cnt (entries_at r.tables g) (on_node r.tree g s))
-    (cnt (entries_at r.tables d) (on_node r.tree d s)) guard side in
+    let q = product_positive (count_of (entries_at r.tables g) (on_node r.tree g s))
+    (count_of (entries_at r.tables d) (on_node r.tree d s)) guard side in
     supp_cnt (entries_at r.tables k) (on_node r.tree k s) (omega arith)
 
 -- ---- good states
@@ -178,15 +178,15 @@ meet_up r k g d s h within e guard side =
 pub record IsGood (r : Reducts) (k : ℕ) (s : List ℕ) : Type 0 where
   pub late : r.tree.second_stage ≤ k
   pub wide : length s ≡ length r.tree.head
-  pub root : 0 < cnt (entries_at r.tables (length r.tree.nodes - 1)) []
+  pub root : 0 < count_of (entries_at r.tables (length r.tree.nodes - 1)) []
   pub below : (i j : ℕ) → k ≤ i → has_child (node_at r.tree.nodes i) j ≡ true → IsIn r j s
 
 pub root_in : (r : Reducts) (j : ℕ) (s : List ℕ) → IsReducts r
-    → 0 < cnt (entries_at r.tables (length r.tree.nodes - 1)) [] → j ≡ length r.tree.nodes - 1
+    → 0 < count_of (entries_at r.tables (length r.tree.nodes - 1)) [] → j ≡ length r.tree.nodes - 1
     → IsIn r j s
 root_in r j s h root e =
     subst (λ (i : ℕ). IsIn r i s) (sym e)
-    (subst (λ (u : List ℕ). 0 < cnt (entries_at r.tables (length r.tree.nodes - 1)) u)
+    (subst (λ (u : List ℕ). 0 < count_of (entries_at r.tables (length r.tree.nodes - 1)) u)
     (sym (root_node r.tree s h.family.is_tree)) root)
 
 -- so the node just below k has it too

@@ -26,7 +26,7 @@ use Rattle.std.proofs.Math.Nat.{suc-mul, mul-zero, zero-mul}
 use Rattle.std.proofs.lemmas.Bool.{cases_Bool, cases_lt, false≢true, or_cases, or_left, or_right}
 use Rattle.std.proofs.lemmas.List.{length-map}
 use Rattle.djq_index.specs.Tuple.{same, pick, one}
-use Rattle.djq_index.specs.Entries.{Entry, cnt, many, grp}
+use Rattle.djq_index.specs.Entries.{Entry, count_of, group_size, group_of}
 use Rattle.djq_index.specs.Table.{AreApart}
 use Rattle.djq_index.proofs.Tuples.{same_is, is_same, one_true, one_false, true_from_one}
 use Rattle.djq_index.proofs.Counts.{cnt_cons, length_grp}
@@ -37,11 +37,11 @@ use Rattle.djq_cursor.specs.Menus.{has, AreOnce}
 abbrev pub tuples : List Entry → List (List ℕ)
 tuples es = map (λ (e : Entry). e.tuple) es
 
-no_cnt : (u : List ℕ) → cnt [] u ≡ 0
-unfolding cnt
+no_cnt : (u : List ℕ) → count_of [] u ≡ 0
+unfolding count_of
 no_cnt u = refl
 
-pub has_cnt : (es : List Entry) (u : List ℕ) → has (tuples es) u ≡ true → 0 < cnt es u
+pub has_cnt : (es : List Entry) (u : List ℕ) → has (tuples es) u ≡ true → 0 < count_of es u
 has_cnt [] u h = absurd (false≢true h)
 has_cnt (e ∷ es) u h =
     let c = cnt_cons e es u in
@@ -50,7 +50,7 @@ has_cnt (e ∷ es) u h =
       | inr there ↦ (let r = has_cnt es u there in omega arith)
     ]
 
-pub cnt_has : (es : List Entry) (u : List ℕ) → 0 < cnt es u → has (tuples es) u ≡ true
+pub cnt_has : (es : List Entry) (u : List ℕ) → 0 < count_of es u → has (tuples es) u ≡ true
 cnt_has [] u h = absurd (let n = no_cnt u in omega arith)
 cnt_has (e ∷ es) u h =
     elim (cases_Bool (same e.tuple u)) [
@@ -84,22 +84,22 @@ product_positive a b h k = positive a b h k
 
 -- a group has the tuples of the table with its cells
 pub group_says : (key : List ℕ) (es : List Entry) (w u : List ℕ)
-    → has (tuples (grp key es w)) u ≡ true → (0 < cnt es u) × (pick key u ≡ w)
+    → has (tuples (group_of key es w)) u ≡ true → (0 < count_of es u) × (pick key u ≡ w)
 group_says key es w u h =
     let c = cnt_grp key es w u in
-    let p = both_positive (cnt es u) (one (same (pick key u) w))
-    (let q = has_cnt (grp key es w) u h in omega arith) in
+    let p = both_positive (count_of es u) (one (same (pick key u) w))
+    (let q = has_cnt (group_of key es w) u h in omega arith) in
     (p.0, same_is (pick key u) w (true_from_one (same (pick key u) w) p.1))
 
-pub group_has : (key : List ℕ) (es : List Entry) (w u : List ℕ) → 0 < cnt es u → pick key u ≡ w
-    → has (tuples (grp key es w)) u ≡ true
+pub group_has : (key : List ℕ) (es : List Entry) (w u : List ℕ) → 0 < count_of es u → pick key u ≡ w
+    → has (tuples (group_of key es w)) u ≡ true
 group_has key es w u h e =
-    cnt_has (grp key es w) u
+    cnt_has (group_of key es w) u
     (let o = one_true (same (pick key u) w) (is_same (pick key u) w e) in
-    let p = product_positive (cnt es u) (one (same (pick key u) w)) h (omega arith) in
+    let p = product_positive (count_of es u) (one (same (pick key u) w)) h (omega arith) in
     let c = cnt_grp key es w u in omega arith)
 
-pub apart_head : (e : Entry) (es : List Entry) → AreApart (e ∷ es) → cnt es e.tuple ≡ 0
+pub apart_head : (e : Entry) (es : List Entry) → AreApart (e ∷ es) → count_of es e.tuple ≡ 0
 unfolding AreApart
 apart_head e es h = h.0
 
@@ -107,13 +107,13 @@ pub apart_tail : (e : Entry) (es : List Entry) → AreApart (e ∷ es) → AreAp
 unfolding AreApart
 apart_tail e es h = h.1
 
-pub grp_nil : (key w : List ℕ) → grp key [] w ≡ []
-unfolding grp
+pub grp_nil : (key w : List ℕ) → group_of key [] w ≡ []
+unfolding group_of
 grp_nil key w = refl
 
 -- no tuple stands twice in it
 pub group_once : (key : List ℕ) (es : List Entry) (w : List ℕ) → AreApart es
-    → AreOnce (tuples (grp key es w))
+    → AreOnce (tuples (group_of key es w))
 group_once key [] w h = subst (λ (es : List Entry). AreOnce (tuples es)) (sym (grp_nil key w)) tt
 group_once key (e ∷ es) w h =
     let r = group_once key es w (apart_tail e es h) in
@@ -124,22 +124,22 @@ group_once key (e ∷ es) w h =
           r
     ]
   where
-    fresh : has (tuples (grp key es w)) e.tuple ≡ false
+    fresh : has (tuples (group_of key es w)) e.tuple ≡ false
     fresh =
-        elim (cases_Bool (has (tuples (grp key es w)) e.tuple)) [
+        elim (cases_Bool (has (tuples (group_of key es w)) e.tuple)) [
           | inl is ↦ absurd
               (let g = (group_says key es w e.tuple is).0 in let z = apart_head e es h in omega
               arith)
           | inr isnt ↦ isnt
         ]
 
-pub group_filled : (key : List ℕ) (es : List Entry) (w : List ℕ) → 0 < many key es w
-    → tuples (grp key es w) ≡ [] → ⊥
+pub group_filled : (key : List ℕ) (es : List Entry) (w : List ℕ) → 0 < group_size key es w
+    → tuples (group_of key es w) ≡ [] → ⊥
 group_filled key es w h e =
     let l = length_grp key es w in
-    let m : length (tuples (grp key es w)) ≡ length (grp key es w) = length-map (grp key es w)
+    let m : length (tuples (group_of key es w)) ≡ length (group_of key es w) = length-map (group_of key es w)
     (λ (e : Entry). e.tuple) in
-    let z : length (tuples (grp key es w)) ≡ 0 = ap (λ (us : List (List ℕ)). length us) e in
+    let z : length (tuples (group_of key es w)) ≡ 0 = ap (λ (us : List (List ℕ)). length us) e in
     omega arith
 
 some_nil : (es : List Entry) → (tuples es ≡ [] → ⊥) → 0 < length es
@@ -147,11 +147,11 @@ some_nil [] h = absurd (h refl)
 some_nil (e ∷ es) h = omega arith
 
 -- a tuple of the table makes a group
-pub many_of : (key : List ℕ) (es : List Entry) (w u : List ℕ) → 0 < cnt es u → pick key u ≡ w
-    → 0 < many key es w
+pub many_of : (key : List ℕ) (es : List Entry) (w u : List ℕ) → 0 < count_of es u → pick key u ≡ w
+    → 0 < group_size key es w
 many_of key es w u h e =
     let g = group_has key es w u h e in
     let l = length_grp key es w in
-    let s = some_nil (grp key es w)
+    let s = some_nil (group_of key es w)
     (λ z. false≢true (ap (λ (us : List (List ℕ)). has us u) (sym z) ∙ g)) in
     omega arith

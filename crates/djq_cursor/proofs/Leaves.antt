@@ -27,7 +27,7 @@ use Rattle.std.specs.Prelude.{flat_map}
 use Rattle.std.proofs.lemmas.Bool.{false≢true, or_cases}
 use Rattle.std.proofs.lemmas.List.{length-replicate}
 use Rattle.djq_index.specs.Tuple.{same}
-use Rattle.djq_index.specs.Entries.{cnt}
+use Rattle.djq_index.specs.Entries.{count_of}
 use Rattle.djq_index.proofs.Tuples.{same_is}
 use Rattle.djq_tree.specs.declared.node.Node.{Node}
 use Rattle.djq_tree.specs.declared.node.Node.TheVariants.{Leaf, Trim, Meet}
@@ -212,7 +212,7 @@ pub blank_wide : (t : Tree) → length (blank t) ≡ length t.head
 blank_wide t = length-replicate (length t.head) 0
 
 pub good_top : (r : Reducts) (s : List ℕ) → IsReducts r → length s ≡ length r.tree.head
-    → 0 < cnt (entries_at r.tables (length r.tree.nodes - 1)) [] → IsGood r (length r.tree.nodes) s
+    → 0 < count_of (entries_at r.tables (length r.tree.nodes - 1)) [] → IsGood r (length r.tree.nodes) s
 good_top r s h wide root = record {
   late = h.family.is_tree.stages.1;
   wide = wide;

@@ -25,7 +25,7 @@ use Rattle.std.specs.Bool.{OnTrue, OnFalse}
 use Rattle.std.proofs.lemmas.Bool.{false≢true, lt-ltb, ltb-true}
 use Rattle.std.proofs.lemmas.List.{length_push, get_or_push, get_or_append_left, get_or_default}
 use Rattle.std.proofs.lemmas.List.Elements.{All-nil}
-use Rattle.djq_index.specs.Entries.{cnt}
+use Rattle.djq_index.specs.Entries.{count_of}
 use Rattle.djq_tree.specs.Levels.{levels}
 use Rattle.djq_reduct.specs.Tables.{entries_at}
 use Rattle.djq_reduct.specs.Reducts.{Reducts, IsReducts}
@@ -195,22 +195,22 @@ one_left Answer old new a e some listing =
 -- ---- whole groups
 
 root_true : (r : Reducts) → has_root r ≡ true
-    → 0 < cnt (entries_at r.tables (length r.tree.nodes - 1)) []
+    → 0 < count_of (entries_at r.tables (length r.tree.nodes - 1)) []
 unfolding has_root
-root_true r e = ltb-true 0 (cnt (entries_at r.tables (length r.tree.nodes - 1)) []) e
+root_true r e = ltb-true 0 (count_of (entries_at r.tables (length r.tree.nodes - 1)) []) e
 
 root_false : (r : Reducts) → has_root r ≡ false
-    → 0 < cnt (entries_at r.tables (length r.tree.nodes - 1)) [] → ⊥
+    → 0 < count_of (entries_at r.tables (length r.tree.nodes - 1)) [] → ⊥
 unfolding has_root
 root_false r e there = false≢true
-    (sym e ∙ lt-ltb 0 (cnt (entries_at r.tables (length r.tree.nodes - 1)) []) there)
+    (sym e ∙ lt-ltb 0 (count_of (entries_at r.tables (length r.tree.nodes - 1)) []) there)
 
 pub whole_entered : (r : Reducts) → IsReducts r → IsEntered r (IsGood r) (IsAnswerOf r) (has_root r)
 whole_entered r h = record {
   good = λ is. good_top r (blank r.tree) h (blank_wide r.tree) (root_true r is);
   none = λ is a answer.
       root_false r is
-      (subst (λ (u : List ℕ). 0 < cnt (entries_at r.tables (length r.tree.nodes - 1)) u)
+      (subst (λ (u : List ℕ). 0 < count_of (entries_at r.tables (length r.tree.nodes - 1)) u)
       (root_node r.tree a h.family.is_tree)
       (answer.there (length r.tree.nodes - 1) h.family.is_tree.root_out));
 }

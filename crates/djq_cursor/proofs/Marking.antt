@@ -25,7 +25,7 @@ use Rattle.std.proofs.Common.{
 }
 use Rattle.std.proofs.lemmas.Bool.{cases_Bool, false≢true, eq-eqb, ne_eqb}
 use Rattle.djq_index.specs.Tuple.{pick}
-use Rattle.djq_index.specs.Entries.{cnt, many, marks}
+use Rattle.djq_index.specs.Entries.{count_of, group_size, marks}
 use Rattle.djq_index.specs.Table.{Table}
 use Rattle.djq_tree.specs.declared.node.Node.{Node}
 use Rattle.djq_tree.specs.declared.node.Node.TheVariants.{Leaf, Trim, Meet}
@@ -59,23 +59,23 @@ use Rattle.djq_cursor.proofs.Paths.{path_up}
 -- ---- which marked tuples agree, by the kind of node
 
 pub agree_trim : (ts : List Table) (j c : ℕ) (w : List ℕ)
-    → agreed (Trim c) j ts w ≡ many (key_at ts c) (marks (entries_at ts j)) w
+    → agreed (Trim c) j ts w ≡ group_size (key_at ts c) (marks (entries_at ts j)) w
 unfolding agreeing
 agree_trim ts j c w = refl
 
 agree_guard : (ts : List Table) (g s : ℕ) (w : List ℕ)
-    → agreed (Meet g s) g ts w ≡ cnt (marks (entries_at ts g)) w
+    → agreed (Meet g s) g ts w ≡ count_of (marks (entries_at ts g)) w
 unfolding agreeing
 agree_guard ts g s w = ap
-    (λ (b : Bool). cond b (cnt (marks (entries_at ts g)) w)
-    (cnt (marks (entries_at ts g)) (pick (key_at ts g) w))) (eq-eqb g g refl)
+    (λ (b : Bool). cond b (count_of (marks (entries_at ts g)) w)
+    (count_of (marks (entries_at ts g)) (pick (key_at ts g) w))) (eq-eqb g g refl)
 
 agree_side : (ts : List Table) (g s : ℕ) (w : List ℕ) → g ≢ s
-    → agreed (Meet g s) s ts w ≡ cnt (marks (entries_at ts s)) (pick (key_at ts g) w)
+    → agreed (Meet g s) s ts w ≡ count_of (marks (entries_at ts s)) (pick (key_at ts g) w)
 unfolding agreeing
 agree_side ts g s w apart = ap
-    (λ (b : Bool). cond b (cnt (marks (entries_at ts s)) w)
-    (cnt (marks (entries_at ts s)) (pick (key_at ts g) w))) (ne_eqb g s apart)
+    (λ (b : Bool). cond b (count_of (marks (entries_at ts s)) w)
+    (count_of (marks (entries_at ts s)) (pick (key_at ts g) w))) (ne_eqb g s apart)
 
 -- the projection of an answer, or of a state, on the path's node below k is marked
 abbrev pub OnPath : Reducts → ℕ → ℕ → List ℕ → Type 0
@@ -85,7 +85,7 @@ OnPath r a k s = IsMarkedAt r.tables (path_at r.tree.nodes a k)
 -- at a meet the two are one
 meet_agrees : (r : Reducts) (k g d j : ℕ) (s : List ℕ) → IsReducts r → k < length r.tree.nodes
     → node_at r.tree.nodes k ≡ Meet g d → has_child (node_at r.tree.nodes k) j ≡ true
-    → agreed (node_at r.tree.nodes k) j r.tables (on_node r.tree k s) ≡ cnt
+    → agreed (node_at r.tree.nodes k) j r.tables (on_node r.tree k s) ≡ count_of
     (marks (entries_at r.tables j)) (on_node r.tree j s)
 meet_agrees r k g d j s h within e child =
     let t = r.tree in
@@ -93,16 +93,16 @@ meet_agrees r k g d j s h within e child =
     ap (λ (n : Node). agreed n j r.tables (on_node t k s)) e
     ∙ elim (meet_child t k g d j e child) [
       | inl guard ↦
-          subst (λ (i : ℕ). agreed (Meet g d) i r.tables (on_node t k s) ≡ cnt
+          subst (λ (i : ℕ). agreed (Meet g d) i r.tables (on_node t k s) ≡ count_of
           (marks (entries_at r.tables i)) (on_node t i s)) guard
           (agree_guard r.tables g d (on_node t k s)
-          ∙ ap (λ (u : List ℕ). cnt (marks (entries_at r.tables g)) u)
+          ∙ ap (λ (u : List ℕ). count_of (marks (entries_at r.tables g)) u)
           (node_label t k g s m.guard))
       | inr side ↦
-          subst (λ (i : ℕ). agreed (Meet g d) i r.tables (on_node t k s) ≡ cnt
+          subst (λ (i : ℕ). agreed (Meet g d) i r.tables (on_node t k s) ≡ count_of
           (marks (entries_at r.tables i)) (on_node t i s)) side
           (agree_side r.tables g d (on_node t k s) m.apart
-          ∙ ap (λ (u : List ℕ). cnt (marks (entries_at r.tables d)) u)
+          ∙ ap (λ (u : List ℕ). count_of (marks (entries_at r.tables d)) u)
           (guard_pick r k g d s h within e))
     ]
 
@@ -122,11 +122,11 @@ trim_agrees r k c j s h within e child marked =
     (h.family.is_tree.trim k c e).within) in
     let m = many_of (key_at r.tables c) (marks (entries_at r.tables c)) (on_node t k s)
     (on_node t c s) there key in
-    let a : agreed (node_at t.nodes k) j r.tables (on_node t k s) ≡ many (key_at r.tables c)
+    let a : agreed (node_at t.nodes k) j r.tables (on_node t k s) ≡ group_size (key_at r.tables c)
     (marks (entries_at r.tables c)) (on_node t k s) =
     ap (λ (n : Node). agreed n j r.tables (on_node t k s)) e
     ∙ agree_trim r.tables j c (on_node t k s)
-    ∙ ap (λ (i : ℕ). many (key_at r.tables c) (marks (entries_at r.tables i)) (on_node t k s))
+    ∙ ap (λ (i : ℕ). group_size (key_at r.tables c) (marks (entries_at r.tables i)) (on_node t k s))
     (sym same) in
     omega arith
 
@@ -212,17 +212,17 @@ marked_meet r a k g d s h m late within e good = record {
 pub group_has_marks : (r : Reducts) (a k : ℕ) (s : List ℕ) → IsReducts r → IsUpdated r a
     → IsLevel r.tree k → has_child (node_at r.tree.nodes k) (path_at r.tree.nodes a k) ≡ true
     → IsMarkedGood r a (suc k) s
-    → 0 < many (key_at r.tables (source r.tree k)) (marks (entries_at r.tables (source r.tree k)))
+    → 0 < group_size (key_at r.tables (source r.tree k)) (marks (entries_at r.tables (source r.tree k)))
     (on_node r.tree k s)
 group_has_marks r a k s h m l on good =
     let t = r.tree in
     let q = down_on r a k s h m l.late l.within on good in
-    let e : agreed (node_at t.nodes k) (path_at t.nodes a k) r.tables (on_node t k s) ≡ many
+    let e : agreed (node_at t.nodes k) (path_at t.nodes a k) r.tables (on_node t k s) ≡ group_size
     (key_at r.tables (source t k)) (marks (entries_at r.tables (source t k))) (on_node t k s) =
     ap (λ (n : Node). agreed n (path_at t.nodes a k) r.tables (on_node t k s))
     (level_trim t k l)
     ∙ agree_trim r.tables (path_at t.nodes a k) (source t k) (on_node t k s)
-    ∙ ap (λ (i : ℕ). many (key_at r.tables (source t k)) (marks (entries_at r.tables i))
+    ∙ ap (λ (i : ℕ). group_size (key_at r.tables (source t k)) (marks (entries_at r.tables i))
     (on_node t k s)) (sym (trim_only t k (source t k) (path_at t.nodes a k) (level_trim t k l) on))
     in
     omega arith

@@ -26,10 +26,10 @@ use Rattle.std.proofs.Math.Nat.{zero-mul, mul-zero}
 use Rattle.std.proofs.lemmas.Bool.{cases_Bool}
 use Rattle.std.proofs.lemmas.List.{length-reverse, length-map, reverse-append}
 use Rattle.djq_index.specs.Tuple.{same, pick, one}
-use Rattle.djq_index.specs.Entries.{Entry, cnt, many, grp, marks}
+use Rattle.djq_index.specs.Entries.{Entry, count_of, group_size, group_of, marks}
 use Rattle.djq_index.specs.Table.{AreApart}
 use Rattle.djq_index.proofs.Tuples.{one_same, one_le}
-use Rattle.djq_index.proofs.Counts.{cnt_cons, cnt-append, cnt_split, length_grp}
+use Rattle.djq_index.proofs.Counts.{cnt_cons, count_of-append, cnt_split, length_grp}
 use Rattle.djq_index.proofs.Groups.{cnt_grp, grp_yes, grp_no}
 use Rattle.djq_index.proofs.Marks.{marks_yes, marks_no}
 use Rattle.djq_index.proofs.Apart.{cnt_once}
@@ -44,16 +44,16 @@ use Rattle.djq_cursor.proofs.Groups.{
 }
 use Rattle.djq_cursor.specs.Told.{marked_or}
 
-no_cnt : (u : List ℕ) → cnt [] u ≡ 0
-unfolding cnt
+no_cnt : (u : List ℕ) → count_of [] u ≡ 0
+unfolding count_of
 no_cnt u = refl
 
-pub cnt_reverse : (es : List Entry) (u : List ℕ) → cnt (reverse es) u ≡ cnt es u
+pub cnt_reverse : (es : List Entry) (u : List ℕ) → count_of (reverse es) u ≡ count_of es u
 cnt_reverse [] u = refl
 cnt_reverse (e ∷ es) u =
-    let last : cnt (reverse (e ∷ es)) u ≡ cnt (reverse es ++ e ∷ []) u = ap
-    (λ (fs : List Entry). cnt fs u) (reverse-append (e ∷ []) es) in
-    let a = cnt-append (reverse es) (e ∷ []) u in
+    let last : count_of (reverse (e ∷ es)) u ≡ count_of (reverse es ++ e ∷ []) u = ap
+    (λ (fs : List Entry). count_of fs u) (reverse-append (e ∷ []) es) in
+    let a = count_of-append (reverse es) (e ∷ []) u in
     let c = cnt_cons e [] u in
     let n = no_cnt u in
     let d = cnt_cons e es u in
@@ -61,7 +61,7 @@ cnt_reverse (e ∷ es) u =
     omega arith
 
 -- each tuple once, by counts
-pub once_by : (es : List Entry) → ((u : List ℕ) → cnt es u ≤ 1) → AreOnce (tuples es)
+pub once_by : (es : List Entry) → ((u : List ℕ) → count_of es u ≤ 1) → AreOnce (tuples es)
 once_by [] h = tt
 once_by (e ∷ es) h = (
   elim (cases_Bool (has (tuples es) e.tuple)) [
@@ -79,31 +79,31 @@ unfolding marks
 marks_nil = refl
 
 pub marks_grp : (key : List ℕ) (es : List Entry) (w : List ℕ)
-    → marks (grp key es w) ≡ grp key (marks es) w
+    → marks (group_of key es w) ≡ group_of key (marks es) w
 marks_grp key [] w = ap marks (grp_nil key w) ∙ marks_nil
-    ∙ sym (ap (λ (fs : List Entry). grp key fs w) marks_nil ∙ grp_nil key w)
+    ∙ sym (ap (λ (fs : List Entry). group_of key fs w) marks_nil ∙ grp_nil key w)
 marks_grp key (e ∷ es) w =
     let r = marks_grp key es w in
     elim (cases_Bool (same (pick key e.tuple) w)) [
       | inl in_group ↦
           elim (cases_Bool e.marked) [
             | inl marked ↦
-                ap marks (grp_yes key e es w in_group) ∙ marks_yes e (grp key es w) marked
+                ap marks (grp_yes key e es w in_group) ∙ marks_yes e (group_of key es w) marked
                 ∙ ap (λ (fs : List Entry). e ∷ fs) r
-                ∙ sym (ap (λ (fs : List Entry). grp key fs w) (marks_yes e es marked)
+                ∙ sym (ap (λ (fs : List Entry). group_of key fs w) (marks_yes e es marked)
                 ∙ grp_yes key e (marks es) w in_group)
             | inr unmarked ↦
-                ap marks (grp_yes key e es w in_group) ∙ marks_no e (grp key es w) unmarked ∙ r
-                ∙ sym (ap (λ (fs : List Entry). grp key fs w) (marks_no e es unmarked))
+                ap marks (grp_yes key e es w in_group) ∙ marks_no e (group_of key es w) unmarked ∙ r
+                ∙ sym (ap (λ (fs : List Entry). group_of key fs w) (marks_no e es unmarked))
           ]
       | inr other ↦
           elim (cases_Bool e.marked) [
             | inl marked ↦
                 ap marks (grp_no key e es w other) ∙ r
-                ∙ sym (ap (λ (fs : List Entry). grp key fs w) (marks_yes e es marked)
+                ∙ sym (ap (λ (fs : List Entry). group_of key fs w) (marks_yes e es marked)
                 ∙ grp_no key e (marks es) w other)
             | inr unmarked ↦ ap marks (grp_no key e es w other) ∙ r
-                ∙ sym (ap (λ (fs : List Entry). grp key fs w) (marks_no e es unmarked))
+                ∙ sym (ap (λ (fs : List Entry). group_of key fs w) (marks_no e es unmarked))
           ]
     ]
 
@@ -112,7 +112,7 @@ marks_grp key (e ∷ es) w =
 abbrev pub part : List Entry → List Entry
 part g = reverse (marked_or (marks g) g)
 
-or_few : (ms g : List Entry) (u : List ℕ) → cnt ms u ≤ cnt g u → cnt (marked_or ms g) u ≤ cnt g u
+or_few : (ms g : List Entry) (u : List ℕ) → count_of ms u ≤ count_of g u → count_of (marked_or ms g) u ≤ count_of g u
 or_few [] g u h = omega arith
 or_few (m ∷ ms) g u h = h
 
@@ -129,7 +129,7 @@ or_all [] g h = refl
 or_all (m ∷ ms) g h = absurd (omega arith)
 
 -- it has no tuple that the group lacks, nor one twice
-pub part_few : (g : List Entry) (u : List ℕ) → cnt (part g) u ≤ cnt g u
+pub part_few : (g : List Entry) (u : List ℕ) → count_of (part g) u ≤ count_of g u
 part_few g u =
     let r = cnt_reverse (marked_or (marks g) g) u in
     let s = cnt_split g u in
@@ -140,7 +140,7 @@ pub part_in : (g : List Entry) (u : List ℕ) → has (tuples (part g)) u ≡ tr
     → has (tuples g) u ≡ true
 part_in g u h = cnt_has g u (let p = has_cnt (part g) u h in let f = part_few g u in omega arith)
 
-pub part_once : (g : List Entry) → ((u : List ℕ) → cnt g u ≤ 1) → AreOnce (tuples (part g))
+pub part_once : (g : List Entry) → ((u : List ℕ) → count_of g u ≤ 1) → AreOnce (tuples (part g))
 part_once g h = once_by (part g) (λ u. let f = part_few g u in let l = h u in omega arith)
 
 -- it isn't empty where the group isn't
@@ -155,21 +155,21 @@ part_filled g h e =
 
 -- where there are marks it has the marked ones, and else all
 pub part_marked : (g : List Entry) (u : List ℕ) → 0 < length (marks g)
-    → has (tuples (part g)) u ≡ true → 0 < cnt (marks g) u
+    → has (tuples (part g)) u ≡ true → 0 < count_of (marks g) u
 part_marked g u some h =
     let p = has_cnt (part g) u h in
     let r = cnt_reverse (marked_or (marks g) g) u in
-    let e : cnt (marked_or (marks g) g) u ≡ cnt (marks g) u = ap (λ (es : List Entry). cnt es u)
+    let e : count_of (marked_or (marks g) g) u ≡ count_of (marks g) u = ap (λ (es : List Entry). count_of es u)
     (or_marked (marks g) g some) in
     omega arith
 
-part_cases : (ms g : List Entry) (u : List ℕ) → 0 < cnt g u → (0 < length ms → 0 < cnt ms u)
-    → 0 < cnt (marked_or ms g) u
+part_cases : (ms g : List Entry) (u : List ℕ) → 0 < count_of g u → (0 < length ms → 0 < count_of ms u)
+    → 0 < count_of (marked_or ms g) u
 part_cases [] g u h k = h
 part_cases (m ∷ ms) g u h k = k (omega arith)
 
-pub in_part : (g : List Entry) (u : List ℕ) → 0 < cnt g u
-    → (0 < length (marks g) → 0 < cnt (marks g) u) → has (tuples (part g)) u ≡ true
+pub in_part : (g : List Entry) (u : List ℕ) → 0 < count_of g u
+    → (0 < length (marks g) → 0 < count_of (marks g) u) → has (tuples (part g)) u ≡ true
 in_part g u h k = cnt_has (part g) u
     (let c = part_cases (marks g) g u h k in let r = cnt_reverse (marked_or (marks g) g) u in omega
     arith)
@@ -177,12 +177,12 @@ in_part g u h k = cnt_has (part g) u
 -- ---- in a group of a table
 
 pub group_few : (key : List ℕ) (es : List Entry) (w u : List ℕ) → AreApart es
-    → cnt (grp key es w) u ≤ 1
+    → count_of (group_of key es w) u ≤ 1
 group_few key es w u h =
     let c = cnt_grp key es w u in
     let o = cnt_once es u h in
     let l = one_le (same (pick key u) w) in
-    let p = small_product (cnt es u) (one (same (pick key u) w)) o l in
+    let p = small_product (count_of es u) (one (same (pick key u) w)) o l in
     omega arith
   where
     small_product : (a b : ℕ) → a ≤ 1 → b ≤ 1 → a * b ≤ 1
@@ -193,23 +193,23 @@ group_few key es w u h =
     small_product (suc zero) (suc (suc b)) h k = absurd (omega arith)
 
 pub marked_group : (key : List ℕ) (es : List Entry) (w : List ℕ)
-    → length (marks (grp key es w)) ≡ many key (marks es) w
+    → length (marks (group_of key es w)) ≡ group_size key (marks es) w
 marked_group key es w = ap (λ (fs : List Entry). length fs) (marks_grp key es w)
     ∙ length_grp key (marks es) w
 
 pub marked_in_group : (key : List ℕ) (es : List Entry) (w u : List ℕ)
-    → 0 < cnt (marks (grp key es w)) u → 0 < cnt (marks es) u
+    → 0 < count_of (marks (group_of key es w)) u → 0 < count_of (marks es) u
 marked_in_group key es w u h =
-    let e : cnt (marks (grp key es w)) u ≡ cnt (grp key (marks es) w) u = ap
-    (λ (fs : List Entry). cnt fs u) (marks_grp key es w) in
+    let e : count_of (marks (group_of key es w)) u ≡ count_of (group_of key (marks es) w) u = ap
+    (λ (fs : List Entry). count_of fs u) (marks_grp key es w) in
     let c = cnt_grp key (marks es) w u in
-    (both_positive (cnt (marks es) u) (one (same (pick key u) w)) (omega arith)).0
+    (both_positive (count_of (marks es) u) (one (same (pick key u) w)) (omega arith)).0
 
-pub group_marked : (key : List ℕ) (es : List Entry) (w u : List ℕ) → 0 < cnt (marks es) u
-    → 0 < one (same (pick key u) w) → 0 < cnt (marks (grp key es w)) u
+pub group_marked : (key : List ℕ) (es : List Entry) (w u : List ℕ) → 0 < count_of (marks es) u
+    → 0 < one (same (pick key u) w) → 0 < count_of (marks (group_of key es w)) u
 group_marked key es w u h k =
-    let e : cnt (marks (grp key es w)) u ≡ cnt (grp key (marks es) w) u = ap
-    (λ (fs : List Entry). cnt fs u) (marks_grp key es w) in
+    let e : count_of (marks (group_of key es w)) u ≡ count_of (group_of key (marks es) w) u = ap
+    (λ (fs : List Entry). count_of fs u) (marks_grp key es w) in
     let c = cnt_grp key (marks es) w u in
-    let p = product_positive (cnt (marks es) u) (one (same (pick key u) w)) h k in
+    let p = product_positive (count_of (marks es) u) (one (same (pick key u) w)) h k in
     omega arith

@@ -29,7 +29,7 @@ use Rattle.std.specs.Prelude.{◌||◌, nat_lt, IfSome, IfNone, MatchOption}
 use Rattle.std.proofs.lemmas.Bool.{cases_Bool, false≢true, lt-ltb, le-ltb}
 use Rattle.djq_index.specs.declared.place.Place.{Place}
 use Rattle.djq_index.specs.Tuple.{same, pick}
-use Rattle.djq_index.specs.Entries.{Entry, cnt, grp, head_at}
+use Rattle.djq_index.specs.Entries.{Entry, count_of, group_of, head_at}
 use Rattle.djq_index.specs.Table.{AreApart, IsAt}
 use Rattle.djq_index.proofs.Tuples.{same_is, same_refl}
 use Rattle.djq_index.proofs.Groups.{grp_yes, grp_no}
@@ -70,11 +70,11 @@ inside_kept d es g (x ∷ xs) e ys h r = further d es e (r xs (cc))
 
 -- what stands in a group stands in the table
 pub inside_group : (key : List ℕ) (es : List Entry) (w : List ℕ) (xs : List Entry) (e : Entry)
-    (ys : List Entry) → grp key es w ≡ xs ++ e ∷ ys → Inside es e
+    (ys : List Entry) → group_of key es w ≡ xs ++ e ∷ ys → Inside es e
 inside_group key [] w xs e ys h = absurd (nil_not xs e ys (sym (grp_nil key w) ∙ h))
 inside_group key (d ∷ es) w xs e ys h =
     elim (cases_Bool (same (pick key d.tuple) w)) [
-      | inl here ↦ inside_kept d es (grp key es w) xs e ys (sym (grp_yes key d es w here) ∙ h)
+      | inl here ↦ inside_kept d es (group_of key es w) xs e ys (sym (grp_yes key d es w here) ∙ h)
           (λ zs k. inside_group key es w zs e ys k)
       | inr other ↦ further d es e
           (inside_group key es w xs e ys (sym (grp_no key d es w other) ∙ h))
@@ -184,7 +184,7 @@ first_of r k (d ∷ es) p h inside e =
 -- ---- a level's group
 
 abbrev pub group_entries : Reducts → ℕ → List ℕ → List Entry
-group_entries r k w = grp (key_at r.tables (source r.tree k))
+group_entries r k w = group_of (key_at r.tables (source r.tree k))
     (entries_at r.tables (source r.tree k)) w
 
 pub first_some : (r : Reducts) (k : ℕ) (w : List ℕ) (o : Option Place) (p : Place) → IsReducts r
@@ -257,27 +257,27 @@ next_none r c w o l is = l.later ∙ none_of l.back (sym l.head ∙ is)
 
 pub root_found : (r : Reducts) (es : List Entry) (o : Option Place)
     → es ≡ entries_at r.tables (length r.tree.nodes - 1)
-    → MatchOption o (cnt es [] ≡ 0) (λ p. IsAt es p []) → is_some o ≡ has_root r
+    → MatchOption o (count_of es [] ≡ 0) (λ p. IsAt es p []) → is_some o ≡ has_root r
 unfolding has_root
 root_found r es None e h = sym
-    (ap (λ (fs : List Entry). nat_lt 0 (cnt fs [])) (sym e) ∙ le-ltb 0 (cnt es []) (omega arith))
+    (ap (λ (fs : List Entry). nat_lt 0 (count_of fs [])) (sym e) ∙ le-ltb 0 (count_of es []) (omega arith))
 root_found r es (Some p) e h = sym
-    (ap (λ (fs : List Entry). nat_lt 0 (cnt fs [])) (sym e)
-    ∙ lt-ltb 0 (cnt es []) (there es h.front h.entry h.back [] h.is h.tuple))
+    (ap (λ (fs : List Entry). nat_lt 0 (count_of fs [])) (sym e)
+    ∙ lt-ltb 0 (count_of es []) (there es h.front h.entry h.back [] h.is h.tuple))
 
 -- ---- the same in the words of the code, which reads a table of its own
 
 pub same_group : (r : Reducts) (k n : ℕ) (key : List ℕ) (es : List Entry) (w : List ℕ)
     → n ≡ source r.tree k → key ≡ key_at r.tables n → es ≡ entries_at r.tables n
-    → grp key es w ≡ group_entries r k w
+    → group_of key es w ≡ group_entries r k w
 same_group r k n key es w at same_key same =
-    ap (λ (l : List ℕ). grp l es w) same_key
-    ∙ ap (λ (fs : List Entry). grp (key_at r.tables n) fs w) same
-    ∙ ap (λ (i : ℕ). grp (key_at r.tables i) (entries_at r.tables i) w) at
+    ap (λ (l : List ℕ). group_of l es w) same_key
+    ∙ ap (λ (fs : List Entry). group_of (key_at r.tables n) fs w) same
+    ∙ ap (λ (i : ℕ). group_of (key_at r.tables i) (entries_at r.tables i) w) at
 
 pub if_first : (r : Reducts) (k n : ℕ) (key : List ℕ) (es : List Entry) (w : List ℕ)
     (o : Option Place) → IsReducts r → n ≡ source r.tree k → key ≡ key_at r.tables n
-    → es ≡ entries_at r.tables n → o ≡ head_at (grp key es w)
+    → es ≡ entries_at r.tables n → o ≡ head_at (group_of key es w)
     → IfSome o (λ p. IsFirstAt r (group_at r k w) (record { level = k; place = p }))
 if_first r k n key es w None h at same_key same e = tt
 if_first r k n key es w (Some p) h at same_key same e = first_some r k w (Some p) p h
@@ -285,7 +285,7 @@ if_first r k n key es w (Some p) h at same_key same e = first_some r k w (Some p
 
 pub if_empty : (r : Reducts) (k n : ℕ) (key : List ℕ) (es : List Entry) (w : List ℕ)
     (o : Option Place) → n ≡ source r.tree k → key ≡ key_at r.tables n → es ≡ entries_at r.tables n
-    → o ≡ head_at (grp key es w)
+    → o ≡ head_at (group_of key es w)
     → IfNone o (group_at r k w ≡ [])
 if_empty r k n key es w None at same_key same e = first_none r k w None
     (e ∙ ap (λ (g : List Entry). head_at g) (same_group r k n key es w at same_key same)) refl
@@ -294,7 +294,7 @@ if_empty r k n key es w (Some p) at same_key same e = tt
 -- what the table says of the next place
 abbrev pub SaysNext : List ℕ → List Entry → Place → Option Place → Type 0
 SaysNext key es p o = (w : List ℕ) (xs : List Entry) (e : Entry) (ys : List Entry)
-    → grp key es w ≡ xs ++ e ∷ ys → e.at ≡ p → o ≡ head_at ys
+    → group_of key es w ≡ xs ++ e ∷ ys → e.at ≡ p → o ≡ head_at ys
 
 later_in : (r : Reducts) (c : Choice) (n : ℕ) (key : List ℕ) (es : List Entry) (w : List ℕ)
     (o : Option Place) → IsReducts r → IsAlive r c → n ≡ source r.tree c.level

@@ -22,7 +22,7 @@ use Rattle.std.proofs.Common.{
 use Rattle.std.proofs.lemmas.Bool.{cases_Bool, cases_eq, false≢true}
 use Rattle.djq_hyper.specs.Hypergraph.{member}
 use Rattle.djq_index.specs.Tuple.{same, pick, one}
-use Rattle.djq_index.specs.Entries.{Entry, cnt}
+use Rattle.djq_index.specs.Entries.{Entry, count_of}
 use Rattle.djq_index.specs.Table.{AreWide}
 use Rattle.djq_index.proofs.Tuples.{same_is, one_false}
 use Rattle.djq_index.proofs.Counts.{cnt_cons}
@@ -68,14 +68,14 @@ use Rattle.djq_cursor.proofs.Good.{
 -- ---- a level's group
 
 pub group_in : (r : Reducts) (k : ℕ) (w u : List ℕ) → has (group_at r k w) u ≡ true
-    → (0 < cnt (entries_at r.tables (source r.tree k)) u)
+    → (0 < count_of (entries_at r.tables (source r.tree k)) u)
     × (pick (key_at r.tables (source r.tree k)) u ≡ w)
 unfolding group_at
 group_in r k w u h = group_says (key_at r.tables (source r.tree k))
     (entries_at r.tables (source r.tree k)) w u h
 
 pub in_group : (r : Reducts) (k : ℕ) (w u : List ℕ)
-    → 0 < cnt (entries_at r.tables (source r.tree k)) u
+    → 0 < count_of (entries_at r.tables (source r.tree k)) u
     → pick (key_at r.tables (source r.tree k)) u ≡ w → has (group_at r k w) u ≡ true
 unfolding group_at
 in_group r k w u h e = group_has (key_at r.tables (source r.tree k))
@@ -88,14 +88,14 @@ group_is_once r k w h = group_once (key_at r.tables (source r.tree k))
     (apart_at r.tables (source r.tree k) (h.family.sound (source r.tree k)))
 
 pub group_is_filled : (r : Reducts) (k : ℕ) (w : List ℕ) → IsReducts r → IsLevel r.tree k
-    → 0 < cnt (entries_at r.tables k) w → group_at r k w ≡ [] → ⊥
+    → 0 < count_of (entries_at r.tables k) w → group_at r k w ≡ [] → ⊥
 unfolding group_at
 group_is_filled r k w h l there =
     group_filled (key_at r.tables (source r.tree k)) (entries_at r.tables (source r.tree k)) w
     (trim_down r k (source r.tree k) w h l.within (level_trim r.tree k l) there)
 
-no_cnt : (u : List ℕ) → cnt [] u ≡ 0
-unfolding cnt
+no_cnt : (u : List ℕ) → count_of [] u ≡ 0
+unfolding count_of
 no_cnt u = refl
 
 wide_parts : (width : ℕ) (e : Entry) (es : List Entry) → AreWide width (e ∷ es)
@@ -103,7 +103,7 @@ wide_parts : (width : ℕ) (e : Entry) (es : List Entry) → AreWide width (e �
 unfolding AreWide
 wide_parts width e es h = (h.0, h.1)
 
-wide_in : (width : ℕ) (es : List Entry) (u : List ℕ) → AreWide width es → 0 < cnt es u
+wide_in : (width : ℕ) (es : List Entry) (u : List ℕ) → AreWide width es → 0 < count_of es u
     → length u ≡ width
 wide_in width [] u h there = absurd (let n = no_cnt u in omega arith)
 wide_in width (e ∷ es) u h there =
@@ -115,14 +115,14 @@ wide_in width (e ∷ es) u h there =
           other in omega arith)
     ]
 
-table_wide : (r : Reducts) (j : ℕ) (u : List ℕ) → IsReducts r → 0 < cnt (entries_at r.tables j) u
+table_wide : (r : Reducts) (j : ℕ) (u : List ℕ) → IsReducts r → 0 < count_of (entries_at r.tables j) u
     → length u ≡ width_at r.tables j
 unfolding entries_at width_at
 table_wide r j u h there = wide_in (table_at r.tables j).width (table_at r.tables j).entries u
     (h.family.sound j).wide there
 
 pub tuple_wide : (r : Reducts) (j : ℕ) (u : List ℕ) → IsReducts r → j < length r.tree.nodes
-    → 0 < cnt (entries_at r.tables j) u → length u ≡ length (label_at r.tree.labels j)
+    → 0 < count_of (entries_at r.tables j) u → length u ≡ length (label_at r.tree.labels j)
 tuple_wide r j u h within there = table_wide r j u h there ∙ (h.family.keyed j within).width
 
 -- ---- a step
@@ -135,7 +135,7 @@ step_wide t k s u = length_written t.head (label_at t.labels (source t k)) u s
 pub record Joins (r : Reducts) (k : ℕ) (s u : List ℕ) : Type 0 where
   pub level : IsLevel r.tree k
   pub wide : length s ≡ length r.tree.head
-  pub there : 0 < cnt (entries_at r.tables (source r.tree k)) u
+  pub there : 0 < count_of (entries_at r.tables (source r.tree k)) u
   pub key : pick (key_at r.tables (source r.tree k)) u ≡ on_node r.tree k s
 
 pub joins : (r : Reducts) (k : ℕ) (s u : List ℕ) → IsLevel r.tree k → length s ≡ length r.tree.head
@@ -234,9 +234,9 @@ good_step r k s u h j good =
       root = good.root;
       below =
           split_child t k tree j.level (λ n. IsIn r n (step t k s u))
-          (subst (λ (v : List ℕ). 0 < cnt (entries_at r.tables (source t k)) v)
+          (subst (λ (v : List ℕ). 0 < count_of (entries_at r.tables (source t k)) v)
           (sym (step_child r k s u h j)) j.there)
-          (λ i n above child. subst (λ (v : List ℕ). 0 < cnt (entries_at r.tables n) v)
+          (λ i n above child. subst (λ (v : List ℕ). 0 < count_of (entries_at r.tables n) v)
           (sym (step_else r k i n s u h j (omega arith) child
           (not_source t k i n tree j.level above child))) (good.below i n (omega arith) child));
     }

@@ -22,7 +22,7 @@ use Rattle.std.proofs.Common.{
 use Rattle.std.specs.Prelude.{◌↔◌, nat_lt}
 use Rattle.std.proofs.lemmas.Bool.{cases_eq, cases_lt, false≢true, lt-ltb, ltb-true, and_from}
 use Rattle.djq_index.specs.Tuple.{same, pick}
-use Rattle.djq_index.specs.Entries.{Entry, cnt, many, grp, marks}
+use Rattle.djq_index.specs.Entries.{Entry, count_of, group_size, group_of, marks}
 use Rattle.djq_index.proofs.Tuples.{is_same, one_true}
 use Rattle.djq_index.proofs.Counts.{cnt_split, length_grp}
 use Rattle.djq_index.proofs.Groups.{many_sub}
@@ -73,58 +73,58 @@ changed_in : (r : Reducts) (k : ℕ) (w u : List ℕ) → has (changed_at r k w)
     → has (group_at r k w) u ≡ true
 unfolding changed_at group_at
 changed_in r k w u h = part_in
-    (grp (key_at r.tables (source r.tree k)) (entries_at r.tables (source r.tree k)) w) u h
+    (group_of (key_at r.tables (source r.tree k)) (entries_at r.tables (source r.tree k)) w) u h
 
 changed_once : (r : Reducts) (k : ℕ) (w : List ℕ) → IsReducts r → AreOnce (changed_at r k w)
 unfolding changed_at
 changed_once r k w h =
     let es = entries_at r.tables (source r.tree k) in
-    part_once (grp (key_at r.tables (source r.tree k)) es w)
+    part_once (group_of (key_at r.tables (source r.tree k)) es w)
     (λ u. group_few (key_at r.tables (source r.tree k)) es w u
     (apart_at r.tables (source r.tree k) (h.family.sound (source r.tree k))))
 
 changed_filled : (r : Reducts) (k : ℕ) (w : List ℕ) → IsReducts r → IsLevel r.tree k
-    → 0 < cnt (entries_at r.tables k) w → changed_at r k w ≡ [] → ⊥
+    → 0 < count_of (entries_at r.tables k) w → changed_at r k w ≡ [] → ⊥
 unfolding changed_at
 changed_filled r k w h l there =
     let key = key_at r.tables (source r.tree k) in
     let es = entries_at r.tables (source r.tree k) in
     let m = trim_down r k (source r.tree k) w h l.within (level_trim r.tree k l) there in
-    part_filled (grp key es w) (let g = length_grp key es w in omega arith)
+    part_filled (group_of key es w) (let g = length_grp key es w in omega arith)
 
 -- where the group has marks, a marked tuple is chosen
 changed_marked : (r : Reducts) (k : ℕ) (w u : List ℕ)
-    → 0 < many (key_at r.tables (source r.tree k)) (marks (entries_at r.tables (source r.tree k))) w
+    → 0 < group_size (key_at r.tables (source r.tree k)) (marks (entries_at r.tables (source r.tree k))) w
     → has (changed_at r k w) u ≡ true → IsMarkedAt r.tables (source r.tree k) u
 unfolding changed_at
 changed_marked r k w u some h =
     let key = key_at r.tables (source r.tree k) in
     let es = entries_at r.tables (source r.tree k) in
     marked_in_group key es w u
-    (part_marked (grp key es w) u (let g = marked_group key es w in omega arith) h)
+    (part_marked (group_of key es w) u (let g = marked_group key es w in omega arith) h)
 
 in_changed : (r : Reducts) (k : ℕ) (w u : List ℕ) → has (group_at r k w) u ≡ true
-    → (0 < many (key_at r.tables (source r.tree k)) (marks (entries_at r.tables (source r.tree k)))
+    → (0 < group_size (key_at r.tables (source r.tree k)) (marks (entries_at r.tables (source r.tree k)))
     w → IsMarkedAt r.tables (source r.tree k) u) → has (changed_at r k w) u ≡ true
 unfolding changed_at group_at
 in_changed r k w u h marked =
     let key = key_at r.tables (source r.tree k) in
     let es = entries_at r.tables (source r.tree k) in
     let same_key = (group_in r k w u h).1 in
-    in_part (grp key es w) u (has_cnt (grp key es w) u h)
+    in_part (group_of key es w) u (has_cnt (group_of key es w) u h)
     (λ some. group_marked key es w u (marked (let g = marked_group key es w in omega arith))
     (let o = one_true (same (pick key u) w) (is_same (pick key u) w same_key) in omega arith))
 
-no_many : (key : List ℕ) (w : List ℕ) → many key [] w ≡ 0
-unfolding many
+no_many : (key : List ℕ) (w : List ℕ) → group_size key [] w ≡ 0
+unfolding group_size
 no_many key w = refl
 
-no_cnt : (u : List ℕ) → cnt [] u ≡ 0
-unfolding cnt
+no_cnt : (u : List ℕ) → count_of [] u ≡ 0
+unfolding count_of
 no_cnt u = refl
 
-none_many : (key : List ℕ) (es : List Entry) (w : List ℕ) → ((u : List ℕ) → cnt es u ≡ 0)
-    → many key es w ≡ 0
+none_many : (key : List ℕ) (es : List Entry) (w : List ℕ) → ((u : List ℕ) → count_of es u ≡ 0)
+    → group_size key es w ≡ 0
 none_many key es w h =
     (let s = many_sub key es [] (λ u. let z = h u in let n = no_cnt u in omega arith) w in let n =
     no_many key w in omega arith)
@@ -173,13 +173,13 @@ changed_guide r a h m = record {
 marked_true : (r : Reducts) → root_marked r ≡ true
     → IsMarkedAt r.tables (length r.tree.nodes - 1) []
 unfolding root_marked
-marked_true r e = ltb-true 0 (cnt (marks (entries_at r.tables (length r.tree.nodes - 1))) []) e
+marked_true r e = ltb-true 0 (count_of (marks (entries_at r.tables (length r.tree.nodes - 1))) []) e
 
 marked_false : (r : Reducts) → root_marked r ≡ false
     → IsMarkedAt r.tables (length r.tree.nodes - 1) [] → ⊥
 unfolding root_marked
 marked_false r e there = false≢true
-    (sym e ∙ lt-ltb 0 (cnt (marks (entries_at r.tables (length r.tree.nodes - 1))) []) there)
+    (sym e ∙ lt-ltb 0 (count_of (marks (entries_at r.tables (length r.tree.nodes - 1))) []) there)
 
 leaf_below : (r : Reducts) (a : ℕ) → IsReducts r → IsUpdated r a → a < length r.tree.nodes
 leaf_below r a h m = (let l = m.leaf in let f = h.family.is_tree.fits in omega arith)
@@ -257,7 +257,7 @@ not_small big small a b h leaf w changed answer =
     let out : is_out small.tree.out f ≡ true = ap (λ (t : Tree). is_out t.out f) w.same_tree
     ∙ entry_out big a h leaf in
     let u = on_node big.tree f b in
-    let there = subst (λ (v : List ℕ). 0 < cnt (entries_at small.tables f) v)
+    let there = subst (λ (v : List ℕ). 0 < count_of (entries_at small.tables f) v)
     (projected big small a f b w) (answer.there f out) in
     let unmarked = w.unmarked u in
     let marked = changed.marked in
@@ -271,7 +271,7 @@ start_of t j low out = and_from (is_out t.out j) (nat_lt j t.second_stage) out
 
 -- and where it isn't marked there, it was an answer of the others
 still_answer : (big small : Reducts) (a : ℕ) (b : List ℕ) → IsLess big small a → IsAnswerOf big b
-    → cnt (marks (entries_at big.tables (entry_node big a)))
+    → count_of (marks (entries_at big.tables (entry_node big a)))
     (on_node big.tree (entry_node big a) b) ≡ 0 → IsAnswerOf small b
 still_answer big small a b w answer none =
     answer_of small b w.sound (answer.wide ∙ sym (ap (λ (t : Tree). length t.head) w.same_tree))
@@ -281,13 +281,13 @@ still_answer big small a b w answer none =
     let is : is_out big.tree.out j ≡ true = sym (ap (λ (t : Tree). is_out t.out j) w.same_tree)
     ∙ out in
     let there = answer.there j is in
-    subst (λ (v : List ℕ). 0 < cnt (entries_at small.tables j) v)
+    subst (λ (v : List ℕ). 0 < count_of (entries_at small.tables j) v)
     (sym (projected big small a j b w))
     (elim (cases_eq j (entry_node big a)) [
       | inl here ↦
-          subst (λ (i : ℕ). 0 < cnt (entries_at small.tables i) (on_node big.tree i b)) (sym here)
+          subst (λ (i : ℕ). 0 < count_of (entries_at small.tables i) (on_node big.tree i b)) (sym here)
           (let there_here = subst
-          (λ (i : ℕ). 0 < cnt (entries_at big.tables i) (on_node big.tree i b)) here there in
+          (λ (i : ℕ). 0 < count_of (entries_at big.tables i) (on_node big.tree i b)) here there in
           let unmarked = w.unmarked (on_node big.tree (entry_node big a) b) in
           let split = cnt_split (entries_at big.tables (entry_node big a))
           (on_node big.tree (entry_node big a) b) in
@@ -305,7 +305,7 @@ gained_is big small a h m w b = (
     answer = gained.is;
     marked =
         elim (cases_lt 0
-        (cnt (marks (entries_at big.tables (entry_node big a)))
+        (count_of (marks (entries_at big.tables (entry_node big a)))
         (on_node big.tree (entry_node big a) b))) [
           | inl marked ↦ marked
           | inr unmarked ↦ absurd

@@ -21,7 +21,7 @@ use Rattle.std.proofs.Common.{
 use Rattle.std.proofs.lemmas.Bool.{eq-eqb, ne_eqb}
 use Rattle.djq_hyper.specs.Hypergraph.{subset}
 use Rattle.djq_index.specs.declared.place.Place.{Place}
-use Rattle.djq_index.specs.Entries.{Entry, cnt}
+use Rattle.djq_index.specs.Entries.{Entry, count_of}
 use Rattle.djq_index.specs.Table.{ArePlaced, IsAt, IsElsewhere}
 use Rattle.djq_index.proofs.Apart.{there}
 use Rattle.djq_index.proofs.Places.{elsewhere_middle}
@@ -81,9 +81,9 @@ chosen_at r c l h = tuple_at_is (entries_at r.tables (source r.tree c.level)) c.
     (placed_in r (source r.tree c.level) h) l.live.is_at
 
 pub chosen_there : (r : Reducts) (c : Choice) → IsAlive r c → IsReducts r
-    → 0 < cnt (entries_at r.tables (source r.tree c.level)) (chosen r c)
+    → 0 < count_of (entries_at r.tables (source r.tree c.level)) (chosen r c)
 chosen_there r c l h =
-    subst (λ (u : List ℕ). 0 < cnt (entries_at r.tables (source r.tree c.level)) u)
+    subst (λ (u : List ℕ). 0 < count_of (entries_at r.tables (source r.tree c.level)) u)
     (sym (chosen_at r c l h))
     (there (entries_at r.tables (source r.tree c.level)) l.live.is_at.front l.live.is_at.entry
     l.live.is_at.back l.live.tuple l.live.is_at.is l.live.is_at.tuple)

@@ -24,7 +24,7 @@ use Rattle.std.proofs.Common.{
 use Rattle.std.specs.Prelude.{◌↔◌, nat_lt}
 use Rattle.std.proofs.lemmas.Bool.{cases_Bool, cases_eq, cases_lt, ltb-true, false≢true, and_parts}
 use Rattle.djq_index.specs.Tuple.{pick}
-use Rattle.djq_index.specs.Entries.{supp, cnt, many, marks, plain}
+use Rattle.djq_index.specs.Entries.{supports_of, count_of, group_size, marks, plain}
 use Rattle.djq_index.specs.Table.{Table}
 use Rattle.djq_index.proofs.Counts.{cnt_split}
 use Rattle.djq_index.proofs.Groups.{many_even}
@@ -63,12 +63,12 @@ pub record IsUpdated (r : Reducts) (a : ℕ) : Type 0 where
   pub leaf : a < r.tree.leaves
   pub above : (k : ℕ) (w : List ℕ) → r.tree.second_stage ≤ k
       → has_child (node_at r.tree.nodes k) (path_at r.tree.nodes a k) ≡ true
-      → 0 < cnt (entries_at r.tables k) w
+      → 0 < count_of (entries_at r.tables k) w
       → IsMarkedAt r.tables k w
       ↔ (0 < agreed (node_at r.tree.nodes k) (path_at r.tree.nodes a k) r.tables w)
   pub off : (k j : ℕ) (u : List ℕ) → r.tree.second_stage ≤ k
       → has_child (node_at r.tree.nodes k) j ≡ true → j ≢ path_at r.tree.nodes a k
-      → cnt (marks (entries_at r.tables j)) u ≡ 0
+      → count_of (marks (entries_at r.tables j)) u ≡ 0
 
 pub updated : (r : Reducts) (a : ℕ) → IsReducts r → a < r.tree.leaves
     → AreMarks r.tree r.tables a → IsUpdated r a
@@ -90,31 +90,31 @@ pub record IsLess (big small : Reducts) (a : ℕ) : Type 0 where
   pub sound : IsReducts small
   pub same_tree : small.tree ≡ big.tree
   pub unmarked : (u : List ℕ)
-      → cnt (entries_at small.tables (entry_node big a)) u ≡ cnt
+      → count_of (entries_at small.tables (entry_node big a)) u ≡ count_of
       (plain (entries_at big.tables (entry_node big a))) u
   pub others : (j : ℕ) (u : List ℕ) → is_start big.tree j ≡ true → j ≢ entry_node big a
-      → cnt (entries_at small.tables j) u ≡ cnt (entries_at big.tables j) u
+      → count_of (entries_at small.tables j) u ≡ count_of (entries_at big.tables j) u
 
 -- they have the unmarked tuples at the node k
 abbrev IsPlain : Reducts → Reducts → ℕ → Type 0
-IsPlain big small k = (u : List ℕ) → cnt (entries_at small.tables k) u ≡ cnt
+IsPlain big small k = (u : List ℕ) → count_of (entries_at small.tables k) u ≡ count_of
     (plain (entries_at big.tables k)) u
 
 -- what stays by its supports
 by_supports : (big small : Reducts) (k : ℕ) (w : List ℕ) → IsReducts big → IsReducts small
-    → (0 < supp (entries_at small.tables k) w → 0 < cnt (plain (entries_at big.tables k)) w)
-    → (0 < cnt (plain (entries_at big.tables k)) w → 0 < supp (entries_at small.tables k) w)
-    → cnt (entries_at small.tables k) w ≡ cnt (plain (entries_at big.tables k)) w
+    → (0 < supports_of (entries_at small.tables k) w → 0 < count_of (plain (entries_at big.tables k)) w)
+    → (0 < count_of (plain (entries_at big.tables k)) w → 0 < supports_of (entries_at small.tables k) w)
+    → count_of (entries_at small.tables k) w ≡ count_of (plain (entries_at big.tables k)) w
 by_supports big small k w hb hs stays comes =
     let es = entries_at small.tables k in
     let ps = plain (entries_at big.tables k) in
     let split = cnt_split (entries_at big.tables k) w in
     let once = cnt_once (entries_at big.tables k) w (apart_at big.tables k (hb.family.sound k)) in
     let less = cnt_once es w (apart_at small.tables k (hs.family.sound k)) in
-    elim (cases_lt 0 (cnt es w)) [
+    elim (cases_lt 0 (count_of es w)) [
       | inl some ↦ (let p = stays (cnt_supp es w (hs.family.supported k) some) in omega arith)
       | inr none ↦
-          elim (cases_lt 0 (cnt ps w)) [
+          elim (cases_lt 0 (count_of ps w)) [
             | inl some ↦ absurd (let p = supp_cnt es w (comes some) in omega arith)
             | inr empty ↦ omega arith
           ]
@@ -123,7 +123,7 @@ by_supports big small k w hb hs stays comes =
 -- off the path all are unmarked
 off_plain : (r : Reducts) (a k : ℕ) (w : List ℕ) → AreMarks r.tree r.tables a
     → IsOff r.tree.nodes a k
-    → cnt (plain (entries_at r.tables k)) w ≡ cnt (entries_at r.tables k) w
+    → count_of (plain (entries_at r.tables k)) w ≡ count_of (entries_at r.tables k) w
 off_plain r a k w m off = (let z = m.path.off k off w in let s = cnt_split (entries_at r.tables k) w
     in omega arith)
 
@@ -131,7 +131,7 @@ off_plain r a k w m off = (let z = m.path.off k off w in let s = cnt_split (entr
 small_trim : (big small : Reducts) (k c : ℕ) (w : List ℕ) → IsReducts big → IsReducts small
     → small.tree ≡ big.tree → k < length big.tree.nodes → node_at big.tree.nodes k ≡ Trim c
     → IsPlain big small c
-    → supp (entries_at small.tables k) w ≡ many (key_at big.tables c)
+    → supports_of (entries_at small.tables k) w ≡ group_size (key_at big.tables c)
     (plain (entries_at big.tables c)) w
 small_trim big small k c w hb hs same within e below =
     let low = (hb.family.is_tree.trim k c e).lower in
@@ -139,7 +139,7 @@ small_trim big small k c w hb hs same within e below =
     within in
     trim_law (node_at small.tree.nodes k) c small.tables k
     (ap (λ (t : Tree). node_at t.nodes k) same ∙ e) (hs.reduced.at k (omega arith) inside) w
-    ∙ ap (λ (ks : List ℕ). many ks (entries_at small.tables c) w)
+    ∙ ap (λ (ks : List ℕ). group_size ks (entries_at small.tables c) w)
     (key_agree big small c hb hs same (omega arith))
     ∙ many_even (key_at big.tables c) (entries_at small.tables c) (plain (entries_at big.tables c))
     below w
@@ -147,8 +147,8 @@ small_trim big small k c w hb hs same within e below =
 small_meet : (big small : Reducts) (k g d : ℕ) (w : List ℕ) → IsReducts big → IsReducts small
     → small.tree ≡ big.tree → k < length big.tree.nodes → node_at big.tree.nodes k ≡ Meet g d
     → IsPlain big small g → IsPlain big small d
-    → supp (entries_at small.tables k) w ≡ cnt (plain (entries_at big.tables g)) w
-    * cnt (plain (entries_at big.tables d)) (pick (key_at big.tables g) w)
+    → supports_of (entries_at small.tables k) w ≡ count_of (plain (entries_at big.tables g)) w
+    * count_of (plain (entries_at big.tables d)) (pick (key_at big.tables g) w)
 small_meet big small k g d w hb hs same within e guard side =
     let low = (hb.family.is_tree.meet k g d e).guard_lower in
     let inside : k < length small.tree.nodes = subst (λ (t : Tree). k < length t.nodes) (sym same)
@@ -156,19 +156,19 @@ small_meet big small k g d w hb hs same within e guard side =
     meet_law (node_at small.tree.nodes k) g d small.tables k
     (ap (λ (t : Tree). node_at t.nodes k) same ∙ e) (hs.reduced.at k (omega arith) inside) w
     ∙ ap₂ (λ (x y : ℕ). x * y) (guard w)
-    (ap (λ (ks : List ℕ). cnt (entries_at small.tables d) (pick ks w))
+    (ap (λ (ks : List ℕ). count_of (entries_at small.tables d) (pick ks w))
     (key_agree big small g hb hs same (omega arith)) ∙ side (pick (key_at big.tables g) w))
 
 -- at a node below the second stage the unmarked tuples are those that its children's make of it
 plain_trim : (n : Node) (c : ℕ) (ts : List Table) (k : ℕ) → n ≡ Trim c → ArePlainAt n ts k
-    → (w : List ℕ) → (0 < cnt (plain (entries_at ts k)) w)
-    ↔ (0 < many (key_at ts c) (plain (entries_at ts c)) w)
+    → (w : List ℕ) → (0 < count_of (plain (entries_at ts k)) w)
+    ↔ (0 < group_size (key_at ts c) (plain (entries_at ts c)) w)
 unfolding ArePlainAt
 plain_trim n c ts k e h = subst (λ (m : Node). ArePlainAt m ts k) e h
 
 plain_meet : (n : Node) (g d : ℕ) (ts : List Table) (k : ℕ) → n ≡ Meet g d → ArePlainAt n ts k
-    → (w : List ℕ) → cnt (plain (entries_at ts k)) w ≡ cnt (plain (entries_at ts g)) w
-    * cnt (plain (entries_at ts d)) (pick (key_at ts g) w)
+    → (w : List ℕ) → count_of (plain (entries_at ts k)) w ≡ count_of (plain (entries_at ts g)) w
+    * count_of (plain (entries_at ts d)) (pick (key_at ts g) w)
 unfolding ArePlainAt
 plain_meet n g d ts k e h = subst (λ (m : Node). ArePlainAt m ts k) e h
 
@@ -179,7 +179,7 @@ leaf_plain : (big small : Reducts) (a k b : ℕ) → IsReducts big → AreMarks 
 unfolding on_path
 leaf_plain big small a k b hb m w within e u =
     elim (cases_eq k a) [
-      | inl here ↦ subst (λ (i : ℕ). cnt (entries_at small.tables i) u ≡ cnt
+      | inl here ↦ subst (λ (i : ℕ). count_of (entries_at small.tables i) u ≡ count_of
           (plain (entries_at big.tables i)) u) (sym here) (w.leaf u)
       | inr other ↦
           w.others k u (hb.family.is_tree.inner k b within e) other
@@ -222,14 +222,14 @@ meet_plain big small a k g d hb hs m same early within e inner guard side w =
     elim (cases_Bool (on_path t.nodes a k)) [
       | inl on ↦
           let p = plain_meet (node_at t.nodes k) g d big.tables k e (m.low k early on) w in
-          let q : supp (entries_at small.tables k) w ≡ cnt (plain (entries_at big.tables k)) w = s
+          let q : supports_of (entries_at small.tables k) w ≡ count_of (plain (entries_at big.tables k)) w = s
           ∙ sym p in
           by_supports big small k w hb hs (λ some. omega arith) (λ some. omega arith)
       | inr off ↦
           let first = off_below t a k g hb.family.is_tree (guard_child t.nodes k g d e) off in
           let second = off_below t a k d hb.family.is_tree (side_child t.nodes k g d e) off in
           let z = off_plain big a k w m (inner, off) in
-          let q : supp (entries_at small.tables k) w ≡ supp (entries_at big.tables k) w = s
+          let q : supports_of (entries_at small.tables k) w ≡ supports_of (entries_at big.tables k) w = s
           ∙ ap₂ (λ (x y : ℕ). x * y) (off_plain big a g w m first)
           (off_plain big a d (pick (key_at big.tables g) w) m second)
           ∙ sym (meet_law (node_at t.nodes k) g d big.tables k e

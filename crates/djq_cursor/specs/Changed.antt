@@ -1,7 +1,7 @@
 -- The answers that an update of one leaf changes.
 use Rattle.std.specs.Prelude.{ℕ, ◌<◌, List}
 use Rattle.djq_index.specs.Table.{Table}
-use Rattle.djq_index.specs.Entries.{cnt, marks}
+use Rattle.djq_index.specs.Entries.{count_of, marks}
 use Rattle.djq_reduct.specs.Tables.{entries_at}
 use Rattle.djq_reduct.specs.Reducts.{Reducts}
 use Rattle.djq_reduct.specs.Marks.{path_at}
@@ -9,7 +9,7 @@ use Rattle.djq_reduct.specs.Answers.{IsAnswerOf, on_node}
 
 -- the tuple u of the node j is marked
 abbrev pub IsMarkedAt : List Table → ℕ → List ℕ → Type 0
-IsMarkedAt ts j u = 0 < cnt (marks (entries_at ts j)) u
+IsMarkedAt ts j u = 0 < count_of (marks (entries_at ts j)) u
 
 -- where the path from the leaf a enters `out`
 abbrev pub entry_node : Reducts → ℕ → ℕ

@@ -1,6 +1,6 @@
 -- What a cursor has given.
 use Rattle.std.specs.Prelude.{ℕ, ◌-◌, Bool, nat_lt, List, [], length}
-use Rattle.djq_index.specs.Entries.{cnt}
+use Rattle.djq_index.specs.Entries.{count_of}
 use Rattle.djq_reduct.specs.Tables.{entries_at}
 use Rattle.djq_reduct.specs.Reducts.{Reducts}
 use Rattle.djq_cursor.specs.declared.cursor.Cursor.{Cursor}
@@ -9,7 +9,7 @@ use Rattle.djq_cursor.specs.Walk.{given_by, FitsBy}
 
 -- whether there is any answer: the root's table has the empty tuple
 unfoldable pub has_root : Reducts → Bool
-has_root r = nat_lt 0 (cnt (entries_at r.tables (length r.tree.nodes - 1)) [])
+has_root r = nat_lt 0 (count_of (entries_at r.tables (length r.tree.nodes - 1)) [])
 
 -- the answers that a cursor has given, by its state, its places and the reducts
 unfoldable pub given : Reducts → Cursor → List (List ℕ)

@@ -16,7 +16,7 @@ use Rattle.std.specs.Prelude.{
   slice_set,
 }
 use Rattle.djq_index.specs.declared.place.Place.{Place}
-use Rattle.djq_index.specs.Entries.{Entry, grp}
+use Rattle.djq_index.specs.Entries.{Entry, group_of}
 use Rattle.djq_tree.specs.declared.node.Node.{Node}
 use Rattle.djq_tree.specs.declared.node.Node.TheVariants.{Leaf, Trim, Meet}
 use Rattle.djq_tree.specs.Labels.{label_at}
@@ -55,7 +55,7 @@ tuple_at (e ∷ es) p = cond (e.at.slot == p.slot) e.tuple (tuple_at es p)
 -- the tuples of a level's group with these cells
 unfoldable pub group_at : Reducts → ℕ → List ℕ → List (List ℕ)
 group_at r k w = map (λ e. e.tuple)
-    (grp (key_at r.tables (source r.tree k)) (entries_at r.tables (source r.tree k)) w)
+    (group_of (key_at r.tables (source r.tree k)) (entries_at r.tables (source r.tree k)) w)
 
 -- an answer over the head F, once the cells u of the variables l are written
 abbrev pub written : List ℕ → List ℕ → List ℕ → List ℕ → List ℕ

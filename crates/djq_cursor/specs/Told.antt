@@ -18,7 +18,7 @@ use Rattle.std.specs.Prelude.{
   None,
 }
 use Rattle.djq_index.specs.declared.place.Place.{Place}
-use Rattle.djq_index.specs.Entries.{Entry, cnt, grp, marks}
+use Rattle.djq_index.specs.Entries.{Entry, count_of, group_of, marks}
 use Rattle.djq_reduct.specs.Tables.{entries_at, key_at}
 use Rattle.djq_reduct.specs.Reducts.{Reducts}
 use Rattle.djq_cursor.specs.Levels.{source}
@@ -33,7 +33,7 @@ marked_or (m ∷ ms) g = m ∷ ms
 -- the marked tuples of a level's group if there are any, else all of it, the last first
 unfoldable pub changed_at : Reducts → ℕ → List ℕ → List (List ℕ)
 changed_at r k w =
-    let g = grp (key_at r.tables (source r.tree k)) (entries_at r.tables (source r.tree k)) w in
+    let g = group_of (key_at r.tables (source r.tree k)) (entries_at r.tables (source r.tree k)) w in
     map (λ e. e.tuple) (reverse (marked_or (marks g) g))
 
 -- the tuple before a marked one is kept only if it is marked, too
@@ -43,7 +43,7 @@ kept (Some q) here before = cond (here && not before) None (Some q)
 
 -- whether there is any answer to tell: the root's empty tuple is marked
 unfoldable pub root_marked : Reducts → Bool
-root_marked r = nat_lt 0 (cnt (marks (entries_at r.tables (length r.tree.nodes - 1))) [])
+root_marked r = nat_lt 0 (count_of (marks (entries_at r.tables (length r.tree.nodes - 1))) [])
 
 -- the answers that a cursor has given, by its state, its places, the reducts and their marks
 unfoldable pub told : Reducts → DeltaCursor → List (List ℕ)

@@ -1,6 +1,6 @@
 ghost use Rattle.std.specs.Prelude.{◌≡◌, ◌↔◌, ◌+◌, ◌<◌, ◌≤◌, true, length};
 ghost use Rattle.djq_hyper.specs.Hypergraph.{one};
-ghost use Rattle.djq_index.specs.Entries.{cnt};
+ghost use Rattle.djq_index.specs.Entries.{count_of};
 ghost use Rattle.djq_tree.specs.Tree.{is_out};
 ghost use Rattle.djq_reduct.specs.Tables.{entries_at};
 ghost use Rattle.djq_reduct.specs.Answers.{IsAnswerOf, on_node};
@@ -22,7 +22,7 @@ fn allows<L: Ledger>(
     requires wide { length answer.now ≡ length reducts.now.tree.head }
     ensures exact { result ≡ true
         ↔ (is_out reducts.now.tree.out node ≡ true
-        → 0 < cnt (entries_at reducts.now.tables node) (on_node reducts.now.tree node answer.now)) }
+        → 0 < count_of (entries_at reducts.now.tables node) (on_node reducts.now.tree node answer.now)) }
     ensures counted { listing.new ≡ listing.old + one (is_out reducts.now.tree.out node) }
 {
     if !reducts.tree().is_out(node) {

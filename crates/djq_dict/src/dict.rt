@@ -1,4 +1,5 @@
-ghost use Rattle.std.specs.Prelude.{◌≡◌, ◌<◌, ◌≤◌, ◌↔◌, ◌==◌, ◌++◌, ◌∷◌, [], length, slice_get, Some, Err, IfSome, IfNone, IfOk, OnOk, OnErr, IsOk, Contains};
+ghost use Rattle.std.specs.Prelude.{◌≡◌, ◌<◌, ◌≤◌, ◌↔◌, ◌==◌, ◌++◌, ◌∷◌, [], length, slice_get};
+ghost use Rattle.std.specs.Prelude.{Some, Err, IfSome, IfNone, IfOk, OnOk, OnErr, IsOk, Contains};
 ghost use Rattle.djq_dict.specs.Hash.{hash_of};
 ghost use Rattle.djq_dict.specs.Known.{AllDifferent, IsUnknown, Learns};
 
@@ -88,7 +89,8 @@ impl Dict {
         ensures number { IfOk result (λ n. slice_get self.new n ≡ Some text.now) }
         ensures learned { OnOk result (Learns self.old text.now self.new) }
         ensures known { Contains self.old text.now → IsOk result }
-        ensures full { (result ≡ Err InternRefusal.Full) ↔ ((length self.old ≡ MOST_TEXTS) × IsUnknown self.old text.now) }
+        ensures full { (result ≡ Err InternRefusal.Full) ↔ ((length self.old ≡ MOST_TEXTS)
+            × IsUnknown self.old text.now) }
         ensures err { OnErr result (self.new ≡ self.old) }
         ensures different { AllDifferent self.new }
     {

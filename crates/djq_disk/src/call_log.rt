@@ -60,7 +60,8 @@ impl CallLog {
     pub(crate) fn push(&mut self, call: Result<DiskCall, AllocError>)
         ensures first { self.new.first ≡ self.old.first }
         ensures gains { MatchResult call (λ made. GainsCall made self.old self.new) (λ _. self.new.calls ≡ None) }
-        ensures told { MatchResult call (λ made. WhereTold (told_by self.old) (told_by self.new) (λ o n. n ≡ after_call o made))
+        ensures told { MatchResult call (λ made. WhereTold (told_by self.old) (told_by self.new)
+            (λ o n. n ≡ after_call o made))
             (λ _. told_by self.new ≡ None) }
     {
         self.calls.push_made(call);

@@ -42,7 +42,14 @@ impl Model for MemDisk {
 impl MemDisk {
     /// A disk that was asked nothing yet, with a file of these bytes.
     pub fn of(alloc: Global, bytes: &[u8]) -> Result<Self, AllocError>
-        ensures { IfOk result (λ disk. disk ≡ record { log = record { first = bytes.now; calls = Some [] }; to_fail = [] }) }
+        ensures { IfOk result (λ disk. disk ≡ record {
+          log = record {
+            first = bytes.now;
+            calls =
+                Some [];
+          };
+          to_fail = [];
+        }) }
     {
         let first = Piece::copy_of(alloc, bytes)?;
         Ok(MemDisk {

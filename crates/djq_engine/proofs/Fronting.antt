@@ -101,7 +101,8 @@ find_front {A = A} p (x ∷ xs) ys front = by (p x) refl (λ f. find_front p xs 
     by false e rest = rest (λ y k. sym (ap (λ b. b || list_any p xs) e) ∙ front y k)
 
 -- a name that passes, and of which a row came, is among those of the rows
-other_queries_stay : (st : Store) (xs : List HeldRow) (p : Bytes → Bool) (name : Bytes) → p name ≡ true → has_come st xs name
+other_queries_stay : (st : Store) (xs : List HeldRow) (p : Bytes → Bool) (name : Bytes) → p name ≡ true
+    → has_come st xs name
     ≡ true
     → list_any p (map (λ (h : HeldRow). h.relation) xs) ≡ true
 other_queries_stay st [] p name pass hit = absurd (false≢true hit)

@@ -17,7 +17,7 @@ use djq_dict::InternRefusal;
 use djq_index::Cells;
 use djq_lines::{AddOutcome, DeleteOutcome};
 use djq_live::{
-    added_came, other_queries_stay, copies_keep_rows, deleted_went, live_stays, showable_stays,
+    added_came, copies_keep_rows, deleted_went, live_stays, other_queries_stay, showable_stays,
     went_passes,
 };
 use djq_model::Value;

@@ -21,7 +21,11 @@ use std::sync::ledger::Ledger;
 /// # Errors
 ///
 /// `NoRelation`, `Arity`, `WrongType`: the first condition that holds.
-pub fn relation_for_row(catalog: &Catalog, name: &Name, row: &[Value]) -> Result<RelationId, Refusal>
+pub fn relation_for_row(
+    catalog: &Catalog,
+    name: &Name,
+    row: &[Value],
+) -> Result<RelationId, Refusal>
     ensures ok { IfOk result (λ id. Suits catalog.now.relations name.now row.now id.at) }
     ensures err { IfErr result (λ r.
         first_of (row_refusals (bare catalog.now.relations 0) name.now row.now) ≡ Some r) }

@@ -1,6 +1,7 @@
 //! Queries that read relations of held rows: their logs and their cursors, where these rows change
 //! something or memory lacks for them.
-ghost use Rattle.std.specs.Prelude.{◌≡◌, ◌<◌, ◌≤◌, ◌==◌, ℕ, List, Option, Bool, true, All, IsSome, length, filter, vec_capacity};
+ghost use Rattle.std.specs.Prelude.{◌≡◌, ◌<◌, ◌≤◌, ◌==◌, ℕ, List, Option, Bool, true, All, IsSome};
+ghost use Rattle.std.specs.Prelude.{length, filter, vec_capacity};
 ghost use Rattle.std.specs.List.{list_any};
 ghost use Rattle.djq_model.specs.Data.{Bytes, relation_of};
 ghost use Rattle.djq_machine.specs.Stale.{by_relation};
@@ -16,7 +17,7 @@ use djq_cursor::DeltaLog;
 use djq_lines::HeldRow;
 use djq_live::LiveQuery;
 use djq_model::{Name, Sequence};
-use djq_reach::{Group, outdate, empty_logs};
+use djq_reach::{Group, empty_logs, outdate};
 use djq_rows::{Catalog, RelationId};
 
 // The logs of all queries that read a relation are emptied.

@@ -1,5 +1,6 @@
 //! The rows of a batch go into the catalog, one after another, or none does.
-ghost use Rattle.std.specs.Prelude.{◌≡◌, ◌<◌, ◌≤◌, ◌+◌, ◌++◌, if◌then◌else◌, length, List, None, IfOk, IfErr, OnOk, OnErr, position, ◌==◌};
+ghost use Rattle.std.specs.Prelude.{◌≡◌, ◌<◌, ◌≤◌, ◌+◌, ◌++◌, if◌then◌else◌, length, List, None};
+ghost use Rattle.std.specs.Prelude.{IfOk, IfErr, OnOk, OnErr, position, ◌==◌};
 ghost use Rattle.djq_model.specs.Data.{Bytes};
 ghost use Rattle.djq_lines.specs.declared.limits.TheConstants.{HELD};
 ghost use Rattle.djq_machine.specs.State.{Store};

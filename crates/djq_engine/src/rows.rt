@@ -21,7 +21,7 @@ use djq_lines::limits::{COLUMNS, RELATIONS};
 use djq_lines::{AddOutcome, DeleteOutcome, Refusal};
 use djq_live::{LiveQuery, heads_are_bound, leaves_are_small, live_stays, showable_stays};
 use djq_model::{Name, NoMem, Sequence, Types, Value};
-use djq_reach::{outdate, empty_logs};
+use djq_reach::{empty_logs, outdate};
 use djq_rows::{RelationId, rows_by_name_or_place, texts_stay};
 use djq_steps::{Ledgers, Steps};
 

@@ -21,7 +21,8 @@ pub(crate) enum Due {
 impl Due {
     /// The line that is due, with what is due after it: none where a change is.
     fn fixed(self) -> Option<(&'static [u8], Due)>
-        ensures some { IfSome result (λ p. (length p.0.now ≤ 64) × ((more : List (List ℕ)) → from_due self more ≡ p.0.now ∷ from_due p.1 more)) }
+        ensures some { IfSome result (λ p. (length p.0.now ≤ 64) × ((more : List (List ℕ))
+            → from_due self more ≡ p.0.now ∷ from_due p.1 more)) }
         ensures none { IfNone result (self ≡ Due.Change) }
     {
         match self {

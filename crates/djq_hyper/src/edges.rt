@@ -1,4 +1,5 @@
-ghost use Rattle.std.specs.Prelude.{◌≡◌, ◌<◌, ◌==◌, ◌++◌, ◌∷◌, [], length, slice_get, Some, IfOk, OnOk, OnErr, IsTrue, ◌↔◌, ℕ, nat_lt};
+ghost use Rattle.std.specs.Prelude.{◌≡◌, ◌<◌, ◌==◌, ◌++◌, ◌∷◌, [], length, slice_get, Some, IfOk};
+ghost use Rattle.std.specs.Prelude.{OnOk, OnErr, IsTrue, ◌↔◌, ℕ, nat_lt};
 ghost use Rattle.djq_hyper.specs.Hypergraph.{member, degree};
 ghost use Rattle.djq_hyper.specs.Variables.{AreCovered, AreNamed, AreVariableSets};
 

@@ -2,7 +2,7 @@
 use Rattle.std.proofs.Common.{◌≡◌, ℕ, zero, suc, ◌+◌, ◌≤◌, ◌<◌, true, false, cond, List, [], ◌∷◌}
 use Rattle.std.proofs.Common.{◌++◌, refl, ap, subst, sym, ◌∙◌, arith, inl, inr}
 use Rattle.djq_index.specs.Tuple.{same, one}
-use Rattle.djq_index.specs.Entries.{Entry, supp, cnt}
+use Rattle.djq_index.specs.Entries.{Entry, supports_of, count_of}
 use Rattle.djq_index.specs.Table.{AreApart, AreSupported}
 use Rattle.djq_index.proofs.Tuples.{is_same, same_refl, same_cases, same_sym, one_le, one_same, one_other, one_true}
 use Rattle.djq_index.proofs.Counts.{cnt_cons, cnt_middle, supp_middle}
@@ -19,11 +19,11 @@ further : (e : Entry) (es : List Entry) (u : List ℕ) → Stands es u → Stand
 further e es u s = record
     { front = e ∷ s.front; back = s.back; entry = s.entry; is = ap (λ (xs : List Entry). e ∷ xs) s.is; tuple = s.tuple }
 
-none : (u : List ℕ) → 0 < cnt [] u → ⊥
-unfolding cnt
+none : (u : List ℕ) → 0 < count_of [] u → ⊥
+unfolding count_of
 none u h = omega arith
 
-pub stands : (es : List Entry) (u : List ℕ) → 0 < cnt es u → Stands es u
+pub stands : (es : List Entry) (u : List ℕ) → 0 < count_of es u → Stands es u
 stands [] u h = absurd (none u h)
 stands (e ∷ es) u h =
     elim (same_cases e.tuple u) [
@@ -32,13 +32,13 @@ stands (e ∷ es) u h =
     ]
 
 -- each tuple stands once at most
-pub cnt_once : (es : List Entry) (u : List ℕ) → AreApart es → cnt es u ≤ 1
-unfolding AreApart cnt
+pub cnt_once : (es : List Entry) (u : List ℕ) → AreApart es → count_of es u ≤ 1
+unfolding AreApart count_of
 cnt_once [] u h = omega arith
 cnt_once (e ∷ es) u h =
     elim (same_cases e.tuple u) [
-      | inl here ↦ let none : cnt es u
-          ≡ 0 = subst (λ v. cnt es v ≡ 0) here h.0 in omega (arith, none, one_le (same e.tuple u))
+      | inl here ↦ let none : count_of es u
+          ≡ 0 = subst (λ v. count_of es v ≡ 0) here h.0 in omega (arith, none, one_le (same e.tuple u))
       | inr other ↦ omega (arith, one_other e.tuple u other, cnt_once es u h.1)
     ]
 
@@ -50,13 +50,13 @@ unlike : (u v : List ℕ) (n : ℕ) → one (same u v) + n ≡ 0 → same u v �
 unlike u v n h = elim (same_cases u v)
     [ inl here ↦ absurd (omega (arith, h, one_true (same u v) (is_same u v here))) | inr other ↦ other ]
 
-pub apart_in : (xs : List Entry) (e : Entry) (ys : List Entry) → AreApart (xs ++ ys) → cnt (xs ++ ys) e.tuple ≡ 0
+pub apart_in : (xs : List Entry) (e : Entry) (ys : List Entry) → AreApart (xs ++ ys) → count_of (xs ++ ys) e.tuple ≡ 0
     → AreApart (xs ++ e ∷ ys)
 unfolding AreApart
 apart_in [] e ys h none = (none, h)
 apart_in (x ∷ xs) e ys h none =
     let apart : same x.tuple e.tuple
-    ≡ false = unlike x.tuple e.tuple (cnt (xs ++ ys) e.tuple) (sym (cnt_cons x (xs ++ ys) e.tuple) ∙ none) in
+    ≡ false = unlike x.tuple e.tuple (count_of (xs ++ ys) e.tuple) (sym (cnt_cons x (xs ++ ys) e.tuple) ∙ none) in
     let swapped : one (same e.tuple x.tuple) ≡ 0 = one_other e.tuple x.tuple (flipped x.tuple e.tuple apart) in (
       omega (arith, cnt_middle xs e ys x.tuple, h.0, swapped),
       apart_in xs e ys h.1
@@ -69,18 +69,19 @@ apart_out [] e ys h = h.1
 apart_out (x ∷ xs) e ys h = (omega (arith, h.0, cnt_middle xs e ys x.tuple), apart_out xs e ys h.1)
 
 -- apart from an entry its tuple is absent
-pub apart_here : (xs : List Entry) (e : Entry) (ys : List Entry) → AreApart (xs ++ e ∷ ys) → cnt (xs ++ ys) e.tuple ≡ 0
+pub apart_here : (xs : List Entry) (e : Entry) (ys : List Entry) → AreApart (xs ++ e ∷ ys)
+    → count_of (xs ++ ys) e.tuple ≡ 0
 apart_here xs e ys h = omega (arith, cnt_once (xs ++ e ∷ ys) e.tuple h, cnt_middle xs e ys e.tuple, one_same e.tuple)
 
 -- only the tuples matter
 pub apart_same : (xs : List Entry) (d e : Entry) (ys : List Entry) → e.tuple ≡ d.tuple → AreApart (xs ++ d ∷ ys)
     → AreApart (xs ++ e ∷ ys)
 apart_same xs d e ys h apart = apart_in xs e ys (apart_out xs d ys apart)
-    (subst (λ u. cnt (xs ++ ys) u ≡ 0) (sym h) (apart_here xs d ys apart))
+    (subst (λ u. count_of (xs ++ ys) u ≡ 0) (sym h) (apart_here xs d ys apart))
 
 -- an absent tuple has no supports
-pub supp_none : (es : List Entry) (u : List ℕ) → cnt es u ≡ 0 → supp es u ≡ 0
-unfolding supp cnt
+pub supp_none : (es : List Entry) (u : List ℕ) → count_of es u ≡ 0 → supports_of es u ≡ 0
+unfolding supports_of count_of
 supp_none [] u h = refl
 supp_none (e ∷ es) u h =
     elim (same_cases e.tuple u) [
@@ -89,33 +90,34 @@ supp_none (e ∷ es) u h =
       | inr other ↦ rw other (omega (arith, supp_none es u (omega (arith, h))))
     ]
 
-pub supp_here : (xs : List Entry) (e : Entry) (ys : List Entry) → AreApart (xs ++ e ∷ ys) → supp (xs ++ e ∷ ys) e.tuple
+pub supp_here : (xs : List Entry) (e : Entry) (ys : List Entry) → AreApart (xs ++ e ∷ ys)
+    → supports_of (xs ++ e ∷ ys) e.tuple
     ≡ e.supports
 supp_here xs e ys h = rw (supp_middle, same_refl) (omega (arith, supp_none (xs ++ ys) e.tuple (apart_here xs e ys h)))
 
 pub supp_at : (es : List Entry) (xs : List Entry) (e : Entry) (ys : List Entry) (u : List ℕ) → AreApart es → es
-    ≡ xs ++ e ∷ ys → e.tuple ≡ u → supp es u ≡ e.supports
+    ≡ xs ++ e ∷ ys → e.tuple ≡ u → supports_of es u ≡ e.supports
 supp_at es xs e ys u apart is here = rw (is, ← here) (supp_here xs e ys (subst AreApart is apart))
 
-pub cnt_here : (xs : List Entry) (e : Entry) (ys : List Entry) → 0 < cnt (xs ++ e ∷ ys) e.tuple
+pub cnt_here : (xs : List Entry) (e : Entry) (ys : List Entry) → 0 < count_of (xs ++ e ∷ ys) e.tuple
 cnt_here xs e ys = omega (arith, cnt_middle xs e ys e.tuple, one_same e.tuple)
 
 pub there : (es : List Entry) (xs : List Entry) (e : Entry) (ys : List Entry) (u : List ℕ) → es ≡ xs ++ e ∷ ys → e.tuple
-    ≡ u → 0 < cnt es u
+    ≡ u → 0 < count_of es u
 there es xs e ys u is here = rw (is, ← here) (cnt_here xs e ys)
 
 -- where each tuple has a support, a tuple without one is absent
-pub cnt_none : (es : List Entry) (u : List ℕ) → AreSupported es → supp es u ≡ 0 → cnt es u ≡ 0
-unfolding supp cnt AreSupported
+pub cnt_none : (es : List Entry) (u : List ℕ) → AreSupported es → supports_of es u ≡ 0 → count_of es u ≡ 0
+unfolding supports_of count_of AreSupported
 cnt_none [] u s h = refl
 cnt_none (e ∷ es) u s h =
     elim (same_cases e.tuple u) [
-      | inl here ↦ absurd (let k : e.supports + supp es u
-          ≡ 0 = subst (λ b. cond b e.supports 0 + supp es u ≡ 0)
+      | inl here ↦ absurd (let k : e.supports + supports_of es u
+          ≡ 0 = subst (λ b. cond b e.supports 0 + supports_of es u ≡ 0)
           (subst (λ v. same e.tuple v ≡ true) here (same_refl e.tuple)) h in let pos : 0 < e.supports = s.0 in omega
           arith)
-      | inr other ↦ let k : cond false e.supports 0 + supp es u
-          ≡ 0 = subst (λ b. cond b e.supports 0 + supp es u ≡ 0) other h in omega
+      | inr other ↦ let k : cond false e.supports 0 + supports_of es u
+          ≡ 0 = subst (λ b. cond b e.supports 0 + supports_of es u ≡ 0) other h in omega
           (arith, one_other e.tuple u other, cnt_none es u s.1 (omega (arith, k)))
     ]
 
@@ -131,6 +133,6 @@ unfolding AreSupported
 supported_in [] e ys s h = (s, h)
 supported_in (x ∷ xs) e ys s h = (h.0, supported_in xs e ys s h.1)
 
-pub cnt_supp : (es : List Entry) (u : List ℕ) → AreSupported es → 0 < cnt es u → 0 < supp es u
-cnt_supp es u s h = elim (supp es u) as (λ n. supp es u ≡ n → 0 < n)
+pub cnt_supp : (es : List Entry) (u : List ℕ) → AreSupported es → 0 < count_of es u → 0 < supports_of es u
+cnt_supp es u s h = elim (supports_of es u) as (λ n. supports_of es u ≡ n → 0 < n)
     [ zero ↦ (λ k. absurd (let none = cnt_none es u s k in omega arith)) | suc n ↦ (λ k. omega arith) ] refl

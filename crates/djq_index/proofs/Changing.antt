@@ -3,7 +3,7 @@ use Rattle.std.proofs.Common.{◌≡◌, ℕ, ◌+◌, Bool, true, false, cond, 
 use Rattle.std.proofs.Common.{ap, subst, sym, ◌∙◌, arith, length-append}
 use Rattle.djq_index.specs.declared.place.Place.{Place}
 use Rattle.djq_index.specs.Tuple.{same, pick, one}
-use Rattle.djq_index.specs.Entries.{Entry, supp, cnt, many, marks, plain}
+use Rattle.djq_index.specs.Entries.{Entry, supports_of, count_of, group_size, marks, plain}
 use Rattle.djq_index.specs.Table.{AreApart, ArePlaced, AreSupported, IsAt}
 use Rattle.djq_index.specs.Changes.{Inserted, InsertedAs, Removed, Touched, Supported}
 use Rattle.djq_index.proofs.Counts.{cnt_middle, many_middle, supp_middle, cnt_split}
@@ -31,17 +31,17 @@ cond_unit u v = refl
 
 -- an insertion
 pub inserted_cnt : {m : Bool} (key : List ℕ) (old new : List Entry) (u : List ℕ) → InsertedAs m key old new u
-    → (v : List ℕ) → cnt new v ≡ cnt old v + one (same u v)
+    → (v : List ℕ) → count_of new v ≡ count_of old v + one (same u v)
 inserted_cnt {m} key old new u i v = rw (i.was, i.is)
     (omega (arith, cnt_middle i.front i.entry i.back v, one_of i.entry u v i.tuple))
 
 pub inserted_supp : {m : Bool} (key : List ℕ) (old new : List Entry) (u : List ℕ) → InsertedAs m key old new u
-    → (v : List ℕ) → supp new v ≡ supp old v + one (same u v)
+    → (v : List ℕ) → supports_of new v ≡ supports_of old v + one (same u v)
 inserted_supp {m} key old new u i v = rw (i.was, i.is)
     (omega (arith, supp_middle i.front i.entry i.back v, cond_of i.entry u v 1 i.tuple i.supports, cond_unit u v))
 
 pub inserted_many : {m : Bool} (key : List ℕ) (old new : List Entry) (u : List ℕ) → InsertedAs m key old new u
-    → (columns w : List ℕ) → many columns new w ≡ many columns old w + one (same (pick columns u) w)
+    → (columns w : List ℕ) → group_size columns new w ≡ group_size columns old w + one (same (pick columns u) w)
 inserted_many {m} key old new u i columns w = rw (i.was, i.is)
     (omega (arith, many_middle columns i.front i.entry i.back w, one_key columns i.entry u w i.tuple))
 
@@ -53,22 +53,22 @@ pub inserted_plain : (key : List ℕ) (old new : List Entry) (u : List ℕ) → 
 inserted_plain key old new u i = rw (i.was, i.is) (plain_middle i.front i.entry i.back i.marked)
 
 pub inserted_marks : (key : List ℕ) (old new : List Entry) (u : List ℕ) → Inserted key old new u → (v : List ℕ)
-    → cnt (marks new) v ≡ cnt (marks old) v + one (same u v)
+    → count_of (marks new) v ≡ count_of (marks old) v + one (same u v)
 inserted_marks key old new u i v = omega (
   arith,
   inserted_cnt key old new u i v,
   cnt_split new v,
   cnt_split old v,
-  ap (λ es. cnt es v)
+  ap (λ es. count_of es v)
       (inserted_plain key old new u i),
 )
 
 pub inserted_apart : {m : Bool} (key : List ℕ) (old new : List Entry) (u : List ℕ) → InsertedAs m key old new u
-    → AreApart old → cnt old u ≡ 0 → AreApart new
+    → AreApart old → count_of old u ≡ 0 → AreApart new
 inserted_apart {m} key old new u i h none =
     subst AreApart (sym i.is)
     (apart_in i.front i.entry i.back (subst AreApart i.was h)
-    (subst (λ v. cnt (i.front ++ i.back) v ≡ 0) (sym i.tuple) (subst (λ es. cnt es u ≡ 0) i.was none)))
+    (subst (λ v. count_of (i.front ++ i.back) v ≡ 0) (sym i.tuple) (subst (λ es. count_of es u ≡ 0) i.was none)))
 
 pub inserted_supported : {m : Bool} (key : List ℕ) (old new : List Entry) (u : List ℕ) → InsertedAs m key old new u
     → AreSupported old → AreSupported new
@@ -77,13 +77,14 @@ inserted_supported {m} key old new u i h =
     (supported_in i.front i.entry i.back (omega (arith, i.supports)) (subst AreSupported i.was h))
 
 -- a removal
-pub removed_cnt : (old new : List Entry) (u : List ℕ) → Removed old new u → (v : List ℕ) → cnt old v
-    ≡ cnt new v + one (same u v)
+pub removed_cnt : (old new : List Entry) (u : List ℕ) → Removed old new u → (v : List ℕ) → count_of old v
+    ≡ count_of new v + one (same u v)
 removed_cnt old new u r v = rw (r.was, r.is)
     (omega (arith, cnt_middle r.front r.entry r.back v, one_of r.entry u v r.tuple))
 
-pub removed_many : (old new : List Entry) (u : List ℕ) → Removed old new u → (columns w : List ℕ) → many columns old w
-    ≡ many columns new w + one (same (pick columns u) w)
+pub removed_many : (old new : List Entry) (u : List ℕ) → Removed old new u → (columns w : List ℕ)
+    → group_size columns old w
+    ≡ group_size columns new w + one (same (pick columns u) w)
 removed_many old new u r columns w = rw (r.was, r.is)
     (omega (arith, many_middle columns r.front r.entry r.back w, one_key columns r.entry u w r.tuple))
 
@@ -97,17 +98,18 @@ pub removed_supported : (old new : List Entry) (u : List ℕ) → Removed old ne
 removed_supported old new u r h = subst AreSupported (sym r.is)
     (supported_out r.front r.entry r.back (subst AreSupported r.was h))
 
-pub removed_supp : (old new : List Entry) (u : List ℕ) → Removed old new u → AreApart old → (v : List ℕ) → supp old v
-    ≡ supp new v + cond (same u v) (supp old u) 0
+pub removed_supp : (old new : List Entry) (u : List ℕ) → Removed old new u → AreApart old → (v : List ℕ)
+    → supports_of old v
+    ≡ supports_of new v + cond (same u v) (supports_of old u) 0
 removed_supp old new u r h v =
-    let here : supp old u ≡ r.entry.supports = supp_at old r.front r.entry r.back u h r.was r.tuple in
-    let sum : supp old v ≡ cond (same r.entry.tuple v) r.entry.supports 0 + supp new v = rw (r.was, r.is)
+    let here : supports_of old u ≡ r.entry.supports = supp_at old r.front r.entry r.back u h r.was r.tuple in
+    let sum : supports_of old v ≡ cond (same r.entry.tuple v) r.entry.supports 0 + supports_of new v = rw (r.was, r.is)
     (supp_middle r.front r.entry r.back v) in
-    omega (arith, sum, cond_of r.entry u v (supp old u) r.tuple (sym here))
+    omega (arith, sum, cond_of r.entry u v (supports_of old u) r.tuple (sym here))
 
 -- a change of supports
 pub supported_cnt : (old new : List Entry) (u : List ℕ) (from to : ℕ) → Supported old new u from to → (v : List ℕ)
-    → cnt new v ≡ cnt old v
+    → count_of new v ≡ count_of old v
 supported_cnt old new u from to s v =
     rw (s.was, s.is) (omega (
       arith,
@@ -118,7 +120,7 @@ supported_cnt old new u from to s v =
     ))
 
 pub supported_many : (old new : List Entry) (u : List ℕ) (from to : ℕ) → Supported old new u from to
-    → (columns w : List ℕ) → many columns new w ≡ many columns old w
+    → (columns w : List ℕ) → group_size columns new w ≡ group_size columns old w
 supported_many old new u from to s columns w =
     rw (s.was, s.is) (omega (
       arith,
@@ -135,7 +137,7 @@ supported_length old new u from to s = rw (s.was, s.is)
     (omega (arith, length_middle s.front s.before s.back, length_middle s.front s.after s.back))
 
 pub supported_supp : (old new : List Entry) (u : List ℕ) (from to : ℕ) → Supported old new u from to → (v : List ℕ)
-    → supp new v + cond (same u v) from 0 ≡ supp old v + cond (same u v) to 0
+    → supports_of new v + cond (same u v) from 0 ≡ supports_of old v + cond (same u v) to 0
 supported_supp old new u from to s v =
     rw (s.was, s.is) (omega (
       arith,
@@ -152,7 +154,7 @@ step_up true n = refl
 step_up false n = refl
 
 pub raised_supp : (old new : List Entry) (u : List ℕ) (n : ℕ) → Supported old new u n (n + 1) → (v : List ℕ)
-    → supp new v ≡ supp old v + one (same u v)
+    → supports_of new v ≡ supports_of old v + one (same u v)
 raised_supp old new u n s v = omega (arith, supported_supp old new u n (n + 1) s v, step_up (same u v) n)
 
 pub supported_apart : (old new : List Entry) (u : List ℕ) (from to : ℕ) → Supported old new u from to → AreApart old
@@ -162,40 +164,41 @@ supported_apart old new u from to s h =
     (apart_same s.front s.before s.after s.back (s.same_tuple ∙ sym s.tuple) (subst AreApart s.was h))
 
 -- a touch
-pub touched_cnt : (key : List ℕ) (old new : List Entry) (u : List ℕ) → Touched key old new u → (v : List ℕ) → cnt new v
-    ≡ cnt old v
+pub touched_cnt : (key : List ℕ) (old new : List Entry) (u : List ℕ) → Touched key old new u → (v : List ℕ)
+    → count_of new v
+    ≡ count_of old v
 touched_cnt key old new u t v =
     rw (t.was, t.is) (omega (
       arith,
       cnt_middle t.front t.before t.back v,
       cnt_middle t.fore t.after t.rest v,
-      ap (λ es. cnt es v) t.between,
+      ap (λ es. count_of es v) t.between,
       one_of t.before u v t.tuple,
       one_of t.after u v t.same_tuple,
     ))
 
 pub touched_many : (key : List ℕ) (old new : List Entry) (u : List ℕ) → Touched key old new u → (columns w : List ℕ)
-    → many columns new w ≡ many columns old w
+    → group_size columns new w ≡ group_size columns old w
 touched_many key old new u t columns w =
     rw (t.was, t.is) (omega (
       arith,
       many_middle columns t.front t.before t.back w,
       many_middle columns t.fore t.after t.rest w,
       ap
-          (λ es. many columns es w) t.between,
+          (λ es. group_size columns es w) t.between,
       one_key columns t.before u w t.tuple,
       one_key columns t.after u w
           t.same_tuple,
     ))
 
 pub touched_supp : (key : List ℕ) (old new : List Entry) (u : List ℕ) → Touched key old new u → (v : List ℕ)
-    → supp new v ≡ supp old v
+    → supports_of new v ≡ supports_of old v
 touched_supp key old new u t v =
     rw (t.was, t.is) (omega (
       arith,
       supp_middle t.front t.before t.back v,
       supp_middle t.fore t.after t.rest v,
-      ap (λ es. supp es v)
+      ap (λ es. supports_of es v)
           t.between,
       cond_of t.before u v t.before.supports t.tuple refl,
       cond_of t.after u v t.before.supports
@@ -214,7 +217,7 @@ touched_length key old new u t = rw (t.was, t.is)
     ))
 
 pub touched_marks : (key : List ℕ) (old new : List Entry) (u : List ℕ) → Touched key old new u → (v : List ℕ)
-    → cnt (marks new) v ≡ cnt (marks old) v + one (same u v)
+    → count_of (marks new) v ≡ count_of (marks old) v + one (same u v)
 touched_marks key old new u t v =
     let less : marks old ≡ marks (t.fore ++ t.rest) = rw
     (t.was, marks_middle t.front t.before t.back t.plain, t.between) refl in
@@ -225,8 +228,8 @@ touched_marks key old new u t v =
       cnt_split (t.fore ++ t.after ∷ t.rest) v,
       cnt_split
           (t.fore ++ t.rest) v,
-      ap (λ es. cnt (plain es) v) (sym t.is),
-      ap (λ es. cnt es v) more,
+      ap (λ es. count_of (plain es) v) (sym t.is),
+      ap (λ es. count_of es v) more,
       one_of t.after u v
           t.same_tuple,
     ))
@@ -235,12 +238,12 @@ pub touched_apart : (key : List ℕ) (old new : List Entry) (u : List ℕ) → T
     → AreApart new
 touched_apart key old new u t h =
     let was : AreApart (t.front ++ t.before ∷ t.back) = subst AreApart t.was h in
-    let none : cnt (t.front ++ t.back) t.after.tuple
-    ≡ 0 = subst (λ v. cnt (t.front ++ t.back) v ≡ 0) (t.tuple ∙ sym t.same_tuple)
+    let none : count_of (t.front ++ t.back) t.after.tuple
+    ≡ 0 = subst (λ v. count_of (t.front ++ t.back) v ≡ 0) (t.tuple ∙ sym t.same_tuple)
     (apart_here t.front t.before t.back was) in
     subst AreApart (sym t.is)
     (apart_in t.fore t.after t.rest (subst AreApart t.between (apart_out t.front t.before t.back was))
-    (subst (λ es. cnt es t.after.tuple ≡ 0) t.between none))
+    (subst (λ es. count_of es t.after.tuple ≡ 0) t.between none))
 
 -- places stay valid
 pub inserted_at : {m : Bool} (key : List ℕ) (old new : List Entry) (u : List ℕ) → InsertedAs m key old new u

@@ -18,11 +18,11 @@ use Rattle.djq_arena.proofs.Storing.{extended_is, shrunk_is}
 use Rattle.djq_arena.proofs.RowLemmas.{slots-append}
 use Rattle.djq_index.specs.declared.raw.Note.{Note}
 use Rattle.djq_index.specs.Tuple.{same, pick, one}
-use Rattle.djq_index.specs.Entries.{Entry, many, grp}
+use Rattle.djq_index.specs.Entries.{Entry, group_size, group_of}
 use Rattle.djq_index.specs.Raw.{note_at, slots_at, row_at, AreSeated, ends_at, AreGroups}
 use Rattle.djq_index.proofs.Tuples.{is_same, same_cases, same_other, one_true, one_false, other_same}
 use Rattle.djq_index.proofs.Counts.{length_grp, many_middle, many_cons}
-use Rattle.djq_index.proofs.Groups.{grp-append, grp_yes, grp_no}
+use Rattle.djq_index.proofs.Groups.{group_of-append, grp_yes, grp_no}
 use Rattle.djq_index.proofs.Parts.{slots_at-append, slots_at_middle, slots_at_cons, no_group}
 use Rattle.djq_index.proofs.Parts.{no_ends, row_from_at, row_at_nil, row_at_other, row_at_first}
 use Rattle.djq_index.proofs.Parts.{row_at_middle, slots_nil}
@@ -40,18 +40,18 @@ out_nil : (i : ℕ) → IsOut i []
 unfolding IsOut
 out_nil i = tt
 
-grp_nil : (key : List ℕ) (w : List ℕ) → grp key [] w ≡ []
-unfolding grp
+grp_nil : (key : List ℕ) (w : List ℕ) → group_of key [] w ≡ []
+unfolding group_of
 grp_nil key w = refl
 
 pub group_out : (i : ℕ) (key : List ℕ) (es : List Entry) (w : List ℕ) → IsOut i (slots_at es)
-    → IsOut i (slots_at (grp key es w))
+    → IsOut i (slots_at (group_of key es w))
 group_out i key [] w h = rw (grp_nil key w, slots_nil) (out_nil i)
 group_out i key (e ∷ es) w h =
     let k = out_first i e.at.slot (slots_at es) (subst (IsOut i) (slots_at_cons e es) h) in
     elim (cases_Bool (same (pick key e.tuple) w)) [
       | inl here ↦ rw (grp_yes key e es w here, slots_at_cons)
-          (out_more i e.at.slot (slots_at (grp key es w)) k.0 (group_out i key es w k.1))
+          (out_more i e.at.slot (slots_at (group_of key es w)) k.0 (group_out i key es w k.1))
       | inr other ↦ rw (grp_no key e es w other) (group_out i key es w k.1)
     ]
 
@@ -68,13 +68,13 @@ unfolding AreDifferent
 different_nil = tt
 
 pub group_different : (key : List ℕ) (es : List Entry) (w : List ℕ) → AreDifferent (slots_at es)
-    → AreDifferent (slots_at (grp key es w))
+    → AreDifferent (slots_at (group_of key es w))
 group_different key [] w h = rw (grp_nil key w, slots_nil) different_nil
 group_different key (e ∷ es) w h =
     let k = different_first e.at.slot (slots_at es) (subst AreDifferent (slots_at_cons e es) h) in
     elim (cases_Bool (same (pick key e.tuple) w)) [
       | inl here ↦ rw (grp_yes key e es w here, slots_at_cons)
-          (different_more e.at.slot (slots_at (grp key es w)) (group_out e.at.slot key es w k.0)
+          (different_more e.at.slot (slots_at (group_of key es w)) (group_out e.at.slot key es w k.0)
           (group_different key es w k.1))
       | inr other ↦ rw (grp_no key e es w other) (group_different key es w k.1)
     ]
@@ -92,13 +92,13 @@ unfolding AreBelow
 below_nil n = tt
 
 pub group_below : (n : ℕ) (key : List ℕ) (es : List Entry) (w : List ℕ) → AreBelow n (slots_at es)
-    → AreBelow n (slots_at (grp key es w))
+    → AreBelow n (slots_at (group_of key es w))
 group_below n key [] w h = rw (grp_nil key w, slots_nil) (below_nil n)
 group_below n key (e ∷ es) w h =
     let k = below_first n e.at.slot (slots_at es) (subst (AreBelow n) (slots_at_cons e es) h) in
     elim (cases_Bool (same (pick key e.tuple) w)) [
       | inl here ↦ rw (grp_yes key e es w here, slots_at_cons)
-          (below_more n e.at.slot (slots_at (grp key es w)) k.0 (group_below n key es w k.1))
+          (below_more n e.at.slot (slots_at (group_of key es w)) k.0 (group_below n key es w k.1))
       | inr other ↦ rw (grp_no key e es w other) (group_below n key es w k.1)
     ]
 
@@ -112,8 +112,8 @@ unfolding AreOut
 outs_more x xs ys h k = (h, k)
 
 pub groups_apart : (key : List ℕ) (es : List Entry) (v w : List ℕ) → (v ≡ w → ⊥) → AreDifferent (slots_at es)
-    → AreOut (slots_at (grp key es v)) (slots_at (grp key es w))
-groups_apart key [] v w other h = rw (grp_nil key v, slots_nil) (outs_nil (slots_at (grp key [] w)))
+    → AreOut (slots_at (group_of key es v)) (slots_at (group_of key es w))
+groups_apart key [] v w other h = rw (grp_nil key v, slots_nil) (outs_nil (slots_at (group_of key [] w)))
 groups_apart key (e ∷ es) v w other h =
     let k = different_first e.at.slot (slots_at es) (subst AreDifferent (slots_at_cons e es) h) in
     let rest = groups_apart key es v w other k.1 in
@@ -124,13 +124,15 @@ groups_apart key (e ∷ es) v w other h =
             (same_other (pick key e.tuple) w (λ there_too. other (sym here ∙ there_too))),
         slots_at_cons,
       )
-          (outs_more e.at.slot (slots_at (grp key es v)) (slots_at (grp key es w)) (group_out e.at.slot key es w k.0)
+          (outs_more e.at.slot (slots_at (group_of key es v)) (slots_at (group_of key es w))
+          (group_out e.at.slot key es w k.0)
           rest)
       | inr no_v ↦ elim (cases_Bool (same (pick key e.tuple) w)) [
         | inl in_w ↦ rw (grp_no key e es v no_v, grp_yes key e es w in_w, slots_at_cons)
-            (outs_swap (e.at.slot ∷ slots_at (grp key es w)) (slots_at (grp key es v))
-            (outs_more e.at.slot (slots_at (grp key es w)) (slots_at (grp key es v)) (group_out e.at.slot key es v k.0)
-            (outs_swap (slots_at (grp key es v)) (slots_at (grp key es w)) rest)))
+            (outs_swap (e.at.slot ∷ slots_at (group_of key es w)) (slots_at (group_of key es v))
+            (outs_more e.at.slot (slots_at (group_of key es w)) (slots_at (group_of key es v))
+            (group_out e.at.slot key es v k.0)
+            (outs_swap (slots_at (group_of key es v)) (slots_at (group_of key es w)) rest)))
         | inr no_w ↦ rw (grp_no key e es v no_v, grp_no key e es w no_w) rest
       ]
     ]
@@ -138,10 +140,10 @@ groups_apart key (e ∷ es) v w other h =
 -- all groups are right, but that of w, whose head is h, may be empty
 pub record AreGroupsBut (key : List ℕ) (notes : List Note) (links : List Pair) (keys : List Row) (ends : List Ends)
     (es : List Entry) (w : List ℕ) (h : ℕ) : Type 0 where
-  pub chained : (v : List ℕ) → Linked links None (slots_at (grp key es v)) None
-  pub headed : (k : ℕ) (v : List ℕ) → row_at keys k ≡ Some v → ends_at ends k ≡ ends_of (slots_at (grp key es v))
-  pub some : (k : ℕ) (v : List ℕ) → row_at keys k ≡ Some v → (v ≡ w → ⊥) → 0 < many key es v
-  pub none : (v : List ℕ) → IsAbsent keys v → many key es v ≡ 0
+  pub chained : (v : List ℕ) → Linked links None (slots_at (group_of key es v)) None
+  pub headed : (k : ℕ) (v : List ℕ) → row_at keys k ≡ Some v → ends_at ends k ≡ ends_of (slots_at (group_of key es v))
+  pub some : (k : ℕ) (v : List ℕ) → row_at keys k ≡ Some v → (v ≡ w → ⊥) → 0 < group_size key es v
+  pub none : (v : List ℕ) → IsAbsent keys v → group_size key es v ≡ 0
   pub once : (j k : ℕ) (v : List ℕ) → row_at keys j ≡ Some v → row_at keys k ≡ Some v → j ≡ k
   pub seated : AreSeated key notes keys es
   pub mine : row_at keys h ≡ Some w
@@ -181,21 +183,28 @@ pub seat_of : (key : List ℕ) (notes : List Note) (keys : List Row) (xs : List 
     → AreSeated key notes keys (xs ++ e ∷ ys) → row_at keys (note_at notes e.at.slot).head ≡ Some (pick key e.tuple)
 seat_of key notes keys xs e ys h = (seated_out key notes keys xs e ys h).1
 
-group_push : (key : List ℕ) (es : List Entry) (e : Entry) (w : List ℕ) → pick key e.tuple ≡ w → grp key (es ++ e ∷ []) w
-    ≡ grp key es w ++ e ∷ []
-group_push key es e w h = grp-append key es (e ∷ []) w
-    ∙ ap (λ (g : List Entry). grp key es w ++ g)
+group_push : (key : List ℕ) (es : List Entry) (e : Entry) (w : List ℕ) → pick key e.tuple ≡ w
+    → group_of key (es ++ e ∷ []) w
+    ≡ group_of key es w ++ e ∷ []
+group_push key es e w h = group_of-append key es (e ∷ []) w
+    ∙ ap (λ (g : List Entry). group_of key es w ++ g)
     (grp_yes key e [] w (is_same (pick key e.tuple) w h) ∙ ap (λ (g : List Entry). e ∷ g) (grp_nil key w))
 
 group_else : (key : List ℕ) (es : List Entry) (e : Entry) (v : List ℕ) → (pick key e.tuple ≡ v → ⊥)
-    → grp key (es ++ e ∷ []) v ≡ grp key es v
-group_else key es e v h = grp-append key es (e ∷ []) v
-    ∙ ap (λ (g : List Entry). grp key es v ++ g) (grp_no key e [] v (same_other (pick key e.tuple) v h) ∙ grp_nil key v)
-    ∙ append-nil (grp key es v)
+    → group_of key (es ++ e ∷ []) v ≡ group_of key es v
+group_else key es e v h = group_of-append key es (e ∷ []) v
+    ∙ ap (λ (g : List Entry). group_of key es v ++ g) (grp_no key e [] v (same_other (pick key e.tuple) v h) ∙ grp_nil
+    key v)
+    ∙ append-nil (group_of key es v)
 
-many_push : (key : List ℕ) (es : List Entry) (e : Entry) (v : List ℕ) → many key (es ++ e ∷ []) v
-    ≡ many key es v + one (same (pick key e.tuple) v)
-many_push key es e v = omega (arith, many_middle key es e [] v, ap (λ (ds : List Entry). many key ds v) (append-nil es))
+many_push : (key : List ℕ) (es : List Entry) (e : Entry) (v : List ℕ) → group_size key (es ++ e ∷ []) v
+    ≡ group_size key es v + one (same (pick key e.tuple) v)
+many_push key es e v = omega (
+  arith,
+  many_middle key es e [] v,
+  ap (λ (ds : List Entry). group_size key ds v)
+      (append-nil es),
+)
 
 slots_push : (g : List Entry) (e : Entry) (i : ℕ) → e.at.slot ≡ i → slots_at (g ++ e ∷ []) ≡ slots_at g ++ i ∷ []
 slots_push g e i h = slots_at_middle g e [] ∙ ap₂ (λ (j : ℕ) (zs : List ℕ). slots_at g ++ j ∷ zs) h slots_nil
@@ -231,39 +240,40 @@ module _ (key : List ℕ) (notes more : List Note) (links : List Pair) (keys : L
   joined : List Pair
   joined = entered (ends_at ends h).last i links
 
-  last_is : (ends_at ends h).last ≡ last_of (slots_at (grp key es w))
+  last_is : (ends_at ends h).last ≡ last_of (slots_at (group_of key es w))
   last_is = ap (λ (v : Ends). v.last) (g.headed h w g.mine)
 
-  join_mine : Linked joined None (slots_at (grp key (es ++ e ∷ []) w)) None
+  join_mine : Linked joined None (slots_at (group_of key (es ++ e ∷ []) w)) None
   unfolding joined
-  join_mine = rw (group_push key es e w its, slots_push (grp key es w) e i at, last_is)
-      (entered_linked links (slots_at (grp key es w)) i (group_different key es w d)
+  join_mine = rw (group_push key es e w its, slots_push (group_of key es w) e i at, last_is)
+      (entered_linked links (slots_at (group_of key es w)) i (group_different key es w d)
       (group_below (length links) key es w b) (group_out i key es w out) within (g.chained w))
 
-  join_other : (v : List ℕ) → (v ≡ w → ⊥) → Linked joined None (slots_at (grp key (es ++ e ∷ []) v)) None
+  join_other : (v : List ℕ) → (v ≡ w → ⊥) → Linked joined None (slots_at (group_of key (es ++ e ∷ []) v)) None
   unfolding joined
   join_other v other = rw (group_else key es e v (λ k. other (sym k ∙ its)), last_is)
-      (linked_same links (entered (last_of (slots_at (grp key es w))) i links) None (slots_at (grp key es v)) None
-      (entered_agree links (last_of (slots_at (grp key es w))) i (slots_at (grp key es v))
-      (avoid_last (slots_at (grp key es w)) (slots_at (grp key es v)) (group_different key es w d)
+      (linked_same links (entered (last_of (slots_at (group_of key es w))) i links) None
+      (slots_at (group_of key es v)) None
+      (entered_agree links (last_of (slots_at (group_of key es w))) i (slots_at (group_of key es v))
+      (avoid_last (slots_at (group_of key es w)) (slots_at (group_of key es v)) (group_different key es w d)
       (group_different key es v d) (groups_apart key es w v (λ k. other (sym k)) d))
       (group_out i key es v out))
       (g.chained v))
 
-  join_chained : (v : List ℕ) → Linked joined None (slots_at (grp key (es ++ e ∷ []) v)) None
+  join_chained : (v : List ℕ) → Linked joined None (slots_at (group_of key (es ++ e ∷ []) v)) None
   join_chained v = elim (same_cases v w) [
-    | inl here ↦ subst (λ u. Linked joined None (slots_at (grp key (es ++ e ∷ []) u)) None) (sym here) join_mine
+    | inl here ↦ subst (λ u. Linked joined None (slots_at (group_of key (es ++ e ∷ []) u)) None) (sym here) join_mine
     | inr
         other ↦ join_other v (other_same v w other)
   ]
 
   join_headed : (k : ℕ) (v : List ℕ) → row_at keys k ≡ Some v
-      → ends_at (slice_set ends h (extended i (ends_at ends h))) k ≡ ends_of (slots_at (grp key (es ++ e ∷ []) v))
+      → ends_at (slice_set ends h (extended i (ends_at ends h))) k ≡ ends_of (slots_at (group_of key (es ++ e ∷ []) v))
   join_headed k v r = elim (cases_eq k h) [
     | inl here ↦ (let same_key : v ≡ w = one_row keys h v w (subst (λ j. row_at keys j ≡ Some v) here r) g.mine in
-        rw (here, same_key, group_push key es e w its, slots_push (grp key es w) e i at)
+        rw (here, same_key, group_push key es e w its, slots_push (group_of key es w) e i at)
         (get_or-set_same ends h (extended i (ends_at ends h)) (record { first = None; last = None }) inside
-        ∙ ap (extended i) (g.headed h w g.mine) ∙ extended_is (slots_at (grp key es w)) i))
+        ∙ ap (extended i) (g.headed h w g.mine) ∙ extended_is (slots_at (group_of key es w)) i))
     | inr other ↦ rw (group_else key es e v
         (λ q. other (g.once k h w (subst (λ u. row_at keys k ≡ Some u) (sym q ∙ its) r) g.mine)))
         (get_or-set_other ends h k (extended i (ends_at ends h)) (record { first = None; last = None }) other
@@ -318,15 +328,15 @@ no_slots (e ∷ es) h = absurd cc
 
 -- a slot leaves its group
 pub group_middle : (key : List ℕ) (xs : List Entry) (e : Entry) (ys : List Entry) (w : List ℕ) → pick key e.tuple ≡ w
-    → grp key (xs ++ e ∷ ys) w ≡ grp key xs w ++ e ∷ grp key ys w
-group_middle key xs e ys w h = grp-append key xs (e ∷ ys) w
-    ∙ ap (λ (g : List Entry). grp key xs w ++ g) (grp_yes key e ys w (is_same (pick key e.tuple) w h))
+    → group_of key (xs ++ e ∷ ys) w ≡ group_of key xs w ++ e ∷ group_of key ys w
+group_middle key xs e ys w h = group_of-append key xs (e ∷ ys) w
+    ∙ ap (λ (g : List Entry). group_of key xs w ++ g) (grp_yes key e ys w (is_same (pick key e.tuple) w h))
 
 group_past : (key : List ℕ) (xs : List Entry) (e : Entry) (ys : List Entry) (v : List ℕ) → (pick key e.tuple ≡ v → ⊥)
-    → grp key (xs ++ e ∷ ys) v ≡ grp key (xs ++ ys) v
-group_past key xs e ys v h = grp-append key xs (e ∷ ys) v
-    ∙ ap (λ (g : List Entry). grp key xs v ++ g) (grp_no key e ys v (same_other (pick key e.tuple) v h))
-    ∙ sym (grp-append key xs ys v)
+    → group_of key (xs ++ e ∷ ys) v ≡ group_of key (xs ++ ys) v
+group_past key xs e ys v h = group_of-append key xs (e ∷ ys) v
+    ∙ ap (λ (g : List Entry). group_of key xs v ++ g) (grp_no key e ys v (same_other (pick key e.tuple) v h))
+    ∙ sym (group_of-append key xs ys v)
 
 slots_cut : (f : List Entry) (e : Entry) (g : List Entry) (i : ℕ) → e.at.slot ≡ i → slots_at (f ++ e ∷ g)
     ≡ slots_at f ++ i ∷ slots_at g
@@ -348,70 +358,75 @@ module _ (key : List ℕ) (notes : List Note) (links : List Pair) (keys : List R
   its_head = ap (row_at keys) (sym seat ∙ ap (λ (j : ℕ). (note_at notes j).head) (sym at))
       ∙ seat_of key notes keys xs e ys g.seated
 
-  its_chain : Linked links None (slots_at (grp key xs its_key) ++ i ∷ slots_at (grp key ys its_key)) None
+  its_chain : Linked links None (slots_at (group_of key xs its_key) ++ i ∷ slots_at (group_of key ys its_key)) None
   unfolding its_key
   its_chain = subst (λ zs. Linked links None zs None)
       (ap slots_at (group_middle key xs e ys (pick key e.tuple) refl)
-      ∙ slots_cut (grp key xs (pick key e.tuple)) e (grp key ys (pick key e.tuple)) i at) (g.chained (pick key e.tuple))
+      ∙ slots_cut (group_of key xs (pick key e.tuple)) e (group_of key ys (pick key e.tuple)) i at)
+      (g.chained (pick key e.tuple))
 
-  its_prev : (pair_at links i).prev ≡ last_of (slots_at (grp key xs its_key))
-  its_prev = prev_here links (slots_at (grp key xs its_key)) i (slots_at (grp key ys its_key)) its_chain
+  its_prev : (pair_at links i).prev ≡ last_of (slots_at (group_of key xs its_key))
+  its_prev = prev_here links (slots_at (group_of key xs its_key)) i (slots_at (group_of key ys its_key)) its_chain
 
-  its_next : (pair_at links i).next ≡ first_of (slots_at (grp key ys its_key))
-  its_next = next_here links (slots_at (grp key xs its_key)) i (slots_at (grp key ys its_key)) its_chain
+  its_next : (pair_at links i).next ≡ first_of (slots_at (group_of key ys its_key))
+  its_next = next_here links (slots_at (group_of key xs its_key)) i (slots_at (group_of key ys its_key)) its_chain
 
-  its_slots : slots_at (grp key (xs ++ e ∷ ys) its_key)
-      ≡ slots_at (grp key xs its_key) ++ i ∷ slots_at (grp key ys its_key)
+  its_slots : slots_at (group_of key (xs ++ e ∷ ys) its_key)
+      ≡ slots_at (group_of key xs its_key) ++ i ∷ slots_at (group_of key ys its_key)
   unfolding its_key
   its_slots = ap slots_at (group_middle key xs e ys (pick key e.tuple) refl)
-      ∙ slots_cut (grp key xs (pick key e.tuple)) e (grp key ys (pick key e.tuple)) i at
+      ∙ slots_cut (group_of key xs (pick key e.tuple)) e (group_of key ys (pick key e.tuple)) i at
 
-  rest_slots : slots_at (grp key (xs ++ ys) its_key) ≡ slots_at (grp key xs its_key) ++ slots_at (grp key ys its_key)
-  rest_slots = ap slots_at (grp-append key xs ys its_key) ∙ slots_at-append (grp key xs its_key) (grp key ys its_key)
+  rest_slots : slots_at (group_of key (xs ++ ys) its_key) ≡ slots_at (group_of key xs its_key) ++ slots_at
+      (group_of key ys its_key)
+  rest_slots = ap slots_at (group_of-append key xs ys its_key) ∙ slots_at-append (group_of key xs its_key)
+      (group_of key ys its_key)
 
-  part_mine : Linked parted None (slots_at (grp key (xs ++ ys) its_key)) None
+  part_mine : Linked parted None (slots_at (group_of key (xs ++ ys) its_key)) None
   unfolding parted
-  part_mine = rw rest_slots (left_linked links (slots_at (grp key xs its_key)) i (slots_at (grp key ys its_key))
+  part_mine = rw rest_slots (left_linked links (slots_at (group_of key xs its_key)) i
+      (slots_at (group_of key ys its_key))
       (subst AreDifferent its_slots (group_different key (xs ++ e ∷ ys) its_key d))
       (subst (AreBelow (length links)) its_slots (group_below (length links) key (xs ++ e ∷ ys) its_key b)) its_chain)
 
   mine_out : (v : List ℕ) → (v ≡ its_key → ⊥)
-      → AreOut (slots_at (grp key xs its_key) ++ i ∷ slots_at (grp key ys its_key))
-      (slots_at (grp key (xs ++ e ∷ ys) v))
-  mine_out v other = subst (λ zs. AreOut zs (slots_at (grp key (xs ++ e ∷ ys) v))) its_slots
+      → AreOut (slots_at (group_of key xs its_key) ++ i ∷ slots_at (group_of key ys its_key))
+      (slots_at (group_of key (xs ++ e ∷ ys) v))
+  mine_out v other = subst (λ zs. AreOut zs (slots_at (group_of key (xs ++ e ∷ ys) v))) its_slots
       (groups_apart key (xs ++ e ∷ ys) its_key v (λ k. other (sym k)) d)
 
-  part_other : (v : List ℕ) → (v ≡ its_key → ⊥) → Linked parted None (slots_at (grp key (xs ++ ys) v)) None
+  part_other : (v : List ℕ) → (v ≡ its_key → ⊥) → Linked parted None (slots_at (group_of key (xs ++ ys) v)) None
   unfolding parted its_key
   part_other v other = rw (← (group_past key xs e ys v (λ k. other (sym k))))
-      (linked_same links (left (pair_at links i) links) None (slots_at (grp key (xs ++ e ∷ ys) v)) None
-      (left_agree links (pair_at links i) (slots_at (grp key (xs ++ e ∷ ys) v))
-      (rw its_prev (avoid_last (slots_at (grp key xs its_key)) (slots_at (grp key (xs ++ e ∷ ys) v))
+      (linked_same links (left (pair_at links i) links) None (slots_at (group_of key (xs ++ e ∷ ys) v)) None
+      (left_agree links (pair_at links i) (slots_at (group_of key (xs ++ e ∷ ys) v))
+      (rw its_prev (avoid_last (slots_at (group_of key xs its_key)) (slots_at (group_of key (xs ++ e ∷ ys) v))
       (group_different key xs its_key
       (different_front (slots_at xs) (slots_at (e ∷ ys)) (subst AreDifferent (slots_at-append xs (e ∷ ys)) d)))
       (group_different key (xs ++ e ∷ ys) v d)
-      (outs_front (slots_at (grp key xs its_key)) (i ∷ slots_at (grp key ys its_key))
-      (slots_at (grp key (xs ++ e ∷ ys) v)) (mine_out v other))))
-      (rw its_next (avoid_first (slots_at (grp key ys its_key)) (slots_at (grp key (xs ++ e ∷ ys) v))
+      (outs_front (slots_at (group_of key xs its_key)) (i ∷ slots_at (group_of key ys its_key))
+      (slots_at (group_of key (xs ++ e ∷ ys) v)) (mine_out v other))))
+      (rw its_next (avoid_first (slots_at (group_of key ys its_key)) (slots_at (group_of key (xs ++ e ∷ ys) v))
       (group_different key ys its_key
       (different_rest e.at.slot (slots_at ys)
       (subst AreDifferent (slots_at_cons e ys)
       (different_back (slots_at xs) (slots_at (e ∷ ys)) (subst AreDifferent (slots_at-append xs (e ∷ ys)) d)))))
       (group_different key (xs ++ e ∷ ys) v d)
-      (outs_back (slots_at (grp key xs its_key)) i (slots_at (grp key ys its_key)) (slots_at (grp key (xs ++ e ∷ ys) v))
+      (outs_back (slots_at (group_of key xs its_key)) i (slots_at (group_of key ys its_key))
+      (slots_at (group_of key (xs ++ e ∷ ys) v))
       (mine_out v other)))))
       (g.chained v))
 
-  part_chained : (v : List ℕ) → Linked parted None (slots_at (grp key (xs ++ ys) v)) None
+  part_chained : (v : List ℕ) → Linked parted None (slots_at (group_of key (xs ++ ys) v)) None
   part_chained v = elim (same_cases v its_key) [
-    | inl here ↦ subst (λ u. Linked parted None (slots_at (grp key (xs ++ ys) u)) None) (sym here) part_mine
+    | inl here ↦ subst (λ u. Linked parted None (slots_at (group_of key (xs ++ ys) u)) None) (sym here) part_mine
     | inr
         other ↦ part_other v (other_same v its_key other)
   ]
 
   part_headed : (k : ℕ) (v : List ℕ) → row_at keys k ≡ Some v
       → ends_at (slice_set ends h (shrunk (pair_at links i) (ends_at ends h))) k
-      ≡ ends_of (slots_at (grp key (xs ++ ys) v))
+      ≡ ends_of (slots_at (group_of key (xs ++ ys) v))
   unfolding its_key
   part_headed k v r = elim (cases_eq k h) [
     | inl here ↦ (let same_key : v
@@ -421,8 +436,8 @@ module _ (key : List ℕ) (notes : List Note) (links : List Pair) (keys : List R
         (get_or-set_same ends h (shrunk (pair_at links i) (ends_at ends h)) (record { first = None; last = None })
         inside
         ∙ ap (shrunk (pair_at links i)) (g.headed h (pick key e.tuple) its_head ∙ ap ends_of its_slots)
-        ∙ shrunk_is (pair_at links i) (slots_at (grp key xs (pick key e.tuple))) i
-        (slots_at (grp key ys (pick key e.tuple))) its_prev its_next))
+        ∙ shrunk_is (pair_at links i) (slots_at (group_of key xs (pick key e.tuple))) i
+        (slots_at (group_of key ys (pick key e.tuple))) its_prev its_next))
     | inr other ↦ rw (← (group_past key xs e ys v
         (λ q. other (g.once k h (pick key e.tuple) (subst (λ u. row_at keys k ≡ Some u) (sym q) r) its_head))))
         (get_or-set_other ends h k (shrunk (pair_at links i) (ends_at ends h)) (record { first = None; last = None })
@@ -484,8 +499,8 @@ absent_in (q ∷ ks) r ls v h k = (k.0, absent_in ks r ls v h k.1)
 none_some : {A : Type 0} (o : Option A) (x : A) → o ≡ None → o ≡ Some x → ⊥
 none_some o x h k = let e : None ≡ Some x = sym h ∙ k in cc
 
-many_first : (key : List ℕ) (e : Entry) (es : List Entry) (w : List ℕ) → many key (e ∷ es) w ≡ 0
-    → (pick key e.tuple ≡ w → ⊥) × (many key es w ≡ 0)
+many_first : (key : List ℕ) (e : Entry) (es : List Entry) (w : List ℕ) → group_size key (e ∷ es) w ≡ 0
+    → (pick key e.tuple ≡ w → ⊥) × (group_size key es w ≡ 0)
 many_first key e es w h = (
   (λ q. omega (
     arith,
@@ -514,7 +529,7 @@ unfolding AreSeated
 seated_none key notes keys = tt
 
 seated_gone : (key : List ℕ) (notes : List Note) (ks : List Row) (r : Row) (ls : List Row) (es : List Entry)
-    → row_at (ks ++ r ∷ ls) r.slot ≡ Some r.cells → many key es r.cells ≡ 0
+    → row_at (ks ++ r ∷ ls) r.slot ≡ Some r.cells → group_size key es r.cells ≡ 0
     → AreSeated key notes (ks ++ r ∷ ls) es → AreSeated key notes (ks ++ ls) es
 seated_gone key notes ks r ls [] mine none h = seated_none key notes (ks ++ ls)
 seated_gone key notes ks r ls (e ∷ es) mine none h =
@@ -529,20 +544,20 @@ seated_gone key notes ks r ls (e ∷ es) mine none h =
 pub pruned : (key : List ℕ) (notes : List Note) (links : List Pair) (ks : List Row) (r : Row) (ls : List Row)
     (ends : List Ends) (es : List Entry) (w : List ℕ) (h : ℕ)
     → AreGroupsBut key notes links (ks ++ r ∷ ls) ends es w h → r.slot ≡ h → AreDifferent (slots (ks ++ r ∷ ls))
-    → many key es w ≡ 0 → AreGroups key notes links (ks ++ ls) ends es
+    → group_size key es w ≡ 0 → AreGroups key notes links (ks ++ ls) ends es
 pruned key notes links ks r ls ends es w h g at d empty = record {
   chained = g.chained;
   headed = λ k v q. g.headed k v (back k v q);
   some = λ k v q. g.some k v (back k v q)
       (λ s. other k v q (g.once k h w (subst (λ u. row_at (ks ++ r ∷ ls) k ≡ Some u) s (back k v q)) g.mine));
   none = λ v absent. elim (same_cases v w) [
-    | inl here ↦ subst (λ u. many key es u ≡ 0) (sym here) empty
+    | inl here ↦ subst (λ u. group_size key es u ≡ 0) (sym here) empty
     | inr no_w ↦ g.none v
         (absent_in ks r ls v (λ q. other_same v w no_w (sym (sym cells ∙ q))) absent)
   ];
   once = λ j k v p q. g.once j k v (back j v p) (back k v q);
   seated = seated_gone key notes ks r ls es (subst (λ j. row_at (ks ++ r ∷ ls) j ≡ Some r.cells) refl mine)
-      (subst (λ u. many key es u ≡ 0) (sym cells) empty) g.seated;
+      (subst (λ u. group_size key es u ≡ 0) (sym cells) empty) g.seated;
 }
   where
     mine : row_at (ks ++ r ∷ ls) r.slot ≡ Some r.cells
@@ -575,21 +590,23 @@ kept key notes links keys ends es w h g some_end = record {
   once = g.once;
   seated = g.seated;
   some = λ k v q. elim (same_cases v w) [
-    | inl here ↦ subst (λ u. 0 < many key es u) (sym here) (positive (many key es w) refl)
+    | inl here ↦ subst (λ u. 0 < group_size key es u) (sym here) (positive (group_size key es w) refl)
     | inr other ↦ g.some k v q
         (other_same v w other)
   ];
 }
   where
-    positive : (n : ℕ) → many key es w ≡ n → 0 < many key es w
+    positive : (n : ℕ) → group_size key es w ≡ n → 0 < group_size key es w
     positive zero k = absurd
-        (some_end (ap (λ (v : Ends). v.first) (g.headed h w g.mine) ∙ first_none (grp key es w) (no_group key es w k)))
+        (some_end (ap (λ (v : Ends). v.first) (g.headed h w g.mine) ∙ first_none (group_of key es w)
+        (no_group key es w k)))
     positive (suc n) k = omega (arith, k)
 
-pub emptied : (key : List ℕ) (es : List Entry) (w : List ℕ) (o : Option ℕ) → o ≡ first_of (slots_at (grp key es w)) → o
-    ≡ None → many key es w ≡ 0
+pub emptied : (key : List ℕ) (es : List Entry) (w : List ℕ) (o : Option ℕ)
+    → o ≡ first_of (slots_at (group_of key es w)) → o
+    ≡ None → group_size key es w ≡ 0
 emptied key es w o h none = sym (length_grp key es w)
-    ∙ ap (λ (g : List Entry). length g) (no_slots (grp key es w) (sym h ∙ none))
+    ∙ ap (λ (g : List Entry). length g) (no_slots (group_of key es w) (sym h ∙ none))
 
 -- a new head
 row_push : (keys : List Row) (r : Row) (k : ℕ) → (k ≡ r.slot → ⊥) → row_at (keys ++ r ∷ []) k ≡ row_at keys k

@@ -3,7 +3,7 @@ use Rattle.std.proofs.Common.{◌≡◌, ℕ, zero, suc, ◌+◌, ◌*◌, ◌�
 use Rattle.std.proofs.Common.{◌∷◌, ◌++◌, refl, ap, subst, sym, ◌∙◌, arith, inl, inr}
 use Rattle.std.proofs.lemmas.Bool.{cases_Bool}
 use Rattle.djq_index.specs.Tuple.{same, pick, one}
-use Rattle.djq_index.specs.Entries.{Entry, supp, cnt, many, grp}
+use Rattle.djq_index.specs.Entries.{Entry, supports_of, count_of, group_size, group_of}
 use Rattle.djq_index.specs.Table.{AreApart, AreSupported}
 use Rattle.djq_index.proofs.Tuples.{same_cases, one_same, one_other, one_true, one_false}
 use Rattle.djq_index.proofs.Counts.{cnt_cons, many_cons, cnt_middle, many_middle}
@@ -14,20 +14,21 @@ append_cond : (b : Bool) (e : Entry) (xs ys : List Entry) → cond b (e ∷ (xs 
 append_cond true e xs ys = refl
 append_cond false e xs ys = refl
 
-pub grp-append : (key : List ℕ) (xs ys : List Entry) (w : List ℕ) → grp key (xs ++ ys) w ≡ grp key xs w ++ grp key ys w
-unfolding grp
-grp-append key [] ys w = refl
-grp-append key (e ∷ xs) ys w = rw (grp-append key xs ys w)
-    (append_cond (same (pick key e.tuple) w) e (grp key xs w) (grp key ys w))
+pub group_of-append : (key : List ℕ) (xs ys : List Entry) (w : List ℕ) → group_of key (xs ++ ys) w ≡ group_of key xs w
+    ++ group_of key ys w
+unfolding group_of
+group_of-append key [] ys w = refl
+group_of-append key (e ∷ xs) ys w = rw (group_of-append key xs ys w)
+    (append_cond (same (pick key e.tuple) w) e (group_of key xs w) (group_of key ys w))
 
 pub grp_yes : (key : List ℕ) (e : Entry) (es : List Entry) (w : List ℕ) → same (pick key e.tuple) w ≡ true
-    → grp key (e ∷ es) w ≡ e ∷ grp key es w
-unfolding grp
+    → group_of key (e ∷ es) w ≡ e ∷ group_of key es w
+unfolding group_of
 grp_yes key e es w h = rw h refl
 
 pub grp_no : (key : List ℕ) (e : Entry) (es : List Entry) (w : List ℕ) → same (pick key e.tuple) w ≡ false
-    → grp key (e ∷ es) w ≡ grp key es w
-unfolding grp
+    → group_of key (e ∷ es) w ≡ group_of key es w
+unfolding group_of
 grp_no key e es w h = rw h refl
 
 times : (e u w : List ℕ) (key : List ℕ) → same (pick key e) u ≡ true → one (same e w)
@@ -48,24 +49,24 @@ no_times e u w key h =
       | inr other ↦ rw (one_other e w other) (omega arith)
     ]
 
-no_group : (key : List ℕ) (u w : List ℕ) → cnt (grp key [] u) w ≡ cnt [] w * one (same (pick key w) u)
-unfolding grp cnt
+no_group : (key : List ℕ) (u w : List ℕ) → count_of (group_of key [] u) w ≡ count_of [] w * one (same (pick key w) u)
+unfolding group_of count_of
 no_group key u w = omega arith
 
 -- of a group's tuples each is counted as in the whole
-pub cnt_grp : (key : List ℕ) (es : List Entry) (u w : List ℕ) → cnt (grp key es u) w
-    ≡ cnt es w * one (same (pick key w) u)
+pub cnt_grp : (key : List ℕ) (es : List Entry) (u w : List ℕ) → count_of (group_of key es u) w
+    ≡ count_of es w * one (same (pick key w) u)
 cnt_grp key [] u w = no_group key u w
 cnt_grp key (e ∷ es) u w =
     elim (cases_Bool (same (pick key e.tuple) u)) [
       | inl here ↦ rw (grp_yes key e es u here)
           (omega (
             arith,
-            cnt_cons e (grp key es u) w,
+            cnt_cons e (group_of key es u) w,
             cnt_cons e es w,
             cnt_grp key es u w,
             times e.tuple u w key here,
-            distributes (one (same e.tuple w)) (cnt es w) (one (same (pick key w) u)),
+            distributes (one (same e.tuple w)) (count_of es w) (one (same (pick key w) u)),
             ap
                 (λ n. n * one (same (pick key w) u)) (cnt_cons e es w),
           ))
@@ -75,7 +76,7 @@ cnt_grp key (e ∷ es) u w =
             cnt_grp key es u w,
             no_times e.tuple u w key other,
             distributes (one (same e.tuple w))
-                (cnt es w) (one (same (pick key w) u)),
+                (count_of es w) (one (same (pick key w) u)),
             ap (λ n. n * one (same (pick key w) u)) (cnt_cons e es w),
           ))
     ]
@@ -83,24 +84,24 @@ cnt_grp key (e ∷ es) u w =
     distributes : (a b c : ℕ) → (a + b) * c ≡ a * c + b * c
     distributes a b c = omega arith
 
-many_nil : (key : List ℕ) (w : List ℕ) → many key [] w ≡ 0
-unfolding many
+many_nil : (key : List ℕ) (w : List ℕ) → group_size key [] w ≡ 0
+unfolding group_size
 many_nil key w = refl
 
 -- what has no more of each tuple has no longer groups
-pub many_sub : (key : List ℕ) (es fs : List Entry) → ((v : List ℕ) → cnt es v ≤ cnt fs v) → (w : List ℕ)
-    → many key es w ≤ many key fs w
+pub many_sub : (key : List ℕ) (es fs : List Entry) → ((v : List ℕ) → count_of es v ≤ count_of fs v) → (w : List ℕ)
+    → group_size key es w ≤ group_size key fs w
 many_sub key [] fs h w = omega (arith, many_nil key w)
 many_sub key (e ∷ es) fs h w =
     let s = stands fs e.tuple (omega (arith, h e.tuple, cnt_cons e es e.tuple, one_same e.tuple)) in
     let rest : (v : List ℕ)
-    → cnt es v ≤ cnt (s.front ++ s.back) v =
+    → count_of es v ≤ count_of (s.front ++ s.back) v =
     (λ v. omega (
       arith,
       h v,
       cnt_cons e es v,
       cnt_middle s.front s.entry s.back v,
-      ap (λ xs. cnt xs v) s.is,
+      ap (λ xs. count_of xs v) s.is,
       ap
           (λ t. one (same t v)) s.tuple,
     )) in
@@ -108,27 +109,27 @@ many_sub key (e ∷ es) fs h w =
       arith,
       many_sub key es (s.front ++ s.back) rest w,
       many_cons key e es w,
-      ap (λ xs. many key xs w) s.is,
+      ap (λ xs. group_size key xs w) s.is,
       many_middle key s.front s.entry s.back w,
       ap (λ t. one (same (pick key t) w)) s.tuple,
     )
 
-pub many_even : (key : List ℕ) (es fs : List Entry) → ((v : List ℕ) → cnt es v ≡ cnt fs v) → (w : List ℕ)
-    → many key es w ≡ many key fs w
+pub many_even : (key : List ℕ) (es fs : List Entry) → ((v : List ℕ) → count_of es v ≡ count_of fs v) → (w : List ℕ)
+    → group_size key es w ≡ group_size key fs w
 many_even key es fs h w = omega
     (arith, many_sub key es fs (λ v. omega (arith, h v)) w, many_sub key fs es (λ v. omega (arith, h v)) w)
 
 -- tables with the same supports hold the same tuples
 pub cnt_same : (es fs : List Entry) → AreApart es → AreApart fs → AreSupported es → AreSupported fs
-    → ((v : List ℕ) → supp es v ≡ supp fs v) → (v : List ℕ) → cnt es v ≡ cnt fs v
-cnt_same es fs a b s t h v = by_cases (cnt es v) (cnt fs v) refl refl
+    → ((v : List ℕ) → supports_of es v ≡ supports_of fs v) → (v : List ℕ) → count_of es v ≡ count_of fs v
+cnt_same es fs a b s t h v = by_cases (count_of es v) (count_of fs v) refl refl
   where
-    by_cases : (m n : ℕ) → cnt es v ≡ m → cnt fs v ≡ n → cnt es v ≡ cnt fs v
+    by_cases : (m n : ℕ) → count_of es v ≡ m → count_of fs v ≡ n → count_of es v ≡ count_of fs v
     by_cases zero zero k l = k ∙ sym l
     by_cases (suc m) (suc n) k l = omega (arith, cnt_once es v a, cnt_once fs v b, k, l)
     by_cases zero (suc n) k l = absurd (omega (arith, h v, supp_none es v k, cnt_supp fs v t (omega (arith, l))))
     by_cases (suc m) zero k l = absurd (omega (arith, h v, supp_none fs v l, cnt_supp es v s (omega (arith, k))))
 
 pub many_same : (key : List ℕ) (es fs : List Entry) → AreApart es → AreApart fs → AreSupported es → AreSupported fs
-    → ((v : List ℕ) → supp es v ≡ supp fs v) → (w : List ℕ) → many key es w ≡ many key fs w
+    → ((v : List ℕ) → supports_of es v ≡ supports_of fs v) → (w : List ℕ) → group_size key es w ≡ group_size key fs w
 many_same key es fs a b s t h w = many_even key es fs (cnt_same es fs a b s t h) w

@@ -7,7 +7,7 @@ use Rattle.djq_arena.specs.Rows.{Row, slots}
 use Rattle.djq_index.specs.declared.raw.Note.{Note}
 use Rattle.djq_index.specs.declared.raw.Raw.{Raw}
 use Rattle.djq_index.specs.Tuple.{pick}
-use Rattle.djq_index.specs.Entries.{Entry, many}
+use Rattle.djq_index.specs.Entries.{Entry, group_size}
 use Rattle.djq_index.specs.Raw.{entries_of, note_at, row_at, AreSeated, AreHeads}
 use Rattle.djq_index.proofs.Tuples.{same_cases, one_other}
 use Rattle.djq_index.proofs.Counts.{many_cons}
@@ -71,14 +71,14 @@ length_heads : (notes : List Note) (es : List Entry) → length (heads_of notes 
 length_heads notes [] = refl
 length_heads notes (e ∷ es) = ap suc (length_heads notes es)
 
-none_many : (key : List ℕ) (w : List ℕ) → 0 < many key [] w → ⊥
-unfolding many
+none_many : (key : List ℕ) (w : List ℕ) → 0 < group_size key [] w → ⊥
+unfolding group_size
 none_many key w h = omega arith
 
 -- the head of a group that has a tuple is the head of an entry
 is_head : (key : List ℕ) (notes : List Note) (keys : List Row) (es : List Entry) (h : ℕ) (w : List ℕ)
     → ((j k : ℕ) (v : List ℕ) → row_at keys j ≡ Some v → row_at keys k ≡ Some v → j ≡ k)
-    → AreSeated key notes keys es → row_at keys h ≡ Some w → 0 < many key es w → IsIn h (heads_of notes es)
+    → AreSeated key notes keys es → row_at keys h ≡ Some w → 0 < group_size key es w → IsIn h (heads_of notes es)
 unfolding AreSeated
 is_head key notes keys [] h w once s at some = none_many key w some
 is_head key notes keys (e ∷ es) h w once s at some =

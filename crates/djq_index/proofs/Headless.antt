@@ -32,7 +32,7 @@ use Rattle.djq_index.specs.declared.kind.Kind.TheVariants.{One, Each}
 use Rattle.djq_index.specs.declared.place.Place.{Place}
 use Rattle.djq_index.specs.declared.raw.Raw.{Raw}
 use Rattle.djq_index.specs.Tuple.{same, pick, one}
-use Rattle.djq_index.specs.Entries.{Entry, cnt, many, grp, head_at, last_at}
+use Rattle.djq_index.specs.Entries.{Entry, count_of, group_size, group_of, head_at, last_at}
 use Rattle.djq_index.specs.Table.{AreWide}
 use Rattle.djq_index.specs.Raw.{entries_of, slots_at, place_of, IsBare, IsWhole, IsKind}
 use Rattle.djq_index.proofs.Tuples.{is_same, same_other}
@@ -55,8 +55,8 @@ use Rattle.djq_index.proofs.Parts.{
 use Rattle.djq_index.proofs.Grouping.{group_middle}
 use Rattle.djq_index.proofs.Tabling.{wide_from}
 
-grp_nil : (key w : List ℕ) → grp key [] w ≡ []
-unfolding grp
+grp_nil : (key w : List ℕ) → group_of key [] w ≡ []
+unfolding group_of
 grp_nil key w = refl
 
 pub nil_not : (xs : List Entry) (e : Entry) (ys : List Entry) → [] ≡ xs ++ e ∷ ys → ⊥
@@ -71,7 +71,7 @@ pub key_whole : (r : Raw) → IsBare r → r.kind ≡ Each → IsWhole r.rows.wi
 key_whole r raw k = subst (λ c. IsKind c r.rows.width r.key.items) k raw.kind
 
 -- with an empty key all are one group
-one_group : (es : List Entry) → grp [] es [] ≡ es
+one_group : (es : List Entry) → group_of [] es [] ≡ es
 one_group [] = grp_nil [] []
 one_group (e ∷ es) = grp_yes [] e es [] (is_same (pick [] e.tuple) [] (pick_nil e.tuple))
     ∙ ap (λ (ds : List Entry). e ∷ ds) (one_group es)
@@ -79,33 +79,33 @@ one_group (e ∷ es) = grp_yes [] e es [] (is_same (pick [] e.tuple) [] (pick_ni
 cells_not : (u : List ℕ) (c : ℕ) (cs : List ℕ) → pick [] u ≡ c ∷ cs → ⊥
 cells_not u c cs h = let k : [] ≡ c ∷ cs = sym (pick_nil u) ∙ h in cc
 
-no_other : (es : List Entry) (c : ℕ) (cs : List ℕ) → grp [] es (c ∷ cs) ≡ []
+no_other : (es : List Entry) (c : ℕ) (cs : List ℕ) → group_of [] es (c ∷ cs) ≡ []
 no_other [] c cs = grp_nil [] (c ∷ cs)
 no_other (e ∷ es) c cs = grp_no [] e es (c ∷ cs) (same_other (pick [] e.tuple) (c ∷ cs)
     (cells_not e.tuple c cs)) ∙ no_other es c cs
 
 pub one_end : (r : Raw) (f : List ℕ → Option ℕ) (w : List ℕ) (o : Option ℕ) → f [] ≡ None
     → r.key.items ≡ [] → (w ≡ [] → o ≡ f (slots r.rows.rows)) → ((w ≡ [] → ⊥) → o ≡ None)
-    → o ≡ f (slots_at (grp r.key.items (entries_of r) w))
+    → o ≡ f (slots_at (group_of r.key.items (entries_of r) w))
 one_end r f [] o none key here other =
-    here refl ∙ sym (ap f (ap slots_at (ap (λ (k : List ℕ). grp k (entries_of r) []) key
+    here refl ∙ sym (ap f (ap slots_at (ap (λ (k : List ℕ). group_of k (entries_of r) []) key
     ∙ one_group (entries_of r)) ∙ slots_are r.notes.items r.rows.rows))
 one_end r f (c ∷ cs) o none key here other =
     other (λ h. cc)
-    ∙ sym (ap f (ap slots_at (ap (λ (k : List ℕ). grp k (entries_of r) (c ∷ cs)) key
+    ∙ sym (ap f (ap slots_at (ap (λ (k : List ℕ). group_of k (entries_of r) (c ∷ cs)) key
     ∙ no_other (entries_of r) c cs) ∙ slots_nil) ∙ none)
 
 -- a cut of the one group is a cut of all
 one_cut : (r : Raw) (w : List ℕ) (xs : List Entry) (e : Entry) (ys : List Entry)
-    → r.key.items ≡ [] → grp r.key.items (entries_of r) w ≡ xs ++ e ∷ ys
+    → r.key.items ≡ [] → group_of r.key.items (entries_of r) w ≡ xs ++ e ∷ ys
     → entries_of r ≡ xs ++ e ∷ ys
-one_cut r [] xs e ys key is = sym (ap (λ (k : List ℕ). grp k (entries_of r) []) key
+one_cut r [] xs e ys key is = sym (ap (λ (k : List ℕ). group_of k (entries_of r) []) key
     ∙ one_group (entries_of r)) ∙ is
-one_cut r (c ∷ cs) xs e ys key is = absurd (nil_not xs e ys (sym (ap (λ (k : List ℕ). grp k
+one_cut r (c ∷ cs) xs e ys key is = absurd (nil_not xs e ys (sym (ap (λ (k : List ℕ). group_of k
     (entries_of r) (c ∷ cs)) key ∙ no_other (entries_of r) c cs) ∙ is))
 
 pub one_next : (r : Raw) (w : List ℕ) (xs : List Entry) (e : Entry) (ys : List Entry)
-    (o : Option ℕ) → r.key.items ≡ [] → grp r.key.items (entries_of r) w ≡ xs ++ e ∷ ys
+    (o : Option ℕ) → r.key.items ≡ [] → group_of r.key.items (entries_of r) w ≡ xs ++ e ∷ ys
     → ((rs : List Row) (q : Row) (ss : List Row) → r.rows.rows ≡ rs ++ q ∷ ss → q.slot ≡ e.at.slot
     → o ≡ first_of (slots ss)) → place_of o ≡ head_at ys
 one_next r w xs e ys o key is next =
@@ -116,7 +116,7 @@ one_next r w xs e ys o key is next =
     ∙ sym (head_place ys)
 
 pub one_prev : (r : Raw) (w : List ℕ) (xs : List Entry) (e : Entry) (ys : List Entry)
-    (o : Option ℕ) → r.key.items ≡ [] → grp r.key.items (entries_of r) w ≡ xs ++ e ∷ ys
+    (o : Option ℕ) → r.key.items ≡ [] → group_of r.key.items (entries_of r) w ≡ xs ++ e ∷ ys
     → ((rs : List Row) (q : Row) (ss : List Row) → r.rows.rows ≡ rs ++ q ∷ ss → q.slot ≡ e.at.slot
     → o ≡ last_of (slots rs)) → place_of o ≡ last_at xs
 one_prev r w xs e ys o key is prev =
@@ -144,8 +144,8 @@ wide_pick : (width : ℕ) (key u : List ℕ) → IsWhole width key → length u 
 wide_pick width key u h wide = pick_whole key u (subst (λ n. IsWhole n key) (sym wide) h)
 
 each_many : (width : ℕ) (key : List ℕ) (es : List Entry) (w : List ℕ) → IsWhole width key
-    → AreWide width es → many key es w ≡ cnt es w
-unfolding AreWide many cnt
+    → AreWide width es → group_size key es w ≡ count_of es w
+unfolding AreWide group_size count_of
 each_many width key [] w h wide = refl
 each_many width key (e ∷ es) w h wide = ap₂ (λ (u : List ℕ) (n : ℕ). one (same u w) + n)
     (wide_pick width key e.tuple h wide.0) (each_many width key es w h wide.1)
@@ -174,10 +174,10 @@ module _ (r : Raw) (raw : IsBare r) (whole : IsWhole r.rows.width r.key.items) w
   all_wide : AreWide r.rows.width (entries_of r)
   all_wide = wide_from r.rows.width r.notes.items r.rows.rows raw.rows.wide
 
-  counted : (w : List ℕ) → many r.key.items (entries_of r) w ≡ cnt (entries_of r) w
+  counted : (w : List ℕ) → group_size r.key.items (entries_of r) w ≡ count_of (entries_of r) w
   counted w = each_many r.rows.width r.key.items (entries_of r) w whole all_wide
 
-  few : (w : List ℕ) → length (grp r.key.items (entries_of r) w) ≤ 1
+  few : (w : List ℕ) → length (group_of r.key.items (entries_of r) w) ≤ 1
   few w = omega (
     arith,
     length_grp r.key.items (entries_of r) w,
@@ -187,35 +187,35 @@ module _ (r : Raw) (raw : IsBare r) (whole : IsWhole r.rows.width r.key.items) w
   )
 
   pub each_next : (w : List ℕ) (xs : List Entry) (e : Entry) (ys : List Entry)
-      → grp r.key.items (entries_of r) w ≡ xs ++ e ∷ ys → None ≡ head_at ys
+      → group_of r.key.items (entries_of r) w ≡ xs ++ e ∷ ys → None ≡ head_at ys
   each_next w xs e ys is = sym (ap head_at (alone xs e ys (subst (λ
       (g : List Entry). length g ≤ 1) is (few w))).1 ∙ head_nil)
 
   pub each_prev : (w : List ℕ) (xs : List Entry) (e : Entry) (ys : List Entry)
-      → grp r.key.items (entries_of r) w ≡ xs ++ e ∷ ys → None ≡ last_at xs
+      → group_of r.key.items (entries_of r) w ≡ xs ++ e ∷ ys → None ≡ last_at xs
   each_prev w xs e ys is = sym (ap last_at (alone xs e ys (subst (λ
       (g : List Entry). length g ≤ 1) is (few w))).0 ∙ last_nil)
 
   -- the group of a row is that row
   each_slots : (w : List ℕ) (i : ℕ) → IsRow r.rows.rows i w
-      → slots_at (grp r.key.items (entries_of r) w) ≡ i ∷ []
+      → slots_at (group_of r.key.items (entries_of r) w) ≡ i ∷ []
   each_slots w i row =
       let a = row_is_at r.notes.items r.rows.rows i w row in
       let its = wide_pick r.rows.width r.key.items a.entry.tuple whole
       (wide_middle r.rows.width a.front a.entry a.back (subst
       (AreWide r.rows.width) a.is all_wide)) ∙ a.tuple in
-      let cut : grp r.key.items
-      (entries_of r) w ≡ grp r.key.items a.front w ++ a.entry ∷ grp r.key.items a.back w = ap
-      (λ (es : List Entry). grp r.key.items es w) a.is
+      let cut : group_of r.key.items
+      (entries_of r) w ≡ group_of r.key.items a.front w ++ a.entry ∷ group_of r.key.items a.back w = ap
+      (λ (es : List Entry). group_of r.key.items es w) a.is
       ∙ group_middle r.key.items a.front a.entry a.back w its in
-      let none = alone (grp r.key.items a.front w) a.entry (grp r.key.items a.back w) (subst (λ
+      let none = alone (group_of r.key.items a.front w) a.entry (group_of r.key.items a.back w) (subst (λ
       (g : List Entry). length g ≤ 1) cut (few w)) in
       ap slots_at (cut ∙ ap₂ (λ (f g : List Entry). f ++ a.entry ∷ g) none.0 none.1)
       ∙ slots_at_cons a.entry [] ∙ ap₂ (λ (p : Place) (zs : List ℕ). p.slot ∷ zs) a.at slots_nil
 
   pub each_end : (f : List ℕ → Option ℕ) (w : List ℕ) (o : Option ℕ) → f [] ≡ None → ((i : ℕ)
       → f (i ∷ []) ≡ Some i) → MatchOption o (IsAbsent r.rows.rows w) (λ i. IsRow r.rows.rows i w)
-      → o ≡ f (slots_at (grp r.key.items (entries_of r) w))
+      → o ≡ f (slots_at (group_of r.key.items (entries_of r) w))
   each_end f w None none only h = sym (ap f (ap slots_at (no_group r.key.items (entries_of r) w
       (counted w ∙ absent_cnt r.notes.items r.rows.rows w h)) ∙ slots_nil) ∙ none)
   each_end f w (Some i) none only h = sym (ap f (each_slots w i h) ∙ only i)

@@ -13,7 +13,7 @@ use Rattle.djq_arena.proofs.Chaining.{length-entered}
 use Rattle.djq_index.specs.declared.raw.Note.{Note}
 use Rattle.djq_index.specs.declared.raw.Raw.{Raw}
 use Rattle.djq_index.specs.Tuple.{pick}
-use Rattle.djq_index.specs.Entries.{Entry, cnt, many, grp, marks}
+use Rattle.djq_index.specs.Entries.{Entry, count_of, group_size, group_of, marks}
 use Rattle.djq_index.specs.Table.{AreApart, IsAt}
 use Rattle.djq_index.specs.Changes.{InsertedAs}
 use Rattle.djq_index.specs.Raw.{note_at, entries_in, entries_of, slots_at, ends_at, AreGroups}
@@ -28,8 +28,8 @@ slots_none : slots [] ≡ []
 unfolding slots
 slots_none = refl
 
-many_zero : (key : List ℕ) (w : List ℕ) → many key [] w ≡ 0
-unfolding many
+many_zero : (key : List ℕ) (w : List ℕ) → group_size key [] w ≡ 0
+unfolding group_size
 many_zero key w = refl
 
 module _ (a : Raw) (rows : Rows) (notes : List Note) (i : ℕ) (u : List ℕ)
@@ -59,7 +59,7 @@ module _ (a : Raw) (rows : Rows) (notes : List Note) (i : ℕ) (u : List ℕ)
 
 -- the tuple is there
 module _ (m : Bool) (a b : Raw) (rows : Rows) (notes : List Note) (i h : ℕ) (u : List ℕ) (raw : IsBare a)
-    (plain : m ≡ false → marks (entries_of a) ≡ []) (absent : cnt (entries_of a) u ≡ 0)
+    (plain : m ≡ false → marks (entries_of a) ≡ []) (absent : count_of (entries_of a) u ≡ 0)
     (r : IsLaid a.rows rows a.notes.items notes i u)
     (f : IsNoted m a b rows notes i h) where
   pub came_entries : entries_of b
@@ -82,7 +82,7 @@ module _ (m : Bool) (a b : Raw) (rows : Rows) (notes : List Note) (i h : ℕ) (u
     apart = rw came_entries
         (apart_in (entries_of a) (record { at = record { slot = i }; tuple = u; supports = 1; marked = m }) []
         (subst AreApart (sym (append-nil (entries_of a))) raw.apart)
-        (subst (λ es. cnt es u ≡ 0) (sym (append-nil (entries_of a))) absent));
+        (subst (λ es. count_of es u ≡ 0) (sym (append-nil (entries_of a))) absent));
     trailing = rw came_entries
         (trailing_put (entries_of a) (record { at = record { slot = i }; tuple = u; supports = 1; marked = m })
         raw.trailing plain);
@@ -158,13 +158,13 @@ module _ (a : Raw) (rows : Rows) (notes : List Note) (links : List Pair) (keys :
   pub last_links : IsWithin (length links) (ends_at ends h).last
   last_links = subst (IsWithin (length links))
       (sym (ap (λ (v : Ends). v.last) (ready_but.headed h (pick a.key.items u) ready_but.mine)))
-      (last_within (length links) None (slots_at (grp a.key.items (entries_of a) (pick a.key.items u))) tt
+      (last_within (length links) None (slots_at (group_of a.key.items (entries_of a) (pick a.key.items u))) tt
       (group_below (length links) a.key.items (entries_of a) (pick a.key.items u) old_below))
 
 module _ (m : Bool) (a b : Raw) (rows : Rows) (notes : List Note) (links : List Pair) (keys : Rows) (ends : List Ends)
     (i h : ℕ) (u : List ℕ)
     (raw : IsBare a) (plain : m ≡ false → marks (entries_of a) ≡ []) (hs : AreHeads a)
-    (absent : cnt (entries_of a) u ≡ 0) (r : IsReady a rows notes links keys ends i h u)
+    (absent : count_of (entries_of a) u ≡ 0) (r : IsReady a rows notes links keys ends i h u)
     (f : IsSettled m a b rows notes links keys ends i h) where
   came_groups : AreGroups a.key.items (slice_set notes i (record { supports = 1; head = h; marked = m }))
       (entered (ends_at ends h).last i links) keys.rows (slice_set ends h (extended i (ends_at ends h)))

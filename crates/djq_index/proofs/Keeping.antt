@@ -15,7 +15,7 @@ use Rattle.djq_index.specs.declared.place.Place.{Place}
 use Rattle.djq_index.specs.declared.kind.Kind.{Kind}
 use Rattle.djq_index.specs.declared.raw.Note.{Note}
 use Rattle.djq_index.specs.Tuple.{same, pick, one}
-use Rattle.djq_index.specs.Entries.{Entry, cnt, many, grp, marks, plain}
+use Rattle.djq_index.specs.Entries.{Entry, count_of, group_size, group_of, marks, plain}
 use Rattle.djq_index.specs.Table.{AreApart, AreLast}
 use Rattle.djq_index.specs.Raw.{note_at, entry_of, entries_in, slots_at, row_at, AreSeated, ends_at}
 use Rattle.djq_index.specs.Raw.{AreGroups, AreAllMarked, AreTrailing, passed, IsKind}
@@ -57,8 +57,8 @@ pub groups_like : (key : List ℕ) (notes more : List Note) (links new : List Pa
     → ((k : ℕ) → pair_at new k ≡ pair_at links k) → ((k : ℕ) → ends_at known k ≡ ends_at ends k)
     → AreGroups key more new keys known es
 groups_like key notes more links new keys ends known es g n l e = record {
-  chained = λ w. linked_same links new None (slots_at (grp key es w)) None
-      (agree_all links new (slots_at (grp key es w)) l) (g.chained w);
+  chained = λ w. linked_same links new None (slots_at (group_of key es w)) None
+      (agree_all links new (slots_at (group_of key es w)) l) (g.chained w);
   headed = λ h w r. e h ∙ g.headed h w r;
   some = g.some;
   none = g.none;
@@ -195,12 +195,12 @@ trailing_same [] d e ys m h = ((λ k. h.0 (sym m ∙ k)), h.1)
 trailing_same (x ∷ xs) d e ys m h = ((λ k. all_same xs d e ys m (h.0 k)), trailing_same xs d e ys m h.1)
 
 -- behind a marked one all are marked, so the suffix of marks is one of each group
-many_none : (key : List ℕ) (w : List ℕ) → many key [] w ≡ 0
-unfolding many
+many_none : (key : List ℕ) (w : List ℕ) → group_size key [] w ≡ 0
+unfolding group_size
 many_none key w = refl
 
-group_plain : (key : List ℕ) (es : List Entry) (w : List ℕ) → AreAllMarked es → many key (plain es) w ≡ 0
-group_plain key es w h = ap (λ (ds : List Entry). many key ds w) (all_plain es h) ∙ many_none key w
+group_plain : (key : List ℕ) (es : List Entry) (w : List ℕ) → AreAllMarked es → group_size key (plain es) w ≡ 0
+group_plain key es w h = ap (λ (ds : List Entry). group_size key ds w) (all_plain es h) ∙ many_none key w
 
 pub trailing_last : (key : List ℕ) (es : List Entry) → AreTrailing es → AreLast key es
 unfolding AreTrailing AreLast
@@ -287,26 +287,27 @@ alike_cond false false d e ds es h at s = s
 alike_cond true false d e ds es h at s = absurd (false≢true (sym h))
 alike_cond false true d e ds es h at s = absurd (false≢true h)
 
-alike_groups : (key : List ℕ) (ds es : List Entry) (w : List ℕ) → AreAlike ds es → slots_at (grp key ds w)
-    ≡ slots_at (grp key es w)
-unfolding AreAlike grp
+alike_groups : (key : List ℕ) (ds es : List Entry) (w : List ℕ) → AreAlike ds es → slots_at (group_of key ds w)
+    ≡ slots_at (group_of key es w)
+unfolding AreAlike group_of
 alike_groups key [] [] w h = refl
 alike_groups key (d ∷ ds) (e ∷ es) w h = alike_cond (same (pick key d.tuple) w) (same (pick key e.tuple) w) d e
-    (grp key ds w) (grp key es w) (ap (λ (u : List ℕ). same (pick key u) w) (sym h.1)) h.0
+    (group_of key ds w) (group_of key es w) (ap (λ (u : List ℕ). same (pick key u) w) (sym h.1)) h.0
     (alike_groups key ds es w h.2)
 alike_groups key [] (e ∷ es) w h = absurd h
 alike_groups key (d ∷ ds) [] w h = absurd h
 
-alike_many : (key : List ℕ) (ds es : List Entry) (w : List ℕ) → AreAlike ds es → many key ds w ≡ many key es w
-unfolding AreAlike many
+alike_many : (key : List ℕ) (ds es : List Entry) (w : List ℕ) → AreAlike ds es → group_size key ds w ≡ group_size key
+    es w
+unfolding AreAlike group_size
 alike_many key [] [] w h = refl
 alike_many key (d ∷ ds) (e ∷ es) w h = ap₂ (λ (u : List ℕ) (n : ℕ). one (same (pick key u) w) + n) (sym h.1)
     (alike_many key ds es w h.2)
 alike_many key [] (e ∷ es) w h = absurd h
 alike_many key (d ∷ ds) [] w h = absurd h
 
-alike_cnt : (ds es : List Entry) (u : List ℕ) → AreAlike ds es → cnt ds u ≡ cnt es u
-unfolding AreAlike cnt
+alike_cnt : (ds es : List Entry) (u : List ℕ) → AreAlike ds es → count_of ds u ≡ count_of es u
+unfolding AreAlike count_of
 alike_cnt [] [] u h = refl
 alike_cnt (d ∷ ds) (e ∷ es) u h = ap₂ (λ (v : List ℕ) (n : ℕ). one (same v u) + n) (sym h.1) (alike_cnt ds es u h.2)
 alike_cnt [] (e ∷ es) u h = absurd h
@@ -316,7 +317,7 @@ pub alike_apart : (ds es : List Entry) → AreAlike ds es → AreApart ds → Ar
 unfolding AreAlike AreApart
 alike_apart [] [] h a = a
 alike_apart (d ∷ ds) (e ∷ es) h a =
-    (ap (λ (u : List ℕ). cnt es u) h.1 ∙ sym (alike_cnt ds es d.tuple h.2) ∙ a.0, alike_apart ds es h.2 a.1)
+    (ap (λ (u : List ℕ). count_of es u) h.1 ∙ sym (alike_cnt ds es d.tuple h.2) ∙ a.0, alike_apart ds es h.2 a.1)
 alike_apart [] (e ∷ es) h a = absurd h
 alike_apart (d ∷ ds) [] h a = absurd h
 

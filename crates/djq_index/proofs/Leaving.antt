@@ -17,7 +17,7 @@ use Rattle.djq_index.specs.declared.kind.Kind.TheVariants.{Keyed}
 use Rattle.djq_index.specs.declared.raw.Note.{Note}
 use Rattle.djq_index.specs.declared.raw.Raw.{Raw}
 use Rattle.djq_index.specs.Tuple.{pick}
-use Rattle.djq_index.specs.Entries.{Entry, cnt, many, grp, marks, is_marked}
+use Rattle.djq_index.specs.Entries.{Entry, count_of, group_size, group_of, marks, is_marked}
 use Rattle.djq_index.specs.Table.{AreApart, IsAt}
 use Rattle.djq_index.specs.Changes.{Removed, Touched, Supported}
 use Rattle.djq_index.specs.Raw.{note_at, entry_of, entries_in, entries_of, slots_at, row_at}
@@ -139,45 +139,46 @@ module _ (a : Raw) (p : Place) (u : List ℕ) (raw : IsBare a) (hs : AreHeads a)
 
   -- the neighbours are slots
   group_chain : Linked a.links.items None
-      (slots_at (grp a.key.items (xs a p u raw f) (pick a.key.items u)) ++ p.slot ∷ slots_at
-      (grp a.key.items (ys a p u raw f) (pick a.key.items u))) None
+      (slots_at (group_of a.key.items (xs a p u raw f) (pick a.key.items u)) ++ p.slot ∷ slots_at
+      (group_of a.key.items (ys a p u raw f) (pick a.key.items u))) None
   group_chain = subst (λ zs. Linked a.links.items None zs None)
       (ap slots_at (group_middle_at a.key.items (xs a p u raw f) (e a p u raw f) (ys a p u raw f) (pick a.key.items u)
       (ap (pick a.key.items) (e_tuple a p u raw f)))
-      ∙ slots_at_middle (grp a.key.items (xs a p u raw f) (pick a.key.items u)) (e a p u raw f)
-      (grp a.key.items (ys a p u raw f) (pick a.key.items u))
-      ∙ ap (λ (i : ℕ). slots_at (grp a.key.items (xs a p u raw f) (pick a.key.items u)) ++ i ∷ slots_at
-      (grp a.key.items (ys a p u raw f) (pick a.key.items u))) (e_slot a p u raw f))
+      ∙ slots_at_middle (group_of a.key.items (xs a p u raw f) (pick a.key.items u)) (e a p u raw f)
+      (group_of a.key.items (ys a p u raw f) (pick a.key.items u))
+      ∙ ap (λ (i : ℕ). slots_at (group_of a.key.items (xs a p u raw f) (pick a.key.items u)) ++ i ∷ slots_at
+      (group_of a.key.items (ys a p u raw f) (pick a.key.items u))) (e_slot a p u raw f))
       (its_groups.chained (pick a.key.items u))
 
   chain_below : AreBelow (length a.links.items)
-      (slots_at (grp a.key.items (xs a p u raw f) (pick a.key.items u)) ++ p.slot ∷ slots_at
-      (grp a.key.items (ys a p u raw f) (pick a.key.items u)))
+      (slots_at (group_of a.key.items (xs a p u raw f) (pick a.key.items u)) ++ p.slot ∷ slots_at
+      (group_of a.key.items (ys a p u raw f) (pick a.key.items u)))
   chain_below = subst (AreBelow (length a.links.items))
       (ap slots_at (group_middle_at a.key.items (xs a p u raw f) (e a p u raw f) (ys a p u raw f) (pick a.key.items u)
       (ap (pick a.key.items) (e_tuple a p u raw f)))
-      ∙ slots_at_middle (grp a.key.items (xs a p u raw f) (pick a.key.items u)) (e a p u raw f)
-      (grp a.key.items (ys a p u raw f) (pick a.key.items u))
-      ∙ ap (λ (i : ℕ). slots_at (grp a.key.items (xs a p u raw f) (pick a.key.items u)) ++ i ∷ slots_at
-      (grp a.key.items (ys a p u raw f) (pick a.key.items u))) (e_slot a p u raw f))
+      ∙ slots_at_middle (group_of a.key.items (xs a p u raw f) (pick a.key.items u)) (e a p u raw f)
+      (group_of a.key.items (ys a p u raw f) (pick a.key.items u))
+      ∙ ap (λ (i : ℕ). slots_at (group_of a.key.items (xs a p u raw f) (pick a.key.items u)) ++ i ∷ slots_at
+      (group_of a.key.items (ys a p u raw f) (pick a.key.items u))) (e_slot a p u raw f))
       (group_below (length a.links.items) a.key.items ((xs a p u raw f) ++ (e a p u raw f) ∷ (ys a p u raw f))
       (pick a.key.items u) links_below)
 
   pub its_prev_within : IsWithin (length a.links.items) (pair_at a.links.items p.slot).prev
-  its_prev_within = rw (prev_here a.links.items (slots_at (grp a.key.items (xs a p u raw f) (pick a.key.items u)))
-      p.slot (slots_at (grp a.key.items (ys a p u raw f) (pick a.key.items u))) group_chain)
-      (last_within (length a.links.items) None (slots_at (grp a.key.items (xs a p u raw f) (pick a.key.items u))) tt
-      (below_front (length a.links.items) (slots_at (grp a.key.items (xs a p u raw f) (pick a.key.items u)))
-      (p.slot ∷ slots_at (grp a.key.items (ys a p u raw f) (pick a.key.items u))) chain_below))
+  its_prev_within = rw (prev_here a.links.items (slots_at (group_of a.key.items (xs a p u raw f) (pick a.key.items u)))
+      p.slot (slots_at (group_of a.key.items (ys a p u raw f) (pick a.key.items u))) group_chain)
+      (last_within (length a.links.items) None (slots_at (group_of a.key.items (xs a p u raw f) (pick a.key.items u)))
+      tt
+      (below_front (length a.links.items) (slots_at (group_of a.key.items (xs a p u raw f) (pick a.key.items u)))
+      (p.slot ∷ slots_at (group_of a.key.items (ys a p u raw f) (pick a.key.items u))) chain_below))
 
   pub its_next_within : IsWithin (length a.links.items) (pair_at a.links.items p.slot).next
-  its_next_within = rw (next_here a.links.items (slots_at (grp a.key.items (xs a p u raw f) (pick a.key.items u)))
-      p.slot (slots_at (grp a.key.items (ys a p u raw f) (pick a.key.items u))) group_chain)
-      (first_within (length a.links.items) (slots_at (grp a.key.items (ys a p u raw f) (pick a.key.items u)))
-      (below_back (length a.links.items) (slots_at (grp a.key.items (xs a p u raw f) (pick a.key.items u)))
-      (slots_at (grp a.key.items (ys a p u raw f) (pick a.key.items u)))
-      (below_out (length a.links.items) (slots_at (grp a.key.items (xs a p u raw f) (pick a.key.items u))) p.slot
-      (slots_at (grp a.key.items (ys a p u raw f) (pick a.key.items u))) chain_below)))
+  its_next_within = rw (next_here a.links.items (slots_at (group_of a.key.items (xs a p u raw f) (pick a.key.items u)))
+      p.slot (slots_at (group_of a.key.items (ys a p u raw f) (pick a.key.items u))) group_chain)
+      (first_within (length a.links.items) (slots_at (group_of a.key.items (ys a p u raw f) (pick a.key.items u)))
+      (below_back (length a.links.items) (slots_at (group_of a.key.items (xs a p u raw f) (pick a.key.items u)))
+      (slots_at (group_of a.key.items (ys a p u raw f) (pick a.key.items u)))
+      (below_out (length a.links.items) (slots_at (group_of a.key.items (xs a p u raw f) (pick a.key.items u))) p.slot
+      (slots_at (group_of a.key.items (ys a p u raw f) (pick a.key.items u))) chain_below)))
 
 -- what a removal does to the tuples
 pub record Leaves (a b : Raw) (i : ℕ) (follower : Option ℕ) : Type 0 where
@@ -483,8 +484,8 @@ pub record Touches (a b : Raw) (i : ℕ) : Type 0 where
       ≡ slice_set known (note_at a.notes.items i).head (extended i (ends_at known (note_at a.notes.items i).head))
   pub keys : b.keys ≡ a.keys
 
-many_none : (key : List ℕ) (w : List ℕ) → many key [] w ≡ 0
-unfolding many
+many_none : (key : List ℕ) (w : List ℕ) → group_size key [] w ≡ 0
+unfolding group_size
 many_none key w = refl
 
 -- what is asked for joining again
@@ -527,7 +528,7 @@ module _ (a : Raw) (p : Place) (u : List ℕ) (raw : IsBare a) (hs : AreHeads a)
       (sym (ap₂ (λ (ks : List Ends) (k : ℕ). (ends_at ks k).last) all hi
       ∙ ap (λ (v : Ends). v.last) (g.headed head (pick a.key.items u) g.mine)))
       (last_within (length (left (pair_at a.links.items p.slot) a.links.items)) None
-      (slots_at (grp a.key.items (xs a p u raw f ++ ys a p u raw f) (pick a.key.items u))) tt
+      (slots_at (group_of a.key.items (xs a p u raw f ++ ys a p u raw f) (pick a.key.items u))) tt
       (group_below (length (left (pair_at a.links.items p.slot) a.links.items)) a.key.items
       (xs a p u raw f ++ ys a p u raw f) (pick a.key.items u) rest_below))
 
@@ -607,8 +608,8 @@ module _ (a b : Raw) (p : Place) (u : List ℕ) (raw : IsBare a) (f : Found a p 
       was_apart : AreApart (xs a p u raw f ++ e a p u raw f ∷ ys a p u raw f)
       was_apart = subst AreApart (cut_is a p u raw f) raw.apart
 
-      absent : cnt (xs a p u raw f ++ ys a p u raw f) u ≡ 0
-      absent = subst (λ v. cnt (xs a p u raw f ++ ys a p u raw f) v ≡ 0) (e_tuple a p u raw f)
+      absent : count_of (xs a p u raw f ++ ys a p u raw f) u ≡ 0
+      absent = subst (λ v. count_of (xs a p u raw f ++ ys a p u raw f) v ≡ 0) (e_tuple a p u raw f)
           (apart_here (xs a p u raw f) (e a p u raw f) (ys a p u raw f) was_apart)
 
   pub touched_one : Touched a.key.items (entries_of a) (entries_of b) u

@@ -4,10 +4,11 @@ use Rattle.std.proofs.Common.{◌++◌, length, refl, ap, subst, sym, ◌∙◌,
 use Rattle.std.proofs.lemmas.Bool.{cases_Bool, false≢true}
 use Rattle.djq_index.specs.declared.place.Place.{Place}
 use Rattle.djq_index.specs.Tuple.{same, pick, one}
-use Rattle.djq_index.specs.Entries.{Entry, supp, cnt, many, grp, marks, plain, is_marked, bare, unmarked}
+use Rattle.djq_index.specs.Entries.{Entry, supports_of, count_of, group_size, group_of, marks, plain, is_marked, bare}
+use Rattle.djq_index.specs.Entries.{unmarked}
 use Rattle.djq_index.specs.Table.{AreApart, ArePlaced, AreLast, AreWide, IsElsewhere}
 use Rattle.djq_index.proofs.Tuples.{same_is, is_same, same_cases, one_other, one_true, one_false}
-use Rattle.djq_index.proofs.Counts.{cnt_cons, many_cons, many-append, cnt_split, many_split}
+use Rattle.djq_index.proofs.Counts.{cnt_cons, many_cons, group_size-append, cnt_split, many_split}
 use Rattle.djq_index.proofs.Groups.{grp_yes, grp_no}
 
 pub marks_yes : (e : Entry) (es : List Entry) → e.marked ≡ true → marks (e ∷ es) ≡ e ∷ marks es
@@ -54,14 +55,14 @@ pub plain_middle : (xs : List Entry) (e : Entry) (ys : List Entry) → e.marked 
 plain_middle xs e ys h = rw (plain-append, plain-append, plain_yes e ys h) refl
 
 many_plain : (key : List ℕ) (xs : List Entry) (e : Entry) (ys : List Entry) (w : List ℕ)
-    → many key (plain (xs ++ ys)) w ≤ many key (plain (xs ++ e ∷ ys)) w
+    → group_size key (plain (xs ++ ys)) w ≤ group_size key (plain (xs ++ e ∷ ys)) w
 many_plain key xs e ys w = elim (cases_Bool e.marked) [
   | inl marked ↦ rw (plain_middle xs e ys marked) (omega arith)
   | inr other ↦ rw (plain-append, plain-append, plain_no e ys other)
       (omega (
         arith,
-        many-append key (plain xs) (e ∷ plain ys) w,
-        many-append key (plain xs) (plain ys) w,
+        group_size-append key (plain xs) (e ∷ plain ys) w,
+        group_size-append key (plain xs) (plain ys) w,
         many_cons key
             e (plain ys) w,
       ))
@@ -80,13 +81,13 @@ last_out key (x ∷ xs) e ys h = (
 
 -- a marked entry may come anywhere behind its group
 pub last_in : (key : List ℕ) (xs : List Entry) (e : Entry) (ys : List Entry) → e.marked ≡ true
-    → many key ys (pick key e.tuple) ≡ 0 → AreLast key (xs ++ ys) → AreLast key (xs ++ e ∷ ys)
+    → group_size key ys (pick key e.tuple) ≡ 0 → AreLast key (xs ++ ys) → AreLast key (xs ++ e ∷ ys)
 unfolding AreLast
 last_in key [] e ys m none h = ((λ k. omega (arith, none, many_split key ys (pick key e.tuple))), h)
 last_in key (x ∷ xs) e ys m none h = ((λ k. rw (plain_middle xs e ys m) (h.0 k)), last_in key xs e ys m none h.1)
 
 plain_alike : (b c : Bool) (d e : Entry) (es : List Entry) → d.marked ≡ b → e.marked ≡ c → b ≡ c → (key w : List ℕ)
-    → pick key d.tuple ≡ pick key e.tuple → many key (plain (d ∷ es)) w ≡ many key (plain (e ∷ es)) w
+    → pick key d.tuple ≡ pick key e.tuple → group_size key (plain (d ∷ es)) w ≡ group_size key (plain (e ∷ es)) w
 plain_alike true true d e es h k same_mark key w p = rw (plain_yes d es h, plain_yes e es k) refl
 plain_alike false false d e es h k same_mark key w p = rw (plain_no d es h, plain_no e es k, many_cons, many_cons, p)
     refl
@@ -94,13 +95,13 @@ plain_alike true false d e es h k same_mark key w p = absurd (false≢true (sym 
 plain_alike false true d e es h k same_mark key w p = absurd (false≢true same_mark)
 
 plain_swap : (key : List ℕ) (xs : List Entry) (d e : Entry) (ys : List Entry) (w : List ℕ) → d.marked ≡ e.marked
-    → d.tuple ≡ e.tuple → many key (plain (xs ++ d ∷ ys)) w ≡ many key (plain (xs ++ e ∷ ys)) w
+    → d.tuple ≡ e.tuple → group_size key (plain (xs ++ d ∷ ys)) w ≡ group_size key (plain (xs ++ e ∷ ys)) w
 plain_swap key xs d e ys w m t =
     rw (plain-append, plain-append)
     (omega (
       arith,
-      many-append key (plain xs) (plain (d ∷ ys)) w,
-      many-append key (plain xs) (plain (e ∷ ys)) w,
+      group_size-append key (plain xs) (plain (d ∷ ys)) w,
+      group_size-append key (plain xs) (plain (e ∷ ys)) w,
       plain_alike d.marked e.marked d e ys refl refl m key w (ap (pick key) t),
     ))
 
@@ -109,7 +110,7 @@ pub last_same : (key : List ℕ) (xs : List Entry) (d e : Entry) (ys : List Entr
     ≡ d.tuple → AreLast key (xs ++ d ∷ ys) → AreLast key (xs ++ e ∷ ys)
 unfolding AreLast
 last_same key [] d e ys m t h =
-    ((λ k. subst (λ u. many key (plain ys) (pick key u) ≡ 0) (sym t) (h.0 (sym m ∙ k))), h.1)
+    ((λ k. subst (λ u. group_size key (plain ys) (pick key u) ≡ 0) (sym t) (h.0 (sym m ∙ k))), h.1)
 last_same key (x ∷ xs) d e ys m t h =
     ((λ k. sym (plain_swap key xs d e ys (pick key x.tuple) (sym m) (sym t)) ∙ h.0 k), last_same key xs d e ys m t h.1)
 
@@ -119,27 +120,27 @@ unfolding AreLast
 last_rest key e es h = h.1
 
 last_first : (key : List ℕ) (e : Entry) (es : List Entry) → AreLast key (e ∷ es) → e.marked ≡ true
-    → many key (plain es) (pick key e.tuple) ≡ 0
+    → group_size key (plain es) (pick key e.tuple) ≡ 0
 unfolding AreLast
 last_first key e es h = h.0
 
 empty_no_cons : (e : Entry) (xs : List Entry) → ([] ≡ e ∷ xs) → ⊥
 empty_no_cons e xs h = cc
 
-nothing : (key : List ℕ) (w : List ℕ) (e : Entry) (rest : List Entry) → grp key [] w ≡ e ∷ rest → ⊥
-unfolding grp
+nothing : (key : List ℕ) (w : List ℕ) (e : Entry) (rest : List Entry) → group_of key [] w ≡ e ∷ rest → ⊥
+unfolding group_of
 nothing key w e rest h = empty_no_cons e rest h
 
 pub whole_group : (key : List ℕ) (es : List Entry) (w : List ℕ) (e : Entry) (rest : List Entry) → AreLast key es
-    → grp key es w ≡ e ∷ rest → e.marked ≡ true → many key (plain es) w ≡ 0
+    → group_of key es w ≡ e ∷ rest → e.marked ≡ true → group_size key (plain es) w ≡ 0
 whole_group key [] w e rest h is m = absurd (nothing key w e rest is)
 whole_group key (x ∷ es) w e rest h is m =
     elim (cases_Bool (same (pick key x.tuple) w)) [
       | inl here ↦ (let front : x
-          ≡ e = (let both : x ∷ grp key es w ≡ e ∷ rest = sym (grp_yes key x es w here) ∙ is in cc) in
+          ≡ e = (let both : x ∷ group_of key es w ≡ e ∷ rest = sym (grp_yes key x es w here) ∙ is in cc) in
           let marked : x.marked ≡ true = ap (λ (d : Entry). d.marked) front ∙ m in
           rw (plain_yes x es marked)
-          (subst (λ v. many key (plain es) v ≡ 0) (same_is (pick key x.tuple) w here)
+          (subst (λ v. group_size key (plain es) v ≡ 0) (same_is (pick key x.tuple) w here)
           (last_first key x es h marked)))
       | inr other ↦ (let rest_is = sym (grp_no key x es w other) ∙ is in
           let none = whole_group key es w e rest (last_rest key x es h) rest_is m in
@@ -150,13 +151,14 @@ whole_group key (x ∷ es) w e rest h is m =
           ])
     ]
 
-pub part_group : (key : List ℕ) (es : List Entry) (w : List ℕ) (e : Entry) (rest : List Entry) → grp key es w ≡ e ∷ rest
-    → e.marked ≡ false → 0 < many key (plain es) w
+pub part_group : (key : List ℕ) (es : List Entry) (w : List ℕ) (e : Entry) (rest : List Entry)
+    → group_of key es w ≡ e ∷ rest
+    → e.marked ≡ false → 0 < group_size key (plain es) w
 part_group key [] w e rest is m = absurd (nothing key w e rest is)
 part_group key (x ∷ es) w e rest is m =
     elim (cases_Bool (same (pick key x.tuple) w)) [
       | inl here ↦ (let front : x
-          ≡ e = (let both : x ∷ grp key es w ≡ e ∷ rest = sym (grp_yes key x es w here) ∙ is in cc) in
+          ≡ e = (let both : x ∷ group_of key es w ≡ e ∷ rest = sym (grp_yes key x es w here) ∙ is in cc) in
           let unmarked_one : x.marked ≡ false = ap (λ (d : Entry). d.marked) front ∙ m in
           rw (plain_no x es unmarked_one)
           (omega (arith, many_cons key x (plain es) w, one_true (same (pick key x.tuple) w) here)))
@@ -178,16 +180,16 @@ pub is_marked_else : (e : Entry) (es : List Entry) (u : List ℕ) → same e.tup
 unfolding is_marked
 is_marked_else e es u h = rw h refl
 
-marks_cons : (e : Entry) (es : List Entry) (u : List ℕ) → cnt (marks (e ∷ es)) u
-    ≡ cond e.marked (one (same e.tuple u)) 0 + cnt (marks es) u
-unfolding cnt
+marks_cons : (e : Entry) (es : List Entry) (u : List ℕ) → count_of (marks (e ∷ es)) u
+    ≡ cond e.marked (one (same e.tuple u)) 0 + count_of (marks es) u
+unfolding count_of
 marks_cons e es u = elim (cases_Bool e.marked) [
   | inl marked ↦ rw (marks_yes e es marked, marked) (cnt_cons e (marks es) u)
   | inr other ↦ rw (marks_no e es other, other) (omega arith)
 ]
 
-unmarked_none : (u : List ℕ) → cnt (marks []) u ≡ one (is_marked [] u)
-unfolding cnt marks one is_marked
+unmarked_none : (u : List ℕ) → count_of (marks []) u ≡ one (is_marked [] u)
+unfolding count_of marks one is_marked
 unmarked_none u = refl
 
 by_test : (b : Bool) (n : ℕ) → n ≡ 0 → cond b n 0 ≡ 0
@@ -199,12 +201,12 @@ unfolding one
 cond_one true n h = h
 cond_one false n h = refl
 
-pub marked_cnt : (es : List Entry) (u : List ℕ) → AreApart es → cnt (marks es) u ≡ one (is_marked es u)
+pub marked_cnt : (es : List Entry) (u : List ℕ) → AreApart es → count_of (marks es) u ≡ one (is_marked es u)
 unfolding AreApart
 marked_cnt [] u h = unmarked_none u
 marked_cnt (e ∷ es) u h =
     elim (same_cases e.tuple u) [
-      | inl here ↦ (let absent : cnt es u ≡ 0 = subst (λ v. cnt es v ≡ 0) here h.0 in
+      | inl here ↦ (let absent : count_of es u ≡ 0 = subst (λ v. count_of es v ≡ 0) here h.0 in
           let test : same e.tuple u ≡ true = is_same e.tuple u here in
           rw (is_marked_here e es u test)
           (omega (
@@ -230,18 +232,18 @@ pub unmarked_cons : (e : Entry) (es : List Entry) → unmarked (e ∷ es) ≡ ba
 unfolding unmarked
 unmarked_cons e es = refl
 
-pub unmarked_cnt : (es : List Entry) (u : List ℕ) → cnt (unmarked es) u ≡ cnt es u
-unfolding unmarked cnt bare
+pub unmarked_cnt : (es : List Entry) (u : List ℕ) → count_of (unmarked es) u ≡ count_of es u
+unfolding unmarked count_of bare
 unmarked_cnt [] u = refl
 unmarked_cnt (e ∷ es) u = ap (λ n. one (same e.tuple u) + n) (unmarked_cnt es u)
 
-pub unmarked_supp : (es : List Entry) (u : List ℕ) → supp (unmarked es) u ≡ supp es u
-unfolding unmarked supp bare
+pub unmarked_supp : (es : List Entry) (u : List ℕ) → supports_of (unmarked es) u ≡ supports_of es u
+unfolding unmarked supports_of bare
 unmarked_supp [] u = refl
 unmarked_supp (e ∷ es) u = ap (λ n. cond (same e.tuple u) e.supports 0 + n) (unmarked_supp es u)
 
-pub unmarked_many : (key : List ℕ) (es : List Entry) (w : List ℕ) → many key (unmarked es) w ≡ many key es w
-unfolding unmarked many bare
+pub unmarked_many : (key : List ℕ) (es : List Entry) (w : List ℕ) → group_size key (unmarked es) w ≡ group_size key es w
+unfolding unmarked group_size bare
 unmarked_many key [] w = refl
 unmarked_many key (e ∷ es) w = ap (λ n. one (same (pick key e.tuple) w) + n) (unmarked_many key es w)
 

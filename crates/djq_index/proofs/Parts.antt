@@ -14,7 +14,8 @@ use Rattle.djq_index.specs.declared.place.Place.{Place}
 use Rattle.djq_index.specs.declared.raw.Note.{Note}
 use Rattle.djq_index.specs.declared.raw.Raw.{Raw}
 use Rattle.djq_index.specs.Tuple.{same}
-use Rattle.djq_index.specs.Entries.{Entry, supp, cnt, many, grp, marks, plain, is_marked, head_at, last_at}
+use Rattle.djq_index.specs.Entries.{Entry, supports_of, count_of, group_size, group_of, marks, plain, is_marked}
+use Rattle.djq_index.specs.Entries.{head_at, last_at}
 use Rattle.djq_index.specs.Table.{AreApart, IsAt, IsLive}
 use Rattle.djq_index.specs.Raw.{note_at, entry_of, entries_in, entries_of, slots_at, row_at}
 use Rattle.djq_index.specs.Raw.{AreAllMarked, AreTrailing, IsBare, place_of}
@@ -92,9 +93,10 @@ pub entry_marked : (notes : List Note) (r : Row) → (entry_of notes r).marked �
 unfolding entry_of
 entry_marked notes r = refl
 
-pub absent_cnt : (notes : List Note) (rows : List Row) (u : List ℕ) → IsAbsent rows u → cnt (entries_in notes rows) u
+pub absent_cnt : (notes : List Note) (rows : List Row) (u : List ℕ) → IsAbsent rows u
+    → count_of (entries_in notes rows) u
     ≡ 0
-unfolding IsAbsent entries_in cnt entry_of
+unfolding IsAbsent entries_in count_of entry_of
 absent_cnt notes [] u h = refl
 absent_cnt notes (r ∷ rs) u h = omega
     (arith, one_false (same r.cells u) (same_other r.cells u h.0), absent_cnt notes rs u h.1)
@@ -299,10 +301,11 @@ pub nil_from_length : (es : List Entry) → length es ≡ 0 → es ≡ []
 nil_from_length [] h = refl
 nil_from_length (e ∷ es) h = absurd (omega (arith, h))
 
-pub no_group : (key : List ℕ) (es : List Entry) (w : List ℕ) → many key es w ≡ 0 → grp key es w ≡ []
-no_group key es w h = nil_from_length (grp key es w) (length_grp key es w ∙ h)
+pub no_group : (key : List ℕ) (es : List Entry) (w : List ℕ) → group_size key es w ≡ 0 → group_of key es w ≡ []
+no_group key es w h = nil_from_length (group_of key es w) (length_grp key es w ∙ h)
 
-pub no_ends : (key : List ℕ) (es : List Entry) (w : List ℕ) → many key es w ≡ 0 → ends_of (slots_at (grp key es w))
+pub no_ends : (key : List ℕ) (es : List Entry) (w : List ℕ) → group_size key es w ≡ 0
+    → ends_of (slots_at (group_of key es w))
     ≡ record { first = None; last = None }
 no_ends key es w h = ap (λ (g : List Entry). ends_of (slots_at g)) (no_group key es w h) ∙ ap ends_of slots_nil
 
@@ -335,11 +338,12 @@ trailing_split (e ∷ es) h =
           (ap (λ (ds : List Entry). e ∷ ds) (trailing_split es h.1))
     ]
 
-apart_first : (x : Entry) (es : List Entry) → AreApart (x ∷ es) → (cnt es x.tuple ≡ 0) × AreApart es
+apart_first : (x : Entry) (es : List Entry) → AreApart (x ∷ es) → (count_of es x.tuple ≡ 0) × AreApart es
 unfolding AreApart
 apart_first x es h = h
 
-not_there : (xs : List Entry) (e : Entry) (ys : List Entry) (t : List ℕ) → e.tuple ≡ t → cnt (xs ++ e ∷ ys) t ≡ 0 → ⊥
+not_there : (xs : List Entry) (e : Entry) (ys : List Entry) (t : List ℕ) → e.tuple ≡ t → count_of (xs ++ e ∷ ys) t ≡ 0
+    → ⊥
 not_there xs e ys t same_one none = let some = there (xs ++ e ∷ ys) xs e ys t refl same_one in omega (arith, some, none)
 
 marked_middle : (xs : List Entry) (e : Entry) (ys : List Entry) (u : List ℕ) → AreApart (xs ++ e ∷ ys) → e.tuple ≡ u
@@ -363,7 +367,7 @@ entry_of_row notes e r p h at = ap (λ (q : Place). q.slot)
 
 -- what a note says of its tuple
 pub note_supports : (r : Raw) (p : Place) (u : List ℕ) → IsBare r → IsAt (entries_of r) p u
-    → (note_at r.notes.items p.slot).supports ≡ supp (entries_of r) u
+    → (note_at r.notes.items p.slot).supports ≡ supports_of (entries_of r) u
 note_supports r p u h a =
     let c = cut_entries r.notes.items r.rows.rows a.front a.entry a.back a.is in
     ap (λ (i : ℕ). (note_at r.notes.items i).supports) (sym (entry_of_row r.notes.items a.entry c.row p c.e_is a.at))

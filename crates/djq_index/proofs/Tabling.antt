@@ -7,7 +7,7 @@ use Rattle.djq_arena.specs.Chains.{Linked, first_of, AreDifferent, IsOut}
 use Rattle.djq_index.specs.declared.place.Place.{Place}
 use Rattle.djq_index.specs.declared.raw.Note.{Note}
 use Rattle.djq_index.specs.declared.raw.Raw.{Raw}
-use Rattle.djq_index.specs.Entries.{Entry, grp, many, marks}
+use Rattle.djq_index.specs.Entries.{Entry, group_of, group_size, marks}
 use Rattle.djq_index.specs.Table.{Table, AreApart, ArePlaced, IsElsewhere, AreWide, AreColumns, IsTable}
 use Rattle.djq_index.specs.Raw.{entry_of, entries_in, entries_of, slots_at, row_at, AreSeated}
 use Rattle.djq_index.specs.Raw.{AreGroups, AreTrailing, IsRaw, IsBare, AreHeads, IsKind}
@@ -47,12 +47,12 @@ length_entries notes [] = refl
 length_entries notes (r ∷ rs) = ap suc (length_entries notes rs)
 
 -- a table without tuples
-no_chain : (key : List ℕ) (links : List Pair) (w : List ℕ) → Linked links None (slots_at (grp key [] w)) None
-unfolding grp slots_at Linked
+no_chain : (key : List ℕ) (links : List Pair) (w : List ℕ) → Linked links None (slots_at (group_of key [] w)) None
+unfolding group_of slots_at Linked
 no_chain key links w = tt
 
-no_many : (key : List ℕ) (w : List ℕ) → many key [] w ≡ 0
-unfolding many
+no_many : (key : List ℕ) (w : List ℕ) → group_size key [] w ≡ 0
+unfolding group_size
 no_many key w = refl
 
 no_head : (h : ℕ) (w : List ℕ) → row_at [] h ≡ Some w → ⊥

@@ -5,7 +5,7 @@ use Rattle.std.proofs.lemmas.List.{append-nil, reverse-append}
 use Rattle.std.proofs.lemmas.Bool.{cases_Bool}
 use Rattle.djq_index.specs.declared.place.Place.{Place}
 use Rattle.djq_index.specs.Tuple.{same, pick}
-use Rattle.djq_index.specs.Entries.{Entry, grp, marks, head_at, last_at}
+use Rattle.djq_index.specs.Entries.{Entry, group_of, marks, head_at, last_at}
 use Rattle.djq_index.specs.Table.{IsLive}
 use Rattle.djq_index.proofs.Groups.{grp_yes, grp_no}
 use Rattle.djq_index.proofs.Marks.{marks_yes, marks_no}
@@ -35,18 +35,19 @@ first_live x es zs [] e ys rest h =
     }
 first_live x es zs (f ∷ fs) e ys rest h = let k : zs ≡ fs ++ e ∷ ys = cc in more_live x es e.at (rest fs k)
 
-no_group : (key : List ℕ) (w : List ℕ) (xs : List Entry) (e : Entry) (ys : List Entry) → grp key [] w ≡ xs ++ e ∷ ys → ⊥
-unfolding grp
+no_group : (key : List ℕ) (w : List ℕ) (xs : List Entry) (e : Entry) (ys : List Entry) → group_of key [] w ≡ xs ++ e
+    ∷ ys → ⊥
+unfolding group_of
 no_group key w [] e ys h = cc
 no_group key w (x ∷ xs) e ys h = cc
 
 -- each entry of a group is live
 pub group_live : (key : List ℕ) (es : List Entry) (w : List ℕ) (xs : List Entry) (e : Entry) (ys : List Entry)
-    → grp key es w ≡ xs ++ e ∷ ys → IsLive es e.at
+    → group_of key es w ≡ xs ++ e ∷ ys → IsLive es e.at
 group_live key [] w xs e ys h = absurd (no_group key w xs e ys h)
 group_live key (x ∷ es) w xs e ys h =
     elim (cases_Bool (same (pick key x.tuple) w)) [
-      | inl here ↦ first_live x es (grp key es w) xs e ys (λ fs k. group_live key es w fs e ys k)
+      | inl here ↦ first_live x es (group_of key es w) xs e ys (λ fs k. group_live key es w fs e ys k)
           (sym (grp_yes key x es w here) ∙ h)
       | inr other ↦ more_live x es e.at (group_live key es w xs e ys (sym (grp_no key x es w other) ∙ h))
     ]

@@ -2,7 +2,7 @@
 -- group: behind all others of it.
 use Rattle.std.specs.Prelude.{◌≡◌, ℕ, Bool, true, false, List, ◌∷◌, ◌++◌}
 use Rattle.djq_index.specs.Tuple.{pick}
-use Rattle.djq_index.specs.Entries.{Entry, many}
+use Rattle.djq_index.specs.Entries.{Entry, group_size}
 
 -- the tuple u came, marked or not and with one support, as the last of its group
 pub record InsertedAs (mark : Bool) (key : List ℕ) (old new : List Entry) (u : List ℕ) : Type 0 where
@@ -14,7 +14,7 @@ pub record InsertedAs (mark : Bool) (key : List ℕ) (old new : List Entry) (u :
   pub tuple : entry.tuple ≡ u
   pub supports : entry.supports ≡ 1
   pub marked : entry.marked ≡ mark
-  pub last : many key back (pick key u) ≡ 0
+  pub last : group_size key back (pick key u) ≡ 0
 
 -- it came marked
 abbrev pub Inserted : List ℕ → List Entry → List Entry → List ℕ → Type 0
@@ -46,7 +46,7 @@ pub record Touched (key : List ℕ) (old new : List Entry) (u : List ℕ) : Type
   pub same_supports : after.supports ≡ before.supports
   pub plain : before.marked ≡ false
   pub marked : after.marked ≡ true
-  pub last : many key rest (pick key u) ≡ 0
+  pub last : group_size key rest (pick key u) ≡ 0
 
 -- the tuple u, which had `from` supports, has `to`
 pub record Supported (old new : List Entry) (u : List ℕ) (from to : ℕ) : Type 0 where

@@ -12,24 +12,24 @@ pub record Entry : Type 0 where
   pub marked : Bool
 
 -- the supports of the tuple u, 0 where it is absent
-unfoldable pub supp : List Entry → List ℕ → ℕ
-supp [] u = 0
-supp (e ∷ es) u = cond (same e.tuple u) e.supports 0 + supp es u
+unfoldable pub supports_of : List Entry → List ℕ → ℕ
+supports_of [] u = 0
+supports_of (e ∷ es) u = cond (same e.tuple u) e.supports 0 + supports_of es u
 
 -- how many entries have the tuple u
-unfoldable pub cnt : List Entry → List ℕ → ℕ
-cnt [] u = 0
-cnt (e ∷ es) u = one (same e.tuple u) + cnt es u
+unfoldable pub count_of : List Entry → List ℕ → ℕ
+count_of [] u = 0
+count_of (e ∷ es) u = one (same e.tuple u) + count_of es u
 
 -- how many entries have the cells w at these columns: the length of their group
-unfoldable pub many : List ℕ → List Entry → List ℕ → ℕ
-many key [] w = 0
-many key (e ∷ es) w = one (same (pick key e.tuple) w) + many key es w
+unfoldable pub group_size : List ℕ → List Entry → List ℕ → ℕ
+group_size key [] w = 0
+group_size key (e ∷ es) w = one (same (pick key e.tuple) w) + group_size key es w
 
 -- the group of the entries that have the cells w at these columns, the oldest first
-unfoldable pub grp : List ℕ → List Entry → List ℕ → List Entry
-grp key [] w = []
-grp key (e ∷ es) w = cond (same (pick key e.tuple) w) (e ∷ grp key es w) (grp key es w)
+unfoldable pub group_of : List ℕ → List Entry → List ℕ → List Entry
+group_of key [] w = []
+group_of key (e ∷ es) w = cond (same (pick key e.tuple) w) (e ∷ group_of key es w) (group_of key es w)
 
 -- the marked entries, and the others
 unfoldable pub marks : List Entry → List Entry

@@ -13,7 +13,7 @@ use Rattle.djq_index.specs.declared.kind.Kind.TheVariants.{One, Keyed, Each}
 use Rattle.djq_index.specs.declared.raw.Note.{Note}
 use Rattle.djq_index.specs.declared.raw.Raw.{Raw}
 use Rattle.djq_index.specs.Tuple.{pick}
-use Rattle.djq_index.specs.Entries.{Entry, many, grp, marks}
+use Rattle.djq_index.specs.Entries.{Entry, group_size, group_of, marks}
 use Rattle.djq_index.specs.Table.{AreApart, AreColumns}
 
 -- the note of a slot
@@ -58,10 +58,10 @@ ends_at ends h = slice_index_or ends h (record { first = None; last = None })
 -- each group that has a tuple has one head, which knows its ends; each group is chained
 pub record AreGroups (key : List ℕ) (notes : List Note) (links : List Pair) (keys : List Row) (ends : List Ends)
     (es : List Entry) : Type 0 where
-  pub chained : (w : List ℕ) → Linked links None (slots_at (grp key es w)) None
-  pub headed : (h : ℕ) (w : List ℕ) → row_at keys h ≡ Some w → ends_at ends h ≡ ends_of (slots_at (grp key es w))
-  pub some : (h : ℕ) (w : List ℕ) → row_at keys h ≡ Some w → 0 < many key es w
-  pub none : (w : List ℕ) → IsAbsent keys w → many key es w ≡ 0
+  pub chained : (w : List ℕ) → Linked links None (slots_at (group_of key es w)) None
+  pub headed : (h : ℕ) (w : List ℕ) → row_at keys h ≡ Some w → ends_at ends h ≡ ends_of (slots_at (group_of key es w))
+  pub some : (h : ℕ) (w : List ℕ) → row_at keys h ≡ Some w → 0 < group_size key es w
+  pub none : (w : List ℕ) → IsAbsent keys w → group_size key es w ≡ 0
   pub once : (h k : ℕ) (w : List ℕ) → row_at keys h ≡ Some w → row_at keys k ≡ Some w → h ≡ k
   pub seated : AreSeated key notes keys es
 

@@ -2,7 +2,7 @@
 use Rattle.std.specs.Prelude.{◌≡◌, ◌≢◌, ⊤, ℕ, ◌<◌, true, false, List, [], ◌∷◌, ◌++◌, length}
 use Rattle.djq_index.specs.declared.place.Place.{Place}
 use Rattle.djq_index.specs.Tuple.{pick}
-use Rattle.djq_index.specs.Entries.{Entry, supp, cnt, many, plain, is_marked}
+use Rattle.djq_index.specs.Entries.{Entry, supports_of, count_of, group_size, plain, is_marked}
 
 -- a table's width, the columns of its key, and its entries, the oldest first
 pub record Table : Type 0 where
@@ -13,7 +13,7 @@ pub record Table : Type 0 where
 -- no tuple stands twice
 unfoldable pub AreApart : List Entry → Type 0
 AreApart [] = ⊤
-AreApart (e ∷ es) = (cnt es e.tuple ≡ 0) × AreApart es
+AreApart (e ∷ es) = (count_of es e.tuple ≡ 0) × AreApart es
 
 -- an entry that lies at p isn't among these
 unfoldable pub IsElsewhere : Place → List Entry → Type 0
@@ -28,7 +28,7 @@ ArePlaced (e ∷ es) = IsElsewhere e.at es × ArePlaced es
 -- behind a marked entry no unmarked one of its group follows: in each group the marked ones are a suffix
 unfoldable pub AreLast : List ℕ → List Entry → Type 0
 AreLast key [] = ⊤
-AreLast key (e ∷ es) = (e.marked ≡ true → many key (plain es) (pick key e.tuple) ≡ 0) × AreLast key es
+AreLast key (e ∷ es) = (e.marked ≡ true → group_size key (plain es) (pick key e.tuple) ≡ 0) × AreLast key es
 
 -- each tuple has this many cells
 unfoldable pub AreWide : ℕ → List Entry → Type 0
@@ -77,10 +77,10 @@ pub record IsUnmarked (es : List Entry) (p : Place) : Type 0 where
 pub record IsRaisable (es : List Entry) (p : Place) : Type 0 where
   pub tuple : List ℕ
   pub is_at : IsAt es p tuple
-  pub room : supp es tuple < 4294967295
+  pub room : supports_of es tuple < 4294967295
 
 -- a tuple with a support lies at p
 pub record IsLowerable (es : List Entry) (p : Place) : Type 0 where
   pub tuple : List ℕ
   pub is_at : IsAt es p tuple
-  pub some : 0 < supp es tuple
+  pub some : 0 < supports_of es tuple

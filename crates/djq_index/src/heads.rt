@@ -1,4 +1,6 @@
-ghost use Rattle.std.specs.Prelude.{◌≡◌, ◌≢◌, ℕ, ◌+◌, ◌<◌, ◌≤◌, List, [], ◌∷◌, ◌++◌, length, slice_set, slice_index, vec_len, vec_capacity, IfOk, OnErr, Some, None};
+ghost use Rattle.std.specs.Prelude.{◌≡◌, ◌≢◌, ℕ, ◌+◌, ◌<◌, ◌≤◌, List, [], ◌∷◌, ◌++◌, length};
+ghost use Rattle.std.specs.Prelude.{slice_set, slice_index, vec_len, vec_capacity, IfOk, OnErr};
+ghost use Rattle.std.specs.Prelude.{Some, None};
 ghost use Rattle.djq_arena.specs.Chains.{pair_at, entered, left, IsWithin};
 ghost use Rattle.djq_arena.specs.Store.{extended, hash, shrunk};
 ghost use Rattle.djq_arena.specs.Rows.{Row, AreRows, IsHeld, IsFull};
@@ -6,7 +8,7 @@ ghost use Rattle.djq_index.specs.Tuple.{pick};
 ghost use Rattle.djq_index.specs.Table.{AreColumns};
 ghost use Rattle.djq_index.specs.Raw.{ends_at};
 
-use djq_arena::{Arena, Ends, Link, Pair, enter, ends_after_push, leave, pair_of};
+use djq_arena::{Arena, Ends, Link, Pair, ends_after_push, enter, leave, pair_of};
 use std::alloc::AllocError;
 
 /// The ends that a head knows.
@@ -38,7 +40,8 @@ pub fn unlink(links: &mut Vec<Pair>, ends: &mut Vec<Ends>, slot: u32, head: u32)
     requires prev { IsWithin (length links.old.items) (pair_at links.old.items slot).prev }
     requires next { IsWithin (length links.old.items) (pair_at links.old.items slot).next }
     ensures links { links.new.items ≡ left (pair_at links.old.items slot) links.old.items }
-    ensures ends { ends.new.items ≡ slice_set ends.old.items head (shrunk (pair_at links.old.items slot) (ends_at ends.old.items head)) }
+    ensures ends { ends.new.items ≡ slice_set ends.old.items head
+        (shrunk (pair_at links.old.items slot) (ends_at ends.old.items head)) }
 {
     let pair = pair_of(links, slot);
     leave(links, &mut ends[head as usize], &pair);
@@ -52,7 +55,8 @@ pub fn prune(keys: &mut Arena, ends: &Vec<Ends>, head: u32)
     ensures rows { AreRows keys.new }
     ensures width { keys.new.width ≡ keys.old.width }
     ensures room { keys.new.room ≡ keys.old.room }
-    ensures emptied { (ends_at ends.now.items head).first ≡ None → (ks : List Row) (r : Row) (ls : List Row) → keys.old.rows ≡ ks ++ r ∷ ls → r.slot ≡ head → keys.new.rows ≡ ks ++ ls }
+    ensures emptied { (ends_at ends.now.items head).first ≡ None → (ks : List Row) (r : Row)
+        (ls : List Row) → keys.old.rows ≡ ks ++ r ∷ ls → r.slot ≡ head → keys.new.rows ≡ ks ++ ls }
     ensures kept { (ends_at ends.now.items head).first ≢ None → keys.new.rows ≡ keys.old.rows }
 {
     match known_ends(ends, head).first.get() {
@@ -122,7 +126,8 @@ pub fn new_head(
     ensures room { keys.new.room ≤ length ends.new.items }
     ensures refused { OnErr result (keys.new.rows ≡ keys.old.rows) }
     ensures ends { OnErr result ((k : ℕ) → ends_at ends.new.items k ≡ ends_at ends.old.items k) }
-    ensures founded { IfOk result (λ head. keys.new.rows ≡ keys.old.rows ++ record { slot = head; cells = cells.now } ∷ []) }
+    ensures founded { IfOk result (λ head. keys.new.rows ≡ keys.old.rows
+        ++ record { slot = head; cells = cells.now } ∷ []) }
     ensures blank { IfOk result (λ head. ends_at ends.new.items head ≡ record { first = None; last = None }) }
     ensures others { IfOk result (λ head. (k : ℕ) → k ≢ head → ends_at ends.new.items k ≡ ends_at ends.old.items k) }
     ensures full { OnErr result (IsFull keys.old) }

@@ -1,14 +1,19 @@
-ghost use Rattle.std.specs.Prelude.{◌≡◌, ℕ, ◌+◌, ◌-◌, ◌<◌, ◌≤◌, ◌⊎◌, false, cond, List, [], ◌∷◌, ◌++◌, length, slice_set, vec_len, vec_capacity, IfOk, OnErr, Some, None};
+ghost use Rattle.std.specs.Prelude.{◌≡◌, ℕ, ◌+◌, ◌-◌, ◌<◌, ◌≤◌, ◌⊎◌, false, cond, List, [], ◌∷◌};
+ghost use Rattle.std.specs.Prelude.{◌++◌, length, slice_set, vec_len, vec_capacity, IfOk, OnErr};
+ghost use Rattle.std.specs.Prelude.{Some, None};
 ghost use Rattle.djq_arena.specs.Chains.{pair_at, IsWithin, first_of};
 ghost use Rattle.djq_arena.specs.Rows.{Row, AreRows, IsHeld, IsFull};
 ghost use Rattle.djq_index.specs.Tuple.{pick};
-ghost use Rattle.djq_index.specs.Entries.{cnt, marks, unmarked};
+ghost use Rattle.djq_index.specs.Entries.{count_of, marks, unmarked};
 ghost use Rattle.djq_index.specs.Table.{IsAt, IsLive, IsUnmarked, AreColumns};
 ghost use Rattle.djq_index.specs.Changes.{InsertedAs, Removed, Touched};
-ghost use Rattle.djq_index.specs.Raw.{IsBare, AreHeads, CanTake, IsLaid, IsSlotFor, IsUnlaid, IsNoted, IsMarked, entries_of, slots_at, place_of, note_at, ends_at, IsSeat, IsSettled, passed, entries_in, AreTrailing, without_mark, HasNoRoomForHead};
+ghost use Rattle.djq_index.specs.Raw.{IsBare, AreHeads, CanTake, IsLaid, IsSlotFor, IsUnlaid};
+ghost use Rattle.djq_index.specs.Raw.{IsNoted, IsMarked, entries_of, slots_at, place_of, note_at};
+ghost use Rattle.djq_index.specs.Raw.{ends_at, IsSeat, IsSettled, passed, entries_in, AreTrailing};
+ghost use Rattle.djq_index.specs.Raw.{without_mark, HasNoRoomForHead};
 ghost use Rattle.djq_arena.specs.Store.{beside};
 
-use crate::heads::{cell_at, new_head, join, unlink, project, prune};
+use crate::heads::{cell_at, join, new_head, project, prune, unlink};
 use crate::kind::Kind;
 use crate::place::Place;
 use djq_arena::{Arena, Ends, Link, Pair, hash_of};
@@ -110,7 +115,11 @@ fn grow_links(links: &mut Vec<Pair>) -> Result<(), AllocError>
 /// Lays a tuple into a slot, behind all others. A new slot finds room for its note. Where there is no memory, the rows
 /// stay as they were.
 #[inline(always)]
-fn append_row_ready(rows: &mut Arena, notes: &mut Vec<Note>, tuple: &[u64]) -> Result<u32, AllocError>
+fn append_row_ready(
+    rows: &mut Arena,
+    notes: &mut Vec<Note>,
+    tuple: &[u64],
+) -> Result<u32, AllocError>
     requires ready { CanTake rows.old notes.old.items tuple.now }
     requires room { IsFull rows.old → vec_len notes.old < vec_capacity notes.old }
     ensures laid { IfOk result (λ slot. IsLaid rows.old rows.new notes.old.items notes.new.items slot tuple.now) }
@@ -126,7 +135,11 @@ fn append_row_ready(rows: &mut Arena, notes: &mut Vec<Note>, tuple: &[u64]) -> R
 /// The same where a new slot may find no room for its note. It stands apart, so that a tuple for which there is room
 /// saves fewer registers.
 #[inline(never)]
-fn append_row_growing(rows: &mut Arena, notes: &mut Vec<Note>, tuple: &[u64]) -> Result<u32, AllocError>
+fn append_row_growing(
+    rows: &mut Arena,
+    notes: &mut Vec<Note>,
+    tuple: &[u64],
+) -> Result<u32, AllocError>
     requires full { IsFull rows.old }
     requires ready { CanTake rows.old notes.old.items tuple.now }
     ensures laid { IfOk result (λ slot. IsLaid rows.old rows.new notes.old.items notes.new.items slot tuple.now) }
@@ -183,7 +196,8 @@ fn head_of(keys: &mut Arena, ends: &mut Vec<Ends>, cells: &[u64]) -> Result<u32,
     ensures rows { AreRows keys.new }
     ensures width { keys.new.width ≡ keys.old.width }
     ensures ends { keys.new.room ≤ length ends.new.items }
-    ensures seated { IfOk result (λ head. IsSeat keys.old.rows keys.new.rows ends.old.items ends.new.items head cells.now) }
+    ensures seated { IfOk result (λ head. IsSeat keys.old.rows keys.new.rows ends.old.items
+        ends.new.items head cells.now) }
     ensures refused { OnErr result (keys.new.rows ≡ keys.old.rows) }
     ensures refused_ends { OnErr result ((k : ℕ) → ends_at ends.new.items k ≡ ends_at ends.old.items k) }
     ensures full { OnErr result (IsFull keys.old) }
@@ -212,7 +226,8 @@ fn find_or_make_wide_head(
     ensures rows { AreRows keys.new }
     ensures width { keys.new.width ≡ keys.old.width }
     ensures ends { keys.new.room ≤ length ends.new.items }
-    ensures seated { IfOk result (λ head. IsSeat keys.old.rows keys.new.rows ends.old.items ends.new.items head (pick key.now tuple.now)) }
+    ensures seated { IfOk result (λ head. IsSeat keys.old.rows keys.new.rows ends.old.items
+        ends.new.items head (pick key.now tuple.now)) }
     ensures refused { OnErr result (keys.new.rows ≡ keys.old.rows) }
     ensures refused_ends { OnErr result ((k : ℕ) → ends_at ends.new.items k ≡ ends_at ends.old.items k) }
     ensures full { OnErr result (IsFull keys.old ⊎ vec_capacity cells.old < length key.now) }
@@ -237,7 +252,8 @@ fn find_or_make_head(
     ensures rows { AreRows keys.new }
     ensures width { keys.new.width ≡ keys.old.width }
     ensures ends { keys.new.room ≤ length ends.new.items }
-    ensures seated { IfOk result (λ head. IsSeat keys.old.rows keys.new.rows ends.old.items ends.new.items head (pick key.now tuple.now)) }
+    ensures seated { IfOk result (λ head. IsSeat keys.old.rows keys.new.rows ends.old.items
+        ends.new.items head (pick key.now tuple.now)) }
     ensures refused { OnErr result (keys.new.rows ≡ keys.old.rows) }
     ensures refused_ends { OnErr result ((k : ℕ) → ends_at ends.new.items k ≡ ends_at ends.old.items k) }
     ensures full { OnErr result (IsFull keys.old ⊎ vec_capacity cells.old < length key.now) }
@@ -274,7 +290,8 @@ fn withdraw(rows: &mut Arena, slot: u32)
     ensures rows { AreRows rows.new }
     ensures width { rows.new.width ≡ rows.old.width }
     ensures room { rows.new.room ≡ rows.old.room }
-    ensures removed { (xs : List Row) (r : Row) (ys : List Row) → rows.old.rows ≡ xs ++ r ∷ ys → r.slot ≡ slot → rows.new.rows ≡ xs ++ ys }
+    ensures removed { (xs : List Row) (r : Row) (ys : List Row) → rows.old.rows ≡ xs ++ r ∷ ys
+        → r.slot ≡ slot → rows.new.rows ≡ xs ++ ys }
 {
     rows.remove(slot);
     rows.laws();
@@ -286,7 +303,8 @@ fn renew(rows: &mut Arena, slot: u32)
     ensures rows { AreRows rows.new }
     ensures width { rows.new.width ≡ rows.old.width }
     ensures room { rows.new.room ≡ rows.old.room }
-    ensures renewed { (xs : List Row) (r : Row) (ys : List Row) → rows.old.rows ≡ xs ++ r ∷ ys → r.slot ≡ slot → rows.new.rows ≡ (xs ++ ys) ++ r ∷ [] }
+    ensures renewed { (xs : List Row) (r : Row) (ys : List Row) → rows.old.rows ≡ xs ++ r ∷ ys
+        → r.slot ≡ slot → rows.new.rows ≡ (xs ++ ys) ++ r ∷ [] }
 {
     rows.renew(slot);
     rows.laws();
@@ -338,7 +356,8 @@ fn append_to_group(raw: &mut Raw, slot: u32, head: u32, marked: bool)
     requires number { slot < 4294967295 }
     requires head { head < length raw.old.ends.items }
     requires last { IsWithin (length raw.old.links.items) (ends_at raw.old.ends.items head).last }
-    ensures settled { IsSettled marked raw.old raw.new raw.old.rows raw.old.notes.items raw.old.links.items raw.old.keys raw.old.ends.items slot head }
+    ensures settled { IsSettled marked raw.old raw.new raw.old.rows raw.old.notes.items
+        raw.old.links.items raw.old.keys raw.old.ends.items slot head }
 {
     join(&mut raw.links, &mut raw.ends, slot, head);
     init_note(raw, slot, head, marked);
@@ -348,13 +367,14 @@ fn append_to_group(raw: &mut Raw, slot: u32, head: u32, marked: bool)
 pub fn insert_keyed(raw: &mut Raw, tuple: &[u64], marked: bool) -> Result<Place, AllocError>
     requires raw { IsBare raw.old }
     requires heads { AreHeads raw.old }
-    requires absent { cnt (entries_of raw.old) tuple.now ≡ 0 }
+    requires absent { count_of (entries_of raw.old) tuple.now ≡ 0 }
     requires wide { length tuple.now ≡ raw.old.rows.width }
     requires few { length (entries_of raw.old) < 4294967295 }
     requires plain { marked ≡ false → marks (entries_of raw.old) ≡ [] }
     ensures raw { IsBare raw.new }
     ensures heads { AreHeads raw.new }
-    ensures inserted { IfOk result (λ p. InsertedAs marked raw.old.key.items (entries_of raw.old) (entries_of raw.new) tuple.now) }
+    ensures inserted { IfOk result (λ p. InsertedAs marked raw.old.key.items (entries_of raw.old)
+        (entries_of raw.new) tuple.now) }
     ensures at { IfOk result (λ p. IsAt (entries_of raw.new) p tuple.now) }
     ensures refused { OnErr result (entries_of raw.new ≡ entries_of raw.old) }
     ensures full { OnErr result (IsFull raw.old.rows ⊎ HasNoRoomForHead raw.old) }
@@ -384,12 +404,13 @@ pub fn insert_keyed(raw: &mut Raw, tuple: &[u64], marked: bool) -> Result<Place,
 /// Puts a tuple that isn't there behind all others: its group needs nothing.
 pub fn insert_bare(raw: &mut Raw, tuple: &[u64], marked: bool) -> Result<Place, AllocError>
     requires raw { IsBare raw.old }
-    requires absent { cnt (entries_of raw.old) tuple.now ≡ 0 }
+    requires absent { count_of (entries_of raw.old) tuple.now ≡ 0 }
     requires wide { length tuple.now ≡ raw.old.rows.width }
     requires few { length (entries_of raw.old) < 4294967295 }
     requires plain { marked ≡ false → marks (entries_of raw.old) ≡ [] }
     ensures raw { IsBare raw.new }
-    ensures inserted { IfOk result (λ p. InsertedAs marked raw.old.key.items (entries_of raw.old) (entries_of raw.new) tuple.now) }
+    ensures inserted { IfOk result (λ p. InsertedAs marked raw.old.key.items (entries_of raw.old)
+        (entries_of raw.new) tuple.now) }
     ensures at { IfOk result (λ p. IsAt (entries_of raw.new) p tuple.now) }
     ensures refused { OnErr result (entries_of raw.new ≡ entries_of raw.old) }
     ensures full { OnErr result (IsFull raw.old.rows) }
@@ -409,7 +430,8 @@ pub fn remove_keyed(raw: &mut Raw, place: Place)
     requires live { IsLive (entries_of raw.old) place }
     ensures raw { IsBare raw.new }
     ensures heads { AreHeads raw.new }
-    ensures removed { (u : List ℕ) → IsAt (entries_of raw.old) place u → Removed (entries_of raw.old) (entries_of raw.new) u }
+    ensures removed { (u : List ℕ) → IsAt (entries_of raw.old) place u
+        → Removed (entries_of raw.old) (entries_of raw.new) u }
     ensures kind { raw.new.kind ≡ raw.old.kind }
     ensures key { raw.new.key.items ≡ raw.old.key.items }
     ensures width { raw.new.rows.width ≡ raw.old.rows.width }
@@ -427,7 +449,8 @@ pub fn remove_bare(raw: &mut Raw, place: Place)
     requires raw { IsBare raw.old }
     requires live { IsLive (entries_of raw.old) place }
     ensures raw { IsBare raw.new }
-    ensures removed { (u : List ℕ) → IsAt (entries_of raw.old) place u → Removed (entries_of raw.old) (entries_of raw.new) u }
+    ensures removed { (u : List ℕ) → IsAt (entries_of raw.old) place u
+        → Removed (entries_of raw.old) (entries_of raw.new) u }
     ensures kind { raw.new.kind ≡ raw.old.kind }
     ensures key { raw.new.key.items ≡ raw.old.key.items }
     ensures width { raw.new.rows.width ≡ raw.old.rows.width }
@@ -444,7 +467,8 @@ pub fn touch_keyed(raw: &mut Raw, place: Place)
     requires unmarked { IsUnmarked (entries_of raw.old) place }
     ensures raw { IsBare raw.new }
     ensures heads { AreHeads raw.new }
-    ensures touched { (u : List ℕ) → IsAt (entries_of raw.old) place u → Touched raw.old.key.items (entries_of raw.old) (entries_of raw.new) u }
+    ensures touched { (u : List ℕ) → IsAt (entries_of raw.old) place u → Touched raw.old.key.items
+        (entries_of raw.old) (entries_of raw.new) u }
     ensures kind { raw.new.kind ≡ raw.old.kind }
     ensures key { raw.new.key.items ≡ raw.old.key.items }
     ensures width { raw.new.rows.width ≡ raw.old.rows.width }
@@ -462,7 +486,8 @@ pub fn touch_bare(raw: &mut Raw, place: Place)
     requires raw { IsBare raw.old }
     requires unmarked { IsUnmarked (entries_of raw.old) place }
     ensures raw { IsBare raw.new }
-    ensures touched { (u : List ℕ) → IsAt (entries_of raw.old) place u → Touched raw.old.key.items (entries_of raw.old) (entries_of raw.new) u }
+    ensures touched { (u : List ℕ) → IsAt (entries_of raw.old) place u → Touched raw.old.key.items
+        (entries_of raw.old) (entries_of raw.new) u }
     ensures kind { raw.new.kind ≡ raw.old.kind }
     ensures key { raw.new.key.items ≡ raw.old.key.items }
     ensures width { raw.new.rows.width ≡ raw.old.rows.width }

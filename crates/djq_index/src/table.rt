@@ -1,5 +1,7 @@
-ghost use Rattle.std.specs.Prelude.{◌≡◌, ℕ, ◌+◌, ◌-◌, ◌<◌, ◌≤◌, ◌==◌, false, List, [], ◌∷◌, ◌++◌, length, IfOk, OnErr, MatchOption};
-ghost use Rattle.djq_index.specs.Entries.{Entry, supp, cnt, grp, marks, is_marked, unmarked, head_at, last_at};
+ghost use Rattle.std.specs.Prelude.{◌≡◌, ℕ, ◌+◌, ◌-◌, ◌<◌, ◌≤◌, ◌==◌, false, List, [], ◌∷◌, ◌++◌};
+ghost use Rattle.std.specs.Prelude.{length, IfOk, OnErr, MatchOption};
+ghost use Rattle.djq_index.specs.Entries.{Entry, supports_of, count_of, group_of, marks, is_marked};
+ghost use Rattle.djq_index.specs.Entries.{unmarked, head_at, last_at};
 ghost use Rattle.djq_index.specs.Table.{IsTable, IsAt, IsLive, IsUnmarked, IsRaisable, IsLowerable, AreColumns};
 ghost use Rattle.djq_index.specs.Changes.{Inserted, InsertedAs, Removed, Touched, Supported};
 
@@ -109,7 +111,8 @@ impl Table {
 
     /// Where this tuple lies; none exactly where it is absent. It counts one look-up.
     pub fn find<L: Ledger>(&self, tuple: &[u64], tally: &mut Tally<L>) -> Option<Place>
-        ensures found { MatchOption result (cnt self.now.entries tuple.now ≡ 0) (λ p. IsAt self.now.entries p tuple.now) }
+        ensures found { MatchOption result (count_of self.now.entries tuple.now ≡ 0)
+            (λ p. IsAt self.now.entries p tuple.now) }
         ensures counted { tally.new ≡ tally.old + 1 }
     {
         tally.lookup();
@@ -122,7 +125,7 @@ impl Table {
     /// The first of the group with these cells; none exactly where there is no such group. It counts
     /// one look-up, as `last` does.
     pub fn first<L: Ledger>(&self, cells: &[u64], tally: &mut Tally<L>) -> Option<Place>
-        ensures found { result ≡ head_at (grp self.now.key self.now.entries cells.now) }
+        ensures found { result ≡ head_at (group_of self.now.key self.now.entries cells.now) }
         ensures counted { tally.new ≡ tally.old + 1 }
     {
         tally.lookup();
@@ -135,7 +138,7 @@ impl Table {
 
     /// The last of the group with these cells.
     pub fn last<L: Ledger>(&self, cells: &[u64], tally: &mut Tally<L>) -> Option<Place>
-        ensures found { result ≡ last_at (grp self.now.key self.now.entries cells.now) }
+        ensures found { result ≡ last_at (group_of self.now.key self.now.entries cells.now) }
         ensures counted { tally.new ≡ tally.old + 1 }
     {
         tally.lookup();
@@ -149,7 +152,9 @@ impl Table {
     /// The next one of its group; none exactly at the group's end. It counts one link, as `prev` does.
     pub fn next<L: Ledger>(&self, place: Place, tally: &mut Tally<L>) -> Option<Place>
         requires { IsLive self.now.entries place }
-        ensures found { (w : List ℕ) (xs : List Entry) (e : Entry) (ys : List Entry) → grp self.now.key self.now.entries w ≡ xs ++ e ∷ ys → e.at ≡ place → result ≡ head_at ys }
+        ensures found { (w : List ℕ) (xs : List Entry) (e : Entry) (ys : List Entry)
+            → group_of self.now.key self.now.entries w ≡ xs ++ e ∷ ys → e.at ≡ place
+            → result ≡ head_at ys }
         ensures counted { tally.new ≡ tally.old + 1 }
     {
         tally.link();
@@ -164,7 +169,9 @@ impl Table {
     /// The one before it in its group; none exactly at the group's start.
     pub fn prev<L: Ledger>(&self, place: Place, tally: &mut Tally<L>) -> Option<Place>
         requires { IsLive self.now.entries place }
-        ensures found { (w : List ℕ) (xs : List Entry) (e : Entry) (ys : List Entry) → grp self.now.key self.now.entries w ≡ xs ++ e ∷ ys → e.at ≡ place → result ≡ last_at xs }
+        ensures found { (w : List ℕ) (xs : List Entry) (e : Entry) (ys : List Entry)
+            → group_of self.now.key self.now.entries w ≡ xs ++ e ∷ ys → e.at ≡ place
+            → result ≡ last_at xs }
         ensures counted { tally.new ≡ tally.old + 1 }
     {
         tally.link();
@@ -189,7 +196,8 @@ impl Table {
     /// The next marked tuple after a marked one; none exactly behind the last.
     pub fn next_marked<L: Ledger>(&self, place: Place, tally: &mut Tally<L>) -> Option<Place>
         requires { IsLive self.now.entries place }
-        ensures found { (xs : List Entry) (e : Entry) (ys : List Entry) → marks self.now.entries ≡ xs ++ e ∷ ys → e.at ≡ place → result ≡ head_at ys }
+        ensures found { (xs : List Entry) (e : Entry) (ys : List Entry) → marks self.now.entries
+            ≡ xs ++ e ∷ ys → e.at ≡ place → result ≡ head_at ys }
         ensures counted { tally.new ≡ tally.old + 1 }
     {
         tally.link();
@@ -207,7 +215,7 @@ impl Table {
     /// How many supports the tuple at a place has.
     pub fn supports(&self, place: Place) -> u32
         requires { IsLive self.now.entries place }
-        ensures { (u : List ℕ) → IsAt self.now.entries place u → result ≡ supp self.now.entries u }
+        ensures { (u : List ℕ) → IsAt self.now.entries place u → result ≡ supports_of self.now.entries u }
     {
         note_of(&self.raw.notes, place.slot()).supports
     }
@@ -227,7 +235,7 @@ impl Table {
         tuple: &[u64],
         tally: &mut Tally<L>,
     ) -> Result<Place, AllocError>
-        requires absent { cnt self.old.entries tuple.now ≡ 0 }
+        requires absent { count_of self.old.entries tuple.now ≡ 0 }
         requires wide { length tuple.now ≡ self.old.width }
         requires few { length self.old.entries < 4294967295 }
         ensures inserted { IfOk result (λ p. Inserted self.old.key self.old.entries self.new.entries tuple.now) }
@@ -249,11 +257,12 @@ impl Table {
         marked: bool,
         tally: &mut Tally<L>,
     ) -> Result<Place, AllocError>
-        requires absent { cnt self.old.entries tuple.now ≡ 0 }
+        requires absent { count_of self.old.entries tuple.now ≡ 0 }
         requires wide { length tuple.now ≡ self.old.width }
         requires few { length self.old.entries < 4294967295 }
         requires plain { marked ≡ false → marks self.old.entries ≡ [] }
-        ensures inserted { IfOk result (λ p. InsertedAs marked self.old.key self.old.entries self.new.entries tuple.now) }
+        ensures inserted { IfOk result (λ p. InsertedAs marked self.old.key self.old.entries
+            self.new.entries tuple.now) }
         ensures at { IfOk result (λ p. IsAt self.new.entries p tuple.now) }
         ensures refused { OnErr result (self.new.entries ≡ self.old.entries) }
         ensures key { self.new.key ≡ self.old.key }
@@ -287,7 +296,8 @@ impl Table {
     /// Marks the unmarked tuple at a place, and moves it to the end of its group.
     pub fn touch<L: Ledger>(&mut self, place: Place, tally: &mut Tally<L>)
         requires { IsUnmarked self.old.entries place }
-        ensures touched { (u : List ℕ) → IsAt self.old.entries place u → Touched self.old.key self.old.entries self.new.entries u }
+        ensures touched { (u : List ℕ) → IsAt self.old.entries place u
+            → Touched self.old.key self.old.entries self.new.entries u }
         ensures key { self.new.key ≡ self.old.key }
         ensures width { self.new.width ≡ self.old.width }
         ensures counted { tally.new ≡ tally.old + 1 }
@@ -316,7 +326,9 @@ impl Table {
     /// Gives the tuple at a place one support more.
     pub fn raise<L: Ledger>(&mut self, place: Place, tally: &mut Tally<L>)
         requires { IsRaisable self.old.entries place }
-        ensures raised { (u : List ℕ) → IsAt self.old.entries place u → Supported self.old.entries self.new.entries u (supp self.old.entries u) (supp self.old.entries u + 1) }
+        ensures raised { (u : List ℕ) → IsAt self.old.entries place u
+            → Supported self.old.entries self.new.entries u (supports_of self.old.entries u)
+            (supports_of self.old.entries u + 1) }
         ensures key { self.new.key ≡ self.old.key }
         ensures width { self.new.width ≡ self.old.width }
         ensures counted { tally.new ≡ tally.old + 1 }
@@ -336,7 +348,9 @@ impl Table {
     /// Takes one support of the tuple at a place away.
     pub fn lower<L: Ledger>(&mut self, place: Place, tally: &mut Tally<L>)
         requires { IsLowerable self.old.entries place }
-        ensures lowered { (u : List ℕ) → IsAt self.old.entries place u → Supported self.old.entries self.new.entries u (supp self.old.entries u) (supp self.old.entries u - 1) }
+        ensures lowered { (u : List ℕ) → IsAt self.old.entries place u
+            → Supported self.old.entries self.new.entries u (supports_of self.old.entries u)
+            (supports_of self.old.entries u - 1) }
         ensures key { self.new.key ≡ self.old.key }
         ensures width { self.new.width ≡ self.old.width }
         ensures counted { tally.new ≡ tally.old + 1 }

@@ -2,7 +2,7 @@ ghost use Rattle.std.specs.Prelude.{◌≡◌, ◌≢◌, [], None};
 ghost use Rattle.djq_arena.specs.Chains.{first_of, last_of};
 ghost use Rattle.djq_arena.specs.Rows.{slots};
 ghost use Rattle.djq_arena.specs.Store.{ends_of};
-ghost use Rattle.djq_index.specs.Entries.{grp};
+ghost use Rattle.djq_index.specs.Entries.{group_of};
 ghost use Rattle.djq_index.specs.Raw.{IsBare, AreHeads, entries_of, slots_at};
 
 use crate::heads::{known_ends, none};
@@ -13,7 +13,7 @@ use djq_arena::{Arena, Ends};
 pub fn ends_in(raw: &Raw, cells: &[u64]) -> Ends
     requires raw { IsBare raw.now }
     requires heads { AreHeads raw.now }
-    ensures { result ≡ ends_of (slots_at (grp raw.now.key.items (entries_of raw.now) cells.now)) }
+    ensures { result ≡ ends_of (slots_at (group_of raw.now.key.items (entries_of raw.now) cells.now)) }
 {
     match raw.keys.find(cells) {
         None => none(),

@@ -108,7 +108,8 @@ pub trait Hub {
         ensures script { WhereTold (script self.old) (script self.new) (Follows (ids self.old) result buf.new) }
         ensures ids { Turns result (length buf.new) (ids self.old) (ids self.new) }
         ensures faults { CountsTurn result (faults self.old) (faults self.new) }
-        ensures sessions { CountsInTurn result (ids self.old).open_ids (session_faults self.old) (session_faults self.new) };
+        ensures sessions { CountsInTurn result (ids self.old).open_ids (session_faults self.old)
+            (session_faults self.new) };
 
     /// Sends a first part of the piece to an open session.
     fn send(&mut self, id: u64, piece: &[u8]) -> Sent
@@ -120,7 +121,8 @@ pub trait Hub {
         ensures script { WhereTold (script self.old) (script self.new) (Sends id (length piece.now) result) }
         ensures ids { ids self.new ≡ ids self.old }
         ensures faults { faults self.new ≡ faults self.old }
-        ensures sessions { CountsSend result id (ids self.old).open_ids (session_faults self.old) (session_faults self.new) };
+        ensures sessions { CountsSend result id (ids self.old).open_ids (session_faults self.old)
+            (session_faults self.new) };
 
     /// Closes an open session.
     fn close(&mut self, id: u64)

@@ -159,11 +159,16 @@ impl Hub for MemHub {
         ensures exact { result ≡ listen_of self.old }
         ensures listens { self.new.failing_listens ≡ after_call self.old.failing_listens }
         ensures past { Gains self.old.past self.new.past (Told.Listening addr.now result ∷ []) }
-        ensures others { self.new ≡ record self.old { past = self.new.past; failing_listens = self.new.failing_listens } }
+        ensures others { self.new ≡ record self.old {
+          past = self.new.past;
+          failing_listens =
+              self.new.failing_listens;
+        } }
         ensures script { WhereTold (script_of self.old) (script_of self.new) (λ old new. new ≡ old) }
         ensures ids { self.new.ids ≡ self.old.ids }
         ensures faults { CountsListen result (hub_faults self.old) (hub_faults self.new) }
-        ensures sessions { SameCounts self.old.ids.open_ids (failed_sends self.old.failing_sends) (failed_sends self.new.failing_sends) }
+        ensures sessions { SameCounts self.old.ids.open_ids (failed_sends self.old.failing_sends)
+            (failed_sends self.new.failing_sends) }
     {
         let listened = if self.failing_listens.count_down() {
             Listened::Failed
@@ -187,7 +192,8 @@ impl Hub for MemHub {
         ensures script { WhereTold (script_of self.old) (script_of self.new) (Follows self.old.ids result buf.new) }
         ensures ids { Turns result (length buf.new) self.old.ids self.new.ids }
         ensures faults { CountsTurn result (hub_faults self.old) (hub_faults self.new) }
-        ensures sessions { CountsInTurn result self.old.ids.open_ids (failed_sends self.old.failing_sends) (failed_sends self.new.failing_sends) }
+        ensures sessions { CountsInTurn result self.old.ids.open_ids
+            (failed_sends self.old.failing_sends) (failed_sends self.new.failing_sends) }
     {
         let turn = if self.failing_turns.count_down() {
             Turn::Failed
@@ -212,7 +218,8 @@ impl Hub for MemHub {
         ensures others { self.new ≡ record self.old { past = self.new.past; failing_sends = self.new.failing_sends } }
         ensures ids { self.new.ids ≡ self.old.ids }
         ensures faults { hub_faults self.new ≡ hub_faults self.old }
-        ensures sessions { CountsSend result id self.old.ids.open_ids (failed_sends self.old.failing_sends) (failed_sends self.new.failing_sends) }
+        ensures sessions { CountsSend result id self.old.ids.open_ids
+            (failed_sends self.old.failing_sends) (failed_sends self.new.failing_sends) }
     {
         let sent = if self.failing_sends.count_down(id) {
             Sent::Gone
@@ -233,7 +240,8 @@ impl Hub for MemHub {
         ensures script { WhereTold (script_of self.old) (script_of self.new) (λ old new. new ≡ old) }
         ensures ids { self.new.ids ≡ without self.old.ids id }
         ensures faults { hub_faults self.new ≡ hub_faults self.old }
-        ensures sessions { SameCounts self.new.ids.open_ids (failed_sends self.old.failing_sends) (failed_sends self.new.failing_sends) }
+        ensures sessions { SameCounts self.new.ids.open_ids (failed_sends self.old.failing_sends)
+            (failed_sends self.new.failing_sends) }
     {
         self.sessions.close(id);
         self.past.push(Told::Closing(id));

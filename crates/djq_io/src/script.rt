@@ -53,7 +53,8 @@ impl ScriptQueue {
 
     /// Puts a turn at the end.
     pub(crate) fn push(&mut self, coming: Coming) -> Result<(), AllocError>
-        ensures ok { OnOk result (self.new.script ≡ record self.old.script { turns = self.old.script.turns ++ coming ∷ [] }) }
+        ensures ok { OnOk result (self.new.script ≡ record self.old.script
+            { turns = self.old.script.turns ++ coming ∷ [] }) }
         ensures err { OnErr result (self.new.script ≡ self.old.script) }
     {
         self.turns.push_back(coming)?;
@@ -76,7 +77,9 @@ impl ScriptQueue {
 
     /// Takes the next turn.
     pub(crate) fn pop(&mut self) -> Option<Incoming>
-        ensures next { MatchOption result ((self.old.script.turns ≡ []) × (self.new.script ≡ self.old.script)) (λ next. Passes self.old.script next self.new.script) }
+        ensures next { MatchOption result ((self.old.script.turns ≡ [])
+            × (self.new.script ≡ self.old.script)) (λ next. Passes self.old.script next
+            self.new.script) }
         ensures whole { self.new.has_rest ≡ false }
     {
         if let Some(Rest { id, piece }) = self.rest.take() {
@@ -90,7 +93,10 @@ impl ScriptQueue {
     /// Puts the rest of a piece back, of the turn that was taken last.
     pub(crate) fn put_back(&mut self, id: u64, piece: Piece)
         requires { self.old.has_rest ≡ false }
-        ensures { self.new.script ≡ record self.old.script { turns = record { turn = Incoming.Brings id piece; blocked = self.old.script.blocked } ∷ self.old.script.turns } }
+        ensures { self.new.script ≡ record self.old.script {
+          turns = record { turn = Incoming.Brings id piece; blocked = self.old.script.blocked }
+              ∷ self.old.script.turns;
+        } }
     {
         self.rest = Some(Rest { id, piece });
     }

@@ -161,7 +161,8 @@ impl Sessions {
         ensures ids { self.new.ids ≡ self.old.ids }
         ensures room { self.new.room ≡ self.old.room }
         ensures counted { Counted (faults_of self.old.counts id) (faults_of self.new.counts id) }
-        ensures others { SameCountsBut id self.old.ids.open_ids (faults_of self.old.counts) (faults_of self.new.counts) }
+        ensures others { SameCountsBut id self.old.ids.open_ids (faults_of self.old.counts)
+            (faults_of self.new.counts) }
     {
         for x in self.places.iter_mut() {
             *x = x.after_fault(id);

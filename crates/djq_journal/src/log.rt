@@ -59,7 +59,8 @@ impl Log {
         requires { AllByRecursion IsLine (G.lines group.now) }
         ensures nowhere { self.old ≡ None → (result ≡ Kept.All) × (self.new ≡ None) }
         ensures room { FillsLog result self.old (G.lines group.now) }
-        ensures told { WhereTold (D.told disk.old) (D.told disk.new) (Keeps result self.old self.new (G.lines group.now)) }
+        ensures told { WhereTold (D.told disk.old) (D.told disk.new) (Keeps result self.old self.new
+            (G.lines group.now)) }
         ensures faults { CountsKept result (D.faults disk.old) (D.faults disk.new) }
     {
         let Some(_first) = group.line(0) else {

@@ -30,7 +30,8 @@ fn number_of(high: u8, low: u8) -> usize
 
 /// Reads the head of a place.
 pub(crate) fn read_head<D: Disk>(disk: &mut D, at: u64) -> Head
-    ensures told { WhereTold (D.told disk.old) (D.told disk.new) (λ o n. IsHead result (drop at o.file.bytes) × (n ≡ o)) }
+    ensures told { WhereTold (D.told disk.old) (D.told disk.new)
+        (λ o n. IsHead result (drop at o.file.bytes) × (n ≡ o)) }
     ensures fits { HeadFits result at }
     ensures faults { CountsHead result (D.faults disk.old) (D.faults disk.new) }
 {

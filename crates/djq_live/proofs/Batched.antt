@@ -29,7 +29,7 @@ use Rattle.std.proofs.lemmas.Bool.{cases_eq, cases_lt}
 use Rattle.std.proofs.lemmas.List.{take_more, take_all, length-map}
 use Rattle.std.proofs.lemmas.Option.{same_Some, none-some, slice_get_within, slice_get-map}
 use Rattle.djq_index.specs.Tuple.{same}
-use Rattle.djq_index.specs.Entries.{Entry, cnt}
+use Rattle.djq_index.specs.Entries.{Entry, count_of}
 use Rattle.djq_index.proofs.Tuples.{same_cases, is_same, one_true, one_other, one_le}
 use Rattle.djq_tree.specs.Labels.{label_at}
 use Rattle.djq_tree.specs.Tree.{Tree}
@@ -321,8 +321,8 @@ adds_more us k s t step = record {
   more = λ j u low there.
       elim (cases_eq j k) [
         | inl here ↦
-            let at = subst (λ (i : ℕ). 0 < cnt (entries_at s.tables i) u) here there in
-            subst (λ (i : ℕ). 0 < cnt (entries_at t.tables i) u) (sym here)
+            let at = subst (λ (i : ℕ). 0 < count_of (entries_at s.tables i) u) here there in
+            subst (λ (i : ℕ). 0 < count_of (entries_at t.tables i) u) (sym here)
             (let e = step.leaf u in omega arith)
         | inr apart ↦ (let e = step.others j low apart u in omega arith)
       ];
@@ -336,8 +336,8 @@ drops_more us k s t step = record {
       let lower = subst (λ (x : Tree). j < x.leaves) step.tree low in
       elim (cases_eq j k) [
         | inl here ↦
-            let at = subst (λ (i : ℕ). 0 < cnt (entries_at t.tables i) u) here there in
-            subst (λ (i : ℕ). 0 < cnt (entries_at s.tables i) u) (sym here)
+            let at = subst (λ (i : ℕ). 0 < count_of (entries_at t.tables i) u) here there in
+            subst (λ (i : ℕ). 0 < count_of (entries_at s.tables i) u) (sym here)
             (let e = step.leaf u in omega arith)
         | inr apart ↦ (let e = step.others j lower apart u in omega arith)
       ];

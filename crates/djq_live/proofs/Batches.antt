@@ -10,7 +10,7 @@ use Rattle.djq_model.specs.Answer.{AreDifferent}
 use Rattle.djq_model.specs.Data.{Tuple, tuples_in}
 use Rattle.djq_model.specs.declared.relation.Relation.{Relation}
 use Rattle.djq_model.proofs.Counted.{rest_differ}
-use Rattle.djq_index.specs.Entries.{cnt}
+use Rattle.djq_index.specs.Entries.{count_of}
 use Rattle.djq_index.proofs.Tuples.{same_cases, one_le, one_other}
 use Rattle.djq_index.specs.Tuple.{same}
 use Rattle.djq_reduct.specs.Tables.{entries_at}
@@ -144,7 +144,7 @@ back_leaf : (at : ℕ) (atoms : List NumberedAtom) (batch : List (List (List ℕ
     (r s t : Reducts) (j : ℕ) (u : List ℕ) → length batch ≡ length atoms → j < length atoms
     → ChangesBelow (λ x es fs. Adds x es fs) at atoms batch k r s
     → ChangesBelow (λ x es fs. Drops x es fs) at atoms batch k s t
-    → cnt (entries_at t.tables j) u ≡ cnt (entries_at r.tables j) u
+    → count_of (entries_at t.tables j) u ≡ count_of (entries_at r.tables j) u
 back_leaf at atoms batch k r s t j u long low adds drops =
     let m = has_at atoms j low in
     let us = has_at batch j (omega arith) in

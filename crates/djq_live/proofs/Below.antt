@@ -20,7 +20,7 @@ use Rattle.std.proofs.Common.{
 use Rattle.std.specs.Prelude.{Some, slice_get}
 use Rattle.std.proofs.lemmas.Bool.{cases_eq}
 use Rattle.std.proofs.lemmas.Option.{same_Some, slice_get_within}
-use Rattle.djq_index.specs.Entries.{Entry, cnt}
+use Rattle.djq_index.specs.Entries.{Entry, count_of}
 use Rattle.djq_tree.specs.Tree.{Tree}
 use Rattle.djq_reduct.specs.Tables.{entries_at}
 use Rattle.djq_reduct.specs.Reducts.{Reducts, IsReducts}
@@ -187,8 +187,8 @@ gains_more rows p k s t step = record {
   more = λ j u low there.
       elim (cases_eq j k) [
         | inl here ↦
-            let at = subst (λ (i : ℕ). 0 < cnt (entries_at s.tables i) u) here there in
-            subst (λ (i : ℕ). 0 < cnt (entries_at t.tables i) u) (sym here)
+            let at = subst (λ (i : ℕ). 0 < count_of (entries_at s.tables i) u) here there in
+            subst (λ (i : ℕ). 0 < count_of (entries_at t.tables i) u) (sym here)
             ((step.leaf u).1 (inl at))
         | inr apart ↦ (let e = step.others j low apart u in omega arith)
       ];
@@ -202,8 +202,8 @@ loses_more cells p k s t step = record {
       let lower = subst (λ (x : Tree). j < x.leaves) step.tree low in
       elim (cases_eq j k) [
         | inl here ↦
-            let at = subst (λ (i : ℕ). 0 < cnt (entries_at t.tables i) u) here there in
-            subst (λ (i : ℕ). 0 < cnt (entries_at s.tables i) u) (sym here)
+            let at = subst (λ (i : ℕ). 0 < count_of (entries_at t.tables i) u) here there in
+            subst (λ (i : ℕ). 0 < count_of (entries_at s.tables i) u) (sym here)
             ((step.leaf u).0 at).0
         | inr apart ↦ (let e = step.others j lower apart u in omega arith)
       ];

@@ -18,7 +18,7 @@ use Rattle.std.proofs.lemmas.List.{length-map}
 use Rattle.std.proofs.lemmas.List.Elements.{All-cons}
 use Rattle.djq_hyper.specs.Hypergraph.{member}
 use Rattle.djq_model.specs.Data.{Bytes}
-use Rattle.djq_index.specs.Entries.{Entry, cnt}
+use Rattle.djq_index.specs.Entries.{Entry, count_of}
 use Rattle.djq_union.proofs.Lists.{at_head, none_contained}
 use Rattle.djq_query.specs.declared.numbered.NumberedTerm.{NumberedTerm}
 use Rattle.djq_query.specs.declared.numbered.NumberedTerm.TheVariants.{
@@ -184,7 +184,7 @@ given_both c l ks m p a h one = (
 -- an assignment's row is in the leaf exactly where the assignment satisfies the atom and passes
 pub leaf_says : (c : Catalog) (l : List ℕ) (ks : List NumberedComparison) (m : NumberedAtom)
     (p : Shape) (es : List Entry) (a : ℕ → ℕ) → IsLeafOf c l ks m p es
-    → (0 < cnt es (map a l)) ↔ (IsSatisfied c a m × ArePassedIn c.texts l ks a)
+    → (0 < count_of es (map a l)) ↔ (IsSatisfied c a m × ArePassedIn c.texts l ks a)
 leaf_says c l ks m p es a h = (
   λ there. given_both c l ks m p a h.pattern ((h.holds.exact (map a l)).0 there),
   λ is. (h.holds.exact (map a l)).1

@@ -14,7 +14,7 @@ use Rattle.djq_model.specs.declared.query.Comparison.{Comparison}
 use Rattle.djq_model.specs.declared.query.Term.{Term}
 use Rattle.djq_model.specs.declared.query.Term.TheVariants.{Variable as Named, Hole, Constant}
 use Rattle.djq_model.specs.Data.{Bytes}
-use Rattle.djq_index.specs.Entries.{Entry, cnt, marks}
+use Rattle.djq_index.specs.Entries.{Entry, count_of, marks}
 use Rattle.djq_lines.specs.Hypergraph.{edges_from, edges_of, head_of}
 use Rattle.djq_lines.specs.QueryFault.{query_fault}
 use Rattle.djq_lines.specs.Variables.{
@@ -255,13 +255,13 @@ module _ (c : Catalog) (q : Query) (n : Numbered) (t : Tree) (given : IsGiven c 
       }
 
 -- reducts without tuples
-cnt_none : (es : List Entry) (u : List ℕ) → es ≡ [] → cnt es u ≡ 0
-unfolding cnt
-cnt_none es u e = ap (λ (l : List Entry). cnt l u) e
+cnt_none : (es : List Entry) (u : List ℕ) → es ≡ [] → count_of es u ≡ 0
+unfolding count_of
+cnt_none es u e = ap (λ (l : List Entry). count_of l u) e
 
-marks_none : (es : List Entry) (u : List ℕ) → es ≡ [] → cnt (marks es) u ≡ 0
-unfolding cnt marks
-marks_none es u e = ap (λ (l : List Entry). cnt (marks l) u) e
+marks_none : (es : List Entry) (u : List ℕ) → es ≡ [] → count_of (marks es) u ≡ 0
+unfolding count_of marks
+marks_none es u e = ap (λ (l : List Entry). count_of (marks l) u) e
 
 pub none_filled : (c : Catalog) (atoms : List NumberedAtom) (ps : List Shape) (r : Reducts)
     → ((k : ℕ) → entries_at r.tables k ≡ []) → AreFilled c atoms ps 0 r r

@@ -29,7 +29,7 @@ use Rattle.std.proofs.lemmas.Bool.{cases_Bool, cases_eq, cases_lt, false≢true}
 use Rattle.std.proofs.lemmas.List.{length-map}
 use Rattle.djq_hyper.specs.Hypergraph.{member}
 use Rattle.djq_index.specs.Tuple.{pick}
-use Rattle.djq_index.specs.Entries.{cnt}
+use Rattle.djq_index.specs.Entries.{count_of}
 use Rattle.djq_tree.specs.declared.node.Node.{Node}
 use Rattle.djq_tree.specs.declared.node.Node.TheVariants.{Leaf, Trim, Meet}
 use Rattle.djq_tree.specs.Labels.{label_at}
@@ -199,7 +199,7 @@ row_stays r k c j a u s e within other free key there =
       | inl root ↦ absurd (root_bare r.tree j x s root m)
       | inr p ↦ kept r.tree k c p.parent j x s e (free p.parent p.child) p.child other has m
     ])) in
-    subst (λ (v : List ℕ). 0 < cnt (entries_at r.tables j) v) (sym same) there
+    subst (λ (v : List ℕ). 0 < count_of (entries_at r.tables j) v) (sym same) there
 
 down_trim : (r : Reducts) (k c : ℕ) (a : ℕ → ℕ) → IsReducts r → k < length r.tree.nodes
     → k < r.tree.second_stage → node_at r.tree.nodes k ≡ Trim c → IsSat r (suc k) a → Extended r k a
@@ -214,7 +214,7 @@ down_trim r k c a h within early e sat =
     let row = over_row l u a (simple_of l (s.sets c).rising)
     (tuple_wide r c u h (omega arith) part.there) in
     let here : IsIn r c (λ x. over l u a x) =
-    subst (λ (v : List ℕ). 0 < cnt (entries_at r.tables c) v) (sym row) part.there in
+    subst (λ (v : List ℕ). 0 < count_of (entries_at r.tables c) v) (sym row) part.there in
     record {
       assignment = λ x. over l u a x;
       sat = record {
@@ -290,7 +290,7 @@ start : (r : Reducts) (u : List ℕ) → IsReducts r → IsAnswerOf r u
     → IsSat r r.tree.second_stage (λ x. reading r.tree.head u x)
 start r u h is = record {
   current = λ j low free.
-      subst (λ (v : List ℕ). 0 < cnt (entries_at r.tables j) v) (projection r.tree j u)
+      subst (λ (v : List ℕ). 0 < count_of (entries_at r.tables j) v) (projection r.tree j u)
       (is.there j (start_out r.tree j h.family.is_tree low free));
 }
 
@@ -326,7 +326,7 @@ answer_of r a h leaves = record {
   wide = length-map r.tree.head a;
   there = λ j out.
       let within = out_within r.tree j h.family.is_tree out in
-      subst (λ (v : List ℕ). 0 < cnt (entries_at r.tables j) v)
+      subst (λ (v : List ℕ). 0 < count_of (entries_at r.tables j) v)
       (sym (projection_row r.tree j a h.family.is_tree out))
       (up_below r a (suc j) h leaves j (omega arith) within);
 }

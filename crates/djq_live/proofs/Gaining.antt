@@ -28,7 +28,7 @@ use Rattle.std.proofs.lemmas.List.Elements.{
   Contains-append_right,
   All-contains,
 }
-use Rattle.djq_index.specs.Entries.{cnt}
+use Rattle.djq_index.specs.Entries.{count_of}
 use Rattle.djq_tree.specs.Tree.{Tree, is_out}
 use Rattle.djq_tree.specs.Labels.{label_at}
 use Rattle.djq_reduct.specs.Tables.{entries_at}
@@ -65,13 +65,13 @@ more_answers r s u hr hs more is =
     (answer_of s a.assignment hs
     (λ j low.
     let lower = subst (λ (t : Tree). j < t.leaves) more.tree low in
-    subst (λ (v : List ℕ). 0 < cnt (entries_at s.tables j) v)
+    subst (λ (v : List ℕ). 0 < count_of (entries_at s.tables j) v)
     (row_in_tree r s a.assignment j more.tree)
     (more.more j (map a.assignment (label_at r.tree.labels j)) lower (a.leaves j lower))))
 
 -- the tables of all nodes hold the same tuples
 pub same_more : (r s : Reducts) → s.tree ≡ r.tree
-    → ((k : ℕ) (u : List ℕ) → cnt (entries_at s.tables k) u ≡ cnt (entries_at r.tables k) u)
+    → ((k : ℕ) (u : List ℕ) → count_of (entries_at s.tables k) u ≡ count_of (entries_at r.tables k) u)
     → HasMore r s
 same_more r s e h = record {
   tree = e;
@@ -82,9 +82,9 @@ same_more r s e h = record {
 
 some_missing : (r : Reducts) (u : List ℕ) (n : ℕ)
     → ((j : ℕ) → j < n → is_out r.tree.out j ≡ true
-    → 0 < cnt (entries_at r.tables j) (on_node r.tree j u))
+    → 0 < count_of (entries_at r.tables j) (on_node r.tree j u))
     ⊎ ((j : ℕ) × (is_out r.tree.out j ≡ true)
-    × (cnt (entries_at r.tables j) (on_node r.tree j u) ≡ 0))
+    × (count_of (entries_at r.tables j) (on_node r.tree j u) ≡ 0))
 some_missing r u zero = inl (λ j low out. absurd (omega arith))
 some_missing r u (suc n) =
     elim (some_missing r u n) [
@@ -92,12 +92,12 @@ some_missing r u (suc n) =
       | inl below ↦
           elim (cases_Bool (is_out r.tree.out n)) [
             | inl out ↦
-                elim (cases_lt 0 (cnt (entries_at r.tables n) (on_node r.tree n u))) [
+                elim (cases_lt 0 (count_of (entries_at r.tables n) (on_node r.tree n u))) [
                   | inl there ↦ inl
                       (λ j low o.
                       elim (cases_eq j n) [
                         | inl here ↦ subst
-                            (λ (i : ℕ). 0 < cnt (entries_at r.tables i) (on_node r.tree i u))
+                            (λ (i : ℕ). 0 < count_of (entries_at r.tables i) (on_node r.tree i u))
                             (sym here) there
                         | inr apart ↦ below j (omega arith) o
                       ])

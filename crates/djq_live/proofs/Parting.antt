@@ -23,7 +23,7 @@ use Rattle.djq_hyper.specs.Hypergraph.{member}
 use Rattle.djq_model.specs.declared.query.Query.{Query}
 use Rattle.djq_model.specs.Data.{Tuple}
 use Rattle.djq_model.specs.Answer.{IsAnswer}
-use Rattle.djq_index.specs.Entries.{cnt}
+use Rattle.djq_index.specs.Entries.{count_of}
 use Rattle.djq_tree.specs.Tree.{Tree}
 use Rattle.djq_tree.specs.Labels.{label_at}
 use Rattle.djq_reduct.specs.Columns.{column}
@@ -98,11 +98,11 @@ row_in : (c d : Catalog) (q : Query) (n : Numbered) (ps : List Shape) (r s : Red
     (cells : List (List ℕ)) (new : List Tuple) (k j : ℕ) (m : NumberedAtom) (p : Shape)
     (u : List ℕ) → IsOver c q n ps r → CameAll c d at cells new
     → ChangesBelow (λ x before after. GainsAll x cells before after) at n.atoms ps k r s
-    → slice_get n.atoms j ≡ Some m → slice_get ps j ≡ Some p → 0 < cnt (entries_at s.tables j) u
+    → slice_get n.atoms j ≡ Some m → slice_get ps j ≡ Some p → 0 < count_of (entries_at s.tables j) u
     → GivesOne (AreRowOf d m.relation) p u
 row_in c d q n ps r s at cells new k j m p u h came change e f there =
     let low = (atom_at c n.variables q.atoms n.atoms j m h.asked.atoms e).is.below in
-    let before : 0 < cnt (entries_at r.tables j) u → GivesOne (AreRowOf d m.relation) p u =
+    let before : 0 < count_of (entries_at r.tables j) u → GivesOne (AreRowOf d m.relation) p u =
     (λ some.
     one_as (AreRowOf c m.relation) (AreRowOf d m.relation) p u
     (λ x is. row_on c d m.relation x h.asked.catalog came.later low is
@@ -139,8 +139,8 @@ leaf_both c d q n ps r s at cells new k j m a h came change e leaves =
     let leaf = h.leaves j m p.element e p.is in
     let l = label_at r.tree.labels j in
     let at_leaf : j < r.tree.leaves = (let g = h.long in omega arith) in
-    let there : 0 < cnt (entries_at s.tables j) (map a l) =
-    subst (λ (t : Tree). 0 < cnt (entries_at s.tables j) (map a (label_at t.labels j)))
+    let there : 0 < count_of (entries_at s.tables j) (map a l) =
+    subst (λ (t : Tree). 0 < count_of (entries_at s.tables j) (map a (label_at t.labels j)))
     change.tree (leaves j (subst (λ (t : Tree). j < t.leaves) (sym change.tree) at_leaf)) in
     let x = atom_at c n.variables q.atoms n.atoms j m h.asked.atoms e in
     let pattern = pattern_later c d n.variables l n.comparisons x.atom m p.element came.later x.is

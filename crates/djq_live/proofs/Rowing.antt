@@ -29,7 +29,7 @@ use Rattle.djq_model.specs.Typed.{is_of, fits}
 use Rattle.djq_model.specs.Answer.{AreDifferent}
 use Rattle.djq_hyper.specs.Hypergraph.{member}
 use Rattle.djq_lines.specs.Hypergraph.{edges_of, head_of}
-use Rattle.djq_index.specs.Entries.{Entry, cnt}
+use Rattle.djq_index.specs.Entries.{Entry, count_of}
 use Rattle.djq_index.proofs.Apart.{cnt_once}
 use Rattle.djq_tree.specs.Growing.{IsTreeOf}
 use Rattle.djq_tree.specs.Tree.{Tree}
@@ -138,7 +138,7 @@ pub none_there : (c d : Catalog) (q : Query) (n : Numbered) (ps : List Shape) (r
     → CameAll c d at cells new → HoldBelow (λ p es. LacksAll cells p es) at n.atoms ps k r
 none_there c d q n ps r at cells new k h came = record {
   each = λ j m p low e f on u given.
-      elim (cases_lt 0 (cnt (entries_at r.tables j) u)) [
+      elim (cases_lt 0 (count_of (entries_at r.tables j) u)) [
         | inr none ↦ omega arith
         | inl some ↦
             let a = atom_at c n.variables q.atoms n.atoms j m h.asked.atoms e in
@@ -254,7 +254,7 @@ lost_kept c d l s at cells row h went change = record {
 -- a leaf holds what it held once it has lost what it gained and lacked
 back_again : (cells : List ℕ) (p : Shape) (es fs gs : List Entry) (u : List ℕ)
     → Lacks cells p es → Gains p cells es fs → Loses p cells fs gs
-    → (0 < cnt gs u) ↔ (0 < cnt es u)
+    → (0 < count_of gs u) ↔ (0 < count_of es u)
 back_again cells p es fs gs u lacks gains loses = (
   λ there.
       let k = (loses u).0 there in
@@ -272,7 +272,7 @@ back_leaf : (cells : List ℕ) (at : ℕ) (atoms : List NumberedAtom) (ps : List
     → ChangesBelow (λ q old new. Gains q cells old new) at atoms ps k r s
     → ChangesBelow (λ q old new. Loses q cells old new) at atoms ps k s t
     → slice_get atoms j ≡ Some m → slice_get ps j ≡ Some p
-    → (0 < cnt (entries_at t.tables j) u) ↔ (0 < cnt (entries_at r.tables j) u)
+    → (0 < count_of (entries_at t.tables j) u) ↔ (0 < count_of (entries_at r.tables j) u)
 back_leaf cells at atoms ps k r s t j m p u lacks gains loses e f =
     elim (cases_eq m.relation at) [
       | inr off ↦
@@ -311,7 +311,7 @@ back_tables c l s t at cells k lacks gains loses h =
     tree = loses.tree ∙ gains.tree
 
     same : (j : ℕ) (u : List ℕ) → j < r.tree.leaves
-        → cnt (entries_at t.tables j) u ≡ cnt (entries_at r.tables j) u
+        → count_of (entries_at t.tables j) u ≡ count_of (entries_at r.tables j) u
     same j u low =
         let m = has_at (l.numbered).atoms j (let e = h.over.long in omega arith) in
         let p = has_at l.patterns j
@@ -322,12 +322,12 @@ back_tables c l s t at cells k lacks gains loses h =
         (apart_at r.tables j (h.over.reducts.family.sound j)) in
         let after = cnt_once (entries_at t.tables j) u
         (apart_at t.tables j (loses.sound.family.sound j)) in
-        elim (cases_lt 0 (cnt (entries_at r.tables j) u)) [
+        elim (cases_lt 0 (count_of (entries_at r.tables j) u)) [
           | inl there ↦
               let still = back.1 there in
               omega arith
           | inr none ↦
-              elim (cases_lt 0 (cnt (entries_at t.tables j) u)) [
+              elim (cases_lt 0 (count_of (entries_at t.tables j) u)) [
                 | inl there ↦
                     let was = back.0 there in
                     absurd (omega arith)

@@ -4,7 +4,7 @@ use Rattle.std.specs.Prelude.{◌≢◌, ◌==◌, Some, filter, slice_get, slic
 use Rattle.std.proofs.lemmas.Bool.{cases_eq, cases_lt}
 use Rattle.std.proofs.Math.Seq.{take-length}
 use Rattle.djq_index.specs.Tuple.{same, one}
-use Rattle.djq_index.specs.Entries.{Entry, cnt}
+use Rattle.djq_index.specs.Entries.{Entry, count_of}
 use Rattle.djq_index.proofs.Counts.{cnt_cons}
 use Rattle.djq_index.proofs.Apart.{cnt_once, stands}
 use Rattle.djq_index.proofs.Tuples.{one_same}
@@ -213,7 +213,7 @@ fewer_stay small big n h more few = record {
       let ds = entries_at big.tables j in
       let a = few.each j (subst (λ (t : Tree). j < t.leaves) (sym more.tree) low) in
       let b = length_less es ds
-      (λ v. elim (cases_lt 0 (cnt es v)) [
+      (λ v. elim (cases_lt 0 (count_of es v)) [
         | inl some ↦
             let there = more.more j v low some in
             let once = cnt_once es v (apart_at small.tables j (h.family.sound j)) in

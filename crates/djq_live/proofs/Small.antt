@@ -25,7 +25,7 @@ use Rattle.std.proofs.lemmas.List.{length-map}
 use Rattle.std.proofs.lemmas.List.Kept.{AllPairs-cons}
 use Rattle.djq_model.specs.Data.{Bytes, Tuple}
 use Rattle.djq_index.specs.Tuple.{same}
-use Rattle.djq_index.specs.Entries.{Entry, cnt}
+use Rattle.djq_index.specs.Entries.{Entry, count_of}
 use Rattle.djq_index.specs.Table.{AreApart}
 use Rattle.djq_index.proofs.Counts.{cnt_cons}
 use Rattle.djq_index.proofs.Tuples.{is_same, one_true}
@@ -105,7 +105,7 @@ filled_once c l ks m p u v simple h wide also e =
 abbrev tuples_of : List Entry → List (List ℕ)
 tuples_of es = map (λ (e : Entry). e.tuple) es
 
-tuple_there : (es : List Entry) (u : List ℕ) → Contains (tuples_of es) u → 0 < cnt es u
+tuple_there : (es : List Entry) (u : List ℕ) → Contains (tuples_of es) u → 0 < count_of es u
 tuple_there [] u c = absurd (none_contained u c)
 tuple_there (e ∷ es) u c =
     let first = cnt_cons e es u in
@@ -121,7 +121,7 @@ tuples_differ (e ∷ es) h =
     AllPairs-cons (λ s t. s ≡ t → ⊥) e.tuple (tuples_of es)
     (all_of (λ t. e.tuple ≡ t → ⊥) (tuples_of es)
     (λ t there is.
-    let none : cnt es t ≡ 0 = subst (λ (v : List ℕ). cnt es v ≡ 0) is h.0 in
+    let none : count_of es t ≡ 0 = subst (λ (v : List ℕ). count_of es v ≡ 0) is h.0 in
     let some = tuple_there es t there in
     omega arith))
     (tuples_differ es h.1)

@@ -1,7 +1,7 @@
 -- What the tables of a trim and of a meet have to do with their children's.
 use Rattle.std.proofs.Common.{◌≡◌, ℕ, ◌*◌, ◌<◌, List, [], ◌∷◌, length, map, refl, ap, ap₂, ◌∙◌, inl, inr, arith}
 use Rattle.djq_index.specs.Tuple.{pick}
-use Rattle.djq_index.specs.Entries.{Entry, cnt, supp, many}
+use Rattle.djq_index.specs.Entries.{Entry, count_of, supports_of, group_size}
 use Rattle.djq_index.proofs.Tuples.{same_cases, one_same, one_other}
 use Rattle.djq_index.proofs.Counts.{cnt_cons, many_cons}
 use Rattle.djq_index.proofs.Apart.{cnt_supp}
@@ -20,14 +20,14 @@ use Rattle.djq_propagate.proofs.Sides.{present}
 -- an entry's tuple with these cells at the key's columns
 pub record HasPart (key : List ℕ) (es : List Entry) (w : List ℕ) : Type 0 where
   pub tuple : List ℕ
-  pub there : 0 < cnt es tuple
+  pub there : 0 < count_of es tuple
   pub part : pick key tuple ≡ w
 
-none_many : (key w : List ℕ) → many key [] w ≡ 0
-unfolding many
+none_many : (key w : List ℕ) → group_size key [] w ≡ 0
+unfolding group_size
 none_many key w = refl
 
-pub many_has : (key : List ℕ) (es : List Entry) (w : List ℕ) → 0 < many key es w
+pub many_has : (key : List ℕ) (es : List Entry) (w : List ℕ) → 0 < group_size key es w
     → HasPart key es w
 many_has key [] w h = absurd (let z = none_many key w in omega arith)
 many_has key (e ∷ es) w h =
@@ -54,7 +54,7 @@ many_has key (e ∷ es) w h =
 
 -- the row that an assignment gives on a node is in its table
 abbrev pub IsIn : Reducts → ℕ → (ℕ → ℕ) → Type 0
-IsIn r j a = 0 < cnt (entries_at r.tables j) (map a (label_at r.tree.labels j))
+IsIn r j a = 0 < count_of (entries_at r.tables j) (map a (label_at r.tree.labels j))
 
 trim_within : (t : Tree) (k c : ℕ) → IsTree t → node_at t.nodes k ≡ Trim c
     → Within (label_at t.labels k) (label_at t.labels c)
@@ -98,16 +98,16 @@ guard_pick r k g d a h within e =
 
 meet_product : (r : Reducts) (k g d : ℕ) (a : ℕ → ℕ) → IsReducts r → k < length r.tree.nodes
     → node_at r.tree.nodes k ≡ Meet g d
-    → supp (entries_at r.tables k) (map a (label_at r.tree.labels k))
-    ≡ cnt (entries_at r.tables g) (map a (label_at r.tree.labels g))
-    * cnt (entries_at r.tables d) (map a (label_at r.tree.labels d))
+    → supports_of (entries_at r.tables k) (map a (label_at r.tree.labels k))
+    ≡ count_of (entries_at r.tables g) (map a (label_at r.tree.labels g))
+    * count_of (entries_at r.tables d) (map a (label_at r.tree.labels d))
 meet_product r k g d a h within e =
     meet_law (node_at r.tree.nodes k) g d r.tables k e (h.reduced.at k (omega arith) within)
     (map a (label_at r.tree.labels k))
     ∙ ap₂ (λ (n m : ℕ). n * m)
-    (ap (λ (l : List ℕ). cnt (entries_at r.tables g) (map a l))
+    (ap (λ (l : List ℕ). count_of (entries_at r.tables g) (map a l))
     (h.family.is_tree.meet k g d e).guard)
-    (ap (λ (u : List ℕ). cnt (entries_at r.tables d) u) (guard_pick r k g d a h within e))
+    (ap (λ (u : List ℕ). count_of (entries_at r.tables d) u) (guard_pick r k g d a h within e))
 
 -- a meet's row is there exactly where its children's are
 pub meet_down : (r : Reducts) (k g d : ℕ) (a : ℕ → ℕ) → IsReducts r → k < length r.tree.nodes
@@ -116,13 +116,13 @@ meet_down r k g d a h within e there =
     let p = meet_product r k g d a h within e in
     let q = cnt_supp (entries_at r.tables k) (map a (label_at r.tree.labels k))
     (h.family.supported k) there in
-    both_positive (cnt (entries_at r.tables g) (map a (label_at r.tree.labels g)))
-    (cnt (entries_at r.tables d) (map a (label_at r.tree.labels d))) (omega arith)
+    both_positive (count_of (entries_at r.tables g) (map a (label_at r.tree.labels g)))
+    (count_of (entries_at r.tables d) (map a (label_at r.tree.labels d))) (omega arith)
 
 pub meet_up : (r : Reducts) (k g d : ℕ) (a : ℕ → ℕ) → IsReducts r → k < length r.tree.nodes
     → node_at r.tree.nodes k ≡ Meet g d → IsIn r g a → IsIn r d a → IsIn r k a
 meet_up r k g d a h within e guard side =
     let p = meet_product r k g d a h within e in
-    let q = product_positive (cnt (entries_at r.tables g) (map a (label_at r.tree.labels g)))
-    (cnt (entries_at r.tables d) (map a (label_at r.tree.labels d))) guard side in
+    let q = product_positive (count_of (entries_at r.tables g) (map a (label_at r.tree.labels g)))
+    (count_of (entries_at r.tables d) (map a (label_at r.tree.labels d))) guard side in
     present (entries_at r.tables k) (map a (label_at r.tree.labels k)) (omega arith)

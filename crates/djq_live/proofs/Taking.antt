@@ -9,7 +9,7 @@ use Rattle.std.proofs.lemmas.List.{get_or_append_left, get_or-map, length-map}
 use Rattle.std.proofs.lemmas.Option.{same_Some}
 use Rattle.djq_model.specs.Data.{Tuple}
 use Rattle.djq_index.specs.Tuple.{same, one}
-use Rattle.djq_index.specs.Entries.{Entry, cnt}
+use Rattle.djq_index.specs.Entries.{Entry, count_of}
 use Rattle.djq_index.proofs.Tuples.{same_cases, one_other, one_same}
 use Rattle.djq_tree.specs.Tree.{Tree}
 use Rattle.djq_reduct.specs.Tables.{entries_at}
@@ -100,7 +100,7 @@ rows_differ c at h low i j less late e =
 
 pub start_taken : (c : Catalog) (at : ℕ) (p : Shape) (leaf : ℕ) (left : List (List ℕ))
     (old : Reducts) → left ≡ cells_at c at
-    → ((u : List ℕ) → cnt (entries_at old.tables leaf) u ≡ 0) → IsBare old.tables
+    → ((u : List ℕ) → count_of (entries_at old.tables leaf) u ≡ 0) → IsBare old.tables
     → HasTaken c at p leaf left old old
 start_taken c at p leaf left old all empty bare = record {
   done = [];
@@ -149,7 +149,7 @@ pub absent_row : (c : Catalog) (at : ℕ) (p : Shape) (leaf : ℕ) (row : List �
     → HasTaken c at p leaf before old mid → before ≡ row ∷ left
     → Lacks row p (entries_at mid.tables leaf)
 absent_row c at p leaf row before left old mid catalog low h next u gives =
-    elim (cases_lt 0 (cnt (entries_at mid.tables leaf) u)) [
+    elim (cases_lt 0 (count_of (entries_at mid.tables leaf) u)) [
       | inl there ↦ absurd
           (twice (cells_of c.texts) (rows_at c.relations at) h.done left row
           (h.parts ∙ ap (λ (l : List (List ℕ)). h.done ++ l) next)
@@ -202,7 +202,7 @@ few_row c at p leaf row before left old mid catalog low h next =
 -- ---- all leaves
 
 holds_kept : (c : Catalog) (at : ℕ) (p : Shape) (es fs : List Entry)
-    → ((u : List ℕ) → cnt fs u ≡ cnt es u) → Holds c at p es → Holds c at p fs
+    → ((u : List ℕ) → count_of fs u ≡ count_of es u) → Holds c at p es → Holds c at p fs
 holds_kept c at p es fs same h = record {
   exact = λ u. (
     λ there. (h.exact u).0 (let e = same u in omega arith),

@@ -16,7 +16,7 @@ use Rattle.std.specs.Prelude.{
   None,
   map,
 }
-use Rattle.djq_index.specs.Entries.{Entry, cnt}
+use Rattle.djq_index.specs.Entries.{Entry, count_of}
 use Rattle.djq_tree.specs.Labels.{label_at}
 use Rattle.djq_reduct.specs.Tables.{entries_at}
 use Rattle.djq_reduct.specs.Reducts.{Reducts}
@@ -76,10 +76,10 @@ pub record CanTake (at : ℕ) (atoms : List NumberedAtom) (batch : List (List (L
 
 -- the entries gained these tuples, or lost them
 abbrev pub Adds : List (List ℕ) → List Entry → List Entry → Type 0
-Adds us old new = (u : List ℕ) → cnt new u ≡ cnt old u + times us u
+Adds us old new = (u : List ℕ) → count_of new u ≡ count_of old u + times us u
 
 abbrev pub Drops : List (List ℕ) → List Entry → List Entry → Type 0
-Drops us old new = (u : List ℕ) → cnt old u ≡ cnt new u + times us u
+Drops us old new = (u : List ℕ) → count_of old u ≡ count_of new u + times us u
 
 -- no leaf has more than so many tuples more
 pub record GrowsBy (more : ℕ) (r s : Reducts) : Type 0 where

@@ -3,7 +3,7 @@ use Rattle.std.specs.Prelude.{◌≡◌, ◌≢◌, ℕ, ◌+◌, ◌<◌, ◌�
 use Rattle.std.specs.List.{list_any}
 use Rattle.djq_model.specs.Data.{Bytes}
 use Rattle.djq_hyper.specs.Hypergraph.{member}
-use Rattle.djq_index.specs.Entries.{cnt}
+use Rattle.djq_index.specs.Entries.{count_of}
 use Rattle.djq_tree.specs.Labels.{label_at}
 use Rattle.djq_tree.specs.Tree.{Tree}
 use Rattle.djq_reduct.specs.Tables.{entries_at}
@@ -89,4 +89,4 @@ pub record AreFilled (c : Catalog) (atoms : List NumberedAtom) (ps : List Shape)
   pub bare : IsBare new.tables
   pub filled : AtBoth (λ j m p. j < upto → Holds c m.relation p (entries_at new.tables j)) atoms ps
   pub empty : (j : ℕ) → upto ≤ j → j < old.tree.leaves → (u : List ℕ)
-      → cnt (entries_at new.tables j) u ≡ 0
+      → count_of (entries_at new.tables j) u ≡ 0

@@ -20,7 +20,7 @@ use Rattle.std.specs.Prelude.{
 }
 use Rattle.djq_model.specs.declared.query.Query.{Query}
 use Rattle.djq_model.specs.Data.{Bytes, Tuple, without_row, with_row, with_copies, without_copies}
-use Rattle.djq_index.specs.Entries.{Entry, cnt}
+use Rattle.djq_index.specs.Entries.{Entry, count_of}
 use Rattle.djq_reduct.specs.Tables.{entries_at}
 use Rattle.djq_reduct.specs.Reducts.{Reducts, IsReducts}
 use Rattle.djq_query.specs.declared.numbered.NumberedAtom.{NumberedAtom}
@@ -86,7 +86,7 @@ pub record Went (c d : Catalog) (at : ℕ) (cells : List ℕ) (row : Tuple) : Ty
 -- the entries gained the tuples that put into the atom give one of these rows of cells
 abbrev pub GainsAll : Shape → List (List ℕ) → List Entry → List Entry → Type 0
 GainsAll p rows old new = (u : List ℕ)
-    → (0 < cnt new u) ↔ ((0 < cnt old u) ⊎ GivesOne (Contains rows) p u)
+    → (0 < count_of new u) ↔ ((0 < count_of old u) ⊎ GivesOne (Contains rows) p u)
 
 -- they gained the tuple that gives these cells, of which there is one at most; or they lost it
 abbrev pub Gains : Shape → List ℕ → List Entry → List Entry → Type 0
@@ -94,11 +94,11 @@ Gains p cells old new = GainsAll p (cells ∷ []) old new
 
 abbrev pub Loses : Shape → List ℕ → List Entry → List Entry → Type 0
 Loses p cells old new = (u : List ℕ)
-    → (0 < cnt new u) ↔ ((0 < cnt old u) × (Gives p u cells → ⊥))
+    → (0 < count_of new u) ↔ ((0 < count_of old u) × (Gives p u cells → ⊥))
 
 -- the entries hold the same tuples
 abbrev pub Keeps : List Entry → List Entry → Type 0
-Keeps old new = (u : List ℕ) → cnt new u ≡ cnt old u
+Keeps old new = (u : List ℕ) → count_of new u ≡ count_of old u
 
 -- the leaves of the atoms over the relation at a place changed so, and the others hold the same
 pub record LeavesChange (Changes : Shape → List Entry → List Entry → Type 0) (at : ℕ)
@@ -150,12 +150,12 @@ CopiesKeepRows = (c d : Catalog) (at : ℕ) (row : Tuple) (n : ℕ) → IsCatalo
 
 -- a leaf's entries hold exactly the tuples that put into the atom give one of these rows of cells
 abbrev pub HoldsThese : List (List ℕ) → Shape → List Entry → Type 0
-HoldsThese rows p es = (u : List ℕ) → (0 < cnt es u) ↔ GivesOne (Contains rows) p u
+HoldsThese rows p es = (u : List ℕ) → (0 < count_of es u) ↔ GivesOne (Contains rows) p u
 
 -- A leaf is filled row by row: without tuples it holds those of no rows, more rows make it gain
 -- their tuples, and with all rows of a relation it holds what it should.
 abbrev pub LeafIsEmpty : Type 0
-LeafIsEmpty = (p : Shape) (es : List Entry) → ((u : List ℕ) → cnt es u ≡ 0) → HoldsThese [] p es
+LeafIsEmpty = (p : Shape) (es : List Entry) → ((u : List ℕ) → count_of es u ≡ 0) → HoldsThese [] p es
 
 abbrev pub LeafGains : Type 0
 LeafGains = (rows more : List (List ℕ)) (p : Shape) (old new : List Entry)

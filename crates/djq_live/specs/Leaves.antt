@@ -4,7 +4,7 @@ use Rattle.std.specs.List.{list_any}
 use Rattle.djq_model.specs.declared.query.Query.{Query}
 use Rattle.djq_model.specs.Data.{Bytes}
 use Rattle.djq_hyper.specs.Hypergraph.{member}
-use Rattle.djq_index.specs.Entries.{Entry, cnt}
+use Rattle.djq_index.specs.Entries.{Entry, count_of}
 use Rattle.djq_tree.specs.Labels.{label_at}
 use Rattle.djq_reduct.specs.Tables.{entries_at}
 use Rattle.djq_reduct.specs.Reducts.{Reducts, IsReducts}
@@ -52,7 +52,7 @@ pub record GivesOne (IsRow : List ℕ → Type 0) (p : Shape) (u : List ℕ) : T
 -- A leaf's entries hold exactly the tuples that put into the atom give a row of its relation, and
 -- that pass the atom's tests.
 pub record Holds (c : Catalog) (at : ℕ) (p : Shape) (es : List Entry) : Type 0 where
-  pub exact : (u : List ℕ) → (0 < cnt es u) ↔ GivesOne (AreRowOf c at) p u
+  pub exact : (u : List ℕ) → (0 < count_of es u) ↔ GivesOne (AreRowOf c at) p u
 
 -- the leaf of an atom
 pub record IsLeafOf (c : Catalog) (label : List ℕ) (ks : List NumberedComparison)

@@ -24,7 +24,7 @@ use Rattle.std.specs.Prelude.{
   slice_get,
 }
 use Rattle.djq_machine.specs.Store.{most_steps}
-use Rattle.djq_index.specs.Entries.{Entry, cnt}
+use Rattle.djq_index.specs.Entries.{Entry, count_of}
 use Rattle.djq_tree.specs.Flat.{HasEqualMeets}
 use Rattle.djq_tree.specs.Labels.{label_at}
 use Rattle.djq_tree.specs.Tree.{Tree}
@@ -42,14 +42,14 @@ use Rattle.djq_live.specs.Changes.{Keeps}
 
 -- no entry's tuple gives one of these rows of cells, put into the atom
 abbrev pub LacksAll : List (List ℕ) → Shape → List Entry → Type 0
-LacksAll rows p es = (u : List ℕ) → GivesOne (Contains rows) p u → cnt es u ≡ 0
+LacksAll rows p es = (u : List ℕ) → GivesOne (Contains rows) p u → count_of es u ≡ 0
 
 -- no entry's tuple gives these cells; or each tuple that gives them is there
 abbrev pub Lacks : List ℕ → Shape → List Entry → Type 0
-Lacks cells p es = (u : List ℕ) → Gives p u cells → cnt es u ≡ 0
+Lacks cells p es = (u : List ℕ) → Gives p u cells → count_of es u ≡ 0
 
 abbrev pub Has : List ℕ → Shape → List Entry → Type 0
-Has cells p es = (u : List ℕ) → Gives p u cells → 0 < cnt es u
+Has cells p es = (u : List ℕ) → Gives p u cells → 0 < count_of es u
 
 -- One leaf changed so, each other one holds what it held, and no update is unfinished.
 pub record ChangesAt {A : Type 0} (Changes : A → List Entry → List Entry → Type 0) (p : A) (j : ℕ)
@@ -77,8 +77,8 @@ pub record ChangesBelow {A : Type 0} (Changes : A → List Entry → List Entry 
 -- the leaves of the one have all tuples that those of the other have
 pub record HasMore (small big : Reducts) : Type 0 where
   pub tree : big.tree ≡ small.tree
-  pub more : (j : ℕ) (u : List ℕ) → j < small.tree.leaves → 0 < cnt (entries_at small.tables j) u
-      → 0 < cnt (entries_at big.tables j) u
+  pub more : (j : ℕ) (u : List ℕ) → j < small.tree.leaves → 0 < count_of (entries_at small.tables j) u
+      → 0 < count_of (entries_at big.tables j) u
 
 -- The reducts have a leaf for each atom, whose pattern has the leaf's width and a slot for each of
 -- the cells of a row of the relation at a place.

@@ -1,6 +1,6 @@
 //! The leaves of a query, row by row.
 ghost use Rattle.std.specs.Prelude.{◌≡◌, ℕ, ◌<◌, ◌≤◌, List, IfOk, length};
-ghost use Rattle.djq_index.specs.Entries.{cnt};
+ghost use Rattle.djq_index.specs.Entries.{count_of};
 ghost use Rattle.djq_reduct.specs.Tables.{entries_at};
 ghost use Rattle.djq_reduct.specs.Marks.{IsBare};
 ghost use Rattle.djq_tree.specs.Labels.{label_at};
@@ -58,7 +58,7 @@ fn fill_leaf<R: Ledger, U: Ledger>(
     requires leaf { leaf < reducts.old.tree.leaves }
     requires suits { SuitsRelation catalog.now (label_at reducts.old.tree.labels leaf) relation
         pattern.now }
-    requires empty { (u : List ℕ) → cnt (entries_at reducts.old.tables leaf) u ≡ 0 }
+    requires empty { (u : List ℕ) → count_of (entries_at reducts.old.tables leaf) u ≡ 0 }
     requires bare { IsBare reducts.old.tables }
     ensures { IfOk result (λ _. IsFilled catalog.now relation pattern.now leaf reducts.old
         reducts.new) }

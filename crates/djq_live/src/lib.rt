@@ -51,7 +51,7 @@ pub use member::{
     cells_tell_values, had_cells_stand, head_types_are, queries_are_kept, showable_cells_stand,
 };
 pub use plan::{PlannedQuery, Unplanned, plan_query};
-pub use staying::{came_all_passes, other_queries_stay, live_stays, went_passes};
+pub use staying::{came_all_passes, live_stays, other_queries_stay, went_passes};
 
 mod batch;
 mod bind;

@@ -1,7 +1,7 @@
 //! What an update does to reducts, leaf after leaf.
 ghost use Rattle.std.specs.Prelude.{◌≡◌, ◌+◌, ◌<◌, ◌≤◌, true, false, length, OnOk, OnErr};
 ghost use Rattle.djq_tree.specs.Labels.{label_at};
-ghost use Rattle.djq_index.specs.Entries.{cnt};
+ghost use Rattle.djq_index.specs.Entries.{count_of};
 ghost use Rattle.djq_reduct.specs.Tables.{entries_at};
 ghost use Rattle.djq_reduct.specs.Reducts as spec;
 ghost use Rattle.djq_reduct.specs.Reducts.{IsReducts};
@@ -68,7 +68,7 @@ fn add_and_tell<L: Ledgers>(
 ) -> Result<(), NoMem>
     requires leaf { leaf < reducts.old.tree.leaves }
     requires wide { length tuple.now ≡ length (label_at reducts.old.tree.labels leaf) }
-    requires absent { cnt (entries_at reducts.old.tables leaf) tuple.now ≡ 0 }
+    requires absent { count_of (entries_at reducts.old.tables leaf) tuple.now ≡ 0 }
     requires few { length (entries_at reducts.old.tables leaf) < 4294967295 }
     requires bare { IsBare reducts.old.tables }
     ensures gained { OnOk result (HasGained reducts.old reducts.new leaf tuple.now) }
@@ -99,7 +99,7 @@ fn delete_and_tell<L: Ledgers>(
     steps: &mut Steps<L>,
 )
     requires leaf { leaf < reducts.old.tree.leaves }
-    requires there { 0 < cnt (entries_at reducts.old.tables leaf) tuple.now }
+    requires there { 0 < count_of (entries_at reducts.old.tables leaf) tuple.now }
     requires bare { IsBare reducts.old.tables }
     ensures lost { HasLost reducts.old reducts.new leaf tuple.now }
     ensures listed { ListsAll false (IsGained reducts.old reducts.new)

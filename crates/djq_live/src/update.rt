@@ -23,7 +23,7 @@ ghost use Rattle.djq_live.specs.Updating.{
 
 use crate::batch::{add_all_to_leaves, give_all_from_leaves, tuples_of_all};
 use crate::live::LiveQuery;
-use crate::stepping::{add_to_leaves, give_from_leaves, delete_from_leaves};
+use crate::stepping::{add_to_leaves, delete_from_leaves, give_from_leaves};
 use djq_cursor::DeltaLog;
 use djq_model::{Name, NoMem};
 use djq_reduct::Cells;

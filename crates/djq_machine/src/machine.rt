@@ -61,7 +61,8 @@ pub trait Machine {
     ghost use Rattle.djq_machine.specs.State.{State};
     ghost use Rattle.djq_machine.specs.Step.{fed, took, ended, closed, is_dry};
     ghost use Rattle.djq_machine.specs.Run.{pending_of};
-    ghost use Rattle.djq_machine.specs.Call.{IsOpen, Makes, OpenGives, FedGives, StepGives, cause_of, held_of, ids_of, first_due, counts};
+    ghost use Rattle.djq_machine.specs.Call.{IsOpen, Makes, OpenGives, FedGives, StepGives};
+    ghost use Rattle.djq_machine.specs.Call.{cause_of, held_of, ids_of, first_due, counts};
 
     // The state of the join machine that it keeps.
     ghost state: { Self → State };

@@ -111,7 +111,8 @@ impl<R: Net<Listener = net::TcpListener, Stream = net::TcpStream> + Eprint + Dro
     fn accept(&mut self) -> Turn
         ensures ids { Turns result 0 self.old.ids self.new.ids }
         ensures faults { self.new.faults ≡ self.old.faults }
-        ensures counts { CountsInTurn result self.old.ids.open_ids (faults_of self.old.counts) (faults_of self.new.counts) }
+        ensures counts { CountsInTurn result self.old.ids.open_ids (faults_of self.old.counts)
+            (faults_of self.new.counts) }
         ensures idle { result ≡ Turn.Idle → self.new ≡ record self.old { turned_away = self.new.turned_away } }
         ensures turned_away { TurnsAway result self.old.turned_away self.new.turned_away }
         ensures works { result ≡ Turn.Failed → ⊥ }
@@ -168,7 +169,8 @@ impl<R: Net<Listener = net::TcpListener, Stream = net::TcpStream> + Eprint + Dro
         requires { 0 < length buf.old }
         ensures ids { Turns result (length buf.new) self.old.ids self.new.ids }
         ensures faults { self.new.faults ≡ self.old.faults }
-        ensures counts { CountsInTurn result self.old.ids.open_ids (faults_of self.old.counts) (faults_of self.new.counts) }
+        ensures counts { CountsInTurn result self.old.ids.open_ids (faults_of self.old.counts)
+            (faults_of self.new.counts) }
         ensures idle { result ≡ Turn.Idle → self.new ≡ record self.old { turned_away = self.new.turned_away } }
         ensures turned_away { TurnsAway result self.old.turned_away self.new.turned_away }
         ensures works { result ≡ Turn.Failed → ⊥ }
@@ -203,7 +205,8 @@ impl<R: Net<Listener = net::TcpListener, Stream = net::TcpStream> + Eprint + Dro
         requires { 0 < length buf.old }
         ensures ids { Turns result (length buf.new) self.old.ids self.new.ids }
         ensures faults { self.new.faults ≡ self.old.faults }
-        ensures counts { CountsInTurn result self.old.ids.open_ids (faults_of self.old.counts) (faults_of self.new.counts) }
+        ensures counts { CountsInTurn result self.old.ids.open_ids (faults_of self.old.counts)
+            (faults_of self.new.counts) }
         ensures idle { result ≡ Turn.Idle → self.new ≡ record self.old { turned_away = self.new.turned_away } }
         ensures turned_away { self.old.turned_away ≤ self.new.turned_away }
         ensures works { result ≡ Turn.Failed → ⊥ }

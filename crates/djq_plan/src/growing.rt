@@ -1,8 +1,10 @@
 //! The tree as it grows.
-ghost use Rattle.std.specs.Prelude.{◌≡◌, ◌≢◌, ◌+◌, ◌-◌, ◌<◌, ◌++◌, ◌∷◌, [], length, remove, take, replicate, true, vec_len, IfOk, OnOk, MatchOption};
+ghost use Rattle.std.specs.Prelude.{◌≡◌, ◌≢◌, ◌+◌, ◌-◌, ◌<◌, ◌++◌, ◌∷◌, [], length, remove, take};
+ghost use Rattle.std.specs.Prelude.{replicate, true, vec_len, IfOk, OnOk, MatchOption};
 ghost use Rattle.djq_tree.specs.declared.choice.Choice.TheVariants as rule;
 ghost use Rattle.djq_tree.specs.Tree.{IsTree};
-ghost use Rattle.djq_tree.specs.Growing.{are_within, is_root, grown, start, marks_below, leaf_nodes, numbers_below, without_both};
+ghost use Rattle.djq_tree.specs.Growing.{are_within, is_root, grown, start, marks_below};
+ghost use Rattle.djq_tree.specs.Growing.{leaf_nodes, numbers_below, without_both};
 ghost use Rattle.djq_plan.specs.Stages.{GrowsOut, IsStageEnd, IsStuckAt, Steps};
 
 use crate::choosing::choose_step;
@@ -53,7 +55,11 @@ impl Growing {
 
     /// Puts a node with its label behind the others, without making it current.
     fn push_node(&mut self, node: Node, label: VarSet) -> Result<(), AllocError>
-        ensures { OnOk result (self.new ≡ record self.old { nodes = self.old.nodes ++ node ∷ []; labels = self.old.labels ++ label ∷ [] }) }
+        ensures { OnOk result (self.new ≡ record self.old {
+          nodes = self.old.nodes ++ node
+              ∷ [];
+          labels = self.old.labels ++ label ∷ [];
+        }) }
     {
         self.nodes.push(node)?;
         self.labels.push(label)?;
@@ -139,7 +145,8 @@ impl Growing {
     /// Runs the second stage and says, where it comes to its end, which nodes are in `out`: those
     /// that were current as it began, and all later ones.
     pub(crate) fn grow_out(&mut self, alloc: Global) -> Result<Option<Vec<bool>>, AllocError>
-        ensures { IfOk result (λ out. MatchOption out (IsStuckAt is_root [] self.old self.new) (λ out. GrowsOut self.old self.new out.items)) }
+        ensures { IfOk result (λ out. MatchOption out (IsStuckAt is_root [] self.old self.new)
+            (λ out. GrowsOut self.old self.new out.items)) }
     {
         let mut out = self.marks(alloc)?;
         if !self.run_second()? {
@@ -169,8 +176,22 @@ impl Growing {
         leaves: usize,
         second_stage: usize,
     ) -> Tree
-        requires { IsTree (record { nodes = self.nodes; labels = self.labels; out = out.items; head = head; leaves = leaves; second_stage = second_stage }) }
-        ensures { result ≡ record { nodes = self.nodes; labels = self.labels; out = out.items; head = head; leaves = leaves; second_stage = second_stage } }
+        requires { IsTree (record {
+          nodes = self.nodes;
+          labels = self.labels;
+          out = out.items;
+          head = head;
+          leaves = leaves;
+          second_stage = second_stage;
+        }) }
+        ensures { result ≡ record {
+          nodes = self.nodes;
+          labels = self.labels;
+          out = out.items;
+          head = head;
+          leaves = leaves;
+          second_stage = second_stage;
+        } }
     {
         let Growing {
             nodes,

@@ -5,7 +5,7 @@ use Rattle.std.proofs.Common.{inl, inr, length-take-le, take-append-drop, mul-le
 use Rattle.std.proofs.lemmas.Bool.{cases_eq}
 use Rattle.std.proofs.lemmas.List.{take_more, take-take}
 use Rattle.djq_index.specs.Tuple.{same, one}
-use Rattle.djq_index.specs.Entries.{Entry, cnt}
+use Rattle.djq_index.specs.Entries.{Entry, count_of}
 use Rattle.djq_index.specs.Table.{Table}
 use Rattle.djq_index.proofs.Apart.{stands}
 use Rattle.djq_index.proofs.Counts.{cnt_middle}
@@ -51,7 +51,7 @@ pub read_as : (us : List (List ℕ)) (i : ℕ) (u v : List ℕ) → v ≡ u → 
 read_as us i u v e h = subst (λ (w : List ℕ). w ≡ slice_index_or us i w) (sym e) h
 
 -- so many tuples more, so much longer
-pub longer_by : (us : List (List ℕ)) (es fs : List Entry) → ((v : List ℕ) → cnt fs v ≡ cnt es v + times us v)
+pub longer_by : (us : List (List ℕ)) (es fs : List Entry) → ((v : List ℕ) → count_of fs v ≡ count_of es v + times us v)
     → length fs ≡ length es + length us
 unfolding times
 longer_by [] es fs h = omega (arith, length_even fs es (λ v. omega (arith, h v)))
@@ -61,7 +61,7 @@ longer_by (u ∷ us) es fs h =
     (λ v. omega (
       arith,
       h v,
-      ap (λ (xs : List Entry). cnt xs v) s.is,
+      ap (λ (xs : List Entry). count_of xs v) s.is,
       cnt_middle s.front s.entry s.back v,
       ap
           (λ (w : List ℕ). one (same w v)) s.tuple,
@@ -87,7 +87,7 @@ come_more t old mid new a i us u h less e x l = record {
     times_next us i u v less,
     ap (λ (w : List ℕ). one (same w v)) e,
   );
-  others = λ j v low apart. ap (λ (es : List Entry). cnt es v)
+  others = λ j v low apart. ap (λ (es : List Entry). count_of es v)
       (l.below j (leaf_below t a j x.sound.family.is_tree low apart)) ∙ x.others j v low apart;
 }
 
@@ -107,7 +107,7 @@ next_there us i u less e = omega
 
 pub next_absent : (t : Tree) (old mid : List Table) (a i w : ℕ) (us : List (List ℕ)) (u : List ℕ)
     → AreNew w (entries_at old a) us → HaveCome t old mid a (take i us) → i < length us → u ≡ slice_index_or us i u
-    → cnt (entries_at mid a) u ≡ 0
+    → count_of (entries_at mid a) u ≡ 0
 next_absent t old mid a i w us u n x less e =
     let there = next_there us i u less e in
     omega (arith, x.leaf u, n.differ u, n.absent u (omega arith))
@@ -159,7 +159,7 @@ gone_more t old mid new a i us u h less e x d = record {
         less,
     ap (λ (w : List ℕ). one (same w v)) e,
   );
-  others = λ j v low apart. ap (λ (es : List Entry). cnt es v)
+  others = λ j v low apart. ap (λ (es : List Entry). count_of es v)
       (d.below j (leaf_below t a j x.sound.family.is_tree low apart)) ∙ x.others j v low apart;
 }
 
@@ -170,7 +170,7 @@ first_less us i n v less = omega
 
 pub next_held : (t : Tree) (old mid : List Table) (a i n : ℕ) (us : List (List ℕ)) (u : List ℕ)
     → AreThere (entries_at old a) (take n us) → HaveGone t old mid a (take i us) → i < n → n ≤ length us → u
-    ≡ slice_index_or us i u → 0 < cnt (entries_at mid a) u
+    ≡ slice_index_or us i u → 0 < count_of (entries_at mid a) u
 next_held t old mid a i n us u h x less long e =
     omega (
       arith,
@@ -194,7 +194,7 @@ pub come_back : (t : Tree) (old mid new : List Table) (a : ℕ) (us : List (List
 come_back t old mid new a us r x y = one_family (both t old) (both t new) r y.sound (record {
   same_tree = refl;
   same = λ j u low. elim (cases_eq j a) [
-    | inl here ↦ subst (λ (z : ℕ). cnt (entries_at new z) u ≡ cnt (entries_at old z) u) (sym here)
+    | inl here ↦ subst (λ (z : ℕ). count_of (entries_at new z) u ≡ count_of (entries_at old z) u) (sym here)
         (omega (arith, x.leaf u, y.leaf u))
     | inr apart ↦ y.others j u low apart ∙ x.others j u low apart
   ];

@@ -6,7 +6,7 @@ use Rattle.std.proofs.lemmas.List.{get_or_past}
 use Rattle.std.proofs.Math.Bool.{or-true}
 use Rattle.std.specs.Prelude.{◌==◌}
 use Rattle.djq_index.specs.Tuple.{pick}
-use Rattle.djq_index.specs.Entries.{Entry, supp, cnt, many}
+use Rattle.djq_index.specs.Entries.{Entry, supports_of, count_of, group_size}
 use Rattle.djq_index.specs.Table.{Table, AreApart}
 use Rattle.djq_index.proofs.Groups.{cnt_same, many_even}
 use Rattle.djq_index.proofs.Apart.{cnt_once}
@@ -23,7 +23,7 @@ use Rattle.djq_propagate.specs.Walks.{Changed, Ready, ChangedOnlyAt, ReducedAbov
 pub apart_of : (t : Tree) (ts : List Table) → IsFamily t ts → (k : ℕ) → AreApart (entries_at ts k)
 apart_of t ts f k = apart_at ts k (f.sound k)
 
-pub once : (t : Tree) (ts : List Table) → IsFamily t ts → (k : ℕ) (u : List ℕ) → cnt (entries_at ts k) u ≤ 1
+pub once : (t : Tree) (ts : List Table) → IsFamily t ts → (k : ℕ) (u : List ℕ) → count_of (entries_at ts k) u ≤ 1
 once t ts f k u = cnt_once (entries_at ts k) u (apart_of t ts f k)
 
 key_past : (ts : List Table) (k : ℕ) → length ts ≤ k → key_at ts k ≡ []
@@ -40,8 +40,9 @@ same_keys t ts us f g k =
 
 -- the same supports are the same tuples
 pub tuples_same : (t : Tree) (ts us : List Table) → IsFamily t ts → IsFamily t us → (k : ℕ)
-    → ((v : List ℕ) → supp (entries_at us k) v ≡ supp (entries_at ts k) v) → (v : List ℕ) → cnt (entries_at us k) v
-    ≡ cnt (entries_at ts k) v
+    → ((v : List ℕ) → supports_of (entries_at us k) v ≡ supports_of (entries_at ts k) v) → (v : List ℕ)
+    → count_of (entries_at us k) v
+    ≡ count_of (entries_at ts k) v
 tuples_same t ts us f g k h = cnt_same (entries_at us k) (entries_at ts k) (apart_of t us g k) (apart_of t ts f k)
     (g.supported k) (f.supported k) h
 
@@ -56,24 +57,24 @@ side_has g s = rw (eq-eqb s s refl) (or-true (g == s))
 
 -- a node's equation goes on holding where its supports and its children's tuples stay
 pub reduct_keeps : (n : Node) (old new : List Table) (k : ℕ) → IsReductOf n old k
-    → ((v : List ℕ) → supp (entries_at new k) v ≡ supp (entries_at old k) v)
-    → ((v : List ℕ) → cnt (entries_at new k) v ≡ cnt (entries_at old k) v)
-    → ((c : ℕ) → has_child n c ≡ true → (v : List ℕ) → cnt (entries_at new c) v ≡ cnt (entries_at old c) v)
+    → ((v : List ℕ) → supports_of (entries_at new k) v ≡ supports_of (entries_at old k) v)
+    → ((v : List ℕ) → count_of (entries_at new k) v ≡ count_of (entries_at old k) v)
+    → ((c : ℕ) → has_child n c ≡ true → (v : List ℕ) → count_of (entries_at new c) v ≡ count_of (entries_at old c) v)
     → ((c : ℕ) → key_at new c ≡ key_at old c) → IsReductOf n new k
 unfolding IsReductOf
 reduct_keeps (Leaf a) old new k h s own kids keys = λ w. s w ∙ h w ∙ sym (own w)
 reduct_keeps (Trim c) old new k h s own kids keys = λ w.
-    s w ∙ h w ∙ ap (λ (ks : List ℕ). many ks (entries_at old c) w) (sym (keys c))
+    s w ∙ h w ∙ ap (λ (ks : List ℕ). group_size ks (entries_at old c) w) (sym (keys c))
     ∙ sym (many_even (key_at new c) (entries_at new c) (entries_at old c) (kids c (trim_has c)) w)
 reduct_keeps (Meet g d) old new k h s own kids keys = λ w.
     s w ∙ h w
     ∙ ap₂ (λ (a b : ℕ). a * b) (sym (kids g (guard_has g d) w))
-    (ap (λ (ks : List ℕ). cnt (entries_at old d) (pick ks w)) (sym (keys g))
+    (ap (λ (ks : List ℕ). count_of (entries_at old d) (pick ks w)) (sym (keys g))
     ∙ sym (kids d (side_has g d) (pick (key_at new g) w)))
 
 -- so do all of them where no supports change
 pub reduced_same : (t : Tree) (ts us : List Table) (from : ℕ) → IsFamily t ts → IsFamily t us
-    → ((i : ℕ) (v : List ℕ) → supp (entries_at us i) v ≡ supp (entries_at ts i) v) → AreReduced t ts from
+    → ((i : ℕ) (v : List ℕ) → supports_of (entries_at us i) v ≡ supports_of (entries_at ts i) v) → AreReduced t ts from
     → AreReduced t us from
 reduced_same t ts us from f g h r = record {
   at = λ k low within.
@@ -85,34 +86,35 @@ reduced_same t ts us from f g h r = record {
 agree_node : (t : Tree) (ts us : List Table) (from k : ℕ) (n : Node) → IsFamily t ts → IsFamily t us → t.leaves ≤ from
     → node_at t.nodes k ≡ n → from ≤ k → k < length t.nodes
     → IsReductOf n ts k → IsReductOf n us k
-    → ((i : ℕ) → i < k → (v : List ℕ) → cnt (entries_at us i) v ≡ cnt (entries_at ts i) v) → (v : List ℕ)
-    → supp (entries_at us k) v ≡ supp (entries_at ts k) v
+    → ((i : ℕ) → i < k → (v : List ℕ) → count_of (entries_at us i) v ≡ count_of (entries_at ts i) v) → (v : List ℕ)
+    → supports_of (entries_at us k) v ≡ supports_of (entries_at ts k) v
 unfolding IsReductOf
 agree_node t ts us from k (Leaf a) f g high e low within ha hb below v = absurd
     (let leaf = f.is_tree.inner k a within e in omega arith)
 agree_node t ts us from k (Trim c) f g high e low within ha hb below v =
-    hb v ∙ ap (λ (ks : List ℕ). many ks (entries_at us c) v) (same_keys t ts us f g c)
+    hb v ∙ ap (λ (ks : List ℕ). group_size ks (entries_at us c) v) (same_keys t ts us f g c)
     ∙ many_even (key_at ts c) (entries_at us c) (entries_at ts c) (below c (f.is_tree.trim k c e).lower) v
     ∙ sym (ha v)
 agree_node t ts us from k (Meet c d) f g high e low within ha hb below v =
     let m = f.is_tree.meet k c d e in
     hb v
     ∙ ap₂ (λ (a b : ℕ). a * b) (below c m.guard_lower v)
-    (ap (λ (ks : List ℕ). cnt (entries_at us d) (pick ks v)) (same_keys t ts us f g c)
+    (ap (λ (ks : List ℕ). count_of (entries_at us d) (pick ks v)) (same_keys t ts us f g c)
     ∙ below d m.side_lower (pick (key_at ts c) v))
     ∙ sym (ha v)
 
 past_agree : (t : Tree) (ts us : List Table) → IsFamily t ts → IsFamily t us → (k : ℕ) → length t.nodes ≤ k
-    → (v : List ℕ) → supp (entries_at us k) v ≡ supp (entries_at ts k) v
+    → (v : List ℕ) → supports_of (entries_at us k) v ≡ supports_of (entries_at ts k) v
 past_agree t ts us f g k past v =
     let a = f.long in
     let b = g.long in
-    ap (λ (es : List Entry). supp es v) (entries_past us k (omega arith) ∙ sym (entries_past ts k (omega arith)))
+    ap (λ (es : List Entry). supports_of es v) (entries_past us k (omega arith) ∙ sym (entries_past ts k (omega arith)))
 
 pub agree_from : (t : Tree) (ts us : List Table) (from : ℕ) → IsFamily t ts → IsFamily t us → t.leaves ≤ from
     → AreReduced t ts from → AreReduced t us from
-    → ((i : ℕ) → i < from → (v : List ℕ) → supp (entries_at us i) v ≡ supp (entries_at ts i) v) → (n k : ℕ) → k < n
-    → (v : List ℕ) → supp (entries_at us k) v ≡ supp (entries_at ts k) v
+    → ((i : ℕ) → i < from → (v : List ℕ) → supports_of (entries_at us i) v ≡ supports_of (entries_at ts i) v)
+    → (n k : ℕ) → k < n
+    → (v : List ℕ) → supports_of (entries_at us k) v ≡ supports_of (entries_at ts k) v
 agree_from t ts us from f g high ra rb low zero k under v = absurd (omega arith)
 agree_from t ts us from f g high ra rb low (suc n) k under v =
     elim (cases_lt k from) [
@@ -142,18 +144,18 @@ other_child t k n j i c s u apart child same = apart
 -- the equations of the nodes other than j and its parent don't read the table of j
 pub apart_keeps : (t : Tree) (was now new : List Table) (j k : ℕ) (n : Node) (i : ℕ) → ChangedOnlyAt t was now j
     → IsUnder t k n j → IsFamily t new → i ≢ k → i ≢ j → j < i → i < length t.nodes
-    → ((v : List ℕ) → supp (entries_at new i) v ≡ supp (entries_at now i) v)
-    → ((v : List ℕ) → cnt (entries_at new i) v ≡ cnt (entries_at now i) v)
-    → ((c : ℕ) → c < i → c ≢ j → (v : List ℕ) → cnt (entries_at new c) v ≡ cnt (entries_at now c) v)
+    → ((v : List ℕ) → supports_of (entries_at new i) v ≡ supports_of (entries_at now i) v)
+    → ((v : List ℕ) → count_of (entries_at new i) v ≡ count_of (entries_at now i) v)
+    → ((c : ℕ) → c < i → c ≢ j → (v : List ℕ) → count_of (entries_at new c) v ≡ count_of (entries_at now c) v)
     → IsReductOf (node_at t.nodes i) new i
 apart_keeps t was now new j k n i b u f not_k not_j above within s own kids =
     let tree = b.ready.family.is_tree in
     let same : entries_at now i ≡ entries_at was i = b.changed.others i not_j in
     reduct_keeps (node_at t.nodes i) was new i (b.ready.reduced.at i (omega arith) within)
-    (λ v. s v ∙ ap (λ (es : List Entry). supp es v) same)
-    (λ v. own v ∙ ap (λ (es : List Entry). cnt es v) same)
+    (λ v. s v ∙ ap (λ (es : List Entry). supports_of es v) same)
+    (λ v. own v ∙ ap (λ (es : List Entry). count_of es v) same)
     (λ c child v. let other = other_child t k n j i c tree u not_k child in kids c (rising_of t tree i c child) other v
-    ∙ ap (λ (es : List Entry). cnt es v) (b.changed.others c other))
+    ∙ ap (λ (es : List Entry). count_of es v) (b.changed.others c other))
     (same_keys t was new b.ready.family f)
 
 pub now_family : (t : Tree) (was now : List Table) (j : ℕ) → ChangedOnlyAt t was now j → IsFamily t now
@@ -175,8 +177,9 @@ ready_up t was now j k n b u =
     }
 
 -- where the parent's tuples stay, so do the equations above it
-pub above_same : (t : Tree) (was now new : List Table) (j k : ℕ) (n : Node) → ChangedOnlyAt t was now j → IsUnder t k n j
-    → Changed now new k → ((v : List ℕ) → cnt (entries_at new k) v ≡ cnt (entries_at now k) v)
+pub above_same : (t : Tree) (was now new : List Table) (j k : ℕ) (n : Node) → ChangedOnlyAt t was now j
+    → IsUnder t k n j
+    → Changed now new k → ((v : List ℕ) → count_of (entries_at new k) v ≡ count_of (entries_at now k) v)
     → AreReduced t new (k + 1)
 above_same t was now new j k n b u c same =
     let low = lower_of t k n j b.ready.family.is_tree u in
@@ -184,11 +187,12 @@ above_same t was now new j k n b u c same =
       at = λ i from within.
           apart_keeps t was now new j k n i b u (c.family t (now_family t was now j b)) (omega arith) (omega arith)
           (omega arith) within
-          (λ v. ap (λ (es : List Entry). supp es v) (c.others i (omega arith)))
-          (λ v. ap (λ (es : List Entry). cnt es v) (c.others i (omega arith)))
+          (λ v. ap (λ (es : List Entry). supports_of es v) (c.others i (omega arith)))
+          (λ v. ap (λ (es : List Entry). count_of es v) (c.others i (omega arith)))
           (λ d less other v. elim (cases_eq d k) [
-            | inl here ↦ subst (λ (x : ℕ). cnt (entries_at new x) v ≡ cnt (entries_at now x) v) (sym here) (same v)
-            | inr apart ↦ ap (λ (es : List Entry). cnt es v) (c.others d apart)
+            | inl here ↦ subst (λ (x : ℕ). count_of (entries_at new x) v ≡ count_of (entries_at now x) v) (sym here)
+                (same v)
+            | inr apart ↦ ap (λ (es : List Entry). count_of es v) (c.others d apart)
           ]);
     }
 
@@ -205,9 +209,9 @@ righted t was now new j k n b u f low here above =
       reduced = record {
         at = λ i from within. elim (cases_lt i k) [
           | inl less ↦ apart_keeps t was now new j k n i b u f (omega arith) (omega arith) (omega arith) within
-              (λ v. ap (λ (es : List Entry). supp es v) (low i less))
-              (λ v. ap (λ (es : List Entry). cnt es v) (low i less))
-              (λ c under other v. ap (λ (es : List Entry). cnt es v) (low c (omega arith)))
+              (λ v. ap (λ (es : List Entry). supports_of es v) (low i less))
+              (λ v. ap (λ (es : List Entry). count_of es v) (low i less))
+              (λ c under other v. ap (λ (es : List Entry). count_of es v) (low c (omega arith)))
           | inr rest ↦ elim (cases_eq i k) [
             | inl same ↦ subst (λ (x : ℕ). IsReductOf (node_at t.nodes x) new x) (sym same)
                 (subst (λ (m : Node). IsReductOf m new k) (sym u.node) here)

@@ -4,7 +4,7 @@ use Rattle.std.proofs.Common.{refl, ap, subst, sym, ◌∙◌, arith, inl, inr}
 use Rattle.std.specs.Prelude.{◌==◌}
 use Rattle.std.proofs.lemmas.Bool.{cases_eq, cases_lt, cases_Bool}
 use Rattle.djq_index.specs.Tuple.{same, pick, one}
-use Rattle.djq_index.specs.Entries.{Entry, cnt, many, marks, unmarked}
+use Rattle.djq_index.specs.Entries.{Entry, count_of, group_size, marks, unmarked}
 use Rattle.djq_index.specs.Table.{Table}
 use Rattle.djq_index.proofs.Tuples.{same_cases, same_is, true_from_one, one_same, one_other}
 use Rattle.djq_index.proofs.Counts.{cnt_cons, cnt_split}
@@ -31,7 +31,8 @@ use Rattle.djq_propagate.proofs.Updating.{both, reducts_lived, leaf_below}
 
 -- ---- lists of one tuple at most
 
-few_same : (es : List Entry) → ((v : List ℕ) → cnt es v ≤ 1) → ((u v : List ℕ) → 0 < cnt es u → 0 < cnt es v → u ≡ v)
+few_same : (es : List Entry) → ((v : List ℕ) → count_of es v ≤ 1) → ((u v : List ℕ) → 0 < count_of es u
+    → 0 < count_of es v → u ≡ v)
     → length es ≤ 1
 few_same [] most h = omega arith
 few_same (e ∷ []) most h = omega arith
@@ -44,33 +45,35 @@ few_same (e ∷ f ∷ es) most h =
     let m = most e.tuple in
     absurd (omega arith)
 
-lone : (es : List Entry) (u v : List ℕ) → length es ≤ 1 → 0 < cnt es u → 0 < cnt es v → u ≡ v
-unfolding cnt
+lone : (es : List Entry) (u v : List ℕ) → length es ≤ 1 → 0 < count_of es u → 0 < count_of es v → u ≡ v
+unfolding count_of
 lone [] u v few a b = absurd (omega arith)
 lone (e ∷ []) u v few a b = sym (same_is e.tuple u (true_from_one (same e.tuple u) (omega arith)))
     ∙ same_is e.tuple v (true_from_one (same e.tuple v) (omega arith))
 lone (e ∷ f ∷ es) u v few a b = absurd (omega arith)
 
-lone_many : (ks : List ℕ) (es : List Entry) (u v : List ℕ) → length es ≤ 1 → 0 < many ks es u → 0 < many ks es v → u ≡ v
-unfolding many
+lone_many : (ks : List ℕ) (es : List Entry) (u v : List ℕ) → length es ≤ 1 → 0 < group_size ks es u
+    → 0 < group_size ks es v → u ≡ v
+unfolding group_size
 lone_many ks [] u v few a b = absurd (omega arith)
 lone_many ks (e ∷ []) u v few a b = sym
     (same_is (pick ks e.tuple) u (true_from_one (same (pick ks e.tuple) u) (omega arith)))
     ∙ same_is (pick ks e.tuple) v (true_from_one (same (pick ks e.tuple) v) (omega arith))
 lone_many ks (e ∷ f ∷ es) u v few a b = absurd (omega arith)
 
-cnt_nothing : (v : List ℕ) → cnt [] v ≡ 0
-unfolding cnt
+cnt_nothing : (v : List ℕ) → count_of [] v ≡ 0
+unfolding count_of
 cnt_nothing v = refl
 
-few_less : (es fs : List Entry) → ((v : List ℕ) → cnt es v ≤ cnt fs v) → length fs ≤ 1 → length es ≤ 1
+few_less : (es fs : List Entry) → ((v : List ℕ) → count_of es v ≤ count_of fs v) → length fs ≤ 1 → length es ≤ 1
 few_less es fs h few = omega (arith, length_less es fs h)
 
-few_none : (es : List Entry) → ((v : List ℕ) → cnt es v ≡ 0) → length es ≤ 1
+few_none : (es : List Entry) → ((v : List ℕ) → count_of es v ≡ 0) → length es ≤ 1
 few_none [] h = omega arith
 few_none (e ∷ es) h = absurd (omega (arith, h e.tuple, cnt_cons e es e.tuple, one_same e.tuple))
 
-marks_once : (t : Tree) (ts : List Table) (k : ℕ) → IsFamily t ts → (v : List ℕ) → cnt (marks (entries_at ts k)) v ≤ 1
+marks_once : (t : Tree) (ts : List Table) (k : ℕ) → IsFamily t ts → (v : List ℕ) → count_of (marks (entries_at ts k))
+    v ≤ 1
 marks_once t ts k f v = omega (arith, once t ts f k v, cnt_split (entries_at ts k) v)
 
 -- ---- where marks begin
@@ -103,19 +106,19 @@ pub few_lived : (t : Tree) (old new : List Table) (a : ℕ) (u : List ℕ) → H
 few_lived t old new a u meets r leaf bare l p =
     let s = reducts_lived t old new a u r leaf l in
     let one_at = one_more t old new a meets r s
-    (λ j v low apart. ap (λ (es : List Entry). cnt es v) (l.below j (leaf_below t a j r.family.is_tree low apart)))
+    (λ j v low apart. ap (λ (es : List Entry). count_of es v) (l.below j (leaf_below t a j r.family.is_tree low apart)))
     (one_lived t old new a u l) in
     record {
       each = λ i.
-          let only : (v : List ℕ) → 0 < cnt (marks (entries_at new i)) v → v ≡ (one_at i).tuple =
+          let only : (v : List ℕ) → 0 < count_of (marks (entries_at new i)) v → v ≡ (one_at i).tuple =
           λ v some.
           let none = new_count i v s some in
           (one_at i).only v (omega (arith, cnt_split (entries_at new i) v)) none in
           few_same (marks (entries_at new i)) (marks_once t new i l.family) (λ v w x y. only v x ∙ sym (only w y));
     }
   where
-    new_count : (i : ℕ) (v : List ℕ) → IsReducts (both t new) → 0 < cnt (marks (entries_at new i)) v
-        → cnt (entries_at old i) v ≡ 0
+    new_count : (i : ℕ) (v : List ℕ) → IsReducts (both t new) → 0 < count_of (marks (entries_at new i)) v
+        → count_of (entries_at old i) v ≡ 0
     new_count i v s some = omega (
       arith,
       once t new s.family i v,
@@ -130,13 +133,13 @@ pub few_marked : (t : Tree) (old new : List Table) (a : ℕ) (u : List ℕ) → 
 few_marked t old new a u bare x = record {
   each = λ i. elim (cases_eq i a) [
     | inl here ↦
-        let only : (v : List ℕ) → 0 < cnt (marks (entries_at new a)) v → u ≡ v =
+        let only : (v : List ℕ) → 0 < count_of (marks (entries_at new a)) v → u ≡ v =
         λ v some. let o = x.only v some in let b = bare.none a v in same_is u v (true_from_one (same u v) (omega arith))
         in
         subst (λ (k : ℕ). length (marks (entries_at new k)) ≤ 1) (sym here)
         (few_same (marks (entries_at new a)) (marks_once t new a x.family) (λ v w p q. sym (only v p) ∙ only w q))
     | inr apart ↦ few_none (marks (entries_at new i))
-        (λ v. ap (λ (es : List Entry). cnt (marks es) v) (x.others i apart) ∙ bare.none i v)
+        (λ v. ap (λ (es : List Entry). count_of (marks es) v) (x.others i apart) ∙ bare.none i v)
   ];
 }
 
@@ -151,15 +154,15 @@ agree_lone (Leaf a) j ts es u v few whole p q = absurd (omega arith)
 agree_lone (Trim c) j ts es u v few whole p q = lone_many (key_at ts c) es u v few p q
 agree_lone (Meet g d) j ts es u v few whole p q = by_side (g == j) p q
   where
-    by_side : (b : Bool) → 0 < cond b (cnt es u) (cnt es (pick (key_at ts g) u))
-        → 0 < cond b (cnt es v) (cnt es (pick (key_at ts g) v)) → u ≡ v
+    by_side : (b : Bool) → 0 < cond b (count_of es u) (count_of es (pick (key_at ts g) u))
+        → 0 < cond b (count_of es v) (count_of es (pick (key_at ts g) v)) → u ≡ v
     by_side true x y = lone es u v few x y
     by_side false x y = let w = whole g d refl in sym w.0
         ∙ lone es (pick (key_at ts g) u) (pick (key_at ts g) v) few x y ∙ w.1
 
 few_touched : (t : Tree) (mid new : List Table) (j k : ℕ) (f : List ℕ → ℕ) → HasEqualMeets t → IsFamily t mid
     → k < length t.nodes → IsReductOf (node_at t.nodes k) mid k → IsTouched t mid new k f
-    → ((w : List ℕ) → 0 < cnt (marks (entries_at new k)) w
+    → ((w : List ℕ) → 0 < count_of (marks (entries_at new k)) w
     → 0 < agreeing (node_at t.nodes k) j mid (marks (entries_at mid j)) w) → HaveFew mid → HaveFew new
 few_touched t mid new j k f meets family within law x agrees few = record {
   each = λ i. elim (cases_eq i k) [
@@ -172,10 +175,10 @@ few_touched t mid new j k f meets family within law x agrees few = record {
   ];
 }
   where
-    whole : (w : List ℕ) (g d : ℕ) → node_at t.nodes k ≡ Meet g d → 0 < cnt (marks (entries_at new k)) w
+    whole : (w : List ℕ) (g d : ℕ) → node_at t.nodes k ≡ Meet g d → 0 < count_of (marks (entries_at new k)) w
         → pick (key_at mid g) w ≡ w
     whole w g d e some =
-        let was : 0 < cnt (entries_at mid k) w = omega
+        let was : 0 < count_of (entries_at mid k) w = omega
         (arith, cnt_split (entries_at new k) w, tuples_same t mid new family x.family k x.supports w) in
         whole_key t mid k g d w meets family e within
         (guard_some (node_at t.nodes k) mid k w law (cnt_supp (entries_at mid k) w (family.supported k) was) g d e)
@@ -209,7 +212,7 @@ few_more t old mid new a k j removal meets f leaf can within up x at above below
             let c = covered_mid t old mid a k j removal f up x can at child high in
             few_touched t mid new j k (λ v. reach (node_at t.nodes k) false j mid (marks (entries_at mid j)) v) meets
             up.family within law y
-            (λ w some. elim (cases_lt 0 (cnt (marks (entries_at mid k)) w)) [
+            (λ w some. elim (cases_lt 0 (count_of (marks (entries_at mid k)) w)) [
               | inl before ↦ c.each w before
               | inr new_one ↦ reach_agrees (node_at t.nodes k) false j mid (marks (entries_at mid j)) w
                   (let o = y.only w some in omega arith)
@@ -221,7 +224,7 @@ few_more t old mid new a k j removal meets f leaf can within up x at above below
     law = (reduced_same t old mid 0 f up.family up.supports can.reduced).at k (omega arith) within
 
 -- what it counts
-few_groups : (ks : List ℕ) (gs es : List Entry) → ((u : List ℕ) → many ks gs u ≤ 1) → length es ≤ 1
+few_groups : (ks : List ℕ) (gs es : List Entry) → ((u : List ℕ) → group_size ks gs u ≤ 1) → length es ≤ 1
     → groups ks gs es ≤ 1
 unfolding groups
 few_groups ks gs [] h few = omega arith
@@ -282,20 +285,21 @@ pub one_taken : (t : Tree) (old new : List Table) (a : ℕ) → HasTaken (both t
     → OneMore (entries_at new a) (entries_at old a)
 one_taken t old new a x few = from_marks (marks (entries_at old a)) refl
   where
-    marked : (v : List ℕ) → 0 < cnt (entries_at old a) v → cnt (entries_at new a) v ≡ 0
-        → 0 < cnt (marks (entries_at old a)) v
+    marked : (v : List ℕ) → 0 < count_of (entries_at old a) v → count_of (entries_at new a) v ≡ 0
+        → 0 < count_of (marks (entries_at old a)) v
     marked v some none = omega (arith, x.without.leaf v, cnt_split (entries_at old a) v)
 
     from_marks : (es : List Entry) → marks (entries_at old a) ≡ es → OneMore (entries_at new a) (entries_at old a)
     from_marks [] e = record {
       tuple = [];
       only = λ v some none. absurd
-          (let m = marked v some none in let z = ap (λ (xs : List Entry). cnt xs v) e in omega (arith, cnt_nothing v));
+          (let m = marked v some none in let z = ap (λ (xs : List Entry). count_of xs v) e in omega
+          (arith, cnt_nothing v));
     }
     from_marks (m ∷ es) e = record {
       tuple = m.tuple;
       only = λ v some none.
           lone (marks (entries_at old a)) v m.tuple (few.each a) (marked v some none)
-          (let z = ap (λ (xs : List Entry). cnt xs m.tuple) e in omega
+          (let z = ap (λ (xs : List Entry). count_of xs m.tuple) e in omega
           (arith, cnt_cons m es m.tuple, one_same m.tuple));
     }

@@ -6,7 +6,7 @@ use Rattle.std.specs.Prelude.{nat_lt, ◌||◌, ◌==◌, Result, Ok, Err, OnErr
 use Rattle.std.proofs.lemmas.Bool.{cases_eq, cases_Bool, ltb-true, ltb-false, eqb-true, eq-eqb, ne_eqb, false≢true}
 use Rattle.djq_index.specs.declared.place.Place.{Place}
 use Rattle.djq_index.specs.Tuple.{same, pick}
-use Rattle.djq_index.specs.Entries.{Entry, supp, cnt, grp, marks, head_at}
+use Rattle.djq_index.specs.Entries.{Entry, supports_of, count_of, group_of, marks, head_at}
 use Rattle.djq_index.specs.Table.{Table, IsAt, IsLive}
 use Rattle.djq_index.proofs.Groups.{grp_yes, grp_no}
 use Rattle.djq_index.proofs.Marks.{marks_yes, marks_no}
@@ -125,17 +125,18 @@ first_at x es zs [] e ys rest h =
     }
 first_at x es zs (f ∷ fs) e ys rest h = let k : zs ≡ fs ++ e ∷ ys = cc in further x es e.at e.tuple (rest fs k)
 
-no_group : (key : List ℕ) (w : List ℕ) (xs : List Entry) (e : Entry) (ys : List Entry) → grp key [] w ≡ xs ++ e ∷ ys → ⊥
-unfolding grp
+no_group : (key : List ℕ) (w : List ℕ) (xs : List Entry) (e : Entry) (ys : List Entry) → group_of key [] w ≡ xs ++ e
+    ∷ ys → ⊥
+unfolding group_of
 no_group key w [] e ys h = cc
 no_group key w (x ∷ xs) e ys h = cc
 
 pub group_at : (key : List ℕ) (es : List Entry) (w : List ℕ) (xs : List Entry) (e : Entry) (ys : List Entry)
-    → grp key es w ≡ xs ++ e ∷ ys → IsAt es e.at e.tuple
+    → group_of key es w ≡ xs ++ e ∷ ys → IsAt es e.at e.tuple
 group_at key [] w xs e ys h = absurd (no_group key w xs e ys h)
 group_at key (x ∷ es) w xs e ys h =
     elim (cases_Bool (same (pick key x.tuple) w)) [
-      | inl here ↦ first_at x es (grp key es w) xs e ys (λ fs k. group_at key es w fs e ys k)
+      | inl here ↦ first_at x es (group_of key es w) xs e ys (λ fs k. group_at key es w fs e ys k)
           (sym (grp_yes key x es w here) ∙ h)
       | inr other ↦ further x es e.at e.tuple (group_at key es w xs e ys (sym (grp_no key x es w other) ∙ h))
     ]
@@ -159,10 +160,10 @@ pub cut_of : (g : List Entry) (i : ℕ) (o : Option Place) (p : Place) → o ≡
     → WalkCut g i p
 cut_of g i o p next is = walk_cut g i p (sym next ∙ is)
 
-pub cut_at : (ks : List ℕ) (es : List Entry) (w : List ℕ) (i : ℕ) (p : Place) (k : WalkCut (grp ks es w) i p)
+pub cut_at : (ks : List ℕ) (es : List Entry) (w : List ℕ) (i : ℕ) (p : Place) (k : WalkCut (group_of ks es w) i p)
     → IsAt es p k.entry.tuple
 cut_at ks es w i p k = subst (λ (q : Place). IsAt es q k.entry.tuple) k.at
-    (group_at ks es w (take i (grp ks es w)) k.entry (drop (i + 1) (grp ks es w)) k.is)
+    (group_at ks es w (take i (group_of ks es w)) k.entry (drop (i + 1) (group_of ks es w)) k.is)
 
 pub as_live : (es : List Entry) (p : Place) (u : List ℕ) → IsAt es p u → IsLive es p
 as_live es p u a = record { tuple = u; is_at = a }
@@ -172,8 +173,8 @@ moved_at es ds p u e a = subst (λ (fs : List Entry). IsAt fs p u) (sym e) a
 
 -- the group stands still while the meet changes
 pub group_still : (t : Tree) (ts us : List Table) (g : ℕ) (w : List ℕ) → IsFamily t ts → IsFamily t us → entries_at us g
-    ≡ entries_at ts g → grp (key_at us g) (entries_at us g) w ≡ grp (key_at ts g) (entries_at ts g) w
-group_still t ts us g w f h e = ap₂ (λ (ks : List ℕ) (es : List Entry). grp ks es w) (same_keys t ts us f h g) e
+    ≡ entries_at ts g → group_of (key_at us g) (entries_at us g) w ≡ group_of (key_at ts g) (entries_at ts g) w
+group_still t ts us g w f h e = ap₂ (λ (ks : List ℕ) (es : List Entry). group_of ks es w) (same_keys t ts us f h g) e
 
 -- answers of either kind
 pub on_err : {A E : Type 0} (r : Result A E) (P : Type 0) → P → OnErr r P
@@ -193,7 +194,7 @@ pub refused_none : (t : Tree) (old new : List Table) (j : ℕ) → IsFamily t ol
     ≡ entries_at old j → Refused t old new j
 refused_none t old new j f c e = record {
   family = c.family t f;
-  supports = λ i v. ap (λ (es : List Entry). supp es v) (all i);
+  supports = λ i v. ap (λ (es : List Entry). supports_of es v) (all i);
   below = λ i h. all i;
 }
   where
@@ -205,7 +206,7 @@ refused_none t old new j f c e = record {
 
 pub plain_none : {m : Bool} (old new : List Table) (j : ℕ) → Changed old new j → entries_at new j ≡ entries_at old j
     → CameAs m old new
-plain_none {m} old new j c e = record { same = λ i v. ap (λ (es : List Entry). cnt (unlike m es) v) (all i) }
+plain_none {m} old new j c e = record { same = λ i v. ap (λ (es : List Entry). count_of (unlike m es) v) (all i) }
   where
     all : (i : ℕ) → entries_at new i ≡ entries_at old i
     all i = elim (cases_eq i j) [
@@ -218,12 +219,12 @@ cons_split : (x : Entry) (es : List Entry) (e : Entry) → (xs : List Entry) × 
     → (xs : List Entry) × (ys : List Entry) × (x ∷ es ≡ xs ++ e ∷ ys)
 cons_split x es e s = (x ∷ s.0, s.1, ap (λ (zs : List Entry). x ∷ zs) s.2)
 
-pub group_split : (key : List ℕ) (es : List Entry) (w : List ℕ) (e : Entry) (rest : List Entry) → grp key es w
+pub group_split : (key : List ℕ) (es : List Entry) (w : List ℕ) (e : Entry) (rest : List Entry) → group_of key es w
     ≡ e ∷ rest → (xs : List Entry) × (ys : List Entry) × (es ≡ xs ++ e ∷ ys)
 group_split key [] w e rest h = absurd (no_group key w [] e rest h)
 group_split key (x ∷ es) w e rest h =
     elim (cases_Bool (same (pick key x.tuple) w)) [
-      | inl here ↦ (let both : x ∷ grp key es w ≡ e ∷ rest = sym (grp_yes key x es w here) ∙ h in let first : x
+      | inl here ↦ (let both : x ∷ group_of key es w ≡ e ∷ rest = sym (grp_yes key x es w here) ∙ h in let first : x
           ≡ e = cc in ([], es, ap (λ (y : Entry). y ∷ es) first))
       | inr other ↦ cons_split x es e (group_split key es w e rest (sym (grp_no key x es w other) ∙ h))
     ]

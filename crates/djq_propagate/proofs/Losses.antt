@@ -2,7 +2,7 @@
 use Rattle.std.proofs.Common.{◌≡◌, ◌≢◌, ℕ, ◌+◌, ◌-◌, ◌*◌, ◌<◌, ◌≤◌, Bool, true, false, cond, List}
 use Rattle.std.proofs.Common.{[], take, drop, refl, ap, ap₂, subst, sym, ◌∙◌, arith, inl, inr}
 use Rattle.djq_index.specs.Tuple.{same, pick, one}
-use Rattle.djq_index.specs.Entries.{Entry, supp, cnt, many, grp}
+use Rattle.djq_index.specs.Entries.{Entry, supports_of, count_of, group_size, group_of}
 use Rattle.djq_index.specs.Changes.{Removed, Supported}
 use Rattle.djq_index.specs.Table.{Table}
 use Rattle.djq_index.proofs.Tuples.{is_same, same_cases, same_sym, one_same, one_other, one_true}
@@ -22,14 +22,14 @@ use Rattle.djq_propagate.proofs.Gains.{law_of, same_up, keys_now, side_stays}
 
 -- a tuple that went was there once
 pub was_there : (t : Tree) (was now : List Table) (j : ℕ) (u : List ℕ) → ChangedOnlyAt t was now j
-    → Removed (entries_at was j) (entries_at now j) u → cnt (entries_at was j) u ≡ 1
+    → Removed (entries_at was j) (entries_at now j) u → count_of (entries_at was j) u ≡ 1
 was_there t was now j u b r = omega
     (arith, removed_cnt (entries_at was j) (entries_at now j) u r u, one_same u, once t was b.ready.family j u)
 
 trim_equation : (t : Tree) (was now new : List Table) (j k : ℕ) (u w : List ℕ) → ChangedOnlyAt t was now j
     → IsUnder t k (Trim j) j → IsFamily t new → entries_at new j ≡ entries_at now j
     → Removed (entries_at was j) (entries_at now j) u → w ≡ pick (key_at now j) u
-    → ((v : List ℕ) → supp (entries_at now k) v ≡ supp (entries_at new k) v + one (same w v))
+    → ((v : List ℕ) → supports_of (entries_at now k) v ≡ supports_of (entries_at new k) v + one (same w v))
     → IsReductOf (Trim j) new k
 unfolding IsReductOf
 trim_equation t was now new j k u w b x f stay r e loss v =
@@ -39,16 +39,18 @@ trim_equation t was now new j k u w b x f stay r e loss v =
     let here : one (same w v)
     ≡ one (same (pick (key_at was j) u) v) = ap (λ (y : List ℕ). one (same y v))
     (e ∙ ap (λ (ks : List ℕ). pick ks u) (keys_now t was now j b j)) in
-    let right : many (key_at new j) (entries_at new j) v
-    ≡ many (key_at was j) (entries_at now j) v = ap₂ (λ (ks : List ℕ) (es : List Entry). many ks es v) keys stay in
-    let up : supp (entries_at now k) v
-    ≡ supp (entries_at was k) v = ap (λ (es : List Entry). supp es v) (same_up t was now j k (Trim j) b x) in
+    let right : group_size (key_at new j) (entries_at new j) v
+    ≡ group_size (key_at was j) (entries_at now j) v = ap₂ (λ (ks : List ℕ) (es : List Entry). group_size ks es v)
+    keys stay in
+    let up : supports_of (entries_at now k) v
+    ≡ supports_of (entries_at was k) v = ap (λ (es : List Entry). supports_of es v) (same_up t was now j k (Trim j) b
+    x) in
     omega (arith, loss v)
 
 -- a trim has the projection
 pub trim_some : (t : Tree) (was now : List Table) (j k : ℕ) (u w : List ℕ) → ChangedOnlyAt t was now j
     → Removed (entries_at was j) (entries_at now j) u → IsUnder t k (Trim j) j → w ≡ pick (key_at now j) u
-    → 0 < supp (entries_at now k) w
+    → 0 < supports_of (entries_at now k) w
 trim_some t was now j k u w b r x e =
     let law = trim_law (Trim j) j was k refl (law_of t was now j k (Trim j) b x) w in
     let less = removed_many (entries_at was j) (entries_at now j) u r (key_at was j) w in
@@ -56,8 +58,9 @@ trim_some t was now j k u w b r x e =
     ≡ 1 = one_true (same (pick (key_at was j) u) w)
     (is_same (pick (key_at was j) u) w (ap (λ (ks : List ℕ). pick ks u) (sym (keys_now t was now j b j)) ∙ sym e))
     in
-    let up : supp (entries_at now k) w
-    ≡ supp (entries_at was k) w = ap (λ (es : List Entry). supp es w) (same_up t was now j k (Trim j) b x) in
+    let up : supports_of (entries_at now k) w
+    ≡ supports_of (entries_at was k) w = ap (λ (es : List Entry). supports_of es w) (same_up t was now j k (Trim j) b
+    x) in
     omega arith
 
 step_down : (b : Bool) (n : ℕ) → 0 < n → cond b n 0 ≡ cond b (n - 1) 0 + one b
@@ -68,7 +71,8 @@ step_down false n h = refl
 -- it keeps other supports
 pub trim_lowered : (t : Tree) (was now new : List Table) (j k : ℕ) (u w : List ℕ) → ChangedOnlyAt t was now j
     → Removed (entries_at was j) (entries_at now j) u → IsUnder t k (Trim j) j → Changed now new k
-    → Supported (entries_at now k) (entries_at new k) w (supp (entries_at now k) w) (supp (entries_at now k) w - 1) → w
+    → Supported (entries_at now k) (entries_at new k) w (supports_of (entries_at now k) w)
+    (supports_of (entries_at now k) w - 1) → w
     ≡ pick (key_at now j) u → ReducedAbove t now new j
 trim_lowered t was now new j k u w b r x c s e =
     let low = lower_of t k (Trim j) j b.ready.family.is_tree x in
@@ -77,16 +81,17 @@ trim_lowered t was now new j k u w b r x c s e =
     (trim_equation t was now new j k u w b x f (c.others j (omega arith)) r e
     (λ v. omega (
       arith,
-      supported_supp (entries_at now k) (entries_at new k) w (supp (entries_at now k) w)
-          (supp (entries_at now k) w - 1) s v,
-      step_down (same w v) (supp (entries_at now k) w)
+      supported_supp (entries_at now k) (entries_at new k) w (supports_of (entries_at now k) w)
+          (supports_of (entries_at now k) w - 1) s v,
+      step_down (same w v) (supports_of (entries_at now k) w)
           (trim_some t was now j k u w b r x e),
     )))
     (above_same t was now new j k (Trim j) b x c
-    (supported_cnt (entries_at now k) (entries_at new k) w (supp (entries_at now k) w)
-    (supp (entries_at now k) w - 1) s))
+    (supported_cnt (entries_at now k) (entries_at new k) w (supports_of (entries_at now k) w)
+    (supports_of (entries_at now k) w - 1) s))
 
-died_low : (t : Tree) (now new : List Table) (k : ℕ) (w : List ℕ) → IsTree t → RemovedUpwards t now new k w → (i : ℕ) → i < k
+died_low : (t : Tree) (now new : List Table) (k : ℕ) (w : List ℕ) → IsTree t → RemovedUpwards t now new k w → (i : ℕ)
+    → i < k
     → entries_at new i ≡ entries_at now i
 died_low t now new k w s d i less = d.below i (below_up t k i s less)
 
@@ -94,7 +99,7 @@ died_low t now new k w s d i less = d.below i (below_up t k i s less)
 pub trim_died : (t : Tree) (was now new : List Table) (j k : ℕ) (u w : List ℕ) → ChangedOnlyAt t was now j
     → Removed (entries_at was j) (entries_at now j) u → IsUnder t k (Trim j) j → RemovedUpwards t now new k w → w
     ≡ pick (key_at now j) u
-    → supp (entries_at now k) w ≤ 1 → ReducedAbove t now new j
+    → supports_of (entries_at now k) w ≤ 1 → ReducedAbove t now new j
 trim_died t was now new j k u w b r x d e last =
     let s = b.ready.family.is_tree in
     let low = lower_of t k (Trim j) j s x in
@@ -105,7 +110,7 @@ trim_died t was now new j k u w b r x d e last =
       arith,
       removed_supp (entries_at now k) (entries_at new k) w d.loses
           (apart_of t now (now_family t was now j b) k) v,
-      cond_one (same w v) (supp (entries_at now k) w)
+      cond_one (same w v) (supports_of (entries_at now k) w)
           (omega arith),
     )))
     d.reduced
@@ -113,22 +118,23 @@ trim_died t was now new j k u w b r x d e last =
 -- it can't be missing
 pub trim_missing : (t : Tree) (was now : List Table) (j k : ℕ) (u w : List ℕ) → ChangedOnlyAt t was now j
     → Removed (entries_at was j) (entries_at now j) u → IsUnder t k (Trim j) j → w ≡ pick (key_at now j) u
-    → cnt (entries_at now k) w ≡ 0 → ⊥
+    → count_of (entries_at now k) w ≡ 0 → ⊥
 trim_missing t was now j k u w b r x e none =
     let some = trim_some t was now j k u w b r x e in
     omega (arith, supp_none (entries_at now k) w none)
 
 guard_supp : (t : Tree) (was now : List Table) (j s k : ℕ) (u : List ℕ) → ChangedOnlyAt t was now j
-    → Removed (entries_at was j) (entries_at now j) u → IsUnder t k (Meet j s) j → supp (entries_at now k) u
-    ≡ cnt (entries_at was s) (pick (key_at was j) u)
+    → Removed (entries_at was j) (entries_at now j) u → IsUnder t k (Meet j s) j → supports_of (entries_at now k) u
+    ≡ count_of (entries_at was s) (pick (key_at was j) u)
 guard_supp t was now j s k u b r x =
-    let law : supp (entries_at was k) u
-    ≡ cnt (entries_at was j) u * cnt (entries_at was s) (pick (key_at was j) u) = meet_law (Meet j s) j s was k refl
+    let law : supports_of (entries_at was k) u
+    ≡ count_of (entries_at was j) u * count_of (entries_at was s) (pick (key_at was j) u) = meet_law (Meet j s) j s
+    was k refl
     (law_of t was now j k (Meet j s) b x) u in
-    let unit : cnt (entries_at was j) u * cnt (entries_at was s) (pick (key_at was j) u)
-    ≡ 1 * cnt (entries_at was s) (pick (key_at was j) u) = ap
-    (λ (n : ℕ). n * cnt (entries_at was s) (pick (key_at was j) u)) (was_there t was now j u b r) in
-    ap (λ (es : List Entry). supp es u) (same_up t was now j k (Meet j s) b x) ∙ omega arith
+    let unit : count_of (entries_at was j) u * count_of (entries_at was s) (pick (key_at was j) u)
+    ≡ 1 * count_of (entries_at was s) (pick (key_at was j) u) = ap
+    (λ (n : ℕ). n * count_of (entries_at was s) (pick (key_at was j) u)) (was_there t was now j u b r) in
+    ap (λ (es : List Entry). supports_of es u) (same_up t was now j k (Meet j s) b x) ∙ omega arith
 
 times_cond : (u v : List ℕ) (f : List ℕ → ℕ) → one (same u v) * f v ≡ cond (same u v) (f u) 0
 times_cond u v f =
@@ -142,32 +148,37 @@ guard_equation : (t : Tree) (was now new : List Table) (j s k : ℕ) (u : List �
     → IsUnder t k (Meet j s) j → IsFamily t new → entries_at new j ≡ entries_at now j → entries_at new s
     ≡ entries_at now s
     → Removed (entries_at was j) (entries_at now j) u
-    → ((v : List ℕ) → supp (entries_at now k) v
-    ≡ supp (entries_at new k) v + cond (same u v) (supp (entries_at now k) u) 0) → IsReductOf (Meet j s) new k
+    → ((v : List ℕ) → supports_of (entries_at now k) v
+    ≡ supports_of (entries_at new k) v + cond (same u v) (supports_of (entries_at now k) u) 0)
+    → IsReductOf (Meet j s) new k
 unfolding IsReductOf
 guard_equation t was now new j s k u b x f stay side r loss v =
     let keys : key_at new j ≡ key_at was j = same_keys t was new b.ready.family f j in
     let law = meet_law (Meet j s) j s was k refl (law_of t was now j k (Meet j s) b x) v in
     let less = removed_cnt (entries_at was j) (entries_at now j) u r v in
     let sides : entries_at new s ≡ entries_at was s = side ∙ side_stays t was now j s k b x in
-    let times = times_cond u v (λ w. cnt (entries_at was s) (pick (key_at was j) w)) in
-    let part : cond (same u v) (supp (entries_at now k) u) 0
-    ≡ cond (same u v) (cnt (entries_at was s) (pick (key_at was j) u)) 0 = ap (λ (n : ℕ). cond (same u v) n 0)
+    let times = times_cond u v (λ w. count_of (entries_at was s) (pick (key_at was j) w)) in
+    let part : cond (same u v) (supports_of (entries_at now k) u) 0
+    ≡ cond (same u v) (count_of (entries_at was s) (pick (key_at was j) u)) 0 = ap (λ (n : ℕ). cond (same u v) n 0)
     (guard_supp t was now j s k u b r x) in
-    let first : cnt (entries_at new j) v ≡ cnt (entries_at now j) v = ap (λ (es : List Entry). cnt es v) stay in
-    let second : cnt (entries_at new s) (pick (key_at new j) v)
-    ≡ cnt (entries_at was s) (pick (key_at was j) v) = ap₂ (λ (es : List Entry) (ks : List ℕ). cnt es (pick ks v))
+    let first : count_of (entries_at new j) v ≡ count_of (entries_at now j) v = ap (λ (es : List Entry). count_of es
+    v) stay in
+    let second : count_of (entries_at new s) (pick (key_at new j) v)
+    ≡ count_of (entries_at was s) (pick (key_at was j) v) = ap₂ (λ (es : List Entry) (ks : List ℕ). count_of es
+    (pick ks v))
     sides keys in
-    let both : cnt (entries_at new j) v * cnt (entries_at new s) (pick (key_at new j) v)
-    ≡ cnt (entries_at now j) v * cnt (entries_at was s) (pick (key_at was j) v) = ap₂ (λ (a c : ℕ). a * c) first
+    let both : count_of (entries_at new j) v * count_of (entries_at new s) (pick (key_at new j) v)
+    ≡ count_of (entries_at now j) v * count_of (entries_at was s) (pick (key_at was j) v) = ap₂ (λ (a c : ℕ). a * c)
+    first
     second in
-    let old : cnt (entries_at was j) v * cnt (entries_at was s) (pick (key_at was j) v)
-    ≡ (cnt (entries_at now j) v + one (same u v)) * cnt (entries_at was s) (pick (key_at was j) v) = ap
-    (λ (n : ℕ). n * cnt (entries_at was s) (pick (key_at was j) v)) less in
-    let spread = distributes (cnt (entries_at now j) v) (one (same u v))
-    (cnt (entries_at was s) (pick (key_at was j) v)) in
-    let up : supp (entries_at now k) v
-    ≡ supp (entries_at was k) v = ap (λ (es : List Entry). supp es v) (same_up t was now j k (Meet j s) b x) in
+    let old : count_of (entries_at was j) v * count_of (entries_at was s) (pick (key_at was j) v)
+    ≡ (count_of (entries_at now j) v + one (same u v)) * count_of (entries_at was s) (pick (key_at was j) v) = ap
+    (λ (n : ℕ). n * count_of (entries_at was s) (pick (key_at was j) v)) less in
+    let spread = distributes (count_of (entries_at now j) v) (one (same u v))
+    (count_of (entries_at was s) (pick (key_at was j) v)) in
+    let up : supports_of (entries_at now k) v
+    ≡ supports_of (entries_at was k) v = ap (λ (es : List Entry). supports_of es v) (same_up t was now j k (Meet j s)
+    b x) in
     omega (arith, loss v)
   where
     distributes : (a b c : ℕ) → (a + b) * c ≡ a * c + b * c
@@ -192,44 +203,47 @@ cond_none false n h = refl
 
 -- it doesn't
 pub guard_idle : (t : Tree) (was now : List Table) (j s k : ℕ) (u : List ℕ) → ChangedOnlyAt t was now j
-    → Removed (entries_at was j) (entries_at now j) u → IsUnder t k (Meet j s) j → cnt (entries_at now k) u ≡ 0
+    → Removed (entries_at was j) (entries_at now j) u → IsUnder t k (Meet j s) j → count_of (entries_at now k) u ≡ 0
     → ReducedAbove t now now j
 guard_idle t was now j s k u b r x none =
     idle t was now j k (Meet j s) b x
     (guard_equation t was now now j s k u b x (now_family t was now j b) refl refl r
-    (λ v. omega (arith, cond_none (same u v) (supp (entries_at now k) u) (supp_none (entries_at now k) u none))))
+    (λ v. omega (arith, cond_none (same u v) (supports_of (entries_at now k) u) (supp_none (entries_at now k) u none))))
 
 -- at a side: the whole group is there, with one support each
 pub side_full : (t : Tree) (was now : List Table) (g j k n : ℕ) (u : List ℕ) → ChangedOnlyAt t was now j
     → Removed (entries_at was j) (entries_at now j) u → IsUnder t k (Meet g j) j
-    → IsFull (entries_at now k) (take n (grp (key_at now g) (entries_at now g) u))
+    → IsFull (entries_at now k) (take n (group_of (key_at now g) (entries_at now g) u))
 side_full t was now g j k n u b r x = record {
   each = λ v some.
       let m = b.ready.family.is_tree.meet k g j x.node in
       let apart : g ≢ j = m.apart in
-      let part = take_le (grp (key_at now g) (entries_at now g) u) n v in
+      let part = take_le (group_of (key_at now g) (entries_at now g) u) n v in
       let has = group_has (key_at now g) (entries_at now g) u v (omega arith) in
       let in_guard = has.0 in
-      let law : supp (entries_at was k) v
-      ≡ cnt (entries_at was g) v * cnt (entries_at was j) (pick (key_at was g) v) = meet_law (Meet g j) g j was k
+      let law : supports_of (entries_at was k) v
+      ≡ count_of (entries_at was g) v * count_of (entries_at was j) (pick (key_at was g) v) = meet_law (Meet g j) g j
+      was k
       refl (law_of t was now j k (Meet g j) b x) v in
-      let first : cnt (entries_at was g) v ≡ 1 = ap (λ (es : List Entry). cnt es v) (sym (b.changed.others g apart))
+      let first : count_of (entries_at was g) v ≡ 1 = ap (λ (es : List Entry). count_of es v)
+      (sym (b.changed.others g apart))
       ∙ omega (arith, once t now (now_family t was now j b) g v) in
-      let second : cnt (entries_at was j) (pick (key_at was g) v)
-      ≡ 1 = ap (λ (w : List ℕ). cnt (entries_at was j) w)
+      let second : count_of (entries_at was j) (pick (key_at was g) v)
+      ≡ 1 = ap (λ (w : List ℕ). count_of (entries_at was j) w)
       (ap (λ (ks : List ℕ). pick ks v) (sym (keys_now t was now j b g)) ∙ has.1) ∙ was_there t was now j u b r in
-      let both : cnt (entries_at was g) v * cnt (entries_at was j) (pick (key_at was g) v)
+      let both : count_of (entries_at was g) v * count_of (entries_at was j) (pick (key_at was g) v)
       ≡ 1 * 1 = ap₂ (λ (a c : ℕ). a * c) first second in
-      let up : supp (entries_at now k) v
-      ≡ supp (entries_at was k) v = ap (λ (es : List Entry). supp es v) (same_up t was now j k (Meet g j) b x) in
+      let up : supports_of (entries_at now k) v
+      ≡ supports_of (entries_at was k) v = ap (λ (es : List Entry). supports_of es v)
+      (same_up t was now j k (Meet g j) b x) in
       omega arith;
 }
 
 -- the whole group went
 pub side_righted : (t : Tree) (was now new : List Table) (g j k n : ℕ) (u : List ℕ) → ChangedOnlyAt t was now j
     → Removed (entries_at was j) (entries_at now j) u → IsUnder t k (Meet g j) j
-    → IsEmptied t now new k (take n (grp (key_at now g) (entries_at now g) u))
-    → drop n (grp (key_at now g) (entries_at now g) u) ≡ [] → ReducedAbove t now new j
+    → IsEmptied t now new k (take n (group_of (key_at now g) (entries_at now g) u))
+    → drop n (group_of (key_at now g) (entries_at now g) u) ≡ [] → ReducedAbove t now new j
 unfolding IsReductOf
 side_righted t was now new g j k n u b r x gone ends = righted t was now new j k (Meet g j) b x gone.family gone.low
     equation gone.reduced
@@ -245,37 +259,40 @@ side_righted t was now new g j k n u b r x gone ends = righted t was now new j k
         let low : g < k = m.guard_lower in
         let low_side : j < k = m.side_lower in
         let apart : g ≢ j = m.apart in
-        let law : supp (entries_at was k) v
-        ≡ cnt (entries_at was g) v * cnt (entries_at was j) (pick (key_at was g) v) = meet_law (Meet g j) g j was k
+        let law : supports_of (entries_at was k) v
+        ≡ count_of (entries_at was g) v * count_of (entries_at was j) (pick (key_at was g) v) = meet_law (Meet g j) g
+        j was k
         refl (law_of t was now j k (Meet g j) b x) v in
         let keys : key_at new g ≡ key_at was g = same_keys t was new b.ready.family gone.family g in
         let guards : entries_at now g ≡ entries_at was g = b.changed.others g apart in
-        let first : cnt (entries_at new g) v
-        ≡ cnt (entries_at was g) v = ap (λ (es : List Entry). cnt es v) (gone.low g low ∙ guards) in
-        let second : cnt (entries_at new j) (pick (key_at new g) v)
-        ≡ cnt (entries_at now j) (pick (key_at was g) v) = ap₂
-        (λ (es : List Entry) (ks : List ℕ). cnt es (pick ks v)) (gone.low j low_side) keys in
-        let less : cnt (entries_at was j) (pick (key_at was g) v)
-        ≡ cnt (entries_at now j) (pick (key_at was g) v) + one (same u (pick (key_at was g) v)) = removed_cnt
+        let first : count_of (entries_at new g) v
+        ≡ count_of (entries_at was g) v = ap (λ (es : List Entry). count_of es v) (gone.low g low ∙ guards) in
+        let second : count_of (entries_at new j) (pick (key_at new g) v)
+        ≡ count_of (entries_at now j) (pick (key_at was g) v) = ap₂
+        (λ (es : List Entry) (ks : List ℕ). count_of es (pick ks v)) (gone.low j low_side) keys in
+        let less : count_of (entries_at was j) (pick (key_at was g) v)
+        ≡ count_of (entries_at now j) (pick (key_at was g) v) + one (same u (pick (key_at was g) v)) = removed_cnt
         (entries_at was j) (entries_at now j) u r (pick (key_at was g) v) in
-        let both : cnt (entries_at new g) v * cnt (entries_at new j) (pick (key_at new g) v)
-        ≡ cnt (entries_at was g) v * cnt (entries_at now j) (pick (key_at was g) v) = ap₂ (λ (a c : ℕ). a * c) first
+        let both : count_of (entries_at new g) v * count_of (entries_at new j) (pick (key_at new g) v)
+        ≡ count_of (entries_at was g) v * count_of (entries_at now j) (pick (key_at was g) v) = ap₂
+        (λ (a c : ℕ). a * c) first
         second in
-        let old : cnt (entries_at was g) v * cnt (entries_at was j) (pick (key_at was g) v)
-        ≡ cnt (entries_at was g) v *
-        (cnt (entries_at now j) (pick (key_at was g) v) + one (same u (pick (key_at was g) v))) = ap
-        (λ (c : ℕ). cnt (entries_at was g) v * c) less in
-        let sum = spread (cnt (entries_at was g) v) (cnt (entries_at now j) (pick (key_at was g) v))
+        let old : count_of (entries_at was g) v * count_of (entries_at was j) (pick (key_at was g) v)
+        ≡ count_of (entries_at was g) v *
+        (count_of (entries_at now j) (pick (key_at was g) v) + one (same u (pick (key_at was g) v))) = ap
+        (λ (c : ℕ). count_of (entries_at was g) v * c) less in
+        let sum = spread (count_of (entries_at was g) v) (count_of (entries_at now j) (pick (key_at was g) v))
         (one (same u (pick (key_at was g) v))) in
-        let group : cnt (grp (key_at now g) (entries_at now g) u) v
-        ≡ cnt (entries_at was g) v * one (same u (pick (key_at was g) v)) =
+        let group : count_of (group_of (key_at now g) (entries_at now g) u) v
+        ≡ count_of (entries_at was g) v * one (same u (pick (key_at was g) v)) =
         cnt_grp (key_at now g) (entries_at now g) u v
-        ∙ ap₂ (λ (es : List Entry) (ks : List ℕ). cnt es v * one (same (pick ks v) u)) guards
+        ∙ ap₂ (λ (es : List Entry) (ks : List ℕ). count_of es v * one (same (pick ks v) u)) guards
         (keys_now t was now j b g)
-        ∙ ap (λ (q : Bool). cnt (entries_at was g) v * one q) (same_sym (pick (key_at was g) v) u) in
-        let up : supp (entries_at now k) v
-        ≡ supp (entries_at was k) v = ap (λ (es : List Entry). supp es v) (same_up t was now j k (Meet g j) b x) in
-        omega (arith, gone.lost v, take_all (grp (key_at now g) (entries_at now g) u) n v ends)
+        ∙ ap (λ (q : Bool). count_of (entries_at was g) v * one q) (same_sym (pick (key_at was g) v) u) in
+        let up : supports_of (entries_at now k) v
+        ≡ supports_of (entries_at was k) v = ap (λ (es : List Entry). supports_of es v)
+        (same_up t was now j k (Meet g j) b x) in
+        omega (arith, gone.lost v, take_all (group_of (key_at now g) (entries_at now g) u) n v ends)
 
 -- the node has lost it, and those above are right
 pub died_here : (t : Tree) (old mid new : List Table) (j : ℕ) (u : List ℕ) → Changed old mid j

@@ -4,7 +4,7 @@ use Rattle.std.proofs.Common.{List, length, refl, ap, ap₂, subst, sym, ◌∙�
 use Rattle.std.specs.Prelude.{◌==◌, ◌||◌}
 use Rattle.std.proofs.lemmas.Bool.{cases_eq, cases_lt, cases_Bool, false≢true, eq-eqb, ne_eqb, eqb-true}
 use Rattle.djq_index.specs.Tuple.{pick, one}
-use Rattle.djq_index.specs.Entries.{Entry, supp, cnt, many, marks, plain}
+use Rattle.djq_index.specs.Entries.{Entry, supports_of, count_of, group_size, marks, plain}
 use Rattle.djq_index.specs.Table.{Table}
 use Rattle.djq_index.proofs.Tuples.{one_true, one_false}
 use Rattle.djq_index.proofs.Counts.{cnt_split, many_split}
@@ -43,10 +43,10 @@ pub reach_agrees : (n : Node) (going : Bool) (j : ℕ) (ts : List Table) (es : L
     → 0 < reach n going j ts es w → 0 < agreeing n j ts es w
 unfolding reach agreeing
 reach_agrees (Leaf a) going j ts es w h = h
-reach_agrees (Trim c) going j ts es w h = first_some (many (key_at ts c) es w)
-    (one (is_marked_by going (many (key_at ts c) (plain (entries_at ts c)) w))) h
-reach_agrees (Meet g s) going j ts es w h = by_side (g == j) (cnt es w) (cnt (entries_at ts g) w)
-    (cnt es (pick (key_at ts g) w)) h
+reach_agrees (Trim c) going j ts es w h = first_some (group_size (key_at ts c) es w)
+    (one (is_marked_by going (group_size (key_at ts c) (plain (entries_at ts c)) w))) h
+reach_agrees (Meet g s) going j ts es w h = by_side (g == j) (count_of es w) (count_of (entries_at ts g) w)
+    (count_of es (pick (key_at ts g) w)) h
   where
     by_side : (b : Bool) (x y z : ℕ) → 0 < cond b x (y * z) → 0 < cond b x z
     by_side true x y z h = h
@@ -54,18 +54,20 @@ reach_agrees (Meet g s) going j ts es w h = by_side (g == j) (cnt es w) (cnt (en
 
 -- and what agrees is reached, where the guard has it
 agree_reaches : (n : Node) (j : ℕ) (ts : List Table) (es : List Entry) (w : List ℕ)
-    → ((g s : ℕ) → n ≡ Meet g s → 0 < cnt (entries_at ts g) w) → 0 < agreeing n j ts es w → 0 < reach n false j ts es w
+    → ((g s : ℕ) → n ≡ Meet g s → 0 < count_of (entries_at ts g) w) → 0 < agreeing n j ts es w
+    → 0 < reach n false j ts es w
 unfolding reach agreeing
 agree_reaches (Leaf a) j ts es w guards h = h
 agree_reaches (Trim c) j ts es w guards h =
-    both_some (many (key_at ts c) es w) (one (is_marked_by false (many (key_at ts c) (plain (entries_at ts c)) w))) h
+    both_some (group_size (key_at ts c) es w) (one (is_marked_by false (group_size (key_at ts c)
+    (plain (entries_at ts c)) w))) h
     (omega (
       arith,
-      one_true (is_marked_by false (many (key_at ts c) (plain (entries_at ts c)) w))
-          (gate_open (many (key_at ts c) (plain (entries_at ts c)) w)),
+      one_true (is_marked_by false (group_size (key_at ts c) (plain (entries_at ts c)) w))
+          (gate_open (group_size (key_at ts c) (plain (entries_at ts c)) w)),
     ))
-agree_reaches (Meet g s) j ts es w guards h = by_side (g == j) (cnt es w) (cnt (entries_at ts g) w)
-    (cnt es (pick (key_at ts g) w)) (guards g s refl) h
+agree_reaches (Meet g s) j ts es w guards h = by_side (g == j) (count_of es w) (count_of (entries_at ts g) w)
+    (count_of es (pick (key_at ts g) w)) (guards g s refl) h
   where
     by_side : (b : Bool) (x y z : ℕ) → 0 < y → 0 < cond b x z → 0 < cond b x (y * z)
     by_side true x y z some h = h
@@ -76,25 +78,29 @@ agreeing_still : (n : Node) (j : ℕ) (ts us : List Table) (es : List Entry) (w 
     → ((c : ℕ) → key_at us c ≡ key_at ts c) → agreeing n j us es w ≡ agreeing n j ts es w
 unfolding agreeing
 agreeing_still (Leaf a) j ts us es w keys = refl
-agreeing_still (Trim c) j ts us es w keys = ap (λ (ks : List ℕ). many ks es w) (keys c)
-agreeing_still (Meet g s) j ts us es w keys = ap (λ (ks : List ℕ). cond (g == j) (cnt es w) (cnt es (pick ks w)))
+agreeing_still (Trim c) j ts us es w keys = ap (λ (ks : List ℕ). group_size ks es w) (keys c)
+agreeing_still (Meet g s) j ts us es w keys = ap (λ (ks : List ℕ). cond (g == j) (count_of es w)
+    (count_of es (pick ks w)))
     (keys g)
 
 agreeing_less : (n : Node) (j : ℕ) (ts : List Table) (es fs : List Entry) (w : List ℕ)
-    → ((v : List ℕ) → cnt es v ≤ cnt fs v) → 0 < agreeing n j ts es w → 0 < agreeing n j ts fs w
+    → ((v : List ℕ) → count_of es v ≤ count_of fs v) → 0 < agreeing n j ts es w → 0 < agreeing n j ts fs w
 unfolding agreeing
 agreeing_less (Leaf a) j ts es fs w h some = some
 agreeing_less (Trim c) j ts es fs w h some = omega (arith, many_sub (key_at ts c) es fs h w)
-agreeing_less (Meet g s) j ts es fs w h some = by_side (g == j) (cnt es w) (cnt es (pick (key_at ts g) w)) (cnt fs w)
-    (cnt fs (pick (key_at ts g) w)) (h w) (h (pick (key_at ts g) w)) some
+agreeing_less (Meet g s) j ts es fs w h some = by_side (g == j) (count_of es w) (count_of es (pick (key_at ts g) w))
+    (count_of fs w)
+    (count_of fs (pick (key_at ts g) w)) (h w) (h (pick (key_at ts g) w)) some
   where
     by_side : (b : Bool) (x y p q : ℕ) → x ≤ p → y ≤ q → 0 < cond b x y → 0 < cond b p q
     by_side true x y p q a c k = omega arith
     by_side false x y p q a c k = omega arith
 
-pub guard_some : (n : Node) (ts : List Table) (k : ℕ) (w : List ℕ) → IsReductOf n ts k → 0 < supp (entries_at ts k) w
-    → (g s : ℕ) → n ≡ Meet g s → 0 < cnt (entries_at ts g) w
-guard_some n ts k w law some g s e = first_some (cnt (entries_at ts g) w) (cnt (entries_at ts s) (pick (key_at ts g) w))
+pub guard_some : (n : Node) (ts : List Table) (k : ℕ) (w : List ℕ) → IsReductOf n ts k
+    → 0 < supports_of (entries_at ts k) w
+    → (g s : ℕ) → n ≡ Meet g s → 0 < count_of (entries_at ts g) w
+guard_some n ts k w law some g s e = first_some (count_of (entries_at ts g) w) (count_of (entries_at ts s)
+    (pick (key_at ts g) w))
     (let l = meet_law n g s ts k e law w in omega arith)
 
 -- a step above the frontier
@@ -103,12 +109,12 @@ pub agree_step : (t : Tree) (ts us : List Table) (n : Node) (j k : ℕ) → IsFa
 agree_step t ts us n j k f low law cover x = record {
   up = λ w some.
       subst (λ (m : ℕ). 0 < m) (sym (still w))
-      (elim (cases_lt 0 (cnt (marks (entries_at ts k)) w)) [
+      (elim (cases_lt 0 (count_of (marks (entries_at ts k)) w)) [
         | inl before ↦ cover.each w before
         | inr none ↦ reach_agrees n false j ts (marks (entries_at ts j)) w (let o = x.only w some in omega arith)
       ]);
   down = λ w there some.
-      let was : 0 < cnt (entries_at ts k) w = omega (arith, tuples_same t ts us f x.family k x.supports w) in
+      let was : 0 < count_of (entries_at ts k) w = omega (arith, tuples_same t ts us f x.family k x.supports w) in
       x.comes w was (agree_reaches n j ts (marks (entries_at ts j)) w
       (guard_some n ts k w law (cnt_supp (entries_at ts k) w (f.supported k) was))
       (subst (λ (m : ℕ). 0 < m) (still w) some));
@@ -150,75 +156,81 @@ gate_zero : (n : ℕ) → n ≡ 0 → is_marked_by true n ≡ true
 gate_zero n h = gate_test n ∙ eq-eqb n 0 h
 
 trim_step : (t : Tree) (ts us : List Table) (c k : ℕ) → IsFamily t ts → c < k → IsReductOf (Trim c) ts k
-    → ((v : List ℕ) → cnt (marks (entries_at ts k)) v ≡ 0)
+    → ((v : List ℕ) → count_of (marks (entries_at ts k)) v ≡ 0)
     → IsTouched t ts us k (λ v. reach (Trim c) true c ts (marks (entries_at ts c)) v) → ArePlainAt (Trim c) us k
 unfolding ArePlainAt reach
 trim_step t ts us c k f low law none x w =
     let keys = same_keys t ts us f x.family c in
     let kid : entries_at us c ≡ entries_at ts c = x.others c (λ (e : c ≡ k). absurd (omega arith)) in
-    let pm = many (key_at ts c) (plain (entries_at ts c)) w in
-    let mm = many (key_at ts c) (marks (entries_at ts c)) w in
-    let moved : many (key_at us c) (plain (entries_at us c)) w
-    ≡ many (key_at ts c) (plain (entries_at ts c)) w = ap₂ (λ (ks : List ℕ) (es : List Entry). many ks (plain es) w)
+    let pm = group_size (key_at ts c) (plain (entries_at ts c)) w in
+    let mm = group_size (key_at ts c) (marks (entries_at ts c)) w in
+    let moved : group_size (key_at us c) (plain (entries_at us c)) w
+    ≡ group_size (key_at ts c) (plain (entries_at ts c)) w = ap₂ (λ (ks : List ℕ) (es : List Entry). group_size ks
+    (plain es) w)
     keys kid in
-    let l : supp (entries_at ts k) w ≡ many (key_at ts c) (entries_at ts c) w = trim_law (Trim c) c ts k refl law w in
+    let l : supports_of (entries_at ts k) w ≡ group_size (key_at ts c) (entries_at ts c) w = trim_law (Trim c) c ts k
+    refl law w in
     let sum = many_split (key_at ts c) (entries_at ts c) w in
     let same_k = tuples_same t ts us f x.family k x.supports w in
     let parts = cnt_split (entries_at us k) w in
     let most = once t us x.family k w in
     let before = none w in (
-      (λ some. elim (cases_lt 0 (many (key_at ts c) (plain (entries_at ts c)) w)) [
+      (λ some. elim (cases_lt 0 (group_size (key_at ts c) (plain (entries_at ts c)) w)) [
         | inl good ↦ omega arith
         | inr bad ↦ absurd (
-            let there : 0 < cnt (entries_at ts k) w = omega arith in
+            let there : 0 < count_of (entries_at ts k) w = omega arith in
             let s = cnt_supp (entries_at ts k) w (f.supported k) there in
-            let g = one_true (is_marked_by true (many (key_at ts c) (plain (entries_at ts c)) w))
-            (gate_zero (many (key_at ts c) (plain (entries_at ts c)) w) (omega arith)) in
+            let g = one_true (is_marked_by true (group_size (key_at ts c) (plain (entries_at ts c)) w))
+            (gate_zero (group_size (key_at ts c) (plain (entries_at ts c)) w) (omega arith)) in
             let m = x.comes w there
-            (both_some (many (key_at ts c) (marks (entries_at ts c)) w)
-            (one (is_marked_by true (many (key_at ts c) (plain (entries_at ts c)) w))) (omega arith) (omega arith)) in
+            (both_some (group_size (key_at ts c) (marks (entries_at ts c)) w)
+            (one (is_marked_by true (group_size (key_at ts c) (plain (entries_at ts c)) w))) (omega arith)
+            (omega arith)) in
             omega arith)
       ]),
       (λ some.
-          let p : 0 < many (key_at ts c) (plain (entries_at ts c)) w = omega arith in
+          let p : 0 < group_size (key_at ts c) (plain (entries_at ts c)) w = omega arith in
           let there = present (entries_at ts k) w (omega arith) in
-          elim (cases_lt 0 (cnt (marks (entries_at us k)) w)) [
+          elim (cases_lt 0 (count_of (marks (entries_at us k)) w)) [
             | inl marked ↦ absurd (
                 let o = x.only w marked in
-                let r : 0 < many (key_at ts c) (marks (entries_at ts c)) w * one
-                (is_marked_by true (many (key_at ts c) (plain (entries_at ts c)) w)) = omega arith in
-                let g = second_some (many (key_at ts c) (marks (entries_at ts c)) w)
-                (one (is_marked_by true (many (key_at ts c) (plain (entries_at ts c)) w))) r in
-                let z = one_false (is_marked_by true (many (key_at ts c) (plain (entries_at ts c)) w))
-                (gate_shut (many (key_at ts c) (plain (entries_at ts c)) w) p) in
+                let r : 0 < group_size (key_at ts c) (marks (entries_at ts c)) w * one
+                (is_marked_by true (group_size (key_at ts c) (plain (entries_at ts c)) w)) = omega arith in
+                let g = second_some (group_size (key_at ts c) (marks (entries_at ts c)) w)
+                (one (is_marked_by true (group_size (key_at ts c) (plain (entries_at ts c)) w))) r in
+                let z = one_false (is_marked_by true (group_size (key_at ts c) (plain (entries_at ts c)) w))
+                (gate_shut (group_size (key_at ts c) (plain (entries_at ts c)) w) p) in
                 omega arith)
             | inr no_mark ↦ omega arith
           ]),
     )
 
 guard_step : (t : Tree) (ts us : List Table) (g s k : ℕ) → IsFamily t ts → g < k → s < k → IsReductOf (Meet g s) ts k
-    → ((v : List ℕ) → cnt (marks (entries_at ts k)) v ≡ 0) → ((v : List ℕ) → cnt (marks (entries_at ts s)) v ≡ 0)
+    → ((v : List ℕ) → count_of (marks (entries_at ts k)) v ≡ 0) → ((v : List ℕ) → count_of (marks (entries_at ts s)) v
+    ≡ 0)
     → IsTouched t ts us k (λ v. reach (Meet g s) true g ts (marks (entries_at ts g)) v) → ArePlainAt (Meet g s) us k
 unfolding ArePlainAt reach
 guard_step t ts us g s k f low_g low_s law none_k none_s x w =
     let guards : entries_at us g ≡ entries_at ts g = x.others g (λ (e : g ≡ k). absurd (omega arith)) in
     let sides : entries_at us s ≡ entries_at ts s = x.others s (λ (e : s ≡ k). absurd (omega arith)) in
     let keys = same_keys t ts us f x.family g in
-    let first : cnt (plain (entries_at us g)) w
-    ≡ cnt (plain (entries_at ts g)) w = ap (λ (es : List Entry). cnt (plain es) w) guards in
-    let second : cnt (plain (entries_at us s)) (pick (key_at us g) w) ≡ cnt (entries_at ts s) (pick (key_at ts g) w) =
-    ap₂ (λ (es : List Entry) (ks : List ℕ). cnt (plain es) (pick ks w)) sides keys
+    let first : count_of (plain (entries_at us g)) w
+    ≡ count_of (plain (entries_at ts g)) w = ap (λ (es : List Entry). count_of (plain es) w) guards in
+    let second : count_of (plain (entries_at us s)) (pick (key_at us g) w) ≡ count_of (entries_at ts s)
+    (pick (key_at ts g) w) =
+    ap₂ (λ (es : List Entry) (ks : List ℕ). count_of (plain es) (pick ks w)) sides keys
     ∙ omega (arith, cnt_split (entries_at ts s) (pick (key_at ts g) w), none_s (pick (key_at ts g) w)) in
-    let r : (v : List ℕ) → cond (g == g) (cnt (marks (entries_at ts g)) v)
-    (cnt (entries_at ts g) v * cnt (marks (entries_at ts g)) (pick (key_at ts g) v))
-    ≡ cnt (marks (entries_at ts g)) v =
-    (λ (v : List ℕ). ap (λ (b : Bool). cond b (cnt (marks (entries_at ts g)) v)
-    (cnt (entries_at ts g) v * cnt (marks (entries_at ts g)) (pick (key_at ts g) v))) (eq-eqb g g refl)) in
+    let r : (v : List ℕ) → cond (g == g) (count_of (marks (entries_at ts g)) v)
+    (count_of (entries_at ts g) v * count_of (marks (entries_at ts g)) (pick (key_at ts g) v))
+    ≡ count_of (marks (entries_at ts g)) v =
+    (λ (v : List ℕ). ap (λ (b : Bool). cond b (count_of (marks (entries_at ts g)) v)
+    (count_of (entries_at ts g) v * count_of (marks (entries_at ts g)) (pick (key_at ts g) v))) (eq-eqb g g refl)) in
     let l = meet_law (Meet g s) g s ts k refl law w in
     let same_k = tuples_same t ts us f x.family k x.supports w in
-    meet_numbers (cnt (entries_at us k) w) (cnt (marks (entries_at us k)) w) (cnt (plain (entries_at us k)) w)
-    (cnt (entries_at ts g) w) (cnt (plain (entries_at ts g)) w) (cnt (marks (entries_at ts g)) w)
-    (cnt (entries_at ts s) (pick (key_at ts g) w))
+    meet_numbers (count_of (entries_at us k) w) (count_of (marks (entries_at us k)) w)
+    (count_of (plain (entries_at us k)) w)
+    (count_of (entries_at ts g) w) (count_of (plain (entries_at ts g)) w) (count_of (marks (entries_at ts g)) w)
+    (count_of (entries_at ts s) (pick (key_at ts g) w))
     (cnt_split (entries_at us k) w) (once t us x.family k w) (cnt_split (entries_at ts g) w) (once t ts f g w)
     (once t ts f s (pick (key_at ts g) w))
     (λ some. let p = cnt_supp (entries_at ts k) w (f.supported k) (omega arith) in omega arith)
@@ -228,48 +240,51 @@ guard_step t ts us g s k f low_g low_s law none_k none_s x w =
     ∙ sym (ap₂ (λ (a b : ℕ). a * b) first second)
 
 side_step : (t : Tree) (ts us : List Table) (g s k : ℕ) → IsFamily t ts → g < k → s < k → g ≢ s
-    → IsReductOf (Meet g s) ts k → ((v : List ℕ) → cnt (marks (entries_at ts k)) v ≡ 0)
-    → ((v : List ℕ) → cnt (marks (entries_at ts g)) v ≡ 0)
+    → IsReductOf (Meet g s) ts k → ((v : List ℕ) → count_of (marks (entries_at ts k)) v ≡ 0)
+    → ((v : List ℕ) → count_of (marks (entries_at ts g)) v ≡ 0)
     → IsTouched t ts us k (λ v. reach (Meet g s) true s ts (marks (entries_at ts s)) v) → ArePlainAt (Meet g s) us k
 unfolding ArePlainAt reach
 side_step t ts us g s k f low_g low_s apart law none_k none_g x w =
     let guards : entries_at us g ≡ entries_at ts g = x.others g (λ (e : g ≡ k). absurd (omega arith)) in
     let sides : entries_at us s ≡ entries_at ts s = x.others s (λ (e : s ≡ k). absurd (omega arith)) in
     let keys = same_keys t ts us f x.family g in
-    let first : cnt (plain (entries_at us g)) w
-    ≡ cnt (entries_at ts g) w = ap (λ (es : List Entry). cnt (plain es) w) guards
+    let first : count_of (plain (entries_at us g)) w
+    ≡ count_of (entries_at ts g) w = ap (λ (es : List Entry). count_of (plain es) w) guards
     ∙ omega (arith, cnt_split (entries_at ts g) w, none_g w) in
-    let second : cnt (plain (entries_at us s)) (pick (key_at us g) w)
-    ≡ cnt (plain (entries_at ts s)) (pick (key_at ts g) w) = ap₂
-    (λ (es : List Entry) (ks : List ℕ). cnt (plain es) (pick ks w)) sides keys in
-    let r : (v : List ℕ) → cond (g == s) (cnt (marks (entries_at ts s)) v)
-    (cnt (entries_at ts g) v * cnt (marks (entries_at ts s)) (pick (key_at ts g) v))
-    ≡ cnt (entries_at ts g) v * cnt (marks (entries_at ts s)) (pick (key_at ts g) v) =
-    (λ (v : List ℕ). ap (λ (b : Bool). cond b (cnt (marks (entries_at ts s)) v)
-    (cnt (entries_at ts g) v * cnt (marks (entries_at ts s)) (pick (key_at ts g) v))) (ne_eqb g s apart)) in
+    let second : count_of (plain (entries_at us s)) (pick (key_at us g) w)
+    ≡ count_of (plain (entries_at ts s)) (pick (key_at ts g) w) = ap₂
+    (λ (es : List Entry) (ks : List ℕ). count_of (plain es) (pick ks w)) sides keys in
+    let r : (v : List ℕ) → cond (g == s) (count_of (marks (entries_at ts s)) v)
+    (count_of (entries_at ts g) v * count_of (marks (entries_at ts s)) (pick (key_at ts g) v))
+    ≡ count_of (entries_at ts g) v * count_of (marks (entries_at ts s)) (pick (key_at ts g) v) =
+    (λ (v : List ℕ). ap (λ (b : Bool). cond b (count_of (marks (entries_at ts s)) v)
+    (count_of (entries_at ts g) v * count_of (marks (entries_at ts s)) (pick (key_at ts g) v))) (ne_eqb g s apart)) in
     let l = meet_law (Meet g s) g s ts k refl law w in
     let same_k = tuples_same t ts us f x.family k x.supports w in
-    let turn = times_turn (cnt (entries_at ts g) w) (cnt (entries_at ts s) (pick (key_at ts g) w)) in
-    let turn_plain = times_turn (cnt (plain (entries_at ts s)) (pick (key_at ts g) w)) (cnt (entries_at ts g) w) in
-    meet_numbers (cnt (entries_at us k) w) (cnt (marks (entries_at us k)) w) (cnt (plain (entries_at us k)) w)
-    (cnt (entries_at ts s) (pick (key_at ts g) w)) (cnt (plain (entries_at ts s)) (pick (key_at ts g) w))
-    (cnt (marks (entries_at ts s)) (pick (key_at ts g) w)) (cnt (entries_at ts g) w)
+    let turn = times_turn (count_of (entries_at ts g) w) (count_of (entries_at ts s) (pick (key_at ts g) w)) in
+    let turn_plain = times_turn (count_of (plain (entries_at ts s)) (pick (key_at ts g) w))
+    (count_of (entries_at ts g) w) in
+    meet_numbers (count_of (entries_at us k) w) (count_of (marks (entries_at us k)) w)
+    (count_of (plain (entries_at us k)) w)
+    (count_of (entries_at ts s) (pick (key_at ts g) w)) (count_of (plain (entries_at ts s)) (pick (key_at ts g) w))
+    (count_of (marks (entries_at ts s)) (pick (key_at ts g) w)) (count_of (entries_at ts g) w)
     (cnt_split (entries_at us k) w) (once t us x.family k w) (cnt_split (entries_at ts s) (pick (key_at ts g) w))
     (once t ts f s (pick (key_at ts g) w)) (once t ts f g w)
     (λ some. let p = cnt_supp (entries_at ts k) w (f.supported k) (omega arith) in omega arith)
     (λ some. let p = present (entries_at ts k) w (omega arith) in omega arith)
     (λ some marked.
     let p = cnt_supp (entries_at ts k) w (f.supported k) (omega arith) in
-    let q = both_some (cnt (entries_at ts g) w) (cnt (marks (entries_at ts s)) (pick (key_at ts g) w))
-    (first_some (cnt (entries_at ts g) w) (cnt (entries_at ts s) (pick (key_at ts g) w)) (omega arith)) marked in
+    let q = both_some (count_of (entries_at ts g) w) (count_of (marks (entries_at ts s)) (pick (key_at ts g) w))
+    (first_some (count_of (entries_at ts g) w) (count_of (entries_at ts s) (pick (key_at ts g) w)) (omega arith))
+    marked in
     x.comes w (omega arith) (omega (arith, r w)))
-    (λ marked. second_some (cnt (entries_at ts g) w) (cnt (marks (entries_at ts s)) (pick (key_at ts g) w))
+    (λ marked. second_some (count_of (entries_at ts g) w) (count_of (marks (entries_at ts s)) (pick (key_at ts g) w))
     (omega (arith, x.only w marked, none_k w, r w)))
     ∙ turn_plain ∙ sym (ap₂ (λ (a b : ℕ). a * b) first second)
 
 pub plain_step : (t : Tree) (ts us : List Table) (n : Node) (j k : ℕ) → IsFamily t ts → node_at t.nodes k ≡ n
-    → has_child n j ≡ true → IsReductOf n ts k → ((v : List ℕ) → cnt (marks (entries_at ts k)) v ≡ 0)
-    → ((c : ℕ) → has_child n c ≡ true → c ≢ j → (v : List ℕ) → cnt (marks (entries_at ts c)) v ≡ 0)
+    → has_child n j ≡ true → IsReductOf n ts k → ((v : List ℕ) → count_of (marks (entries_at ts k)) v ≡ 0)
+    → ((c : ℕ) → has_child n c ≡ true → c ≢ j → (v : List ℕ) → count_of (marks (entries_at ts c)) v ≡ 0)
     → IsTouched t ts us k (λ v. reach n true j ts (marks (entries_at ts j)) v) → ArePlainAt n us k
 plain_step t ts us (Leaf a) j k f e child law none others x = absurd (false≢true child)
 plain_step t ts us (Trim c) j k f e child law none others x =
@@ -299,24 +314,25 @@ plain_stays (Leaf a) ts us k same_below keys low h = λ w. omega arith
 plain_stays (Trim c) ts us k same_below keys low h = λ w.
     let kid = same_below c (let l = low c (trim_has c) in omega arith) in
     let own = same_below k (omega arith) in
-    subst (λ (es : List Entry). (0 < cnt (plain es) w → 0 < many (key_at us c) (plain (entries_at us c)) w)
-    × (0 < many (key_at us c) (plain (entries_at us c)) w → 0 < cnt (plain es) w)) (sym own)
-    (subst (λ (m : ℕ). (0 < cnt (plain (entries_at ts k)) w → 0 < m) × (0 < m → 0 < cnt (plain (entries_at ts k)) w))
-    (sym (ap₂ (λ (ks : List ℕ) (es : List Entry). many ks (plain es) w) (keys c) kid)) (h w))
+    subst (λ (es : List Entry). (0 < count_of (plain es) w → 0 < group_size (key_at us c) (plain (entries_at us c)) w)
+    × (0 < group_size (key_at us c) (plain (entries_at us c)) w → 0 < count_of (plain es) w)) (sym own)
+    (subst (λ (m : ℕ). (0 < count_of (plain (entries_at ts k)) w → 0 < m)
+    × (0 < m → 0 < count_of (plain (entries_at ts k)) w))
+    (sym (ap₂ (λ (ks : List ℕ) (es : List Entry). group_size ks (plain es) w) (keys c) kid)) (h w))
 plain_stays (Meet g s) ts us k same_below keys low h = λ w.
     let first = same_below g (let l = low g (guard_has g s) in omega arith) in
     let second = same_below s (let l = low s (side_has g s) in omega arith) in
-    ap (λ (es : List Entry). cnt (plain es) w) (same_below k (omega arith)) ∙ h w
-    ∙ sym (ap₂ (λ (a b : ℕ). a * b) (ap (λ (es : List Entry). cnt (plain es) w) first)
-    (ap₂ (λ (es : List Entry) (ks : List ℕ). cnt (plain es) (pick ks w)) second (keys g)))
+    ap (λ (es : List Entry). count_of (plain es) w) (same_below k (omega arith)) ∙ h w
+    ∙ sym (ap₂ (λ (a b : ℕ). a * b) (ap (λ (es : List Entry). count_of (plain es) w) first)
+    (ap₂ (λ (es : List Entry) (ks : List ℕ). count_of (plain es) (pick ks w)) second (keys g)))
 
 agree_stays : (n : Node) (ts us : List Table) (j k : ℕ) → j ≤ k → ((i : ℕ) → i ≤ k → entries_at us i ≡ entries_at ts i)
     → ((i : ℕ) → key_at us i ≡ key_at ts i) → AgreeAt n ts j k → AgreeAt n us j k
 agree_stays n ts us j k low same_below keys h = record {
   up = λ w some. subst (λ (m : ℕ). 0 < m) (sym (still w))
-      (h.up w (subst (λ (es : List Entry). 0 < cnt (marks es) w) own some));
-  down = λ w there some. subst (λ (es : List Entry). 0 < cnt (marks es) w) (sym own)
-      (h.down w (subst (λ (es : List Entry). 0 < cnt es w) own there) (subst (λ (m : ℕ). 0 < m) (still w) some));
+      (h.up w (subst (λ (es : List Entry). 0 < count_of (marks es) w) own some));
+  down = λ w there some. subst (λ (es : List Entry). 0 < count_of (marks es) w) (sym own)
+      (h.down w (subst (λ (es : List Entry). 0 < count_of es w) own there) (subst (λ (m : ℕ). 0 < m) (still w) some));
 }
   where
     own : entries_at us k ≡ entries_at ts k
@@ -366,9 +382,10 @@ walk_touch : (t : Tree) (old mid new : List Table) (a k : ℕ) (removal : Bool) 
 walk_touch t old mid new a k removal f family x y late plain_k agree_k = record {
   later = λ i h. y.others i (omega arith) ∙ x.later i (omega arith);
   keeps = λ i v. elim (cases_eq i k) [
-    | inl here ↦ subst (λ (z : ℕ). cnt (marks (entries_at old z)) v ≤ cnt (marks (entries_at new z)) v) (sym here)
+    | inl here ↦ subst (λ (z : ℕ). count_of (marks (entries_at old z)) v ≤ count_of (marks (entries_at new z)) v)
+        (sym here)
         (omega (arith, x.keeps k v, y.keeps v))
-    | inr apart ↦ omega (arith, x.keeps i v, ap (λ (es : List Entry). cnt (marks es) v) (y.others i apart))
+    | inr apart ↦ omega (arith, x.keeps i v, ap (λ (es : List Entry). count_of (marks es) v) (y.others i apart))
   ];
   skipped = λ e i h. let l = late e in y.others i (omega arith) ∙ x.skipped e i h;
   low = λ i less second going on. elim (cases_eq i k) [
@@ -398,8 +415,9 @@ other_off t a k i s child apart = ((λ e. apart (sym (child_on t a k i s child (
 
 -- the marks at the nodes to come
 pub bare_mid : (t : Tree) (old mid : List Table) (a k i : ℕ) (removal : Bool) → IsWalked t old mid a removal k
-    → CanWalk t old a removal → i ≢ a → removal ≡ true → k ≤ i → (v : List ℕ) → cnt (marks (entries_at mid i)) v ≡ 0
-bare_mid t old mid a k i removal x can other going later v = ap (λ (es : List Entry). cnt (marks es) v)
+    → CanWalk t old a removal → i ≢ a → removal ≡ true → k ≤ i → (v : List ℕ) → count_of (marks (entries_at mid i)) v
+    ≡ 0
+bare_mid t old mid a k i removal x can other going later v = ap (λ (es : List Entry). count_of (marks es) v)
     (x.later i later) ∙ can.bare going i other v
 
 pub covered_mid : (t : Tree) (old mid : List Table) (a k j : ℕ) (removal : Bool) → IsFamily t old
@@ -408,7 +426,7 @@ pub covered_mid : (t : Tree) (old mid : List Table) (a k j : ℕ) (removal : Boo
 covered_mid t old mid a k j removal f up x can at child high = record {
   each = λ w some.
       let on : on_path t.nodes a k ≡ true = on_at t.nodes a k j at ∙ child in
-      let before : 0 < cnt (marks (entries_at old k)) w = subst (λ (es : List Entry). 0 < cnt (marks es) w)
+      let before : 0 < count_of (marks (entries_at old k)) w = subst (λ (es : List Entry). 0 < count_of (marks es) w)
       (x.later k (omega arith)) some in
       let agrees : 0 < agreeing (node_at t.nodes k) j old (marks (entries_at old j)) w = subst
       (λ (i : ℕ). 0 < agreeing (node_at t.nodes k) i old (marks (entries_at old i)) w) (sym at)
@@ -465,13 +483,13 @@ walk_more t old mid new a k j removal f leaf can within up x at above below idle
     high_a : has_child (node_at t.nodes k) j ≡ true → k ≢ a
     high_a child e = let h = inner_high t k j f.is_tree child in absurd (omega arith)
 
-    bare_off : (i : ℕ) → IsOff t.nodes a i → removal ≡ true → (v : List ℕ) → cnt (marks (entries_at mid i)) v ≡ 0
-    bare_off i off going v = ap (λ (es : List Entry). cnt (marks es) v) (up.off i off) ∙ can.bare going i off.0 v
+    bare_off : (i : ℕ) → IsOff t.nodes a i → removal ≡ true → (v : List ℕ) → count_of (marks (entries_at mid i)) v ≡ 0
+    bare_off i off going v = ap (λ (es : List Entry). count_of (marks es) v) (up.off i off) ∙ can.bare going i off.0 v
 
 -- what came agrees with what came
 pub new_supp : (t : Tree) (old new : List Table) (k : ℕ) → IsReducts (record { tree = t; tables = old })
     → IsReducts (record { tree = t; tables = new }) → IsBare old → CameAs true old new → (w : List ℕ)
-    → 0 < cnt (marks (entries_at new k)) w → supp (entries_at old k) w ≡ 0
+    → 0 < count_of (marks (entries_at new k)) w → supports_of (entries_at old k) w ≡ 0
 new_supp t old new k r s bare p w some =
     supp_none (entries_at old k) w
     (omega (
@@ -486,76 +504,80 @@ new_supp t old new k r s bare p w some =
 
 new_node : (t : Tree) (old new : List Table) (a j k : ℕ) (n : Node) → IsReducts (record { tree = t; tables = old })
     → IsReducts (record { tree = t; tables = new }) → IsBare old → CameAs true old new
-    → ((i : ℕ) (v : List ℕ) → i < t.leaves → i ≢ a → cnt (entries_at new i) v ≡ cnt (entries_at old i) v)
+    → ((i : ℕ) (v : List ℕ) → i < t.leaves → i ≢ a → count_of (entries_at new i) v ≡ count_of (entries_at old i) v)
     → node_at t.nodes k ≡ n → k < length t.nodes → j ≡ path_at t.nodes a k → has_child n j ≡ true → IsReductOf n old k
-    → IsReductOf n new k → (w : List ℕ) → 0 < cnt (marks (entries_at new k)) w
+    → IsReductOf n new k → (w : List ℕ) → 0 < count_of (marks (entries_at new k)) w
     → 0 < agreeing n j new (marks (entries_at new j)) w
 unfolding agreeing
 new_node t old new a j k (Leaf b) r s bare p leaves e within at child ho hn w some = absurd (false≢true child)
 new_node t old new a j k (Trim c) r s bare p leaves e within at child ho hn w some =
     let same_one : c ≡ j = eqb-true c j child in
-    let came : supp (entries_at old k) w ≡ 0 = new_supp t old new k r s bare p w some in
+    let came : supports_of (entries_at old k) w ≡ 0 = new_supp t old new k r s bare p w some in
     let there = cnt_supp (entries_at new k) w (s.family.supported k) (omega (arith, cnt_split (entries_at new k) w)) in
     let lo = trim_law (Trim c) c old k refl ho w in
     let ln = trim_law (Trim c) c new k refl hn w in
     let keys = same_keys t old new r.family s.family c in
-    let plain_less : many (key_at new c) (plain (entries_at new c)) w ≤ many (key_at old c) (entries_at old c) w =
-    subst (λ (ks : List ℕ). many ks (plain (entries_at new c)) w ≤ many (key_at old c) (entries_at old c) w) (sym keys)
+    let plain_less : group_size (key_at new c) (plain (entries_at new c)) w ≤ group_size (key_at old c)
+    (entries_at old c) w =
+    subst (λ (ks : List ℕ). group_size ks (plain (entries_at new c)) w ≤ group_size (key_at old c) (entries_at old c)
+    w) (sym keys)
     (many_sub (key_at old c) (plain (entries_at new c)) (entries_at old c)
     (λ v. omega (arith, p.same c v, cnt_split (entries_at old c) v)) w) in
-    subst (λ (i : ℕ). 0 < many (key_at new c) (marks (entries_at new i)) w) same_one
+    subst (λ (i : ℕ). 0 < group_size (key_at new c) (marks (entries_at new i)) w) same_one
     (omega (arith, many_split (key_at new c) (entries_at new c) w))
 new_node t old new a j k (Meet g d) r s bare p leaves e within at child ho hn w some =
-    let came : supp (entries_at old k) w ≡ 0 = new_supp t old new k r s bare p w some in
+    let came : supports_of (entries_at old k) w ≡ 0 = new_supp t old new k r s bare p w some in
     let there = cnt_supp (entries_at new k) w (s.family.supported k) (omega (arith, cnt_split (entries_at new k) w)) in
     let lo = meet_law (Meet g d) g d old k refl ho w in
     let ln = meet_law (Meet g d) g d new k refl hn w in
     let keys = same_keys t old new r.family s.family g in
-    let first = first_some (cnt (entries_at new g) w) (cnt (entries_at new d) (pick (key_at new g) w)) (omega arith) in
-    let second = second_some (cnt (entries_at new g) w) (cnt (entries_at new d) (pick (key_at new g) w)) (omega arith)
+    let first = first_some (count_of (entries_at new g) w) (count_of (entries_at new d) (pick (key_at new g) w))
+    (omega arith) in
+    let second = second_some (count_of (entries_at new g) w) (count_of (entries_at new d) (pick (key_at new g) w))
+    (omega arith)
     in
     elim (cases_eq g j) [
       | inl here ↦ (
           let side_off = off_cnt d (λ q. (r.family.is_tree.meet k g d e).apart (here ∙ at ∙ sym q)) (side_has g d)
           (pick (key_at new g) w) in
-          let side_old : 0 < cnt (entries_at old d) (pick (key_at old g) w) = subst
-          (λ (ks : List ℕ). 0 < cnt (entries_at old d) (pick ks w)) keys (omega arith) in
-          let none = elim (cases_lt 0 (cnt (entries_at old g) w)) as (λ q. cnt (entries_at old g) w ≡ 0) [
-            | inl x ↦ absurd (let b = both_some (cnt (entries_at old g) w)
-                (cnt (entries_at old d) (pick (key_at old g) w)) x side_old in omega arith)
+          let side_old : 0 < count_of (entries_at old d) (pick (key_at old g) w) = subst
+          (λ (ks : List ℕ). 0 < count_of (entries_at old d) (pick ks w)) keys (omega arith) in
+          let none = elim (cases_lt 0 (count_of (entries_at old g) w)) as (λ q. count_of (entries_at old g) w ≡ 0) [
+            | inl x ↦ absurd (let b = both_some (count_of (entries_at old g) w)
+                (count_of (entries_at old d) (pick (key_at old g) w)) x side_old in omega arith)
             | inr z ↦ omega arith
           ] in
-          let marked : 0 < cnt (marks (entries_at new g)) w = omega
+          let marked : 0 < count_of (marks (entries_at new g)) w = omega
           (arith, cnt_split (entries_at new g) w, p.same g w, cnt_split (entries_at old g) w) in
-          subst (λ (b : Bool). 0 < cond b (cnt (marks (entries_at new j)) w)
-          (cnt (marks (entries_at new j)) (pick (key_at new g) w))) (sym (eq-eqb g j here))
-          (subst (λ (i : ℕ). 0 < cnt (marks (entries_at new i)) w) here marked))
+          subst (λ (b : Bool). 0 < cond b (count_of (marks (entries_at new j)) w)
+          (count_of (marks (entries_at new j)) (pick (key_at new g) w))) (sym (eq-eqb g j here))
+          (subst (λ (i : ℕ). 0 < count_of (marks (entries_at new i)) w) here marked))
       | inr other ↦ (
           let side_one : d ≡ j = eqb-true d j (or_right (g == j) (d == j) (ne_eqb g j other) child) in
           let guard_off = off_cnt g (λ q. other (q ∙ sym at)) (guard_has g d) w in
-          let guard_old : 0 < cnt (entries_at old g) w = omega arith in
-          let none_old : cnt (entries_at old d) (pick (key_at old g) w)
-          ≡ 0 = elim (cases_lt 0 (cnt (entries_at old d) (pick (key_at old g) w))) [
-            | inl x ↦ absurd (let b = both_some (cnt (entries_at old g) w)
-                (cnt (entries_at old d) (pick (key_at old g) w)) guard_old x in omega arith)
+          let guard_old : 0 < count_of (entries_at old g) w = omega arith in
+          let none_old : count_of (entries_at old d) (pick (key_at old g) w)
+          ≡ 0 = elim (cases_lt 0 (count_of (entries_at old d) (pick (key_at old g) w))) [
+            | inl x ↦ absurd (let b = both_some (count_of (entries_at old g) w)
+                (count_of (entries_at old d) (pick (key_at old g) w)) guard_old x in omega arith)
             | inr z ↦ omega arith
           ] in
-          let none : cnt (entries_at old d) (pick (key_at new g) w)
-          ≡ 0 = subst (λ (ks : List ℕ). cnt (entries_at old d) (pick ks w) ≡ 0) (sym keys) none_old in
-          let marked : 0 < cnt (marks (entries_at new d)) (pick (key_at new g) w) = omega (
+          let none : count_of (entries_at old d) (pick (key_at new g) w)
+          ≡ 0 = subst (λ (ks : List ℕ). count_of (entries_at old d) (pick ks w) ≡ 0) (sym keys) none_old in
+          let marked : 0 < count_of (marks (entries_at new d)) (pick (key_at new g) w) = omega (
             arith,
             cnt_split (entries_at new d) (pick (key_at new g) w),
             p.same d (pick (key_at new g) w),
             cnt_split
                 (entries_at old d) (pick (key_at new g) w),
           ) in
-          subst (λ (b : Bool). 0 < cond b (cnt (marks (entries_at new j)) w)
-          (cnt (marks (entries_at new j)) (pick (key_at new g) w))) (sym (ne_eqb g j other))
-          (subst (λ (i : ℕ). 0 < cnt (marks (entries_at new i)) (pick (key_at new g) w)) side_one marked))
+          subst (λ (b : Bool). 0 < cond b (count_of (marks (entries_at new j)) w)
+          (count_of (marks (entries_at new j)) (pick (key_at new g) w))) (sym (ne_eqb g j other))
+          (subst (λ (i : ℕ). 0 < count_of (marks (entries_at new i)) (pick (key_at new g) w)) side_one marked))
     ]
   where
     off_cnt : (c : ℕ) → (c ≡ path_at t.nodes a k → ⊥) → has_child (Meet g d) c ≡ true → (v : List ℕ)
-        → cnt (entries_at new c) v ≡ cnt (entries_at old c) v
+        → count_of (entries_at new c) v ≡ count_of (entries_at old c) v
     off_cnt c apart kid v =
         let has : has_child (node_at t.nodes k) c ≡ true = subst (λ (m : Node). has_child m c ≡ true) (sym e) kid in
         tuples_same t old new r.family s.family c
@@ -564,7 +586,7 @@ new_node t old new a j k (Meet g d) r s bare p leaves e within at child ho hn w 
 
 pub covered_new : (t : Tree) (old new : List Table) (a k : ℕ) → IsReducts (record { tree = t; tables = old })
     → IsReducts (record { tree = t; tables = new }) → IsBare old → CameAs true old new
-    → ((i : ℕ) (v : List ℕ) → i < t.leaves → i ≢ a → cnt (entries_at new i) v ≡ cnt (entries_at old i) v)
+    → ((i : ℕ) (v : List ℕ) → i < t.leaves → i ≢ a → count_of (entries_at new i) v ≡ count_of (entries_at old i) v)
     → on_path t.nodes a k ≡ true → IsCovered (node_at t.nodes k) new (path_at t.nodes a k) k
 covered_new t old new a k r s bare p leaves on =
     let within = on_within t a k on in
@@ -577,15 +599,15 @@ covered_new t old new a k r s bare p leaves on =
 -- what was there is unmarked
 pub plain_new : (t : Tree) (old new : List Table) (k : ℕ) (n : Node) → IsFamily t old → IsFamily t new
     → IsReductOf n old k →
-    ((i : ℕ) → i ≤ k → (v : List ℕ) → cnt (plain (entries_at new i)) v ≡ cnt (entries_at old i) v)
+    ((i : ℕ) → i ≤ k → (v : List ℕ) → count_of (plain (entries_at new i)) v ≡ count_of (entries_at old i) v)
     → ((c : ℕ) → has_child n c ≡ true → c < k) → ArePlainAt n new k
 unfolding ArePlainAt
 plain_new t old new k (Leaf a) f g law same_plain low = λ w. omega arith
 plain_new t old new k (Trim c) f g law same_plain low = λ w.
     let l = trim_law (Trim c) c old k refl law w in
     let below = low c (trim_has c) in
-    let m : many (key_at new c) (plain (entries_at new c)) w
-    ≡ many (key_at old c) (entries_at old c) w = ap (λ (ks : List ℕ). many ks (plain (entries_at new c)) w)
+    let m : group_size (key_at new c) (plain (entries_at new c)) w
+    ≡ group_size (key_at old c) (entries_at old c) w = ap (λ (ks : List ℕ). group_size ks (plain (entries_at new c)) w)
     (same_keys t old new f g c)
     ∙ many_even (key_at old c) (plain (entries_at new c)) (entries_at old c) (same_plain c (omega arith)) w in
     let own = same_plain k (omega arith) w in (
@@ -598,13 +620,14 @@ plain_new t old new k (Meet x y) f g law same_plain low = λ w.
     let low_y = low y (side_has x y) in
     let own = same_plain k (omega arith) w in
     let first = same_plain x (omega arith) w in
-    let second : cnt (plain (entries_at new y)) (pick (key_at new x) w)
-    ≡ cnt (entries_at old y) (pick (key_at old x) w) = ap
-    (λ (ks : List ℕ). cnt (plain (entries_at new y)) (pick ks w)) (same_keys t old new f g x)
+    let second : count_of (plain (entries_at new y)) (pick (key_at new x) w)
+    ≡ count_of (entries_at old y) (pick (key_at old x) w) = ap
+    (λ (ks : List ℕ). count_of (plain (entries_at new y)) (pick ks w)) (same_keys t old new f g x)
     ∙ same_plain y (omega arith) (pick (key_at old x) w) in
     own
-    ∙ meet_numbers (cnt (entries_at old k) w) 0 (cnt (entries_at old k) w) (cnt (entries_at old x) w)
-    (cnt (entries_at old x) w) 0 (cnt (entries_at old y) (pick (key_at old x) w)) (omega arith) (once t old f k w)
+    ∙ meet_numbers (count_of (entries_at old k) w) 0 (count_of (entries_at old k) w) (count_of (entries_at old x) w)
+    (count_of (entries_at old x) w) 0 (count_of (entries_at old y) (pick (key_at old x) w)) (omega arith)
+    (once t old f k w)
     (omega arith) (once t old f x w) (once t old f y (pick (key_at old x) w))
     (λ some. let s = cnt_supp (entries_at old k) w (f.supported k) some in omega arith)
     (λ some. present (entries_at old k) w (omega arith)) (λ some marked. marked) (λ marked. marked)

@@ -9,7 +9,7 @@ use Rattle.std.proofs.lemmas.List.{take_more}
 use Rattle.std.proofs.lemmas.List.Sums.{sum_by-append, sum_by-cons}
 use Rattle.std.proofs.Math.Seq.{take-length}
 use Rattle.djq_index.specs.Tuple.{same, pick, one}
-use Rattle.djq_index.specs.Entries.{Entry, cnt, many}
+use Rattle.djq_index.specs.Entries.{Entry, count_of, group_size}
 use Rattle.djq_index.specs.Table.{Table, AreApart}
 use Rattle.djq_index.proofs.Tuples.{same_cases, is_same, one_true, one_false, one_other, one_same, one_le}
 use Rattle.djq_index.proofs.Counts.{many_middle, cnt_cons, cnt_length, cnt_split}
@@ -38,15 +38,15 @@ use Rattle.djq_propagate.proofs.Updating.{both, lived_come}
 same_nil : same [] [] ≡ true
 same_nil = is_same [] [] refl
 
-pub length_many : (es : List Entry) → length es ≡ many [] es []
-unfolding many pick
+pub length_many : (es : List Entry) → length es ≡ group_size [] es []
+unfolding group_size pick
 length_many [] = refl
 length_many (e ∷ es) = omega (arith, length_many es, one_true (same [] []) same_nil)
 
-pub length_even : (es fs : List Entry) → ((v : List ℕ) → cnt es v ≡ cnt fs v) → length es ≡ length fs
+pub length_even : (es fs : List Entry) → ((v : List ℕ) → count_of es v ≡ count_of fs v) → length es ≡ length fs
 length_even es fs h = length_many es ∙ many_even [] es fs h [] ∙ sym (length_many fs)
 
-pub length_less : (es fs : List Entry) → ((v : List ℕ) → cnt es v ≤ cnt fs v) → length es ≤ length fs
+pub length_less : (es fs : List Entry) → ((v : List ℕ) → count_of es v ≤ count_of fs v) → length es ≤ length fs
 length_less es fs h = omega (arith, length_many es, length_many fs, many_sub [] es fs h [])
 
 -- a projection has no more tuples
@@ -57,8 +57,8 @@ pub record Holds (ks : List ℕ) (fs : List Entry) (w : List ℕ) : Type 0 where
   pub is : fs ≡ front ++ entry ∷ back
   pub key : pick ks entry.tuple ≡ w
 
-pub holds : (ks : List ℕ) (fs : List Entry) (w : List ℕ) → 0 < many ks fs w → Holds ks fs w
-unfolding many
+pub holds : (ks : List ℕ) (fs : List Entry) (w : List ℕ) → 0 < group_size ks fs w → Holds ks fs w
+unfolding group_size
 holds ks [] w h = absurd (omega arith)
 holds ks (f ∷ fs) w h =
     elim (same_cases (pick ks f.tuple) w) [
@@ -72,25 +72,28 @@ holds ks (f ∷ fs) w h =
       })
     ]
 
-apart_first : (e : Entry) (es : List Entry) → AreApart (e ∷ es) → (cnt es e.tuple ≡ 0) × AreApart es
+apart_first : (e : Entry) (es : List Entry) → AreApart (e ∷ es) → (count_of es e.tuple ≡ 0) × AreApart es
 unfolding AreApart
 apart_first e es h = h
 
-pub keys_length : (ks : List ℕ) (es fs : List Entry) → AreApart es → ((v : List ℕ) → 0 < cnt es v → 0 < many ks fs v)
+pub keys_length : (ks : List ℕ) (es fs : List Entry) → AreApart es → ((v : List ℕ) → 0 < count_of es v
+    → 0 < group_size ks fs v)
     → length es ≤ length fs
 keys_length ks [] fs h all = omega arith
 keys_length ks (e ∷ es) fs h all =
     let a = apart_first e es h in
     let s = holds ks fs e.tuple (all e.tuple (omega (arith, cnt_cons e es e.tuple, one_same e.tuple))) in
-    let rest : (v : List ℕ) → 0 < cnt es v
-    → 0 < many ks (s.front ++ s.back) v = (λ (v : List ℕ) (some : 0 < cnt es v). elim (same_cases e.tuple v) [
-      | inl here ↦ absurd (let none : cnt es v ≡ 0 = subst (λ (w : List ℕ). cnt es w ≡ 0) here a.0 in omega arith)
+    let rest : (v : List ℕ) → 0 < count_of es v
+    → 0 < group_size ks (s.front ++ s.back) v = (λ (v : List ℕ) (some : 0 < count_of es v). elim
+    (same_cases e.tuple v) [
+      | inl here ↦ absurd (let none : count_of es v ≡ 0 = subst (λ (w : List ℕ). count_of es w ≡ 0) here a.0 in omega
+          arith)
       | inr other ↦ (let apart : one (same (pick ks s.entry.tuple) v) ≡ 0 = ap (λ (w : List ℕ). one (same w v)) s.key
           ∙ one_other e.tuple v other in
           omega (
             arith,
             all v (omega (arith, cnt_cons e es v)),
-            ap (λ (xs : List Entry). many ks xs v) s.is,
+            ap (λ (xs : List Entry). group_size ks xs v) s.is,
             many_middle
                 ks s.front s.entry s.back v,
           ))
@@ -116,9 +119,9 @@ trim_less t ts c k f h = keys_length (key_at ts c) (entries_at ts k) (entries_at
 pub meet_less : (t : Tree) (ts : List Table) (g d k : ℕ) → IsFamily t ts → IsReductOf (Meet g d) ts k
     → length (entries_at ts k) ≤ length (entries_at ts g)
 meet_less t ts g d k f h =
-    length_less (entries_at ts k) (entries_at ts g) (λ v. elim (cases_lt 0 (cnt (entries_at ts k) v)) [
+    length_less (entries_at ts k) (entries_at ts g) (λ v. elim (cases_lt 0 (count_of (entries_at ts k) v)) [
       | inl some ↦ (let s = cnt_supp (entries_at ts k) v (f.supported k) some in
-          let p = product_some (cnt (entries_at ts g) v) (cnt (entries_at ts d) (pick (key_at ts g) v))
+          let p = product_some (count_of (entries_at ts g) v) (count_of (entries_at ts d) (pick (key_at ts g) v))
           (let l = meet_law (Meet g d) g d ts k refl h v in omega arith) in
           omega (arith, once t ts f k v))
       | inr none ↦ omega arith
@@ -328,7 +331,8 @@ count_take S P n a b c so sm short first grows second =
 
 -- the lengths off the path
 lengths_off : (t : Tree) (ts us : List Table) (a : ℕ) → IsReducts (both t ts) → IsReducts (both t us)
-    → ((j : ℕ) (v : List ℕ) → j < t.leaves → j ≢ a → cnt (entries_at us j) v ≡ cnt (entries_at ts j) v) → (i : ℕ)
+    → ((j : ℕ) (v : List ℕ) → j < t.leaves → j ≢ a → count_of (entries_at us j) v ≡ count_of (entries_at ts j) v)
+    → (i : ℕ)
     → IsOff t.nodes a i → length (entries_at us i) ≡ length (entries_at ts i)
 lengths_off t ts us a r s leaves i off =
     length_even (entries_at us i) (entries_at ts i)
@@ -337,7 +341,7 @@ lengths_off t ts us a r s leaves i off =
 
 -- the tables of two families of one tree that differ in the leaf a alone, each by n tuples at most
 path_size : (t : Tree) (ts us : List Table) (a n : ℕ) → IsReducts (both t ts) → IsReducts (both t us)
-    → ((j : ℕ) (v : List ℕ) → j < t.leaves → j ≢ a → cnt (entries_at us j) v ≡ cnt (entries_at ts j) v)
+    → ((j : ℕ) (v : List ℕ) → j < t.leaves → j ≢ a → count_of (entries_at us j) v ≡ count_of (entries_at ts j) v)
     → ((i : ℕ) → length (entries_at us i) ≤ length (entries_at ts i) + n)
     → size us ≤ size ts + (1 + steps t.nodes a (length t.nodes)) * n
 path_size t ts us a n r s leaves grows =
@@ -415,14 +419,16 @@ put_all_counted t old mid new a us n x y z r c up s some few first second =
 
 -- of one tuple
 pub put_by : (t : Tree) (old mid : List Table) (a : ℕ) (u : List ℕ) (n x y z : ℕ) → IsReducts (both t old)
-    → a < t.leaves → InsertedUpwards t old mid a u → 1 ≤ n → ((i : ℕ) → length (entries_at mid i) ≤ length (entries_at old i) + n)
+    → a < t.leaves → InsertedUpwards t old mid a u → 1 ≤ n
+    → ((i : ℕ) → length (entries_at mid i) ≤ length (entries_at old i) + n)
     → y + 1 + 4 * size old ≤ x + 4 * size mid → z ≤ y + steps t.nodes a (length t.nodes) * (1 + 5 * n)
     → z ≤ x + 10 * (paths t * n)
 put_by t old mid a u n x y z r h l some grows first second = put_all_by t old mid a (u ∷ []) n x y z r
     (lived_come t old mid a u r h l) some grows (omega arith) second
 
 pub put_counted : (t : Tree) (old mid new : List Table) (a : ℕ) (u : List ℕ) (n x y z : ℕ) → IsReducts (both t old)
-    → a < t.leaves → InsertedUpwards t old mid a u → IsTouchedUp t mid new a → IsReducts (both t new) → HasAtMost (both t new) n
+    → a < t.leaves → InsertedUpwards t old mid a u → IsTouchedUp t mid new a → IsReducts (both t new)
+    → HasAtMost (both t new) n
     → y + 1 + 4 * size old ≤ x + 4 * size mid
     → ((m : ℕ) → ((i : ℕ) → length (entries_at mid i) ≤ m) → z ≤ y + steps t.nodes a (length t.nodes) * (1 + 5 * m))
     → z ≤ x + 10 * (paths t * n)
@@ -432,7 +438,7 @@ put_counted t old mid new a u n x y z r h l up s few first second =
     (let e = up.long a in omega (arith, sized t new n s few a)) few (omega arith) second
 
 pub mark_counted : (t : Tree) (old mid : List Table) (a : ℕ) (u : List ℕ) (f : List ℕ → ℕ) (n x y z : ℕ)
-    → IsReducts (both t old) → 0 < cnt (entries_at old a) u → IsTouched t old mid a f → HasAtMost (both t old) n
+    → IsReducts (both t old) → 0 < count_of (entries_at old a) u → IsTouched t old mid a f → HasAtMost (both t old) n
     → y ≤ x + 2
     → ((m : ℕ) → ((i : ℕ) → length (entries_at mid i) ≤ m) → z ≤ y + steps t.nodes a (length t.nodes) * (1 + 5 * m))
     → z ≤ x + 6 * (paths t * n)
@@ -477,7 +483,7 @@ take_counted t old mid a n x y z r w few first second =
         arith,
         few.each j low,
         length_less (entries_at mid j) (entries_at old j) (λ v. elim (cases_eq j a) [
-          | inl here ↦ subst (λ (k : ℕ). cnt (entries_at mid k) v ≤ cnt (entries_at old k) v) (sym here)
+          | inl here ↦ subst (λ (k : ℕ). count_of (entries_at mid k) v ≤ count_of (entries_at old k) v) (sym here)
               (omega (arith, w.without.leaf v, cnt_split (entries_at old a) v))
           | inr apart ↦ omega (arith, w.without.others j v low apart)
         ]),

@@ -4,7 +4,7 @@ use Rattle.std.proofs.Common.{List, length, refl, ap, ap₂, subst, sym, ◌∙�
 use Rattle.std.proofs.Common.{add-one}
 use Rattle.std.proofs.lemmas.Bool.{cases_eq, cases_lt, cases_Bool, false≢true}
 use Rattle.djq_index.specs.Tuple.{one, pick}
-use Rattle.djq_index.specs.Entries.{Entry, supp, cnt, many, marks, unmarked}
+use Rattle.djq_index.specs.Entries.{Entry, supports_of, count_of, group_size, marks, unmarked}
 use Rattle.djq_index.specs.Table.{Table}
 use Rattle.djq_index.proofs.Groups.{many_even}
 use Rattle.djq_index.proofs.Marks.{unmarked_supp, unmarked_marks, length_unmarked}
@@ -56,16 +56,16 @@ child_on t a k i s child on = reaches t.nodes a i k (rising_of t s k i child) on
 -- off the path nothing follows from a leaf's tuples
 off_node : (t : Tree) (ts us : List Table) (a k : ℕ) (n : Node) → IsFamily t ts → IsFamily t us → node_at t.nodes k ≡ n
     → k < length t.nodes → IsOff t.nodes a k
-    → ((j : ℕ) (v : List ℕ) → j < t.leaves → j ≢ a → cnt (entries_at us j) v ≡ cnt (entries_at ts j) v)
+    → ((j : ℕ) (v : List ℕ) → j < t.leaves → j ≢ a → count_of (entries_at us j) v ≡ count_of (entries_at ts j) v)
     → IsReductOf n ts k → IsReductOf n us k
-    → ((i : ℕ) → i < k → IsOff t.nodes a i → (v : List ℕ) → cnt (entries_at us i) v ≡ cnt (entries_at ts i) v)
-    → (v : List ℕ) → supp (entries_at us k) v ≡ supp (entries_at ts k) v
+    → ((i : ℕ) → i < k → IsOff t.nodes a i → (v : List ℕ) → count_of (entries_at us i) v ≡ count_of (entries_at ts i) v)
+    → (v : List ℕ) → supports_of (entries_at us k) v ≡ supports_of (entries_at ts k) v
 unfolding IsReductOf
 off_node t ts us a k (Leaf b) f g e within off leaves hs hu below v = hu v
     ∙ leaves k v (f.is_tree.inner k b within e) off.0 ∙ sym (hs v)
 off_node t ts us a k (Trim c) f g e within off leaves hs hu below v =
     let child = trim_child t.nodes k c e in
-    hu v ∙ ap (λ (ks : List ℕ). many ks (entries_at us c) v) (same_keys t ts us f g c)
+    hu v ∙ ap (λ (ks : List ℕ). group_size ks (entries_at us c) v) (same_keys t ts us f g c)
     ∙ many_even (key_at ts c) (entries_at us c) (entries_at ts c)
     (below c (rising_of t f.is_tree k c child) (off_below t a k c f.is_tree child off.1)) v ∙ sym (hs v)
 off_node t ts us a k (Meet x y) f g e within off leaves hs hu below v =
@@ -73,14 +73,15 @@ off_node t ts us a k (Meet x y) f g e within off leaves hs hu below v =
     let second = side_child t.nodes k x y e in
     hu v
     ∙ ap₂ (λ (m n : ℕ). m * n) (below x (rising_of t f.is_tree k x first) (off_below t a k x f.is_tree first off.1) v)
-    (ap (λ (ks : List ℕ). cnt (entries_at us y) (pick ks v)) (same_keys t ts us f g x)
+    (ap (λ (ks : List ℕ). count_of (entries_at us y) (pick ks v)) (same_keys t ts us f g x)
     ∙ below y (rising_of t f.is_tree k y second) (off_below t a k y f.is_tree second off.1) (pick (key_at ts x) v))
     ∙ sym (hs v)
 
 pub off_same : (t : Tree) (ts us : List Table) (a : ℕ) → IsFamily t ts → IsFamily t us → AreReduced t ts 0
     → AreReduced t us 0 →
-    ((j : ℕ) (v : List ℕ) → j < t.leaves → j ≢ a → cnt (entries_at us j) v ≡ cnt (entries_at ts j) v)
-    → (n k : ℕ) → k < n → IsOff t.nodes a k → (v : List ℕ) → supp (entries_at us k) v ≡ supp (entries_at ts k) v
+    ((j : ℕ) (v : List ℕ) → j < t.leaves → j ≢ a → count_of (entries_at us j) v ≡ count_of (entries_at ts j) v)
+    → (n k : ℕ) → k < n → IsOff t.nodes a k → (v : List ℕ) → supports_of (entries_at us k) v ≡ supports_of
+    (entries_at ts k) v
 off_same t ts us a f g rs ru leaves zero k less off v = absurd (omega arith)
 off_same t ts us a f g rs ru leaves (suc n) k less off v =
     elim (cases_lt k (length t.nodes)) [
@@ -88,7 +89,7 @@ off_same t ts us a f g rs ru leaves (suc n) k less off v =
           off_node t ts us a k (node_at t.nodes k) f g refl within off leaves (rs.at k (omega arith) within)
           (ru.at k (omega arith) within)
           (λ i low other. tuples_same t ts us f g i (off_same t ts us a f g rs ru leaves n i (omega arith) other)) v
-      | inr past ↦ (let a1 = f.long in let b1 = g.long in ap (λ (es : List Entry). supp es v)
+      | inr past ↦ (let a1 = f.long in let b1 = g.long in ap (λ (es : List Entry). supports_of es v)
           (entries_past us k (omega arith) ∙ sym (entries_past ts k (omega arith))))
     ]
 
@@ -105,9 +106,9 @@ up_touched : (t : Tree) (old mid new : List Table) (a k : ℕ) (f : List ℕ →
 up_touched t old mid new a k f x on y = record {
   family = y.family;
   supports = λ i v. elim (cases_eq i k) [
-    | inl here ↦ subst (λ (z : ℕ). supp (entries_at new z) v ≡ supp (entries_at old z) v) (sym here)
+    | inl here ↦ subst (λ (z : ℕ). supports_of (entries_at new z) v ≡ supports_of (entries_at old z) v) (sym here)
         (y.supports v ∙ x.supports k v)
-    | inr apart ↦ ap (λ (es : List Entry). supp es v) (y.others i apart) ∙ x.supports i v
+    | inr apart ↦ ap (λ (es : List Entry). supports_of es v) (y.others i apart) ∙ x.supports i v
   ];
   long = λ i. elim (cases_eq i k) [
     | inl here ↦ subst (λ (z : ℕ). length (entries_at new z) ≡ length (entries_at old z)) (sym here) (y.long ∙ x.long k)
@@ -155,9 +156,9 @@ steps_count x y z m c d e h k l = let s : x * m
     spread : (p q r : ℕ) → (p + q) * r ≡ p * r + q * r
     spread p q r = omega arith
 
-no_marks : (es : List Entry) (v : List ℕ) → cnt (marks (unmarked es)) v ≡ 0
-unfolding cnt
-no_marks es v = ap (λ (xs : List Entry). cnt xs v) (unmarked_marks es)
+no_marks : (es : List Entry) (v : List ℕ) → count_of (marks (unmarked es)) v ≡ 0
+unfolding count_of
+no_marks es v = ap (λ (xs : List Entry). count_of xs v) (unmarked_marks es)
 
 -- marks are cleared
 pub cleared_leaf : (t : Tree) (old new : List Table) (a : ℕ) → IsFamily t old → Changed old new a → entries_at new a
@@ -165,9 +166,9 @@ pub cleared_leaf : (t : Tree) (old new : List Table) (a : ℕ) → IsFamily t ol
 cleared_leaf t old new a f c e = record {
   family = c.family t f;
   supports = λ i v. elim (cases_eq i a) [
-    | inl here ↦ subst (λ (z : ℕ). supp (entries_at new z) v ≡ supp (entries_at old z) v) (sym here)
-        (ap (λ (es : List Entry). supp es v) e ∙ unmarked_supp (entries_at old a) v)
-    | inr apart ↦ ap (λ (es : List Entry). supp es v) (c.others i apart)
+    | inl here ↦ subst (λ (z : ℕ). supports_of (entries_at new z) v ≡ supports_of (entries_at old z) v) (sym here)
+        (ap (λ (es : List Entry). supports_of es v) e ∙ unmarked_supp (entries_at old a) v)
+    | inr apart ↦ ap (λ (es : List Entry). supports_of es v) (c.others i apart)
   ];
   long = λ i. elim (cases_eq i a) [
     | inl here ↦ subst (λ (z : ℕ). length (entries_at new z) ≡ length (entries_at old z)) (sym here)
@@ -175,7 +176,7 @@ cleared_leaf t old new a f c e = record {
     | inr apart ↦ ap (λ (es : List Entry). length es) (c.others i apart)
   ];
   off = λ i h. c.others i h.0;
-  leaf = λ v. ap (λ (es : List Entry). cnt (marks es) v) e ∙ no_marks (entries_at old a) v;
+  leaf = λ v. ap (λ (es : List Entry). count_of (marks es) v) e ∙ no_marks (entries_at old a) v;
   path = λ i low on v. absurd (omega arith);
 }
 
@@ -193,9 +194,10 @@ cleared_more t old mid new a k j leaf x at clear change apart =
           record {
             family = c.family t x.family;
             supports = λ i v. elim (cases_eq i k) [
-              | inl here ↦ subst (λ (z : ℕ). supp (entries_at new z) v ≡ supp (entries_at old z) v) (sym here)
-                  (ap (λ (es : List Entry). supp es v) e ∙ unmarked_supp (entries_at mid k) v ∙ x.supports k v)
-              | inr other ↦ ap (λ (es : List Entry). supp es v) (c.others i other) ∙ x.supports i v
+              | inl here ↦ subst (λ (z : ℕ). supports_of (entries_at new z) v ≡ supports_of (entries_at old z) v)
+                  (sym here)
+                  (ap (λ (es : List Entry). supports_of es v) e ∙ unmarked_supp (entries_at mid k) v ∙ x.supports k v)
+              | inr other ↦ ap (λ (es : List Entry). supports_of es v) (c.others i other) ∙ x.supports i v
             ];
             long = λ i. elim (cases_eq i k) [
               | inl here ↦ subst (λ (z : ℕ). length (entries_at new z) ≡ length (entries_at old z)) (sym here)
@@ -204,11 +206,11 @@ cleared_more t old mid new a k j leaf x at clear change apart =
             ];
             off = λ i h. c.others i
                 (λ (z : i ≡ k). absurd (false≢true (sym h.1 ∙ ap (λ (y : ℕ). on_path t.nodes a y) z ∙ on))) ∙ x.off i h;
-            leaf = λ v. ap (λ (es : List Entry). cnt (marks es) v) (c.others a (omega arith)) ∙ x.leaf v;
+            leaf = λ v. ap (λ (es : List Entry). count_of (marks es) v) (c.others a (omega arith)) ∙ x.leaf v;
             path = λ i low on_i v. elim (cases_eq i k) [
-              | inl here ↦ subst (λ (z : ℕ). cnt (marks (entries_at new z)) v ≡ 0) (sym here)
-                  (ap (λ (es : List Entry). cnt (marks es) v) e ∙ no_marks (entries_at mid k) v)
-              | inr other ↦ ap (λ (es : List Entry). cnt (marks es) v) (c.others i other)
+              | inl here ↦ subst (λ (z : ℕ). count_of (marks (entries_at new z)) v ≡ 0) (sym here)
+                  (ap (λ (es : List Entry). count_of (marks es) v) e ∙ no_marks (entries_at mid k) v)
+              | inr other ↦ ap (λ (es : List Entry). count_of (marks es) v) (c.others i other)
                   ∙ x.path i (omega arith) on_i v
             ];
           })

@@ -3,7 +3,7 @@ use Rattle.std.proofs.Common.{◌≡◌, ℕ, ◌+◌, ◌≤◌, Bool, true, fa
 use Rattle.std.proofs.Common.{subst, sym, ◌∙◌, arith, inl, inr}
 use Rattle.std.proofs.lemmas.Bool.{cases_eq, cases_Bool, false≢true}
 use Rattle.djq_index.specs.Tuple.{same, one}
-use Rattle.djq_index.specs.Entries.{Entry, supp, cnt, marks, plain}
+use Rattle.djq_index.specs.Entries.{Entry, supports_of, count_of, marks, plain}
 use Rattle.djq_index.specs.Changes.{InsertedAs, Removed, Supported}
 use Rattle.djq_index.specs.Table.{Table}
 use Rattle.djq_index.proofs.Counts.{cnt_split, cnt_middle, cnt_cons}
@@ -53,37 +53,37 @@ inserted_unlike false key old new u i = ap marks i.is ∙ marks_middle i.front i
 pub inserted_same : {m : Bool} (old new : List Table) (k : ℕ) (u : List ℕ) → Changed old new k
     → InsertedAs m (key_at old k) (entries_at old k) (entries_at new k) u → CameAs m old new
 inserted_same {m} old new k u c i = record {
-  same = each (λ ds es. (v : List ℕ) → cnt (unlike m es) v ≡ cnt (unlike m ds) v) old new k c
-      (λ v. ap (λ (es : List Entry). cnt es v)
+  same = each (λ ds es. (v : List ℕ) → count_of (unlike m es) v ≡ count_of (unlike m ds) v) old new k c
+      (λ v. ap (λ (es : List Entry). count_of es v)
       (inserted_unlike m (key_at old k) (entries_at old k) (entries_at new k) u i)) (λ es v. refl);
 }
 
 -- more supports or fewer
 plain_alike : (xs : List Entry) (d e : Entry) (ys : List Entry) (v : List ℕ) → d.tuple ≡ e.tuple → d.marked ≡ e.marked
-    → cnt (plain (xs ++ e ∷ ys)) v ≡ cnt (plain (xs ++ d ∷ ys)) v
+    → count_of (plain (xs ++ e ∷ ys)) v ≡ count_of (plain (xs ++ d ∷ ys)) v
 plain_alike xs d e ys v t m =
     elim (cases_Bool d.marked) [
-      | inl marked ↦ ap (λ (es : List Entry). cnt es v)
+      | inl marked ↦ ap (λ (es : List Entry). count_of es v)
           (plain_middle xs e ys (sym m ∙ marked) ∙ sym (plain_middle xs d ys marked))
       | inr other ↦
-          ap (λ (es : List Entry). cnt es v)
+          ap (λ (es : List Entry). count_of es v)
           (plain-append xs (e ∷ ys) ∙ ap (λ (es : List Entry). plain xs ++ es) (plain_no e ys (sym m ∙ other)))
           ∙ cnt_middle (plain xs) e (plain ys) v
-          ∙ ap (λ (w : List ℕ). one (same w v) + cnt (plain xs ++ plain ys) v) (sym t)
-          ∙ sym (ap (λ (es : List Entry). cnt es v)
+          ∙ ap (λ (w : List ℕ). one (same w v) + count_of (plain xs ++ plain ys) v) (sym t)
+          ∙ sym (ap (λ (es : List Entry). count_of es v)
           (plain-append xs (d ∷ ys) ∙ ap (λ (es : List Entry). plain xs ++ es) (plain_no d ys other))
           ∙ cnt_middle (plain xs) d (plain ys) v)
     ]
 
 pub supported_plain : (old new : List Entry) (u : List ℕ) (from to : ℕ) → Supported old new u from to → (v : List ℕ)
-    → cnt (plain new) v ≡ cnt (plain old) v
+    → count_of (plain new) v ≡ count_of (plain old) v
 supported_plain old new u from to s v =
-    ap (λ (es : List Entry). cnt (plain es) v) s.is
+    ap (λ (es : List Entry). count_of (plain es) v) s.is
     ∙ plain_alike s.front s.before s.after s.back v (s.tuple ∙ sym s.same_tuple) (sym s.same_mark)
-    ∙ ap (λ (es : List Entry). cnt (plain es) v) (sym s.was)
+    ∙ ap (λ (es : List Entry). count_of (plain es) v) (sym s.was)
 
 pub supported_marks : (old new : List Entry) (u : List ℕ) (from to : ℕ) → Supported old new u from to → (v : List ℕ)
-    → cnt (marks new) v ≡ cnt (marks old) v
+    → count_of (marks new) v ≡ count_of (marks old) v
 supported_marks old new u from to s v =
     omega (
       arith,
@@ -95,28 +95,28 @@ supported_marks old new u from to s v =
     )
 
 supported_unlike : (m : Bool) (old new : List Entry) (u : List ℕ) (from to : ℕ) → Supported old new u from to
-    → (v : List ℕ) → cnt (unlike m new) v ≡ cnt (unlike m old) v
+    → (v : List ℕ) → count_of (unlike m new) v ≡ count_of (unlike m old) v
 supported_unlike true old new u from to s v = supported_plain old new u from to s v
 supported_unlike false old new u from to s v = supported_marks old new u from to s v
 
 pub raised_same : {m : Bool} (old new : List Table) (k : ℕ) (u : List ℕ) (from to : ℕ) → Changed old new k
     → Supported (entries_at old k) (entries_at new k) u from to → CameAs m old new
 raised_same {m} old new k u from to c s = record {
-  same = each (λ ds es. (v : List ℕ) → cnt (unlike m es) v ≡ cnt (unlike m ds) v) old new k c
+  same = each (λ ds es. (v : List ℕ) → count_of (unlike m es) v ≡ count_of (unlike m ds) v) old new k c
       (supported_unlike m (entries_at old k) (entries_at new k) u from to s) (λ es v. refl);
 }
 
 pub lowered_fewer : (old new : List Table) (k : ℕ) (u : List ℕ) (from to : ℕ) → Changed old new k
     → Supported (entries_at old k) (entries_at new k) u from to → Fewer old new
 lowered_fewer old new k u from to c s = record {
-  unmarked = each (λ ds es. (v : List ℕ) → cnt (plain es) v ≤ cnt (plain ds) v) old new k c
+  unmarked = each (λ ds es. (v : List ℕ) → count_of (plain es) v ≤ count_of (plain ds) v) old new k c
       (λ v. omega (arith, supported_plain (entries_at old k) (entries_at new k) u from to s v)) (λ es v. omega arith);
-  marked = each (λ ds es. (v : List ℕ) → cnt (marks es) v ≤ cnt (marks ds) v) old new k c
+  marked = each (λ ds es. (v : List ℕ) → count_of (marks es) v ≤ count_of (marks ds) v) old new k c
       (λ v. omega (arith, supported_marks (entries_at old k) (entries_at new k) u from to s v)) (λ es v. omega arith);
 }
 
 plain_less : (xs : List Entry) (e : Entry) (ys : List Entry) (v : List ℕ)
-    → cnt (plain (xs ++ ys)) v ≤ cnt (plain (xs ++ e ∷ ys)) v
+    → count_of (plain (xs ++ ys)) v ≤ count_of (plain (xs ++ e ∷ ys)) v
 plain_less xs e ys v =
     elim (cases_Bool e.marked) [
       | inl marked ↦ rw (plain_middle xs e ys marked) (omega arith)
@@ -125,7 +125,7 @@ plain_less xs e ys v =
     ]
 
 marks_less : (xs : List Entry) (e : Entry) (ys : List Entry) (v : List ℕ)
-    → cnt (marks (xs ++ ys)) v ≤ cnt (marks (xs ++ e ∷ ys)) v
+    → count_of (marks (xs ++ ys)) v ≤ count_of (marks (xs ++ e ∷ ys)) v
 marks_less xs e ys v =
     elim (cases_Bool e.marked) [
       | inl marked ↦ rw (marks-append, marks-append, marks_yes e ys marked)
@@ -134,25 +134,26 @@ marks_less xs e ys v =
     ]
 
 pub removed_plain : (old new : List Entry) (u : List ℕ) → Removed old new u → (v : List ℕ)
-    → cnt (plain new) v ≤ cnt (plain old) v
+    → count_of (plain new) v ≤ count_of (plain old) v
 removed_plain old new u r v = rw (r.was, r.is) (plain_less r.front r.entry r.back v)
 
 pub removed_marks : (old new : List Entry) (u : List ℕ) → Removed old new u → (v : List ℕ)
-    → cnt (marks new) v ≤ cnt (marks old) v
+    → count_of (marks new) v ≤ count_of (marks old) v
 removed_marks old new u r v = rw (r.was, r.is) (marks_less r.front r.entry r.back v)
 
 pub removed_fewer : (old new : List Table) (k : ℕ) (u : List ℕ) → Changed old new k
     → Removed (entries_at old k) (entries_at new k) u → Fewer old new
 removed_fewer old new k u c r = record {
-  unmarked = each (λ ds es. (v : List ℕ) → cnt (plain es) v ≤ cnt (plain ds) v) old new k c
+  unmarked = each (λ ds es. (v : List ℕ) → count_of (plain es) v ≤ count_of (plain ds) v) old new k c
       (removed_plain (entries_at old k) (entries_at new k) u r) (λ es v. omega arith);
-  marked = each (λ ds es. (v : List ℕ) → cnt (marks es) v ≤ cnt (marks ds) v) old new k c
+  marked = each (λ ds es. (v : List ℕ) → count_of (marks es) v ≤ count_of (marks ds) v) old new k c
       (removed_marks (entries_at old k) (entries_at new k) u r) (λ es v. omega arith);
 }
 
 -- what came in between is gone again, so the marks are the same
 back_as : (m : Bool) (t : Tree) (ts us xs : List Table) → IsFamily t ts → IsFamily t us → IsFamily t xs → CameAs m ts us
-    → Fewer us xs → ((i : ℕ) (v : List ℕ) → supp (entries_at xs i) v ≡ supp (entries_at ts i) v) → CameAs m ts xs
+    → Fewer us xs → ((i : ℕ) (v : List ℕ) → supports_of (entries_at xs i) v ≡ supports_of (entries_at ts i) v)
+    → CameAs m ts xs
 back_as true t ts us xs f g h a b s = record {
   same = λ i v.
       omega (
@@ -183,12 +184,13 @@ back_as false t ts us xs f g h a b s = record {
 }
 
 pub back_same : {m : Bool} (t : Tree) (ts us xs : List Table) → IsFamily t ts → IsFamily t us → IsFamily t xs
-    → CameAs m ts us → Fewer us xs → ((i : ℕ) (v : List ℕ) → supp (entries_at xs i) v ≡ supp (entries_at ts i) v)
+    → CameAs m ts us → Fewer us xs → ((i : ℕ) (v : List ℕ) → supports_of (entries_at xs i) v ≡ supports_of
+    (entries_at ts i) v)
     → CameAs m ts xs
 back_same {m} t ts us xs f g h a b s = back_as m t ts us xs f g h a b s
 
 -- where nothing is marked, and what comes is not, nothing is
-no_entries : (es : List Entry) → ((v : List ℕ) → cnt es v ≡ 0) → es ≡ []
+no_entries : (es : List Entry) → ((v : List ℕ) → count_of es v ≡ 0) → es ≡ []
 no_entries [] h = refl
 no_entries (e ∷ es) h = absurd (omega (arith, h e.tuple, cnt_cons e es e.tuple, one_same e.tuple))
 

@@ -2,7 +2,7 @@
 use Rattle.std.proofs.Common.{◌≡◌, ℕ, suc, ◌+◌, ◌-◌, ◌*◌, ◌<◌, ◌≤◌, List, ◌∷◌, ◌++◌, length, take}
 use Rattle.std.proofs.Common.{drop, ap, subst, sym, arith, inl, inr}
 use Rattle.std.proofs.lemmas.Bool.{cases_eq}
-use Rattle.djq_index.specs.Entries.{Entry, supp, cnt, grp}
+use Rattle.djq_index.specs.Entries.{Entry, supports_of, count_of, group_of}
 use Rattle.djq_index.specs.Table.{Table}
 use Rattle.djq_index.proofs.Counts.{length_grp}
 use Rattle.djq_tree.specs.declared.node.Node.TheVariants.{Meet}
@@ -20,7 +20,7 @@ use Rattle.djq_propagate.proofs.Touching.{cut_length, take_zero}
 
 -- where no tuple of a group has come to its meet, the tables are as large as before
 none_size : (t : Tree) (was now mid : List Table) (g j k i : ℕ) (u : List ℕ) → ChangedOnlyAt t was now j
-    → IsUnder t k (Meet g j) j → IsGrown t now mid k (take i (grp (key_at now g) (entries_at now g) u)) → i ≡ 0
+    → IsUnder t k (Meet g j) j → IsGrown t now mid k (take i (group_of (key_at now g) (entries_at now g) u)) → i ≡ 0
     → size mid ≡ size now
 none_size t was now mid g j k i u b x grown start =
     same_size t now mid f grown.family
@@ -33,31 +33,35 @@ none_size t was now mid g j k i u b x grown start =
     high : t.leaves ≤ k + 1
     high = let h = meet_high t k g j b.ready.family.is_tree x.node in omega arith
 
-    agree : (y : ℕ) → y < k + 1 → (v : List ℕ) → supp (entries_at mid y) v ≡ supp (entries_at now y) v
+    agree : (y : ℕ) → y < k + 1 → (v : List ℕ) → supports_of (entries_at mid y) v ≡ supports_of (entries_at now y) v
     agree y less v =
         elim (cases_eq y k) [
           | inl here ↦
-              let none : cnt (take i (grp (key_at now g) (entries_at now g) u)) v
-              ≡ 0 = subst (λ (n : ℕ). cnt (take n (grp (key_at now g) (entries_at now g) u)) v ≡ 0) (sym start)
-              (take_zero (grp (key_at now g) (entries_at now g) u) v) in
+              let none : count_of (take i (group_of (key_at now g) (entries_at now g) u)) v
+              ≡ 0 = subst (λ (n : ℕ). count_of (take n (group_of (key_at now g) (entries_at now g) u)) v ≡ 0)
+              (sym start)
+              (take_zero (group_of (key_at now g) (entries_at now g) u) v) in
               let came = grown.came v in
-              subst (λ (z : ℕ). supp (entries_at mid z) v ≡ supp (entries_at now z) v) (sym here) (omega arith)
-          | inr apart ↦ ap (λ (es : List Entry). supp es v) (grown.low y (omega arith))
+              subst (λ (z : ℕ). supports_of (entries_at mid z) v ≡ supports_of (entries_at now z) v) (sym here)
+              (omega arith)
+          | inr apart ↦ ap (λ (es : List Entry). supports_of es v) (grown.low y (omega arith))
         ]
 
 -- at a side the group has one tuple, so that none had come
 pub side_flat : (t : Tree) (was now mid after last : List Table) (g j k i x y z w : ℕ) (u : List ℕ) (e : Entry)
     → HasEqualMeets t → ChangedOnlyAt t was now j → IsUnder t k (Meet g j) j
-    → IsGrown t now mid k (take i (grp (key_at now g) (entries_at now g) u)) → grp (key_at now g) (entries_at now g) u
-    ≡ take i (grp (key_at now g) (entries_at now g) u) ++ e ∷ drop (i + 1) (grp (key_at now g) (entries_at now g) u)
+    → IsGrown t now mid k (take i (group_of (key_at now g) (entries_at now g) u)) → group_of (key_at now g)
+    (entries_at now g) u
+    ≡ take i (group_of (key_at now g) (entries_at now g) u) ++ e ∷ drop (i + 1) (group_of (key_at now g)
+    (entries_at now g) u)
     → IsFamily t after → IsFamily t last
-    → ((q : ℕ) (v : List ℕ) → supp (entries_at after q) v ≡ supp (entries_at mid q) v)
-    → ((q : ℕ) (v : List ℕ) → supp (entries_at last q) v ≡ supp (entries_at now q) v)
+    → ((q : ℕ) (v : List ℕ) → supports_of (entries_at after q) v ≡ supports_of (entries_at mid q) v)
+    → ((q : ℕ) (v : List ℕ) → supports_of (entries_at last q) v ≡ supports_of (entries_at now q) v)
     → y + 4 * size now ≤ x + 1 + 4 * size mid → z ≤ y + 5 * (length t.nodes - k)
     → w + 5 * size last ≤ z + 1 + 5 * size after → w + 2 ≤ x + 5 * (length t.nodes - j)
 side_flat t was now mid after last g j k i x y z w u e meets b under grown cut f h stays back first second third =
     let family = now_family t was now j b in
-    let long = cut_length (grp (key_at now g) (entries_at now g) u) i e cut in
+    let long = cut_length (group_of (key_at now g) (entries_at now g) u) i e cut in
     let single = group_single t now k g j u meets family under.node under.within in
     let start : i ≡ 0 = omega (arith, length_grp (key_at now g) (entries_at now g) u) in
     let p = none_size t was now mid g j k i u b under grown start in

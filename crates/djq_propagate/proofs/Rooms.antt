@@ -3,7 +3,7 @@ use Rattle.std.proofs.Common.{◌≡◌, Bool, ℕ, zero, suc, ◌+◌, ◌*◌,
 use Rattle.std.proofs.Common.{take, drop, refl, ap, subst, sym, ◌∙◌, arith, inl, inr, mul-le-mul_right}
 use Rattle.std.proofs.lemmas.Bool.{cases_eq, cases_lt}
 use Rattle.djq_index.specs.Tuple.{same, pick}
-use Rattle.djq_index.specs.Entries.{Entry, supp, cnt, grp}
+use Rattle.djq_index.specs.Entries.{Entry, supports_of, count_of, group_of}
 use Rattle.djq_index.specs.Changes.{InsertedAs}
 use Rattle.djq_index.specs.Table.{Table}
 use Rattle.djq_index.proofs.Tuples.{same_cases, one_le, one_other}
@@ -35,7 +35,7 @@ same_part ts us h zero = refl
 same_part ts us h (suc k) = omega (arith, same_part ts us h k, h k)
 
 pub same_size : (t : Tree) (ts us : List Table) → IsFamily t ts → IsFamily t us
-    → ((i : ℕ) (v : List ℕ) → supp (entries_at us i) v ≡ supp (entries_at ts i) v) → size us ≡ size ts
+    → ((i : ℕ) (v : List ℕ) → supports_of (entries_at us i) v ≡ supports_of (entries_at ts i) v) → size us ≡ size ts
 same_size t ts us f g h =
     let lengths : (i : ℕ) → length (entries_at us i)
     ≡ length (entries_at ts i) =
@@ -125,9 +125,12 @@ over t ts n from f r high low (suc m) k less =
 
 -- at a side's meet, for the next one of the guard's group
 pub next_fits : {m : Bool} (t : Tree) (was now mid : List Table) (g j k i : ℕ) (u : List ℕ) (e : Entry)
-    → ChangedOnlyAt t was now j → InsertedAs m (key_at was j) (entries_at was j) (entries_at now j) u → IsUnder t k (Meet g j) j
-    → IsGrown t now mid k (take i (grp (key_at now g) (entries_at now g) u)) → grp (key_at now g) (entries_at now g) u
-    ≡ take i (grp (key_at now g) (entries_at now g) u) ++ e ∷ drop (i + 1) (grp (key_at now g) (entries_at now g) u)
+    → ChangedOnlyAt t was now j → InsertedAs m (key_at was j) (entries_at was j) (entries_at now j) u
+    → IsUnder t k (Meet g j) j
+    → IsGrown t now mid k (take i (group_of (key_at now g) (entries_at now g) u)) → group_of (key_at now g)
+    (entries_at now g) u
+    ≡ take i (group_of (key_at now g) (entries_at now g) u) ++ e ∷ drop (i + 1) (group_of (key_at now g)
+    (entries_at now g) u)
     → length (entries_at mid k) + 1 ≤ length (entries_at now g)
 next_fits {m} t was now mid g j k i u e b ins x grown cut = let l = length_less (e ∷ entries_at mid k)
     (entries_at now g) within in omega arith
@@ -135,55 +138,61 @@ next_fits {m} t was now mid g j k i u e b ins x grown cut = let l = length_less 
     guards : entries_at now g ≡ entries_at was g
     guards = b.changed.others g (b.ready.family.is_tree.meet k g j x.node).apart
 
-    from_was : (v : List ℕ) → 0 < supp (entries_at now k) v → 0 < cnt (entries_at now g) v
+    from_was : (v : List ℕ) → 0 < supports_of (entries_at now k) v → 0 < count_of (entries_at now g) v
     from_was v some =
-        let up : supp (entries_at now k) v
-        ≡ supp (entries_at was k) v = ap (λ (es : List Entry). supp es v) (same_up t was now j k (Meet g j) b x) in
+        let up : supports_of (entries_at now k) v
+        ≡ supports_of (entries_at was k) v = ap (λ (es : List Entry). supports_of es v)
+        (same_up t was now j k (Meet g j) b x) in
         let law = meet_law (Meet g j) g j was k refl (law_of t was now j k (Meet g j) b x) v in
-        let p = product_some (cnt (entries_at was g) v) (cnt (entries_at was j) (pick (key_at was g) v)) (omega arith)
+        let p = product_some (count_of (entries_at was g) v) (count_of (entries_at was j) (pick (key_at was g) v))
+        (omega arith)
         in
-        omega (arith, ap (λ (es : List Entry). cnt es v) guards)
+        omega (arith, ap (λ (es : List Entry). count_of es v) guards)
 
-    old_ones : (v : List ℕ) → 0 < cnt (entries_at mid k) v → 0 < cnt (entries_at now g) v
+    old_ones : (v : List ℕ) → 0 < count_of (entries_at mid k) v → 0 < count_of (entries_at now g) v
     old_ones v some =
         let s = cnt_supp (entries_at mid k) v (grown.family.supported k) some in
         let c = grown.came v in
-        elim (cases_lt 0 (supp (entries_at now k) v)) [
+        elim (cases_lt 0 (supports_of (entries_at now k) v)) [
           | inl before ↦ from_was v before
-          | inr none ↦ (let part = take_le (grp (key_at now g) (entries_at now g) u) i v in
+          | inr none ↦ (let part = take_le (group_of (key_at now g) (entries_at now g) u) i v in
               (group_has (key_at now g) (entries_at now g) u v (omega arith)).0)
         ]
 
-    within : (v : List ℕ) → cnt (e ∷ entries_at mid k) v ≤ cnt (entries_at now g) v
+    within : (v : List ℕ) → count_of (e ∷ entries_at mid k) v ≤ count_of (entries_at now g) v
     within v =
         let split = cnt_cons e (entries_at mid k) v in
         let most = once t mid grown.family k v in
         elim (same_cases e.tuple v) [
           | inl here ↦
-              let c = cut_new (grp (key_at now g) (entries_at now g) u) i e
+              let c = cut_new (group_of (key_at now g) (entries_at now g) u) i e
               (λ w. group_once (key_at now g) (entries_at now g) u w (apart_of t now (now_family t was now j b) g))
               cut in
               let second = c.1 in
-              let has : 0 < cnt (entries_at now g) e.tuple =
+              let has : 0 < count_of (entries_at now g) e.tuple =
               (group_has (key_at now g) (entries_at now g) u e.tuple (omega arith)).0 in
-              let there : 0 < cnt (entries_at now g) v = subst (λ (w : List ℕ). 0 < cnt (entries_at now g) w) here has
+              let there : 0 < count_of (entries_at now g) v = subst (λ (w : List ℕ). 0 < count_of (entries_at now g)
+              w) here has
               in
-              let none : cnt (entries_at mid k) v
-              ≡ 0 = subst (λ (w : List ℕ). cnt (entries_at mid k) w ≡ 0) here
+              let none : count_of (entries_at mid k) v
+              ≡ 0 = subst (λ (w : List ℕ). count_of (entries_at mid k) w ≡ 0) here
               (side_absent t was now mid g j k i u e b ins x grown cut) in
               omega (arith, one_le (same e.tuple v))
           | inr other ↦
               let zero_one = one_other e.tuple v other in
-              elim (cases_lt 0 (cnt (entries_at mid k) v)) [
+              elim (cases_lt 0 (count_of (entries_at mid k) v)) [
                 | inl some ↦ (let there = old_ones v some in omega arith)
                 | inr none ↦ omega arith
               ]
         ]
 
 pub side_fits : {m : Bool} (t : Tree) (was now mid : List Table) (g j k i n : ℕ) (u : List ℕ) (e : Entry)
-    → ChangedOnlyAt t was now j → InsertedAs m (key_at was j) (entries_at was j) (entries_at now j) u → IsUnder t k (Meet g j) j
-    → IsGrown t now mid k (take i (grp (key_at now g) (entries_at now g) u)) → grp (key_at now g) (entries_at now g) u
-    ≡ take i (grp (key_at now g) (entries_at now g) u) ++ e ∷ drop (i + 1) (grp (key_at now g) (entries_at now g) u)
+    → ChangedOnlyAt t was now j → InsertedAs m (key_at was j) (entries_at was j) (entries_at now j) u
+    → IsUnder t k (Meet g j) j
+    → IsGrown t now mid k (take i (group_of (key_at now g) (entries_at now g) u)) → group_of (key_at now g)
+    (entries_at now g) u
+    ≡ take i (group_of (key_at now g) (entries_at now g) u) ++ e ∷ drop (i + 1) (group_of (key_at now g)
+    (entries_at now g) u)
     → AreAtMost now n → (length (entries_at mid k) < n) × AreAtMost mid n
 side_fits {m} t was now mid g j k i n u e b ins x grown cut h =
     let here = next_fits t was now mid g j k i u e b ins x grown cut in
@@ -202,8 +211,8 @@ side_fits {m} t was now mid g j k i n u e b ins x grown cut h =
 -- what a refusal counts, where some tuples of a group had come
 pub side_bounded : (t : Tree) (now mid after last : List Table) (b x y z w : ℕ) → IsFamily t now → IsFamily t mid
     → IsFamily t after → IsFamily t last
-    → ((i : ℕ) (v : List ℕ) → supp (entries_at after i) v ≡ supp (entries_at mid i) v)
-    → ((i : ℕ) (v : List ℕ) → supp (entries_at last i) v ≡ supp (entries_at now i) v)
+    → ((i : ℕ) (v : List ℕ) → supports_of (entries_at after i) v ≡ supports_of (entries_at mid i) v)
+    → ((i : ℕ) (v : List ℕ) → supports_of (entries_at last i) v ≡ supports_of (entries_at now i) v)
     → y + 4 * size now ≤ x + 1 + 4 * size mid → z + 9 * size mid ≤ y + 9 * b
     → w + 5 * size last ≤ z + 1 + 5 * size after → w + 9 * size now ≤ x + 7 + 9 * b
 side_bounded t now mid after last b x y z w f g h k stays back first second third =

@@ -6,10 +6,10 @@ use Rattle.std.proofs.lemmas.Bool.{cases_lt}
 use Rattle.std.proofs.lemmas.List.{take-append-drop}
 use Rattle.std.proofs.Math.ListN.{drop_of_length-le}
 use Rattle.djq_index.specs.Tuple.{same, pick, one}
-use Rattle.djq_index.specs.Entries.{Entry, supp, cnt, grp, head_at}
+use Rattle.djq_index.specs.Entries.{Entry, supports_of, count_of, group_of, head_at}
 use Rattle.djq_index.specs.Table.{Table, AreApart}
 use Rattle.djq_index.proofs.Tuples.{is_same, same_cases, one_same, one_other, one_true}
-use Rattle.djq_index.proofs.Counts.{many_length, length_grp, cnt-append, cnt_cons}
+use Rattle.djq_index.proofs.Counts.{many_length, length_grp, count_of-append, cnt_cons}
 use Rattle.djq_index.proofs.Apart.{cnt_once, supp_none}
 use Rattle.djq_index.proofs.Groups.{cnt_grp}
 use Rattle.djq_index.proofs.Changing.{inserted_supp, removed_supp}
@@ -19,7 +19,7 @@ use Rattle.djq_propagate.specs.Walks.{Ready, InsertedUpwards, RemovedUpwards, Is
 use Rattle.djq_propagate.proofs.Families.{apart_of, below_up}
 
 -- a group's tuples
-pub group_once : (ks : List ℕ) (es : List Entry) (w v : List ℕ) → AreApart es → cnt (grp ks es w) v ≤ 1
+pub group_once : (ks : List ℕ) (es : List Entry) (w v : List ℕ) → AreApart es → count_of (group_of ks es w) v ≤ 1
 group_once ks es w v h =
     elim (same_cases (pick ks v) w) [
       | inl here ↦ (let e = one_true (same (pick ks v) w) (is_same (pick ks v) w here) in rw (cnt_grp ks es w v, e)
@@ -27,32 +27,38 @@ group_once ks es w v h =
       | inr other ↦ (let e = one_other (pick ks v) w other in rw (cnt_grp ks es w v, e) (omega arith))
     ]
 
-pub group_has : (ks : List ℕ) (es : List Entry) (w v : List ℕ) → 0 < cnt (grp ks es w) v → (0 < cnt es v)
+pub group_has : (ks : List ℕ) (es : List Entry) (w v : List ℕ) → 0 < count_of (group_of ks es w) v → (0 < count_of es v)
     × (pick ks v ≡ w)
 group_has ks es w v h =
     elim (same_cases (pick ks v) w) [
-      | inl here ↦ (let e = one_true (same (pick ks v) w) (is_same (pick ks v) w here) in let k : cnt (grp ks es w) v
-          ≡ cnt es v * 1 = rw (← e) (cnt_grp ks es w v) in (omega arith, here))
-      | inr other ↦ (let e = one_other (pick ks v) w other in let k : cnt (grp ks es w) v
-          ≡ cnt es v * 0 = rw (← e) (cnt_grp ks es w v) in absurd (omega arith))
+      | inl here ↦ (let e = one_true (same (pick ks v) w) (is_same (pick ks v) w here) in let k : count_of
+          (group_of ks es w) v
+          ≡ count_of es v * 1 = rw (← e) (cnt_grp ks es w v) in (omega arith, here))
+      | inr other ↦ (let e = one_other (pick ks v) w other in let k : count_of (group_of ks es w) v
+          ≡ count_of es v * 0 = rw (← e) (cnt_grp ks es w v) in absurd (omega arith))
     ]
 
 -- first parts of a list
-pub take_le : (g : List Entry) (i : ℕ) (v : List ℕ) → cnt (take i g) v ≤ cnt g v
+pub take_le : (g : List Entry) (i : ℕ) (v : List ℕ) → count_of (take i g) v ≤ count_of g v
 take_le g i v = omega
-    (arith, cnt-append (take i g) (drop i g) v, ap (λ (es : List Entry). cnt es v) (take-append-drop i g))
+    (arith, count_of-append (take i g) (drop i g) v, ap (λ (es : List Entry). count_of es v) (take-append-drop i g))
 
-pub take_all : (g : List Entry) (i : ℕ) (v : List ℕ) → drop i g ≡ [] → cnt (take i g) v ≡ cnt g v
-unfolding cnt
+pub take_all : (g : List Entry) (i : ℕ) (v : List ℕ) → drop i g ≡ [] → count_of (take i g) v ≡ count_of g v
+unfolding count_of
 take_all g i v h =
-    let none : cnt (drop i g) v ≡ 0 = ap (λ (es : List Entry). cnt es v) h in
-    omega (arith, cnt-append (take i g) (drop i g) v, ap (λ (es : List Entry). cnt es v) (take-append-drop i g))
+    let none : count_of (drop i g) v ≡ 0 = ap (λ (es : List Entry). count_of es v) h in
+    omega (
+      arith,
+      count_of-append (take i g) (drop i g) v,
+      ap (λ (es : List Entry). count_of es v)
+          (take-append-drop i g),
+    )
 
-nothing : (v : List ℕ) → cnt [] v ≡ 0
-unfolding cnt
+nothing : (v : List ℕ) → count_of [] v ≡ 0
+unfolding count_of
 nothing v = refl
 
-pub take_grows : (g : List Entry) (i n : ℕ) (v : List ℕ) → i ≤ n → cnt (take i g) v ≤ cnt (take n g) v
+pub take_grows : (g : List Entry) (i n : ℕ) (v : List ℕ) → i ≤ n → count_of (take i g) v ≤ count_of (take n g) v
 take_grows [] i n v h = omega (arith, take_le [] i v, nothing v)
 take_grows (e ∷ g) zero n v h = omega (arith, nothing v)
 take_grows (e ∷ g) (suc i) zero v h = absurd (omega arith)
@@ -64,33 +70,34 @@ unfolding head_at
 head_none [] h = refl
 head_none (e ∷ es) h = absurd cc
 
-pub drop_group : (ks : List ℕ) (es : List Entry) (w : List ℕ) (n : ℕ) → n ≡ length es → drop n (grp ks es w) ≡ []
-drop_group ks es w n h = drop_of_length-le (grp ks es w) (omega (arith, length_grp ks es w, many_length ks es w))
+pub drop_group : (ks : List ℕ) (es : List Entry) (w : List ℕ) (n : ℕ) → n ≡ length es → drop n (group_of ks es w) ≡ []
+drop_group ks es w n h = drop_of_length-le (group_of ks es w) (omega (arith, length_grp ks es w, many_length ks es w))
 
 -- the next one of the list
 pub cut_cnt : (g : List Entry) (i : ℕ) (e : Entry) (v : List ℕ) → g ≡ take i g ++ e ∷ drop (i + 1) g
-    → (cnt g v ≡ cnt (take i g) v + one (same e.tuple v) + cnt (drop (i + 1) g) v)
-    × (cnt (take (i + 1) g) v ≡ cnt (take i g) v + one (same e.tuple v))
+    → (count_of g v ≡ count_of (take i g) v + one (same e.tuple v) + count_of (drop (i + 1) g) v)
+    × (count_of (take (i + 1) g) v ≡ count_of (take i g) v + one (same e.tuple v))
 cut_cnt g i e v h =
-    let whole : cnt g v ≡ cnt (take i g) v + one (same e.tuple v) + cnt (drop (i + 1) g) v = omega (
+    let whole : count_of g v ≡ count_of (take i g) v + one (same e.tuple v) + count_of (drop (i + 1) g) v = omega (
       arith,
-      ap (λ (es : List Entry). cnt es v) h,
-      cnt-append (take i g) (e ∷ drop (i + 1) g) v,
+      ap (λ (es : List Entry). count_of es v) h,
+      count_of-append (take i g) (e ∷ drop (i + 1) g) v,
       cnt_cons e
           (drop (i + 1) g) v,
     ) in (
       whole,
       omega (
         arith,
-        ap (λ (es : List Entry). cnt es v) (take-append-drop (i + 1) g),
-        cnt-append (take (i + 1) g)
+        ap (λ (es : List Entry). count_of es v) (take-append-drop (i + 1) g),
+        count_of-append (take (i + 1) g)
             (drop (i + 1) g) v,
       ),
     )
 
 -- where each stands once, those before it are others
-pub cut_new : (g : List Entry) (i : ℕ) (e : Entry) → ((v : List ℕ) → cnt g v ≤ 1) → g ≡ take i g ++ e ∷ drop (i + 1) g
-    → (cnt (take i g) e.tuple ≡ 0) × (cnt g e.tuple ≡ 1) × (cnt (take (i + 1) g) e.tuple ≡ 1)
+pub cut_new : (g : List Entry) (i : ℕ) (e : Entry) → ((v : List ℕ) → count_of g v ≤ 1) → g ≡ take i g ++ e ∷ drop
+    (i + 1) g
+    → (count_of (take i g) e.tuple ≡ 0) × (count_of g e.tuple ≡ 1) × (count_of (take (i + 1) g) e.tuple ≡ 1)
 cut_new g i e once_each h =
     let c = cut_cnt g i e e.tuple h in
     let first = c.0 in
@@ -99,8 +106,8 @@ cut_new g i e once_each h =
     let most = once_each e.tuple in
     (omega arith, omega arith, omega arith)
 
-pub present : (es : List Entry) (u : List ℕ) → 0 < supp es u → 0 < cnt es u
-present es u h = elim (cases_lt 0 (cnt es u))
+pub present : (es : List Entry) (u : List ℕ) → 0 < supports_of es u → 0 < count_of es u
+present es u h = elim (cases_lt 0 (count_of es u))
     [ inl some ↦ some | inr none ↦ absurd (omega (arith, supp_none es u (omega arith))) ]
 
 -- none came yet
@@ -108,7 +115,7 @@ pub grown_none : (t : Tree) (ts : List Table) (k : ℕ) (g : List Entry) → Rea
 grown_none t ts k g r = record
     { family = r.family; low = λ i h. refl; came = λ v. omega (arith, none g v); reduced = r.reduced }
   where
-    none : (h : List Entry) (v : List ℕ) → cnt (take 0 h) v ≡ 0
+    none : (h : List Entry) (v : List ℕ) → count_of (take 0 h) v ≡ 0
     none [] v = nothing v
     none (x ∷ xs) v = nothing v
 
@@ -137,7 +144,7 @@ pub emptied_none : (t : Tree) (ts : List Table) (k : ℕ) (g : List Entry) → R
 emptied_none t ts k g r = record
     { family = r.family; low = λ i h. refl; lost = λ v. omega (arith, none g v); reduced = r.reduced }
   where
-    none : (h : List Entry) (v : List ℕ) → cnt (take 0 h) v ≡ 0
+    none : (h : List Entry) (v : List ℕ) → count_of (take 0 h) v ≡ 0
     none [] v = nothing v
     none (x ∷ xs) v = nothing v
 
@@ -147,8 +154,9 @@ emptied_ready t old mid k es within g = record { family = g.family; within = wit
 
 -- the next one is still there
 pub still_there : (t : Tree) (old mid : List Table) (k : ℕ) (g : List Entry) (i n : ℕ) (e : Entry)
-    → IsEmptied t old mid k (take i g) → IsFull (entries_at old k) (take n g) → i < n → ((v : List ℕ) → cnt g v ≤ 1) → g
-    ≡ take i g ++ e ∷ drop (i + 1) g → supp (entries_at mid k) e.tuple ≡ 1
+    → IsEmptied t old mid k (take i g) → IsFull (entries_at old k) (take n g) → i < n
+    → ((v : List ℕ) → count_of g v ≤ 1) → g
+    ≡ take i g ++ e ∷ drop (i + 1) g → supports_of (entries_at mid k) e.tuple ≡ 1
 still_there t old mid k g i n e m full less once_each cut =
     let c = cut_new g i e once_each cut in
     let first = c.0 in
@@ -162,7 +170,8 @@ cond_one false n h = refl
 
 -- one more went
 pub emptied_more : (t : Tree) (old mid new : List Table) (k : ℕ) (g : List Entry) (i : ℕ) (e : Entry)
-    → IsEmptied t old mid k (take i g) → RemovedUpwards t mid new k e.tuple → supp (entries_at mid k) e.tuple ≡ 1 → g
+    → IsEmptied t old mid k (take i g) → RemovedUpwards t mid new k e.tuple → supports_of (entries_at mid k) e.tuple
+    ≡ 1 → g
     ≡ take i g ++ e ∷ drop (i + 1) g → IsEmptied t old new k (take (i + 1) g)
 emptied_more t old mid new k g i e was d has cut = record {
   family = d.family;
@@ -171,7 +180,7 @@ emptied_more t old mid new k g i e was d has cut = record {
       omega (
         arith,
         removed_supp (entries_at mid k) (entries_at new k) e.tuple d.loses (apart_of t mid was.family k) v,
-        cond_one (same e.tuple v) (supp (entries_at mid k) e.tuple) has,
+        cond_one (same e.tuple v) (supports_of (entries_at mid k) e.tuple) has,
         was.lost v,
         (cut_cnt g i e v cut).1,
       );

@@ -4,7 +4,7 @@ use Rattle.std.proofs.Common.{List, [], ◌∷◌, length, refl, ap, subst, sym,
 use Rattle.std.specs.Prelude.{◌==◌}
 use Rattle.std.proofs.lemmas.Bool.{cases_eq, cases_lt, cases_Bool, ne_eqb, eqb-true, false≢true}
 use Rattle.djq_index.specs.Tuple.{same, pick, one}
-use Rattle.djq_index.specs.Entries.{Entry, cnt, many}
+use Rattle.djq_index.specs.Entries.{Entry, count_of, group_size}
 use Rattle.djq_index.specs.Table.{Table, AreWide}
 use Rattle.djq_index.proofs.Tuples.{same_cases, is_same, one_same, one_other, one_true, one_le}
 use Rattle.djq_index.proofs.Counts.{cnt_cons}
@@ -31,8 +31,8 @@ use Rattle.djq_propagate.proofs.Updating.{both}
 
 -- ---- a guard's key has its whole tuple
 
-wide_tuple : (width : ℕ) (es : List Entry) (v : List ℕ) → AreWide width es → 0 < cnt es v → length v ≡ width
-unfolding AreWide cnt
+wide_tuple : (width : ℕ) (es : List Entry) (v : List ℕ) → AreWide width es → 0 < count_of es v → length v ≡ width
+unfolding AreWide count_of
 wide_tuple width [] v h some = absurd (omega arith)
 wide_tuple width (e ∷ es) v h some =
     elim (same_cases e.tuple v) [
@@ -41,13 +41,13 @@ wide_tuple width (e ∷ es) v h some =
     ]
 
 tuple_width : (t : Tree) (ts : List Table) (j : ℕ) (v : List ℕ) → IsFamily t ts → j < length t.nodes
-    → 0 < cnt (entries_at ts j) v → length v ≡ length (label_at t.labels j)
+    → 0 < count_of (entries_at ts j) v → length v ≡ length (label_at t.labels j)
 unfolding entries_at width_at
 tuple_width t ts j v f within some = wide_tuple (table_at ts j).width (table_at ts j).entries v (f.sound j).wide some
     ∙ (f.keyed j within).width
 
 pub whole_key : (t : Tree) (ts : List Table) (k g d : ℕ) (v : List ℕ) → HasEqualMeets t → IsFamily t ts
-    → node_at t.nodes k ≡ Meet g d → k < length t.nodes → 0 < cnt (entries_at ts g) v → pick (key_at ts g) v ≡ v
+    → node_at t.nodes k ≡ Meet g d → k < length t.nodes → 0 < count_of (entries_at ts g) v → pick (key_at ts g) v ≡ v
 whole_key t ts k g d v meets f e within some =
     let low = (f.is_tree.meet k g d e).guard_lower in
     let here : g < length t.nodes = omega arith in
@@ -56,9 +56,10 @@ whole_key t ts k g d v meets f e within some =
     ((f.keyed g here).key ∙ ap (columns l) (key_of_guard t k g d f.is_tree e ∙ meets.equal k g d e))
     ∙ pick_itself l v (simple_of l (f.is_tree.sets g).rising) (tuple_width t ts g v f here some)
 
-many_whole : (ks : List ℕ) (es : List Entry) (u : List ℕ) → ((v : List ℕ) → 0 < cnt es v → pick ks v ≡ v) → many ks es u
-    ≡ cnt es u
-unfolding many cnt
+many_whole : (ks : List ℕ) (es : List Entry) (u : List ℕ) → ((v : List ℕ) → 0 < count_of es v → pick ks v ≡ v)
+    → group_size ks es u
+    ≡ count_of es u
+unfolding group_size count_of
 many_whole ks [] u h = refl
 many_whole ks (e ∷ es) u h =
     let here : pick ks e.tuple ≡ e.tuple = h e.tuple (omega (arith, one_same e.tuple)) in
@@ -66,7 +67,7 @@ many_whole ks (e ∷ es) u h =
 
 -- so its groups have one tuple
 pub group_single : (t : Tree) (ts : List Table) (k g d : ℕ) (u : List ℕ) → HasEqualMeets t → IsFamily t ts
-    → node_at t.nodes k ≡ Meet g d → k < length t.nodes → many (key_at ts g) (entries_at ts g) u ≤ 1
+    → node_at t.nodes k ≡ Meet g d → k < length t.nodes → group_size (key_at ts g) (entries_at ts g) u ≤ 1
 group_single t ts k g d u meets f e within = omega (
   arith,
   many_whole (key_at ts g) (entries_at ts g) u (λ v some. whole_key t ts k g d v meets f e within some),
@@ -79,20 +80,20 @@ group_single t ts k g d u meets f e within = omega (
 -- what fs has and es lacks is one tuple at most
 pub record OneMore (es fs : List Entry) : Type 0 where
   pub tuple : List ℕ
-  pub only : (v : List ℕ) → 0 < cnt fs v → cnt es v ≡ 0 → v ≡ tuple
+  pub only : (v : List ℕ) → 0 < count_of fs v → count_of es v ≡ 0 → v ≡ tuple
 
-none_more : (es fs : List Entry) → ((v : List ℕ) → cnt fs v ≡ cnt es v) → OneMore es fs
+none_more : (es fs : List Entry) → ((v : List ℕ) → count_of fs v ≡ count_of es v) → OneMore es fs
 none_more es fs h = record { tuple = []; only = λ v some none. absurd (let e = h v in omega arith) }
 
-pub one_longer : (es fs : List Entry) → OneMore es fs → ((v : List ℕ) → cnt fs v ≤ 1) → length fs ≤ length es + 1
+pub one_longer : (es fs : List Entry) → OneMore es fs → ((v : List ℕ) → count_of fs v ≤ 1) → length fs ≤ length es + 1
 one_longer es [] o most = omega arith
 one_longer es (f ∷ fs) o most =
     let extra : Entry = record { at = f.at; tuple = o.tuple; supports = f.supports; marked = f.marked } in
     let l = length_less (f ∷ fs) (extra ∷ es)
     (λ v. let c = cnt_cons extra es v in let m = most v in
-    elim (cases_lt 0 (cnt es v)) [
+    elim (cases_lt 0 (count_of es v)) [
       | inl before ↦ omega arith
-      | inr none ↦ elim (cases_lt 0 (cnt (f ∷ fs) v)) [
+      | inr none ↦ elim (cases_lt 0 (count_of (f ∷ fs) v)) [
         | inr absent ↦ omega arith
         | inl some ↦ let e = one_true (same o.tuple v) (is_same o.tuple v (sym (o.only v some (omega arith)))) in omega
             arith
@@ -101,8 +102,8 @@ one_longer es (f ∷ fs) o most =
     omega arith
 
 -- a tuple is in its own group
-pub in_group : (ks : List ℕ) (es : List Entry) (u : List ℕ) → cnt es u ≤ many ks es (pick ks u)
-unfolding cnt many
+pub in_group : (ks : List ℕ) (es : List Entry) (u : List ℕ) → count_of es u ≤ group_size ks es (pick ks u)
+unfolding count_of group_size
 in_group ks [] u = omega arith
 in_group ks (e ∷ es) u =
     let r = in_group ks es u in
@@ -127,15 +128,15 @@ right_zero (suc a) (suc b) h some = absurd (omega arith)
 
 module _ (t : Tree) (ts us : List Table) (a : ℕ) (meets : HasEqualMeets t) (r : IsReducts (both t ts))
     (s : IsReducts (both t us))
-    (others : (j : ℕ) (v : List ℕ) → j < t.leaves → j ≢ a → cnt (entries_at us j) v ≡ cnt (entries_at ts j) v)
+    (others : (j : ℕ) (v : List ℕ) → j < t.leaves → j ≢ a → count_of (entries_at us j) v ≡ count_of (entries_at ts j) v)
     (more : OneMore (entries_at ts a) (entries_at us a)) where
-  off_even : (i : ℕ) → IsOff t.nodes a i → (v : List ℕ) → cnt (entries_at us i) v ≡ cnt (entries_at ts i) v
+  off_even : (i : ℕ) → IsOff t.nodes a i → (v : List ℕ) → count_of (entries_at us i) v ≡ count_of (entries_at ts i) v
   off_even i off v = tuples_same t ts us r.family s.family i
       (off_same t ts us a r.family s.family r.reduced s.reduced others (suc i) i (omega arith) off) v
 
   -- a node's other child is off the path
   child_even : (n : Node) (j k c : ℕ) → node_at t.nodes k ≡ n → j ≡ path_at t.nodes a k → has_child n c ≡ true
-      → (c ≡ j → ⊥) → (v : List ℕ) → cnt (entries_at us c) v ≡ cnt (entries_at ts c) v
+      → (c ≡ j → ⊥) → (v : List ℕ) → count_of (entries_at us c) v ≡ count_of (entries_at ts c) v
   child_even n j k c e at child apart =
       off_even c (other_off t a k c r.family.is_tree (ap (λ (m : Node). has_child m c) e ∙ child)
       (λ (q : c ≡ path_at t.nodes a k). apart (q ∙ sym at)))
@@ -150,19 +151,20 @@ module _ (t : Tree) (ts us : List Table) (a : ℕ) (meets : HasEqualMeets t) (r 
         let before = trim_law (Trim c) c ts k refl old v in
         let came = cnt_supp (entries_at us k) v (s.family.supported k) some in
         let lacked = supp_none (entries_at ts k) v none in
-        let here : 0 < many ks (entries_at us c) v = subst (λ (q : List ℕ). 0 < many q (entries_at us c) v)
+        let here : 0 < group_size ks (entries_at us c) v = subst (λ (q : List ℕ). 0 < group_size q (entries_at us c) v)
         (same_keys t ts us r.family s.family c) (omega arith) in
         let h = holds ks (entries_at us c) v here in
         let u = h.entry.tuple in
         let has = there (entries_at us c) h.front h.entry h.back u h.is refl in
-        let grouped : cnt (entries_at ts c) u ≤ many ks (entries_at ts c) v = subst
-        (λ (w : List ℕ). cnt (entries_at ts c) u ≤ many ks (entries_at ts c) w) h.key
+        let grouped : count_of (entries_at ts c) u ≤ group_size ks (entries_at ts c) v = subst
+        (λ (w : List ℕ). count_of (entries_at ts c) u ≤ group_size ks (entries_at ts c) w) h.key
         (in_group ks (entries_at ts c) u) in
         sym h.key ∙ ap (pick ks) (one.only u has (omega arith));
   }
 
   guard_more : (g d k : ℕ) → node_at t.nodes k ≡ Meet g d → IsReductOf (Meet g d) ts k → IsReductOf (Meet g d) us k
-      → ((v : List ℕ) → cnt (entries_at us d) v ≡ cnt (entries_at ts d) v) → OneMore (entries_at ts g) (entries_at us g)
+      → ((v : List ℕ) → count_of (entries_at us d) v ≡ count_of (entries_at ts d) v) → OneMore (entries_at ts g)
+      (entries_at us g)
       → OneMore (entries_at ts k) (entries_at us k)
   guard_more g d k e old new even one = record {
     tuple = one.tuple;
@@ -171,17 +173,19 @@ module _ (t : Tree) (ts us : List Table) (a : ℕ) (meets : HasEqualMeets t) (r 
         let before = meet_law (Meet g d) g d ts k refl old v in
         let came = cnt_supp (entries_at us k) v (s.family.supported k) some in
         let lacked = supp_none (entries_at ts k) v none in
-        let guards = product_some (cnt (entries_at us g) v) (cnt (entries_at us d) (pick (key_at us g) v)) (omega arith)
+        let guards = product_some (count_of (entries_at us g) v) (count_of (entries_at us d) (pick (key_at us g) v))
+        (omega arith)
         in
-        let sides : 0 < cnt (entries_at us d) (pick (key_at ts g) v) = subst
-        (λ (q : List ℕ). 0 < cnt (entries_at us d) (pick q v)) (same_keys t ts us r.family s.family g)
-        (second_some (cnt (entries_at us g) v) (cnt (entries_at us d) (pick (key_at us g) v)) (omega arith)) in
-        one.only v guards (left_zero (cnt (entries_at ts g) v) (cnt (entries_at ts d) (pick (key_at ts g) v))
+        let sides : 0 < count_of (entries_at us d) (pick (key_at ts g) v) = subst
+        (λ (q : List ℕ). 0 < count_of (entries_at us d) (pick q v)) (same_keys t ts us r.family s.family g)
+        (second_some (count_of (entries_at us g) v) (count_of (entries_at us d) (pick (key_at us g) v)) (omega arith))
+        in
+        one.only v guards (left_zero (count_of (entries_at ts g) v) (count_of (entries_at ts d) (pick (key_at ts g) v))
         (omega arith) (omega (arith, even (pick (key_at ts g) v))));
   }
 
   side_more : (g d k : ℕ) → node_at t.nodes k ≡ Meet g d → k < length t.nodes → IsReductOf (Meet g d) ts k
-      → IsReductOf (Meet g d) us k → ((v : List ℕ) → cnt (entries_at us g) v ≡ cnt (entries_at ts g) v)
+      → IsReductOf (Meet g d) us k → ((v : List ℕ) → count_of (entries_at us g) v ≡ count_of (entries_at ts g) v)
       → OneMore (entries_at ts d) (entries_at us d) → OneMore (entries_at ts k) (entries_at us k)
   side_more g d k e within old new even one = record {
     tuple = one.tuple;
@@ -190,17 +194,19 @@ module _ (t : Tree) (ts us : List Table) (a : ℕ) (meets : HasEqualMeets t) (r 
         let before = meet_law (Meet g d) g d ts k refl old v in
         let came = cnt_supp (entries_at us k) v (s.family.supported k) some in
         let lacked = supp_none (entries_at ts k) v none in
-        let guards : 0 < cnt (entries_at ts g) v = omega (
+        let guards : 0 < count_of (entries_at ts g) v = omega (
           arith,
           even v,
-          product_some (cnt (entries_at us g) v) (cnt (entries_at us d) (pick (key_at us g) v))
+          product_some (count_of (entries_at us g) v) (count_of (entries_at us d) (pick (key_at us g) v))
               (omega arith),
         ) in
         let whole = whole_key t ts k g d v meets r.family e within guards in
-        let sides : 0 < cnt (entries_at us d) (pick (key_at ts g) v) = subst
-        (λ (q : List ℕ). 0 < cnt (entries_at us d) (pick q v)) (same_keys t ts us r.family s.family g)
-        (second_some (cnt (entries_at us g) v) (cnt (entries_at us d) (pick (key_at us g) v)) (omega arith)) in
-        let fresh = right_zero (cnt (entries_at ts g) v) (cnt (entries_at ts d) (pick (key_at ts g) v)) (omega arith)
+        let sides : 0 < count_of (entries_at us d) (pick (key_at ts g) v) = subst
+        (λ (q : List ℕ). 0 < count_of (entries_at us d) (pick q v)) (same_keys t ts us r.family s.family g)
+        (second_some (count_of (entries_at us g) v) (count_of (entries_at us d) (pick (key_at us g) v)) (omega arith))
+        in
+        let fresh = right_zero (count_of (entries_at ts g) v) (count_of (entries_at ts d) (pick (key_at ts g) v))
+        (omega arith)
         guards in
         sym whole ∙ one.only (pick (key_at ts g) v) sides fresh;
   }

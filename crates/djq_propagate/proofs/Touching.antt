@@ -8,11 +8,11 @@ use Rattle.std.proofs.Common.{length-append}
 use Rattle.std.proofs.Math.ListN.{drop_of_length-le}
 use Rattle.djq_index.specs.declared.place.Place.{Place}
 use Rattle.djq_index.specs.Tuple.{same, pick, one}
-use Rattle.djq_index.specs.Entries.{Entry, cnt, many, grp, marks, plain, is_marked, head_at}
+use Rattle.djq_index.specs.Entries.{Entry, count_of, group_size, group_of, marks, plain, is_marked, head_at}
 use Rattle.djq_index.specs.Changes.{Touched}
 use Rattle.djq_index.specs.Table.{Table, IsAt, AreApart, AreLast}
 use Rattle.djq_index.proofs.Tuples.{same_is, same_refl, same_cases, same_sym, one_other, one_true, true_from_one}
-use Rattle.djq_index.proofs.Counts.{length_grp, cnt_cons, many-append, many_cons, cnt_split, many_split}
+use Rattle.djq_index.proofs.Counts.{length_grp, cnt_cons, group_size-append, many_cons, cnt_split, many_split}
 use Rattle.djq_index.proofs.Apart.{there}
 use Rattle.djq_index.proofs.Groups.{cnt_grp}
 use Rattle.djq_index.proofs.Changing.{touched_supp, touched_length, touched_marks}
@@ -34,7 +34,7 @@ use Rattle.djq_index.proofs.Clearing.{length_marks}
 
 -- nothing is touched
 pub touched_none : (t : Tree) (ts : List Table) (k : ℕ) (f : List ℕ → ℕ) → IsFamily t ts
-    → ((v : List ℕ) → 0 < cnt (entries_at ts k) v → 0 < f v → 0 < cnt (marks (entries_at ts k)) v)
+    → ((v : List ℕ) → 0 < count_of (entries_at ts k) v → 0 < f v → 0 < count_of (marks (entries_at ts k)) v)
     → IsTouched t ts ts k f
 touched_none t ts k f family all = record {
   family = family;
@@ -60,15 +60,15 @@ touched_one t old new k u f c x = record {
 }
 
 -- it is absent, or marked
-pub one_absent : (es : List Entry) (u v : List ℕ) → cnt es u ≡ 0 → 0 < cnt es v → 0 < one (same u v)
-    → 0 < cnt (marks es) v
+pub one_absent : (es : List Entry) (u v : List ℕ) → count_of es u ≡ 0 → 0 < count_of es v → 0 < one (same u v)
+    → 0 < count_of (marks es) v
 one_absent es u v none some here =
     let e : u ≡ v = same_is u v (true_from_one (same u v) here) in
-    let k : cnt es v ≡ 0 = subst (λ (w : List ℕ). cnt es w ≡ 0) e none in
+    let k : count_of es v ≡ 0 = subst (λ (w : List ℕ). count_of es w ≡ 0) e none in
     absurd (omega arith)
 
-pub one_marked : (es : List Entry) (u v : List ℕ) → AreApart es → is_marked es u ≡ true → 0 < cnt es v
-    → 0 < one (same u v) → 0 < cnt (marks es) v
+pub one_marked : (es : List Entry) (u v : List ℕ) → AreApart es → is_marked es u ≡ true → 0 < count_of es v
+    → 0 < one (same u v) → 0 < count_of (marks es) v
 one_marked es u v h m some here =
     let e : u ≡ v = same_is u v (true_from_one (same u v) here) in
     let k : is_marked es v ≡ true = subst (λ (w : List ℕ). is_marked es w ≡ true) e m in
@@ -89,7 +89,7 @@ touched_as t old new k f h x same_count = record {
 
 -- a tuple with so many supports is there
 tuples_touched : (t : Tree) (old new : List Table) (k : ℕ) (f : List ℕ → ℕ) → IsFamily t old → IsTouched t old new k f
-    → (v : List ℕ) → cnt (entries_at new k) v ≡ cnt (entries_at old k) v
+    → (v : List ℕ) → count_of (entries_at new k) v ≡ count_of (entries_at old k) v
 tuples_touched t old new k f family x v = tuples_same t old new family x.family k x.supports v
 
 -- and more
@@ -105,17 +105,17 @@ touched_more t a b c k f g h family x y sum = record {
   only = only;
 }
   where
-    comes : (v : List ℕ) → 0 < cnt (entries_at a k) v → 0 < h v → 0 < cnt (marks (entries_at c k)) v
+    comes : (v : List ℕ) → 0 < count_of (entries_at a k) v → 0 < h v → 0 < count_of (marks (entries_at c k)) v
     comes v there some =
         elim (cases_lt 0 (f v)) [
           | inl first ↦ omega (arith, x.comes v there first, y.keeps v)
           | inr none ↦ y.comes v (omega (arith, tuples_touched t a b k f family x v)) (omega (arith, sum v))
         ]
 
-    only : (v : List ℕ) → 0 < cnt (marks (entries_at c k)) v → 0 < cnt (marks (entries_at a k)) v + h v
+    only : (v : List ℕ) → 0 < count_of (marks (entries_at c k)) v → 0 < count_of (marks (entries_at a k)) v + h v
     only v some =
         let later = y.only v some in
-        elim (cases_lt 0 (cnt (marks (entries_at b k)) v)) [
+        elim (cases_lt 0 (count_of (marks (entries_at b k)) v)) [
           | inl before ↦ omega (arith, x.only v before, sum v)
           | inr none ↦ omega (arith, sum v)
         ]
@@ -133,15 +133,15 @@ pub gate_test : (n : ℕ) → is_marked_by true n ≡ (n == 0)
 unfolding is_marked_by
 gate_test n = refl
 
-empty_many : (ks : List ℕ) (w : List ℕ) (es : List Entry) → many ks (plain es) w ≤ many ks es w
+empty_many : (ks : List ℕ) (w : List ℕ) (es : List Entry) → group_size ks (plain es) w ≤ group_size ks es w
 empty_many ks w es = omega (arith, many_split ks es w)
 
-pub gate_none : (ks : List ℕ) (es : List Entry) (w : List ℕ) → head_at (grp ks es w) ≡ None → true
-    ≡ is_marked_by true (many ks (plain es) w)
+pub gate_none : (ks : List ℕ) (es : List Entry) (w : List ℕ) → head_at (group_of ks es w) ≡ None → true
+    ≡ is_marked_by true (group_size ks (plain es) w)
 gate_none ks es w h =
-    let e : length (grp ks es w) ≡ 0 = ap (λ (xs : List Entry). length xs) (head_none (grp ks es w) h) in
-    sym (gate_test (many ks (plain es) w)
-    ∙ eq-eqb (many ks (plain es) w) 0 (omega (arith, length_grp ks es w, empty_many ks w es)))
+    let e : length (group_of ks es w) ≡ 0 = ap (λ (xs : List Entry). length xs) (head_none (group_of ks es w) h) in
+    sym (gate_test (group_size ks (plain es) w)
+    ∙ eq-eqb (group_size ks (plain es) w) 0 (omega (arith, length_grp ks es w, empty_many ks w es)))
 
 first_of_group : (g : List Entry) (p : Place) → head_at g ≡ Some p → (e : Entry) × (rest : List Entry) × (g ≡ e ∷ rest)
     × (e.at ≡ p)
@@ -155,8 +155,8 @@ unfolding AreApart
 marked_middle [] e ys h = is_marked_here e ys e.tuple (same_refl e.tuple)
 marked_middle (x ∷ xs) e ys h =
     elim (same_cases x.tuple e.tuple) [
-      | inl here ↦ absurd (let none : cnt (xs ++ e ∷ ys) e.tuple
-          ≡ 0 = subst (λ (w : List ℕ). cnt (xs ++ e ∷ ys) w ≡ 0) here h.0 in omega
+      | inl here ↦ absurd (let none : count_of (xs ++ e ∷ ys) e.tuple
+          ≡ 0 = subst (λ (w : List ℕ). count_of (xs ++ e ∷ ys) w ≡ 0) here h.0 in omega
           (arith, there (xs ++ e ∷ ys) xs e ys e.tuple refl refl))
       | inr other ↦ is_marked_else x (xs ++ e ∷ ys) e.tuple other ∙ marked_middle xs e ys h.1
     ]
@@ -165,13 +165,13 @@ marked_middle (x ∷ xs) e ys h =
 pub record IsFirst (ks : List ℕ) (es : List Entry) (w : List ℕ) (p : Place) : Type 0 where
   pub entry : Entry
   pub rest : List Entry
-  pub is : grp ks es w ≡ entry ∷ rest
+  pub is : group_of ks es w ≡ entry ∷ rest
   pub is_at : IsAt es p entry.tuple
 
-pub first_is : (ks : List ℕ) (es : List Entry) (w : List ℕ) (p : Place) → head_at (grp ks es w) ≡ Some p
+pub first_is : (ks : List ℕ) (es : List Entry) (w : List ℕ) (p : Place) → head_at (group_of ks es w) ≡ Some p
     → IsFirst ks es w p
 first_is ks es w p h =
-    let c = first_of_group (grp ks es w) p h in
+    let c = first_of_group (group_of ks es w) p h in
     record {
       entry = c.0;
       rest = c.1;
@@ -180,7 +180,8 @@ first_is ks es w p h =
           (group_at ks es w [] c.0 c.1 c.2);
     }
 
-entry_mark : (ks : List ℕ) (es : List Entry) (w : List ℕ) (e : Entry) (rest : List Entry) → AreApart es → grp ks es w
+entry_mark : (ks : List ℕ) (es : List Entry) (w : List ℕ) (e : Entry) (rest : List Entry) → AreApart es
+    → group_of ks es w
     ≡ e ∷ rest → is_marked es e.tuple ≡ e.marked
 entry_mark ks es w e rest h is =
     let s = group_split ks es w e rest is in
@@ -189,34 +190,36 @@ entry_mark ks es w e rest h is =
 
 pub gate_first : (t : Tree) (ts : List Table) (k : ℕ) (w : List ℕ) (p : Place) (b : Bool)
     (x : IsFirst (key_at ts k) (entries_at ts k) w p) → IsFamily t ts → b ≡ is_marked (entries_at ts k) x.entry.tuple
-    → b ≡ is_marked_by true (many (key_at ts k) (plain (entries_at ts k)) w)
+    → b ≡ is_marked_by true (group_size (key_at ts k) (plain (entries_at ts k)) w)
 gate_first t ts k w p b x f e =
     let m = e ∙ entry_mark (key_at ts k) (entries_at ts k) w x.entry x.rest (apart_of t ts f k) x.is in
     elim (cases_Bool x.entry.marked) [
       | inl marked ↦ (let none = whole_group (key_at ts k) (entries_at ts k) w x.entry x.rest (last_of t ts k f) x.is
           marked in
-          m ∙ marked ∙ sym (gate_test (many (key_at ts k) (plain (entries_at ts k)) w)
-          ∙ eq-eqb (many (key_at ts k) (plain (entries_at ts k)) w) 0 none))
+          m ∙ marked ∙ sym (gate_test (group_size (key_at ts k) (plain (entries_at ts k)) w)
+          ∙ eq-eqb (group_size (key_at ts k) (plain (entries_at ts k)) w) 0 none))
       | inr other ↦ (let some = part_group (key_at ts k) (entries_at ts k) w x.entry x.rest x.is other in
-          m ∙ other ∙ sym (gate_test (many (key_at ts k) (plain (entries_at ts k)) w)
-          ∙ ne_eqb (many (key_at ts k) (plain (entries_at ts k)) w) 0
-          (λ (z : many (key_at ts k) (plain (entries_at ts k)) w ≡ 0). absurd (omega arith))))
+          m ∙ other ∙ sym (gate_test (group_size (key_at ts k) (plain (entries_at ts k)) w)
+          ∙ ne_eqb (group_size (key_at ts k) (plain (entries_at ts k)) w) 0
+          (λ (z : group_size (key_at ts k) (plain (entries_at ts k)) w ≡ 0). absurd (omega arith))))
     ]
 
 -- a trim
 pub reach_yes : (j : ℕ) (ts : List Table) (u v w : List ℕ) (going b : Bool) → w ≡ pick (key_at ts j) u → b
-    ≡ is_marked_by going (many (key_at ts j) (plain (entries_at ts j)) w) → b ≡ true → reach_one (Trim j) going j ts u v
+    ≡ is_marked_by going (group_size (key_at ts j) (plain (entries_at ts j)) w) → b ≡ true
+    → reach_one (Trim j) going j ts u v
     ≡ one (same w v)
 unfolding reach_one
 reach_yes j ts u v w going b e g yes_gate =
     elim (same_cases w v) [
       | inl here ↦ (
-          let open_gate : one (is_marked_by going (many (key_at ts j) (plain (entries_at ts j)) v))
-          ≡ 1 = one_true (is_marked_by going (many (key_at ts j) (plain (entries_at ts j)) v))
-          (ap (λ (x : List ℕ). is_marked_by going (many (key_at ts j) (plain (entries_at ts j)) x)) (sym here) ∙ sym g
+          let open_gate : one (is_marked_by going (group_size (key_at ts j) (plain (entries_at ts j)) v))
+          ≡ 1 = one_true (is_marked_by going (group_size (key_at ts j) (plain (entries_at ts j)) v))
+          (ap (λ (x : List ℕ). is_marked_by going (group_size (key_at ts j) (plain (entries_at ts j)) x)) (sym here)
+          ∙ sym g
           ∙ yes_gate) in
           let k : one (same (pick (key_at ts j) u) v) * one
-          (is_marked_by going (many (key_at ts j) (plain (entries_at ts j)) v))
+          (is_marked_by going (group_size (key_at ts j) (plain (entries_at ts j)) v))
           ≡ one (same (pick (key_at ts j) u) v) * 1 = ap (λ (n : ℕ). one (same (pick (key_at ts j) u) v) * n)
           open_gate in
           omega (arith, ap (λ (x : List ℕ). one (same x v)) e))
@@ -224,24 +227,26 @@ reach_yes j ts u v w going b e g yes_gate =
           let none : one (same (pick (key_at ts j) u) v) ≡ 0 = ap (λ (x : List ℕ). one (same x v)) (sym e)
           ∙ one_other w v other in
           let k : one (same (pick (key_at ts j) u) v) * one
-          (is_marked_by going (many (key_at ts j) (plain (entries_at ts j)) v))
-          ≡ 0 * one (is_marked_by going (many (key_at ts j) (plain (entries_at ts j)) v)) = ap
-          (λ (n : ℕ). n * one (is_marked_by going (many (key_at ts j) (plain (entries_at ts j)) v))) none in
+          (is_marked_by going (group_size (key_at ts j) (plain (entries_at ts j)) v))
+          ≡ 0 * one (is_marked_by going (group_size (key_at ts j) (plain (entries_at ts j)) v)) = ap
+          (λ (n : ℕ). n * one (is_marked_by going (group_size (key_at ts j) (plain (entries_at ts j)) v))) none in
           omega (arith, one_other w v other))
     ]
 
 pub reach_no : (j : ℕ) (ts : List Table) (u v w : List ℕ) (going b : Bool) → w ≡ pick (key_at ts j) u → b
-    ≡ is_marked_by going (many (key_at ts j) (plain (entries_at ts j)) w) → b ≡ false → reach_one (Trim j) going j ts u v ≡ 0
+    ≡ is_marked_by going (group_size (key_at ts j) (plain (entries_at ts j)) w) → b ≡ false
+    → reach_one (Trim j) going j ts u v ≡ 0
 unfolding reach_one
 reach_no j ts u v w going b e g no_gate =
     elim (same_cases w v) [
       | inl here ↦ (
-          let shut : one (is_marked_by going (many (key_at ts j) (plain (entries_at ts j)) v))
-          ≡ 0 = one_false (is_marked_by going (many (key_at ts j) (plain (entries_at ts j)) v))
-          (ap (λ (x : List ℕ). is_marked_by going (many (key_at ts j) (plain (entries_at ts j)) x)) (sym here) ∙ sym g
+          let shut : one (is_marked_by going (group_size (key_at ts j) (plain (entries_at ts j)) v))
+          ≡ 0 = one_false (is_marked_by going (group_size (key_at ts j) (plain (entries_at ts j)) v))
+          (ap (λ (x : List ℕ). is_marked_by going (group_size (key_at ts j) (plain (entries_at ts j)) x)) (sym here)
+          ∙ sym g
           ∙ no_gate) in
           let k : one (same (pick (key_at ts j) u) v) * one
-          (is_marked_by going (many (key_at ts j) (plain (entries_at ts j)) v))
+          (is_marked_by going (group_size (key_at ts j) (plain (entries_at ts j)) v))
           ≡ one (same (pick (key_at ts j) u) v) * 0 = ap (λ (n : ℕ). one (same (pick (key_at ts j) u) v) * n) shut
           in
           omega arith)
@@ -249,9 +254,9 @@ reach_no j ts u v w going b e g no_gate =
           let none : one (same (pick (key_at ts j) u) v) ≡ 0 = ap (λ (x : List ℕ). one (same x v)) (sym e)
           ∙ one_other w v other in
           let k : one (same (pick (key_at ts j) u) v) * one
-          (is_marked_by going (many (key_at ts j) (plain (entries_at ts j)) v))
-          ≡ 0 * one (is_marked_by going (many (key_at ts j) (plain (entries_at ts j)) v)) = ap
-          (λ (n : ℕ). n * one (is_marked_by going (many (key_at ts j) (plain (entries_at ts j)) v))) none in
+          (is_marked_by going (group_size (key_at ts j) (plain (entries_at ts j)) v))
+          ≡ 0 * one (is_marked_by going (group_size (key_at ts j) (plain (entries_at ts j)) v)) = ap
+          (λ (n : ℕ). n * one (is_marked_by going (group_size (key_at ts j) (plain (entries_at ts j)) v))) none in
           omega arith)
     ]
 
@@ -271,7 +276,7 @@ unfolding reach_one
 reach_guard n g s going j ts u v e here = rw (e, eq-eqb g j here) refl
 
 pub reach_side : (n : Node) (g s : ℕ) (going : Bool) (j : ℕ) (ts : List Table) (u v : List ℕ) → n ≡ Meet g s
-    → (g ≡ j → ⊥) → reach_one n going j ts u v ≡ cnt (grp (key_at ts g) (entries_at ts g) u) v
+    → (g ≡ j → ⊥) → reach_one n going j ts u v ≡ count_of (group_of (key_at ts g) (entries_at ts g) u) v
 unfolding reach_one
 reach_side n g s going j ts u v e other = rw (e, ne_eqb g j other) refl
 
@@ -284,7 +289,7 @@ unfolding cost_one
 cost_guard n g s j ts u e here = rw (e, eq-eqb g j here) refl
 
 pub cost_side : (n : Node) (g s j : ℕ) (ts : List Table) (u : List ℕ) → n ≡ Meet g s → (g ≡ j → ⊥) → cost_one n j ts u
-    ≡ 1 + 3 * many (key_at ts g) (entries_at ts g) u
+    ≡ 1 + 3 * group_size (key_at ts g) (entries_at ts g) u
 unfolding cost_one
 cost_side n g s j ts u e other = rw (e, ne_eqb g j other) refl
 
@@ -295,10 +300,11 @@ pub reach_still : (n : Node) (going : Bool) (j : ℕ) (ts us : List Table) (u v 
 unfolding reach_one
 reach_still (Leaf a) going j ts us u v keys kids = refl
 reach_still (Trim c) going j ts us u v keys kids = ap₂
-    (λ (ks : List ℕ) (es : List Entry). one (same (pick ks u) v) * one (is_marked_by going (many ks (plain es) v))) (keys c)
+    (λ (ks : List ℕ) (es : List Entry). one (same (pick ks u) v) * one
+    (is_marked_by going (group_size ks (plain es) v))) (keys c)
     (kids c (eq-eqb c c refl))
 reach_still (Meet g s) going j ts us u v keys kids = ap₂
-    (λ (ks : List ℕ) (es : List Entry). cond (g == j) (one (same u v)) (cnt (grp ks es u) v)) (keys g)
+    (λ (ks : List ℕ) (es : List Entry). cond (g == j) (one (same u v)) (count_of (group_of ks es u) v)) (keys g)
     (kids g (guard_has g s))
 
 pub cost_still : (n : Node) (j : ℕ) (ts us : List Table) (u : List ℕ) → ((c : ℕ) → key_at us c ≡ key_at ts c)
@@ -307,20 +313,20 @@ unfolding cost_one
 cost_still (Leaf a) j ts us u keys kids = refl
 cost_still (Trim c) j ts us u keys kids = refl
 cost_still (Meet g s) j ts us u keys kids = ap₂
-    (λ (ks : List ℕ) (es : List Entry). cond (g == j) 2 (1 + 3 * many ks es u)) (keys g) (kids g (guard_has g s))
+    (λ (ks : List ℕ) (es : List Entry). cond (g == j) 2 (1 + 3 * group_size ks es u)) (keys g) (kids g (guard_has g s))
 
 -- one marked tuple more
 cut_many : (ks : List ℕ) (g : List Entry) (i : ℕ) (e : Entry) (w : List ℕ) → g ≡ take i g ++ e ∷ drop (i + 1) g
-    → many ks (take (i + 1) g) w ≡ many ks (take i g) w + one (same (pick ks e.tuple) w)
+    → group_size ks (take (i + 1) g) w ≡ group_size ks (take i g) w + one (same (pick ks e.tuple) w)
 cut_many ks g i e w h =
     omega (
       arith,
-      ap (λ (es : List Entry). many ks es w) h,
-      many-append ks (take i g) (e ∷ drop (i + 1) g) w,
+      ap (λ (es : List Entry). group_size ks es w) h,
+      group_size-append ks (take i g) (e ∷ drop (i + 1) g) w,
       many_cons
           ks e (drop (i + 1) g) w,
-      ap (λ (es : List Entry). many ks es w) (take-append-drop (i + 1) g),
-      many-append ks
+      ap (λ (es : List Entry). group_size ks es w) (take-append-drop (i + 1) g),
+      group_size-append ks
           (take (i + 1) g) (drop (i + 1) g) w,
     )
 
@@ -340,28 +346,28 @@ pub reach_more : (n : Node) (going : Bool) (j : ℕ) (ts : List Table) (g : List
 unfolding reach reach_one
 reach_more (Leaf a) going j ts g i e v h = refl
 reach_more (Trim c) going j ts g i e v h =
-    ap (λ (x : ℕ). x * one (is_marked_by going (many (key_at ts c) (plain (entries_at ts c)) v)))
+    ap (λ (x : ℕ). x * one (is_marked_by going (group_size (key_at ts c) (plain (entries_at ts c)) v)))
     (cut_many (key_at ts c) g i e v h)
-    ∙ spread (many (key_at ts c) (take i g) v) (one (same (pick (key_at ts c) e.tuple) v))
-    (one (is_marked_by going (many (key_at ts c) (plain (entries_at ts c)) v)))
+    ∙ spread (group_size (key_at ts c) (take i g) v) (one (same (pick (key_at ts c) e.tuple) v))
+    (one (is_marked_by going (group_size (key_at ts c) (plain (entries_at ts c)) v)))
 reach_more (Meet c s) going j ts g i e v h =
-    cond_sum (c == j) (cnt (take (i + 1) g) v) (cnt (take i g) v) (one (same e.tuple v))
-    (cnt (entries_at ts c) v * cnt (take (i + 1) g) (pick (key_at ts c) v))
-    (cnt (entries_at ts c) v * cnt (take i g) (pick (key_at ts c) v))
-    (cnt (grp (key_at ts c) (entries_at ts c) e.tuple) v)
+    cond_sum (c == j) (count_of (take (i + 1) g) v) (count_of (take i g) v) (one (same e.tuple v))
+    (count_of (entries_at ts c) v * count_of (take (i + 1) g) (pick (key_at ts c) v))
+    (count_of (entries_at ts c) v * count_of (take i g) (pick (key_at ts c) v))
+    (count_of (group_of (key_at ts c) (entries_at ts c) e.tuple) v)
     (cut_cnt g i e v h).1
-    (ap (λ (x : ℕ). cnt (entries_at ts c) v * x) (cut_cnt g i e (pick (key_at ts c) v) h).1
-    ∙ spread_left (cnt (entries_at ts c) v) (cnt (take i g) (pick (key_at ts c) v))
+    (ap (λ (x : ℕ). count_of (entries_at ts c) v * x) (cut_cnt g i e (pick (key_at ts c) v) h).1
+    ∙ spread_left (count_of (entries_at ts c) v) (count_of (take i g) (pick (key_at ts c) v))
     (one (same e.tuple (pick (key_at ts c) v)))
-    ∙ ap (λ (x : ℕ). cnt (entries_at ts c) v * cnt (take i g) (pick (key_at ts c) v) + x)
-    (ap (λ (q : Bool). cnt (entries_at ts c) v * one q) (same_sym e.tuple (pick (key_at ts c) v))
+    ∙ ap (λ (x : ℕ). count_of (entries_at ts c) v * count_of (take i g) (pick (key_at ts c) v) + x)
+    (ap (λ (q : Bool). count_of (entries_at ts c) v * one q) (same_sym e.tuple (pick (key_at ts c) v))
     ∙ sym (cnt_grp (key_at ts c) (entries_at ts c) e.tuple v)))
 
 pub reach_nothing : (n : Node) (going : Bool) (j : ℕ) (ts : List Table) (v : List ℕ) → reach n going j ts [] v ≡ 0
-unfolding reach many cnt
+unfolding reach group_size count_of
 reach_nothing (Leaf a) going j ts v = refl
 reach_nothing (Trim c) going j ts v = omega arith
-reach_nothing (Meet g s) going j ts v = none (g == j) (cnt (entries_at ts g) v)
+reach_nothing (Meet g s) going j ts v = none (g == j) (count_of (entries_at ts g) v)
   where
     none : (b : Bool) (m : ℕ) → cond b 0 (m * 0) ≡ 0
     none true m = refl
@@ -400,8 +406,8 @@ cost_le n j ts g i = omega
     (arith, ap (λ (es : List Entry). cost n j ts es) (take-append-drop i g), cost-append n j ts (take i g) (drop i g))
 
 -- first parts of lists
-pub take_zero : (g : List Entry) (v : List ℕ) → cnt (take 0 g) v ≡ 0
-unfolding cnt
+pub take_zero : (g : List Entry) (v : List ℕ) → count_of (take 0 g) v ≡ 0
+unfolding count_of
 take_zero [] v = refl
 take_zero (x ∷ g) v = refl
 
@@ -446,21 +452,21 @@ unmarked_nil : marks [] ≡ []
 unfolding marks
 unmarked_nil = refl
 
-cnt_zero : (v : List ℕ) → cnt [] v ≡ 0
-unfolding cnt
+cnt_zero : (v : List ℕ) → count_of [] v ≡ 0
+unfolding count_of
 cnt_zero v = refl
 
 unfoldable pub groups : List ℕ → List Entry → List Entry → ℕ
 groups ks gs [] = 0
-groups ks gs (e ∷ es) = many ks gs e.tuple + groups ks gs es
+groups ks gs (e ∷ es) = group_size ks gs e.tuple + groups ks gs es
 
 groups_none : (ks : List ℕ) (es : List Entry) → groups ks [] es ≡ 0
-unfolding groups many
+unfolding groups group_size
 groups_none ks [] = refl
 groups_none ks (e ∷ es) = omega (arith, groups_none ks es)
 
 groups_first : (ks : List ℕ) (x : Entry) (gs es : List Entry) → groups ks (x ∷ gs) es
-    ≡ cnt es (pick ks x.tuple) + groups ks gs es
+    ≡ count_of es (pick ks x.tuple) + groups ks gs es
 unfolding groups
 groups_first ks x gs [] = omega (arith, cnt_zero (pick ks x.tuple))
 groups_first ks x gs (e ∷ es) =
@@ -473,7 +479,7 @@ groups_first ks x gs (e ∷ es) =
           (same_sym (pick ks x.tuple) e.tuple),
     )
 
-groups_le : (ks : List ℕ) (gs es : List Entry) → ((v : List ℕ) → cnt es v ≤ 1) → groups ks gs es ≤ length gs
+groups_le : (ks : List ℕ) (gs es : List Entry) → ((v : List ℕ) → count_of es v ≤ 1) → groups ks gs es ≤ length gs
 groups_le ks [] es h = omega (arith, groups_none ks es)
 groups_le ks (x ∷ gs) es h = omega (arith, groups_first ks x gs es, h (pick ks x.tuple), groups_le ks gs es h)
 

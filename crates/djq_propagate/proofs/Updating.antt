@@ -4,7 +4,7 @@ use Rattle.std.proofs.Common.{refl, ap, subst, sym, ◌∙◌, arith, inl, inr}
 use Rattle.std.proofs.lemmas.Bool.{cases_eq, cases_lt, cases_Bool, false≢true}
 use Rattle.djq_index.specs.declared.place.Place.{Place}
 use Rattle.djq_index.specs.Tuple.{one, same}
-use Rattle.djq_index.specs.Entries.{Entry, supp, cnt, marks, plain, head_at}
+use Rattle.djq_index.specs.Entries.{Entry, supports_of, count_of, marks, plain, head_at}
 use Rattle.djq_index.specs.Table.{Table, IsAt}
 use Rattle.djq_index.proofs.Counts.{cnt_split, cnt_length}
 use Rattle.djq_index.proofs.Tuples.{same_cases, one_true, one_other, one_same, is_same}
@@ -53,19 +53,19 @@ pub leaf_below : (t : Tree) (a i : ℕ) → IsTree t → i < t.leaves → i ≢ 
 leaf_below t a i s h apart = (apart, (λ k child. let high = inner_high t k a s child in omega arith))
 
 leaf_supp : (t : Tree) (ts : List Table) (i : ℕ) → IsReducts (both t ts) → i < t.leaves → (v : List ℕ)
-    → supp (entries_at ts i) v ≡ cnt (entries_at ts i) v
+    → supports_of (entries_at ts i) v ≡ count_of (entries_at ts i) v
 leaf_supp t ts i r h v = leaf_law (node_at t.nodes i) i ts i (r.family.is_tree.leaf i h)
     (r.reduced.at i (omega arith) (leaf_within t i r.family.is_tree h)) v
 
 from_leaf : (n : Node) (i : ℕ) (ts : List Table) → n ≡ Leaf i
-    → ((v : List ℕ) → supp (entries_at ts i) v ≡ cnt (entries_at ts i) v) → IsReductOf n ts i
+    → ((v : List ℕ) → supports_of (entries_at ts i) v ≡ count_of (entries_at ts i) v) → IsReductOf n ts i
 unfolding IsReductOf
 from_leaf n i ts e h = subst (λ (m : Node). IsReductOf m ts i) (sym e) h
 
 -- the tables are reducts again once a leaf's tuple has gone up
 reducts_from : (t : Tree) (old new : List Table) (a : ℕ) → IsReducts (both t old) → a < t.leaves → IsFamily t new
     → AreReduced t new (a + 1) → ((i : ℕ) → IsBelow t a i → entries_at new i ≡ entries_at old i)
-    → ((v : List ℕ) → supp (entries_at new a) v ≡ cnt (entries_at new a) v) → IsReducts (both t new)
+    → ((v : List ℕ) → supports_of (entries_at new a) v ≡ count_of (entries_at new a) v) → IsReducts (both t new)
 reducts_from t old new a r h f up below here = record {
   family = f;
   reduced = record {
@@ -77,8 +77,8 @@ reducts_from t old new a r h f up below here = record {
         | inr apart ↦
             (let e = below k (leaf_below t a k r.family.is_tree (omega arith) apart) in
             from_leaf (node_at t.nodes k) k new (r.family.is_tree.leaf k (omega arith))
-            (λ v. ap (λ (es : List Entry). supp es v) e ∙ leaf_supp t old k r (omega arith) v
-            ∙ ap (λ (es : List Entry). cnt es v) (sym e)))
+            (λ v. ap (λ (es : List Entry). supports_of es v) e ∙ leaf_supp t old k r (omega arith) v
+            ∙ ap (λ (es : List Entry). count_of es v) (sym e)))
       ]
     ];
   };
@@ -99,7 +99,7 @@ reducts_lived t old new a u r h l =
 pub reducts_died : (t : Tree) (old new : List Table) (a : ℕ) (u : List ℕ) → IsReducts (both t old) → a < t.leaves
     → RemovedUpwards t old new a u → IsReducts (both t new)
 reducts_died t old new a u r h d =
-    let unit : supp (entries_at old a) u
+    let unit : supports_of (entries_at old a) u
     ≡ 1 = omega (
       arith,
       leaf_supp t old a r h u,
@@ -111,24 +111,26 @@ reducts_died t old new a u r h d =
     (λ v. omega (
       arith,
       removed_supp (entries_at old a) (entries_at new a) u d.loses (apart_of t old r.family a) v,
-      cond_one (same u v) (supp (entries_at old a) u) unit,
+      cond_one (same u v) (supports_of (entries_at old a) u) unit,
       removed_cnt (entries_at old a) (entries_at new a) u
           d.loses v,
       leaf_supp t old a r h v,
     ))
 
 pub reducts_same : (t : Tree) (old new : List Table) → IsReducts (both t old) → IsFamily t new
-    → ((i : ℕ) (v : List ℕ) → supp (entries_at new i) v ≡ supp (entries_at old i) v) → IsReducts (both t new)
+    → ((i : ℕ) (v : List ℕ) → supports_of (entries_at new i) v ≡ supports_of (entries_at old i) v)
+    → IsReducts (both t new)
 reducts_same t old new r f h = record { family = f; reduced = reduced_same t old new 0 r.family f h r.reduced }
 
 pub tables_same : (t : Tree) (old new : List Table) → IsFamily t old → IsFamily t new
-    → ((i : ℕ) (v : List ℕ) → supp (entries_at new i) v ≡ supp (entries_at old i) v)
+    → ((i : ℕ) (v : List ℕ) → supports_of (entries_at new i) v ≡ supports_of (entries_at old i) v)
     → SameTables (both t old) (both t new)
 tables_same t old new f g h = record { tuples = λ i v. tuples_same t old new f g i (h i) v; supports = h }
 
 -- marks of tuples that stay
 pub bare_same : (t : Tree) (old new : List Table) → IsFamily t old → IsFamily t new
-    → ((i : ℕ) (v : List ℕ) → supp (entries_at new i) v ≡ supp (entries_at old i) v) → CameAs true old new → IsBare old
+    → ((i : ℕ) (v : List ℕ) → supports_of (entries_at new i) v ≡ supports_of (entries_at old i) v)
+    → CameAs true old new → IsBare old
     → IsBare new
 bare_same t old new f g h p b = record {
   none = λ i v. omega (
@@ -158,7 +160,7 @@ gained_all t old new a u r h b l = record {
   sound = reducts_lived t old new a u r h l;
   tree = refl;
   leaf = inserted_cnt (key_at old a) (entries_at old a) (entries_at new a) u l.gains;
-  others = λ j v low apart. ap (λ (es : List Entry). cnt es v)
+  others = λ j v low apart. ap (λ (es : List Entry). count_of es v)
       (l.below j (leaf_below t a j r.family.is_tree low apart));
   bare = b;
 }
@@ -169,7 +171,7 @@ lost_all t old new a u r h b d = record {
   sound = reducts_died t old new a u r h d;
   tree = refl;
   leaf = removed_cnt (entries_at old a) (entries_at new a) u d.loses;
-  others = λ j v low apart. ap (λ (es : List Entry). cnt es v)
+  others = λ j v low apart. ap (λ (es : List Entry). count_of es v)
       (d.below j (leaf_below t a j r.family.is_tree low apart));
   bare = b;
 }
@@ -189,7 +191,7 @@ lived_come t old new a u r h l = record {
     times_one u
         v,
   );
-  others = λ j v low apart. ap (λ (es : List Entry). cnt es v)
+  others = λ j v low apart. ap (λ (es : List Entry). count_of es v)
       (l.below j (leaf_below t a j r.family.is_tree low apart));
 }
 
@@ -210,15 +212,16 @@ pub can_remove : (t : Tree) (old mid : List Table) (a : ℕ) (f : List ℕ → �
     → IsBare old → IsTouched t old mid a f → CanWalk t mid a true
 can_remove t old mid a f r h b y = record {
   reduced = reduced_same t old mid 0 r.family y.family (λ i v. elim (cases_eq i a) [
-    | inl here ↦ subst (λ (z : ℕ). supp (entries_at mid z) v ≡ supp (entries_at old z) v) (sym here) (y.supports v)
-    | inr apart ↦ ap (λ (es : List Entry). supp es v) (y.others i apart)
+    | inl here ↦ subst (λ (z : ℕ). supports_of (entries_at mid z) v ≡ supports_of (entries_at old z) v) (sym here)
+        (y.supports v)
+    | inr apart ↦ ap (λ (es : List Entry). supports_of es v) (y.others i apart)
   ]) r.reduced;
   covered = λ k high on. record {
     each = λ w some. absurd
         (let up = on_high t a k r.family.is_tree on in omega
-        (arith, b.none k w, ap (λ (es : List Entry). cnt (marks es) w) (y.others k (omega arith))));
+        (arith, b.none k w, ap (λ (es : List Entry). count_of (marks es) w) (y.others k (omega arith))));
   };
-  bare = λ e i apart v. ap (λ (es : List Entry). cnt (marks es) v) (y.others i apart) ∙ b.none i v;
+  bare = λ e i apart v. ap (λ (es : List Entry). count_of (marks es) v) (y.others i apart) ∙ b.none i v;
 }
 
 -- an insertion
@@ -232,16 +235,17 @@ all_inserted t old mid new a us r h b come p x walk = record {
     tree = refl;
     leaf = λ v. omega (
       arith,
-      ap (λ (es : List Entry). cnt (plain es) v) (x.leaves a h),
+      ap (λ (es : List Entry). count_of (plain es) v) (x.leaves a h),
       p.same a v,
       b.none a v,
       cnt_split (entries_at old a) v,
     );
-    others = λ j v low apart. sym (ap (λ (es : List Entry). cnt es v) (x.leaves j low) ∙ come.others j v low apart);
+    others = λ j v low apart. sym (ap (λ (es : List Entry). count_of es v) (x.leaves j low) ∙ come.others j v low
+        apart);
   };
   marked = λ v. omega (
     arith,
-    ap (λ (es : List Entry). cnt (marks es) v) (x.leaves a h),
+    ap (λ (es : List Entry). count_of (marks es) v) (x.leaves a h),
     come.leaf v,
     p.same a v,
     cnt_split (entries_at old a) v,
@@ -253,7 +257,7 @@ all_inserted t old mid new a us r h b come p x walk = record {
       off = λ i off v.
           omega (
             arith,
-            ap (λ (es : List Entry). cnt (marks es) v) (x.off i off),
+            ap (λ (es : List Entry). count_of (marks es) v) (x.off i off),
             p.same i v,
             b.none i v,
             cnt_split (entries_at old i) v,
@@ -267,7 +271,7 @@ all_inserted t old mid new a us r h b come p x walk = record {
         plain_new t old new k (node_at t.nodes k) r.family x.family (r.reduced.at k (omega arith) (on_within t a k on))
         (λ i less v. omega (
           arith,
-          ap (λ (es : List Entry). cnt (plain es) v) (walk.skipped refl i (omega arith)),
+          ap (λ (es : List Entry). count_of (plain es) v) (walk.skipped refl i (omega arith)),
           p.same i v,
           b.none i v,
           cnt_split (entries_at old i) v,
@@ -290,16 +294,17 @@ inserted_all t old mid new a u r h b l p x walk = inserted_one (both t old) (bot
 
 -- a tuple is marked for a removal
 pub marked_all : (t : Tree) (old mid new : List Table) (a : ℕ) (u : List ℕ) → IsReducts (both t old) → a < t.leaves
-    → IsBare old → 0 < cnt (entries_at old a) u → IsTouched t old mid a (λ v. one (same u v)) → IsTouchedUp t mid new a
+    → IsBare old → 0 < count_of (entries_at old a) u → IsTouched t old mid a (λ v. one (same u v))
+    → IsTouchedUp t mid new a
     → IsWalked t mid new a true (length t.nodes) → HasMarked (both t old) (both t new) a u
 marked_all t old mid new a u r h b there y x walk = record {
   sound = reducts_same t old new r x.family all;
   tree = refl;
   tables = tables_same t old new r.family x.family all;
-  marked = λ v. ap (λ (es : List Entry). cnt (marks es) v) (x.leaves a h) ∙ mark v;
+  marked = λ v. ap (λ (es : List Entry). count_of (marks es) v) (x.leaves a h) ∙ mark v;
   are_marks = record {
     path = record {
-      off = λ i off v. ap (λ (es : List Entry). cnt (marks es) v) (x.off i off ∙ y.others i off.0)
+      off = λ i off v. ap (λ (es : List Entry). count_of (marks es) v) (x.off i off ∙ y.others i off.0)
           ∙ b.none i v;
     };
     low = λ k second on. walk.low k (on_within t a k on) second refl on;
@@ -307,23 +312,25 @@ marked_all t old mid new a u r h b there y x walk = record {
   };
 }
   where
-    all : (i : ℕ) (v : List ℕ) → supp (entries_at new i) v ≡ supp (entries_at old i) v
+    all : (i : ℕ) (v : List ℕ) → supports_of (entries_at new i) v ≡ supports_of (entries_at old i) v
     all i v = x.supports i v ∙ elim (cases_eq i a) [
-      | inl here ↦ subst (λ (z : ℕ). supp (entries_at mid z) v ≡ supp (entries_at old z) v) (sym here) (y.supports v)
-      | inr apart ↦ ap (λ (es : List Entry). supp es v) (y.others i apart)
+      | inl here ↦ subst (λ (z : ℕ). supports_of (entries_at mid z) v ≡ supports_of (entries_at old z) v) (sym here)
+          (y.supports v)
+      | inr apart ↦ ap (λ (es : List Entry). supports_of es v) (y.others i apart)
     ]
 
-    mark : (v : List ℕ) → cnt (marks (entries_at mid a)) v ≡ one (same u v)
+    mark : (v : List ℕ) → count_of (marks (entries_at mid a)) v ≡ one (same u v)
     mark v =
         elim (same_cases u v) [
           | inl here ↦ (
               let test = one_true (same u v) (is_same u v here) in
-              let some : 0 < cnt (entries_at old a) v = subst (λ (w : List ℕ). 0 < cnt (entries_at old a) w) here there
+              let some : 0 < count_of (entries_at old a) v = subst (λ (w : List ℕ). 0 < count_of (entries_at old a) w)
+              here there
               in
               omega (arith, y.comes v some (omega arith), once t mid y.family a v, cnt_split (entries_at mid a) v))
           | inr other ↦ (
               let test = one_other u v other in
-              elim (cases_lt 0 (cnt (marks (entries_at mid a)) v)) [
+              elim (cases_lt 0 (count_of (marks (entries_at mid a)) v)) [
                 | inl some ↦ absurd (omega (arith, y.only v some, b.none a v))
                 | inr none ↦ omega arith
               ])
@@ -332,8 +339,9 @@ marked_all t old mid new a u r h b there y x walk = record {
 -- the marked tuples go, one after another
 pub record IsTaking (t : Tree) (old new : List Table) (a : ℕ) : Type 0 where
   pub sound : IsReducts (both t new)
-  pub unmarked : (v : List ℕ) → cnt (plain (entries_at new a)) v ≡ cnt (plain (entries_at old a)) v
-  pub others : (j : ℕ) (v : List ℕ) → j < t.leaves → j ≢ a → cnt (entries_at new j) v ≡ cnt (entries_at old j) v
+  pub unmarked : (v : List ℕ) → count_of (plain (entries_at new a)) v ≡ count_of (plain (entries_at old a)) v
+  pub others : (j : ℕ) (v : List ℕ) → j < t.leaves → j ≢ a → count_of (entries_at new j) v ≡ count_of
+      (entries_at old j) v
   pub lesser : Fewer old new
 
 pub taking_none : (t : Tree) (ts : List Table) (a : ℕ) → IsReducts (both t ts) → IsTaking t ts ts a
@@ -341,21 +349,21 @@ taking_none t ts a r = record
     { sound = r; unmarked = λ v. refl; others = λ j v low apart. refl; lesser = fewer_refl ts }
 
 pub taking_more : (t : Tree) (old mid new : List Table) (a : ℕ) (u : List ℕ) → a < t.leaves → IsTaking t old mid a
-    → RemovedUpwards t mid new a u → Fewer mid new → 0 < cnt (marks (entries_at mid a)) u → IsTaking t old new a
+    → RemovedUpwards t mid new a u → Fewer mid new → 0 < count_of (marks (entries_at mid a)) u → IsTaking t old new a
 taking_more t old mid new a u h x d w marked = record {
   sound = reducts_died t mid new a u x.sound h d;
   unmarked = λ v. stays v ∙ x.unmarked v;
-  others = λ j v low apart. ap (λ (es : List Entry). cnt es v)
+  others = λ j v low apart. ap (λ (es : List Entry). count_of es v)
       (d.below j (leaf_below t a j x.sound.family.is_tree low apart)) ∙ x.others j v low apart;
   lesser = fewer_trans old mid new x.lesser w;
 }
   where
-    stays : (v : List ℕ) → cnt (plain (entries_at new a)) v ≡ cnt (plain (entries_at mid a)) v
+    stays : (v : List ℕ) → count_of (plain (entries_at new a)) v ≡ count_of (plain (entries_at mid a)) v
     stays v =
         elim (same_cases u v) [
           | inl here ↦ (
-              let some : 0 < cnt (marks (entries_at mid a)) v = subst
-              (λ (y : List ℕ). 0 < cnt (marks (entries_at mid a)) y) here marked in
+              let some : 0 < count_of (marks (entries_at mid a)) v = subst
+              (λ (y : List ℕ). 0 < count_of (marks (entries_at mid a)) y) here marked in
               omega (arith, once t mid x.sound.family a v, cnt_split (entries_at mid a) v, w.unmarked a v))
           | inr other ↦ omega (
             arith,
@@ -370,7 +378,7 @@ taking_more t old mid new a u h x d w marked = record {
         ]
 
 pub taking_done : (t : Tree) (old new : List Table) (a : ℕ) → IsTaking t old new a
-    → ((v : List ℕ) → cnt (marks (entries_at new a)) v ≡ 0) → HasTaken (both t old) (both t new) a
+    → ((v : List ℕ) → count_of (marks (entries_at new a)) v ≡ 0) → HasTaken (both t old) (both t new) a
 taking_done t old new a x none = record {
   sound = x.sound;
   without = record {
@@ -381,18 +389,18 @@ taking_done t old new a x none = record {
   fewer = x.lesser;
 }
 
-pub no_mark : (es : List Entry) (v : List ℕ) → marks es ≡ [] → cnt (marks es) v ≡ 0
-unfolding cnt
-no_mark es v h = ap (λ (xs : List Entry). cnt xs v) h
+pub no_mark : (es : List Entry) (v : List ℕ) → marks es ≡ [] → count_of (marks es) v ≡ 0
+unfolding count_of
+no_mark es v h = ap (λ (xs : List Entry). count_of xs v) h
 
-pub no_entry : (es : List Entry) (v : List ℕ) → length es ≡ 0 → cnt (marks es) v ≡ 0
+pub no_entry : (es : List Entry) (v : List ℕ) → length es ≡ 0 → count_of (marks es) v ≡ 0
 no_entry es v h = omega (arith, cnt_length es v, cnt_split es v)
 
 -- the first marked one
 pub record IsMarkedAt (es : List Entry) (p : Place) : Type 0 where
   pub tuple : List ℕ
   pub is_at : IsAt es p tuple
-  pub some : 0 < cnt (marks es) tuple
+  pub some : 0 < count_of (marks es) tuple
 
 first_cons : (g : List Entry) (p : Place) → head_at g ≡ Some p → (e : Entry) × (rest : List Entry) × (g ≡ e ∷ rest)
     × (e.at ≡ p)
@@ -408,7 +416,7 @@ first_mark es p h =
       is_at = subst (λ (q : Place). IsAt es q c.0.tuple) c.3 (mark_at es [] c.0 c.1 c.2);
       some = omega (
         arith,
-        ap (λ (xs : List Entry). cnt xs c.0.tuple) c.2,
+        ap (λ (xs : List Entry). count_of xs c.0.tuple) c.2,
         cnt_cons c.0 c.1 c.0.tuple,
         one_same
             c.0.tuple,
@@ -417,10 +425,10 @@ first_mark es p h =
 
 -- the endings
 bare_all : (t : Tree) (old new : List Table) (a : ℕ) → HasCleared t old new a (length t.nodes)
-    → ((i : ℕ) → IsOff t.nodes a i → (v : List ℕ) → cnt (marks (entries_at new i)) v ≡ 0) → IsBare new
+    → ((i : ℕ) → IsOff t.nodes a i → (v : List ℕ) → count_of (marks (entries_at new i)) v ≡ 0) → IsBare new
 bare_all t old new a x off = record {
   none = λ i v. elim (cases_eq i a) [
-    | inl here ↦ subst (λ (z : ℕ). cnt (marks (entries_at new z)) v ≡ 0) (sym here) (x.leaf v)
+    | inl here ↦ subst (λ (z : ℕ). count_of (marks (entries_at new z)) v ≡ 0) (sym here) (x.leaf v)
     | inr apart ↦ elim (cases_Bool (on_path t.nodes a i)) [
       | inl on ↦ x.path i (on_within t a i on) on v
       | inr none ↦ off i (apart, none) v
@@ -434,7 +442,8 @@ kept_all t old new a r p x = record {
   sound = reducts_same t old new r x.family x.supports;
   tree = refl;
   tables = tables_same t old new r.family x.family x.supports;
-  bare = bare_all t old new a x (λ i off v. ap (λ (es : List Entry). cnt (marks es) v) (x.off i off) ∙ p.off i off v);
+  bare = bare_all t old new a x (λ i off v. ap (λ (es : List Entry). count_of (marks es) v) (x.off i off) ∙ p.off i
+      off v);
 }
 
 pub dropped_all : (t : Tree) (old mid new : List Table) (a : ℕ) → a < t.leaves → AreOnPath t old a
@@ -451,7 +460,7 @@ dropped_all t old mid new a h p y x = record {
   bare = bare_all t mid new a x
       (λ i off v. omega (
         arith,
-        ap (λ (es : List Entry). cnt (marks es) v) (x.off i off),
+        ap (λ (es : List Entry). count_of (marks es) v) (x.off i off),
         y.fewer.marked i v,
         p.off i
             off v,
@@ -464,7 +473,8 @@ pub undone : (before middle after : Reducts) (a : ℕ) → IsReducts before → 
 undone before middle after a r s x y = one_family before after r s (record {
   same_tree = y.tree ∙ sym x.tree;
   same = λ j u low. elim (cases_eq j a) [
-    | inl here ↦ subst (λ (z : ℕ). cnt (entries_at after.tables z) u ≡ cnt (entries_at before.tables z) u) (sym here)
+    | inl here ↦ subst (λ (z : ℕ). count_of (entries_at after.tables z) u ≡ count_of (entries_at before.tables z) u)
+        (sym here)
         (y.leaf u ∙ sym (x.leaf u))
     | inr apart ↦ (let low2 : j < middle.tree.leaves = subst (λ (t : Tree). j < t.leaves) x.tree low in y.others j u
         low2 apart ∙ sym (x.others j u low2 apart))
@@ -507,5 +517,5 @@ marked_lost old mid new a u x d = record {
 
 -- reducts without tuples have no marks
 pub bare_empty : (ts : List Table) → ((k : ℕ) → entries_at ts k ≡ []) → IsBare ts
-unfolding cnt marks
-bare_empty ts h = record { none = λ i v. ap (λ (es : List Entry). cnt (marks es) v) (h i) }
+unfolding count_of marks
+bare_empty ts h = record { none = λ i v. ap (λ (es : List Entry). count_of (marks es) v) (h i) }

@@ -1,7 +1,7 @@
 -- Many tuples come to a leaf at once, or go from it.
 use Rattle.std.specs.Prelude.{◌≡◌, ◌≢◌, ℕ, ◌+◌, ◌<◌, ◌≤◌, List, [], ◌∷◌, length}
 use Rattle.djq_index.specs.Tuple.{same, one}
-use Rattle.djq_index.specs.Entries.{Entry, cnt, marks}
+use Rattle.djq_index.specs.Entries.{Entry, count_of, marks}
 use Rattle.djq_index.specs.Table.{Table}
 use Rattle.djq_tree.specs.Tree.{Tree}
 use Rattle.djq_reduct.specs.Tables.{entries_at}
@@ -17,45 +17,47 @@ times (u ∷ us) v = one (same u v) + times us v
 pub record AreNew (width : ℕ) (es : List Entry) (us : List (List ℕ)) : Type 0 where
   pub wide : (v : List ℕ) → 0 < times us v → length v ≡ width
   pub differ : (v : List ℕ) → times us v ≤ 1
-  pub absent : (v : List ℕ) → 0 < times us v → cnt es v ≡ 0
+  pub absent : (v : List ℕ) → 0 < times us v → count_of es v ≡ 0
 
 -- tuples that differ, and of which each is among the entries of a table
 pub record AreThere (es : List Entry) (us : List (List ℕ)) : Type 0 where
-  pub each : (v : List ℕ) → times us v ≤ cnt es v
+  pub each : (v : List ℕ) → times us v ≤ count_of es v
 
 -- the tuples us came to the leaf a, and each other leaf holds what it held
 pub record HaveCome (t : Tree) (old new : List Table) (a : ℕ) (us : List (List ℕ)) : Type 0 where
   pub sound : IsReducts (record { tree = t; tables = new })
-  pub leaf : (v : List ℕ) → cnt (entries_at new a) v ≡ cnt (entries_at old a) v + times us v
-  pub others : (j : ℕ) (v : List ℕ) → j < t.leaves → j ≢ a → cnt (entries_at new j) v ≡ cnt (entries_at old j) v
+  pub leaf : (v : List ℕ) → count_of (entries_at new a) v ≡ count_of (entries_at old a) v + times us v
+  pub others : (j : ℕ) (v : List ℕ) → j < t.leaves → j ≢ a → count_of (entries_at new j) v ≡ count_of
+      (entries_at old j) v
 
 -- the tuples us went from the leaf a, and each other leaf holds what it held
 pub record HaveGone (t : Tree) (old new : List Table) (a : ℕ) (us : List (List ℕ)) : Type 0 where
   pub sound : IsReducts (record { tree = t; tables = new })
-  pub leaf : (v : List ℕ) → cnt (entries_at old a) v ≡ cnt (entries_at new a) v + times us v
-  pub others : (j : ℕ) (v : List ℕ) → j < t.leaves → j ≢ a → cnt (entries_at new j) v ≡ cnt (entries_at old j) v
+  pub leaf : (v : List ℕ) → count_of (entries_at old a) v ≡ count_of (entries_at new a) v + times us v
+  pub others : (j : ℕ) (v : List ℕ) → j < t.leaves → j ≢ a → count_of (entries_at new j) v ≡ count_of
+      (entries_at old j) v
 
 -- the tuples us came to the leaf a, and are the marked ones there: an update that is unfinished
 pub record HasInsertedAll (old new : Reducts) (a : ℕ) (us : List (List ℕ)) : Type 0 where
   pub sound : IsReducts new
   pub without : IsWithout new old a
-  pub marked : (v : List ℕ) → cnt (marks (entries_at new.tables a)) v ≡ times us v
+  pub marked : (v : List ℕ) → count_of (marks (entries_at new.tables a)) v ≡ times us v
   pub are_marks : AreMarks new.tree new.tables a
 
 -- the tuples us came to the leaf a, each other leaf holds what it held, and no tuple is marked
 pub record HasGainedAll (old new : Reducts) (a : ℕ) (us : List (List ℕ)) : Type 0 where
   pub sound : IsReducts new
   pub tree : new.tree ≡ old.tree
-  pub leaf : (v : List ℕ) → cnt (entries_at new.tables a) v ≡ cnt (entries_at old.tables a) v + times us v
-  pub others : (j : ℕ) (v : List ℕ) → j < old.tree.leaves → j ≢ a → cnt (entries_at new.tables j) v
-      ≡ cnt (entries_at old.tables j) v
+  pub leaf : (v : List ℕ) → count_of (entries_at new.tables a) v ≡ count_of (entries_at old.tables a) v + times us v
+  pub others : (j : ℕ) (v : List ℕ) → j < old.tree.leaves → j ≢ a → count_of (entries_at new.tables j) v
+      ≡ count_of (entries_at old.tables j) v
   pub bare : IsBare new.tables
 
 -- the tuples us went from the leaf a, each other leaf holds what it held, and no tuple is marked
 pub record HasLostAll (old new : Reducts) (a : ℕ) (us : List (List ℕ)) : Type 0 where
   pub sound : IsReducts new
   pub tree : new.tree ≡ old.tree
-  pub leaf : (v : List ℕ) → cnt (entries_at old.tables a) v ≡ cnt (entries_at new.tables a) v + times us v
-  pub others : (j : ℕ) (v : List ℕ) → j < old.tree.leaves → j ≢ a → cnt (entries_at new.tables j) v
-      ≡ cnt (entries_at old.tables j) v
+  pub leaf : (v : List ℕ) → count_of (entries_at old.tables a) v ≡ count_of (entries_at new.tables a) v + times us v
+  pub others : (j : ℕ) (v : List ℕ) → j < old.tree.leaves → j ≢ a → count_of (entries_at new.tables j) v
+      ≡ count_of (entries_at old.tables j) v
   pub bare : IsBare new.tables

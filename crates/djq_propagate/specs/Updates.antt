@@ -1,7 +1,7 @@
 -- What the calls of an update leave.
 use Rattle.std.specs.Prelude.{◌≡◌, ◌≢◌, ℕ, zero, suc, ◌+◌, ◌<◌, ◌≤◌, true, List, length}
 use Rattle.djq_index.specs.Tuple.{same, one}
-use Rattle.djq_index.specs.Entries.{supp, cnt, marks}
+use Rattle.djq_index.specs.Entries.{supports_of, count_of, marks}
 use Rattle.djq_index.specs.Table.{Table}
 use Rattle.djq_tree.specs.declared.node.Node.{Node}
 use Rattle.djq_tree.specs.Tree.{Tree}
@@ -15,7 +15,7 @@ use Rattle.djq_propagate.specs.Walks.{Fewer}
 pub record HasInserted (old new : Reducts) (a : ℕ) (u : List ℕ) : Type 0 where
   pub sound : IsReducts new
   pub without : IsWithout new old a
-  pub marked : (v : List ℕ) → cnt (marks (entries_at new.tables a)) v ≡ one (same u v)
+  pub marked : (v : List ℕ) → count_of (marks (entries_at new.tables a)) v ≡ one (same u v)
   pub are_marks : AreMarks new.tree new.tables a
 
 -- the tuple u of the leaf a is the marked one there, and all tables hold what they held
@@ -23,7 +23,7 @@ pub record HasMarked (old new : Reducts) (a : ℕ) (u : List ℕ) : Type 0 where
   pub sound : IsReducts new
   pub tree : new.tree ≡ old.tree
   pub tables : SameTables old new
-  pub marked : (v : List ℕ) → cnt (marks (entries_at new.tables a)) v ≡ one (same u v)
+  pub marked : (v : List ℕ) → count_of (marks (entries_at new.tables a)) v ≡ one (same u v)
   pub are_marks : AreMarks new.tree new.tables a
 
 -- all tables hold what they held, without a mark
@@ -43,18 +43,18 @@ pub record HasDropped (old new : Reducts) (a : ℕ) : Type 0 where
 pub record HasGained (old new : Reducts) (a : ℕ) (u : List ℕ) : Type 0 where
   pub sound : IsReducts new
   pub tree : new.tree ≡ old.tree
-  pub leaf : (v : List ℕ) → cnt (entries_at new.tables a) v ≡ cnt (entries_at old.tables a) v + one (same u v)
-  pub others : (j : ℕ) (v : List ℕ) → j < old.tree.leaves → j ≢ a → cnt (entries_at new.tables j) v
-      ≡ cnt (entries_at old.tables j) v
+  pub leaf : (v : List ℕ) → count_of (entries_at new.tables a) v ≡ count_of (entries_at old.tables a) v + one (same u v)
+  pub others : (j : ℕ) (v : List ℕ) → j < old.tree.leaves → j ≢ a → count_of (entries_at new.tables j) v
+      ≡ count_of (entries_at old.tables j) v
   pub bare : IsBare new.tables
 
 -- the tuple u went from the leaf a, each other leaf holds what it held, and no tuple is marked
 pub record HasLost (old new : Reducts) (a : ℕ) (u : List ℕ) : Type 0 where
   pub sound : IsReducts new
   pub tree : new.tree ≡ old.tree
-  pub leaf : (v : List ℕ) → cnt (entries_at old.tables a) v ≡ cnt (entries_at new.tables a) v + one (same u v)
-  pub others : (j : ℕ) (v : List ℕ) → j < old.tree.leaves → j ≢ a → cnt (entries_at new.tables j) v
-      ≡ cnt (entries_at old.tables j) v
+  pub leaf : (v : List ℕ) → count_of (entries_at old.tables a) v ≡ count_of (entries_at new.tables a) v + one (same u v)
+  pub others : (j : ℕ) (v : List ℕ) → j < old.tree.leaves → j ≢ a → count_of (entries_at new.tables j) v
+      ≡ count_of (entries_at old.tables j) v
   pub bare : IsBare new.tables
 
 -- the marked tuples of the leaf a went from its table, and from those above what stood by them
@@ -67,11 +67,11 @@ pub record HasTaken (old new : Reducts) (a : ℕ) : Type 0 where
 -- changed
 pub record HasCleared (t : Tree) (old new : List Table) (a k : ℕ) : Type 0 where
   pub family : IsFamily t new
-  pub supports : (i : ℕ) (v : List ℕ) → supp (entries_at new i) v ≡ supp (entries_at old i) v
+  pub supports : (i : ℕ) (v : List ℕ) → supports_of (entries_at new i) v ≡ supports_of (entries_at old i) v
   pub long : (i : ℕ) → length (entries_at new i) ≡ length (entries_at old i)
   pub off : (i : ℕ) → IsOff t.nodes a i → entries_at new i ≡ entries_at old i
-  pub leaf : (v : List ℕ) → cnt (marks (entries_at new a)) v ≡ 0
-  pub path : (i : ℕ) → i < k → on_path t.nodes a i ≡ true → (v : List ℕ) → cnt (marks (entries_at new i)) v ≡ 0
+  pub leaf : (v : List ℕ) → count_of (marks (entries_at new a)) v ≡ 0
+  pub path : (i : ℕ) → i < k → on_path t.nodes a i ≡ true → (v : List ℕ) → count_of (marks (entries_at new i)) v ≡ 0
 
 -- how many nodes with numbers below k are on the path from the leaf a, above a
 unfoldable pub steps : List Node → ℕ → ℕ → ℕ

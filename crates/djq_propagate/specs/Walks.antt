@@ -1,6 +1,6 @@
 -- What a walk up a path of the tree does to the tables of its nodes.
 use Rattle.std.specs.Prelude.{◌≡◌, ◌≢◌, ℕ, ◌+◌, ◌<◌, ◌≤◌, Bool, true, false, List, length}
-use Rattle.djq_index.specs.Entries.{Entry, supp, cnt, marks, plain}
+use Rattle.djq_index.specs.Entries.{Entry, supports_of, count_of, marks, plain}
 use Rattle.djq_index.specs.Changes.{InsertedAs, Removed}
 use Rattle.djq_index.specs.declared.place.Place.{Place}
 use Rattle.djq_index.specs.Table.{Table, IsAt}
@@ -20,7 +20,7 @@ pub record Changed (old new : List Table) (k : ℕ) : Type 0 where
 pub record IsShared (es : List Entry) (p : Place) : Type 0 where
   pub tuple : List ℕ
   pub is_at : IsAt es p tuple
-  pub more : 1 < supp es tuple
+  pub more : 1 < supports_of es tuple
 
 -- above the node j each table is its node's reduct
 pub record Ready (t : Tree) (ts : List Table) (j : ℕ) : Type 0 where
@@ -50,7 +50,7 @@ pub record RemovedUpwards (t : Tree) (old new : List Table) (j : ℕ) (u : List 
 -- all tables hold the same tuples with the same supports, and those below are the same
 pub record Refused (t : Tree) (old new : List Table) (j : ℕ) : Type 0 where
   pub family : IsFamily t new
-  pub supports : (i : ℕ) (v : List ℕ) → supp (entries_at new i) v ≡ supp (entries_at old i) v
+  pub supports : (i : ℕ) (v : List ℕ) → supports_of (entries_at new i) v ≡ supports_of (entries_at old i) v
   pub below : (i : ℕ) → IsBelow t j i → entries_at new i ≡ entries_at old i
 
 -- the table of the node j has changed, and those above it were right before
@@ -80,7 +80,7 @@ pub record ReducedAbove (t : Tree) (old new : List Table) (j : ℕ) : Type 0 whe
 pub record UnchangedAbove (t : Tree) (old new : List Table) (j : ℕ) : Type 0 where
   pub family : IsFamily t new
   pub at : entries_at new j ≡ entries_at old j
-  pub supports : (i : ℕ) (v : List ℕ) → supp (entries_at new i) v ≡ supp (entries_at old i) v
+  pub supports : (i : ℕ) (v : List ℕ) → supports_of (entries_at new i) v ≡ supports_of (entries_at old i) v
   pub below : (i : ℕ) → IsBelow t j i → entries_at new i ≡ entries_at old i
 
 -- the node k, which is n, is the parent of the node j
@@ -91,20 +91,20 @@ pub record IsUnder (t : Tree) (k : ℕ) (n : Node) (j : ℕ) : Type 0 where
 
 -- each of the tuples of es is among the entries ds, with one support
 pub record IsFull (ds es : List Entry) : Type 0 where
-  pub each : (v : List ℕ) → 0 < cnt es v → supp ds v ≡ 1
+  pub each : (v : List ℕ) → 0 < count_of es v → supports_of ds v ≡ 1
 
 -- the node k has gained the tuples of es, with one support each, and those above it what they bring
 pub record IsGrown (t : Tree) (old new : List Table) (k : ℕ) (es : List Entry) : Type 0 where
   pub family : IsFamily t new
   pub low : (i : ℕ) → i < k → entries_at new i ≡ entries_at old i
-  pub came : (v : List ℕ) → supp (entries_at new k) v ≡ supp (entries_at old k) v + cnt es v
+  pub came : (v : List ℕ) → supports_of (entries_at new k) v ≡ supports_of (entries_at old k) v + count_of es v
   pub reduced : AreReduced t new (k + 1)
 
 -- the node k has lost the tuples of es, which had one support each, and those above it what they took away
 pub record IsEmptied (t : Tree) (old new : List Table) (k : ℕ) (es : List Entry) : Type 0 where
   pub family : IsFamily t new
   pub low : (i : ℕ) → i < k → entries_at new i ≡ entries_at old i
-  pub lost : (v : List ℕ) → supp (entries_at old k) v ≡ supp (entries_at new k) v + cnt es v
+  pub lost : (v : List ℕ) → supports_of (entries_at old k) v ≡ supports_of (entries_at new k) v + count_of es v
   pub reduced : AreReduced t new (k + 1)
 
 -- the entries that don't have this mark
@@ -114,9 +114,10 @@ unlike false es = marks es
 
 -- what came has this mark, and no mark changed
 pub record CameAs (mark : Bool) (old new : List Table) : Type 0 where
-  pub same : (i : ℕ) (v : List ℕ) → cnt (unlike mark (entries_at new i)) v ≡ cnt (unlike mark (entries_at old i)) v
+  pub same : (i : ℕ) (v : List ℕ) → count_of (unlike mark (entries_at new i)) v ≡ count_of
+      (unlike mark (entries_at old i)) v
 
 -- tuples went, none came, and no mark changed
 pub record Fewer (old new : List Table) : Type 0 where
-  pub unmarked : (i : ℕ) (v : List ℕ) → cnt (plain (entries_at new i)) v ≤ cnt (plain (entries_at old i)) v
-  pub marked : (i : ℕ) (v : List ℕ) → cnt (marks (entries_at new i)) v ≤ cnt (marks (entries_at old i)) v
+  pub unmarked : (i : ℕ) (v : List ℕ) → count_of (plain (entries_at new i)) v ≤ count_of (plain (entries_at old i)) v
+  pub marked : (i : ℕ) (v : List ℕ) → count_of (marks (entries_at new i)) v ≤ count_of (marks (entries_at old i)) v

@@ -8,7 +8,7 @@ ghost use Rattle.djq_propagate.specs.Batches.{AreNew, AreThere, HasInsertedAll, 
 ghost use Rattle.djq_propagate.specs.Bounds.{after_insert, after_refusal, after_add, after_take};
 ghost use Rattle.djq_propagate.specs.Updates.{HasKept, HasAtMost};
 
-use crate::many::{remove_all, insert_all};
+use crate::many::{insert_all, remove_all};
 use crate::path::touch_path;
 use djq_reduct::{Cells, Reducts};
 use djq_steps::Tally;
@@ -28,13 +28,17 @@ pub fn insert_leaf_many<L: Ledger>(
     tally: &mut Tally<L>,
 ) -> Result<(), AllocError>
     requires leaf { leaf < reducts.old.tree.leaves }
-    requires fresh { AreNew (length (label_at reducts.old.tree.labels leaf)) (entries_at reducts.old.tables leaf) tuples.now }
+    requires fresh { AreNew (length (label_at reducts.old.tree.labels leaf))
+        (entries_at reducts.old.tables leaf) tuples.now }
     requires few { length (entries_at reducts.old.tables leaf) + length tuples.now ≤ 4294967295 }
     requires bare { IsBare reducts.old.tables }
     ensures inserted { IfOk result (λ _. HasInsertedAll reducts.old reducts.new leaf tuples.now) }
     ensures refused { OnErr result (HasKept reducts.old reducts.new) }
-    ensures counted { IfOk result (λ _. (n : ℕ) → 0 < n → HasAtMost reducts.new n → tally.new ≤ after_insert reducts.old.tree n tally.old) }
-    ensures bounded { OnErr result ((n : ℕ) → HasAtMost reducts.old n → length (entries_at reducts.old.tables leaf) + length tuples.now ≤ n → tally.new ≤ after_refusal reducts.old.tree n tally.old) }
+    ensures counted { IfOk result (λ _. (n : ℕ) → 0 < n → HasAtMost reducts.new n
+        → tally.new ≤ after_insert reducts.old.tree n tally.old) }
+    ensures bounded { OnErr result ((n : ℕ) → HasAtMost reducts.old n
+        → length (entries_at reducts.old.tables leaf) + length tuples.now ≤ n
+        → tally.new ≤ after_refusal reducts.old.tree n tally.old) }
 {
     insert_all(
         &reducts.tree,
@@ -57,13 +61,17 @@ pub fn add_leaf_many<L: Ledger>(
     tally: &mut Tally<L>,
 ) -> Result<(), AllocError>
     requires leaf { leaf < reducts.old.tree.leaves }
-    requires fresh { AreNew (length (label_at reducts.old.tree.labels leaf)) (entries_at reducts.old.tables leaf) tuples.now }
+    requires fresh { AreNew (length (label_at reducts.old.tree.labels leaf))
+        (entries_at reducts.old.tables leaf) tuples.now }
     requires few { length (entries_at reducts.old.tables leaf) + length tuples.now ≤ 4294967295 }
     requires bare { IsBare reducts.old.tables }
     ensures gained { IfOk result (λ _. HasGainedAll reducts.old reducts.new leaf tuples.now) }
     ensures refused { OnErr result (HasKept reducts.old reducts.new) }
-    ensures counted { IfOk result (λ _. (n : ℕ) → HasAtMost reducts.new n → tally.new ≤ after_add reducts.old.tree n tally.old) }
-    ensures bounded { OnErr result ((n : ℕ) → HasAtMost reducts.old n → length (entries_at reducts.old.tables leaf) + length tuples.now ≤ n → tally.new ≤ after_refusal reducts.old.tree n tally.old) }
+    ensures counted { IfOk result (λ _. (n : ℕ) → HasAtMost reducts.new n
+        → tally.new ≤ after_add reducts.old.tree n tally.old) }
+    ensures bounded { OnErr result ((n : ℕ) → HasAtMost reducts.old n
+        → length (entries_at reducts.old.tables leaf) + length tuples.now ≤ n
+        → tally.new ≤ after_refusal reducts.old.tree n tally.old) }
 {
     insert_all(
         &reducts.tree,

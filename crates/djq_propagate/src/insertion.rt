@@ -1,14 +1,15 @@
 //! A tuple comes to a node, and what it brings comes to the nodes above it.
 
 ghost use Rattle.std.specs.Prelude.{◌≡◌, ℕ, ◌+◌, ◌-◌, ◌*◌, ◌<◌, ◌≤◌, false, length, IfOk, OnErr};
-ghost use Rattle.djq_index.specs.Entries.{cnt};
+ghost use Rattle.djq_index.specs.Entries.{count_of};
 ghost use Rattle.djq_index.specs.Tuple.{pick};
 ghost use Rattle.djq_tree.specs.declared.node.Node.TheVariants.{Trim, Meet};
 ghost use Rattle.djq_tree.specs.Flat.{HasEqualMeets};
 ghost use Rattle.djq_reduct.specs.Tables.{entries_at, key_at, width_at};
 ghost use Rattle.djq_reduct.specs.Marks.{IsBare};
 ghost use Rattle.djq_propagate.specs.Sizes.{size, AreAtMost};
-ghost use Rattle.djq_propagate.specs.Walks.{Ready, InsertedUpwards, Refused, Gaining, ReducedAbove, UnchangedAbove, CameAs, IsUnder};
+ghost use Rattle.djq_propagate.specs.Walks.{Ready, InsertedUpwards, Refused, Gaining, ReducedAbove};
+ghost use Rattle.djq_propagate.specs.Walks.{UnchangedAbove, CameAs, IsUnder};
 
 use crate::removal::remove_group_from_meet;
 use crate::tables::{
@@ -34,15 +35,18 @@ pub(crate) fn insert_tuple<L: Ledger>(
     tally: &mut Tally<L>,
 ) -> Result<(), AllocError>
     requires ready { Ready tree.now tables.old.items at }
-    requires absent { cnt (entries_at tables.old.items at) tuple.now ≡ 0 }
+    requires absent { count_of (entries_at tables.old.items at) tuple.now ≡ 0 }
     requires wide { length tuple.now ≡ width_at tables.old.items at }
     requires few { length (entries_at tables.old.items at) < 4294967295 }
     requires bare { marked ≡ false → IsBare tables.old.items }
     ensures ok { IfOk result (λ _. InsertedUpwards tree.now tables.old.items tables.new.items at tuple.now) }
     ensures refused { OnErr result (Refused tree.now tables.old.items tables.new.items at) }
     ensures plain { CameAs marked tables.old.items tables.new.items }
-    ensures counted { IfOk result (λ _. tally.new + 1 + 4 * size tables.old.items ≤ tally.old + 4 * size tables.new.items) }
-    ensures bounded { OnErr result ((n : ℕ) → AreAtMost tables.old.items n → length (entries_at tables.old.items at) < n → tally.new + 9 * size tables.old.items ≤ tally.old + 9 * (n * length tree.now.nodes)) }
+    ensures counted { IfOk result (λ _. tally.new + 1 + 4 * size tables.old.items ≤ tally.old + 4
+        * size tables.new.items) }
+    ensures bounded { OnErr result ((n : ℕ) → AreAtMost tables.old.items n
+        → length (entries_at tables.old.items at) < n → tally.new + 9 * size tables.old.items
+        ≤ tally.old + 9 * (n * length tree.now.nodes)) }
     ensures flat { OnErr result (HasEqualMeets tree.now → tally.new ≤ tally.old + 5 * (length tree.now.nodes - at)) }
 {
     let place = insert_at(tables, at, tuple, marked, tally)?;
@@ -71,9 +75,12 @@ fn insert_above<L: Ledger>(
     ensures ok { IfOk result (λ _. ReducedAbove tree.now tables.old.items tables.new.items at) }
     ensures refused { OnErr result (UnchangedAbove tree.now tables.old.items tables.new.items at) }
     ensures plain { CameAs marked tables.old.items tables.new.items }
-    ensures counted { IfOk result (λ _. tally.new + 4 * size tables.old.items ≤ tally.old + 2 + 4 * size tables.new.items) }
-    ensures bounded { OnErr result ((n : ℕ) → AreAtMost tables.old.items n → tally.new + 9 * size tables.old.items ≤ tally.old + 7 + 9 * (n * length tree.now.nodes)) }
-    ensures flat { OnErr result (HasEqualMeets tree.now → tally.new + 2 ≤ tally.old + 5 * (length tree.now.nodes - at)) }
+    ensures counted { IfOk result (λ _. tally.new + 4 * size tables.old.items ≤ tally.old + 2 + 4
+        * size tables.new.items) }
+    ensures bounded { OnErr result ((n : ℕ) → AreAtMost tables.old.items n
+        → tally.new + 9 * size tables.old.items ≤ tally.old + 7 + 9 * (n * length tree.now.nodes)) }
+    ensures flat { OnErr result (HasEqualMeets tree.now → tally.new + 2 ≤ tally.old + 5
+        * (length tree.now.nodes - at)) }
 {
     match tree.parent(at) {
         None => Ok(()),
@@ -110,12 +117,17 @@ fn insert_above_trim<L: Ledger>(
     ensures ok { IfOk result (λ _. ReducedAbove tree.now tables.old.items tables.new.items at) }
     ensures refused { OnErr result (UnchangedAbove tree.now tables.old.items tables.new.items at) }
     ensures plain { CameAs marked tables.old.items tables.new.items }
-    ensures counted { IfOk result (λ _. tally.new + 4 * size tables.old.items ≤ tally.old + 2 + 4 * size tables.new.items) }
-    ensures bounded { OnErr result ((n : ℕ) → AreAtMost tables.old.items n → tally.new + 9 * size tables.old.items ≤ tally.old + 7 + 9 * (n * length tree.now.nodes)) }
-    ensures flat { OnErr result (HasEqualMeets tree.now → tally.new + 2 ≤ tally.old + 5 * (length tree.now.nodes - at)) }
+    ensures counted { IfOk result (λ _. tally.new + 4 * size tables.old.items ≤ tally.old + 2 + 4
+        * size tables.new.items) }
+    ensures bounded { OnErr result ((n : ℕ) → AreAtMost tables.old.items n
+        → tally.new + 9 * size tables.old.items ≤ tally.old + 7 + 9 * (n * length tree.now.nodes)) }
+    ensures flat { OnErr result (HasEqualMeets tree.now → tally.new + 2 ≤ tally.old + 5
+        * (length tree.now.nodes - at)) }
 {
     match column_of(tables, at) {
-        Some(column) => { insert_above_part(tree, tables, at, up, tuple, &[tuple[column]], marked, tally) }
+        Some(column) => {
+            insert_above_part(tree, tables, at, up, tuple, &[tuple[column]], marked, tally)
+        }
         None => {
             if has_no_column(tables, at) {
                 insert_above_part(tree, tables, at, up, tuple, &[], marked, tally)
@@ -145,9 +157,12 @@ fn insert_above_wide<L: Ledger>(
     ensures ok { IfOk result (λ _. ReducedAbove tree.now tables.old.items tables.new.items at) }
     ensures refused { OnErr result (UnchangedAbove tree.now tables.old.items tables.new.items at) }
     ensures plain { CameAs marked tables.old.items tables.new.items }
-    ensures counted { IfOk result (λ _. tally.new + 4 * size tables.old.items ≤ tally.old + 2 + 4 * size tables.new.items) }
-    ensures bounded { OnErr result ((n : ℕ) → AreAtMost tables.old.items n → tally.new + 9 * size tables.old.items ≤ tally.old + 7 + 9 * (n * length tree.now.nodes)) }
-    ensures flat { OnErr result (HasEqualMeets tree.now → tally.new + 2 ≤ tally.old + 5 * (length tree.now.nodes - at)) }
+    ensures counted { IfOk result (λ _. tally.new + 4 * size tables.old.items ≤ tally.old + 2 + 4
+        * size tables.new.items) }
+    ensures bounded { OnErr result ((n : ℕ) → AreAtMost tables.old.items n
+        → tally.new + 9 * size tables.old.items ≤ tally.old + 7 + 9 * (n * length tree.now.nodes)) }
+    ensures flat { OnErr result (HasEqualMeets tree.now → tally.new + 2 ≤ tally.old + 5
+        * (length tree.now.nodes - at)) }
 {
     let mut part = Cells::new(0);
     part_of(tables, at, tuple, &mut part);
@@ -175,9 +190,12 @@ fn insert_above_part<L: Ledger>(
     ensures ok { IfOk result (λ _. ReducedAbove tree.now tables.old.items tables.new.items at) }
     ensures refused { OnErr result (UnchangedAbove tree.now tables.old.items tables.new.items at) }
     ensures plain { CameAs marked tables.old.items tables.new.items }
-    ensures counted { IfOk result (λ _. tally.new + 4 * size tables.old.items ≤ tally.old + 2 + 4 * size tables.new.items) }
-    ensures bounded { OnErr result ((n : ℕ) → AreAtMost tables.old.items n → tally.new + 9 * size tables.old.items ≤ tally.old + 7 + 9 * (n * length tree.now.nodes)) }
-    ensures flat { OnErr result (HasEqualMeets tree.now → tally.new + 2 ≤ tally.old + 5 * (length tree.now.nodes - at)) }
+    ensures counted { IfOk result (λ _. tally.new + 4 * size tables.old.items ≤ tally.old + 2 + 4
+        * size tables.new.items) }
+    ensures bounded { OnErr result ((n : ℕ) → AreAtMost tables.old.items n
+        → tally.new + 9 * size tables.old.items ≤ tally.old + 7 + 9 * (n * length tree.now.nodes)) }
+    ensures flat { OnErr result (HasEqualMeets tree.now → tally.new + 2 ≤ tally.old + 5
+        * (length tree.now.nodes - at)) }
 {
     is_small_at(tables, at);
     match find_at(tables, up, cells, tally) {
@@ -208,9 +226,12 @@ fn insert_above_guard<L: Ledger>(
     ensures ok { IfOk result (λ _. ReducedAbove tree.now tables.old.items tables.new.items at) }
     ensures refused { OnErr result (UnchangedAbove tree.now tables.old.items tables.new.items at) }
     ensures plain { CameAs marked tables.old.items tables.new.items }
-    ensures counted { IfOk result (λ _. tally.new + 4 * size tables.old.items ≤ tally.old + 2 + 4 * size tables.new.items) }
-    ensures bounded { OnErr result ((n : ℕ) → AreAtMost tables.old.items n → tally.new + 9 * size tables.old.items ≤ tally.old + 7 + 9 * (n * length tree.now.nodes)) }
-    ensures flat { OnErr result (HasEqualMeets tree.now → tally.new + 2 ≤ tally.old + 5 * (length tree.now.nodes - at)) }
+    ensures counted { IfOk result (λ _. tally.new + 4 * size tables.old.items ≤ tally.old + 2 + 4
+        * size tables.new.items) }
+    ensures bounded { OnErr result ((n : ℕ) → AreAtMost tables.old.items n
+        → tally.new + 9 * size tables.old.items ≤ tally.old + 7 + 9 * (n * length tree.now.nodes)) }
+    ensures flat { OnErr result (HasEqualMeets tree.now → tally.new + 2 ≤ tally.old + 5
+        * (length tree.now.nodes - at)) }
 {
     is_small_at(tables, at);
     match find_part(tables, at, side, tuple, tally) {
@@ -237,9 +258,12 @@ fn insert_above_side<L: Ledger>(
     ensures ok { IfOk result (λ _. ReducedAbove tree.now tables.old.items tables.new.items at) }
     ensures refused { OnErr result (UnchangedAbove tree.now tables.old.items tables.new.items at) }
     ensures plain { CameAs marked tables.old.items tables.new.items }
-    ensures counted { IfOk result (λ _. tally.new + 4 * size tables.old.items ≤ tally.old + 2 + 4 * size tables.new.items) }
-    ensures bounded { OnErr result ((n : ℕ) → AreAtMost tables.old.items n → tally.new + 9 * size tables.old.items ≤ tally.old + 7 + 9 * (n * length tree.now.nodes)) }
-    ensures flat { OnErr result (HasEqualMeets tree.now → tally.new + 2 ≤ tally.old + 5 * (length tree.now.nodes - at)) }
+    ensures counted { IfOk result (λ _. tally.new + 4 * size tables.old.items ≤ tally.old + 2 + 4
+        * size tables.new.items) }
+    ensures bounded { OnErr result ((n : ℕ) → AreAtMost tables.old.items n
+        → tally.new + 9 * size tables.old.items ≤ tally.old + 7 + 9 * (n * length tree.now.nodes)) }
+    ensures flat { OnErr result (HasEqualMeets tree.now → tally.new + 2 ≤ tally.old + 5
+        * (length tree.now.nodes - at)) }
 {
     is_small_at(tables, guard);
     let count = len_at(tables, guard);

@@ -40,10 +40,10 @@
 #![tactic(auto)]
 
 mod batch;
-mod removal;
 mod insertion;
 mod many;
 mod path;
+mod removal;
 mod tables;
 mod touch;
 mod update;

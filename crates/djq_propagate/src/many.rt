@@ -10,8 +10,8 @@ ghost use Rattle.djq_propagate.specs.Walks.{CameAs, Fewer};
 ghost use Rattle.djq_propagate.specs.Updates.{HasAtMost, HasKept};
 ghost use Rattle.djq_propagate.specs.Batches.{AreNew, AreThere, HaveCome, HaveGone};
 
-use crate::removal::find_and_remove;
 use crate::insertion::insert_tuple;
+use crate::removal::find_and_remove;
 use djq_index::Table;
 use djq_reduct::Cells;
 use djq_steps::Tally;
@@ -36,9 +36,13 @@ pub(crate) fn insert_all<L: Ledger>(
     requires bare { IsBare tables.old.items }
     ensures come { IfOk result (λ _. HaveCome tree.now tables.old.items tables.new.items leaf tuples.now) }
     ensures plain { IfOk result (λ _. CameAs marked tables.old.items tables.new.items) }
-    ensures refused { OnErr result (HasKept (record { tree = tree.now; tables = tables.old.items }) (record { tree = tree.now; tables = tables.new.items })) }
+    ensures refused { OnErr result (HasKept (record { tree = tree.now; tables = tables.old.items })
+        (record { tree = tree.now; tables = tables.new.items })) }
     ensures counted { IfOk result (λ _. tally.new + 4 * size tables.old.items ≤ tally.old + 4 * size tables.new.items) }
-    ensures bounded { OnErr result ((n : ℕ) → HasAtMost (record { tree = tree.now; tables = tables.old.items }) n → length (entries_at tables.old.items leaf) + length tuples.now ≤ n → tally.new + 9 * size tables.old.items ≤ tally.old + 9 * (n * length tree.now.nodes)) }
+    ensures bounded { OnErr result ((n : ℕ) → HasAtMost
+        (record { tree = tree.now; tables = tables.old.items }) n
+        → length (entries_at tables.old.items leaf) + length tuples.now ≤ n
+        → tally.new + 9 * size tables.old.items ≤ tally.old + 9 * (n * length tree.now.nodes)) }
 {
     for i in 0..tuples.len() {
         match insert_tuple(tree, tables, leaf, tuples[i].as_slice(), marked, tally) {

@@ -34,12 +34,20 @@ fn touch_above<L: Ledger>(
     requires family { IsFamily tree.now tables.old.items }
     requires within { up < length tree.now.nodes }
     ensures next { result ≡ cond (has_child (node_at tree.now.nodes up) at) up at }
-    ensures above { has_child (node_at tree.now.nodes up) at ≡ true → tree.now.second_stage ≤ up → IsTouched tree.now tables.old.items tables.new.items up (λ v. reach (node_at tree.now.nodes up) false at tables.old.items (marks (entries_at tables.old.items at)) v) }
-    ensures below { has_child (node_at tree.now.nodes up) at ≡ true → up < tree.now.second_stage → removal ≡ true → IsTouched tree.now tables.old.items tables.new.items up (λ v. reach (node_at tree.now.nodes up) true at tables.old.items (marks (entries_at tables.old.items at)) v) }
+    ensures above { has_child (node_at tree.now.nodes up) at ≡ true → tree.now.second_stage ≤ up
+        → IsTouched tree.now tables.old.items tables.new.items up
+        (λ v. reach (node_at tree.now.nodes up) false at tables.old.items
+        (marks (entries_at tables.old.items at)) v) }
+    ensures below { has_child (node_at tree.now.nodes up) at ≡ true → up < tree.now.second_stage
+        → removal ≡ true → IsTouched tree.now tables.old.items tables.new.items up
+        (λ v. reach (node_at tree.now.nodes up) true at tables.old.items
+        (marks (entries_at tables.old.items at)) v) }
     ensures idle { up < tree.now.second_stage → removal ≡ false → tables.new.items ≡ tables.old.items }
     ensures apart { has_child (node_at tree.now.nodes up) at ≡ false → tables.new.items ≡ tables.old.items }
-    ensures counted { (n : ℕ) → ((i : ℕ) → length (entries_at tables.old.items i) ≤ n) → tally.new ≤ tally.old + one (has_child (node_at tree.now.nodes up) at) * (1 + 5 * n) }
-    ensures flat { HasEqualMeets tree.now → length (marks (entries_at tables.old.items at)) ≤ 1 → tally.new ≤ tally.old + one (has_child (node_at tree.now.nodes up) at) * 6 }
+    ensures counted { (n : ℕ) → ((i : ℕ) → length (entries_at tables.old.items i) ≤ n)
+        → tally.new ≤ tally.old + one (has_child (node_at tree.now.nodes up) at) * (1 + 5 * n) }
+    ensures flat { HasEqualMeets tree.now → length (marks (entries_at tables.old.items at)) ≤ 1
+        → tally.new ≤ tally.old + one (has_child (node_at tree.now.nodes up) at) * 6 }
 {
     if tree.node(up).has_child(at) {
         if up >= tree.second_stage() {
@@ -68,9 +76,11 @@ pub(crate) fn touch_path<L: Ledger>(
     requires can { CanWalk tree.now tables.old.items leaf removal }
     ensures touched { IsTouchedUp tree.now tables.old.items tables.new.items leaf }
     ensures walked { IsWalked tree.now tables.old.items tables.new.items leaf removal (length tree.now.nodes) }
-    ensures counted { (n : ℕ) → ((i : ℕ) → length (entries_at tables.old.items i) ≤ n) → tally.new ≤ tally.old + steps tree.now.nodes leaf (length tree.now.nodes) * (1 + 5 * n) }
+    ensures counted { (n : ℕ) → ((i : ℕ) → length (entries_at tables.old.items i) ≤ n)
+        → tally.new ≤ tally.old + steps tree.now.nodes leaf (length tree.now.nodes) * (1 + 5 * n) }
     ensures few { HasEqualMeets tree.now → HaveFew tables.old.items → HaveFew tables.new.items }
-    ensures flat { HasEqualMeets tree.now → HaveFew tables.old.items → tally.new ≤ tally.old + steps tree.now.nodes leaf (length tree.now.nodes) * 6 }
+    ensures flat { HasEqualMeets tree.now → HaveFew tables.old.items
+        → tally.new ≤ tally.old + steps tree.now.nodes leaf (length tree.now.nodes) * 6 }
 {
     let mut at = leaf;
     for up in 0..tree.len() {
@@ -89,11 +99,14 @@ fn clear_above<L: Ledger>(
     requires family { IsFamily tree.now tables.old.items }
     requires within { up < length tree.now.nodes }
     ensures next { result ≡ cond (has_child (node_at tree.now.nodes up) at) up at }
-    ensures cleared { has_child (node_at tree.now.nodes up) at ≡ true → entries_at tables.new.items up ≡ unmarked (entries_at tables.old.items up) }
+    ensures cleared { has_child (node_at tree.now.nodes up) at ≡ true
+        → entries_at tables.new.items up ≡ unmarked (entries_at tables.old.items up) }
     ensures changed { has_child (node_at tree.now.nodes up) at ≡ true → Changed tables.old.items tables.new.items up }
     ensures apart { has_child (node_at tree.now.nodes up) at ≡ false → tables.new.items ≡ tables.old.items }
-    ensures counted { (n : ℕ) → ((i : ℕ) → length (entries_at tables.old.items i) ≤ n) → tally.new ≤ tally.old + one (has_child (node_at tree.now.nodes up) at) * (1 + n) }
-    ensures flat { HaveFew tables.old.items → tally.new ≤ tally.old + one (has_child (node_at tree.now.nodes up) at) * 2 }
+    ensures counted { (n : ℕ) → ((i : ℕ) → length (entries_at tables.old.items i) ≤ n)
+        → tally.new ≤ tally.old + one (has_child (node_at tree.now.nodes up) at) * (1 + n) }
+    ensures flat { HaveFew tables.old.items → tally.new ≤ tally.old + one
+        (has_child (node_at tree.now.nodes up) at) * 2 }
 {
     if tree.node(up).has_child(at) {
         clear_at(tables, up, tally);
@@ -112,8 +125,11 @@ pub(crate) fn clear_path<L: Ledger>(
     requires family { IsFamily tree.now tables.old.items }
     requires leaf { leaf < tree.now.leaves }
     ensures cleared { HasCleared tree.now tables.old.items tables.new.items leaf (length tree.now.nodes) }
-    ensures counted { (n : ℕ) → ((i : ℕ) → length (entries_at tables.old.items i) ≤ n) → tally.new ≤ tally.old + (1 + steps tree.now.nodes leaf (length tree.now.nodes)) * (1 + n) }
-    ensures flat { HaveFew tables.old.items → tally.new ≤ tally.old + (1 + steps tree.now.nodes leaf (length tree.now.nodes)) * 2 }
+    ensures counted { (n : ℕ) → ((i : ℕ) → length (entries_at tables.old.items i) ≤ n)
+        → tally.new ≤ tally.old + (1 + steps tree.now.nodes leaf (length tree.now.nodes))
+        * (1 + n) }
+    ensures flat { HaveFew tables.old.items → tally.new ≤ tally.old + (1 + steps tree.now.nodes leaf
+        (length tree.now.nodes)) * 2 }
 {
     clear_at(tables, leaf, tally);
     let mut at = leaf;
@@ -131,7 +147,8 @@ pub(crate) fn take_marked<L: Ledger>(
 )
     requires reducts { IsReducts (record { tree = tree.now; tables = tables.old.items }) }
     requires leaf { leaf < tree.now.leaves }
-    ensures taken { HasTaken (record { tree = tree.now; tables = tables.old.items }) (record { tree = tree.now; tables = tables.new.items }) leaf }
+    ensures taken { HasTaken (record { tree = tree.now; tables = tables.old.items })
+        (record { tree = tree.now; tables = tables.new.items }) leaf }
     ensures counted { tally.new + 5 * size tables.new.items ≤ tally.old + 1 + 5 * size tables.old.items }
 {
     let count = len_at(tables, leaf);

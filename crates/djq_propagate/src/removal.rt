@@ -1,13 +1,14 @@
 //! A tuple goes from a node, and what it took along goes from the nodes above it. This takes no memory.
 
 ghost use Rattle.std.specs.Prelude.{◌≡◌, ◌+◌, ◌*◌, ◌<◌, ◌≤◌, length, take};
-ghost use Rattle.djq_index.specs.Entries.{cnt, grp};
+ghost use Rattle.djq_index.specs.Entries.{count_of, group_of};
 ghost use Rattle.djq_index.specs.Tuple.{pick};
 ghost use Rattle.djq_index.specs.Table.{IsAt};
 ghost use Rattle.djq_tree.specs.declared.node.Node.TheVariants.{Trim, Meet};
 ghost use Rattle.djq_reduct.specs.Tables.{entries_at, key_at, width_at};
 ghost use Rattle.djq_propagate.specs.Sizes.{size};
-ghost use Rattle.djq_propagate.specs.Walks.{Ready, RemovedUpwards, Losing, ReducedAbove, Fewer, IsUnder, IsEmptied, IsFull};
+ghost use Rattle.djq_propagate.specs.Walks.{Ready, RemovedUpwards, Losing, ReducedAbove, Fewer};
+ghost use Rattle.djq_propagate.specs.Walks.{IsUnder, IsEmptied, IsFull};
 
 use crate::tables::{
     column_of, find_at, first_at, has_no_column, is_shared_at, len_at, lower_at, next_at, part_of,
@@ -213,8 +214,12 @@ pub(crate) fn remove_group_from_meet<L: Ledger>(
 )
     requires ready { Ready tree.now tables.old.items up }
     requires lower { guard < up }
-    requires full { IsFull (entries_at tables.old.items up) (take count (grp (key_at tables.old.items guard) (entries_at tables.old.items guard) cells.now)) }
-    ensures emptied { IsEmptied tree.now tables.old.items tables.new.items up (take count (grp (key_at tables.old.items guard) (entries_at tables.old.items guard) cells.now)) }
+    requires full { IsFull (entries_at tables.old.items up)
+        (take count (group_of (key_at tables.old.items guard) (entries_at tables.old.items guard)
+        cells.now)) }
+    ensures emptied { IsEmptied tree.now tables.old.items tables.new.items up
+        (take count (group_of (key_at tables.old.items guard) (entries_at tables.old.items guard)
+        cells.now)) }
     ensures fewer { Fewer tables.old.items tables.new.items }
     ensures counted { tally.new + 5 * size tables.new.items ≤ tally.old + 1 + 5 * size tables.old.items }
 {
@@ -244,7 +249,7 @@ pub(crate) fn find_and_remove<L: Ledger>(
     tally: &mut Tally<L>,
 )
     requires ready { Ready tree.now tables.old.items at }
-    requires there { 0 < cnt (entries_at tables.old.items at) tuple.now }
+    requires there { 0 < count_of (entries_at tables.old.items at) tuple.now }
     ensures died { RemovedUpwards tree.now tables.old.items tables.new.items at tuple.now }
     ensures fewer { Fewer tables.old.items tables.new.items }
     ensures counted { tally.new + 1 + 5 * size tables.new.items ≤ tally.old + 5 * size tables.old.items }

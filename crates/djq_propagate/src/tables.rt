@@ -1,8 +1,9 @@
 //! Calls on the table of one node, among the tables of all.
 
-ghost use Rattle.std.specs.Prelude.{◌≡◌, ℕ, ◌+◌, ◌-◌, ◌<◌, ◌≤◌, false, List, [], ◌∷◌, ◌++◌, length, nat_lt, IsTrue, IfOk, IfSome, OnErr, MatchOption};
+ghost use Rattle.std.specs.Prelude.{◌≡◌, ℕ, ◌+◌, ◌-◌, ◌<◌, ◌≤◌, false, List, [], ◌∷◌, ◌++◌, length};
+ghost use Rattle.std.specs.Prelude.{nat_lt, IsTrue, IfOk, IfSome, OnErr, MatchOption};
 ghost use Rattle.djq_index.specs.Tuple.{pick};
-ghost use Rattle.djq_index.specs.Entries.{Entry, supp, cnt, grp, marks, is_marked, unmarked, head_at};
+ghost use Rattle.djq_index.specs.Entries.{Entry, supports_of, count_of, group_of, marks, is_marked, unmarked, head_at};
 ghost use Rattle.djq_index.specs.Table.{IsTable, IsAt, IsLive, IsUnmarked, IsRaisable};
 ghost use Rattle.djq_index.specs.Changes.{InsertedAs, Removed, Touched, Supported};
 ghost use Rattle.djq_reduct.specs.Tables.{table_at, entries_at, key_at, width_at};
@@ -38,7 +39,8 @@ pub(crate) fn find_at<L: Ledger>(
     tally: &mut Tally<L>,
 ) -> Option<Place>
     requires { at < length tables.now.items }
-    ensures found { MatchOption result (cnt (entries_at tables.now.items at) tuple.now ≡ 0) (λ p. IsAt (entries_at tables.now.items at) p tuple.now) }
+    ensures found { MatchOption result (count_of (entries_at tables.now.items at) tuple.now ≡ 0)
+        (λ p. IsAt (entries_at tables.now.items at) p tuple.now) }
     ensures counted { tally.new ≡ tally.old + 1 }
 {
     table_of(tables, at).find(tuple, tally)
@@ -52,7 +54,8 @@ pub(crate) fn first_at<L: Ledger>(
     tally: &mut Tally<L>,
 ) -> Option<Place>
     requires { at < length tables.now.items }
-    ensures found { result ≡ head_at (grp (key_at tables.now.items at) (entries_at tables.now.items at) cells.now) }
+    ensures found { result ≡ head_at (group_of (key_at tables.now.items at)
+        (entries_at tables.now.items at) cells.now) }
     ensures counted { tally.new ≡ tally.old + 1 }
 {
     table_of(tables, at).first(cells, tally)
@@ -67,7 +70,9 @@ pub(crate) fn next_at<L: Ledger>(
 ) -> Option<Place>
     requires within { at < length tables.now.items }
     requires live { IsLive (entries_at tables.now.items at) place }
-    ensures found { (w : List ℕ) (xs : List Entry) (e : Entry) (ys : List Entry) → grp (key_at tables.now.items at) (entries_at tables.now.items at) w ≡ xs ++ e ∷ ys → e.at ≡ place → result ≡ head_at ys }
+    ensures found { (w : List ℕ) (xs : List Entry) (e : Entry) (ys : List Entry)
+        → group_of (key_at tables.now.items at) (entries_at tables.now.items at) w ≡ xs ++ e ∷ ys
+        → e.at ≡ place → result ≡ head_at ys }
     ensures counted { tally.new ≡ tally.old + 1 }
 {
     table_of(tables, at).next(place, tally)
@@ -95,7 +100,9 @@ pub(crate) fn next_marked_at<L: Ledger>(
 ) -> Option<Place>
     requires within { at < length tables.now.items }
     requires live { IsLive (entries_at tables.now.items at) place }
-    ensures found { (xs : List Entry) (e : Entry) (ys : List Entry) → marks (entries_at tables.now.items at) ≡ xs ++ e ∷ ys → e.at ≡ place → result ≡ head_at ys }
+    ensures found { (xs : List Entry) (e : Entry) (ys : List Entry)
+        → marks (entries_at tables.now.items at) ≡ xs ++ e ∷ ys → e.at ≡ place
+        → result ≡ head_at ys }
     ensures counted { tally.new ≡ tally.old + 1 }
 {
     table_of(tables, at).next_marked(place, tally)
@@ -163,7 +170,10 @@ pub(crate) fn find_part<L: Ledger>(
     requires narrow { width_at tables.now.items at ≤ 16 }
     requires few { length (key_at tables.now.items at) ≤ 16 }
     requires wide { length tuple.now ≡ width_at tables.now.items at }
-    ensures found { MatchOption result (cnt (entries_at tables.now.items to) (pick (key_at tables.now.items at) tuple.now) ≡ 0) (λ p. IsAt (entries_at tables.now.items to) p (pick (key_at tables.now.items at) tuple.now)) }
+    ensures found { MatchOption result (count_of (entries_at tables.now.items to)
+        (pick (key_at tables.now.items at) tuple.now) ≡ 0)
+        (λ p. IsAt (entries_at tables.now.items to) p (pick (key_at tables.now.items at)
+        tuple.now)) }
     ensures counted { tally.new ≡ tally.old + 1 }
 {
     match column_of(tables, at) {
@@ -186,7 +196,10 @@ fn find_wide<L: Ledger>(
     requires narrow { width_at tables.now.items at ≤ 16 }
     requires few { length (key_at tables.now.items at) ≤ 16 }
     requires wide { length tuple.now ≡ width_at tables.now.items at }
-    ensures found { MatchOption result (cnt (entries_at tables.now.items to) (pick (key_at tables.now.items at) tuple.now) ≡ 0) (λ p. IsAt (entries_at tables.now.items to) p (pick (key_at tables.now.items at) tuple.now)) }
+    ensures found { MatchOption result (count_of (entries_at tables.now.items to)
+        (pick (key_at tables.now.items at) tuple.now) ≡ 0)
+        (λ p. IsAt (entries_at tables.now.items to) p (pick (key_at tables.now.items at)
+        tuple.now)) }
     ensures counted { tally.new ≡ tally.old + 1 }
 {
     let mut part = Cells::new(0);
@@ -198,7 +211,8 @@ fn find_wide<L: Ledger>(
 pub(crate) fn is_shared_at(tables: &Vec<Table>, at: usize, place: Place) -> bool
     requires within { at < length tables.now.items }
     requires live { IsLive (entries_at tables.now.items at) place }
-    ensures { (u : List ℕ) → IsAt (entries_at tables.now.items at) place u → result ≡ nat_lt 1 (supp (entries_at tables.now.items at) u) }
+    ensures { (u : List ℕ) → IsAt (entries_at tables.now.items at) place u
+        → result ≡ nat_lt 1 (supports_of (entries_at tables.now.items at) u) }
 {
     table_of(tables, at).supports(place) > 1
 }
@@ -207,7 +221,8 @@ pub(crate) fn is_shared_at(tables: &Vec<Table>, at: usize, place: Place) -> bool
 pub(crate) fn marked_at(tables: &Vec<Table>, at: usize, place: Place) -> bool
     requires within { at < length tables.now.items }
     requires live { IsLive (entries_at tables.now.items at) place }
-    ensures { (u : List ℕ) → IsAt (entries_at tables.now.items at) place u → result ≡ is_marked (entries_at tables.now.items at) u }
+    ensures { (u : List ℕ) → IsAt (entries_at tables.now.items at) place u
+        → result ≡ is_marked (entries_at tables.now.items at) u }
 {
     table_of(tables, at).marked(place)
 }
@@ -221,11 +236,12 @@ pub(crate) fn insert_at<L: Ledger>(
     tally: &mut Tally<L>,
 ) -> Result<Place, AllocError>
     requires within { at < length tables.old.items }
-    requires absent { cnt (entries_at tables.old.items at) tuple.now ≡ 0 }
+    requires absent { count_of (entries_at tables.old.items at) tuple.now ≡ 0 }
     requires wide { length tuple.now ≡ width_at tables.old.items at }
     requires few { length (entries_at tables.old.items at) < 4294967295 }
     requires plain { marked ≡ false → marks (entries_at tables.old.items at) ≡ [] }
-    ensures inserted { IfOk result (λ p. InsertedAs marked (key_at tables.old.items at) (entries_at tables.old.items at) (entries_at tables.new.items at) tuple.now) }
+    ensures inserted { IfOk result (λ p. InsertedAs marked (key_at tables.old.items at)
+        (entries_at tables.old.items at) (entries_at tables.new.items at) tuple.now) }
     ensures lies { IfOk result (λ p. IsAt (entries_at tables.new.items at) p tuple.now) }
     ensures refused { OnErr result (entries_at tables.new.items at ≡ entries_at tables.old.items at) }
     ensures changed { Changed tables.old.items tables.new.items at }
@@ -244,7 +260,8 @@ pub(crate) fn remove_at<L: Ledger>(
 )
     requires within { at < length tables.old.items }
     requires live { IsLive (entries_at tables.old.items at) place }
-    ensures removed { (u : List ℕ) → IsAt (entries_at tables.old.items at) place u → Removed (entries_at tables.old.items at) (entries_at tables.new.items at) u }
+    ensures removed { (u : List ℕ) → IsAt (entries_at tables.old.items at) place u
+        → Removed (entries_at tables.old.items at) (entries_at tables.new.items at) u }
     ensures changed { Changed tables.old.items tables.new.items at }
     ensures counted { tally.new ≡ tally.old + 1 }
 {
@@ -261,7 +278,10 @@ pub(crate) fn raise_at<L: Ledger>(
 )
     requires within { at < length tables.old.items }
     requires room { IsRaisable (entries_at tables.old.items at) place }
-    ensures raised { (u : List ℕ) → IsAt (entries_at tables.old.items at) place u → Supported (entries_at tables.old.items at) (entries_at tables.new.items at) u (supp (entries_at tables.old.items at) u) (supp (entries_at tables.old.items at) u + 1) }
+    ensures raised { (u : List ℕ) → IsAt (entries_at tables.old.items at) place u
+        → Supported (entries_at tables.old.items at) (entries_at tables.new.items at) u
+        (supports_of (entries_at tables.old.items at) u)
+        (supports_of (entries_at tables.old.items at) u + 1) }
     ensures changed { Changed tables.old.items tables.new.items at }
     ensures counted { tally.new ≡ tally.old + 1 }
 {
@@ -278,7 +298,10 @@ pub(crate) fn lower_at<L: Ledger>(
 )
     requires within { at < length tables.old.items }
     requires shared { IsShared (entries_at tables.old.items at) place }
-    ensures lowered { (u : List ℕ) → IsAt (entries_at tables.old.items at) place u → Supported (entries_at tables.old.items at) (entries_at tables.new.items at) u (supp (entries_at tables.old.items at) u) (supp (entries_at tables.old.items at) u - 1) }
+    ensures lowered { (u : List ℕ) → IsAt (entries_at tables.old.items at) place u
+        → Supported (entries_at tables.old.items at) (entries_at tables.new.items at) u
+        (supports_of (entries_at tables.old.items at) u)
+        (supports_of (entries_at tables.old.items at) u - 1) }
     ensures changed { Changed tables.old.items tables.new.items at }
     ensures counted { tally.new ≡ tally.old + 1 }
 {
@@ -295,7 +318,9 @@ pub(crate) fn touch_at<L: Ledger>(
 )
     requires within { at < length tables.old.items }
     requires unmarked { IsUnmarked (entries_at tables.old.items at) place }
-    ensures touched { (u : List ℕ) → IsAt (entries_at tables.old.items at) place u → Touched (key_at tables.old.items at) (entries_at tables.old.items at) (entries_at tables.new.items at) u }
+    ensures touched { (u : List ℕ) → IsAt (entries_at tables.old.items at) place u
+        → Touched (key_at tables.old.items at) (entries_at tables.old.items at)
+        (entries_at tables.new.items at) u }
     ensures changed { Changed tables.old.items tables.new.items at }
     ensures counted { tally.new ≡ tally.old + 1 }
 {

@@ -1,5 +1,5 @@
 ghost use Rattle.std.specs.Prelude.{◌≡◌, ◌<◌, true, length, IfOk, IfSome};
-ghost use Rattle.djq_index.specs.Entries.{cnt};
+ghost use Rattle.djq_index.specs.Entries.{count_of};
 ghost use Rattle.djq_reduct.specs.Marks.{IsBare};
 ghost use Rattle.djq_reduct.specs.Tables.{entries_at};
 
@@ -70,7 +70,7 @@ fn put<L: Ledger>(
 /// Whether a leaf lacks a tuple.
 fn lacks<L: Ledger>(reducts: &Reducts, leaf: usize, tuple: &[u64], tally: &mut Tally<L>) -> bool
     requires { leaf < length reducts.now.tree.nodes }
-    ensures { result ≡ true → cnt (entries_at reducts.now.tables leaf) tuple.now ≡ 0 }
+    ensures { result ≡ true → count_of (entries_at reducts.now.tables leaf) tuple.now ≡ 0 }
 {
     match reducts.table(leaf).find(tuple, tally) {
         Some(_place) => false,

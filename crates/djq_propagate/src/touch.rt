@@ -2,7 +2,7 @@
 
 ghost use Rattle.std.specs.Prelude.{◌≡◌, ℕ, ◌+◌, ◌*◌, ◌<◌, ◌≤◌, length};
 ghost use Rattle.djq_index.specs.Tuple.{same, one};
-ghost use Rattle.djq_index.specs.Entries.{cnt, many, marks, plain, grp};
+ghost use Rattle.djq_index.specs.Entries.{count_of, group_size, marks, plain, group_of};
 ghost use Rattle.djq_tree.specs.Flat.{HasEqualMeets};
 ghost use Rattle.djq_tree.specs.Tree.{node_at};
 ghost use Rattle.djq_tree.specs.declared.node.Node.TheVariants.{Trim};
@@ -56,7 +56,8 @@ fn is_to_be_marked<L: Ledger>(
 ) -> bool
     requires family { IsFamily tree.now tables.now.items }
     requires within { at < length tree.now.nodes }
-    ensures going { result ≡ is_marked_by going (many (key_at tables.now.items at) (plain (entries_at tables.now.items at)) cells.now) }
+    ensures going { result ≡ is_marked_by going (group_size (key_at tables.now.items at)
+        (plain (entries_at tables.now.items at)) cells.now) }
     ensures counted { tally.new ≤ tally.old + 1 }
 {
     if going {
@@ -83,7 +84,8 @@ fn touch_part<L: Ledger>(
     requires within { at < length tree.now.nodes }
     requires wide { length tuple.now ≡ width_at tables.old.items at }
     requires under { IsUnder tree.now up (Trim at) at }
-    ensures touched { IsTouched tree.now tables.old.items tables.new.items up (λ v. reach_one (Trim at) going at tables.old.items tuple.now v) }
+    ensures touched { IsTouched tree.now tables.old.items tables.new.items up
+        (λ v. reach_one (Trim at) going at tables.old.items tuple.now v) }
     ensures counted { tally.new ≤ tally.old + 3 }
 {
     let mut part = Cells::new(0);
@@ -106,8 +108,11 @@ fn touch_group<L: Ledger>(
     requires family { IsFamily tree.now tables.old.items }
     requires lower { guard < up }
     requires within { up < length tree.now.nodes }
-    ensures touched { IsTouched tree.now tables.old.items tables.new.items up (λ v. cnt (grp (key_at tables.old.items guard) (entries_at tables.old.items guard) cells.now) v) }
-    ensures counted { tally.new ≤ tally.old + 1 + 3 * many (key_at tables.old.items guard) (entries_at tables.old.items guard) cells.now }
+    ensures touched { IsTouched tree.now tables.old.items tables.new.items up
+        (λ v. count_of (group_of (key_at tables.old.items guard) (entries_at tables.old.items guard)
+        cells.now) v) }
+    ensures counted { tally.new ≤ tally.old + 1 + 3 * group_size (key_at tables.old.items guard)
+        (entries_at tables.old.items guard) cells.now }
 {
     let count = len_at(tables, guard);
     let mut part = Cells::new(0);
@@ -138,7 +143,8 @@ fn touch_from<L: Ledger>(
 )
     requires step { IsStep tree.now tables.old.items at up }
     requires wide { length tuple.now ≡ width_at tables.old.items at }
-    ensures touched { IsTouched tree.now tables.old.items tables.new.items up (λ v. reach_one (node_at tree.now.nodes up) going at tables.old.items tuple.now v) }
+    ensures touched { IsTouched tree.now tables.old.items tables.new.items up
+        (λ v. reach_one (node_at tree.now.nodes up) going at tables.old.items tuple.now v) }
     ensures counted { tally.new ≤ tally.old + cost_one (node_at tree.now.nodes up) at tables.old.items tuple.now }
 {
     match tree.node(up) {
@@ -165,9 +171,13 @@ pub(crate) fn touch_step<L: Ledger>(
     tally: &mut Tally<L>,
 )
     requires step { IsStep tree.now tables.old.items at up }
-    ensures touched { IsTouched tree.now tables.old.items tables.new.items up (λ v. reach (node_at tree.now.nodes up) going at tables.old.items (marks (entries_at tables.old.items at)) v) }
-    ensures counted { (n : ℕ) → ((i : ℕ) → length (entries_at tables.old.items i) ≤ n) → tally.new ≤ tally.old + 1 + 5 * n }
-    ensures flat { HasEqualMeets tree.now → length (marks (entries_at tables.old.items at)) ≤ 1 → tally.new ≤ tally.old + 6 }
+    ensures touched { IsTouched tree.now tables.old.items tables.new.items up
+        (λ v. reach (node_at tree.now.nodes up) going at tables.old.items
+        (marks (entries_at tables.old.items at)) v) }
+    ensures counted { (n : ℕ) → ((i : ℕ) → length (entries_at tables.old.items i) ≤ n)
+        → tally.new ≤ tally.old + 1 + 5 * n }
+    ensures flat { HasEqualMeets tree.now → length (marks (entries_at tables.old.items at)) ≤ 1
+        → tally.new ≤ tally.old + 6 }
 {
     let count = len_at(tables, at);
     let mut tuple = Cells::new(0);

@@ -2,7 +2,7 @@
 //! had more than one tuple.
 
 ghost use Rattle.std.specs.Prelude.{◌≡◌, ℕ, ◌<◌, ◌≤◌, List, length, IfOk, OnErr};
-ghost use Rattle.djq_index.specs.Entries.{cnt};
+ghost use Rattle.djq_index.specs.Entries.{count_of};
 ghost use Rattle.djq_tree.specs.Flat.{HasEqualMeets};
 ghost use Rattle.djq_tree.specs.Labels.{label_at};
 ghost use Rattle.djq_reduct.specs.Tables.{entries_at};
@@ -10,12 +10,15 @@ ghost use Rattle.djq_reduct.specs.Reducts.{IsReducts, SameTables};
 ghost use Rattle.djq_reduct.specs.Reducts as spec;
 ghost use Rattle.djq_reduct.specs.Marks.{IsBare, AreOnPath, IsWithout};
 ghost use Rattle.djq_propagate.specs.Touches.{HaveFew};
-ghost use Rattle.djq_propagate.specs.Updates.{HasInserted, HasMarked, HasKept, HasDropped, HasGained, HasLost, HasAtMost};
-ghost use Rattle.djq_propagate.specs.Bounds.{after_insert, after_refusal, after_mark, after_keep, after_drop, after_add, after_take, HasVariables, AddUp};
+ghost use Rattle.djq_propagate.specs.Updates.{HasInserted, HasMarked, HasKept, HasDropped};
+ghost use Rattle.djq_propagate.specs.Updates.{HasGained, HasLost, HasAtMost};
+ghost use Rattle.djq_propagate.specs.Bounds.{after_insert, after_refusal, after_mark, after_keep};
+ghost use Rattle.djq_propagate.specs.Bounds.{after_drop, after_add, after_take, HasVariables};
+ghost use Rattle.djq_propagate.specs.Bounds.{AddUp};
 
-use crate::removal::find_and_remove;
 use crate::insertion::insert_tuple;
 use crate::path::{clear_path, take_marked, touch_path};
+use crate::removal::find_and_remove;
 use crate::touch::touch_tuple;
 use djq_reduct::Reducts;
 use djq_steps::Tally;
@@ -34,16 +37,21 @@ pub fn insert_leaf<L: Ledger>(
 ) -> Result<(), AllocError>
     requires leaf { leaf < reducts.old.tree.leaves }
     requires wide { length tuple.now ≡ length (label_at reducts.old.tree.labels leaf) }
-    requires absent { cnt (entries_at reducts.old.tables leaf) tuple.now ≡ 0 }
+    requires absent { count_of (entries_at reducts.old.tables leaf) tuple.now ≡ 0 }
     requires few { length (entries_at reducts.old.tables leaf) < 4294967295 }
     requires bare { IsBare reducts.old.tables }
     ensures inserted { IfOk result (λ _. HasInserted reducts.old reducts.new leaf tuple.now) }
     ensures refused { OnErr result (HasKept reducts.old reducts.new) }
-    ensures counted { IfOk result (λ _. (n : ℕ) → HasAtMost reducts.new n → tally.new ≤ after_insert reducts.old.tree n tally.old) }
-    ensures bounded { OnErr result ((n : ℕ) → HasAtMost reducts.old n → length (entries_at reducts.old.tables leaf) < n → tally.new ≤ after_refusal reducts.old.tree n tally.old) }
+    ensures counted { IfOk result (λ _. (n : ℕ) → HasAtMost reducts.new n
+        → tally.new ≤ after_insert reducts.old.tree n tally.old) }
+    ensures bounded { OnErr result ((n : ℕ) → HasAtMost reducts.old n
+        → length (entries_at reducts.old.tables leaf) < n
+        → tally.new ≤ after_refusal reducts.old.tree n tally.old) }
     ensures few { IfOk result (λ _. HasEqualMeets reducts.old.tree → HaveFew reducts.new.tables) }
-    ensures flat { IfOk result (λ _. HasEqualMeets reducts.old.tree → tally.new ≤ after_insert reducts.old.tree 1 tally.old) }
-    ensures flat_refused { OnErr result (HasEqualMeets reducts.old.tree → tally.new ≤ after_refusal reducts.old.tree 1 tally.old) }
+    ensures flat { IfOk result (λ _. HasEqualMeets reducts.old.tree
+        → tally.new ≤ after_insert reducts.old.tree 1 tally.old) }
+    ensures flat_refused { OnErr result (HasEqualMeets reducts.old.tree
+        → tally.new ≤ after_refusal reducts.old.tree 1 tally.old) }
 {
     insert_tuple(&reducts.tree, &mut reducts.tables, leaf, tuple, true, tally)?;
     touch_path(&reducts.tree, &mut reducts.tables, leaf, false, tally);
@@ -60,15 +68,20 @@ pub fn add_leaf<L: Ledger>(
 ) -> Result<(), AllocError>
     requires leaf { leaf < reducts.old.tree.leaves }
     requires wide { length tuple.now ≡ length (label_at reducts.old.tree.labels leaf) }
-    requires absent { cnt (entries_at reducts.old.tables leaf) tuple.now ≡ 0 }
+    requires absent { count_of (entries_at reducts.old.tables leaf) tuple.now ≡ 0 }
     requires few { length (entries_at reducts.old.tables leaf) < 4294967295 }
     requires bare { IsBare reducts.old.tables }
     ensures gained { IfOk result (λ _. HasGained reducts.old reducts.new leaf tuple.now) }
     ensures refused { OnErr result (HasKept reducts.old reducts.new) }
-    ensures counted { IfOk result (λ _. (n : ℕ) → HasAtMost reducts.new n → tally.new ≤ after_add reducts.old.tree n tally.old) }
-    ensures bounded { OnErr result ((n : ℕ) → HasAtMost reducts.old n → length (entries_at reducts.old.tables leaf) < n → tally.new ≤ after_refusal reducts.old.tree n tally.old) }
-    ensures flat { IfOk result (λ _. HasEqualMeets reducts.old.tree → tally.new ≤ after_add reducts.old.tree 1 tally.old) }
-    ensures flat_refused { OnErr result (HasEqualMeets reducts.old.tree → tally.new ≤ after_refusal reducts.old.tree 1 tally.old) }
+    ensures counted { IfOk result (λ _. (n : ℕ) → HasAtMost reducts.new n
+        → tally.new ≤ after_add reducts.old.tree n tally.old) }
+    ensures bounded { OnErr result ((n : ℕ) → HasAtMost reducts.old n
+        → length (entries_at reducts.old.tables leaf) < n
+        → tally.new ≤ after_refusal reducts.old.tree n tally.old) }
+    ensures flat { IfOk result (λ _. HasEqualMeets reducts.old.tree
+        → tally.new ≤ after_add reducts.old.tree 1 tally.old) }
+    ensures flat_refused { OnErr result (HasEqualMeets reducts.old.tree
+        → tally.new ≤ after_refusal reducts.old.tree 1 tally.old) }
 {
     insert_tuple(
         &reducts.tree,
@@ -85,7 +98,7 @@ pub fn add_leaf<L: Ledger>(
 /// update ends at once. It takes no memory.
 pub fn drop_leaf<L: Ledger>(reducts: &mut Reducts, leaf: usize, tuple: &[u64], tally: &mut Tally<L>)
     requires leaf { leaf < reducts.old.tree.leaves }
-    requires there { 0 < cnt (entries_at reducts.old.tables leaf) tuple.now }
+    requires there { 0 < count_of (entries_at reducts.old.tables leaf) tuple.now }
     requires bare { IsBare reducts.old.tables }
     ensures lost { HasLost reducts.old reducts.new leaf tuple.now }
     ensures counted { (n : ℕ) → HasAtMost reducts.old n → tally.new ≤ after_take reducts.old.tree n tally.old }
@@ -103,7 +116,7 @@ pub fn mark_removal<L: Ledger>(
     tally: &mut Tally<L>,
 )
     requires leaf { leaf < reducts.old.tree.leaves }
-    requires there { 0 < cnt (entries_at reducts.old.tables leaf) tuple.now }
+    requires there { 0 < count_of (entries_at reducts.old.tables leaf) tuple.now }
     requires bare { IsBare reducts.old.tables }
     ensures marked { HasMarked reducts.old reducts.new leaf tuple.now }
     ensures counted { (n : ℕ) → HasAtMost reducts.old n → tally.new ≤ after_mark reducts.old.tree n tally.old }
@@ -131,7 +144,8 @@ pub fn finish_removal<L: Ledger>(reducts: &mut Reducts, leaf: usize, tally: &mut
     requires path { AreOnPath reducts.old.tree reducts.old.tables leaf }
     ensures dropped { HasDropped reducts.old reducts.new leaf }
     ensures counted { (n : ℕ) → HasAtMost reducts.old n → tally.new ≤ after_drop reducts.old.tree n tally.old }
-    ensures flat { HasEqualMeets reducts.old.tree → HaveFew reducts.old.tables → tally.new ≤ after_drop reducts.old.tree 1 tally.old }
+    ensures flat { HasEqualMeets reducts.old.tree → HaveFew reducts.old.tables
+        → tally.new ≤ after_drop reducts.old.tree 1 tally.old }
 {
     take_marked(&reducts.tree, &mut reducts.tables, leaf, tally);
     clear_path(&reducts.tree, &mut reducts.tables, leaf, tally);
@@ -143,9 +157,11 @@ pub fn undo_insertion<L: Ledger>(reducts: &mut Reducts, leaf: usize, tally: &mut
     requires leaf { leaf < reducts.old.tree.leaves }
     requires path { AreOnPath reducts.old.tree reducts.old.tables leaf }
     ensures dropped { HasDropped reducts.old reducts.new leaf }
-    ensures back { (before : spec.Reducts) → IsReducts before → IsWithout reducts.old before leaf → SameTables before reducts.new }
+    ensures back { (before : spec.Reducts) → IsReducts before → IsWithout reducts.old before leaf
+        → SameTables before reducts.new }
     ensures counted { (n : ℕ) → HasAtMost reducts.old n → tally.new ≤ after_drop reducts.old.tree n tally.old }
-    ensures flat { HasEqualMeets reducts.old.tree → HaveFew reducts.old.tables → tally.new ≤ after_drop reducts.old.tree 1 tally.old }
+    ensures flat { HasEqualMeets reducts.old.tree → HaveFew reducts.old.tables
+        → tally.new ≤ after_drop reducts.old.tree 1 tally.old }
 {
     finish_removal(reducts, leaf, tally);
 }
@@ -155,7 +171,8 @@ pub fn undo_insertion<L: Ledger>(reducts: &mut Reducts, leaf: usize, tally: &mut
 /// times the leaves and the variables for each of the `n`; an insertion that is undone, or refused, at most
 /// twice that. So does an update without marks, at most that once. It does nothing.
 pub fn counts_add_up(tree: &Tree)
-    ensures { (variables : List ℕ) (n : ℕ) → HasVariables tree.now variables → 0 < n → AddUp tree.now (length variables) n }
+    ensures { (variables : List ℕ) (n : ℕ) → HasVariables tree.now variables → 0 < n
+        → AddUp tree.now (length variables) n }
 {
     tree.is_small();
 }

@@ -11,7 +11,7 @@ ghost use Rattle.djq_reach.specs.Grouping.{reached, relations_of, rows_in, times
 
 use crate::group::Group;
 use crate::places::is_watched;
-use crate::reach::{empty_logs, clear_if};
+use crate::reach::{clear_if, empty_logs};
 use crate::rows::{give_all_back, insert_all_into_readers};
 use djq_cursor::DeltaLog;
 use djq_live::LiveQuery;
@@ -154,7 +154,15 @@ pub fn insert_batch_into_readers<L: Ledgers>(
         let group = &groups[at];
         let places = places_of(readers, group);
         let rows = group.rows.as_slice();
-        match insert_all_into_readers(queries, watchers, logs, places, group.relation, rows, steps) {
+        match insert_all_into_readers(
+            queries,
+            watchers,
+            logs,
+            places,
+            group.relation,
+            rows,
+            steps,
+        ) {
             Ok(()) => {}
             Err(error) => {
                 give_groups_back(queries, readers, &groups[..at], steps);

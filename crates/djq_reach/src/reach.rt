@@ -4,7 +4,8 @@ ghost use Rattle.std.specs.Prelude.{◌≡◌, ◌<◌, [], ◌∷◌, ⊤, fals
 ghost use Rattle.djq_live.specs.Changes.{Came, Went};
 ghost use Rattle.djq_live.specs.Updating.{CanAdd, CanDelete, CountsDelta};
 ghost use Rattle.djq_reach.specs.Places.{place_at, watched_at, AreOnce};
-ghost use Rattle.djq_reach.specs.Tending.{Readies, TellsWhere, Tends, TellsAt, Shows, Costs, AreUnwatched, CountsEither, HaveLogs, Empties, Works};
+ghost use Rattle.djq_reach.specs.Tending.{Readies, TellsWhere, Tends, TellsAt, Shows, Costs};
+ghost use Rattle.djq_reach.specs.Tending.{AreUnwatched, CountsEither, HaveLogs, Empties, Works};
 ghost use Rattle.djq_reach.specs.Reaching.{Reach, AllAt, CanCome, CanGo, TakesIn, LetsOut, Remains, GivesBack, Ages};
 
 use crate::places::is_watched;

@@ -5,7 +5,7 @@ use Rattle.std.proofs.lemmas.Bool.{cases_lt}
 use Rattle.std.specs.Prelude.{slice_index_or}
 use Rattle.std.proofs.lemmas.List.{get_or_past, get_or_read}
 use Rattle.djq_index.specs.Tuple.{pick}
-use Rattle.djq_index.specs.Entries.{Entry, supp, cnt, many}
+use Rattle.djq_index.specs.Entries.{Entry, supports_of, count_of, group_size}
 use Rattle.djq_index.specs.Table.{Table, IsTable, AreApart}
 use Rattle.djq_index.proofs.Groups.{cnt_same, many_same}
 use Rattle.djq_tree.specs.declared.node.Node.{Node}
@@ -29,32 +29,32 @@ entries_past ts k h = ap (λ (t : Table). t.entries) (get_or_past ts k no_table 
 
 -- the equation of a node, by the kind of node
 pub leaf_law : (n : Node) (a : ℕ) (ts : List Table) (k : ℕ) → n ≡ Leaf a → IsReductOf n ts k → (w : List ℕ)
-    → supp (entries_at ts k) w ≡ cnt (entries_at ts k) w
+    → supports_of (entries_at ts k) w ≡ count_of (entries_at ts k) w
 unfolding IsReductOf
 leaf_law n a ts k e h = subst (λ (m : Node). IsReductOf m ts k) e h
 
 pub trim_law : (n : Node) (c : ℕ) (ts : List Table) (k : ℕ) → n ≡ Trim c → IsReductOf n ts k → (w : List ℕ)
-    → supp (entries_at ts k) w ≡ many (key_at ts c) (entries_at ts c) w
+    → supports_of (entries_at ts k) w ≡ group_size (key_at ts c) (entries_at ts c) w
 unfolding IsReductOf
 trim_law n c ts k e h = subst (λ (m : Node). IsReductOf m ts k) e h
 
 pub meet_law : (n : Node) (g s : ℕ) (ts : List Table) (k : ℕ) → n ≡ Meet g s → IsReductOf n ts k → (w : List ℕ)
-    → supp (entries_at ts k) w ≡ cnt (entries_at ts g) w * cnt (entries_at ts s) (pick (key_at ts g) w)
+    → supports_of (entries_at ts k) w ≡ count_of (entries_at ts g) w * count_of (entries_at ts s) (pick (key_at ts g) w)
 unfolding IsReductOf
 meet_law n g s ts k e h = subst (λ (m : Node). IsReductOf m ts k) e h
 
 -- two families agree at a node: the same supports there
 abbrev Agree : Reducts → Reducts → ℕ → Type 0
-Agree r s k = (u : List ℕ) → supp (entries_at s.tables k) u ≡ supp (entries_at r.tables k) u
+Agree r s k = (u : List ℕ) → supports_of (entries_at s.tables k) u ≡ supports_of (entries_at r.tables k) u
 
 cnt_agree : (r s : Reducts) (k : ℕ) → IsReducts r → IsReducts s → Agree r s k → (u : List ℕ)
-    → cnt (entries_at s.tables k) u ≡ cnt (entries_at r.tables k) u
+    → count_of (entries_at s.tables k) u ≡ count_of (entries_at r.tables k) u
 cnt_agree r s k hr hs a =
     cnt_same (entries_at s.tables k) (entries_at r.tables k) (apart_at s.tables k (hs.family.sound k))
     (apart_at r.tables k (hr.family.sound k)) (hs.family.supported k) (hr.family.supported k) a
 
 many_agree : (r s : Reducts) (k : ℕ) (key : List ℕ) → IsReducts r → IsReducts s → Agree r s k → (u : List ℕ)
-    → many key (entries_at s.tables k) u ≡ many key (entries_at r.tables k) u
+    → group_size key (entries_at s.tables k) u ≡ group_size key (entries_at r.tables k) u
 many_agree r s k key hr hs a =
     many_same key (entries_at s.tables k) (entries_at r.tables k) (apart_at s.tables k (hs.family.sound k))
     (apart_at r.tables k (hr.family.sound k)) (hs.family.supported k) (hr.family.supported k) a
@@ -80,7 +80,7 @@ node_agrees r s k (Trim c) hr hs h within e below u =
     let inside : k < length s.tree.nodes = subst (λ (t : Tree). k < length t.nodes) (sym h.same_tree) within in
     let lower : c < k = (hr.family.is_tree.trim k c e).lower in
     trim_law (node_at s.tree.nodes k) c s.tables k other (hs.reduced.at k (omega arith) inside) u
-    ∙ ap (λ (ks : List ℕ). many ks (entries_at s.tables c) u) (key_agree r s c hr hs h.same_tree (omega arith))
+    ∙ ap (λ (ks : List ℕ). group_size ks (entries_at s.tables c) u) (key_agree r s c hr hs h.same_tree (omega arith))
     ∙ many_agree r s c (key_at r.tables c) hr hs (below c lower) u
     ∙ sym (trim_law (node_at r.tree.nodes k) c r.tables k e (hr.reduced.at k (omega arith) within) u)
 node_agrees r s k (Meet g d) hr hs h within e below u =
@@ -90,16 +90,17 @@ node_agrees r s k (Meet g d) hr hs h within e below u =
     let low : g < k = m.guard_lower in
     meet_law (node_at s.tree.nodes k) g d s.tables k other (hs.reduced.at k (omega arith) inside) u
     ∙ ap₂ (λ (a b : ℕ). a * b) (cnt_agree r s g hr hs (below g m.guard_lower) u)
-    (ap (λ (ks : List ℕ). cnt (entries_at s.tables d) (pick ks u)) (key_agree r s g hr hs h.same_tree (omega arith))
+    (ap (λ (ks : List ℕ). count_of (entries_at s.tables d) (pick ks u)) (key_agree r s g hr hs h.same_tree
+    (omega arith))
     ∙ cnt_agree r s d hr hs (below d m.side_lower) (pick (key_at r.tables g) u))
     ∙ sym (meet_law (node_at r.tree.nodes k) g d r.tables k e (hr.reduced.at k (omega arith) within) u)
 
 past_agrees : (r s : Reducts) (k : ℕ) → IsReducts r → IsReducts s → SameLeaves r s → length r.tree.nodes ≤ k
     → Agree r s k
 past_agrees r s k hr hs h past u =
-    ap (λ (es : List Entry). supp es u)
+    ap (λ (es : List Entry). supports_of es u)
     (entries_past s.tables k (rw hs.family.long (subst (λ (t : Tree). length t.nodes ≤ k) (sym h.same_tree) past)))
-    ∙ sym (ap (λ (es : List Entry). supp es u) (entries_past r.tables k (rw hr.family.long past)))
+    ∙ sym (ap (λ (es : List Entry). supports_of es u) (entries_past r.tables k (rw hr.family.long past)))
 
 -- so all agree, from the leaves up
 agree_below : (r s : Reducts) (n : ℕ) → IsReducts r → IsReducts s → SameLeaves r s → (k : ℕ) → k < n → Agree r s k

@@ -6,7 +6,7 @@ use Rattle.std.proofs.lemmas.Bool.{cases_lt, cases_eq}
 use Rattle.std.proofs.lemmas.List.{get_or_past, get_or_append_left}
 use Rattle.std.proofs.Math.Seq.{get_or-append_seam}
 use Rattle.djq_index.specs.Tuple.{pick}
-use Rattle.djq_index.specs.Entries.{supp, cnt, many}
+use Rattle.djq_index.specs.Entries.{supports_of, count_of, group_size}
 use Rattle.djq_index.specs.Table.{Table, IsTable, AreApart, ArePlaced, AreLast, AreWide, AreColumns, AreSupported}
 use Rattle.djq_tree.specs.declared.node.Node.{Node}
 use Rattle.djq_tree.specs.declared.node.Node.TheVariants.{Leaf, Trim, Meet}
@@ -84,16 +84,16 @@ none_supported : AreSupported []
 unfolding AreSupported
 none_supported = tt
 
-no_supp : (u : List ℕ) → supp [] u ≡ 0
-unfolding supp
+no_supp : (u : List ℕ) → supports_of [] u ≡ 0
+unfolding supports_of
 no_supp u = refl
 
-no_cnt : (u : List ℕ) → cnt [] u ≡ 0
-unfolding cnt
+no_cnt : (u : List ℕ) → count_of [] u ≡ 0
+unfolding count_of
 no_cnt u = refl
 
-no_many : (key u : List ℕ) → many key [] u ≡ 0
-unfolding many
+no_many : (key u : List ℕ) → group_size key [] u ≡ 0
+unfolding group_size
 no_many key u = refl
 
 -- how they are made, one after the other
@@ -111,7 +111,7 @@ unfolding IsReductOf
 none_reduct (Leaf a) ts k h = λ w. rw (h k) (no_supp w ∙ sym (no_cnt w))
 none_reduct (Trim c) ts k h = λ w. rw (h k, h c) (no_supp w ∙ sym (no_many (key_at ts c) w))
 none_reduct (Meet g s) ts k h = λ w. rw (h k, h g, h s)
-    (no_supp w ∙ omega (arith, no_cnt w, ap (λ n. n * cnt [] (pick (key_at ts g) w)) (no_cnt w)))
+    (no_supp w ∙ omega (arith, no_cnt w, ap (λ n. n * count_of [] (pick (key_at ts g) w)) (no_cnt w)))
 
 -- so they are reducts
 pub made_reducts : (t : Tree) → IsTree t → IsNarrow t

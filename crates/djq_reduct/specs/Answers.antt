@@ -1,7 +1,7 @@
 -- The answers that reducts have: Idris, Ugarte and Vansummeren (2017).
 use Rattle.std.specs.Prelude.{◌≡◌, ℕ, ◌<◌, true, List, length}
 use Rattle.djq_index.specs.Tuple.{pick}
-use Rattle.djq_index.specs.Entries.{cnt}
+use Rattle.djq_index.specs.Entries.{count_of}
 use Rattle.djq_tree.specs.Labels.{label_at}
 use Rattle.djq_tree.specs.Tree.{Tree, is_out}
 use Rattle.djq_reduct.specs.Columns.{columns}
@@ -17,4 +17,4 @@ on_node t j a = pick (columns t.head (label_at t.labels j)) a
 pub record IsAnswerOf (r : Reducts) (a : List ℕ) : Type 0 where
   pub wide : length a ≡ length r.tree.head
   pub there : (j : ℕ) → is_out r.tree.out j ≡ true
-      → 0 < cnt (entries_at r.tables j) (on_node r.tree j a)
+      → 0 < count_of (entries_at r.tables j) (on_node r.tree j a)

@@ -1,7 +1,7 @@
 -- Reducts, the tables of a tree: Idris, Ugarte and Vansummeren (2017).
 use Rattle.std.specs.Prelude.{◌≡◌, ℕ, ◌*◌, ◌<◌, ◌≤◌, List, length}
 use Rattle.djq_index.specs.Tuple.{pick}
-use Rattle.djq_index.specs.Entries.{supp, cnt, many}
+use Rattle.djq_index.specs.Entries.{supports_of, count_of, group_size}
 use Rattle.djq_index.specs.Table.{Table, IsTable, AreSupported}
 use Rattle.djq_tree.specs.declared.node.Node.{Node}
 use Rattle.djq_tree.specs.declared.node.Node.TheVariants.{Leaf, Trim, Meet}
@@ -20,10 +20,10 @@ pub record Reducts : Type 0 where
 -- a trim has the projections of its child's tuples, and as many supports as the child has tuples there; a
 -- meet has its guard's tuples whose projection is in its side's reduct, with one support each
 unfoldable pub IsReductOf : Node → List Table → ℕ → Type 0
-IsReductOf (Leaf a) ts k = (w : List ℕ) → supp (entries_at ts k) w ≡ cnt (entries_at ts k) w
-IsReductOf (Trim c) ts k = (w : List ℕ) → supp (entries_at ts k) w ≡ many (key_at ts c) (entries_at ts c) w
-IsReductOf (Meet g s) ts k = (w : List ℕ) → supp (entries_at ts k) w
-    ≡ cnt (entries_at ts g) w * cnt (entries_at ts s) (pick (key_at ts g) w)
+IsReductOf (Leaf a) ts k = (w : List ℕ) → supports_of (entries_at ts k) w ≡ count_of (entries_at ts k) w
+IsReductOf (Trim c) ts k = (w : List ℕ) → supports_of (entries_at ts k) w ≡ group_size (key_at ts c) (entries_at ts c) w
+IsReductOf (Meet g s) ts k = (w : List ℕ) → supports_of (entries_at ts k) w
+    ≡ count_of (entries_at ts g) w * count_of (entries_at ts s) (pick (key_at ts g) w)
 
 -- the table k has a column for each variable of its node's label, and the node's group key
 pub record IsKeyed (t : Tree) (ts : List Table) (k : ℕ) : Type 0 where
@@ -57,9 +57,10 @@ pub record IsReducts (r : Reducts) : Type 0 where
 -- the leaves of one tree hold the same tuples in both
 pub record SameLeaves (r s : Reducts) : Type 0 where
   pub same_tree : s.tree ≡ r.tree
-  pub same : (j : ℕ) (u : List ℕ) → j < r.tree.leaves → cnt (entries_at s.tables j) u ≡ cnt (entries_at r.tables j) u
+  pub same : (j : ℕ) (u : List ℕ) → j < r.tree.leaves → count_of (entries_at s.tables j) u ≡ count_of
+      (entries_at r.tables j) u
 
 -- all tables hold the same tuples in both, with the same supports
 pub record SameTables (r s : Reducts) : Type 0 where
-  pub tuples : (k : ℕ) (u : List ℕ) → cnt (entries_at s.tables k) u ≡ cnt (entries_at r.tables k) u
-  pub supports : (k : ℕ) (u : List ℕ) → supp (entries_at s.tables k) u ≡ supp (entries_at r.tables k) u
+  pub tuples : (k : ℕ) (u : List ℕ) → count_of (entries_at s.tables k) u ≡ count_of (entries_at r.tables k) u
+  pub supports : (k : ℕ) (u : List ℕ) → supports_of (entries_at s.tables k) u ≡ supports_of (entries_at r.tables k) u

@@ -127,7 +127,8 @@ impl Reducts {
     /// It does nothing.
     pub fn laws(&self)
         ensures sound { IsReducts self.now }
-        ensures only { (other : spec.Reducts) → IsReducts other → SameLeaves self.now other → SameTables self.now other }
+        ensures only { (other : spec.Reducts) → IsReducts other → SameLeaves self.now other
+            → SameTables self.now other }
     {
         let _tables = &self.tables;
     }

@@ -40,7 +40,7 @@ use Rattle.djq_model.specs.Data.{
 }
 use Rattle.djq_dict.specs.Known.{AllDifferent}
 use Rattle.djq_index.specs.Tuple.{same}
-use Rattle.djq_index.specs.Entries.{Entry, cnt, supp}
+use Rattle.djq_index.specs.Entries.{Entry, count_of, supports_of}
 use Rattle.djq_index.specs.Table.{AreApart, AreSupported}
 use Rattle.djq_index.proofs.Tuples.{is_same, same_cases, one_true}
 use Rattle.djq_index.proofs.Counts.{cnt_middle, supp_cons}
@@ -141,32 +141,32 @@ dropped_row texts ts (x ∷ xs) e ys d h a =
 
 -- a row's copies are its tuple's supports
 
-supp_nil : (u : List ℕ) → 0 ≡ supp [] u
-unfolding supp
+supp_nil : (u : List ℕ) → 0 ≡ supports_of [] u
+unfolding supports_of
 supp_nil u = refl
 
 supp_yes : (e : Entry) (es : List Entry) (u : List ℕ) → same e.tuple u ≡ true
-    → supp (e ∷ es) u ≡ e.supports + supp es u
+    → supports_of (e ∷ es) u ≡ e.supports + supports_of es u
 supp_yes e es u s =
-    supp_cons e es u ∙ ap (λ (b : Bool). cond b e.supports 0 + supp es u) s
+    supp_cons e es u ∙ ap (λ (b : Bool). cond b e.supports 0 + supports_of es u) s
 
 supp_no : (e : Entry) (es : List Entry) (u : List ℕ) → same e.tuple u ≡ false
-    → supp (e ∷ es) u ≡ supp es u
+    → supports_of (e ∷ es) u ≡ supports_of es u
 supp_no e es u s =
-    let none : supp (e ∷ es) u ≡ 0 + supp es u =
-    supp_cons e es u ∙ ap (λ (b : Bool). cond b e.supports 0 + supp es u) s in
+    let none : supports_of (e ∷ es) u ≡ 0 + supports_of es u =
+    supp_cons e es u ∙ ap (λ (b : Bool). cond b e.supports 0 + supports_of es u) s in
     omega (arith, none)
 
 pub copies_row : (texts : List Bytes) (ts : List ColumnType) (es : List Entry) (u : List ℕ)
     → AllDifferent texts → Within texts ts es → AreWithin texts ts u → AreApart es
-    → copies_among (counted_in texts ts es) (row_of texts ts u) ≡ supp es u
+    → copies_among (counted_in texts ts es) (row_of texts ts u) ≡ supports_of es u
 unfolding counted_row
 copies_row texts ts [] u d h k a = supp_nil u
 copies_row texts ts (e ∷ es) u d h k a = elim (same_cases e.tuple u) [
   | inl here ↦ rw (row_yes texts ts e.tuple u here) (omega (
     arith,
     supp_yes e es u (is_same e.tuple u here),
-    supp_none es u (subst (λ v. cnt es v ≡ 0) here (apart_first e es a)),
+    supp_none es u (subst (λ v. count_of es v ≡ 0) here (apart_first e es a)),
   ))
   | inr other ↦ rw (row_no texts ts e.tuple u d (within_first texts ts e es h) k
       (λ s. false≢true (sym other ∙ is_same e.tuple u s)))
@@ -207,7 +207,7 @@ are_counted texts ts [] h = tt
 are_counted texts ts (e ∷ es) h = (h.0, are_counted texts ts es h.1)
 
 -- a tuple that is there has a support at least
-pub some_copy : (es : List Entry) (u : List ℕ) → Copied es → 0 < cnt es u → 1 ≤ supp es u
+pub some_copy : (es : List Entry) (u : List ℕ) → Copied es → 0 < count_of es u → 1 ≤ supports_of es u
 some_copy es u h n = omega (arith, cnt_supp es u (are_supported es h) n)
 
 -- more texts change nothing

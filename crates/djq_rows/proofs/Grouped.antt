@@ -33,7 +33,7 @@ use Rattle.djq_model.specs.Answer.{AreDifferent}
 use Rattle.djq_model.specs.Equality.{tuple_eq-decides}
 use Rattle.djq_dict.specs.Known.{AllDifferent}
 use Rattle.djq_index.specs.Tuple.{same}
-use Rattle.djq_index.specs.Entries.{Entry, cnt}
+use Rattle.djq_index.specs.Entries.{Entry, count_of}
 use Rattle.djq_index.specs.Table.{IsAt, AreApart}
 use Rattle.djq_index.proofs.Tuples.{same_is, is_same, one_true, one_false}
 use Rattle.djq_index.proofs.Counts.{cnt_cons, cnt_length}
@@ -45,10 +45,10 @@ use Rattle.djq_rows.proofs.Encoding.{same_cells}
 
 -- a tuple that is found
 
-pub found : (es : List Entry) (slot : ℕ) (u : List ℕ) → IsAt es (place slot) u → 0 < cnt es u
+pub found : (es : List Entry) (slot : ℕ) (u : List ℕ) → IsAt es (place slot) u → 0 < count_of es u
 found es slot u a = there es a.front a.entry a.back u a.is a.tuple
 
-pub found_has : (es : List Entry) (u : List ℕ) (r : Option ℕ) (b : Bool) → MatchOption r (cnt es u
+pub found_has : (es : List Entry) (u : List ℕ) (r : Option ℕ) (b : Bool) → MatchOption r (count_of es u
     ≡ 0) (λ slot. IsAt es (place slot) u) → b ≡ is_some r → HasTuple es u b
 found_has es u None true h e = absurd cc
 found_has es u None false h e = h
@@ -124,7 +124,7 @@ row_no texts ts u v d h k other = elim (cases_Bool (tuple_eq (row_of texts ts u)
       | inr e ↦ e
     ]
 
-none_first : (e : Entry) (es : List Entry) (u : List ℕ) → cnt (e ∷ es) u ≡ 0 → (e.tuple ≡ u) → ⊥
+none_first : (e : Entry) (es : List Entry) (u : List ℕ) → count_of (e ∷ es) u ≡ 0 → (e.tuple ≡ u) → ⊥
 none_first e es u h k = omega (
   arith,
   h,
@@ -133,11 +133,11 @@ none_first e es u h k = omega (
       u k),
 )
 
-none_rest : (e : Entry) (es : List Entry) (u : List ℕ) → cnt (e ∷ es) u ≡ 0 → cnt es u ≡ 0
+none_rest : (e : Entry) (es : List Entry) (u : List ℕ) → count_of (e ∷ es) u ≡ 0 → count_of es u ≡ 0
 none_rest e es u h = omega (arith, h, cnt_cons e es u)
 
 pub absent_row : (texts : List Bytes) (ts : List ColumnType) (es : List Entry) (u : List ℕ) →
-    AllDifferent texts → Within texts ts es → AreWithin texts ts u → cnt es u ≡ 0 → has_row (rows_in
+    AllDifferent texts → Within texts ts es → AreWithin texts ts u → count_of es u ≡ 0 → has_row (rows_in
     texts ts es) (row_of texts ts u) ≡ false
 unfolding tuples_of
 absent_row texts ts [] u d h k n = refl
@@ -146,7 +146,7 @@ absent_row texts ts (e ∷ es) u d h k n =
     (none_rest e es u n))
 
 pub present_row : (texts : List Bytes) (ts : List ColumnType) (es : List Entry) (u : List ℕ) → 0 <
-    cnt es u → has_row (rows_in texts ts es) (row_of texts ts u) ≡ true
+    count_of es u → has_row (rows_in texts ts es) (row_of texts ts u) ≡ true
 unfolding tuples_of
 present_row texts ts [] u n = absurd (omega (arith, n, cnt_length [] u))
 present_row texts ts (e ∷ es) u n = elim (cases_Bool (same e.tuple u)) [
@@ -162,7 +162,7 @@ present_row texts ts (e ∷ es) u n = elim (cases_Bool (same e.tuple u)) [
 
 -- apart from an entry its tuple is absent
 
-pub apart_first : (x : Entry) (es : List Entry) → AreApart (x ∷ es) → cnt es x.tuple ≡ 0
+pub apart_first : (x : Entry) (es : List Entry) → AreApart (x ∷ es) → count_of es x.tuple ≡ 0
 unfolding AreApart
 apart_first x es h = h.0
 
@@ -173,7 +173,7 @@ apart_rest x es h = h.1
 -- different tuples are different rows
 
 others_differ : (texts : List Bytes) (ts : List ColumnType) (es : List Entry) (u : List ℕ) →
-    AllDifferent texts → Within texts ts es → AreWithin texts ts u → cnt es u ≡ 0
+    AllDifferent texts → Within texts ts es → AreWithin texts ts u → count_of es u ≡ 0
     → AllByRecursion (λ (r : Tuple). row_of texts ts u ≡ r → ⊥) (rows_in texts ts es)
 unfolding tuples_of
 others_differ texts ts [] u d h k n = tt

@@ -61,7 +61,7 @@ use Rattle.djq_lines.specs.declared.answer.AddOutcome.TheVariants.{First, More}
 use Rattle.djq_lines.specs.declared.answer.DeleteOutcome.{DeleteOutcome}
 use Rattle.djq_lines.specs.declared.answer.DeleteOutcome.TheVariants.{Last, Left, Absent}
 use Rattle.djq_dict.specs.Known.{AllDifferent, IsUnknown}
-use Rattle.djq_index.specs.Entries.{Entry, cnt, supp}
+use Rattle.djq_index.specs.Entries.{Entry, count_of, supports_of}
 use Rattle.djq_index.specs.Table.{AreApart}
 use Rattle.djq_index.specs.Changes.{Supported}
 use Rattle.djq_index.proofs.Apart.{there, stands, supp_at, cnt_none, supp_none}
@@ -262,13 +262,13 @@ module _ (texts : List Bytes) (ks : List Kept) (at : ℕ) (k : Kept) (u : List �
   row_is : row_of texts types u ≡ row
   row_is = stand_row texts types u row stand
 
-  absent : cnt was u ≡ 0 → has_row (rows_at (relations_of texts ks) at) row ≡ false
+  absent : count_of was u ≡ 0 → has_row (rows_at (relations_of texts ks) at) row ≡ false
   absent none =
       ap (λ (rows : List Tuple). has_row rows row) (rows_is texts ks at low) ∙ ap (has_row (rows_in
       texts types was)) (sym row_is)
       ∙ absent_row texts types was u d s.within (stand_within texts types u row stand) none
 
-  present : 0 < cnt was u → has_row (rows_at (relations_of texts ks) at) row ≡ true
+  present : 0 < count_of was u → has_row (rows_at (relations_of texts ks) at) row ≡ true
   present some =
       ap (λ (rows : List Tuple). has_row rows row) (rows_is texts ks at low) ∙ ap (has_row (rows_in
       texts types was)) (sym row_is) ∙ present_row texts types was u some
@@ -283,20 +283,20 @@ module _ (texts : List Bytes) (ks : List Kept) (at : ℕ) (k : Kept) (u : List �
   has true h = sym (present h)
   has false h = sym (absent h)
 
-  pub copies : copies_among (counted_at (relations_of texts ks) at) row ≡ supp was u
+  pub copies : copies_among (counted_at (relations_of texts ks) at) row ≡ supports_of was u
   copies =
       ap (λ (rows : List CountedRow). copies_among rows row) (counted_is texts ks at low)
       ∙ ap (copies_among (counted_in texts types was)) (sym row_is)
       ∙ copies_row texts types was u d s.within (stand_within texts types u row stand) s.apart
 
   -- a test of the copies tells whether the row is there
-  pub copies_tell : (n : ℕ) → n ≡ supp was u
+  pub copies_tell : (n : ℕ) → n ≡ supports_of was u
       → has_row (rows_at (relations_of texts ks) at) row ≡ not (n == 0)
   copies_tell zero e = absent (cnt_none was u (are_supported was s.copied) (sym e))
   copies_tell (suc m) e =
-      present (there_once (cnt was u) refl) ∙ sym (ap not (eqb-suc-zero m))
+      present (there_once (count_of was u) refl) ∙ sym (ap not (eqb-suc-zero m))
     where
-      there_once : (c : ℕ) → cnt was u ≡ c → 0 < cnt was u
+      there_once : (c : ℕ) → count_of was u ≡ c → 0 < count_of was u
       there_once zero none = absurd (omega (arith, e, supp_none was u none))
       there_once (suc c) some = omega (arith, some)
 
@@ -325,17 +325,17 @@ module _ (texts : List Bytes) (ks : List Kept) (at : ℕ) (k : Kept) (u : List �
 
   no_place : LacksPlace (kept_at ks at).rows.entries u → HasNoPlace (relations_of texts ks) at row
   no_place l = record {
-    copies = λ h. omega (arith, copies, l.copies (is_there (cnt was u) refl h));
-    rows = λ h. omega (arith, long, l.rows (is_absent (cnt was u) refl h));
+    copies = λ h. omega (arith, copies, l.copies (is_there (count_of was u) refl h));
+    rows = λ h. omega (arith, long, l.rows (is_absent (count_of was u) refl h));
   }
     where
-      is_there : (c : ℕ) → cnt was u ≡ c → has_row (rows_at (relations_of texts ks) at) row ≡ true
-          → 0 < cnt was u
+      is_there : (c : ℕ) → count_of was u ≡ c → has_row (rows_at (relations_of texts ks) at) row ≡ true
+          → 0 < count_of was u
       is_there zero e h = absurd (false≢true (sym (absent e) ∙ h))
       is_there (suc c) e h = omega (arith, e)
 
-      is_absent : (c : ℕ) → cnt was u ≡ c
-          → has_row (rows_at (relations_of texts ks) at) row ≡ false → cnt was u ≡ 0
+      is_absent : (c : ℕ) → count_of was u ≡ c
+          → has_row (rows_at (relations_of texts ks) at) row ≡ false → count_of was u ≡ 0
       is_absent zero e h = e
       is_absent (suc c) e h = absurd (false≢true (sym h ∙ present (omega (arith, e))))
 
@@ -352,7 +352,7 @@ module _ (texts : List Bytes) (ks : List Kept) (at : ℕ) (k : Kept) (u : List �
     omega (arith, a.adds.1, copies),
     a.adds.2,
     changes texts ks at k (with_copies (counted_at (relations_of texts ks) at) row m) low n t
-        (counted_rows (supp was u) m a.adds.3),
+        (counted_rows (supports_of was u) m a.adds.3),
   )
   added (Err NameTaken) a = a.adds
   added (Err Full) a = (no_place a.adds.0, stays texts ks at k n t a.adds.1)
@@ -388,7 +388,7 @@ module _ (texts : List Bytes) (ks : List Kept) (at : ℕ) (k : Kept) (u : List �
     copies ∙ e.deletes.1,
     e.deletes.2,
     changes texts ks at k (with_copies (counted_at (relations_of texts ks) at) row m) low n t
-        (counted_rows (supp was u) m e.deletes.3),
+        (counted_rows (supports_of was u) m e.deletes.3),
   )
   deleted Absent e = (absent e.deletes.0, stays texts ks at k n t e.deletes.1)
 
@@ -442,14 +442,14 @@ added_sound texts j k u (Ok First) t h s a =
     )))
     (subst Copied (sym p.is) (copied_push j.rows.entries p.entry s.copied
     (omega (arith, p.single), omega (arith, p.single))))
-added_sound texts j k u (Ok (More n)) t h s a = counted_sound texts j k u (supp j.rows.entries u) n
+added_sound texts j k u (Ok (More n)) t h s a = counted_sound texts j k u (supports_of j.rows.entries u) n
     t a.stay s a.adds.3 (omega (arith, a.adds.1)) a.adds.2
 added_sound texts j k u (Err NameTaken) t h s a = absurd a.adds
 added_sound texts j k u (Err Full) t h s a = same_sound texts j k t a.stay s a.adds.1
 added_sound texts j k u (Err NoMem) t h s a = same_sound texts j k t a.stay s a.adds.2
 
 -- a tuple that is there has no more supports than a row may have copies
-most_copies : (es : List Entry) (u : List ℕ) → Copied es → AreApart es → 0 < cnt es u → supp
+most_copies : (es : List Entry) (u : List ℕ) → Copied es → AreApart es → 0 < count_of es u → supports_of
     es u ≤ COPIES
 most_copies es u c a h = let s = stands es u h in omega (
   arith,
@@ -470,7 +470,7 @@ deleted_sound texts j k u Last t s e =
       length-append p.front p.back,
     )))
     (subst Copied (sym p.is) (copied_out p.front p.entry p.back (subst Copied p.was s.copied)))
-deleted_sound texts j k u (Left n) t s e = counted_sound texts j k u (supp j.rows.entries u) n t
+deleted_sound texts j k u (Left n) t s e = counted_sound texts j k u (supports_of j.rows.entries u) n t
     e.stay s e.deletes.3 e.deletes.2 (omega (
       arith,
       e.deletes.1,

@@ -29,7 +29,7 @@ use Rattle.djq_arena.specs.Chains.{first_of, AreDifferent, AreBelow, IsOut}
 use Rattle.djq_arena.proofs.Lists.{below_here, different_here, out_front, out_back}
 use Rattle.djq_index.specs.declared.place.Place.{Place}
 use Rattle.djq_index.specs.Tuple.{same}
-use Rattle.djq_index.specs.Entries.{Entry, supp, cnt, head_at}
+use Rattle.djq_index.specs.Entries.{Entry, supports_of, count_of, head_at}
 use Rattle.djq_index.specs.Table.{AreApart, IsAt, IsLive}
 use Rattle.djq_index.specs.Changes.{Supported}
 use Rattle.djq_index.proofs.Tuples.{same_other, one_false}
@@ -174,15 +174,15 @@ live_held copies rows slot l = record {
 }
 
 absent : (copies : List ℕ) (rows : List Row) (u : List ℕ) → IsAbsent rows u
-    → cnt (entries_in copies rows) u ≡ 0
-unfolding IsAbsent entries_in cnt entry_of
+    → count_of (entries_in copies rows) u ≡ 0
+unfolding IsAbsent entries_in count_of entry_of
 absent copies [] u h = refl
 absent copies (r ∷ rs) u h =
     omega (arith, one_false (same r.cells u) (same_other r.cells u h.0), absent copies rs u h.1)
 
 pub finds : (copies : List ℕ) (rows : List Row) (u : List ℕ) (result : Option ℕ)
     → MatchOption result (IsAbsent rows u) (λ slot. IsRow rows slot u)
-    → MatchOption result (cnt (entries_in copies rows) u ≡ 0)
+    → MatchOption result (count_of (entries_in copies rows) u ≡ 0)
     (λ slot. IsAt (entries_in copies rows) (place slot) u)
 finds copies rows u None h = absent copies rows u h
 finds copies rows u (Some slot) h = row_at copies rows slot u h
@@ -218,7 +218,7 @@ live_below rows copies slot h l =
 
 pub its_copies : (rows : Slots) (copies : List ℕ) (slot : ℕ) (u : List ℕ) → AreKept rows copies
     → IsAt (entries_in copies rows.rows) (place slot) u
-    → copies_at copies slot ≡ supp (entries_in copies rows.rows) u
+    → copies_at copies slot ≡ supports_of (entries_in copies rows.rows) u
 its_copies rows copies slot u h a =
     let c = cut_entries copies rows.rows a.front a.entry a.back a.is in
     ap (copies_at copies) (sym (entry_row copies a.entry c.row slot c.e_is a.at))
@@ -271,15 +271,15 @@ came old new copies more slot u law is one others =
     }
 
 came_apart : (old new : List Entry) (u : List ℕ) → Appended old new u → AreApart old
-    → cnt old u ≡ 0 → AreApart new
+    → count_of old u ≡ 0 → AreApart new
 came_apart old new u a h none =
     let all : old ++ [] ≡ old = append-nil old in
     subst AreApart (sym a.is) (apart_in old a.entry [] (subst AreApart (sym all) h)
-    (ap (λ (es : List Entry). cnt es a.entry.tuple) all ∙ ap (cnt old) a.tuple ∙ none))
+    (ap (λ (es : List Entry). count_of es a.entry.tuple) all ∙ ap (count_of old) a.tuple ∙ none))
 
 pub came_kept : (old new : Slots) (copies more : List ℕ) (u : List ℕ) → AreKept old copies
     → AreRows new → Appended (entries_in copies old.rows) (entries_in more new.rows) u
-    → new.room ≤ length more → cnt (entries_in copies old.rows) u ≡ 0 → AreKept new more
+    → new.room ≤ length more → count_of (entries_in copies old.rows) u ≡ 0 → AreKept new more
 came_kept old new copies more u h law a room none = record {
   rows = law;
   copied = room;
@@ -324,7 +324,7 @@ set_else copies slot n k h = get_or-set_other copies slot k n 0 h
 pub recounted : (rows : Slots) (copies : List ℕ) (slot n : ℕ) (u : List ℕ) → AreKept rows copies
     → slot < length copies → IsAt (entries_in copies rows.rows) (place slot) u
     → Supported (entries_in copies rows.rows) (entries_in (slice_set copies slot n) rows.rows) u
-    (supp (entries_in copies rows.rows) u) n
+    (supports_of (entries_in copies rows.rows) u) n
 recounted rows copies slot n u h below at =
     let c = at_row copies rows.rows slot u at in
     let r : Row = record { slot = slot; cells = u } in
@@ -353,7 +353,7 @@ recounted_kept rows copies slot n h l = record {
   copied = omega (arith, h.copied, length-set copies slot n);
   apart = supported_apart (entries_in copies rows.rows)
       (entries_in (slice_set copies slot n) rows.rows) l.tuple
-      (supp (entries_in copies rows.rows) l.tuple) n
+      (supports_of (entries_in copies rows.rows) l.tuple) n
       (recounted rows copies slot n l.tuple h (live_below rows copies slot h l) l.is_at) h.apart;
 }
 

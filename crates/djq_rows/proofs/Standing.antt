@@ -58,7 +58,7 @@ use Rattle.djq_lines.specs.declared.answer.AddOutcome.{AddOutcome}
 use Rattle.djq_lines.specs.declared.answer.DeleteOutcome.{DeleteOutcome}
 use Rattle.djq_dict.specs.declared.dict.TheConstants.{MOST_TEXTS}
 use Rattle.djq_dict.specs.Known.{AllDifferent, IsUnknown, Learns}
-use Rattle.djq_index.specs.Entries.{supp}
+use Rattle.djq_index.specs.Entries.{supports_of}
 use Rattle.djq_rows.specs.declared.refusal.RowsRefusal.{RowsRefusal}
 use Rattle.djq_rows.specs.declared.relation_id.RelationId.{RelationId}
 use Rattle.djq_rows.specs.declared.kept.Kept.{Kept}
@@ -179,21 +179,21 @@ has_done texts ks at j u b d s low e h row stand =
 
 pub copies_done : (texts : List Bytes) (ks : List Kept) (at : ℕ) (j : Kept) (u : List ℕ) (n : ℕ) →
     AllDifferent texts → AllByRecursion (IsSound texts) ks → at < length ks → j ≡ kept_at ks at →
-    n ≡ supp j.rows.entries u → (row : Tuple) → StandFor texts (relation_at (relations_of texts ks)
+    n ≡ supports_of j.rows.entries u → (row : Tuple) → StandFor texts (relation_at (relations_of texts ks)
     at).types u row → n ≡ copies_among (counted_at (relations_of texts ks) at) row
 copies_done texts ks at j u n d s low e h row stand =
-    h ∙ ap (λ (x : Kept). supp x.rows.entries u) e
+    h ∙ ap (λ (x : Kept). supports_of x.rows.entries u) e
     ∙ sym (copies texts ks at (kept_at ks at) u row d low (sound_at texts ks at s low) refl refl
     (subst (λ ts. StandFor texts ts u row) (types_is texts ks at low) stand))
 
 pub copies_has : (texts : List Bytes) (ks : List Kept) (at : ℕ) (j : Kept) (u : List ℕ) (n : ℕ) →
     AllDifferent texts → AllByRecursion (IsSound texts) ks → at < length ks → j ≡ kept_at ks at →
-    n ≡ supp j.rows.entries u → (row : Tuple) → StandFor texts (relation_at (relations_of texts ks)
+    n ≡ supports_of j.rows.entries u → (row : Tuple) → StandFor texts (relation_at (relations_of texts ks)
     at).types u row → has_row (rows_at (relations_of texts ks) at) row ≡ not (n == 0)
 copies_has texts ks at j u n d s low e h row stand =
     copies_tell texts ks at (kept_at ks at) u row d low (sound_at texts ks at s low) refl refl
     (subst (λ ts. StandFor texts ts u row) (types_is texts ks at low) stand) n
-    (h ∙ ap (λ (x : Kept). supp x.rows.entries u) e)
+    (h ∙ ap (λ (x : Kept). supports_of x.rows.entries u) e)
 
 pub add_done : (texts : List Bytes) (ks : List Kept) (at : ℕ) (j k : Kept) (u : List ℕ) (r : Result
     AddOutcome RowsRefusal) → AllDifferent texts → AllByRecursion (IsSound texts) ks → at < length

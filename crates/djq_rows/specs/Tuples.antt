@@ -22,7 +22,7 @@ use Rattle.djq_lines.specs.declared.answer.AddOutcome.{AddOutcome}
 use Rattle.djq_lines.specs.declared.answer.AddOutcome.TheVariants.{First, More}
 use Rattle.djq_lines.specs.declared.answer.DeleteOutcome.{DeleteOutcome}
 use Rattle.djq_lines.specs.declared.answer.DeleteOutcome.TheVariants.{Last, Left, Absent}
-use Rattle.djq_index.specs.Entries.{Entry, cnt, supp}
+use Rattle.djq_index.specs.Entries.{Entry, count_of, supports_of}
 use Rattle.djq_index.specs.Table.{AreApart}
 use Rattle.djq_index.specs.Changes.{Supported}
 use Rattle.djq_rows.specs.Rows.{Rows}
@@ -52,25 +52,25 @@ pub record StayApart (old new : Rows) : Type 0 where
 
 -- whether a tuple is there
 abbrev pub HasTuple : List Entry → List ℕ → Bool → Type 0
-HasTuple es u true = 0 < cnt es u
-HasTuple es u false = cnt es u ≡ 0
+HasTuple es u true = 0 < count_of es u
+HasTuple es u false = count_of es u ≡ 0
 
 -- there is no place for one more: the tuple has as many supports as a row may have copies, or it
 -- isn't there and there are as many as there may be rows
 pub record LacksPlace (es : List Entry) (u : List ℕ) : Type 0 where
-  pub copies : 0 < cnt es u → COPIES ≤ supp es u
-  pub rows : cnt es u ≡ 0 → ROWS ≤ length es
+  pub copies : 0 < count_of es u → COPIES ≤ supports_of es u
+  pub rows : count_of es u ≡ 0 → ROWS ≤ length es
 
 abbrev pub AddsTupleAs : Rows → List ℕ → Result AddOutcome RowsRefusal → Rows → Type 0
-AddsTupleAs old u (Ok First) new = (cnt old.entries u ≡ 0) × (length old.entries < ROWS) × Appended
+AddsTupleAs old u (Ok First) new = (count_of old.entries u ≡ 0) × (length old.entries < ROWS) × Appended
     old.entries new.entries u
 AddsTupleAs old u (Ok (More n)) new =
-    (0 < cnt old.entries u) × (n ≡ supp old.entries u + 1) × (n ≤ COPIES)
-    × Supported old.entries new.entries u (supp old.entries u) n
+    (0 < count_of old.entries u) × (n ≡ supports_of old.entries u + 1) × (n ≤ COPIES)
+    × Supported old.entries new.entries u (supports_of old.entries u) n
 AddsTupleAs old u (Err NameTaken) new = ⊥
 AddsTupleAs old u (Err Full) new = LacksPlace old.entries u × (new.entries ≡ old.entries)
 AddsTupleAs old u (Err NoMem) new =
-    (cnt old.entries u ≡ 0) × (length old.entries < ROWS) × (new.entries ≡ old.entries)
+    (count_of old.entries u ≡ 0) × (length old.entries < ROWS) × (new.entries ≡ old.entries)
 
 pub record AddsTuple (old : Rows) (u : List ℕ) (result : Result AddOutcome RowsRefusal) (new :
     Rows) : Type 0 where
@@ -78,11 +78,11 @@ pub record AddsTuple (old : Rows) (u : List ℕ) (result : Result AddOutcome Row
   pub adds : AddsTupleAs old u result new
 
 abbrev pub DeletesTupleAs : Rows → List ℕ → DeleteOutcome → Rows → Type 0
-DeletesTupleAs old u Last new = (supp old.entries u ≡ 1) × Dropped old.entries new.entries u
+DeletesTupleAs old u Last new = (supports_of old.entries u ≡ 1) × Dropped old.entries new.entries u
 DeletesTupleAs old u (Left n) new =
-    (0 < cnt old.entries u) × (supp old.entries u ≡ n + 1) × (1 ≤ n)
-    × Supported old.entries new.entries u (supp old.entries u) n
-DeletesTupleAs old u Absent new = (cnt old.entries u ≡ 0) × (new.entries ≡ old.entries)
+    (0 < count_of old.entries u) × (supports_of old.entries u ≡ n + 1) × (1 ≤ n)
+    × Supported old.entries new.entries u (supports_of old.entries u) n
+DeletesTupleAs old u Absent new = (count_of old.entries u ≡ 0) × (new.entries ≡ old.entries)
 
 pub record DeletesTuple (old : Rows) (u : List ℕ) (result : DeleteOutcome) (new : Rows) : Type 0
   where

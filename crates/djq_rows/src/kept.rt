@@ -1,6 +1,6 @@
 ghost use Rattle.std.specs.Prelude.{◌≡◌, ◌≤◌, ◌+◌, length};
 ghost use Rattle.std.specs.List.{AllByRecursion};
-ghost use Rattle.djq_index.specs.Entries.{supp};
+ghost use Rattle.djq_index.specs.Entries.{supports_of};
 ghost use Rattle.djq_rows.specs.Parts.{IsCopied};
 ghost use Rattle.djq_rows.specs.Tuples.{HasTuple, AddsTuple, DeletesTuple};
 
@@ -32,7 +32,7 @@ impl Kept {
 
     /// How many copies of a row of these cells are there; 0 exactly where none is.
     pub fn copies<L: Ledger>(&self, cells: &[u64], tally: &mut Tally<L>) -> u32
-        ensures copies { result ≡ supp self.now.rows.entries cells.now }
+        ensures copies { result ≡ supports_of self.now.rows.entries cells.now }
         ensures counted { tally.new ≡ tally.old + 1 }
     {
         match self.rows.find(cells, tally) {

@@ -19,7 +19,7 @@ ghost use Rattle.std.specs.Prelude.{
   MatchOption,
 };
 ghost use Rattle.djq_arena.specs.Store.{hash};
-ghost use Rattle.djq_index.specs.Entries.{Entry, cnt, supp, head_at};
+ghost use Rattle.djq_index.specs.Entries.{Entry, count_of, supports_of, head_at};
 ghost use Rattle.djq_index.specs.Table.{AreApart, IsAt, IsLive};
 ghost use Rattle.djq_index.specs.Changes.{Supported};
 ghost use Rattle.djq_rows.specs.Rows.{AreKept, copies_at, entries_in, place, place_of};
@@ -82,7 +82,7 @@ impl Rows {
 
     /// The slot of a row; none exactly where it is absent. It counts one look-up.
     pub fn find<L: Ledger>(&self, cells: &[u64], tally: &mut Tally<L>) -> Option<u32>
-        ensures found { MatchOption result (cnt self.now.entries cells.now ≡ 0)
+        ensures found { MatchOption result (count_of self.now.entries cells.now ≡ 0)
             (λ slot. IsAt self.now.entries (place slot) cells.now) }
         ensures counted { tally.new ≡ tally.old + 1 }
     {
@@ -98,7 +98,7 @@ impl Rows {
         tally: &mut Tally<L>,
     ) -> Option<u32>
         requires { code ≡ hash cells.now }
-        ensures found { MatchOption result (cnt self.now.entries cells.now ≡ 0)
+        ensures found { MatchOption result (count_of self.now.entries cells.now ≡ 0)
             (λ slot. IsAt self.now.entries (place slot) cells.now) }
         ensures counted { tally.new ≡ tally.old + 1 }
     {
@@ -137,7 +137,7 @@ impl Rows {
     /// How many copies of the row in a slot there are.
     pub fn copies(&self, slot: u32) -> u32
         requires { IsLive self.now.entries (place slot) }
-        ensures { (u : List ℕ) → IsAt self.now.entries (place slot) u → result ≡ supp self.now.entries u }
+        ensures { (u : List ℕ) → IsAt self.now.entries (place slot) u → result ≡ supports_of self.now.entries u }
     {
         self.copies[slot as usize]
     }
@@ -151,7 +151,7 @@ impl Rows {
         tally: &mut Tally<L>,
     ) -> Result<(), AllocError>
         requires coded { code ≡ hash cells.now }
-        requires absent { cnt self.old.entries cells.now ≡ 0 }
+        requires absent { count_of self.old.entries cells.now ≡ 0 }
         requires wide { length cells.now ≡ self.old.width }
         requires few { length self.old.entries < 4294967295 }
         ensures came { IfOk result (λ _. Appended self.old.entries self.new.entries cells.now) }
@@ -186,7 +186,7 @@ impl Rows {
     pub fn recount<L: Ledger>(&mut self, slot: u32, copies: u32, tally: &mut Tally<L>)
         requires { IsLive self.old.entries (place slot) }
         ensures recounted { (u : List ℕ) → IsAt self.old.entries (place slot) u
-            → Supported self.old.entries self.new.entries u (supp self.old.entries u) copies }
+            → Supported self.old.entries self.new.entries u (supports_of self.old.entries u) copies }
         ensures apart { AreApart self.new.entries }
         ensures width { self.new.width ≡ self.old.width }
         ensures counted { tally.new ≡ tally.old + 1 }

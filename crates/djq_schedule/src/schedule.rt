@@ -90,7 +90,10 @@ fn add_line(
 }
 
 /// What a line says, where it is in the grammar.
-fn read_standing<'a>(sofar: &SessionsSoFar, line: &'a [u8]) -> Option<(Keyword, u64, Option<&'a [u8]>)>
+fn read_standing<'a>(
+    sofar: &SessionsSoFar,
+    line: &'a [u8],
+) -> Option<(Keyword, u64, Option<&'a [u8]>)>
     ensures { option_map (λ o. (o.0, (o.1, option_map (λ text. text.now) o.2))) result ≡ in_grammar
         sofar.now line.now }
 {

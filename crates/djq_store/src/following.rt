@@ -1,5 +1,6 @@
 //! What the unions of a store, and the affected, are behind a change of rows.
-ghost use Rattle.std.specs.Prelude.{◌≡◌, ◌+◌, ◌≤◌, ◌<◌, ◌∷◌, [], ℕ, List, Some, true, false, All, filter, map, length, vec_capacity};
+ghost use Rattle.std.specs.Prelude.{◌≡◌, ◌+◌, ◌≤◌, ◌<◌, ◌∷◌, [], ℕ, List, Some, true, false, All};
+ghost use Rattle.std.specs.Prelude.{filter, map, length, vec_capacity};
 ghost use Rattle.djq_model.specs.declared.relation.Relation.{Relation};
 ghost use Rattle.djq_model.specs.Data.{Bytes};
 ghost use Rattle.djq_lines.specs.declared.limits.TheConstants.{QUERIES, HELD};

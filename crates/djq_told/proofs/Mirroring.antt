@@ -218,7 +218,8 @@ abbrev pub live_with : List Bytes → Held
 live_with texts = record { mode = Live; texts = texts }
 
 -- a change that is put in or taken out
-other_queries_stay : (name : Bytes) (held : Held) (t : Tuple) → held.mode ≡ Live → has_text held.texts (cells_text t) ≡ false
+other_queries_stay : (name : Bytes) (held : Held) (t : Tuple) → held.mode ≡ Live → has_text held.texts (cells_text t)
+    ≡ false
     → IsInOrder (put_in (cells_text t) held.texts)
     → Passes name held (changed Came name t ∷ []) (live_with (put_in (cells_text t) held.texts))
 other_queries_stay name held t mode none order =

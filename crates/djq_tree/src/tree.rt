@@ -87,8 +87,22 @@ impl Tree {
         leaves: usize,
         second_stage: usize,
     ) -> Tree
-        requires { IsTree (record { nodes = nodes.items; labels = labels.items; out = out.items; head = head; leaves = leaves; second_stage = second_stage }) }
-        ensures { result ≡ record { nodes = nodes.items; labels = labels.items; out = out.items; head = head; leaves = leaves; second_stage = second_stage } }
+        requires { IsTree (record {
+          nodes = nodes.items;
+          labels = labels.items;
+          out = out.items;
+          head = head;
+          leaves = leaves;
+          second_stage = second_stage;
+        }) }
+        ensures { result ≡ record {
+          nodes = nodes.items;
+          labels = labels.items;
+          out = out.items;
+          head = head;
+          leaves = leaves;
+          second_stage = second_stage;
+        } }
     {
         let told = parents_of(&nodes);
         Tree {

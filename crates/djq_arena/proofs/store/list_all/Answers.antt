@@ -22,7 +22,8 @@ loop-slot-preserved c = record {
       (listed_more c.args.width c.args.cells.now c.loop-slot.bucket c.loop-slot.heads c.loop-slot.slot
       c.bucket_of_row-class.result c.loop-slot.invariant.listed
       (omega (arith, c.loop-slot-test.true, c.loop-slot.invariant.slots)) c.bucket_of_row-class.ensures.within
-      (c.bucket_of_row-class.ensures.class ∙ ap (λ (u : List ℕ). class (length c.loop-slot.heads) u) c.cells_among.ensures));
+      (c.bucket_of_row-class.ensures.class ∙ ap (λ (u : List ℕ). class (length c.loop-slot.heads) u)
+      c.cells_among.ensures));
   slots = length-set c.loop-slot.bucket c.loop-slot.slot c.link_among.result ∙ c.loop-slot.invariant.slots;
   buckets = length-set c.loop-slot.heads c.bucket_of_row-class.result c.to.result ∙ c.loop-slot.invariant.buckets;
 }

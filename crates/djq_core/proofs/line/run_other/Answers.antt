@@ -29,7 +29,8 @@ returns-else-is_for_batch g c =
     let line = take c.args.end old.held in
     let said = subst (λ (bs : Bytes). Reads (take c.args.end bs) (Ok c.in-Ok.command)) c.held.ensures c.in-Ok.ensures in
     line_leaves c.run_command.result c.args.engine.now old c.take_line.new.self line (drop c.args.rest old.held)
-    c.in-Ok.command c.run_command.new.engine c.run_command.new.session c.args.steps.now.listing c.run_command.new.steps.listing
+    c.in-Ok.command c.run_command.new.engine c.run_command.new.session c.args.steps.now.listing
+    c.run_command.new.steps.listing
     c.requires.front c.take_line.ensures c.requires.said c.requires.few c.requires.ready.running c.requires.ready.room
     (reads_as line c.in-Ok.command said)
     (λ h. (

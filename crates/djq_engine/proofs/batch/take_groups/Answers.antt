@@ -27,7 +27,8 @@ insert_batch_into_readers-requires-clause-can g c =
     })
 
 pub insert_batch_into_readers-requires-clause-watched : goal.insert_batch_into_readers-requires-clause-watched
-insert_batch_into_readers-requires-clause-watched g c = ap (λ (ws : List ℕ). length ws) c.as_slice-watchers.ensures.value
+insert_batch_into_readers-requires-clause-watched g c = ap (λ (ws : List ℕ). length ws)
+    c.as_slice-watchers.ensures.value
     ∙ c.requires.watched
 
 pub returns-clause-taken : goal.returns-clause-taken

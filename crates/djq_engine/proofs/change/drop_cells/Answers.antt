@@ -115,7 +115,8 @@ returns-clause-tells g c row stand =
     (omega (arith, c.requires.there, c.requires.whole.long)) c.index.ensures c.as_slice-places.ensures)
     row (c.deleted_went.ensures old.catalog d c.args.id.at c.args.cells.now row c.laws-2.ensures c.requires.there
     was.stand c.delete_row.ensures.texts gone.2)
-    (without_copies (counted_at old.catalog.relations c.args.id.at) row) gone.2 old.logs.items c.delete_from_readers.new.logs.items
+    (without_copies (counted_at old.catalog.relations c.args.id.at) row) gone.2 old.logs.items
+    c.delete_from_readers.new.logs.items
     (subst (λ (ws : List ℕ). Tends c.as_slice-places.result.now
     (TellsAt ws (λ x y. Went x y c.args.id.at c.args.cells.now)) old.queries.items old.logs.items
     c.delete_from_readers.new.logs.items) c.as_slice-watchers.ensures.value
@@ -153,7 +154,8 @@ returns-clause-shown g c =
     let was : IsOld old.catalog c.args.id.at c.args.cells.now row =
     record { stand = c.requires.row.1; there = gone.0 } in
     let tells = c.delete_from_readers.ensures.tells in
-    subst (λ (ts : List Bytes). AreShown ts old.queries.items c.delete_from_readers.new.logs.items) (sym c.delete_row.ensures.texts)
+    subst (λ (ts : List Bytes). AreShown ts old.queries.items c.delete_from_readers.new.logs.items)
+    (sym c.delete_row.ensures.texts)
     (shown_tended (λ x y. Went x y c.args.id.at c.args.cells.now) old.catalog d old.queries.items
     c.as_slice-places.result.now old.logs.items c.delete_from_readers.new.logs.items row
     (subst (λ (ps : List ℕ). AllAt ps old.queries.items (λ l. IsKept old.catalog l))

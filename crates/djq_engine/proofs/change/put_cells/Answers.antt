@@ -131,7 +131,8 @@ returns-in-Ok-clause-adds g c row stand =
               old.queries.items old.order old.readers.items c.requires.whole c.as_slice-places.result.now
               (places_read old.readers.items c.args.id.at c.index.result.now c.as_slice-places.result.now
               (omega (arith, c.requires.there, c.requires.whole.long)) c.index.ensures c.as_slice-places.ensures)
-              c.added_came.ensures c.other_queries_stay.ensures c.insert_into_readers.new.queries.items c.in-Ok.ensures.taken;
+              c.added_came.ensures c.other_queries_stay.ensures c.insert_into_readers.new.queries.items
+              c.in-Ok.ensures.taken;
         };
       },
     )
@@ -176,7 +177,8 @@ returns-in-Ok-clause-tells g c row stand =
     (omega (arith, c.requires.there, c.requires.whole.long)) c.index.ensures c.as_slice-places.ensures)
     row (came old.catalog d c.args.id.at c.requires.there c.args.cells.now row new c.laws.ensures c.laws-2.ensures
     c.add_row.ensures.texts adds.2 c.added_came.ensures)
-    (with_row (counted_at old.catalog.relations c.args.id.at) row) adds.2 old.logs.items c.insert_into_readers.new.logs.items
+    (with_row (counted_at old.catalog.relations c.args.id.at) row) adds.2 old.logs.items
+    c.insert_into_readers.new.logs.items
     (subst (λ (ws : List ℕ). Tends c.as_slice-places.result.now
     (TellsAt ws (λ x y. Came x y c.args.id.at c.args.cells.now)) old.queries.items old.logs.items
     c.insert_into_readers.new.logs.items) c.as_slice-watchers.ensures.value
@@ -233,7 +235,8 @@ returns-in-Ok-clause-shown g c =
     d.relations)
     c.in-Ok-First.field-0-is (c.in-Ok-First.ensures.adds c.requires.row.0 c.requires.row.1)) in
     let new = came_new old.catalog c.args.id.at c.args.cells.now row d.relations c.requires.row.1 adds in
-    subst (λ (ts : List Bytes). AreShown ts old.queries.items c.insert_into_readers.new.logs.items) (sym c.add_row.ensures.texts)
+    subst (λ (ts : List Bytes). AreShown ts old.queries.items c.insert_into_readers.new.logs.items)
+    (sym c.add_row.ensures.texts)
     (shown_tended (λ x y. Came x y c.args.id.at c.args.cells.now) old.catalog d old.queries.items
     c.as_slice-places.result.now old.logs.items c.insert_into_readers.new.logs.items row
     (subst (λ (ps : List ℕ). AllAt ps old.queries.items (λ l. IsKept old.catalog l))

@@ -23,7 +23,8 @@ take_row_back-requires g c =
     let p = came old c.args.held.now c.args.seq c.in-Ok-Some.field-0 c.put_row.new.cells c.put_row.new.catalog
     c.in-Ok-Some.relation c.in-Ok-Some.ensures.ok c.in-Ok-Some.field-0-is in (
       bare_of old c.args.seq,
-      one_in c.rows_by_name_or_place.ensures c.texts_stay.ensures old c.args.seq c.args.held.now c.laws.ensures c.requires
+      one_in c.rows_by_name_or_place.ensures c.texts_stay.ensures old c.args.seq c.args.held.now c.laws.ensures
+          c.requires
           c.put_row.new.catalog q p,
     )
 
@@ -45,5 +46,6 @@ returns-in-Err-join_group-clause-stays g c =
     let p = came old c.args.held.now c.args.seq c.in-Ok-Some.field-0 c.put_row.new.cells c.put_row.new.catalog
     c.in-Ok-Some.relation c.in-Ok-Some.ensures.ok c.in-Ok-Some.field-0-is in
     c.take_row_back.ensures.back (bare_of old c.args.seq)
-    (one_in c.rows_by_name_or_place.ensures c.texts_stay.ensures old c.args.seq c.args.held.now c.laws.ensures c.requires
+    (one_in c.rows_by_name_or_place.ensures c.texts_stay.ensures old c.args.seq c.args.held.now c.laws.ensures
+    c.requires
     c.put_row.new.catalog q p)

@@ -73,7 +73,8 @@ returns-clause-back g c st w =
       are = c.as_slice-2.ensures ∙ c.in-Some-cells.ensures.tells.1
           ∙ ap (cells_of c.args.catalog.now.texts) c.as_slice.ensures;
     } in
-    held_back st h at now c.delete_row-outcome.new.self.relations c.delete_row-outcome.result c.rows_by_name_or_place.ensures
+    held_back st h at now c.delete_row-outcome.new.self.relations c.delete_row-outcome.result
+    c.rows_by_name_or_place.ensures
     c.laws.ensures.names
     (suits_found st h w.suits) c.in-Some.ensures.0 c.in-Some.ensures.1 c.in-Some.ensures.2 w.counted w.are
     (c.delete_row-outcome.ensures.deletes h.row stand)

@@ -166,7 +166,8 @@ append_to_group-requires-clause-notes c =
 pub append_to_group-requires-clause-links : goal.append_to_group-requires-clause-links
 append_to_group-requires-clause-links c =
     let r : IsReady c.args.raw.now c.append_linked_row.new.rows c.append_linked_row.new.notes.items
-    c.append_linked_row.new.links.items c.find_or_make_head.new.keys c.find_or_make_head.new.ends.items c.in_ok-slot.slot
+    c.append_linked_row.new.links.items c.find_or_make_head.new.keys c.find_or_make_head.new.ends.items
+    c.in_ok-slot.slot
     c.in-Ok.head c.args.tuple.now = record {
       laid = c.in_ok-slot.ensures.laid;
       room_links = c.in_ok-slot.ensures.links;
@@ -180,7 +181,8 @@ append_to_group-requires-clause-links c =
           (pick key c.args.tuple.now)) c.as_slice.ensures.value c.in-Ok.ensures.seated;
     } in
     slot_links c.args.raw.now c.append_linked_row.new.rows c.append_linked_row.new.notes.items
-    c.append_linked_row.new.links.items c.find_or_make_head.new.keys c.find_or_make_head.new.ends.items c.in_ok-slot.slot
+    c.append_linked_row.new.links.items c.find_or_make_head.new.keys c.find_or_make_head.new.ends.items
+    c.in_ok-slot.slot
     c.in-Ok.head c.args.tuple.now c.requires.heads r
 
 pub append_to_group-requires-clause-number : goal.append_to_group-requires-clause-number
@@ -191,7 +193,8 @@ append_to_group-requires-clause-number c =
 pub append_to_group-requires-clause-head : goal.append_to_group-requires-clause-head
 append_to_group-requires-clause-head c =
     let r : IsReady c.args.raw.now c.append_linked_row.new.rows c.append_linked_row.new.notes.items
-    c.append_linked_row.new.links.items c.find_or_make_head.new.keys c.find_or_make_head.new.ends.items c.in_ok-slot.slot
+    c.append_linked_row.new.links.items c.find_or_make_head.new.keys c.find_or_make_head.new.ends.items
+    c.in_ok-slot.slot
     c.in-Ok.head c.args.tuple.now = record {
       laid = c.in_ok-slot.ensures.laid;
       room_links = c.in_ok-slot.ensures.links;
@@ -205,13 +208,15 @@ append_to_group-requires-clause-head c =
           (pick key c.args.tuple.now)) c.as_slice.ensures.value c.in-Ok.ensures.seated;
     } in
     head_ends c.args.raw.now c.append_linked_row.new.rows c.append_linked_row.new.notes.items
-    c.append_linked_row.new.links.items c.find_or_make_head.new.keys c.find_or_make_head.new.ends.items c.in_ok-slot.slot
+    c.append_linked_row.new.links.items c.find_or_make_head.new.keys c.find_or_make_head.new.ends.items
+    c.in_ok-slot.slot
     c.in-Ok.head c.args.tuple.now c.requires.heads r
 
 pub append_to_group-requires-clause-last : goal.append_to_group-requires-clause-last
 append_to_group-requires-clause-last c =
     let r : IsReady c.args.raw.now c.append_linked_row.new.rows c.append_linked_row.new.notes.items
-    c.append_linked_row.new.links.items c.find_or_make_head.new.keys c.find_or_make_head.new.ends.items c.in_ok-slot.slot
+    c.append_linked_row.new.links.items c.find_or_make_head.new.keys c.find_or_make_head.new.ends.items
+    c.in_ok-slot.slot
     c.in-Ok.head c.args.tuple.now = record {
       laid = c.in_ok-slot.ensures.laid;
       room_links = c.in_ok-slot.ensures.links;
@@ -225,7 +230,8 @@ append_to_group-requires-clause-last c =
           (pick key c.args.tuple.now)) c.as_slice.ensures.value c.in-Ok.ensures.seated;
     } in
     last_links c.args.raw.now c.append_linked_row.new.rows c.append_linked_row.new.notes.items
-    c.append_linked_row.new.links.items c.find_or_make_head.new.keys c.find_or_make_head.new.ends.items c.in_ok-slot.slot
+    c.append_linked_row.new.links.items c.find_or_make_head.new.keys c.find_or_make_head.new.ends.items
+    c.in_ok-slot.slot
     c.in-Ok.head c.args.tuple.now c.requires.heads r
 
 pub returns-in-Ok-clause-raw : goal.returns-in-Ok-clause-raw
@@ -240,14 +246,16 @@ returns-in-Ok-clause-raw c =
       notes_are = s.noted.notes_are;
       marked = s.noted.marked;
     } in
-    came_bare c.args.marked c.args.raw.now c.append_to_group.new.raw c.append_linked_row.new.rows c.append_linked_row.new.notes.items
+    came_bare c.args.marked c.args.raw.now c.append_to_group.new.raw c.append_linked_row.new.rows
+    c.append_linked_row.new.notes.items
     c.in_ok-slot.slot c.in-Ok.head c.args.tuple.now c.requires.raw c.requires.plain c.requires.absent
     c.in_ok-slot.ensures.laid n
 
 pub returns-in-Ok-clause-heads : goal.returns-in-Ok-clause-heads
 returns-in-Ok-clause-heads c =
     let r : IsReady c.args.raw.now c.append_linked_row.new.rows c.append_linked_row.new.notes.items
-    c.append_linked_row.new.links.items c.find_or_make_head.new.keys c.find_or_make_head.new.ends.items c.in_ok-slot.slot
+    c.append_linked_row.new.links.items c.find_or_make_head.new.keys c.find_or_make_head.new.ends.items
+    c.in_ok-slot.slot
     c.in-Ok.head c.args.tuple.now = record {
       laid = c.in_ok-slot.ensures.laid;
       room_links = c.in_ok-slot.ensures.links;
@@ -270,8 +278,10 @@ returns-in-Ok-clause-heads c =
       notes_are = s.noted.notes_are;
       marked = s.noted.marked;
     } in
-    came_heads c.args.marked c.args.raw.now c.append_to_group.new.raw c.append_linked_row.new.rows c.append_linked_row.new.notes.items
-    c.append_linked_row.new.links.items c.find_or_make_head.new.keys c.find_or_make_head.new.ends.items c.in_ok-slot.slot
+    came_heads c.args.marked c.args.raw.now c.append_to_group.new.raw c.append_linked_row.new.rows
+    c.append_linked_row.new.notes.items
+    c.append_linked_row.new.links.items c.find_or_make_head.new.keys c.find_or_make_head.new.ends.items
+    c.in_ok-slot.slot
     c.in-Ok.head c.args.tuple.now c.requires.raw c.requires.plain c.requires.heads c.requires.absent r
     (record {
       noted = n;

@@ -1,29 +1,29 @@
 use Rattle.std.proofs.Common.{subst, ◌∷◌}
-use Rattle.djq_index.specs.Entries.{grp}
+use Rattle.djq_index.specs.Entries.{group_of}
 use Rattle.djq_index.specs.Table.{IsLive}
 use Rattle.djq_index.proofs.Walking.{group_live, Backing, backing_cut}
 use Rattle.djq_index.proofs.tests.group_back.Goals as goal
 
 pub tuple-requires : goal.tuple-requires
 tuple-requires g c =
-    let w = backing_cut (grp c.args.table.now.key c.args.table.now.entries c.args.cells.now) c.in-Some.place
-    (subst (Backing (grp c.args.table.now.key c.args.table.now.entries c.args.cells.now)) c.in-Some.is
+    let w = backing_cut (group_of c.args.table.now.key c.args.table.now.entries c.args.cells.now) c.in-Some.place
+    (subst (Backing (group_of c.args.table.now.key c.args.table.now.entries c.args.cells.now)) c.in-Some.is
     c.loop-step.invariant) in
     subst (IsLive c.args.table.now.entries) w.4
     (group_live c.args.table.now.key c.args.table.now.entries c.args.cells.now w.0 w.1 w.2 w.3)
 
 pub prev-at-requires : goal.prev-at-requires
 prev-at-requires g c =
-    let w = backing_cut (grp c.args.table.now.key c.args.table.now.entries c.args.cells.now) c.in-Some.place
-    (subst (Backing (grp c.args.table.now.key c.args.table.now.entries c.args.cells.now)) c.in-Some.is
+    let w = backing_cut (group_of c.args.table.now.key c.args.table.now.entries c.args.cells.now) c.in-Some.place
+    (subst (Backing (group_of c.args.table.now.key c.args.table.now.entries c.args.cells.now)) c.in-Some.is
     c.loop-step.invariant) in
     subst (IsLive c.args.table.now.entries) w.4
     (group_live c.args.table.now.key c.args.table.now.entries c.args.cells.now w.0 w.1 w.2 w.3)
 
 pub loop-step-preserved : goal.loop-step-preserved
 loop-step-preserved g c =
-    let w = backing_cut (grp c.args.table.now.key c.args.table.now.entries c.args.cells.now) c.in-Some.place
-    (subst (Backing (grp c.args.table.now.key c.args.table.now.entries c.args.cells.now)) c.in-Some.is
+    let w = backing_cut (group_of c.args.table.now.key c.args.table.now.entries c.args.cells.now) c.in-Some.place
+    (subst (Backing (group_of c.args.table.now.key c.args.table.now.entries c.args.cells.now)) c.in-Some.is
     c.loop-step.invariant) in
     record {
       front = w.0;

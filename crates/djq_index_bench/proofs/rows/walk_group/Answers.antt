@@ -1,25 +1,25 @@
 use Rattle.std.proofs.Common.{sym, ◌∙◌, subst, drop, take, ◌+◌}
-use Rattle.djq_index.specs.Entries.{grp}
+use Rattle.djq_index.specs.Entries.{group_of}
 use Rattle.djq_index.specs.Table.{IsLive}
 use Rattle.djq_index.proofs.Walking.{walk_cut, group_live}
 use Rattle.djq_index_bench.proofs.rows.walk_group.Goals as goal
 
 pub next-at-requires : goal.next-at-requires
 next-at-requires g c =
-    let w = walk_cut (grp c.args.table.now.key c.args.table.now.entries c.args.cells.now)
+    let w = walk_cut (group_of c.args.table.now.key c.args.table.now.entries c.args.cells.now)
     c.loop-step._step c.in-Some.place (sym c.loop-step.invariant ∙ c.in-Some.is) in
     subst (IsLive c.args.table.now.entries) w.at
     (group_live c.args.table.now.key c.args.table.now.entries c.args.cells.now
     (take c.loop-step._step
-    (grp c.args.table.now.key c.args.table.now.entries c.args.cells.now)) w.entry (drop
+    (group_of c.args.table.now.key c.args.table.now.entries c.args.cells.now)) w.entry (drop
     (c.loop-step._step + 1)
-    (grp c.args.table.now.key c.args.table.now.entries c.args.cells.now)) w.is)
+    (group_of c.args.table.now.key c.args.table.now.entries c.args.cells.now)) w.is)
 
 pub loop-step-preserved : goal.loop-step-preserved
 loop-step-preserved g c =
-    let w = walk_cut (grp c.args.table.now.key c.args.table.now.entries c.args.cells.now)
+    let w = walk_cut (group_of c.args.table.now.key c.args.table.now.entries c.args.cells.now)
     c.loop-step._step c.in-Some.place (sym c.loop-step.invariant ∙ c.in-Some.is) in
     c.next-at.ensures.found c.args.cells.now (take c.loop-step._step
-    (grp c.args.table.now.key c.args.table.now.entries c.args.cells.now)) w.entry (drop
+    (group_of c.args.table.now.key c.args.table.now.entries c.args.cells.now)) w.entry (drop
     (c.loop-step._step + 1)
-    (grp c.args.table.now.key c.args.table.now.entries c.args.cells.now)) w.is w.at
+    (group_of c.args.table.now.key c.args.table.now.entries c.args.cells.now)) w.is w.at

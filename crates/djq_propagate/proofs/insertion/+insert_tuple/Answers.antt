@@ -1,5 +1,5 @@
 use Rattle.std.proofs.Common.{◌≡◌, ℕ, ◌+◌, ◌-◌, ◌*◌, ◌<◌, ◌≤◌, List, length, take, drop, ap, subst, sym, ◌∙◌, arith}
-use Rattle.djq_index.specs.Entries.{Entry, supp, cnt, grp}
+use Rattle.djq_index.specs.Entries.{Entry, supports_of, count_of, group_of}
 use Rattle.djq_index.proofs.Changing.{inserted_length, supported_length}
 use Rattle.djq_tree.specs.declared.node.Node.TheVariants.{Trim, Meet}
 use Rattle.djq_tree.specs.Flat.{HasEqualMeets}
@@ -108,7 +108,8 @@ insert_tuple-insert_above-requires g t c κs hκ =
 
 pub insert_tuple-remove_at-requires-clause-within : goal.insert_tuple-remove_at-requires-clause-within
 insert_tuple-remove_at-requires-clause-within g t c =
-    has_table c.args.tree.now c.insert_above.new.tables.items c.args.at c.in-Err.ensures.refused.family c.requires.ready.within
+    has_table c.args.tree.now c.insert_above.new.tables.items c.args.at c.in-Err.ensures.refused.family
+    c.requires.ready.within
 
 pub insert_tuple-remove_at-requires-clause-live : goal.insert_tuple-remove_at-requires-clause-live
 insert_tuple-remove_at-requires-clause-live g t c =
@@ -118,7 +119,8 @@ insert_tuple-remove_at-requires-clause-live g t c =
 
 pub insert_tuple-returns-in-Ok-clause-ok : goal.insert_tuple-returns-in-Ok-clause-ok
 insert_tuple-returns-in-Ok-clause-ok g t c =
-    lived_here c.args.tree.now c.args.tables.now.items c.insert_at.new.tables.items c.insert_above.new.tables.items c.args.at
+    lived_here c.args.tree.now c.args.tables.now.items c.insert_at.new.tables.items c.insert_above.new.tables.items
+    c.args.at
     c.args.tuple.now c.insert_at.ensures.changed c.in_ok-place.ensures.inserted c.in-Ok.ensures.ok
 
 pub insert_tuple-returns-in-Ok-clause-plain : goal.insert_tuple-returns-in-Ok-clause-plain
@@ -412,7 +414,8 @@ insert_above_guard-insert_tuple-requires g t c κs hκ =
 
 pub insert_above_guard-returns-in-Some-clause-ok : goal.insert_above_guard-returns-in-Some-clause-ok
 insert_above_guard-returns-in-Some-clause-ok g t c =
-    ok_map c.insert_tuple.result (InsertedUpwards c.args.tree.now c.args.tables.now.items c.insert_tuple.new.tables.items c.args.up
+    ok_map c.insert_tuple.result (InsertedUpwards c.args.tree.now c.args.tables.now.items
+    c.insert_tuple.new.tables.items c.args.up
     c.args.tuple.now) (ReducedAbove c.args.tree.now c.args.tables.now.items c.insert_tuple.new.tables.items c.args.at)
     (λ l. guard_lived c.args.tree.now c.requires.gaining.was c.args.tables.now.items c.insert_tuple.new.tables.items
     c.args.at c.args.side c.args.up c.args.tuple.now c.in-Some._place c.requires.gaining.began
@@ -421,7 +424,8 @@ insert_above_guard-returns-in-Some-clause-ok g t c =
 
 pub insert_above_guard-returns-in-Some-clause-refused : goal.insert_above_guard-returns-in-Some-clause-refused
 insert_above_guard-returns-in-Some-clause-refused g t c =
-    err_map c.insert_tuple.result (Refused c.args.tree.now c.args.tables.now.items c.insert_tuple.new.tables.items c.args.up)
+    err_map c.insert_tuple.result (Refused c.args.tree.now c.args.tables.now.items c.insert_tuple.new.tables.items
+    c.args.up)
     (UnchangedAbove c.args.tree.now c.args.tables.now.items c.insert_tuple.new.tables.items c.args.at)
     (λ r. stayed c.args.tree.now c.args.tables.now.items c.insert_tuple.new.tables.items c.args.at c.args.up
     (Meet c.args.at c.args.side) c.requires.gaining.began.ready.family.is_tree c.requires.under r)
@@ -433,9 +437,11 @@ insert_above_guard-returns-in-Some-clause-plain g t c =
 
 pub insert_above_guard-returns-in-Some-clause-counted : goal.insert_above_guard-returns-in-Some-clause-counted
 insert_above_guard-returns-in-Some-clause-counted g t c =
-    ok_map c.insert_tuple.result (c.insert_tuple.new.tally + 1 + 4 * size c.args.tables.now.items ≤ c.find_part.new.tally + 4 * size
+    ok_map c.insert_tuple.result (c.insert_tuple.new.tally + 1 + 4 * size c.args.tables.now.items
+    ≤ c.find_part.new.tally + 4 * size
     c.insert_tuple.new.tables.items)
-    (c.insert_tuple.new.tally + 4 * size c.args.tables.now.items ≤ c.args.tally.now + 2 + 4 * size c.insert_tuple.new.tables.items)
+    (c.insert_tuple.new.tally + 4 * size c.args.tables.now.items ≤ c.args.tally.now + 2 + 4
+    * size c.insert_tuple.new.tables.items)
     (λ h. omega (arith, h, c.find_part.ensures.counted)) c.insert_tuple.ensures.counted
 
 pub insert_above_guard-returns-in-Some-clause-bounded : goal.insert_above_guard-returns-in-Some-clause-bounded
@@ -505,7 +511,8 @@ insert_above_trim-has_no_column-requires g t c =
     (now_family c.args.tree.now c.requires.gaining.was c.args.tables.now.items c.args.at c.requires.gaining.began)
     c.requires.gaining.began.ready.within
 
-pub insert_above_trim-insert_above_part-requires-then-has_no_column : goal.insert_above_trim-insert_above_part-requires-then-has_no_column
+pub insert_above_trim-insert_above_part-requires-then-has_no_column :
+    goal.insert_above_trim-insert_above_part-requires-then-has_no_column
 insert_above_trim-insert_above_part-requires-then-has_no_column g t c κs hκ =
     let d = c.decreases in (
       omega arith,
@@ -644,8 +651,8 @@ insert_above_part-returns-in-Some-clause-ok g t c =
 pub insert_above_part-returns-in-Some-clause-plain : goal.insert_above_part-returns-in-Some-clause-plain
 insert_above_part-returns-in-Some-clause-plain g t c =
     raised_same c.args.tables.now.items c.raise_at.new.tables.items c.args.up c.args.cells.now
-    (supp (entries_at c.args.tables.now.items c.args.up) c.args.cells.now)
-    ((supp (entries_at c.args.tables.now.items c.args.up) c.args.cells.now) + 1)
+    (supports_of (entries_at c.args.tables.now.items c.args.up) c.args.cells.now)
+    ((supports_of (entries_at c.args.tables.now.items c.args.up) c.args.cells.now) + 1)
     c.raise_at.ensures.changed (c.raise_at.ensures.raised c.args.cells.now c.in-Some.ensures.found)
 
 pub insert_above_part-returns-in-Some-clause-counted : goal.insert_above_part-returns-in-Some-clause-counted
@@ -657,14 +664,15 @@ insert_above_part-returns-in-Some-clause-counted g t c =
       c.raise_at.ensures.changed.size,
       supported_length (entries_at c.args.tables.now.items c.args.up)
           (entries_at c.raise_at.new.tables.items c.args.up) c.args.cells.now
-          (supp (entries_at c.args.tables.now.items c.args.up) c.args.cells.now)
-          ((supp (entries_at c.args.tables.now.items c.args.up) c.args.cells.now) + 1)
+          (supports_of (entries_at c.args.tables.now.items c.args.up) c.args.cells.now)
+          ((supports_of (entries_at c.args.tables.now.items c.args.up) c.args.cells.now) + 1)
           (c.raise_at.ensures.raised c.args.cells.now c.in-Some.ensures.found),
     )
 
 pub insert_above_part-returns-in-None-clause-ok : goal.insert_above_part-returns-in-None-clause-ok
 insert_above_part-returns-in-None-clause-ok g t c =
-    ok_map c.insert_tuple.result (InsertedUpwards c.args.tree.now c.args.tables.now.items c.insert_tuple.new.tables.items c.args.up
+    ok_map c.insert_tuple.result (InsertedUpwards c.args.tree.now c.args.tables.now.items
+    c.insert_tuple.new.tables.items c.args.up
     c.args.cells.now) (ReducedAbove c.args.tree.now c.args.tables.now.items c.insert_tuple.new.tables.items c.args.at)
     (λ l. trim_lived c.args.tree.now c.requires.gaining.was c.args.tables.now.items c.insert_tuple.new.tables.items
     c.args.at c.args.up c.args.tuple.now c.args.cells.now c.requires.gaining.began
@@ -672,7 +680,8 @@ insert_above_part-returns-in-None-clause-ok g t c =
 
 pub insert_above_part-returns-in-None-clause-refused : goal.insert_above_part-returns-in-None-clause-refused
 insert_above_part-returns-in-None-clause-refused g t c =
-    err_map c.insert_tuple.result (Refused c.args.tree.now c.args.tables.now.items c.insert_tuple.new.tables.items c.args.up)
+    err_map c.insert_tuple.result (Refused c.args.tree.now c.args.tables.now.items c.insert_tuple.new.tables.items
+    c.args.up)
     (UnchangedAbove c.args.tree.now c.args.tables.now.items c.insert_tuple.new.tables.items c.args.at)
     (λ r. stayed c.args.tree.now c.args.tables.now.items c.insert_tuple.new.tables.items c.args.at c.args.up
     (Trim c.args.at) c.requires.gaining.began.ready.family.is_tree c.requires.under r) c.insert_tuple.ensures.refused
@@ -683,9 +692,11 @@ insert_above_part-returns-in-None-clause-plain g t c =
 
 pub insert_above_part-returns-in-None-clause-counted : goal.insert_above_part-returns-in-None-clause-counted
 insert_above_part-returns-in-None-clause-counted g t c =
-    ok_map c.insert_tuple.result (c.insert_tuple.new.tally + 1 + 4 * size c.args.tables.now.items ≤ c.find_at.new.tally + 4 * size
+    ok_map c.insert_tuple.result (c.insert_tuple.new.tally + 1 + 4 * size c.args.tables.now.items
+    ≤ c.find_at.new.tally + 4 * size
     c.insert_tuple.new.tables.items)
-    (c.insert_tuple.new.tally + 4 * size c.args.tables.now.items ≤ c.args.tally.now + 2 + 4 * size c.insert_tuple.new.tables.items)
+    (c.insert_tuple.new.tally + 4 * size c.args.tables.now.items ≤ c.args.tally.now + 2 + 4
+    * size c.insert_tuple.new.tables.items)
     (λ h. omega (arith, h, c.find_at.ensures.counted)) c.insert_tuple.ensures.counted
 
 pub insert_above_part-returns-in-None-clause-bounded : goal.insert_above_part-returns-in-None-clause-bounded
@@ -739,7 +750,7 @@ insert_above_side-loop-done-init g t c =
     record {
       next = c.first_at-next.ensures.found;
       grown = grown_none c.args.tree.now c.args.tables.now.items c.args.up
-          (grp (key_at c.args.tables.now.items c.args.guard) (entries_at c.args.tables.now.items c.args.guard)
+          (group_of (key_at c.args.tables.now.items c.args.guard) (entries_at c.args.tables.now.items c.args.guard)
           c.args.tuple.now) (ready_up c.args.tree.now c.requires.gaining.was c.args.tables.now.items c.args.at c.args.up
           (Meet c.args.guard c.args.at) c.requires.gaining.began c.requires.under);
       unchanged = plain_refl
@@ -763,7 +774,8 @@ insert_above_side-read_at-requires-clause-narrow g t c =
 
 pub insert_above_side-read_at-requires-clause-live : goal.insert_above_side-read_at-requires-clause-live
 insert_above_side-read_at-requires-clause-live g t c =
-    let k = cut_of (grp (key_at c.args.tables.now.items c.args.guard) (entries_at c.args.tables.now.items c.args.guard)
+    let k = cut_of (group_of (key_at c.args.tables.now.items c.args.guard) (entries_at c.args.tables.now.items
+    c.args.guard)
     c.args.tuple.now) c.loop-done.done c.loop-done.next c.in-Some.place c.loop-done.invariant.next c.in-Some.is in
     as_live (entries_at c.loop-done.tables.items c.args.guard) c.in-Some.place k.entry.tuple
     (moved_at (entries_at c.args.tables.now.items c.args.guard) (entries_at c.loop-done.tables.items c.args.guard)
@@ -783,7 +795,8 @@ insert_above_side-insert_tuple-requires g t c κs hκ =
     c.requires.gaining.began.ready.family.is_tree c.requires.under in
     let within = c.requires.under.within in
     let d = c.decreases in
-    let k = cut_of (grp (key_at c.args.tables.now.items c.args.guard) (entries_at c.args.tables.now.items c.args.guard)
+    let k = cut_of (group_of (key_at c.args.tables.now.items c.args.guard) (entries_at c.args.tables.now.items
+    c.args.guard)
     c.args.tuple.now) c.loop-done.done c.loop-done.next c.in-Some.place c.loop-done.invariant.next c.in-Some.is in (
       omega arith,
       (
@@ -791,10 +804,10 @@ insert_above_side-insert_tuple-requires g t c κs hκ =
         (
           grown_ready c.args.tree.now c.args.tables.now.items c.loop-done.tables.items c.args.up
               (take c.loop-done.done
-              (grp (key_at c.args.tables.now.items c.args.guard) (entries_at c.args.tables.now.items c.args.guard)
+              (group_of (key_at c.args.tables.now.items c.args.guard) (entries_at c.args.tables.now.items c.args.guard)
               c.args.tuple.now)) c.requires.under.within c.loop-done.invariant.grown,
           (
-            subst (λ (w : List ℕ). cnt (entries_at c.loop-done.tables.items c.args.up) w ≡ 0)
+            subst (λ (w : List ℕ). count_of (entries_at c.loop-done.tables.items c.args.up) w ≡ 0)
                 (sym (c.as_slice.ensures
                 ∙ c.read_at.ensures.tuple k.entry.tuple
                 (moved_at (entries_at c.args.tables.now.items c.args.guard)
@@ -831,25 +844,29 @@ insert_above_side-insert_tuple-requires g t c κs hκ =
       ),
     )
 
-pub insert_above_side-remove_group_from_meet-requires-clause-ready : goal.insert_above_side-remove_group_from_meet-requires-clause-ready
+pub insert_above_side-remove_group_from_meet-requires-clause-ready :
+    goal.insert_above_side-remove_group_from_meet-requires-clause-ready
 insert_above_side-remove_group_from_meet-requires-clause-ready g t c =
-    refused_ready c.args.tree.now c.args.tables.now.items c.loop-done.tables.items c.insert_tuple.new.tables.items c.args.up
+    refused_ready c.args.tree.now c.args.tables.now.items c.loop-done.tables.items c.insert_tuple.new.tables.items
+    c.args.up
     (take c.loop-done.done
-    (grp (key_at c.args.tables.now.items c.args.guard) (entries_at c.args.tables.now.items c.args.guard)
+    (group_of (key_at c.args.tables.now.items c.args.guard) (entries_at c.args.tables.now.items c.args.guard)
     c.args.tuple.now)) c.requires.under.within c.loop-done.invariant.grown c.in-Err.ensures.refused
 
-pub insert_above_side-remove_group_from_meet-requires-clause-lower : goal.insert_above_side-remove_group_from_meet-requires-clause-lower
+pub insert_above_side-remove_group_from_meet-requires-clause-lower :
+    goal.insert_above_side-remove_group_from_meet-requires-clause-lower
 insert_above_side-remove_group_from_meet-requires-clause-lower g t c =
     (c.requires.gaining.began.ready.family.is_tree.meet c.args.up c.args.guard c.args.at
     c.requires.under.node).guard_lower
 
-pub insert_above_side-remove_group_from_meet-requires-clause-full : goal.insert_above_side-remove_group_from_meet-requires-clause-full
+pub insert_above_side-remove_group_from_meet-requires-clause-full :
+    goal.insert_above_side-remove_group_from_meet-requires-clause-full
 insert_above_side-remove_group_from_meet-requires-clause-full g t c =
     subst (λ (es : List Entry). IsFull (entries_at c.insert_tuple.new.tables.items c.args.up) es)
     (sym (same_group c.args.tree.now c.args.tables.now.items c.loop-done.tables.items c.insert_tuple.new.tables.items
     c.args.guard c.args.up c.loop-done.done c.args.tuple.now
     (take c.loop-done.done
-    (grp (key_at c.args.tables.now.items c.args.guard) (entries_at c.args.tables.now.items c.args.guard)
+    (group_of (key_at c.args.tables.now.items c.args.guard) (entries_at c.args.tables.now.items c.args.guard)
     c.args.tuple.now)) c.requires.gaining.began.ready.family.is_tree
     (now_family c.args.tree.now c.requires.gaining.was c.args.tables.now.items c.args.at c.requires.gaining.began)
     (c.requires.gaining.began.ready.family.is_tree.meet c.args.up c.args.guard c.args.at
@@ -862,32 +879,37 @@ insert_above_side-remove_group_from_meet-requires-clause-full g t c =
 pub insert_above_side-returns-in-Err-clause-refused : goal.insert_above_side-returns-in-Err-clause-refused
 insert_above_side-returns-in-Err-clause-refused g t c =
     (side_stayed c.args.tree.now c.requires.gaining.was c.args.tables.now.items c.loop-done.tables.items
-    c.insert_tuple.new.tables.items c.remove_group_from_meet.new.tables.items c.args.guard c.args.at c.args.up c.loop-done.done
+    c.insert_tuple.new.tables.items c.remove_group_from_meet.new.tables.items c.args.guard c.args.at c.args.up
+    c.loop-done.done
     c.args.tuple.now c.requires.gaining.began c.requires.under c.loop-done.invariant.grown c.in-Err.ensures.refused
     c.remove_group_from_meet.ensures.emptied)
 
 pub insert_above_side-returns-in-Err-clause-plain : goal.insert_above_side-returns-in-Err-clause-plain
 insert_above_side-returns-in-Err-clause-plain g t c =
-    back_same c.args.tree.now c.args.tables.now.items c.insert_tuple.new.tables.items c.remove_group_from_meet.new.tables.items
+    back_same c.args.tree.now c.args.tables.now.items c.insert_tuple.new.tables.items
+    c.remove_group_from_meet.new.tables.items
     (now_family c.args.tree.now c.requires.gaining.was c.args.tables.now.items c.args.at c.requires.gaining.began)
     c.in-Err.ensures.refused.family c.remove_group_from_meet.ensures.emptied.family
     (plain_trans c.args.tables.now.items c.loop-done.tables.items c.insert_tuple.new.tables.items
     c.loop-done.invariant.unchanged c.insert_tuple.ensures.plain) c.remove_group_from_meet.ensures.fewer
     (side_stayed c.args.tree.now c.requires.gaining.was c.args.tables.now.items c.loop-done.tables.items
-    c.insert_tuple.new.tables.items c.remove_group_from_meet.new.tables.items c.args.guard c.args.at c.args.up c.loop-done.done
+    c.insert_tuple.new.tables.items c.remove_group_from_meet.new.tables.items c.args.guard c.args.at c.args.up
+    c.loop-done.done
     c.args.tuple.now c.requires.gaining.began c.requires.under c.loop-done.invariant.grown c.in-Err.ensures.refused
     c.remove_group_from_meet.ensures.emptied).supports
 
 pub insert_above_side-returns-in-Err-clause-bounded : goal.insert_above_side-returns-in-Err-clause-bounded
 insert_above_side-returns-in-Err-clause-bounded g t c =
     λ n few.
-    let k = cut_of (grp (key_at c.args.tables.now.items c.args.guard) (entries_at c.args.tables.now.items c.args.guard)
+    let k = cut_of (group_of (key_at c.args.tables.now.items c.args.guard) (entries_at c.args.tables.now.items
+    c.args.guard)
     c.args.tuple.now) c.loop-done.done c.loop-done.next c.in-Some.place c.loop-done.invariant.next c.in-Some.is in
     let fits = side_fits c.args.tree.now c.requires.gaining.was c.args.tables.now.items c.loop-done.tables.items
     c.args.guard c.args.at c.args.up c.loop-done.done n c.args.tuple.now k.entry c.requires.gaining.began
     c.requires.gaining.gains c.requires.under c.loop-done.invariant.grown k.is few in
     let back = side_stayed c.args.tree.now c.requires.gaining.was c.args.tables.now.items c.loop-done.tables.items
-    c.insert_tuple.new.tables.items c.remove_group_from_meet.new.tables.items c.args.guard c.args.at c.args.up c.loop-done.done
+    c.insert_tuple.new.tables.items c.remove_group_from_meet.new.tables.items c.args.guard c.args.at c.args.up
+    c.loop-done.done
     c.args.tuple.now c.requires.gaining.began c.requires.under c.loop-done.invariant.grown c.in-Err.ensures.refused
     c.remove_group_from_meet.ensures.emptied in
     side_bounded c.args.tree.now c.args.tables.now.items c.loop-done.tables.items c.insert_tuple.new.tables.items
@@ -907,12 +929,14 @@ insert_above_side-next_at-next-requires-clause-within g t c =
 
 pub insert_above_side-next_at-next-requires-clause-live : goal.insert_above_side-next_at-next-requires-clause-live
 insert_above_side-next_at-next-requires-clause-live g t c =
-    let k = cut_of (grp (key_at c.args.tables.now.items c.args.guard) (entries_at c.args.tables.now.items c.args.guard)
+    let k = cut_of (group_of (key_at c.args.tables.now.items c.args.guard) (entries_at c.args.tables.now.items
+    c.args.guard)
     c.args.tuple.now) c.loop-done.done c.loop-done.next c.in-Some.place c.loop-done.invariant.next c.in-Some.is in
     let n = (grown_more c.args.tree.now c.args.tables.now.items c.loop-done.tables.items c.insert_tuple.new.tables.items
-    c.args.up (grp (key_at c.args.tables.now.items c.args.guard) (entries_at c.args.tables.now.items c.args.guard)
+    c.args.up (group_of (key_at c.args.tables.now.items c.args.guard) (entries_at c.args.tables.now.items c.args.guard)
     c.args.tuple.now) c.loop-done.done k.entry c.loop-done.invariant.grown
-    (subst (λ (w : List ℕ). InsertedUpwards c.args.tree.now c.loop-done.tables.items c.insert_tuple.new.tables.items c.args.up w)
+    (subst (λ (w : List ℕ). InsertedUpwards c.args.tree.now c.loop-done.tables.items c.insert_tuple.new.tables.items
+    c.args.up w)
     (c.as_slice.ensures ∙ c.read_at.ensures.tuple k.entry.tuple
     (moved_at (entries_at c.args.tables.now.items c.args.guard) (entries_at c.loop-done.tables.items c.args.guard)
     c.in-Some.place k.entry.tuple
@@ -922,7 +946,8 @@ insert_above_side-next_at-next-requires-clause-live g t c =
     (cut_at (key_at c.args.tables.now.items c.args.guard) (entries_at c.args.tables.now.items c.args.guard)
     c.args.tuple.now c.loop-done.done c.in-Some.place k))) c.in-Ok.ensures.ok) k.is) in
     as_live (entries_at c.insert_tuple.new.tables.items c.args.guard) c.in-Some.place k.entry.tuple
-    (moved_at (entries_at c.args.tables.now.items c.args.guard) (entries_at c.insert_tuple.new.tables.items c.args.guard)
+    (moved_at (entries_at c.args.tables.now.items c.args.guard) (entries_at c.insert_tuple.new.tables.items
+    c.args.guard)
     c.in-Some.place k.entry.tuple
     (n.low c.args.guard (c.requires.gaining.began.ready.family.is_tree.meet c.args.up c.args.guard c.args.at
     c.requires.under.node).guard_lower)
@@ -936,12 +961,14 @@ insert_above_side-loop-done-smaller g t c =
 
 pub insert_above_side-loop-done-preserved : goal.insert_above_side-loop-done-preserved
 insert_above_side-loop-done-preserved g t c =
-    let k = cut_of (grp (key_at c.args.tables.now.items c.args.guard) (entries_at c.args.tables.now.items c.args.guard)
+    let k = cut_of (group_of (key_at c.args.tables.now.items c.args.guard) (entries_at c.args.tables.now.items
+    c.args.guard)
     c.args.tuple.now) c.loop-done.done c.loop-done.next c.in-Some.place c.loop-done.invariant.next c.in-Some.is in
     let n = (grown_more c.args.tree.now c.args.tables.now.items c.loop-done.tables.items c.insert_tuple.new.tables.items
-    c.args.up (grp (key_at c.args.tables.now.items c.args.guard) (entries_at c.args.tables.now.items c.args.guard)
+    c.args.up (group_of (key_at c.args.tables.now.items c.args.guard) (entries_at c.args.tables.now.items c.args.guard)
     c.args.tuple.now) c.loop-done.done k.entry c.loop-done.invariant.grown
-    (subst (λ (w : List ℕ). InsertedUpwards c.args.tree.now c.loop-done.tables.items c.insert_tuple.new.tables.items c.args.up w)
+    (subst (λ (w : List ℕ). InsertedUpwards c.args.tree.now c.loop-done.tables.items c.insert_tuple.new.tables.items
+    c.args.up w)
     (c.as_slice.ensures ∙ c.read_at.ensures.tuple k.entry.tuple
     (moved_at (entries_at c.args.tables.now.items c.args.guard) (entries_at c.loop-done.tables.items c.args.guard)
     c.in-Some.place k.entry.tuple
@@ -953,11 +980,12 @@ insert_above_side-loop-done-preserved g t c =
     record {
       next = c.next_at-next.ensures.found c.args.tuple.now
           (take c.loop-done.done
-          (grp (key_at c.args.tables.now.items c.args.guard) (entries_at c.args.tables.now.items c.args.guard)
+          (group_of (key_at c.args.tables.now.items c.args.guard) (entries_at c.args.tables.now.items c.args.guard)
           c.args.tuple.now)) k.entry
           (drop (c.loop-done.done + 1)
-          (grp (key_at c.args.tables.now.items c.args.guard) (entries_at c.args.tables.now.items c.args.guard)
-          c.args.tuple.now)) (group_still c.args.tree.now c.args.tables.now.items c.insert_tuple.new.tables.items c.args.guard
+          (group_of (key_at c.args.tables.now.items c.args.guard) (entries_at c.args.tables.now.items c.args.guard)
+          c.args.tuple.now)) (group_still c.args.tree.now c.args.tables.now.items c.insert_tuple.new.tables.items
+          c.args.guard
           c.args.tuple.now (now_family c.args.tree.now c.requires.gaining.was c.args.tables.now.items c.args.at
           c.requires.gaining.began) n.family
           (n.low c.args.guard (c.requires.gaining.began.ready.family.is_tree.meet c.args.up c.args.guard c.args.at
@@ -974,7 +1002,7 @@ insert_above_side-returns-in-None-clause-ok g t c =
     c.args.at c.args.up c.loop-done.done c.args.tuple.now c.requires.gaining.began c.requires.gaining.gains
     c.requires.under c.loop-done.invariant.grown
     (head_none (drop c.loop-done.done
-    (grp (key_at c.args.tables.now.items c.args.guard) (entries_at c.args.tables.now.items c.args.guard)
+    (group_of (key_at c.args.tables.now.items c.args.guard) (entries_at c.args.tables.now.items c.args.guard)
     c.args.tuple.now)) (sym c.loop-done.invariant.next ∙ c.in-None.is))
 
 pub insert_above_side-returns-in-None-clause-plain : goal.insert_above_side-returns-in-None-clause-plain
@@ -1051,15 +1079,19 @@ insert_above_part-returns-in-None-clause-flat g t c =
 pub insert_above_side-returns-in-Err-clause-flat : goal.insert_above_side-returns-in-Err-clause-flat
 insert_above_side-returns-in-Err-clause-flat g t c =
     λ meets.
-    let k = cut_of (grp (key_at c.args.tables.now.items c.args.guard) (entries_at c.args.tables.now.items c.args.guard)
+    let k = cut_of (group_of (key_at c.args.tables.now.items c.args.guard) (entries_at c.args.tables.now.items
+    c.args.guard)
     c.args.tuple.now) c.loop-done.done c.loop-done.next c.in-Some.place c.loop-done.invariant.next c.in-Some.is in
     let back = side_stayed c.args.tree.now c.requires.gaining.was c.args.tables.now.items c.loop-done.tables.items
-    c.insert_tuple.new.tables.items c.remove_group_from_meet.new.tables.items c.args.guard c.args.at c.args.up c.loop-done.done
+    c.insert_tuple.new.tables.items c.remove_group_from_meet.new.tables.items c.args.guard c.args.at c.args.up
+    c.loop-done.done
     c.args.tuple.now c.requires.gaining.began c.requires.under c.loop-done.invariant.grown c.in-Err.ensures.refused
     c.remove_group_from_meet.ensures.emptied in
     side_flat c.args.tree.now c.requires.gaining.was c.args.tables.now.items c.loop-done.tables.items
-    c.insert_tuple.new.tables.items c.remove_group_from_meet.new.tables.items c.args.guard c.args.at c.args.up c.loop-done.done
-    c.args.tally.now c.loop-done.tally c.insert_tuple.new.tally c.remove_group_from_meet.new.tally c.args.tuple.now k.entry
+    c.insert_tuple.new.tables.items c.remove_group_from_meet.new.tables.items c.args.guard c.args.at c.args.up
+    c.loop-done.done
+    c.args.tally.now c.loop-done.tally c.insert_tuple.new.tally c.remove_group_from_meet.new.tally c.args.tuple.now
+    k.entry
     meets c.requires.gaining.began c.requires.under c.loop-done.invariant.grown k.is c.in-Err.ensures.refused.family
     c.remove_group_from_meet.ensures.emptied.family c.in-Err.ensures.refused.supports back.supports
     c.loop-done.invariant.counted (c.in-Err.ensures.flat meets) c.remove_group_from_meet.ensures.counted

@@ -1,5 +1,5 @@
 use Rattle.std.proofs.Common.{◌≡◌, ◌+◌, ◌-◌, ◌*◌, ◌≤◌, length, take, drop}
-use Rattle.djq_index.specs.Entries.{grp, head_at}
+use Rattle.djq_index.specs.Entries.{group_of, head_at}
 use Rattle.djq_reduct.specs.Tables.{entries_at, key_at}
 use Rattle.djq_propagate.specs.Sizes.{size}
 use Rattle.djq_propagate.specs.Walks.{IsGrown, CameAs}
@@ -29,9 +29,9 @@ decreases-insert_above_part g l = 5 * (length l.tree.now.nodes - l.at)
 abbrev pub invariant-insert_above_side-loop-done : goal.invariant-insert_above_side-loop-done
 invariant-insert_above_side-loop-done g l = record {
   next : l.next ≡ head_at
-      (drop l.done (grp (key_at l.fn.tables.items l.guard) (entries_at l.fn.tables.items l.guard) l.tuple));
+      (drop l.done (group_of (key_at l.fn.tables.items l.guard) (entries_at l.fn.tables.items l.guard) l.tuple));
   grown : IsGrown l.tree l.fn.tables.items l.tables.items l.up
-      (take l.done (grp (key_at l.fn.tables.items l.guard) (entries_at l.fn.tables.items l.guard) l.tuple));
+      (take l.done (group_of (key_at l.fn.tables.items l.guard) (entries_at l.fn.tables.items l.guard) l.tuple));
   unchanged : CameAs l.marked l.fn.tables.items l.tables.items;
   counted : l.tally + 4 * size l.fn.tables.items ≤ l.fn.tally + 1 + 4 * size l.tables.items;
 }

@@ -51,7 +51,8 @@ insert_tuple-requires-clause-bare g c = still_bare c.args.marked c.args.tables.n
 
 pub loop-i-preserved : goal.loop-i-preserved
 loop-i-preserved g c = record {
-  come = come_more c.args.tree.now c.args.tables.now.items c.loop-i.tables.items c.insert_tuple.new.tables.items c.args.leaf
+  come = come_more c.args.tree.now c.args.tables.now.items c.loop-i.tables.items c.insert_tuple.new.tables.items
+      c.args.leaf
       c.loop-i.i c.args.tuples.now _ c.requires.leaf c.loop-i-test.true
       (read_as c.args.tuples.now c.loop-i.i c.index-tuples-i.result c.as_slice.result.now c.as_slice.ensures
       c.index-tuples-i.is) c.loop-i.invariant.come c.in-Ok.ensures.ok;
@@ -62,7 +63,8 @@ loop-i-preserved g c = record {
 
 pub remove_all-requires-clause-reducts : goal.remove_all-requires-clause-reducts
 remove_all-requires-clause-reducts g c =
-    (come_refused c.args.tree.now c.args.tables.now.items c.loop-i.tables.items c.insert_tuple.new.tables.items c.args.leaf
+    (come_refused c.args.tree.now c.args.tables.now.items c.loop-i.tables.items c.insert_tuple.new.tables.items
+    c.args.leaf
     (take c.loop-i.i c.args.tuples.now) c.loop-i.invariant.come c.in-Err.ensures.refused).sound
 
 pub remove_all-requires-clause-leaf : goal.remove_all-requires-clause-leaf
@@ -75,17 +77,21 @@ pub remove_all-requires-clause-there : goal.remove_all-requires-clause-there
 remove_all-requires-clause-there g c =
     come_there c.args.tree.now c.args.tables.now.items c.insert_tuple.new.tables.items c.args.leaf
     (take c.loop-i.i c.args.tuples.now)
-    (come_refused c.args.tree.now c.args.tables.now.items c.loop-i.tables.items c.insert_tuple.new.tables.items c.args.leaf
+    (come_refused c.args.tree.now c.args.tables.now.items c.loop-i.tables.items c.insert_tuple.new.tables.items
+    c.args.leaf
     (take c.loop-i.i c.args.tuples.now) c.loop-i.invariant.come c.in-Err.ensures.refused)
 
 pub returns-in-Err-clause-refused : goal.returns-in-Err-clause-refused
 returns-in-Err-clause-refused g c =
-    back_kept c.args.tree.now c.args.tables.now.items c.insert_tuple.new.tables.items c.remove_all.new.tables.items c.args.leaf
+    back_kept c.args.tree.now c.args.tables.now.items c.insert_tuple.new.tables.items c.remove_all.new.tables.items
+    c.args.leaf
     (take c.loop-i.i c.args.tuples.now) c.requires.reducts
-    (come_refused c.args.tree.now c.args.tables.now.items c.loop-i.tables.items c.insert_tuple.new.tables.items c.args.leaf
+    (come_refused c.args.tree.now c.args.tables.now.items c.loop-i.tables.items c.insert_tuple.new.tables.items
+    c.args.leaf
     (take c.loop-i.i c.args.tuples.now) c.loop-i.invariant.come c.in-Err.ensures.refused)
     c.remove_all.ensures.gone
-    (plain_trans c.args.tables.now.items c.loop-i.tables.items c.insert_tuple.new.tables.items c.loop-i.invariant.unchanged
+    (plain_trans c.args.tables.now.items c.loop-i.tables.items c.insert_tuple.new.tables.items
+    c.loop-i.invariant.unchanged
     c.insert_tuple.ensures.plain) c.remove_all.ensures.fewer c.requires.bare
 
 pub returns-in-Err-clause-bounded : goal.returns-in-Err-clause-bounded

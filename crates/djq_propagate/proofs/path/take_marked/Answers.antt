@@ -66,10 +66,12 @@ pub loop-done-preserved : goal.loop-done-preserved
 loop-done-preserved g c =
     let m = first_mark (entries_at c.loop-done.tables.items c.args.leaf) c.in-Some.place
     (sym c.first_marked_at.ensures.found ∙ c.in-Some.is) in
-    let died = subst (λ (u : List ℕ). RemovedUpwards c.args.tree.now c.loop-done.tables.items c.remove_tuple.new.tables.items c.args.leaf
+    let died = subst (λ (u : List ℕ). RemovedUpwards c.args.tree.now c.loop-done.tables.items
+    c.remove_tuple.new.tables.items c.args.leaf
     u) (c.as_slice.ensures ∙ c.read_at.ensures.tuple m.tuple m.is_at) c.remove_tuple.ensures.died in
     record {
-      taking = taking_more c.args.tree.now c.args.tables.now.items c.loop-done.tables.items c.remove_tuple.new.tables.items
+      taking = taking_more c.args.tree.now c.args.tables.now.items c.loop-done.tables.items
+          c.remove_tuple.new.tables.items
           c.args.leaf m.tuple c.requires.leaf c.loop-done.invariant.taking died c.remove_tuple.ensures.fewer m.some;
       few = omega (
         arith,
@@ -77,7 +79,12 @@ loop-done-preserved g c =
         removed_length (entries_at c.loop-done.tables.items c.args.leaf)
             (entries_at c.remove_tuple.new.tables.items c.args.leaf) m.tuple died.loses,
       );
-      counted = omega (arith, c.loop-done.invariant.counted, c.remove_tuple.ensures.counted, c.first_marked_at.ensures.counted);
+      counted = omega (
+        arith,
+        c.loop-done.invariant.counted,
+        c.remove_tuple.ensures.counted,
+        c.first_marked_at.ensures.counted,
+      );
     }
 
 pub returns-in-None-clause-taken : goal.returns-in-None-clause-taken

@@ -1,5 +1,5 @@
 use Rattle.std.proofs.Common.{rules, ◌≡◌, ℕ, ◌+◌, ◌-◌, ◌<◌, List, take, drop, subst, sym, ◌∙◌, arith}
-use Rattle.djq_index.specs.Entries.{supp, cnt, grp}
+use Rattle.djq_index.specs.Entries.{supports_of, count_of, group_of}
 use Rattle.djq_index.proofs.Changing.{removed_length, supported_length}
 use Rattle.djq_tree.specs.declared.node.Node.TheVariants.{Trim, Meet}
 use Rattle.djq_reduct.specs.Tables.{entries_at, key_at}
@@ -51,7 +51,8 @@ remove_tuple-remove_above-requires g t c κs hκ =
 
 pub remove_tuple-returns-clause-died : goal.remove_tuple-returns-clause-died
 remove_tuple-returns-clause-died g t c =
-    died_here c.args.tree.now c.args.tables.now.items c.remove_at.new.tables.items c.remove_above.new.tables.items c.args.at
+    died_here c.args.tree.now c.args.tables.now.items c.remove_at.new.tables.items c.remove_above.new.tables.items
+    c.args.at
     c.args.tuple.now c.remove_at.ensures.changed (c.remove_at.ensures.removed c.args.tuple.now c.requires.lies)
     c.remove_above.ensures.righted
 
@@ -59,7 +60,8 @@ pub remove_tuple-returns-clause-fewer : goal.remove_tuple-returns-clause-fewer
 remove_tuple-returns-clause-fewer g t c =
     fewer_trans c.args.tables.now.items c.remove_at.new.tables.items c.remove_above.new.tables.items
     (removed_fewer c.args.tables.now.items c.remove_at.new.tables.items c.args.at c.args.tuple.now
-    c.remove_at.ensures.changed (c.remove_at.ensures.removed c.args.tuple.now c.requires.lies)) c.remove_above.ensures.fewer
+    c.remove_at.ensures.changed (c.remove_at.ensures.removed c.args.tuple.now c.requires.lies))
+    c.remove_above.ensures.fewer
 
 pub remove_tuple-returns-clause-counted : goal.remove_tuple-returns-clause-counted
 remove_tuple-returns-clause-counted g t c =
@@ -328,7 +330,8 @@ remove_above_trim-has_no_column-requires g t c =
     (now_family c.args.tree.now c.requires.losing.was c.args.tables.now.items c.args.at c.requires.losing.began)
     c.requires.losing.began.ready.within
 
-pub remove_above_trim-remove_above_part-requires-then-has_no_column : goal.remove_above_trim-remove_above_part-requires-then-has_no_column
+pub remove_above_trim-remove_above_part-requires-then-has_no_column :
+    goal.remove_above_trim-remove_above_part-requires-then-has_no_column
 remove_above_trim-remove_above_part-requires-then-has_no_column g t c κs hκ =
     let d = c.decreases in (
       omega arith,
@@ -418,7 +421,7 @@ remove_above_part-lower_at-requires-clause-shared g t c =
       tuple = c.args.cells.now;
       is_at = c.in-Some.ensures.found;
       more = shared_more
-          c.is_shared_at.result (supp (entries_at c.args.tables.now.items c.args.up) c.args.cells.now)
+          c.is_shared_at.result (supports_of (entries_at c.args.tables.now.items c.args.up) c.args.cells.now)
           (c.is_shared_at.ensures c.args.cells.now c.in-Some.ensures.found) c.if-is_shared_at.true;
     }
 
@@ -439,7 +442,8 @@ remove_above_part-remove_tuple-requires g t c κs hκ =
       ),
     )
 
-pub remove_above_part-returns-then-is_shared_at-clause-righted : goal.remove_above_part-returns-then-is_shared_at-clause-righted
+pub remove_above_part-returns-then-is_shared_at-clause-righted :
+    goal.remove_above_part-returns-then-is_shared_at-clause-righted
 remove_above_part-returns-then-is_shared_at-clause-righted g t c =
     trim_lowered c.args.tree.now c.requires.losing.was c.args.tables.now.items c.lower_at.new.tables.items c.args.at
     c.args.up c.args.tuple.now c.args.cells.now c.requires.losing.began c.requires.losing.loses
@@ -447,14 +451,16 @@ remove_above_part-returns-then-is_shared_at-clause-righted g t c =
     (c.lower_at.ensures.lowered c.args.cells.now c.in-Some.ensures.found)
     c.requires.part
 
-pub remove_above_part-returns-then-is_shared_at-clause-fewer : goal.remove_above_part-returns-then-is_shared_at-clause-fewer
+pub remove_above_part-returns-then-is_shared_at-clause-fewer :
+    goal.remove_above_part-returns-then-is_shared_at-clause-fewer
 remove_above_part-returns-then-is_shared_at-clause-fewer g t c =
     lowered_fewer c.args.tables.now.items c.lower_at.new.tables.items c.args.up c.args.cells.now
-    (supp (entries_at c.args.tables.now.items c.args.up) c.args.cells.now)
-    ((supp (entries_at c.args.tables.now.items c.args.up) c.args.cells.now) - 1)
+    (supports_of (entries_at c.args.tables.now.items c.args.up) c.args.cells.now)
+    ((supports_of (entries_at c.args.tables.now.items c.args.up) c.args.cells.now) - 1)
     c.lower_at.ensures.changed (c.lower_at.ensures.lowered c.args.cells.now c.in-Some.ensures.found)
 
-pub remove_above_part-returns-then-is_shared_at-clause-counted : goal.remove_above_part-returns-then-is_shared_at-clause-counted
+pub remove_above_part-returns-then-is_shared_at-clause-counted :
+    goal.remove_above_part-returns-then-is_shared_at-clause-counted
 remove_above_part-returns-then-is_shared_at-clause-counted g t c =
     omega (
       arith,
@@ -463,25 +469,29 @@ remove_above_part-returns-then-is_shared_at-clause-counted g t c =
       c.lower_at.ensures.changed.size,
       supported_length (entries_at c.args.tables.now.items c.args.up)
           (entries_at c.lower_at.new.tables.items c.args.up) c.args.cells.now
-          (supp (entries_at c.args.tables.now.items c.args.up) c.args.cells.now)
-          ((supp (entries_at c.args.tables.now.items c.args.up) c.args.cells.now) - 1)
+          (supports_of (entries_at c.args.tables.now.items c.args.up) c.args.cells.now)
+          ((supports_of (entries_at c.args.tables.now.items c.args.up) c.args.cells.now) - 1)
           (c.lower_at.ensures.lowered c.args.cells.now c.in-Some.ensures.found),
     )
 
-pub remove_above_part-returns-else-is_shared_at-clause-righted : goal.remove_above_part-returns-else-is_shared_at-clause-righted
+pub remove_above_part-returns-else-is_shared_at-clause-righted :
+    goal.remove_above_part-returns-else-is_shared_at-clause-righted
 remove_above_part-returns-else-is_shared_at-clause-righted g t c =
-    trim_died c.args.tree.now c.requires.losing.was c.args.tables.now.items c.remove_tuple.new.tables.items c.args.at c.args.up
+    trim_died c.args.tree.now c.requires.losing.was c.args.tables.now.items c.remove_tuple.new.tables.items c.args.at
+    c.args.up
     c.args.tuple.now c.args.cells.now c.requires.losing.began c.requires.losing.loses c.requires.under
     c.remove_tuple.ensures.died c.requires.part
     (shared_less c.is_shared_at.result
-    (supp (entries_at c.args.tables.now.items c.args.up) c.args.cells.now)
+    (supports_of (entries_at c.args.tables.now.items c.args.up) c.args.cells.now)
     (c.is_shared_at.ensures c.args.cells.now c.in-Some.ensures.found) c.if-is_shared_at.false)
 
-pub remove_above_part-returns-else-is_shared_at-clause-fewer : goal.remove_above_part-returns-else-is_shared_at-clause-fewer
+pub remove_above_part-returns-else-is_shared_at-clause-fewer :
+    goal.remove_above_part-returns-else-is_shared_at-clause-fewer
 remove_above_part-returns-else-is_shared_at-clause-fewer g t c =
     c.remove_tuple.ensures.fewer
 
-pub remove_above_part-returns-else-is_shared_at-clause-counted : goal.remove_above_part-returns-else-is_shared_at-clause-counted
+pub remove_above_part-returns-else-is_shared_at-clause-counted :
+    goal.remove_above_part-returns-else-is_shared_at-clause-counted
 remove_above_part-returns-else-is_shared_at-clause-counted g t c =
     omega (arith, c.find_at.ensures.counted, c.remove_tuple.ensures.counted)
 
@@ -543,7 +553,8 @@ remove_group_from_meet-loop-done-init g t c =
     record {
       next = c.first_at-next.ensures.found;
       emptied = emptied_none c.args.tree.now c.args.tables.now.items
-          c.args.up (grp (key_at c.args.tables.now.items c.args.guard) (entries_at c.args.tables.now.items c.args.guard)
+          c.args.up (group_of (key_at c.args.tables.now.items c.args.guard) (entries_at c.args.tables.now.items
+          c.args.guard)
           c.args.cells.now) c.requires.ready;
       lesser = fewer_refl c.args.tables.now.items;
       counted = omega
@@ -565,7 +576,8 @@ remove_group_from_meet-read_at-requires-clause-narrow g t c =
 
 pub remove_group_from_meet-read_at-requires-clause-live : goal.remove_group_from_meet-read_at-requires-clause-live
 remove_group_from_meet-read_at-requires-clause-live g t c =
-    let k = cut_of (grp (key_at c.args.tables.now.items c.args.guard) (entries_at c.args.tables.now.items c.args.guard)
+    let k = cut_of (group_of (key_at c.args.tables.now.items c.args.guard) (entries_at c.args.tables.now.items
+    c.args.guard)
     c.args.cells.now) c.loop-done._done c.loop-done.next c.in-Some.place c.loop-done.invariant.next c.in-Some.is in
     as_live (entries_at c.loop-done.tables.items c.args.guard) c.in-Some.place k.entry.tuple
     (moved_at (entries_at c.args.tables.now.items c.args.guard) (entries_at c.loop-done.tables.items c.args.guard)
@@ -576,7 +588,8 @@ remove_group_from_meet-read_at-requires-clause-live g t c =
 pub remove_group_from_meet-find_and_remove-requires : goal.remove_group_from_meet-find_and_remove-requires
 remove_group_from_meet-find_and_remove-requires g t c κs hκ =
     let d = c.decreases in
-    let k = cut_of (grp (key_at c.args.tables.now.items c.args.guard) (entries_at c.args.tables.now.items c.args.guard)
+    let k = cut_of (group_of (key_at c.args.tables.now.items c.args.guard) (entries_at c.args.tables.now.items
+    c.args.guard)
     c.args.cells.now) c.loop-done._done c.loop-done.next c.in-Some.place c.loop-done.invariant.next c.in-Some.is in (
       omega arith,
       (
@@ -584,9 +597,9 @@ remove_group_from_meet-find_and_remove-requires g t c κs hκ =
         (
           emptied_ready c.args.tree.now c.args.tables.now.items c.loop-done.tables.items c.args.up
               (take c.loop-done._done
-              (grp (key_at c.args.tables.now.items c.args.guard) (entries_at c.args.tables.now.items c.args.guard)
+              (group_of (key_at c.args.tables.now.items c.args.guard) (entries_at c.args.tables.now.items c.args.guard)
               c.args.cells.now)) c.requires.ready.within c.loop-done.invariant.emptied,
-          subst (λ (w : List ℕ). 0 < cnt (entries_at c.loop-done.tables.items c.args.up) w)
+          subst (λ (w : List ℕ). 0 < count_of (entries_at c.loop-done.tables.items c.args.up) w)
               (sym (c.as_slice.ensures
               ∙ c.read_at.ensures.tuple k.entry.tuple
               (moved_at (entries_at c.args.tables.now.items c.args.guard)
@@ -596,7 +609,7 @@ remove_group_from_meet-find_and_remove-requires g t c κs hκ =
               c.args.cells.now c.loop-done._done c.in-Some.place k))))
               (present (entries_at c.loop-done.tables.items c.args.up) k.entry.tuple
               (let s = (still_there c.args.tree.now c.args.tables.now.items c.loop-done.tables.items c.args.up
-              (grp (key_at c.args.tables.now.items c.args.guard) (entries_at c.args.tables.now.items c.args.guard)
+              (group_of (key_at c.args.tables.now.items c.args.guard) (entries_at c.args.tables.now.items c.args.guard)
               c.args.cells.now) c.loop-done._done c.args.count k.entry c.loop-done.invariant.emptied c.requires.full
               c.loop-done-test.true
               (λ v. group_once (key_at c.args.tables.now.items c.args.guard)
@@ -607,27 +620,33 @@ remove_group_from_meet-find_and_remove-requires g t c κs hκ =
       ),
     )
 
-pub remove_group_from_meet-next_at-next-requires-clause-within : goal.remove_group_from_meet-next_at-next-requires-clause-within
+pub remove_group_from_meet-next_at-next-requires-clause-within :
+    goal.remove_group_from_meet-next_at-next-requires-clause-within
 remove_group_from_meet-next_at-next-requires-clause-within g t c =
     let glow = c.requires.lower in
     let within = c.requires.ready.within in
-    has_table c.args.tree.now c.find_and_remove.new.tables.items c.args.guard c.find_and_remove.ensures.died.family (omega arith)
+    has_table c.args.tree.now c.find_and_remove.new.tables.items c.args.guard c.find_and_remove.ensures.died.family
+    (omega arith)
 
-pub remove_group_from_meet-next_at-next-requires-clause-live : goal.remove_group_from_meet-next_at-next-requires-clause-live
+pub remove_group_from_meet-next_at-next-requires-clause-live :
+    goal.remove_group_from_meet-next_at-next-requires-clause-live
 remove_group_from_meet-next_at-next-requires-clause-live g t c =
-    let k = cut_of (grp (key_at c.args.tables.now.items c.args.guard) (entries_at c.args.tables.now.items c.args.guard)
+    let k = cut_of (group_of (key_at c.args.tables.now.items c.args.guard) (entries_at c.args.tables.now.items
+    c.args.guard)
     c.args.cells.now) c.loop-done._done c.loop-done.next c.in-Some.place c.loop-done.invariant.next c.in-Some.is in
-    let n = (emptied_more c.args.tree.now c.args.tables.now.items c.loop-done.tables.items c.find_and_remove.new.tables.items
-    c.args.up (grp (key_at c.args.tables.now.items c.args.guard) (entries_at c.args.tables.now.items c.args.guard)
+    let n = (emptied_more c.args.tree.now c.args.tables.now.items c.loop-done.tables.items
+    c.find_and_remove.new.tables.items
+    c.args.up (group_of (key_at c.args.tables.now.items c.args.guard) (entries_at c.args.tables.now.items c.args.guard)
     c.args.cells.now) c.loop-done._done k.entry c.loop-done.invariant.emptied
-    (subst (λ (w : List ℕ). RemovedUpwards c.args.tree.now c.loop-done.tables.items c.find_and_remove.new.tables.items c.args.up w)
+    (subst (λ (w : List ℕ). RemovedUpwards c.args.tree.now c.loop-done.tables.items c.find_and_remove.new.tables.items
+    c.args.up w)
     (c.as_slice.ensures ∙ c.read_at.ensures.tuple k.entry.tuple
     (moved_at (entries_at c.args.tables.now.items c.args.guard) (entries_at c.loop-done.tables.items c.args.guard)
     c.in-Some.place k.entry.tuple (c.loop-done.invariant.emptied.low c.args.guard c.requires.lower)
     (cut_at (key_at c.args.tables.now.items c.args.guard) (entries_at c.args.tables.now.items c.args.guard)
     c.args.cells.now c.loop-done._done c.in-Some.place k))) c.find_and_remove.ensures.died)
     (still_there c.args.tree.now c.args.tables.now.items c.loop-done.tables.items c.args.up
-    (grp (key_at c.args.tables.now.items c.args.guard) (entries_at c.args.tables.now.items c.args.guard)
+    (group_of (key_at c.args.tables.now.items c.args.guard) (entries_at c.args.tables.now.items c.args.guard)
     c.args.cells.now) c.loop-done._done c.args.count k.entry c.loop-done.invariant.emptied c.requires.full
     c.loop-done-test.true
     (λ v. group_once (key_at c.args.tables.now.items c.args.guard) (entries_at c.args.tables.now.items c.args.guard)
@@ -647,19 +666,22 @@ remove_group_from_meet-loop-done-smaller g t c =
 
 pub remove_group_from_meet-loop-done-preserved : goal.remove_group_from_meet-loop-done-preserved
 remove_group_from_meet-loop-done-preserved g t c =
-    let k = cut_of (grp (key_at c.args.tables.now.items c.args.guard) (entries_at c.args.tables.now.items c.args.guard)
+    let k = cut_of (group_of (key_at c.args.tables.now.items c.args.guard) (entries_at c.args.tables.now.items
+    c.args.guard)
     c.args.cells.now) c.loop-done._done c.loop-done.next c.in-Some.place c.loop-done.invariant.next c.in-Some.is in
-    let n = (emptied_more c.args.tree.now c.args.tables.now.items c.loop-done.tables.items c.find_and_remove.new.tables.items
-    c.args.up (grp (key_at c.args.tables.now.items c.args.guard) (entries_at c.args.tables.now.items c.args.guard)
+    let n = (emptied_more c.args.tree.now c.args.tables.now.items c.loop-done.tables.items
+    c.find_and_remove.new.tables.items
+    c.args.up (group_of (key_at c.args.tables.now.items c.args.guard) (entries_at c.args.tables.now.items c.args.guard)
     c.args.cells.now) c.loop-done._done k.entry c.loop-done.invariant.emptied
-    (subst (λ (w : List ℕ). RemovedUpwards c.args.tree.now c.loop-done.tables.items c.find_and_remove.new.tables.items c.args.up w)
+    (subst (λ (w : List ℕ). RemovedUpwards c.args.tree.now c.loop-done.tables.items c.find_and_remove.new.tables.items
+    c.args.up w)
     (c.as_slice.ensures ∙ c.read_at.ensures.tuple k.entry.tuple
     (moved_at (entries_at c.args.tables.now.items c.args.guard) (entries_at c.loop-done.tables.items c.args.guard)
     c.in-Some.place k.entry.tuple (c.loop-done.invariant.emptied.low c.args.guard c.requires.lower)
     (cut_at (key_at c.args.tables.now.items c.args.guard) (entries_at c.args.tables.now.items c.args.guard)
     c.args.cells.now c.loop-done._done c.in-Some.place k))) c.find_and_remove.ensures.died)
     (still_there c.args.tree.now c.args.tables.now.items c.loop-done.tables.items c.args.up
-    (grp (key_at c.args.tables.now.items c.args.guard) (entries_at c.args.tables.now.items c.args.guard)
+    (group_of (key_at c.args.tables.now.items c.args.guard) (entries_at c.args.tables.now.items c.args.guard)
     c.args.cells.now) c.loop-done._done c.args.count k.entry c.loop-done.invariant.emptied c.requires.full
     c.loop-done-test.true
     (λ v. group_once (key_at c.args.tables.now.items c.args.guard) (entries_at c.args.tables.now.items c.args.guard)
@@ -668,10 +690,10 @@ remove_group_from_meet-loop-done-preserved g t c =
     record {
       next = c.next_at-next.ensures.found c.args.cells.now
           (take c.loop-done._done
-          (grp (key_at c.args.tables.now.items c.args.guard) (entries_at c.args.tables.now.items c.args.guard)
+          (group_of (key_at c.args.tables.now.items c.args.guard) (entries_at c.args.tables.now.items c.args.guard)
           c.args.cells.now)) k.entry
           (drop (c.loop-done._done + 1)
-          (grp (key_at c.args.tables.now.items c.args.guard) (entries_at c.args.tables.now.items c.args.guard)
+          (group_of (key_at c.args.tables.now.items c.args.guard) (entries_at c.args.tables.now.items c.args.guard)
           c.args.cells.now)) (group_still c.args.tree.now c.args.tables.now.items c.find_and_remove.new.tables.items
           c.args.guard c.args.cells.now c.requires.ready.family n.family (n.low c.args.guard c.requires.lower) ∙ k.is)
           k.at;
@@ -690,10 +712,10 @@ pub remove_group_from_meet-returns-in-None-clause-emptied : goal.remove_group_fr
 remove_group_from_meet-returns-in-None-clause-emptied g t c =
     let h = c.loop-done-test.true in
     emptied_all c.args.tree.now c.args.tables.now.items c.loop-done.tables.items c.args.up
-    (grp (key_at c.args.tables.now.items c.args.guard) (entries_at c.args.tables.now.items c.args.guard)
+    (group_of (key_at c.args.tables.now.items c.args.guard) (entries_at c.args.tables.now.items c.args.guard)
     c.args.cells.now) c.loop-done._done c.args.count c.loop-done.invariant.emptied (omega arith)
     (head_none (drop c.loop-done._done
-    (grp (key_at c.args.tables.now.items c.args.guard) (entries_at c.args.tables.now.items c.args.guard)
+    (group_of (key_at c.args.tables.now.items c.args.guard) (entries_at c.args.tables.now.items c.args.guard)
     c.args.cells.now)) (sym c.loop-done.invariant.next ∙ c.in-None.is))
 
 pub remove_group_from_meet-returns-in-None-clause-fewer : goal.remove_group_from_meet-returns-in-None-clause-fewer
@@ -710,7 +732,7 @@ remove_group_from_meet-returns-clause-emptied g t c =
     let x = c.loop-done.auto._done-end in
     let e : c.loop-done._done ≡ c.args.count = omega arith in
     subst (λ (n : ℕ). IsEmptied c.args.tree.now c.args.tables.now.items c.loop-done.tables.items c.args.up
-    (take n (grp (key_at c.args.tables.now.items c.args.guard) (entries_at c.args.tables.now.items c.args.guard)
+    (take n (group_of (key_at c.args.tables.now.items c.args.guard) (entries_at c.args.tables.now.items c.args.guard)
     c.args.cells.now))) e c.loop-done.invariant.emptied
 
 pub remove_group_from_meet-returns-clause-fewer : goal.remove_group_from_meet-returns-clause-fewer

@@ -1,5 +1,5 @@
 use Rattle.std.proofs.Common.{◌≡◌, ◌+◌, ◌-◌, ◌*◌, ◌≤◌, length, take, drop}
-use Rattle.djq_index.specs.Entries.{grp, head_at}
+use Rattle.djq_index.specs.Entries.{group_of, head_at}
 use Rattle.djq_reduct.specs.Tables.{entries_at, key_at}
 use Rattle.djq_propagate.specs.Sizes.{size}
 use Rattle.djq_propagate.specs.Walks.{IsEmptied, Fewer}
@@ -35,9 +35,9 @@ decreases-find_and_remove g l = 7 * (length l.tree.now.nodes - l.at) + 5
 abbrev pub invariant-remove_group_from_meet-loop-done : goal.invariant-remove_group_from_meet-loop-done
 invariant-remove_group_from_meet-loop-done g l = record {
   next : l.next ≡ head_at
-      (drop l._done (grp (key_at l.fn.tables.items l.guard) (entries_at l.fn.tables.items l.guard) l.cells));
+      (drop l._done (group_of (key_at l.fn.tables.items l.guard) (entries_at l.fn.tables.items l.guard) l.cells));
   emptied : IsEmptied l.tree l.fn.tables.items l.tables.items l.up
-      (take l._done (grp (key_at l.fn.tables.items l.guard) (entries_at l.fn.tables.items l.guard) l.cells));
+      (take l._done (group_of (key_at l.fn.tables.items l.guard) (entries_at l.fn.tables.items l.guard) l.cells));
   lesser : Fewer l.fn.tables.items l.tables.items;
   counted : l.tally + 5 * size l.tables.items ≤ l.fn.tally + 1 + 5 * size l.fn.tables.items;
 }

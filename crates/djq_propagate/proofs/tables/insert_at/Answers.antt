@@ -1,12 +1,13 @@
 use Rattle.std.proofs.Common.{◌≡◌, ◌<◌, List, [], length, IfOk, OnErr, sym, ◌∙◌}
-use Rattle.djq_index.specs.Entries.{Entry, cnt, marks}
+use Rattle.djq_index.specs.Entries.{Entry, count_of, marks}
 use Rattle.djq_index.specs.Table.{IsAt}
 use Rattle.djq_index.specs.Changes.{InsertedAs}
 use Rattle.djq_propagate.proofs.Tabling.{read_table, width_of, back, onto, onto_key, changed_into, insert_supported}
 use Rattle.djq_propagate.proofs.tables.insert_at.Goals as goal
 
 pub insert_as-requires-clause-absent : goal.insert_as-requires-clause-absent
-insert_as-requires-clause-absent g c = back (λ (es : List Entry). cnt es c.args.tuple.now ≡ 0) c.args.tables.now.items
+insert_as-requires-clause-absent g c = back (λ (es : List Entry). count_of es c.args.tuple.now ≡ 0)
+    c.args.tables.now.items
     c.args.at c.index_mut-table.result.now c.requires.within c.index_mut-table.ensures.value c.requires.absent
 
 pub insert_as-requires-clause-wide : goal.insert_as-requires-clause-wide

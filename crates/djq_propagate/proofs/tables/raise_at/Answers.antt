@@ -1,5 +1,5 @@
 use Rattle.std.proofs.Common.{ℕ, ◌+◌, List, arith}
-use Rattle.djq_index.specs.Entries.{Entry, supp}
+use Rattle.djq_index.specs.Entries.{Entry, supports_of}
 use Rattle.djq_index.specs.Table.{IsAt, IsRaisable}
 use Rattle.djq_index.specs.Changes.{Supported}
 use Rattle.djq_propagate.proofs.Tabling.{back, onto, changed_into, supports_supported}
@@ -11,7 +11,7 @@ raise-requires g c = back (λ (es : List Entry). IsRaisable es c.args.place) c.a
 
 pub returns-clause-raised : goal.returns-clause-raised
 returns-clause-raised g c = onto
-    (λ es fs. (u : List ℕ) → IsAt es c.args.place u → Supported es fs u (supp es u) (supp es u + 1))
+    (λ es fs. (u : List ℕ) → IsAt es c.args.place u → Supported es fs u (supports_of es u) (supports_of es u + 1))
     c.args.tables.now.items c.args.at c.index_mut-table.result.now c.raise.new.self c.requires.within
     c.index_mut-table.ensures.value c.raise.ensures.raised
 
@@ -22,5 +22,6 @@ returns-clause-changed g c = changed_into c.args.tables.now.items c.args.at c.in
     (let l = back (λ (es : List Entry). IsRaisable es c.args.place) c.args.tables.now.items c.args.at
     c.index_mut-table.result.now c.requires.within c.index_mut-table.ensures.value c.requires.room in λ h.
     supports_supported c.index_mut-table.result.now.entries c.raise.new.self.entries l.tuple
-    (supp c.index_mut-table.result.now.entries l.tuple) (supp c.index_mut-table.result.now.entries l.tuple + 1)
+    (supports_of c.index_mut-table.result.now.entries l.tuple) (supports_of c.index_mut-table.result.now.entries
+    l.tuple + 1)
     (c.raise.ensures.raised l.tuple l.is_at) (omega arith) h)

@@ -1,5 +1,5 @@
 use Rattle.std.proofs.Common.{Bool, ap, sym, ◌∙◌, arith}
-use Rattle.djq_index.specs.Entries.{many, plain}
+use Rattle.djq_index.specs.Entries.{group_size, plain}
 use Rattle.djq_reduct.specs.Tables.{entries_at, key_at}
 use Rattle.djq_propagate.specs.Touches.{is_marked_by}
 use Rattle.djq_propagate.proofs.Going.{has_table, as_live}
@@ -27,7 +27,7 @@ returns-in-Some-clause-going g c =
     gate_first c.args.tree.now c.args.tables.now.items c.args.at c.args.cells.now c.in-Some.place c.marked_at.result x
     c.requires.family (c.marked_at.ensures x.entry.tuple x.is_at)
     ∙ ap (λ (b : Bool). is_marked_by b
-    (many (key_at c.args.tables.now.items c.args.at) (plain (entries_at c.args.tables.now.items c.args.at))
+    (group_size (key_at c.args.tables.now.items c.args.at) (plain (entries_at c.args.tables.now.items c.args.at))
     c.args.cells.now)) (sym c.if-going.true)
 
 pub returns-in-Some-clause-counted : goal.returns-in-Some-clause-counted
@@ -39,7 +39,7 @@ returns-in-None-clause-going g c =
     gate_none (key_at c.args.tables.now.items c.args.at) (entries_at c.args.tables.now.items c.args.at) c.args.cells.now
     (sym c.first_at.ensures.found ∙ c.in-None.is)
     ∙ ap (λ (b : Bool). is_marked_by b
-    (many (key_at c.args.tables.now.items c.args.at) (plain (entries_at c.args.tables.now.items c.args.at))
+    (group_size (key_at c.args.tables.now.items c.args.at) (plain (entries_at c.args.tables.now.items c.args.at))
     c.args.cells.now)) (sym c.if-going.true)
 
 pub returns-in-None-clause-counted : goal.returns-in-None-clause-counted
@@ -49,9 +49,9 @@ returns-in-None-clause-counted g c =
 pub returns-else-going-clause-going : goal.returns-else-going-clause-going
 returns-else-going-clause-going g c =
     sym (ap (λ (b : Bool). is_marked_by b
-    (many (key_at c.args.tables.now.items c.args.at) (plain (entries_at c.args.tables.now.items c.args.at))
+    (group_size (key_at c.args.tables.now.items c.args.at) (plain (entries_at c.args.tables.now.items c.args.at))
     c.args.cells.now)) c.if-going.false
-    ∙ gate_open (many (key_at c.args.tables.now.items c.args.at)
+    ∙ gate_open (group_size (key_at c.args.tables.now.items c.args.at)
     (plain (entries_at c.args.tables.now.items c.args.at)) c.args.cells.now))
 
 pub returns-else-going-clause-counted : goal.returns-else-going-clause-counted

@@ -1,6 +1,6 @@
 use Rattle.std.proofs.Common.{sym, ◌∙◌, arith}
 use Rattle.djq_index.specs.Tuple.{same, one}
-use Rattle.djq_index.specs.Entries.{cnt, grp}
+use Rattle.djq_index.specs.Entries.{count_of, group_of}
 use Rattle.djq_tree.specs.declared.node.Node.TheVariants.{Trim}
 use Rattle.djq_tree.specs.Tree.{node_at}
 use Rattle.djq_reduct.specs.Tables.{entries_at, key_at}
@@ -114,7 +114,7 @@ returns-then-guard-at-clause-counted g c =
 pub returns-else-guard-at-clause-touched : goal.returns-else-guard-at-clause-touched
 returns-else-guard-at-clause-touched g c =
     touched_as c.args.tree.now c.args.tables.now.items c.touch_group.new.tables.items c.args.up
-    (λ v. cnt (grp (key_at c.args.tables.now.items c.in-Meet.guard)
+    (λ v. count_of (group_of (key_at c.args.tables.now.items c.in-Meet.guard)
     (entries_at c.args.tables.now.items c.in-Meet.guard) c.args.tuple.now) v)
     (λ v. reach_one (node_at c.args.tree.now.nodes c.args.up) c.args.going c.args.at c.args.tables.now.items
     c.args.tuple.now v) c.touch_group.ensures.touched

@@ -1,6 +1,6 @@
 use Rattle.std.proofs.Common.{ℕ, ◌+◌, List, take, drop, ap, sym, ◌∙◌, arith}
 use Rattle.djq_index.specs.Tuple.{same, one}
-use Rattle.djq_index.specs.Entries.{cnt, grp}
+use Rattle.djq_index.specs.Entries.{count_of, group_of}
 use Rattle.djq_index.proofs.Counts.{length_grp}
 use Rattle.djq_reduct.specs.Tables.{entries_at, key_at}
 use Rattle.djq_propagate.proofs.Sides.{head_none, drop_group, take_all, cut_cnt}
@@ -26,14 +26,15 @@ loop-done-init g c =
     record {
       next = c.first_at-next.ensures.found;
       touched = touched_none c.args.tree.now c.args.tables.now.items
-          c.args.up (λ v. cnt (take 0
-          (grp (key_at c.args.tables.now.items c.args.guard) (entries_at c.args.tables.now.items c.args.guard)
+          c.args.up (λ v. count_of (take 0
+          (group_of (key_at c.args.tables.now.items c.args.guard) (entries_at c.args.tables.now.items c.args.guard)
           c.args.cells.now)) v) c.requires.family
           (λ v there some. absurd
           (omega (
             arith,
             take_zero
-                (grp (key_at c.args.tables.now.items c.args.guard) (entries_at c.args.tables.now.items c.args.guard)
+                (group_of (key_at c.args.tables.now.items c.args.guard) (entries_at c.args.tables.now.items
+                c.args.guard)
                 c.args.cells.now) v,
           )));
       bound = omega arith;
@@ -55,7 +56,8 @@ read_at-requires-clause-narrow g c =
 
 pub read_at-requires-clause-live : goal.read_at-requires-clause-live
 read_at-requires-clause-live g c =
-    let k = cut_of (grp (key_at c.args.tables.now.items c.args.guard) (entries_at c.args.tables.now.items c.args.guard)
+    let k = cut_of (group_of (key_at c.args.tables.now.items c.args.guard) (entries_at c.args.tables.now.items
+    c.args.guard)
     c.args.cells.now) c.loop-done.done c.loop-done.next c.in-Some.place c.loop-done.invariant.next c.in-Some.is in
     let glow = c.requires.lower in
     let within = c.requires.within in
@@ -82,22 +84,23 @@ next_at-next-requires-clause-within g c =
 
 pub next_at-next-requires-clause-live : goal.next_at-next-requires-clause-live
 next_at-next-requires-clause-live g c =
-    let k = cut_of (grp (key_at c.args.tables.now.items c.args.guard) (entries_at c.args.tables.now.items c.args.guard)
+    let k = cut_of (group_of (key_at c.args.tables.now.items c.args.guard) (entries_at c.args.tables.now.items
+    c.args.guard)
     c.args.cells.now) c.loop-done.done c.loop-done.next c.in-Some.place c.loop-done.invariant.next c.in-Some.is in
     let glow = c.requires.lower in
     let within = c.requires.within in
     let n = touched_more c.args.tree.now c.args.tables.now.items c.loop-done.tables.items c.touch_tuple.new.tables.items
-    c.args.up (λ v. cnt (take c.loop-done.done
-    (grp (key_at c.args.tables.now.items c.args.guard) (entries_at c.args.tables.now.items c.args.guard)
+    c.args.up (λ v. count_of (take c.loop-done.done
+    (group_of (key_at c.args.tables.now.items c.args.guard) (entries_at c.args.tables.now.items c.args.guard)
     c.args.cells.now)) v) (λ v. one (same c.as_slice.result.now v))
-    (λ v. cnt (take (c.loop-done.done + 1)
-    (grp (key_at c.args.tables.now.items c.args.guard) (entries_at c.args.tables.now.items c.args.guard)
+    (λ v. count_of (take (c.loop-done.done + 1)
+    (group_of (key_at c.args.tables.now.items c.args.guard) (entries_at c.args.tables.now.items c.args.guard)
     c.args.cells.now)) v) c.requires.family c.loop-done.invariant.touched c.touch_tuple.ensures.touched
-    (λ v. (cut_cnt (grp (key_at c.args.tables.now.items c.args.guard)
+    (λ v. (cut_cnt (group_of (key_at c.args.tables.now.items c.args.guard)
     (entries_at c.args.tables.now.items c.args.guard) c.args.cells.now) c.loop-done.done k.entry v k.is).1
-    ∙ ap (λ (w : List ℕ). cnt
+    ∙ ap (λ (w : List ℕ). count_of
     (take c.loop-done.done
-    (grp (key_at c.args.tables.now.items c.args.guard) (entries_at c.args.tables.now.items c.args.guard)
+    (group_of (key_at c.args.tables.now.items c.args.guard) (entries_at c.args.tables.now.items c.args.guard)
     c.args.cells.now)) v + one (same w v))
     (sym (c.as_slice.ensures
     ∙ c.read_at.ensures.tuple k.entry.tuple
@@ -119,22 +122,23 @@ loop-done-smaller g c =
 
 pub loop-done-preserved : goal.loop-done-preserved
 loop-done-preserved g c =
-    let k = cut_of (grp (key_at c.args.tables.now.items c.args.guard) (entries_at c.args.tables.now.items c.args.guard)
+    let k = cut_of (group_of (key_at c.args.tables.now.items c.args.guard) (entries_at c.args.tables.now.items
+    c.args.guard)
     c.args.cells.now) c.loop-done.done c.loop-done.next c.in-Some.place c.loop-done.invariant.next c.in-Some.is in
     let glow = c.requires.lower in
     let within = c.requires.within in
     let n = touched_more c.args.tree.now c.args.tables.now.items c.loop-done.tables.items c.touch_tuple.new.tables.items
-    c.args.up (λ v. cnt (take c.loop-done.done
-    (grp (key_at c.args.tables.now.items c.args.guard) (entries_at c.args.tables.now.items c.args.guard)
+    c.args.up (λ v. count_of (take c.loop-done.done
+    (group_of (key_at c.args.tables.now.items c.args.guard) (entries_at c.args.tables.now.items c.args.guard)
     c.args.cells.now)) v) (λ v. one (same c.as_slice.result.now v))
-    (λ v. cnt (take (c.loop-done.done + 1)
-    (grp (key_at c.args.tables.now.items c.args.guard) (entries_at c.args.tables.now.items c.args.guard)
+    (λ v. count_of (take (c.loop-done.done + 1)
+    (group_of (key_at c.args.tables.now.items c.args.guard) (entries_at c.args.tables.now.items c.args.guard)
     c.args.cells.now)) v) c.requires.family c.loop-done.invariant.touched c.touch_tuple.ensures.touched
-    (λ v. (cut_cnt (grp (key_at c.args.tables.now.items c.args.guard)
+    (λ v. (cut_cnt (group_of (key_at c.args.tables.now.items c.args.guard)
     (entries_at c.args.tables.now.items c.args.guard) c.args.cells.now) c.loop-done.done k.entry v k.is).1
-    ∙ ap (λ (w : List ℕ). cnt
+    ∙ ap (λ (w : List ℕ). count_of
     (take c.loop-done.done
-    (grp (key_at c.args.tables.now.items c.args.guard) (entries_at c.args.tables.now.items c.args.guard)
+    (group_of (key_at c.args.tables.now.items c.args.guard) (entries_at c.args.tables.now.items c.args.guard)
     c.args.cells.now)) v + one (same w v))
     (sym (c.as_slice.ensures
     ∙ c.read_at.ensures.tuple k.entry.tuple
@@ -145,14 +149,14 @@ loop-done-preserved g c =
     record {
       next = c.next_at-next.ensures.found c.args.cells.now
           (take c.loop-done.done
-          (grp (key_at c.args.tables.now.items c.args.guard) (entries_at c.args.tables.now.items c.args.guard)
+          (group_of (key_at c.args.tables.now.items c.args.guard) (entries_at c.args.tables.now.items c.args.guard)
           c.args.cells.now)) k.entry
           (drop (c.loop-done.done + 1)
-          (grp (key_at c.args.tables.now.items c.args.guard) (entries_at c.args.tables.now.items c.args.guard)
+          (group_of (key_at c.args.tables.now.items c.args.guard) (entries_at c.args.tables.now.items c.args.guard)
           c.args.cells.now)) (group_still c.args.tree.now c.args.tables.now.items c.touch_tuple.new.tables.items
           c.args.guard c.args.cells.now c.requires.family n.family (n.others c.args.guard (omega arith)) ∙ k.is) k.at;
       touched = n;
-      bound = cut_length (grp (key_at c.args.tables.now.items c.args.guard)
+      bound = cut_length (group_of (key_at c.args.tables.now.items c.args.guard)
           (entries_at c.args.tables.now.items c.args.guard) c.args.cells.now) c.loop-done.done k.entry k.is;
       counted = omega (
         arith,
@@ -165,15 +169,16 @@ loop-done-preserved g c =
 pub returns-in-None-clause-touched : goal.returns-in-None-clause-touched
 returns-in-None-clause-touched g c =
     touched_as c.args.tree.now c.args.tables.now.items c.loop-done.tables.items c.args.up
-    (λ v. cnt (take c.loop-done.done
-    (grp (key_at c.args.tables.now.items c.args.guard) (entries_at c.args.tables.now.items c.args.guard)
+    (λ v. count_of (take c.loop-done.done
+    (group_of (key_at c.args.tables.now.items c.args.guard) (entries_at c.args.tables.now.items c.args.guard)
     c.args.cells.now)) v)
-    (λ v. cnt (grp (key_at c.args.tables.now.items c.args.guard) (entries_at c.args.tables.now.items c.args.guard)
+    (λ v. count_of (group_of (key_at c.args.tables.now.items c.args.guard) (entries_at c.args.tables.now.items
+    c.args.guard)
     c.args.cells.now) v) c.loop-done.invariant.touched
-    (λ v. sym (take_all (grp (key_at c.args.tables.now.items c.args.guard)
+    (λ v. sym (take_all (group_of (key_at c.args.tables.now.items c.args.guard)
     (entries_at c.args.tables.now.items c.args.guard) c.args.cells.now) c.loop-done.done v
     (head_none (drop c.loop-done.done
-    (grp (key_at c.args.tables.now.items c.args.guard) (entries_at c.args.tables.now.items c.args.guard)
+    (group_of (key_at c.args.tables.now.items c.args.guard) (entries_at c.args.tables.now.items c.args.guard)
     c.args.cells.now)) (sym c.loop-done.invariant.next ∙ c.in-None.is))))
 
 pub returns-in-None-clause-counted : goal.returns-in-None-clause-counted
@@ -192,12 +197,13 @@ returns-clause-touched g c =
     let h = c.loop-done-test.false in
     let x = c.loop-done.auto.done-end in
     touched_as c.args.tree.now c.args.tables.now.items c.loop-done.tables.items c.args.up
-    (λ v. cnt (take c.loop-done.done
-    (grp (key_at c.args.tables.now.items c.args.guard) (entries_at c.args.tables.now.items c.args.guard)
+    (λ v. count_of (take c.loop-done.done
+    (group_of (key_at c.args.tables.now.items c.args.guard) (entries_at c.args.tables.now.items c.args.guard)
     c.args.cells.now)) v)
-    (λ v. cnt (grp (key_at c.args.tables.now.items c.args.guard) (entries_at c.args.tables.now.items c.args.guard)
+    (λ v. count_of (group_of (key_at c.args.tables.now.items c.args.guard) (entries_at c.args.tables.now.items
+    c.args.guard)
     c.args.cells.now) v) c.loop-done.invariant.touched
-    (λ v. sym (take_all (grp (key_at c.args.tables.now.items c.args.guard)
+    (λ v. sym (take_all (group_of (key_at c.args.tables.now.items c.args.guard)
     (entries_at c.args.tables.now.items c.args.guard) c.args.cells.now) c.loop-done.done v
     (drop_group (key_at c.args.tables.now.items c.args.guard) (entries_at c.args.tables.now.items c.args.guard)
     c.args.cells.now c.loop-done.done (omega (arith, c.len_at-count.ensures)))))

@@ -47,7 +47,8 @@ returns-then-is_to_be_marked-clause-touched g c =
     (λ v. reach_one (Trim c.args.at) c.args.going c.args.at c.args.tables.now.items c.args.tuple.now v)
     c.touch_tuple.ensures.touched
     (λ v. reach_yes c.args.at c.args.tables.now.items c.args.tuple.now v c.as_slice-cells.result.now c.args.going
-    c.is_to_be_marked.result (c.as_slice-cells.ensures ∙ c.part_of.ensures) c.is_to_be_marked.ensures.going c.if-is_to_be_marked.true)
+    c.is_to_be_marked.result (c.as_slice-cells.ensures ∙ c.part_of.ensures) c.is_to_be_marked.ensures.going
+    c.if-is_to_be_marked.true)
 
 pub returns-then-is_to_be_marked-clause-counted : goal.returns-then-is_to_be_marked-clause-counted
 returns-then-is_to_be_marked-clause-counted g c =
@@ -61,7 +62,8 @@ returns-else-is_to_be_marked-clause-touched g c =
     (omega (
       arith,
       reach_no c.args.at c.args.tables.now.items c.args.tuple.now v c.as_slice-cells.result.now
-          c.args.going c.is_to_be_marked.result (c.as_slice-cells.ensures ∙ c.part_of.ensures) c.is_to_be_marked.ensures.going
+          c.args.going c.is_to_be_marked.result (c.as_slice-cells.ensures ∙ c.part_of.ensures)
+          c.is_to_be_marked.ensures.going
           c.if-is_to_be_marked.false,
     )))
 

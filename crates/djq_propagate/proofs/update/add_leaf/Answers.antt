@@ -94,7 +94,8 @@ returns-clause-flat g c = rw (← c.reducts.view_is) (
     c.in_ok-insert_tuple.ensures.ok in
     add_by t old new c.args.leaf c.args.tuple.now 1 c.args.tally.now c.insert_tuple.new.tally c.reducts.invariant.0 h
     (more_length t old new c.args.leaf meets c.reducts.invariant.0 h.sound h.others
-    (one_lived t old new c.args.leaf c.args.tuple.now c.in_ok-insert_tuple.ensures.ok)) c.in_ok-insert_tuple.ensures.counted)
+    (one_lived t old new c.args.leaf c.args.tuple.now c.in_ok-insert_tuple.ensures.ok))
+    c.in_ok-insert_tuple.ensures.counted)
 
 pub returns-in_err-insert_tuple-clause-gained : goal.returns-in_err-insert_tuple-clause-gained
 returns-in_err-insert_tuple-clause-gained g c =
@@ -120,7 +121,8 @@ invariant_of-reducts g c =
 pub invariant_of-reducts-2 : goal.invariant_of-reducts-2
 invariant_of-reducts-2 g c =
     rest_kept c.reducts.invariant
-    (gained_all c.reducts.inside.tree c.reducts.inside.tables.items c.insert_tuple.new.tables.items c.args.leaf c.args.tuple.now
+    (gained_all c.reducts.inside.tree c.reducts.inside.tables.items c.insert_tuple.new.tables.items c.args.leaf
+    c.args.tuple.now
     c.reducts.invariant.0 (rw (← c.reducts.view_is) at c.requires.leaf)
     (still_bare false c.reducts.inside.tables.items c.insert_tuple.new.tables.items
     c.insert_tuple.ensures.plain (λ e. (rw (← c.reducts.view_is) at c.requires.bare))

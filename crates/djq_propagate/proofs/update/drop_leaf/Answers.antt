@@ -32,7 +32,8 @@ returns-clause-counted g c = rw (← c.reducts.view_is) (
     (rw (← c.reducts.view_is) at c.requires.leaf)
     (fewer_bare old new c.find_and_remove.ensures.fewer (rw (← c.reducts.view_is) at c.requires.bare))
     c.find_and_remove.ensures.died in
-    drop_by t old new c.args.leaf c.args.tuple.now n c.args.tally.now c.find_and_remove.new.tally c.reducts.invariant.0 h
+    drop_by t old new c.args.leaf c.args.tuple.now n c.args.tally.now c.find_and_remove.new.tally
+    c.reducts.invariant.0 h
     (λ i. let s = sized t old n c.reducts.invariant.0 few i in omega arith) c.find_and_remove.ensures.counted)
 
 pub returns-clause-flat : goal.returns-clause-flat
@@ -45,7 +46,8 @@ returns-clause-flat g c = rw (← c.reducts.view_is) (
     (rw (← c.reducts.view_is) at c.requires.leaf)
     (fewer_bare old new c.find_and_remove.ensures.fewer (rw (← c.reducts.view_is) at c.requires.bare))
     c.find_and_remove.ensures.died in
-    drop_by t old new c.args.leaf c.args.tuple.now 1 c.args.tally.now c.find_and_remove.new.tally c.reducts.invariant.0 h
+    drop_by t old new c.args.leaf c.args.tuple.now 1 c.args.tally.now c.find_and_remove.new.tally
+    c.reducts.invariant.0 h
     (more_length t new old c.args.leaf meets h.sound c.reducts.invariant.0
     (λ j v low apart. sym (h.others j v low apart))
     (one_died t old new c.args.leaf c.args.tuple.now c.find_and_remove.ensures.died)) c.find_and_remove.ensures.counted)

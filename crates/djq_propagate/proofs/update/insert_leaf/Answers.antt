@@ -1,5 +1,5 @@
 use Rattle.std.proofs.Common.{ℕ, ◌+◌, ◌*◌, ◌<◌, ◌≤◌, List, length, ap, sym, ◌∙◌, rules, arith}
-use Rattle.djq_index.specs.Entries.{Entry, cnt}
+use Rattle.djq_index.specs.Entries.{Entry, count_of}
 use Rattle.djq_tree.specs.Flat.{HasEqualMeets}
 use Rattle.djq_reduct.specs.Tables.{entries_at}
 use Rattle.djq_propagate.specs.Updates.{HasKept}
@@ -45,7 +45,8 @@ returns-in_err-insert_tuple-clause-refused g c = rw (← c.reducts.view_is) (
     c.reducts.invariant.0 c.in_err-insert_tuple.ensures.refused
     (bare_same c.reducts.inside.tree c.reducts.inside.tables.items c.insert_tuple.new.tables.items
     c.reducts.invariant.0.family
-    c.in_err-insert_tuple.ensures.refused.family c.in_err-insert_tuple.ensures.refused.supports c.insert_tuple.ensures.plain
+    c.in_err-insert_tuple.ensures.refused.family c.in_err-insert_tuple.ensures.refused.supports
+    c.insert_tuple.ensures.plain
     (rw (← c.reducts.view_is) at c.requires.bare))))
 
 pub returns-in_err-insert_tuple-clause-bounded : goal.returns-in_err-insert_tuple-clause-bounded
@@ -84,7 +85,8 @@ pub returns-clause-counted : goal.returns-clause-counted
 returns-clause-counted g c = rw (← c.reducts.view_is) (
     λ n few. put_counted c.reducts.inside.tree c.reducts.inside.tables.items c.insert_tuple.new.tables.items
     c.touch_path.new.tables.items
-    c.args.leaf c.args.tuple.now n c.args.tally.now c.insert_tuple.new.tally c.touch_path.new.tally c.reducts.invariant.0
+    c.args.leaf c.args.tuple.now n c.args.tally.now c.insert_tuple.new.tally c.touch_path.new.tally
+    c.reducts.invariant.0
     (rw (← c.reducts.view_is) at c.requires.leaf) c.in_ok-insert_tuple.ensures.ok c.touch_path.ensures.touched
     (inserted_all c.reducts.inside.tree c.reducts.inside.tables.items c.insert_tuple.new.tables.items
     c.touch_path.new.tables.items
@@ -116,7 +118,7 @@ returns-clause-flat g c = rw (← c.reducts.view_is) (
     c.reducts.invariant.0 (rw (← c.reducts.view_is) at c.requires.leaf) l (omega arith)
     (more_length t old mid c.args.leaf meets c.reducts.invariant.0
     (reducts_lived t old mid c.args.leaf c.args.tuple.now c.reducts.invariant.0
-    (rw (← c.reducts.view_is) at c.requires.leaf) l) (λ j v low apart. ap (λ (es : List Entry). cnt es v)
+    (rw (← c.reducts.view_is) at c.requires.leaf) l) (λ j v low apart. ap (λ (es : List Entry). count_of es v)
     (l.below j (leaf_below t c.args.leaf j c.reducts.invariant.0.family.is_tree low apart)))
     (one_lived t old mid c.args.leaf c.args.tuple.now l)) c.in_ok-insert_tuple.ensures.counted
     (c.touch_path.ensures.flat meets (few_lived t old mid c.args.leaf c.args.tuple.now meets c.reducts.invariant.0
@@ -146,7 +148,8 @@ invariant_of-reducts g c =
     c.reducts.invariant.0 c.in_err-insert_tuple.ensures.refused
     (bare_same c.reducts.inside.tree c.reducts.inside.tables.items c.insert_tuple.new.tables.items
     c.reducts.invariant.0.family
-    c.in_err-insert_tuple.ensures.refused.family c.in_err-insert_tuple.ensures.refused.supports c.insert_tuple.ensures.plain
+    c.in_err-insert_tuple.ensures.refused.family c.in_err-insert_tuple.ensures.refused.supports
+    c.insert_tuple.ensures.plain
     (rw (← c.reducts.view_is) at c.requires.bare))).sound
 
 pub invariant_of-reducts-2 : goal.invariant_of-reducts-2

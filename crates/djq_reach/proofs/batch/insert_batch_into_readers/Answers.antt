@@ -60,7 +60,8 @@ returns-in-Err-clause-counted g c =
     (subst AreOnce (sym c.places_of-places.ensures) (c.requires.once c.index-groups-at.result.relation.at))
     (fresh_group c.args.groups.now c.loop-at.at c.index-groups-at.result c.requires.differ c.loop-at-test.true
     c.index-groups-at.is) c.loop-at.queries.items c.loop-at.invariant.takes
-    c.args.steps.now.listing c.loop-at.steps.listing c.insert_all_into_readers.new.steps.listing c.loop-at.invariant.costs
+    c.args.steps.now.listing c.loop-at.steps.listing c.insert_all_into_readers.new.steps.listing
+    c.loop-at.invariant.costs
     c.insert_all_into_readers.ensures.counted in
     let all = costs_all c.args.readers.now c.args.groups.now c.args.queries.now.items c.args.watchers.now
     (c.loop-at.at + 1) c.args.steps.now.listing c.insert_all_into_readers.new.steps.listing mine in
@@ -112,12 +113,14 @@ returns-in-Err-clause-refusal g c n all =
     c.requires.can.after many c.requires.can.leads c.requires.can.kept few in
     let given = c.give_groups_back.ensures.updates (many + length group.rows)
     (λ i e. mid i (reached_front readers groups c.loop-at.at i e)) in
-    let back = sums_back readers (reached c.args.readers.now c.args.groups.now) gs c.insert_all_into_readers.new.queries.items
+    let back = sums_back readers (reached c.args.readers.now c.args.groups.now) gs
+    c.insert_all_into_readers.new.queries.items
     (many + length group.rows + 0) (n + rows_in groups) (take c.loop-at.at groups)
     (omega (arith, so_far, front))
     (same_mid c.args.readers.now c.args.groups.now c.args.queries.now.items c.loop-at.at c.index-groups-at.result
     c.loop-at-test.true c.index-groups-at.is c.places_of-places.result.now c.as_slice-rows.result.now
-    c.places_of-places.ensures c.as_slice-rows.ensures c.loop-at.queries.items c.insert_all_into_readers.new.queries.items
+    c.places_of-places.ensures c.as_slice-rows.ensures c.loop-at.queries.items
+    c.insert_all_into_readers.new.queries.items
     c.loop-at.invariant.takes c.in-Err.ensures.given) in
     works_refused readers groups gs (n + rows_in groups) c.loop-at.at group c.args.steps.now.update
     c.loop-at.steps.update c.insert_all_into_readers.new.steps.update c.give_groups_back.new.steps.update
@@ -129,7 +132,8 @@ loop-at-preserved g c = record {
   takes = takes_more c.args.readers.now c.args.groups.now c.args.queries.now.items c.loop-at.at c.index-groups-at.result
       c.loop-at-test.true c.index-groups-at.is c.places_of-places.result.now c.as_slice-rows.result.now
       c.places_of-places.ensures c.as_slice-rows.ensures
-      c.loop-at.queries.items c.insert_all_into_readers.new.queries.items c.loop-at.invariant.takes c.in-Ok.ensures.taken;
+      c.loop-at.queries.items c.insert_all_into_readers.new.queries.items c.loop-at.invariant.takes
+      c.in-Ok.ensures.taken;
   tends = tends_on c.args.readers.now c.args.groups.now c.args.queries.now.items c.loop-at.at c.index-groups-at.result
       c.loop-at-test.true c.index-groups-at.is c.places_of-places.result.now c.as_slice-rows.result.now
       c.places_of-places.ensures c.as_slice-rows.ensures
@@ -142,7 +146,8 @@ loop-at-preserved g c = record {
       (subst AreOnce (sym c.places_of-places.ensures) (c.requires.once c.index-groups-at.result.relation.at))
       (fresh_group c.args.groups.now c.loop-at.at c.index-groups-at.result c.requires.differ c.loop-at-test.true
       c.index-groups-at.is) c.loop-at.queries.items c.loop-at.invariant.takes
-      c.args.steps.now.listing c.loop-at.steps.listing c.insert_all_into_readers.new.steps.listing c.loop-at.invariant.costs
+      c.args.steps.now.listing c.loop-at.steps.listing c.insert_all_into_readers.new.steps.listing
+      c.loop-at.invariant.costs
       c.insert_all_into_readers.ensures.counted;
   unlisted = λ none. c.insert_all_into_readers.ensures.unlisted
       (unwatched_some c.args.watchers.now (reached c.args.readers.now c.args.groups.now) c.places_of-places.result.now
@@ -154,7 +159,8 @@ loop-at-preserved g c = record {
       let more = few_more c.args.readers.now c.args.groups.now c.args.queries.now.items c.loop-at.at
       c.index-groups-at.result c.loop-at-test.true c.index-groups-at.is c.places_of-places.result.now
       c.as_slice-rows.result.now c.places_of-places.ensures c.as_slice-rows.ensures
-      c.loop-at.queries.items c.insert_all_into_readers.new.queries.items (n + rows_in (take c.loop-at.at c.args.groups.now))
+      c.loop-at.queries.items c.insert_all_into_readers.new.queries.items
+      (n + rows_in (take c.loop-at.at c.args.groups.now))
       c.in-Ok.ensures.taken (c.loop-at.invariant.few n all) in
       let so_far = rows_more c.args.groups.now c.loop-at.at c.index-groups-at.result c.loop-at-test.true
       c.index-groups-at.is in

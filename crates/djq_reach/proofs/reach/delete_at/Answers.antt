@@ -24,7 +24,8 @@ returns-clause-tells g c =
     (below_some c.args.queries.now.items c.args.at (λ l. CanDelete l c.args.relation.at c.args.cells.now)
     c.requires.can) c.index_mut.ensures.value c.in-Some.is) c.index_mut-in-Some.ensures.value
     (subst (λ (b : Bool). TellsWhere b (λ x d. Went x d c.args.relation.at c.args.cells.now) c.in-Some.query
-    c.index_mut-in-Some.result.now c.delete_from_query.new.log) c.is_watched-wanted.ensures c.delete_from_query.ensures.tells)
+    c.index_mut-in-Some.result.now c.delete_from_query.new.log) c.is_watched-wanted.ensures
+    c.delete_from_query.ensures.tells)
 
 pub returns-clause-counted : goal.returns-clause-counted
 returns-clause-counted g c =
@@ -49,4 +50,5 @@ pub returns-clause-unlisted : goal.returns-clause-unlisted
 returns-clause-unlisted g c none =
     lists_nothing (λ x d. Went x d c.args.relation.at c.args.cells.now) c.in-Some.query c.is_watched-wanted.result
     c.args.relation.at
-    c.args.steps.now.listing c.delete_from_query.new.steps.listing (c.is_watched-wanted.ensures ∙ none) c.delete_from_query.ensures.counted
+    c.args.steps.now.listing c.delete_from_query.new.steps.listing (c.is_watched-wanted.ensures ∙ none)
+    c.delete_from_query.ensures.counted

@@ -56,7 +56,8 @@ loop-at-preserved g c = record {
   works = works_next (LetsOut c.args.relation.at c.args.cells.now) c.args.places.now c.loop-at.at 0
       c.args.queries.now.items c.loop-at.queries.items c.args.relation.at 1 c.args.steps.now.update
       c.loop-at.steps.update c.delete_at.new.steps.update
-      c.requires.once c.loop-at-test.true c.loop-at.invariant.reach c.loop-at.invariant.works c.delete_at.ensures.updates;
+      c.requires.once c.loop-at-test.true c.loop-at.invariant.reach c.loop-at.invariant.works
+      c.delete_at.ensures.updates;
   counted = costs_next (λ x d. Went x d c.args.relation.at c.args.cells.now) c.args.watchers.now c.args.relation.at
       (LetsOut c.args.relation.at c.args.cells.now) c.args.places.now c.loop-at.at 0
       c.args.queries.now.items c.loop-at.queries.items c.args.steps.now.listing c.loop-at.steps.listing

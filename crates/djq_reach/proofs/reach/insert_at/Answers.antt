@@ -34,7 +34,8 @@ returns-clause-tells g c =
     (below_some c.args.queries.now.items c.args.at (λ l. CanAdd l c.args.relation.at c.args.cells.now)
     c.requires.can) c.index_mut.ensures.value c.in-Some.is) c.index_mut-in-Some.ensures.value
     (subst (λ (b : Bool). TellsWhere b (λ x d. Came x d c.args.relation.at c.args.cells.now) c.in-Some.query
-    c.index_mut-in-Some.result.now c.insert_into_query.new.log) c.is_watched-wanted.ensures t)) c.insert_into_query.ensures.tells
+    c.index_mut-in-Some.result.now c.insert_into_query.new.log) c.is_watched-wanted.ensures t))
+    c.insert_into_query.ensures.tells
 
 pub returns-clause-shows : goal.returns-clause-shows
 returns-clause-shows g c =
@@ -45,7 +46,8 @@ returns-clause-shows g c =
     (below_some c.args.queries.now.items c.args.at (λ l. CanAdd l c.args.relation.at c.args.cells.now)
     c.requires.can) c.index_mut.ensures.value c.in-Some.is) c.index_mut-in-Some.ensures.value
     (shows_either (λ x d. Came x d c.args.relation.at c.args.cells.now) c.is_watched-wanted.result c.args.at
-    c.in-Some.query c.index_mut-in-Some.result.now c.insert_into_query.new.log c.insert_into_query.result c.insert_into_query.ensures.tells
+    c.in-Some.query c.index_mut-in-Some.result.now c.insert_into_query.new.log c.insert_into_query.result
+    c.insert_into_query.ensures.tells
     c.insert_into_query.ensures.none)
 
 pub returns-clause-counted : goal.returns-clause-counted

@@ -65,7 +65,8 @@ returns-in-Err-clause-shows g c =
     c.args.queries.now.items c.args.logs.now.items c.insert_at.new.logs.items
     (tends_next (TakesIn c.args.relation.at c.args.cells.now)
     (Shows (λ x d. Came x d c.args.relation.at c.args.cells.now)) c.args.places.now c.loop-at.at 0
-    c.args.queries.now.items c.loop-at.queries.items c.args.logs.now.items c.loop-at.logs.items c.insert_at.new.logs.items
+    c.args.queries.now.items c.loop-at.queries.items c.args.logs.now.items c.loop-at.logs.items
+    c.insert_at.new.logs.items
     c.requires.once c.loop-at-test.true c.loop-at.invariant.reach
     (tells_show (λ x d. Came x d c.args.relation.at c.args.cells.now) c.args.watchers.now
     (take c.loop-at.at c.args.places.now) c.args.queries.now.items c.args.logs.now.items c.loop-at.logs.items

@@ -118,7 +118,8 @@ invariant_of-self-in-Err-NoMem g c =
       (aged c.self.inside.parts (record c.put_row.new.parts { logs = c.empty_logs.new.logs }) c.self.invariant.0
           c.in_ok-id.id.at c.in_ok-id.ensures.ok.relation.below
           lacks.1.carries c.put_row.ensures.rest.readers c.put_row.ensures.rest.order
-          (names_kept c.self.inside.parts.catalog c.put_row.new.parts.catalog lacks.1.relations) c.outdate_readers.new.parts
+          (names_kept c.self.inside.parts.catalog c.put_row.new.parts.catalog lacks.1.relations)
+          c.outdate_readers.new.parts
           c.args.name.now c.in_ok-id.ensures.ok.relation.named c.outdate_readers.ensures).whole,
       tended_now c.self.inside.parts (record c.put_row.new.parts { logs = c.empty_logs.new.logs })
           c.outdate_readers.new.parts
@@ -328,7 +329,8 @@ returns-clause-watches g c =
     c.outdate_readers-2.new.parts c.in_ok-id.id.at c.args.name.now
     (subst (λ (o : AddOutcome). AddsTo c.in_ok-id.id.at c.args.row.now c.self.inside.parts (Ok o) c.put_row.new.parts)
     c.in-Ok-First.field-0-is c.in-Ok-First.ensures.adds).1.has.carries
-    c.put_row.ensures.rest.watchers c.put_row.ensures.rest.order c.put_row.ensures.rest.long c.outdate_readers-2.ensures)
+    c.put_row.ensures.rest.watchers c.put_row.ensures.rest.order c.put_row.ensures.rest.long
+    c.outdate_readers-2.ensures)
 
 pub returns-clause-tells : goal.returns-clause-tells
 returns-clause-tells g c =
@@ -346,7 +348,8 @@ returns-clause-tells g c =
       affected = c.affect.new.affected;
     }) c.outdate_readers-2.new.parts c.in_ok-id.id.at c.args.name.now
     came.1.has.carries
-    c.put_row.ensures.rest.watchers c.put_row.ensures.rest.order c.put_row.ensures.rest.long c.outdate_readers-2.ensures)
+    c.put_row.ensures.rest.watchers c.put_row.ensures.rest.order c.put_row.ensures.rest.long
+    c.outdate_readers-2.ensures)
     (c.outdate_readers-2.ensures.rest.affected ∙ c.affect.ensures.items
     ∙ ap (λ (rs : List (List ℕ)). readers_at rs c.in_ok-id.id.at) c.put_row.ensures.rest.readers)
     (subst (λ (o : AddOutcome). IfCame (Ok o)
@@ -360,7 +363,8 @@ returns-clause-tells g c =
       affected = c.affect.new.affected;
     }) c.outdate_readers-2.new.parts c.in_ok-id.id.at c.args.name.now
     came.1.has.carries
-    c.put_row.ensures.rest.watchers c.put_row.ensures.rest.order c.put_row.ensures.rest.long c.outdate_readers-2.ensures))
+    c.put_row.ensures.rest.watchers c.put_row.ensures.rest.order c.put_row.ensures.rest.long
+    c.outdate_readers-2.ensures))
     (subst (λ (o : AddOutcome). IfCame (Ok o)
     (CountsRows c.in_ok-id.id.at
     (with_row (counted_at c.self.inside.parts.catalog.relations c.in_ok-id.id.at) c.args.row.now) c.self.inside.parts

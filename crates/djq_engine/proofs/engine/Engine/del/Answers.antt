@@ -144,7 +144,8 @@ returns-clause-deletes g c =
     rw (← c.self.view_is) (delete_done c.self.inside.parts c.args.name.now c.args.row.now
     (record { relation = c.in-Some.relation; cells = c.check_delete.new.cells }) may c.rows_by_name_or_place.ensures
     c.laws.ensures.names c.drop_cells.new.parts c.outdate_readers.new.parts
-    went c.outdate_readers.ensures.catalog (c.outdate_readers.ensures.rest.seq ∙ ap (λ n. n + 1) c.drop_cells.ensures.rest.seq)
+    went c.outdate_readers.ensures.catalog (c.outdate_readers.ensures.rest.seq ∙ ap (λ n. n + 1)
+    c.drop_cells.ensures.rest.seq)
     (aged c.self.inside.parts
     (record c.drop_cells.new.parts { seq = c.drop_cells.new.parts.seq + 1; affected = c.affect.new.affected })
     c.self.invariant.0 c.in-Some.relation.at may.relation.below

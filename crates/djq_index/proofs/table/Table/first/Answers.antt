@@ -1,7 +1,7 @@
 use Rattle.std.proofs.Common.{refl, sym, ◌∙◌, ap}
 use Rattle.djq_arena.specs.declared.chain.Ends.{Ends}
 use Rattle.djq_arena.specs.Chains.{first_of}
-use Rattle.djq_index.specs.Entries.{grp}
+use Rattle.djq_index.specs.Entries.{group_of}
 use Rattle.djq_index.specs.Raw.{entries_of, place_of}
 use Rattle.djq_index.proofs.Parts.{head_place}
 use Rattle.djq_index.proofs.table.Table.first.Goals as goal
@@ -17,13 +17,13 @@ returns-in-One-clause-found g c = rw (← c.self.view_is) (
     ∙ ap place_of (one_end c.self.inside.raw first_of c.args.cells.now c.oldest.result refl
     (key_none c.self.inside.raw c.self.invariant.bare c.in-One.is) c.oldest.ensures.here
     c.oldest.ensures.elsewhere)
-    ∙ sym (head_place (grp c.self.inside.raw.key.items (entries_of c.self.inside.raw) c.args.cells.now)))
+    ∙ sym (head_place (group_of c.self.inside.raw.key.items (entries_of c.self.inside.raw) c.args.cells.now)))
 
 pub returns-in-Keyed-clause-found : goal.returns-in-Keyed-clause-found
 returns-in-Keyed-clause-found g c = rw (← c.self.view_is) (
     c.placed-in-Keyed.ensures ∙ ap place_of (c.get.ensures
     ∙ ap (λ (e : Ends). e.first) c.ends_in.ensures)
-    ∙ sym (head_place (grp c.self.inside.raw.key.items (entries_of c.self.inside.raw) c.args.cells.now)))
+    ∙ sym (head_place (group_of c.self.inside.raw.key.items (entries_of c.self.inside.raw) c.args.cells.now)))
 
 pub returns-in-Each-clause-found : goal.returns-in-Each-clause-found
 returns-in-Each-clause-found g c = rw (← c.self.view_is) (
@@ -31,4 +31,4 @@ returns-in-Each-clause-found g c = rw (← c.self.view_is) (
     ∙ ap place_of (each_end c.self.inside.raw c.self.invariant.bare
     (key_whole c.self.inside.raw c.self.invariant.bare c.in-Each.is) first_of c.args.cells.now
     c.find.result refl (λ i. refl) c.find.ensures)
-    ∙ sym (head_place (grp c.self.inside.raw.key.items (entries_of c.self.inside.raw) c.args.cells.now)))
+    ∙ sym (head_place (group_of c.self.inside.raw.key.items (entries_of c.self.inside.raw) c.args.cells.now)))

@@ -2,7 +2,7 @@ use Rattle.std.proofs.Common.{sym, ◌∙◌, ap, ℕ, arith}
 use Rattle.djq_arena.specs.declared.chain.Pair.{Pair}
 use Rattle.djq_arena.specs.Chains.{pair_at}
 use Rattle.djq_index.specs.declared.place.Place.{Place}
-use Rattle.djq_index.specs.Entries.{grp}
+use Rattle.djq_index.specs.Entries.{group_of}
 use Rattle.djq_index.specs.Raw.{entries_of, place_of}
 use Rattle.djq_index.proofs.Parts.{live_held, live_below, group_next}
 use Rattle.djq_index.proofs.table.Table.next.Goals as goal
@@ -38,7 +38,7 @@ returns-in-Keyed-clause-found g c = rw (← c.self.view_is) (
     ∙ ap (λ (p : Pair). p.next) c.pair_of.ensures
     ∙ ap (λ (i : ℕ). (pair_at c.self.inside.raw.links.items i).next) (c.slot-slot.ensures
     ∙ ap (λ (p : Place). p.slot) (sym at)))
-    ∙ group_next c.self.inside.raw.links.items (grp c.self.inside.raw.key.items
+    ∙ group_next c.self.inside.raw.links.items (group_of c.self.inside.raw.key.items
     (entries_of c.self.inside.raw) w) xs e ys
     ((c.self.invariant.heads c.in-Keyed.is).groups.chained w) is)
 

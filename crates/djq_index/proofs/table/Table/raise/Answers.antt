@@ -1,7 +1,7 @@
 use Rattle.std.proofs.Common.{◌≡◌, ◌<◌, ◌+◌, refl, ◌∙◌, ap, ℕ, arith}
 use Rattle.djq_index.specs.declared.raw.Note.{Note}
 use Rattle.djq_index.specs.declared.raw.Raw.{Raw}
-use Rattle.djq_index.specs.Entries.{supp}
+use Rattle.djq_index.specs.Entries.{supports_of}
 use Rattle.djq_index.specs.Raw.{note_at, entries_of}
 use Rattle.djq_index.proofs.Parts.{note_supports}
 use Rattle.djq_index.proofs.Leaving.{find_row, its_room, supports_changed, renoted_raw, renoted_supported}
@@ -24,7 +24,7 @@ note_of-note-requires g c =
 pub overflow_add-raised : goal.overflow_add-raised
 overflow_add-raised g c =
     let can = rw (← c.self.view_is) at c.requires in
-    let s : c.note_of-note.result.supports ≡ supp (entries_of c.self.inside.raw) can.tuple =
+    let s : c.note_of-note.result.supports ≡ supports_of (entries_of c.self.inside.raw) can.tuple =
     ap (λ (n : Note). n.supports)
     (c.note_of-note.ensures ∙ ap (note_at c.self.inside.raw.notes.items) c.slot-slot.ensures)
     ∙ note_supports c.self.inside.raw c.args.place can.tuple c.self.invariant.bare can.is_at in
@@ -57,12 +57,13 @@ returns-clause-raised g c = rw (← c.self.view_is) (
     let n : c.note_of-note.result ≡ note_at c.self.inside.raw.notes.items c.args.place.slot =
     c.note_of-note.ensures ∙ ap (note_at c.self.inside.raw.notes.items) c.slot-slot.ensures in
     let s : (note_at c.self.inside.raw.notes.items c.args.place.slot).supports
-    ≡ supp (entries_of c.self.inside.raw) u = note_supports c.self.inside.raw c.args.place u c.self.invariant.bare at in
+    ≡ supports_of (entries_of c.self.inside.raw) u = note_supports c.self.inside.raw c.args.place u
+    c.self.invariant.bare at in
     renoted_supported c.self.inside.raw b c.args.place u (raised c.note_of-note.result) c.self.invariant.bare
     (find_row c.self.inside.raw c.args.place u at)
     (supports_changed c.self.inside.raw b _ _ c.note_of-note.result (raised c.note_of-note.result) refl
     c.note_of-note.ensures c.slot-slot.ensures refl refl c.set_note.ensures)
-    (supp (entries_of c.self.inside.raw) u) (supp (entries_of c.self.inside.raw) u + 1) s
+    (supports_of (entries_of c.self.inside.raw) u) (supports_of (entries_of c.self.inside.raw) u + 1) s
     (ap (λ (k : ℕ). k + 1) (ap (λ (m : Note). m.supports) n ∙ s)))
 
 pub returns-clause-table : goal.returns-clause-table

@@ -1,10 +1,10 @@
 use Rattle.std.proofs.Common.{◌<◌, List, subst}
-use Rattle.djq_index.specs.Entries.{Entry, cnt}
+use Rattle.djq_index.specs.Entries.{Entry, count_of}
 use Rattle.djq_index.proofs.Apart.{there}
 use Rattle.djq_listing_bench.proofs.tests.updates.take.Goals as goal
 
 pub mark_removal-requires-clause-there : goal.mark_removal-requires-clause-there
 mark_removal-requires-clause-there g c =
     let a = c.in-Some.ensures.found in
-    subst (λ (es : List Entry). 0 < cnt es c.args.tuple.now) c.table.ensures.entries
+    subst (λ (es : List Entry). 0 < count_of es c.args.tuple.now) c.table.ensures.entries
     (there c.table.result.now.entries a.front a.entry a.back c.args.tuple.now a.is a.tuple)

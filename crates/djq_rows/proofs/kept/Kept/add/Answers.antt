@@ -1,5 +1,5 @@
 use Rattle.std.proofs.Common.{◌≡◌, ℕ, ◌+◌, refl, ap, arith}
-use Rattle.djq_index.specs.Entries.{supp}
+use Rattle.djq_index.specs.Entries.{supports_of}
 use Rattle.djq_rows.proofs.Grouped.{found}
 use Rattle.djq_rows.proofs.kept.Kept.add.Goals as goal
 
@@ -24,7 +24,7 @@ returns-else-copies-ge-COPIES-clause-adds g c =
     let es = c.args.self.now.rows.entries in
     let u = c.args.cells.now in
     let at = c.in-Some.ensures.found in
-    let is : c.copies-copies.result ≡ supp es u = c.copies-copies.ensures u at in
+    let is : c.copies-copies.result ≡ supports_of es u = c.copies-copies.ensures u at in
     record {
       stay = record { width = c.recount.ensures.width; apart = c.recount.ensures.apart };
       adds = (

@@ -1,5 +1,5 @@
 use Rattle.std.proofs.Common.{◌≡◌, ◌≤◌, arith}
-use Rattle.djq_index.specs.Entries.{supp}
+use Rattle.djq_index.specs.Entries.{supports_of}
 use Rattle.djq_rows.proofs.Grouped.{found}
 use Rattle.djq_rows.proofs.Copied.{some_copy}
 use Rattle.djq_rows.proofs.kept.Kept.delete.Goals as goal
@@ -9,7 +9,7 @@ returns-then-copies-gt1-clause-deletes g c =
     let es = c.args.self.now.rows.entries in
     let u = c.args.cells.now in
     let at = c.in-Some.ensures.found in
-    let is : c.copies-copies.result ≡ supp es u = c.copies-copies.ensures u at in
+    let is : c.copies-copies.result ≡ supports_of es u = c.copies-copies.ensures u at in
     record {
       stay = record { width = c.recount.ensures.width; apart = c.recount.ensures.apart };
       deletes = (
@@ -25,7 +25,7 @@ returns-else-copies-gt1-clause-deletes g c =
     let es = c.args.self.now.rows.entries in
     let u = c.args.cells.now in
     let at = c.in-Some.ensures.found in
-    let some : 1 ≤ supp es u = some_copy es u c.requires.copied (found es c.in-Some.slot u at) in
+    let some : 1 ≤ supports_of es u = some_copy es u c.requires.copied (found es c.in-Some.slot u at) in
     record {
       stay = record { width = c.remove.ensures.width; apart = c.remove.ensures.apart };
       deletes = (

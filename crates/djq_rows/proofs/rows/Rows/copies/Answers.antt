@@ -1,6 +1,6 @@
 use Rattle.std.proofs.Common.{◌∙◌, ap, refl, subst, sym, arith, length}
 use Rattle.std.proofs.lemmas.List.{get_or_read_under}
-use Rattle.djq_index.specs.Entries.{supp}
+use Rattle.djq_index.specs.Entries.{supports_of}
 use Rattle.djq_index.specs.Table.{IsAt, IsLive}
 use Rattle.djq_rows.specs.Rows.{Rows, place}
 use Rattle.djq_rows.proofs.Slotted.{live_below, its_copies}
@@ -24,4 +24,4 @@ returns c = λ u at.
     (place c.args.slot)) (sym c.self.view_is) c.requires)) refl
     ∙ its_copies c.self.inside.arena c.self.inside.copies.items c.args.slot u c.self.invariant
     (subst (λ (r : Rows). IsAt r.entries (place c.args.slot) u) (sym c.self.view_is) at)
-    ∙ ap (λ (r : Rows). supp r.entries u) c.self.view_is
+    ∙ ap (λ (r : Rows). supports_of r.entries u) c.self.view_is

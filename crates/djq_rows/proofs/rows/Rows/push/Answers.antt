@@ -1,5 +1,5 @@
 use Rattle.std.proofs.Common.{◌≡◌, ◌<◌, ◌≤◌, ◌∙◌, ap, subst, sym, length, arith, List, ℕ}
-use Rattle.djq_index.specs.Entries.{cnt}
+use Rattle.djq_index.specs.Entries.{count_of}
 use Rattle.djq_rows.specs.Rows.{Rows, copies_at}
 use Rattle.djq_rows.proofs.Slotted.{entries_long, came, came_kept}
 use Rattle.djq_rows.proofs.rows.Rows.push.Goals as goal
@@ -28,7 +28,7 @@ invariant_of-self-2 g c =
     c.in_ok-slot.ensures.pushed c.count_one.ensures.one
     (λ k h. c.count_one.ensures.others k h ∙ ap (λ (l : List ℕ). copies_at l k)
     c.make_room.ensures.same)) room
-    (subst (λ (r : Rows). cnt r.entries c.args.cells.now ≡ 0) (sym c.self.view_is)
+    (subst (λ (r : Rows). count_of r.entries c.args.cells.now ≡ 0) (sym c.self.view_is)
     c.requires.absent)
 
 pub returns-clause-came : goal.returns-clause-came

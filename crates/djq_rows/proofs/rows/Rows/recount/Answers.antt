@@ -1,5 +1,5 @@
 use Rattle.std.proofs.Common.{subst, sym, arith, slice_set}
-use Rattle.djq_index.specs.Entries.{supp}
+use Rattle.djq_index.specs.Entries.{supports_of}
 use Rattle.djq_index.specs.Table.{IsAt, IsLive}
 use Rattle.djq_index.specs.Changes.{Supported}
 use Rattle.djq_rows.specs.Rows.{Rows, place, entries_in, AreKept}
@@ -35,7 +35,7 @@ pub returns-clause-recounted : goal.returns-clause-recounted
 returns-clause-recounted g c = λ u at.
     subst (λ (r : Rows). Supported r.entries (entries_in
     (slice_set c.self.inside.copies.items c.args.slot c.args.copies) c.self.inside.arena.rows) u
-    (supp r.entries u) c.args.copies) c.self.view_is
+    (supports_of r.entries u) c.args.copies) c.self.view_is
     (recounted c.self.inside.arena c.self.inside.copies.items c.args.slot c.args.copies u
     c.self.invariant
     (live_below c.self.inside.arena c.self.inside.copies.items c.args.slot c.self.invariant
