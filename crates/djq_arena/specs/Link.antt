@@ -2,19 +2,20 @@
 use Rattle.std.specs.Prelude.{◌≡◌, ℕ, Bool, true, false, cond, ◌==◌, Option, Some, None, refl}
 use Rattle.std.proofs.Common.{ap, sym, eqb-true}
 use Rattle.djq_arena.specs.declared.link.Link.TheInside.{Inside}
+use Rattle.djq_arena.specs.declared.link.TheConstants.{SLOTS}
 
 -- what a number stands for: the highest one for none
 abbrev pub shown : ℕ → Option ℕ
-shown n = cond (n == 4294967295) None (Some n)
+shown n = cond (n == SLOTS) None (Some n)
 
 -- the number that stands for it
 abbrev pub number : Option ℕ → ℕ
-number None = 4294967295
+number None = SLOTS
 number (Some n) = n
 
-back : (n : ℕ) (b : Bool) → (n == 4294967295) ≡ b → number (cond b None (Some n)) ≡ n
-back n true h = sym (eqb-true n 4294967295 h)
+back : (n : ℕ) (b : Bool) → (n == SLOTS) ≡ b → number (cond b None (Some n)) ≡ n
+back n true h = sym (eqb-true n SLOTS h)
 back n false h = refl
 
 pub shown_back : (l : Inside) → record { slot = number (shown l.slot) } ≡ l
-shown_back l = ap (λ (n : ℕ). record { slot = n }) (back l.slot (l.slot == 4294967295) refl)
+shown_back l = ap (λ (n : ℕ). record { slot = n }) (back l.slot (l.slot == SLOTS) refl)

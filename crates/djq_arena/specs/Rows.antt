@@ -1,6 +1,7 @@
 -- What an arena holds, as a list of rows.
 use Rattle.std.specs.Prelude.{◌≡◌, ◌≢◌, ⊤, ℕ, ◌≤◌, List, [], ◌∷◌, ◌++◌, map, length}
 use Rattle.djq_arena.specs.Chains.{AreDifferent, AreBelow}
+use Rattle.djq_arena.specs.declared.link.TheConstants.{SLOTS}
 
 -- a row: its slot, and its cells
 pub record Row : Type 0 where
@@ -47,5 +48,5 @@ AreWide width (r ∷ rs) = (length r.cells ≡ width) × AreWide width rs
 pub record AreRows (a : Rows) : Type 0 where
   pub different : AreDifferent (slots a.rows)
   pub below : AreBelow a.room (slots a.rows)
-  pub numbers : a.room ≤ 4294967295
+  pub numbers : a.room ≤ SLOTS
   pub wide : AreWide a.width a.rows

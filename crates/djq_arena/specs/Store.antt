@@ -9,6 +9,7 @@ use Rattle.djq_arena.specs.declared.store.Store.{Store}
 use Rattle.djq_arena.specs.Chains.{first_of, last_of, Linked, Onward, IsOut, AreDifferent, AreBelow, trail}
 use Rattle.djq_arena.specs.Rows.{Row}
 use Rattle.djq_arena.specs.Buckets.{AreBuckets}
+use Rattle.djq_arena.specs.declared.link.TheConstants.{SLOTS}
 
 -- the ends of a list
 abbrev pub ends_of : List ℕ → Ends
@@ -77,7 +78,7 @@ pub record IsStore (s : Store) (xs fs : List ℕ) : Type 0 where
   pub pairs : length s.bucket.items ≡ length s.order.items
   pub cells : length s.cells.items ≡ length s.order.items * s.width
   pub room : s.len + s.spare ≤ length s.order.items
-  pub numbers : length s.order.items ≤ 4294967295
+  pub numbers : length s.order.items ≤ SLOTS
 
 -- the slots of the rows, and the free ones
 unfoldable pub live_of : Store → List ℕ

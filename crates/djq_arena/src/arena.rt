@@ -3,6 +3,7 @@ ghost use Rattle.std.specs.Prelude.{◌++◌, length, IfOk, OnErr, MatchOption};
 ghost use Rattle.djq_arena.specs.Chains.{first_of, last_of};
 ghost use Rattle.djq_arena.specs.Rows.{Row, slots, IsAbsent, IsRow, IsHeld, IsFull, AreRows};
 ghost use Rattle.djq_arena.specs.Store.{hash};
+ghost use Rattle.djq_arena.specs.declared.link.TheConstants.{SLOTS};
 
 use crate::chain::pair_of;
 use crate::store::{Store, cells_of, empty, find, hash_of, put, renew, take};
@@ -100,7 +101,7 @@ impl Arena {
     /// where no slot is free, and then all stays as it was.
     pub fn push(&mut self, cells: &[u64]) -> Result<u32, AllocError>
         requires wide { length cells.now ≡ self.old.width }
-        requires few { length self.old.rows < 4294967295 }
+        requires few { length self.old.rows < SLOTS }
         ensures pushed { IfOk result (λ slot. self.new.rows ≡ self.old.rows
             ++ record { slot = slot; cells = cells.now } ∷ []) }
         ensures room { IfOk result (λ slot. self.new.room ≡ max self.old.room (slot + 1)) }
@@ -117,7 +118,7 @@ impl Arena {
     pub fn push_hashed(&mut self, cells: &[u64], code: u64) -> Result<u32, AllocError>
         requires wide { length cells.now ≡ self.old.width }
         requires coded { code ≡ hash cells.now }
-        requires few { length self.old.rows < 4294967295 }
+        requires few { length self.old.rows < SLOTS }
         ensures pushed { IfOk result (λ slot. self.new.rows ≡ self.old.rows
             ++ record { slot = slot; cells = cells.now } ∷ []) }
         ensures room { IfOk result (λ slot. self.new.room ≡ max self.old.room (slot + 1)) }

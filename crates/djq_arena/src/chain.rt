@@ -1,6 +1,7 @@
 ghost use Rattle.std.specs.Prelude.{◌≡◌, ◌<◌, length, slice_index_or, Some};
 ghost use Rattle.djq_arena.specs.Chains.{pair_at, set_prev, set_next, entered, left, IsWithin};
 ghost use Rattle.djq_arena.specs.Store.{extended, shrunk};
+ghost use Rattle.djq_arena.specs.declared.link.TheConstants.{SLOTS};
 
 use crate::link::Link;
 
@@ -48,7 +49,7 @@ pub fn follow(links: &mut Vec<Pair>, slot: u32, next: Link)
 pub fn enter(links: &mut Vec<Pair>, last: Link, slot: u32)
     requires last { IsWithin (length links.old.items) last }
     requires slot { slot < length links.old.items }
-    requires number { slot < 4294967295 }
+    requires number { slot < SLOTS }
     ensures { links.new.items ≡ entered last slot links.old.items }
 {
     point_on(links, last, Link::to(slot));
@@ -79,7 +80,7 @@ pub fn leave(links: &mut Vec<Pair>, ends: &mut Ends, pair: &Pair)
 
 /// The ends of a chain that a slot has entered.
 pub fn ends_after_push(ends: &Ends, slot: u32) -> Ends
-    requires { slot < 4294967295 }
+    requires { slot < SLOTS }
     ensures { result ≡ extended slot ends.now }
 {
     let at = Link::to(slot);

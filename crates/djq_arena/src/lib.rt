@@ -34,7 +34,7 @@ mod store;
 
 pub use arena::Arena;
 pub use chain::{Ends, Pair, ends_after_push, enter, leave, pair_of};
-pub use link::Link;
+pub use link::{Link, SLOTS};
 pub use store::hash_of;
 
 #[cfg(test)]

@@ -2,6 +2,9 @@ ghost use Rattle.std.specs.Prelude.{◌≡◌, ◌<◌, None, Some};
 
 use std::marker::Model;
 
+/// The most slots: the highest number of four bytes is no slot's, and stands for none.
+pub const SLOTS: usize = 4_294_967_295;
+
 /// A slot's number or none, in four bytes.
 #[derive(Clone, Copy)]
 pub struct Link {
@@ -35,7 +38,7 @@ impl Link {
 
     /// This slot.
     pub fn to(slot: u32) -> Link
-        requires { slot < 4294967295 }
+        requires { slot < SLOTS }
         ensures { result ≡ Some slot }
     {
         Link { slot }

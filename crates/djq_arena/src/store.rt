@@ -7,6 +7,7 @@ ghost use Rattle.djq_arena.specs.Store.{IsTaken, IsRenewed, IsSound, IsLoose, Is
 ghost use Rattle.djq_arena.specs.Store.{IsSame, IsReleased, IsTidy, HasRoom, Holds, live_of};
 ghost use Rattle.djq_arena.specs.Store.{rows_of};
 ghost use Rattle.djq_arena.specs.Buckets.{link_at, Stands, IsBehind, IsUnlisted};
+ghost use Rattle.djq_arena.specs.declared.link.TheConstants.{SLOTS};
 
 use crate::chain::{Ends, Pair, ends_after_push, enter, follow, leave, pair_of};
 use crate::link::Link;
@@ -210,7 +211,7 @@ pub fn find(store: &Store, cells: &[u64], code: u64) -> Option<u32>
 fn push_bucket(bucket: &mut Vec<Link>, heads: &mut Vec<Link>, class: usize, slot: u32)
     requires class { class < length heads.old.items }
     requires slot { slot < length bucket.old.items }
-    requires number { slot < 4294967295 }
+    requires number { slot < SLOTS }
     ensures bucket { bucket.new.items ≡ slice_set bucket.old.items slot (link_at heads.old.items class) }
     ensures heads { heads.new.items ≡ slice_set heads.old.items class (Some slot) }
 {
@@ -358,7 +359,7 @@ fn append(cells: &mut Vec<u64>, more: &[u64])
 fn fresh(store: &mut Store, cells: &[u64]) -> u32
     requires sound { IsSound store.old }
     requires wide { length cells.now ≡ store.old.width }
-    requires few { length store.old.order.items < 4294967295 }
+    requires few { length store.old.order.items < SLOTS }
     requires room { HasRoom store.old (length cells.now) }
     ensures { IsPrepared store.old store.new result cells.now }
 {
@@ -396,7 +397,7 @@ fn list_all(bucket: &mut [Link], heads: &mut [Link], cells: &[u64], width: usize
     requires some { 0 < length heads.old }
     requires empty { heads.old ≡ replicate (length heads.old) None }
     requires long { length cells.now ≡ length bucket.old * width }
-    requires numbers { length bucket.old ≤ 4294967295 }
+    requires numbers { length bucket.old ≤ SLOTS }
     ensures listed { AreListed width cells.now bucket.new heads.new (length bucket.old) }
     ensures slots { length bucket.new ≡ length bucket.old }
     ensures buckets { length heads.new ≡ length heads.old }
@@ -438,7 +439,7 @@ fn buckets(alloc: Global, count: usize) -> Result<Vec<Link>, AllocError>
 fn grow(store: &mut Store, alloc: Global) -> Result<(), AllocError>
     requires sound { IsSound store.old }
     requires full { length store.old.order.items ≡ store.old.len }
-    requires few { length store.old.heads.items ≤ 4294967295 }
+    requires few { length store.old.heads.items ≤ SLOTS }
     ensures { IsSame store.old store.new }
 {
     let count = store.heads.len();
@@ -487,7 +488,7 @@ fn put_ready(store: &mut Store, cells: &[u64], code: u64) -> u32
     requires sound { IsSound store.old }
     requires wide { length cells.now ≡ store.old.width }
     requires coded { code ≡ hash cells.now }
-    requires few { length store.old.order.items < 4294967295 }
+    requires few { length store.old.order.items < SLOTS }
     requires room { HasRoom store.old (length cells.now) }
     ensures { IsPut store.old store.new result cells.now }
 {
@@ -509,7 +510,7 @@ fn put_growing(
     requires full { length store.old.order.items ≡ store.old.len }
     requires wide { length cells.now ≡ store.old.width }
     requires coded { code ≡ hash cells.now }
-    requires few { store.old.len < 4294967295 }
+    requires few { store.old.len < SLOTS }
     ensures put { IfOk result (λ slot. IsPut store.old store.new slot cells.now) }
     ensures refused { OnErr result (IsSame store.old store.new) }
 {
@@ -526,7 +527,7 @@ fn put_fresh(store: &mut Store, alloc: Global, cells: &[u64], code: u64) -> Resu
     requires full { length store.old.order.items ≡ store.old.len }
     requires wide { length cells.now ≡ store.old.width }
     requires coded { code ≡ hash cells.now }
-    requires few { store.old.len < 4294967295 }
+    requires few { store.old.len < SLOTS }
     ensures put { IfOk result (λ slot. IsPut store.old store.new slot cells.now) }
     ensures refused { OnErr result (IsSame store.old store.new) }
 {
@@ -543,7 +544,7 @@ pub fn put(store: &mut Store, alloc: Global, cells: &[u64], code: u64) -> Result
     requires tidy { IsTidy store.old }
     requires wide { length cells.now ≡ store.old.width }
     requires coded { code ≡ hash cells.now }
-    requires few { store.old.len < 4294967295 }
+    requires few { store.old.len < SLOTS }
     ensures put { IfOk result (λ slot. IsPut store.old store.new slot cells.now) }
     ensures reused { IfOk result (λ slot. store.old.spare ≢ 0 → slot < length store.old.order.items) }
     ensures refused { OnErr result (IsSame store.old store.new) }

@@ -27,10 +27,11 @@ impl Model for Places {
     ghost Value = { List Choice };
 
     ghost use Rattle.std.specs.Prelude.{◌≡◌, ◌≤◌, take, length};
+    ghost use Rattle.djq_index.specs.declared.cells.TheConstants.{CELLS};
 
     ghost view = { λ p. take p.len p.choices };
 
-    ghost invariant = { λ p. (p.len ≤ 16) × (length p.choices ≡ 16) };
+    ghost invariant = { λ p. (p.len ≤ CELLS) × (length p.choices ≡ CELLS) };
 }
 
 impl Places {
@@ -60,7 +61,7 @@ impl Places {
 
     /// Puts a choice behind the others.
     pub fn push(&mut self, choice: Choice)
-        requires { length self.old < 16 }
+        requires { length self.old < CELLS }
         ensures { self.new ≡ self.old ++ choice ∷ [] }
     {
         self.choices[self.len] = choice;

@@ -2,6 +2,7 @@
 use Rattle.std.specs.Prelude.{ℕ, ◌<◌, ◌≤◌, List, length}
 use Rattle.djq_dict.specs.declared.chain.Link.{Link}
 use Rattle.djq_dict.specs.Chains.{IsChained, hashes_of, nexts_of}
+use Rattle.djq_dict.specs.declared.dict.TheConstants.{MOST_TEXTS}
 
 -- what contracts see of an index
 pub record Hashes : Type 0 where
@@ -13,5 +14,5 @@ pub record Hashes : Type 0 where
 -- links and heads are those of an index
 pub record IsIndex (links : List Link) (heads : List ℕ) : Type 0 where
   pub some : 0 < length heads
-  pub few : length links ≤ 4294967295
+  pub few : length links ≤ MOST_TEXTS
   pub chained : IsChained (hashes_of links) (nexts_of links) heads (length links)

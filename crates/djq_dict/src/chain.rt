@@ -1,6 +1,7 @@
 ghost use Rattle.std.specs.Prelude.{◌≡◌, ℕ, ◌+◌, ◌<◌, ◌≤◌, length, replicate};
 ghost use Rattle.djq_dict.specs.Chains.{IsChained, IsFalling, IsFirst, IsLinked, IsLastWith};
 ghost use Rattle.djq_dict.specs.Chains.{bucket_of, hashes_of, nexts_of};
+ghost use Rattle.djq_dict.specs.declared.dict.TheConstants.{MOST_TEXTS};
 
 use std::marker::Model;
 
@@ -32,7 +33,7 @@ impl Chain {
 
     /// A chain that goes on at a number.
     pub(crate) fn at(number: u32) -> Chain
-        requires { number < 4294967295 }
+        requires { number < MOST_TEXTS }
         ensures { result ≡ number + 1 }
     {
         Chain { past: number + 1 }
@@ -60,7 +61,7 @@ pub(crate) fn bucket_of(hash: u32, buckets: usize) -> usize
 /// Puts the link of a number in front of its bucket's chain, where those before it are in theirs.
 pub(crate) fn put_in_front(links: &mut [Link], heads: &mut [Chain], number: usize)
     requires within { number < length links.old }
-    requires few { length links.old ≤ 4294967295 }
+    requires few { length links.old ≤ MOST_TEXTS }
     requires some { 0 < length heads.old }
     requires chained { IsChained (hashes_of links.old) (nexts_of links.old) heads.old number }
     ensures chained { IsChained (hashes_of links.new) (nexts_of links.new) heads.new (number + 1) }
@@ -73,7 +74,7 @@ pub(crate) fn put_in_front(links: &mut [Link], heads: &mut [Chain], number: usiz
 
 /// Puts all links into the chains of heads that have none yet.
 pub(crate) fn chain_all(links: &mut [Link], heads: &mut [Chain])
-    requires few { length links.old ≤ 4294967295 }
+    requires few { length links.old ≤ MOST_TEXTS }
     requires some { 0 < length heads.old }
     requires none { heads.old ≡ replicate (length heads.old) 0 }
     ensures chained { IsChained (hashes_of links.new) (nexts_of links.new) heads.new (length links.new) }

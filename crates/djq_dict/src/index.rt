@@ -1,5 +1,6 @@
 ghost use Rattle.std.specs.Prelude.{◌≡◌, ◌<◌, ◌++◌, ◌∷◌, [], length, slice_index, IfOk, OnOk};
 ghost use Rattle.djq_dict.specs.Chains.{IsLastWith};
+ghost use Rattle.djq_dict.specs.declared.dict.TheConstants.{MOST_TEXTS};
 
 use crate::chain::{Chain, Link, bucket_of, chain_all, follow, put_in_front};
 use crate::refusal::NoMem;
@@ -87,7 +88,7 @@ impl Index {
 
     /// Gives the next number to a hash, in room that was made for it.
     pub(crate) fn push(&mut self, hash: u32)
-        requires few { length self.old.hashes < 4294967295 }
+        requires few { length self.old.hashes < MOST_TEXTS }
         requires place { 0 < self.old.places }
         ensures { self.new.hashes ≡ self.old.hashes ++ hash ∷ [] }
     {

@@ -33,6 +33,9 @@ fn line_at(log: &DeltaLog, nth: usize) -> &Line
     &log.lines()[nth]
 }
 
+/// The most that watch one query: sessions, and unions for those that watch them.
+pub const WATCHERS: u32 = 4_294_967_295;
+
 impl Engine {
     /// The id of a query. `None` exactly where no query has the name.
     pub fn query_id(&self, name: &Name) -> Option<QueryId>
@@ -78,7 +81,7 @@ impl Engine {
     pub fn watch(&mut self, id: QueryId)
         requires registered { IsRegistered self.old id }
         requires few { IsSomeAnd (registered_at self.old.registered id)
-            (λ r. r.watchers < 4294967295) }
+            (λ r. r.watchers < WATCHERS) }
         ensures { self.new ≡ record self.old {
           registered = with_watchers id (λ n. n + 1) self.old.registered;
         } }

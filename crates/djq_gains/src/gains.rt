@@ -37,7 +37,7 @@ ghost use Rattle.djq_gains.specs.Gathered.{
   Seats,
 };
 
-use djq_arena::Arena;
+use djq_arena::{Arena, SLOTS};
 use djq_reduct::Cells;
 use std::alloc::{AllocError, Global};
 use std::marker::Model;
@@ -95,7 +95,7 @@ fn lay(tuples: &mut Arena, marks: &mut Vec<[bool; 8]>, cells: &[u64]) -> Result<
     ensures refused { OnErr result (gains_in marks.new.items tuples.new.rows
         ≡ gains_in marks.old.items tuples.old.rows) }
 {
-    if tuples.len() >= 4294967295 {
+    if tuples.len() >= SLOTS {
         return Err(AllocError);
     }
     marks.reserve(1)?;

@@ -18,6 +18,7 @@ ghost use Rattle.djq_live.specs.Member.{head_types, query_at, queries_at, HaveQu
 ghost use Rattle.djq_gains.specs.Gains.{AtFirst, told_in, count_in};
 ghost use Rattle.djq_gains.specs.Gathered.{Stand};
 ghost use Rattle.djq_gains.specs.Gathering.{cells_told, is_among, Gathers};
+ghost use Rattle.djq_index.specs.declared.cells.TheConstants.{CELLS};
 
 use crate::gains::Gains;
 use djq_engine::{Cells, Engine, QueryId};
@@ -77,7 +78,7 @@ pub fn gather(
     requires alike { AreAlike (queries_at engine.now.places members.now) }
     ensures width { IfOk result (λ g. AtFirst engine.now members.now
         (λ l. g.width ≡ length l.query.head)) }
-    ensures narrow { IfOk result (λ g. g.width ≤ 16) }
+    ensures narrow { IfOk result (λ g. g.width ≤ CELLS) }
     ensures gathers { IfOk result (λ g. Gathers engine.now members.now touched.now g.gains) }
 {
     head_types_are();

@@ -23,6 +23,7 @@ ghost use Rattle.djq_live.specs.Member.{queries_at, HaveQueries, AreAlike};
 ghost use Rattle.djq_gains.specs.Gains.{AtFirst, TellUnion, members_at, told_in, count_in};
 ghost use Rattle.djq_gains.specs.Gathered.{IsIn, AtSlot};
 ghost use Rattle.djq_gains.specs.Gathering.{is_told, lines_of, asks_of, IsFirst};
+ghost use Rattle.djq_index.specs.declared.cells.TheConstants.{CELLS};
 
 use crate::gains::Gains;
 use crate::gather::gather;
@@ -76,7 +77,7 @@ fn tell_one<L: Ledger>(
     requires ready { All IsKeptSomewhere (queries_at group.now.queries.now group.now.places.now) }
     requires wide { IsFirst (queries_at group.now.queries.now group.now.places.now)
         (λ l. length l.query.head ≡ gains.now.width) }
-    requires narrow { gains.now.width ≤ 16 }
+    requires narrow { gains.now.width ≤ CELLS }
     requires lies { IsIn gains.now.gains slot }
     ensures told { log.new.lost ≡ false
         → IsFirst (queries_at group.now.queries.now group.now.places.now) (λ l.
@@ -108,7 +109,7 @@ fn tell<L: Ledger>(
     requires ready { All IsKeptSomewhere (queries_at group.now.queries.now group.now.places.now) }
     requires wide { IsFirst (queries_at group.now.queries.now group.now.places.now)
         (λ l. length l.query.head ≡ gains.now.width) }
-    requires narrow { gains.now.width ≤ 16 }
+    requires narrow { gains.now.width ≤ CELLS }
     requires clear { log.old.lines ≡ [] }
     ensures told { log.new.lost ≡ false
         → IsFirst (queries_at group.now.queries.now group.now.places.now) (λ l. log.new.lines

@@ -15,6 +15,7 @@ use Rattle.djq_index.specs.declared.raw.Raw.{Raw}
 use Rattle.djq_index.specs.Tuple.{pick}
 use Rattle.djq_index.specs.Entries.{Entry, group_size, group_of, marks}
 use Rattle.djq_index.specs.Table.{AreApart, AreColumns}
+use Rattle.djq_arena.specs.declared.link.TheConstants.{SLOTS}
 
 -- the note of a slot
 abbrev pub note_at : List Note → ℕ → Note
@@ -133,7 +134,7 @@ passed (Some m) i next = cond (m == i) next (Some m)
 pub record CanTake (rows : Rows) (notes : List Note) (u : List ℕ) : Type 0 where
   pub rows_law : AreRows rows
   pub wide : length u ≡ rows.width
-  pub few : length rows.rows < 4294967295
+  pub few : length rows.rows < SLOTS
   pub room_notes : rows.room ≤ length notes
 
 -- the tuple u is laid into the slot i, behind all others

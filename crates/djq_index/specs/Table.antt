@@ -3,6 +3,7 @@ use Rattle.std.specs.Prelude.{◌≡◌, ◌≢◌, ⊤, ℕ, ◌<◌, true, fal
 use Rattle.djq_index.specs.declared.place.Place.{Place}
 use Rattle.djq_index.specs.Tuple.{pick}
 use Rattle.djq_index.specs.Entries.{Entry, supports_of, count_of, group_size, plain, is_marked}
+use Rattle.djq_index.specs.declared.table.TheConstants.{SUPPORTS}
 
 -- a table's width, the columns of its key, and its entries, the oldest first
 pub record Table : Type 0 where
@@ -77,7 +78,7 @@ pub record IsUnmarked (es : List Entry) (p : Place) : Type 0 where
 pub record IsRaisable (es : List Entry) (p : Place) : Type 0 where
   pub tuple : List ℕ
   pub is_at : IsAt es p tuple
-  pub room : supports_of es tuple < 4294967295
+  pub room : supports_of es tuple < SUPPORTS
 
 -- a tuple with a support lies at p
 pub record IsLowerable (es : List Entry) (p : Place) : Type 0 where

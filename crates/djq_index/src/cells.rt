@@ -4,7 +4,8 @@ ghost use Rattle.djq_index.specs.Table.{AreColumns};
 
 use std::marker::Model;
 
-/// How many cells there is room for.
+/// How many cells there is room for: those of a row of the most columns, and of an answer of the
+/// most variables of a head.
 pub const CELLS: usize = 16;
 
 /// The cells of a tuple, which stand inline, so that they take no memory.
@@ -20,10 +21,11 @@ impl Model for Cells {
     ghost Value = { List ℕ };
 
     ghost use Rattle.std.specs.Prelude.{◌≤◌, take};
+    ghost use Rattle.djq_index.specs.declared.cells.TheConstants.{CELLS};
 
     ghost view = { λ a. take a.len a.cells };
 
-    ghost invariant = { λ a. a.len ≤ 16 };
+    ghost invariant = { λ a. a.len ≤ CELLS };
 }
 
 /// Copies a tuple's cells. Tuples are short, so that a loop costs less than a call.
@@ -39,7 +41,7 @@ fn copy_cells(into: &mut [u64], from: &[u64])
 impl Cells {
     /// This many cells, all zero.
     pub fn new(len: usize) -> Cells
-        requires { len ≤ 16 }
+        requires { len ≤ CELLS }
         ensures { result ≡ replicate len 0 }
     {
         Cells {
@@ -73,7 +75,7 @@ impl Cells {
 
     /// Puts a cell behind the others.
     pub fn push(&mut self, cell: u64)
-        requires { length self.old < 16 }
+        requires { length self.old < CELLS }
         ensures { self.new ≡ self.old ++ cell ∷ [] }
     {
         self.cells[self.len] = cell;
@@ -82,7 +84,7 @@ impl Cells {
 
     /// The cells of a tuple.
     pub fn from_slice(tuple: &[u64]) -> Cells
-        requires { length tuple.now ≤ 16 }
+        requires { length tuple.now ≤ CELLS }
         ensures { result ≡ tuple.now }
     {
         let mut cells = Cells::new(0);
@@ -92,7 +94,7 @@ impl Cells {
 
     /// Takes the cells of a tuple in place of what it had.
     pub fn take_all(&mut self, tuple: &[u64])
-        requires { length tuple.now ≤ 16 }
+        requires { length tuple.now ≤ CELLS }
         ensures { self.new ≡ tuple.now }
     {
         copy_cells(&mut self.cells[..tuple.len()], tuple);
@@ -111,8 +113,8 @@ impl Cells {
 
     /// Takes the cells of a tuple at these columns in place of what it had.
     pub fn take_part(&mut self, tuple: &[u64], columns: &[usize])
-        requires few { length columns.now ≤ 16 }
-        requires small { length tuple.now ≤ 16 }
+        requires few { length columns.now ≤ CELLS }
+        requires small { length tuple.now ≤ CELLS }
         requires within { AreColumns (length tuple.now) columns.now }
         ensures { self.new ≡ pick columns.now tuple.now }
     {

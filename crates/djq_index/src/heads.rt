@@ -7,6 +7,7 @@ ghost use Rattle.djq_arena.specs.Rows.{Row, AreRows, IsHeld, IsFull};
 ghost use Rattle.djq_index.specs.Tuple.{pick};
 ghost use Rattle.djq_index.specs.Table.{AreColumns};
 ghost use Rattle.djq_index.specs.Raw.{ends_at};
+ghost use Rattle.djq_arena.specs.declared.link.TheConstants.{SLOTS};
 
 use djq_arena::{Arena, Ends, Link, Pair, ends_after_push, enter, leave, pair_of};
 use std::alloc::AllocError;
@@ -22,7 +23,7 @@ pub fn known_ends(ends: &Vec<Ends>, head: u32) -> Ends
 /// Puts a slot behind its group.
 pub fn join(links: &mut Vec<Pair>, ends: &mut Vec<Ends>, slot: u32, head: u32)
     requires slot { slot < length links.old.items }
-    requires number { slot < 4294967295 }
+    requires number { slot < SLOTS }
     requires head { head < length ends.old.items }
     requires last { IsWithin (length links.old.items) (ends_at ends.old.items head).last }
     ensures links { links.new.items ≡ entered (ends_at ends.old.items head).last slot links.old.items }
@@ -119,7 +120,7 @@ pub fn new_head(
     requires rows { AreRows keys.old }
     requires wide { length cells.now ≡ keys.old.width }
     requires coded { code ≡ hash cells.now }
-    requires few { length keys.old.rows < 4294967295 }
+    requires few { length keys.old.rows < SLOTS }
     requires ends { keys.old.room ≤ length ends.old.items }
     ensures rows { AreRows keys.new }
     ensures width { keys.new.width ≡ keys.old.width }

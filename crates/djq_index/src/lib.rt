@@ -32,7 +32,7 @@ mod walk;
 
 pub use cells::{CELLS, Cells};
 pub use place::Place;
-pub use table::Table;
+pub use table::{SUPPORTS, TUPLES, Table};
 
 #[cfg(test)]
 mod tests;

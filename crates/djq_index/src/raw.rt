@@ -12,6 +12,7 @@ ghost use Rattle.djq_index.specs.Raw.{IsNoted, IsMarked, entries_of, slots_at, p
 ghost use Rattle.djq_index.specs.Raw.{ends_at, IsSeat, IsSettled, passed, entries_in, AreTrailing};
 ghost use Rattle.djq_index.specs.Raw.{without_mark, HasNoRoomForHead};
 ghost use Rattle.djq_arena.specs.Store.{beside};
+ghost use Rattle.djq_arena.specs.declared.link.TheConstants.{SLOTS};
 
 use crate::heads::{cell_at, join, new_head, project, prune, unlink};
 use crate::kind::Kind;
@@ -191,7 +192,7 @@ fn append_linked_row(
 fn head_of(keys: &mut Arena, ends: &mut Vec<Ends>, cells: &[u64]) -> Result<u32, AllocError>
     requires rows { AreRows keys.old }
     requires width { keys.old.width ≡ length cells.now }
-    requires few { length keys.old.rows < 4294967295 }
+    requires few { length keys.old.rows < SLOTS }
     requires ends { keys.old.room ≤ length ends.old.items }
     ensures rows { AreRows keys.new }
     ensures width { keys.new.width ≡ keys.old.width }
@@ -220,7 +221,7 @@ fn find_or_make_wide_head(
 ) -> Result<u32, AllocError>
     requires rows { AreRows keys.old }
     requires width { keys.old.width ≡ length key.now }
-    requires few { length keys.old.rows < 4294967295 }
+    requires few { length keys.old.rows < SLOTS }
     requires ends { keys.old.room ≤ length ends.old.items }
     requires columns { AreColumns (length tuple.now) key.now }
     ensures rows { AreRows keys.new }
@@ -246,7 +247,7 @@ fn find_or_make_head(
 ) -> Result<u32, AllocError>
     requires rows { AreRows keys.old }
     requires width { keys.old.width ≡ length key.now }
-    requires few { length keys.old.rows < 4294967295 }
+    requires few { length keys.old.rows < SLOTS }
     requires ends { keys.old.room ≤ length ends.old.items }
     requires columns { AreColumns (length tuple.now) key.now }
     ensures rows { AreRows keys.new }
@@ -353,7 +354,7 @@ fn mark(raw: &mut Raw, slot: u32)
 fn append_to_group(raw: &mut Raw, slot: u32, head: u32, marked: bool)
     requires notes { slot < length raw.old.notes.items }
     requires links { slot < length raw.old.links.items }
-    requires number { slot < 4294967295 }
+    requires number { slot < SLOTS }
     requires head { head < length raw.old.ends.items }
     requires last { IsWithin (length raw.old.links.items) (ends_at raw.old.ends.items head).last }
     ensures settled { IsSettled marked raw.old raw.new raw.old.rows raw.old.notes.items
@@ -369,7 +370,7 @@ pub fn insert_keyed(raw: &mut Raw, tuple: &[u64], marked: bool) -> Result<Place,
     requires heads { AreHeads raw.old }
     requires absent { count_of (entries_of raw.old) tuple.now ≡ 0 }
     requires wide { length tuple.now ≡ raw.old.rows.width }
-    requires few { length (entries_of raw.old) < 4294967295 }
+    requires few { length (entries_of raw.old) < SLOTS }
     requires plain { marked ≡ false → marks (entries_of raw.old) ≡ [] }
     ensures raw { IsBare raw.new }
     ensures heads { AreHeads raw.new }
@@ -406,7 +407,7 @@ pub fn insert_bare(raw: &mut Raw, tuple: &[u64], marked: bool) -> Result<Place, 
     requires raw { IsBare raw.old }
     requires absent { count_of (entries_of raw.old) tuple.now ≡ 0 }
     requires wide { length tuple.now ≡ raw.old.rows.width }
-    requires few { length (entries_of raw.old) < 4294967295 }
+    requires few { length (entries_of raw.old) < SLOTS }
     requires plain { marked ≡ false → marks (entries_of raw.old) ≡ [] }
     ensures raw { IsBare raw.new }
     ensures inserted { IfOk result (λ p. InsertedAs marked raw.old.key.items (entries_of raw.old)

@@ -18,6 +18,12 @@ use std::alloc::{AllocError, Global};
 use std::marker::Model;
 use std::sync::ledger::Ledger;
 
+/// The most tuples of a table.
+pub const TUPLES: usize = 4_294_967_295;
+
+/// The most supports of a tuple.
+pub const SUPPORTS: usize = 4_294_967_295;
+
 /// Different tuples of one width, in groups by the cells of their key.
 ///
 /// A group is a list: a new tuple comes last in it, and so does a touched one. Both are marked until
@@ -74,9 +80,9 @@ impl Table {
         let _ = &self.raw;
     }
 
-    /// The law that a table has at most 4,294,967,295 tuples. It does nothing.
+    /// The law that a table has at most [`TUPLES`] tuples. It does nothing.
     pub fn is_small(&self)
-        ensures { length self.now.entries ≤ 4294967295 }
+        ensures { length self.now.entries ≤ TUPLES }
     {
         let _ = &self.raw;
     }
@@ -237,7 +243,7 @@ impl Table {
     ) -> Result<Place, AllocError>
         requires absent { count_of self.old.entries tuple.now ≡ 0 }
         requires wide { length tuple.now ≡ self.old.width }
-        requires few { length self.old.entries < 4294967295 }
+        requires few { length self.old.entries < TUPLES }
         ensures inserted { IfOk result (λ p. Inserted self.old.key self.old.entries self.new.entries tuple.now) }
         ensures at { IfOk result (λ p. IsAt self.new.entries p tuple.now) }
         ensures refused { OnErr result (self.new.entries ≡ self.old.entries) }
@@ -259,7 +265,7 @@ impl Table {
     ) -> Result<Place, AllocError>
         requires absent { count_of self.old.entries tuple.now ≡ 0 }
         requires wide { length tuple.now ≡ self.old.width }
-        requires few { length self.old.entries < 4294967295 }
+        requires few { length self.old.entries < TUPLES }
         requires plain { marked ≡ false → marks self.old.entries ≡ [] }
         ensures inserted { IfOk result (λ p. InsertedAs marked self.old.key self.old.entries
             self.new.entries tuple.now) }

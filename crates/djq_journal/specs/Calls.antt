@@ -11,6 +11,7 @@ use Rattle.djq_journal.specs.declared.journal.Opened.{Opened}
 use Rattle.djq_journal.specs.declared.journal.Opened.TheVariants.{Ready, BadLog, Failed as Unopened}
 use Rattle.djq_journal.specs.declared.line.Line.{Line}
 use Rattle.djq_journal.specs.declared.line.Line.TheVariants.{Got, End, BadLog as BadLine, Failed as Unread}
+use Rattle.djq_journal.specs.declared.limits.TheConstants.{LINE_BYTES}
 
 -- A journal that was made is idle, without lines.
 abbrev pub Makes : Made → History → History → Type 0
@@ -38,7 +39,7 @@ Reads Unread lines gate gate' buf file = gate' ≡ gate
 
 -- a line that was read has 1 to 4096 bytes, told or not
 abbrev pub LineFits : Line → Type 0
-LineFits (Got n) = (1 ≤ n) × (n ≤ 4096)
+LineFits (Got n) = (1 ≤ n) × (n ≤ LINE_BYTES)
 LineFits End = Unit {0}
 LineFits (BadLine at) = Unit {0}
 LineFits Unread = Unit {0}

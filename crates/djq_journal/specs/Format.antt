@@ -2,6 +2,7 @@
 -- bytes, a line of that many bytes, and the next gate; any other gate ends the list of lines.
 use Rattle.std.specs.Prelude.{◌≡◌, ◌≢◌, ℕ, ◌+◌, ◌*◌, ◌/◌, ◌%◌, ◌<◌, ◌≤◌, ◌⊎◌, List, [], ◌∷◌, ◌++◌, length}
 use Rattle.std.specs.List.{flat_map, AllByRecursion}
+use Rattle.djq_journal.specs.declared.limits.TheConstants.{LINE_BYTES}
 
 -- the 8 bytes that a journal begins with: `DJQLOG1` and the end of a line
 abbrev pub header : List ℕ
@@ -9,7 +10,7 @@ header = 68 ∷ 74 ∷ 81 ∷ 76 ∷ 79 ∷ 71 ∷ 49 ∷ 10 ∷ []
 
 -- what a journal keeps as a line
 abbrev pub IsLine : List ℕ → Type 0
-IsLine line = (1 ≤ length line) × (length line ≤ 4096)
+IsLine line = (1 ≤ length line) × (length line ≤ LINE_BYTES)
 
 -- a line behind its length
 abbrev pub body_of : List ℕ → List ℕ
@@ -50,7 +51,7 @@ IsBad [] = Unit {0}
 IsBad (gate ∷ []) = gate ≡ 1
 IsBad (gate ∷ high ∷ []) = gate ≡ 1
 IsBad (gate ∷ high ∷ low ∷ rest) =
-    (gate ≡ 1) × ((high * 256 + low < 1) ⊎ (4096 < high * 256 + low) ⊎ (length rest < high * 256 + low))
+    (gate ≡ 1) × ((high * 256 + low < 1) ⊎ (LINE_BYTES < high * 256 + low) ⊎ (length rest < high * 256 + low))
 
 -- A file opens to one list of lines.
 abbrev pub OpensOnce : Type 0

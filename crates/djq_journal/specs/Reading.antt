@@ -6,6 +6,7 @@ use Rattle.djq_journal.specs.declared.line.Line.{Line}
 use Rattle.djq_journal.specs.declared.line.Line.TheVariants.{Got, End, BadLog, Failed as Unread}
 use Rattle.djq_journal.specs.declared.reading.Head.{Head}
 use Rattle.djq_journal.specs.declared.reading.Head.TheVariants.{Open, Shut, Bad, Failed}
+use Rattle.djq_journal.specs.declared.limits.TheConstants.{LINE_BYTES}
 
 -- The head of a place: a gate that isn't open; or an open one and the length of a line; or neither.
 abbrev pub IsHead : Head → List ℕ → Type 0
@@ -16,7 +17,7 @@ IsHead Failed rest = Unit {0}
 
 -- what a head tells of its line and its place, told or not
 abbrev pub HeadFits : Head → ℕ → Type 0
-HeadFits (Open n) at = (1 ≤ n) × (n ≤ 4096) × (at + 3 ≤ 18446744073709551615)
+HeadFits (Open n) at = (1 ≤ n) × (n ≤ LINE_BYTES) × (at + 3 ≤ 18446744073709551615)
 HeadFits Shut at = Unit {0}
 HeadFits Bad at = Unit {0}
 HeadFits Failed at = Unit {0}

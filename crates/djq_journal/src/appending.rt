@@ -6,6 +6,7 @@ ghost use Rattle.djq_journal.specs.Format.{IsLine, body_of};
 ghost use Rattle.djq_journal.specs.Standing.{IsIdle};
 ghost use Rattle.djq_journal.specs.Appending.{gate_after};
 ghost use Rattle.djq_journal.specs.Staging.{gate_before, IsStaged, AppendsAt};
+ghost use Rattle.djq_journal.specs.declared.limits.TheConstants.{LINE_BYTES};
 
 use crate::group::Group;
 use crate::limits::{LAST_GATE, PIECE_BYTES};
@@ -38,7 +39,7 @@ pub(crate) fn end_of<G: Group>(gate: u64, group: &G) -> Option<u64>
 /// gate.
 fn lay_out(buf: &mut [u8], line: &[u8], gate: u8)
     requires room { length buf.old ≡ 3 + length line.now }
-    requires short { length line.now ≤ 4096 }
+    requires short { length line.now ≤ LINE_BYTES }
     ensures { buf.new ≡ body_of line.now ++ gate ∷ [] }
 {
     let end = 2 + line.len();

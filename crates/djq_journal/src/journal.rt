@@ -6,6 +6,7 @@ ghost use Rattle.djq_journal.specs.Standing.{IsAt, IsIdle};
 ghost use Rattle.djq_journal.specs.Calls.{Makes, Opens, Reads, LineFits, CountsMade, CountsOpened, CountsLine};
 ghost use Rattle.djq_journal.specs.Appending.{Appends, HasRoom, CountsAppended};
 ghost use Rattle.djq_journal.specs.Reading.{place_after, EndsWithin};
+ghost use Rattle.djq_journal.specs.declared.limits.TheConstants.{LINE_BYTES};
 
 use crate::appending::{append_at, end_of};
 use crate::group::Group;
@@ -137,7 +138,7 @@ impl Journal {
     /// Appends a line, as a group of one.
     pub fn append<D: Disk>(self, disk: &mut D, line: &[u8]) -> Appended
         requires some { 1 ≤ length line.now }
-        requires short { length line.now ≤ 4096 }
+        requires short { length line.now ≤ LINE_BYTES }
         ensures room { HasRoom result self (line.now ∷ []) }
         ensures told { (lines : List (List ℕ)) → WhereTold (D.told disk.old) (D.told disk.new)
             (λ o n. IsIdle lines self o.file → Appends result lines (line.now ∷ []) o n) }

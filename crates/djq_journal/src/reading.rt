@@ -60,7 +60,7 @@ pub(crate) fn read_head<D: Disk>(disk: &mut D, at: u64) -> Head
 
 /// Reads the line at a gate's place into the start of the buffer.
 pub(crate) fn read_line<D: Disk>(disk: &mut D, gate: u64, buf: &mut [u8]) -> Line
-    requires { length buf.old ≡ 4096 }
+    requires { length buf.old ≡ LINE_BYTES }
     ensures told { (lines : List (List ℕ)) → WhereTold (D.told disk.old) (D.told disk.new)
         (λ o n. (n ≡ o) × (IsAt lines gate o.file → Reads result lines gate (place_after gate result) buf.new o.file)) }
     ensures fits { LineFits result }

@@ -25,6 +25,7 @@ use Rattle.djq_propagate.specs.Updates.{HasAtMost, paths}
 use Rattle.djq_query.specs.declared.numbered.NumberedAtom.{NumberedAtom}
 use Rattle.djq_query.specs.Pattern.{Shape}
 use Rattle.djq_live.specs.Leaves.{GivesOne}
+use Rattle.djq_index.specs.declared.table.TheConstants.{TUPLES}
 
 -- no row stands twice
 pub record AreDistinct (rows : List (List ℕ)) : Type 0 where
@@ -72,7 +73,7 @@ pub record CanTake (at : ℕ) (atoms : List NumberedAtom) (batch : List (List (L
       → AreNew (length (label_at r.tree.labels j)) (entries_at r.tables j) us
   pub room : (j : ℕ) (m : NumberedAtom) (us : List (List ℕ)) → slice_get atoms j ≡ Some m
       → slice_get batch j ≡ Some us → m.relation ≡ at
-      → length (entries_at r.tables j) + length us ≤ 4294967295
+      → length (entries_at r.tables j) + length us ≤ TUPLES
 
 -- the entries gained these tuples, or lost them
 abbrev pub Adds : List (List ℕ) → List Entry → List Entry → Type 0

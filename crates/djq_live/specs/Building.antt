@@ -18,6 +18,7 @@ use Rattle.djq_rows.specs.Catalog.{Catalog, relation_at, rows_at}
 use Rattle.djq_live.specs.Asked.{HaveConstants, constants_in}
 use Rattle.djq_live.specs.Leaves.{IsPatternOf, Holds}
 use Rattle.djq_live.specs.Changes.{Gains, Keeps, HoldsThese}
+use Rattle.djq_index.specs.declared.cells.TheConstants.{CELLS}
 
 -- what is at a place in two lists
 abbrev pub AtBoth : {A B : Type 0} → (ℕ → A → B → Type 0) → List A → List B → Type 0
@@ -40,7 +41,7 @@ pub record AreBindable (texts : List Bytes) (t : Tree) (ks : List NumberedCompar
   pub compared : HaveCells texts (constants_in ks)
   pub labels : (j : ℕ) (m : NumberedAtom) → slice_get atoms j ≡ Some m → (x : ℕ)
       → member x (label_at t.labels j) ≡ list_any (is_number x) m.terms
-  pub narrow : (j : ℕ) → length (label_at t.labels j) ≤ 16
+  pub narrow : (j : ℕ) → length (label_at t.labels j) ≤ CELLS
 
 -- a pattern over a label, for a relation that is there
 pub record SuitsRelation (c : Catalog) (label : List ℕ) (at : ℕ) (p : Shape) : Type 0 where

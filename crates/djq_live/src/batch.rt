@@ -25,6 +25,7 @@ ghost use Rattle.djq_live.specs.Batching.{
   tuples_in,
   batch_in,
 };
+ghost use Rattle.djq_index.specs.declared.table.TheConstants.{TUPLES};
 
 use crate::stepping::list_changes;
 use djq_cursor::DeltaLog;
@@ -154,7 +155,7 @@ fn add_all_and_tell<L: Ledgers>(
     requires leaf { leaf < reducts.old.tree.leaves }
     requires fresh { AreNew (length (label_at reducts.old.tree.labels leaf))
         (entries_at reducts.old.tables leaf) tuples.now }
-    requires few { length (entries_at reducts.old.tables leaf) + length tuples.now ≤ 4294967295 }
+    requires few { length (entries_at reducts.old.tables leaf) + length tuples.now ≤ TUPLES }
     requires bare { IsBare reducts.old.tables }
     ensures gained { OnOk result (HasGainedAll reducts.old reducts.new leaf tuples.now) }
     ensures listed { OnOk result (ListsAll true (IsGained reducts.new reducts.old)
@@ -187,7 +188,7 @@ fn add_all_to_leaf<L: Ledgers>(
     requires leaf { leaf < reducts.old.tree.leaves }
     requires fresh { AreNew (length (label_at reducts.old.tree.labels leaf))
         (entries_at reducts.old.tables leaf) tuples.now }
-    requires few { length (entries_at reducts.old.tables leaf) + length tuples.now ≤ 4294967295 }
+    requires few { length (entries_at reducts.old.tables leaf) + length tuples.now ≤ TUPLES }
     requires bare { IsBare reducts.old.tables }
     ensures gained { OnOk result (HasGainedAll reducts.old reducts.new leaf tuples.now) }
     ensures listed { OnOk result (ListsWhere wanted true (IsGained reducts.new reducts.old)

@@ -8,6 +8,7 @@ ghost use Rattle.djq_rows.specs.Cells.{cell_of, cells_of, HasCell, HaveCells};
 ghost use Rattle.djq_live.specs.Asked.{HasConstant, HaveConstants, constants_in};
 ghost use Rattle.djq_live.specs.Building.{ArePatternsOf, AreBindable};
 ghost use Rattle.djq_live.specs.Leaves.{AreCellsOf, IsCellOf, IsPatternOf};
+ghost use Rattle.djq_index.specs.declared.cells.TheConstants.{CELLS};
 
 use djq_hyper::VarSet;
 use djq_model::{NoMem, Value};
@@ -83,7 +84,7 @@ fn bind_atom(
 ) -> Result<Pattern, NoMem>
     requires constants { HaveConstants catalog.now.texts atom.now.terms }
     requires label { (x : ℕ) → member x label ≡ list_any (is_number x) atom.now.terms }
-    requires narrow { length label ≤ 16 }
+    requires narrow { length label ≤ CELLS }
     requires compared { compared.now ≡ cells_of catalog.now.texts (constants_in comparisons.now) }
     ensures { IfOk result (IsPatternOf catalog.now.texts label comparisons.now atom.now) }
 {

@@ -12,6 +12,7 @@ ghost use Rattle.djq_live.specs.Building.{
   TakesRow,
 };
 ghost use Rattle.djq_live.specs.Stepping.{Lacks};
+ghost use Rattle.djq_index.specs.declared.table.TheConstants.{TUPLES};
 
 use djq_model::NoMem;
 use djq_propagate::add_leaf;
@@ -34,7 +35,7 @@ fn insert_row<U: Ledger>(
     requires columns { length row.now ≡ length pattern.now.slots }
     requires absent { Lacks row.now pattern.now (entries_at reducts.old.tables leaf) }
     requires bare { IsBare reducts.old.tables }
-    requires few { length (entries_at reducts.old.tables leaf) < 4294967295 }
+    requires few { length (entries_at reducts.old.tables leaf) < TUPLES }
     ensures { IfOk result (λ _. TakesRow pattern.now leaf row.now reducts.old reducts.new) }
 {
     let mut room = Cells::new(0);

@@ -22,6 +22,7 @@ ghost use Rattle.djq_rows.specs.Catalog.{Catalog as CatalogModel};
 ghost use Rattle.djq_live.specs.Cursors.{slot_at, are_vacant, HasOpen};
 ghost use Rattle.djq_live.specs.Live.{IsLive, IsKeptSomewhere, IsShowable, FitsIn, values_of};
 ghost use Rattle.djq_live.specs.Reading.{NextGives, MoreGives, next_steps, OpensIn, IsFreshIn};
+ghost use Rattle.djq_index.specs.declared.cells.TheConstants.{CELLS};
 
 use crate::live::LiveQuery;
 use crate::lookup::{has_cells, suits_head};
@@ -173,7 +174,7 @@ impl LiveQuery {
     /// How many values an answer has, which its cells have room for.
     pub fn width(&self) -> usize
         ensures width { result ≡ length self.now.query.head }
-        ensures few { IsKeptSomewhere self.now → result ≤ 16 }
+        ensures few { IsKeptSomewhere self.now → result ≤ CELLS }
     {
         self.numbered.within();
         self.query.head.len()

@@ -5,6 +5,7 @@ ghost use Rattle.djq_reduct.specs.Columns.{column};
 ghost use Rattle.djq_hyper.specs.Hypergraph.{member};
 ghost use Rattle.djq_live.specs.Asked.{column_of};
 ghost use Rattle.djq_live.specs.Order.{reading, AreCellsOfAnswer};
+ghost use Rattle.djq_index.specs.declared.cells.TheConstants.{CELLS};
 
 use djq_hyper::VarSet;
 use djq_model::{ColumnType, Value};
@@ -50,7 +51,7 @@ fn place_of(head: &[usize], variable: usize) -> usize
 /// The cells of a head's variables in rising order.
 pub(crate) fn rising_cells(set: VarSet, head: &[usize], cells: &Cells) -> Answer
     requires long { length cells.now ≡ length head.now }
-    requires few { length set ≤ 16 }
+    requires few { length set ≤ CELLS }
     requires within { (x : ℕ) → member x set ≡ true → member x head.now ≡ true }
     ensures { result ≡ map (reading head.now cells.now) set }
 {
@@ -84,7 +85,7 @@ pub(crate) fn has_cells<L: Ledger>(
     listing: &mut Tally<L>,
 ) -> bool
     requires long { length cells.now ≡ length head.now }
-    requires few { length reducts.now.tree.head ≤ 16 }
+    requires few { length reducts.now.tree.head ≤ CELLS }
     requires within { (x : ℕ) → member x reducts.now.tree.head ≡ true → member x head.now ≡ true }
     ensures exact { result ≡ true ↔ AreCellsOfAnswer reducts.now head.now cells.now }
     ensures counted { listing.new ≤ listing.old + reducts.now.tree.leaves }

@@ -21,6 +21,7 @@ ghost use Rattle.djq_live.specs.Member.{
   in_tree,
   query_at,
 };
+ghost use Rattle.djq_index.specs.declared.cells.TheConstants.{CELLS};
 
 use crate::live::LiveQuery;
 use crate::lookup::{column_at, has_cells, rising_cells};
@@ -34,7 +35,7 @@ use std::sync::ledger::Ledger;
 
 /// Writes an answer of the tree as cells in a head's order.
 fn put_in_order(reducts: &Reducts, head: &[usize], answer: &Answer, cells: &mut Cells)
-    requires few { length head.now ≤ 16 }
+    requires few { length head.now ≤ CELLS }
     requires wide { length answer.now ≡ length reducts.now.tree.head }
     requires within { (x : ℕ) → member x head.now ≡ true → member x reducts.now.tree.head ≡ true }
     ensures { cells.new ≡ map (reading reducts.now.tree.head answer.now) head.now }

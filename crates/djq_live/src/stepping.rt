@@ -25,6 +25,7 @@ ghost use Rattle.djq_live.specs.Stepping.{
   CountsLeaves,
   atoms_below,
 };
+ghost use Rattle.djq_index.specs.declared.table.TheConstants.{TUPLES};
 
 use djq_cursor::{DeltaCursor, DeltaLog, changes_are};
 use djq_model::NoMem;
@@ -69,7 +70,7 @@ fn add_and_tell<L: Ledgers>(
     requires leaf { leaf < reducts.old.tree.leaves }
     requires wide { length tuple.now ≡ length (label_at reducts.old.tree.labels leaf) }
     requires absent { count_of (entries_at reducts.old.tables leaf) tuple.now ≡ 0 }
-    requires few { length (entries_at reducts.old.tables leaf) < 4294967295 }
+    requires few { length (entries_at reducts.old.tables leaf) < TUPLES }
     requires bare { IsBare reducts.old.tables }
     ensures gained { OnOk result (HasGained reducts.old reducts.new leaf tuple.now) }
     ensures listed { OnOk result (ListsAll true (IsGained reducts.new reducts.old)
@@ -127,7 +128,7 @@ fn add_to_leaf<L: Ledgers>(
     requires wide { pattern.now.width ≡ length (label_at reducts.old.tree.labels leaf) }
     requires long { length cells.now ≡ length pattern.now.slots }
     requires absent { Lacks cells.now pattern.now (entries_at reducts.old.tables leaf) }
-    requires few { length (entries_at reducts.old.tables leaf) < 4294967295 }
+    requires few { length (entries_at reducts.old.tables leaf) < TUPLES }
     requires bare { IsBare reducts.old.tables }
     ensures gained { OnOk result (ChangesAt (λ p old new. Gains p cells.now old new) pattern.now
         leaf reducts.old reducts.new) }
@@ -206,7 +207,7 @@ pub(crate) fn add_to_leaves<L: Ledgers>(
     requires leaves { AreLeaves relation cells.now atoms.now patterns.now reducts.old }
     requires absent { HoldBelow (λ p es. Lacks cells.now p es) relation atoms.now patterns.now
         (length atoms.now) reducts.old }
-    requires few { HoldBelow (λ _ es. length es < 4294967295) relation atoms.now patterns.now
+    requires few { HoldBelow (λ _ es. length es < TUPLES) relation atoms.now patterns.now
         (length atoms.now) reducts.old }
     requires bare { IsBare reducts.old.tables }
     ensures done { result ≤ length atoms.now }

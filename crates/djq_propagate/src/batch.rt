@@ -7,6 +7,7 @@ ghost use Rattle.djq_reduct.specs.Marks.{IsBare};
 ghost use Rattle.djq_propagate.specs.Batches.{AreNew, AreThere, HasInsertedAll, HasGainedAll, HasLostAll};
 ghost use Rattle.djq_propagate.specs.Bounds.{after_insert, after_refusal, after_add, after_take};
 ghost use Rattle.djq_propagate.specs.Updates.{HasKept, HasAtMost};
+ghost use Rattle.djq_index.specs.declared.table.TheConstants.{TUPLES};
 
 use crate::many::{insert_all, remove_all};
 use crate::path::touch_path;
@@ -30,7 +31,7 @@ pub fn insert_leaf_many<L: Ledger>(
     requires leaf { leaf < reducts.old.tree.leaves }
     requires fresh { AreNew (length (label_at reducts.old.tree.labels leaf))
         (entries_at reducts.old.tables leaf) tuples.now }
-    requires few { length (entries_at reducts.old.tables leaf) + length tuples.now ≤ 4294967295 }
+    requires few { length (entries_at reducts.old.tables leaf) + length tuples.now ≤ TUPLES }
     requires bare { IsBare reducts.old.tables }
     ensures inserted { IfOk result (λ _. HasInsertedAll reducts.old reducts.new leaf tuples.now) }
     ensures refused { OnErr result (HasKept reducts.old reducts.new) }
@@ -63,7 +64,7 @@ pub fn add_leaf_many<L: Ledger>(
     requires leaf { leaf < reducts.old.tree.leaves }
     requires fresh { AreNew (length (label_at reducts.old.tree.labels leaf))
         (entries_at reducts.old.tables leaf) tuples.now }
-    requires few { length (entries_at reducts.old.tables leaf) + length tuples.now ≤ 4294967295 }
+    requires few { length (entries_at reducts.old.tables leaf) + length tuples.now ≤ TUPLES }
     requires bare { IsBare reducts.old.tables }
     ensures gained { IfOk result (λ _. HasGainedAll reducts.old reducts.new leaf tuples.now) }
     ensures refused { OnErr result (HasKept reducts.old reducts.new) }

@@ -10,6 +10,7 @@ ghost use Rattle.djq_reduct.specs.Marks.{IsBare};
 ghost use Rattle.djq_propagate.specs.Sizes.{size, AreAtMost};
 ghost use Rattle.djq_propagate.specs.Walks.{Ready, InsertedUpwards, Refused, Gaining, ReducedAbove};
 ghost use Rattle.djq_propagate.specs.Walks.{UnchangedAbove, CameAs, IsUnder};
+ghost use Rattle.djq_index.specs.declared.table.TheConstants.{TUPLES};
 
 use crate::removal::remove_group_from_meet;
 use crate::tables::{
@@ -37,7 +38,7 @@ pub(crate) fn insert_tuple<L: Ledger>(
     requires ready { Ready tree.now tables.old.items at }
     requires absent { count_of (entries_at tables.old.items at) tuple.now ≡ 0 }
     requires wide { length tuple.now ≡ width_at tables.old.items at }
-    requires few { length (entries_at tables.old.items at) < 4294967295 }
+    requires few { length (entries_at tables.old.items at) < TUPLES }
     requires bare { marked ≡ false → IsBare tables.old.items }
     ensures ok { IfOk result (λ _. InsertedUpwards tree.now tables.old.items tables.new.items at tuple.now) }
     ensures refused { OnErr result (Refused tree.now tables.old.items tables.new.items at) }

@@ -9,6 +9,7 @@ ghost use Rattle.djq_propagate.specs.Sizes.{size};
 ghost use Rattle.djq_propagate.specs.Walks.{CameAs, Fewer};
 ghost use Rattle.djq_propagate.specs.Updates.{HasAtMost, HasKept};
 ghost use Rattle.djq_propagate.specs.Batches.{AreNew, AreThere, HaveCome, HaveGone};
+ghost use Rattle.djq_index.specs.declared.table.TheConstants.{TUPLES};
 
 use crate::insertion::insert_tuple;
 use crate::removal::find_and_remove;
@@ -32,7 +33,7 @@ pub(crate) fn insert_all<L: Ledger>(
     requires reducts { IsReducts (record { tree = tree.now; tables = tables.old.items }) }
     requires leaf { leaf < tree.now.leaves }
     requires fresh { AreNew (length (label_at tree.now.labels leaf)) (entries_at tables.old.items leaf) tuples.now }
-    requires few { length (entries_at tables.old.items leaf) + length tuples.now ≤ 4294967295 }
+    requires few { length (entries_at tables.old.items leaf) + length tuples.now ≤ TUPLES }
     requires bare { IsBare tables.old.items }
     ensures come { IfOk result (λ _. HaveCome tree.now tables.old.items tables.new.items leaf tuples.now) }
     ensures plain { IfOk result (λ _. CameAs marked tables.old.items tables.new.items) }

@@ -8,6 +8,8 @@ ghost use Rattle.djq_index.specs.Table.{IsTable, IsAt, IsLive, IsUnmarked, IsRai
 ghost use Rattle.djq_index.specs.Changes.{InsertedAs, Removed, Touched, Supported};
 ghost use Rattle.djq_reduct.specs.Tables.{table_at, entries_at, key_at, width_at};
 ghost use Rattle.djq_propagate.specs.Walks.{Changed, IsShared};
+ghost use Rattle.djq_index.specs.declared.table.TheConstants.{TUPLES};
+ghost use Rattle.djq_index.specs.declared.cells.TheConstants.{CELLS};
 
 use djq_index::{Place, Table};
 use djq_reduct::Cells;
@@ -111,7 +113,7 @@ pub(crate) fn next_marked_at<L: Ledger>(
 /// Reads the tuple at a place of the table of a node.
 pub(crate) fn read_at(tables: &Vec<Table>, at: usize, place: Place, cells: &mut Cells)
     requires within { at < length tables.now.items }
-    requires narrow { width_at tables.now.items at ≤ 16 }
+    requires narrow { width_at tables.now.items at ≤ CELLS }
     requires live { IsLive (entries_at tables.now.items at) place }
     ensures tuple { (u : List ℕ) → IsAt (entries_at tables.now.items at) place u → cells.new ≡ u }
     ensures wide { length cells.new ≡ width_at tables.now.items at }
@@ -124,8 +126,8 @@ pub(crate) fn read_at(tables: &Vec<Table>, at: usize, place: Place, cells: &mut 
 /// Reads the cells of a tuple at the columns of a node's key.
 pub(crate) fn part_of(tables: &Vec<Table>, at: usize, tuple: &[u64], cells: &mut Cells)
     requires within { at < length tables.now.items }
-    requires narrow { width_at tables.now.items at ≤ 16 }
-    requires few { length (key_at tables.now.items at) ≤ 16 }
+    requires narrow { width_at tables.now.items at ≤ CELLS }
+    requires few { length (key_at tables.now.items at) ≤ CELLS }
     requires wide { length tuple.now ≡ width_at tables.now.items at }
     ensures { cells.new ≡ pick (key_at tables.now.items at) tuple.now }
 {
@@ -167,8 +169,8 @@ pub(crate) fn find_part<L: Ledger>(
 ) -> Option<Place>
     requires within { at < length tables.now.items }
     requires there { to < length tables.now.items }
-    requires narrow { width_at tables.now.items at ≤ 16 }
-    requires few { length (key_at tables.now.items at) ≤ 16 }
+    requires narrow { width_at tables.now.items at ≤ CELLS }
+    requires few { length (key_at tables.now.items at) ≤ CELLS }
     requires wide { length tuple.now ≡ width_at tables.now.items at }
     ensures found { MatchOption result (count_of (entries_at tables.now.items to)
         (pick (key_at tables.now.items at) tuple.now) ≡ 0)
@@ -193,8 +195,8 @@ fn find_wide<L: Ledger>(
 ) -> Option<Place>
     requires within { at < length tables.now.items }
     requires there { to < length tables.now.items }
-    requires narrow { width_at tables.now.items at ≤ 16 }
-    requires few { length (key_at tables.now.items at) ≤ 16 }
+    requires narrow { width_at tables.now.items at ≤ CELLS }
+    requires few { length (key_at tables.now.items at) ≤ CELLS }
     requires wide { length tuple.now ≡ width_at tables.now.items at }
     ensures found { MatchOption result (count_of (entries_at tables.now.items to)
         (pick (key_at tables.now.items at) tuple.now) ≡ 0)
@@ -238,7 +240,7 @@ pub(crate) fn insert_at<L: Ledger>(
     requires within { at < length tables.old.items }
     requires absent { count_of (entries_at tables.old.items at) tuple.now ≡ 0 }
     requires wide { length tuple.now ≡ width_at tables.old.items at }
-    requires few { length (entries_at tables.old.items at) < 4294967295 }
+    requires few { length (entries_at tables.old.items at) < TUPLES }
     requires plain { marked ≡ false → marks (entries_at tables.old.items at) ≡ [] }
     ensures inserted { IfOk result (λ p. InsertedAs marked (key_at tables.old.items at)
         (entries_at tables.old.items at) (entries_at tables.new.items at) tuple.now) }
@@ -342,7 +344,7 @@ pub(crate) fn clear_at<L: Ledger>(tables: &mut Vec<Table>, at: usize, tally: &mu
 /// The law that the table of a node has at most 4,294,967,295 tuples. It does nothing.
 pub(crate) fn is_small_at(tables: &Vec<Table>, at: usize)
     requires { at < length tables.now.items }
-    ensures { length (entries_at tables.now.items at) ≤ 4294967295 }
+    ensures { length (entries_at tables.now.items at) ≤ TUPLES }
 {
     table_of(tables, at).is_small();
 }

@@ -15,6 +15,7 @@ ghost use Rattle.djq_propagate.specs.Updates.{HasGained, HasLost, HasAtMost};
 ghost use Rattle.djq_propagate.specs.Bounds.{after_insert, after_refusal, after_mark, after_keep};
 ghost use Rattle.djq_propagate.specs.Bounds.{after_drop, after_add, after_take, HasVariables};
 ghost use Rattle.djq_propagate.specs.Bounds.{AddUp};
+ghost use Rattle.djq_index.specs.declared.table.TheConstants.{TUPLES};
 
 use crate::insertion::insert_tuple;
 use crate::path::{clear_path, take_marked, touch_path};
@@ -38,7 +39,7 @@ pub fn insert_leaf<L: Ledger>(
     requires leaf { leaf < reducts.old.tree.leaves }
     requires wide { length tuple.now ≡ length (label_at reducts.old.tree.labels leaf) }
     requires absent { count_of (entries_at reducts.old.tables leaf) tuple.now ≡ 0 }
-    requires few { length (entries_at reducts.old.tables leaf) < 4294967295 }
+    requires few { length (entries_at reducts.old.tables leaf) < TUPLES }
     requires bare { IsBare reducts.old.tables }
     ensures inserted { IfOk result (λ _. HasInserted reducts.old reducts.new leaf tuple.now) }
     ensures refused { OnErr result (HasKept reducts.old reducts.new) }
@@ -69,7 +70,7 @@ pub fn add_leaf<L: Ledger>(
     requires leaf { leaf < reducts.old.tree.leaves }
     requires wide { length tuple.now ≡ length (label_at reducts.old.tree.labels leaf) }
     requires absent { count_of (entries_at reducts.old.tables leaf) tuple.now ≡ 0 }
-    requires few { length (entries_at reducts.old.tables leaf) < 4294967295 }
+    requires few { length (entries_at reducts.old.tables leaf) < TUPLES }
     requires bare { IsBare reducts.old.tables }
     ensures gained { IfOk result (λ _. HasGained reducts.old reducts.new leaf tuple.now) }
     ensures refused { OnErr result (HasKept reducts.old reducts.new) }

@@ -20,6 +20,7 @@ use Rattle.djq_query.specs.declared.numbered.NumberedComparison.{NumberedCompari
 use Rattle.djq_query.specs.declared.pattern.Test.{Test}
 use Rattle.djq_query.specs.declared.pattern.Slot.{Slot}
 use Rattle.djq_query.specs.declared.pattern.Slot.TheVariants.{Place, Cell}
+use Rattle.djq_index.specs.declared.cells.TheConstants.{CELLS}
 
 -- how many variables there are, what stands at each column, and what has to hold of the variables
 pub record Shape : Type 0 where
@@ -78,7 +79,7 @@ is_within width (Cell c) = true
 
 -- Each place is that of a variable, and each variable has a place; each test is of a variable.
 pub record IsPattern (p : Shape) : Type 0 where
-  pub narrow : p.width ≤ 16
+  pub narrow : p.width ≤ CELLS
   pub within : list_all (is_within p.width) p.slots ≡ true
   pub all : (x : ℕ) → x < p.width → list_any (is_place x) p.slots ≡ true
   pub tested : list_all (λ t. nat_lt t.place p.width) p.tests ≡ true

@@ -3,6 +3,7 @@ ghost use Rattle.std.specs.List.{list_any};
 ghost use Rattle.djq_hyper.specs.Hypergraph.{member};
 ghost use Rattle.djq_query.specs.Numbered.{is_number};
 ghost use Rattle.djq_query.specs.Pattern.{bound, slot_of, test_of, tests_of};
+ghost use Rattle.djq_index.specs.declared.cells.TheConstants.{CELLS};
 
 use crate::numbered::{NumberedAtom, NumberedComparison, NumberedTerm};
 use crate::pattern::{Pattern, Slot, Test};
@@ -13,7 +14,7 @@ use std::alloc::Global;
 
 // The variables of a set, in rising order.
 fn members(label: VarSet) -> Cells
-    requires { length label ≤ 16 }
+    requires { length label ≤ CELLS }
     ensures { result ≡ label }
 {
     let mut members = Cells::new(0);
@@ -97,7 +98,7 @@ impl NumberedAtom {
         constants: &[u64],
     ) -> Result<Pattern, NoMem>
         requires label { (x : ℕ) → member x label ≡ list_any (is_number x) self.now.terms }
-        requires narrow { length label ≤ 16 }
+        requires narrow { length label ≤ CELLS }
         requires cells { length cells.now ≡ length self.now.terms }
         requires constants { length constants.now ≡ length comparisons.now }
         ensures width { IfOk result (λ p. p.width ≡ length label) }

@@ -24,6 +24,7 @@ ghost use Rattle.djq_query.specs.Pattern.{
   IsPlain,
   Passes,
 };
+ghost use Rattle.djq_index.specs.declared.cells.TheConstants.{CELLS};
 
 use djq_index::Cells;
 use djq_model::{Operator, Sequence};
@@ -168,7 +169,7 @@ impl Pattern {
     pub fn lend<'a>(&self, row: &'a [u64], room: &'a mut Cells) -> Option<&'a [u64]>
         requires { length row.now ≡ length self.now.slots }
         ensures wide { IfSome result (λ t. length t.now ≡ self.now.width) }
-        ensures few { IfSome result (λ t. length t.now ≤ 16) }
+        ensures few { IfSome result (λ t. length t.now ≤ CELLS) }
         ensures exact { MatchOption result ((u : List ℕ) → Gives self.now u row.now → ⊥)
             (λ t. (u : List ℕ) → (t.now ≡ u) ↔ Gives self.now u row.now) }
     {

@@ -10,6 +10,7 @@ use Rattle.djq_tree.specs.Labels.{label_at}
 use Rattle.djq_tree.specs.Keys.{key_of}
 use Rattle.djq_reduct.specs.Columns.{columns}
 use Rattle.djq_reduct.specs.Tables.{table_at, entries_at, key_at, width_at}
+use Rattle.djq_index.specs.declared.cells.TheConstants.{CELLS}
 
 -- a tree, and a table for each of its nodes
 pub record Reducts : Type 0 where
@@ -32,8 +33,8 @@ pub record IsKeyed (t : Tree) (ts : List Table) (k : ℕ) : Type 0 where
 
 -- no label, and no head, has more variables than a tuple has room for
 pub record IsNarrow (t : Tree) : Type 0 where
-  pub labels : (k : ℕ) → length (label_at t.labels k) ≤ 16
-  pub head : length t.head ≤ 16
+  pub labels : (k : ℕ) → length (label_at t.labels k) ≤ CELLS
+  pub head : length t.head ≤ CELLS
 
 -- these are tables for the nodes of the tree, whatever the one has to do with the other: each with its
 -- node's columns and key, and with no tuple that has no support

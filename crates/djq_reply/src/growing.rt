@@ -11,6 +11,7 @@ ghost use Rattle.djq_reply.specs.Adding.{Adds};
 ghost use Rattle.djq_reply.specs.Taking.{IsTaken};
 ghost use Rattle.djq_value.specs.Output.{Puts};
 ghost use Rattle.djq_value.specs.Writing.{Writes};
+ghost use Rattle.djq_value.specs.declared.output.TheConstants.{KEPT};
 
 use bytes::BytesMut;
 use djq_lines::Sign;
@@ -239,7 +240,7 @@ pub fn put_last(is_end: bool, out: &mut BytesMut) -> Result<(), NoMem>
 
 // Values, each behind a space.
 fn add_cells<A: Answered>(answer: &A, out: &mut BytesMut) -> Result<(), NoMem>
-    requires { 32 ≤ out.old.spare }
+    requires { KEPT ≤ out.old.spare }
     ensures { Adds out.old out.new (cells_text (A.values answer.now)) result }
 {
     for at in 0..answer.len() {

@@ -6,6 +6,7 @@ ghost use Rattle.djq_lines.specs.Reply.{edges_text, query_reply, rest_line};
 ghost use Rattle.djq_lines.specs.declared.limits.TheConstants.{LAST_LINE_BYTES, REPLY_BYTES};
 ghost use Rattle.djq_reply.specs.Adding.{Adds};
 ghost use Rattle.djq_value.specs.Output.{Puts};
+ghost use Rattle.djq_value.specs.declared.output.TheConstants.{KEPT};
 
 use crate::short::{say_number, say_refused};
 use bytes::BytesMut;
@@ -63,7 +64,7 @@ fn add_rest(words: &[u8], rest: &NamedRest, out: &mut BytesMut) -> Result<(), No
 
 // Edges, each behind a space.
 fn add_edges(names: &Names, edges: &Edges, out: &mut BytesMut) -> Result<(), NoMem>
-    requires { 32 ≤ out.old.spare }
+    requires { KEPT ≤ out.old.spare }
     ensures { Adds out.old out.new (edges_text names.now edges.now) result }
 {
     for edge in edges.as_slice() {
@@ -89,7 +90,7 @@ fn add_edge(names: &Names, edge: VarSet, out: &mut BytesMut) -> Result<(), NoMem
 
 // Variables, each behind a comma.
 fn add_listed(names: &Names, variables: VarSet, out: &mut BytesMut) -> Result<(), NoMem>
-    requires { 32 ≤ out.old.spare }
+    requires { KEPT ≤ out.old.spare }
     ensures { Adds out.old out.new (listed names.now variables) result }
 {
     let mut rest = variables;

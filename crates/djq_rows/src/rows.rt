@@ -24,6 +24,7 @@ ghost use Rattle.djq_index.specs.Table.{AreApart, IsAt, IsLive};
 ghost use Rattle.djq_index.specs.Changes.{Supported};
 ghost use Rattle.djq_rows.specs.Rows.{AreKept, copies_at, entries_in, place, place_of};
 ghost use Rattle.djq_rows.specs.Tuples.{Appended, Dropped};
+ghost use Rattle.djq_arena.specs.declared.link.TheConstants.{SLOTS};
 
 use djq_arena::Arena;
 use djq_steps::Tally;
@@ -153,7 +154,7 @@ impl Rows {
         requires coded { code ≡ hash cells.now }
         requires absent { count_of self.old.entries cells.now ≡ 0 }
         requires wide { length cells.now ≡ self.old.width }
-        requires few { length self.old.entries < 4294967295 }
+        requires few { length self.old.entries < SLOTS }
         ensures came { IfOk result (λ _. Appended self.old.entries self.new.entries cells.now) }
         ensures refused { OnErr result (self.new.entries ≡ self.old.entries) }
         ensures apart { AreApart self.new.entries }

@@ -6,6 +6,7 @@ ghost use Rattle.djq_engine.specs.Places.{id_at};
 ghost use Rattle.djq_store.specs.Counting.{HasWatchers, with_all};
 ghost use Rattle.djq_store.specs.Places.{joined_at, kept_in};
 ghost use Rattle.djq_store.specs.Whole.{IsWhole};
+ghost use Rattle.djq_engine.specs.declared.watching.TheConstants.{WATCHERS};
 
 use crate::below::engine_laws;
 use crate::finding::joined_in;
@@ -18,7 +19,7 @@ use djq_lines::limits::QUERIES;
 // Each of these queries is watched by one more.
 fn watch_members(engine: &mut Engine, members: &[usize])
     requires { All (λ at. IsSomeAnd (registered_at engine.old.registered (id_at at))
-        (λ r. r.watchers + length members.now ≤ 4294967295)) members.now }
+        (λ r. r.watchers + length members.now ≤ WATCHERS)) members.now }
     ensures { engine.new ≡ record engine.old {
       registered = with_all (λ n. n + 1) members.now engine.old.registered;
     } }
@@ -44,7 +45,7 @@ fn unwatch_members(engine: &mut Engine, members: &[usize])
 
 // One more watches the union in a slot.
 fn listen(unions: &mut Vec<Option<Joined>>, slot: usize)
-    requires { IsSomeAnd (joined_at unions.old.items slot) (λ j. j.watchers < 4294967295) }
+    requires { IsSomeAnd (joined_at unions.old.items slot) (λ j. j.watchers < WATCHERS) }
     ensures { HasWatchers (λ n. n + 1) slot unions.old.items unions.new.items }
 {
     match &mut unions[slot] {
